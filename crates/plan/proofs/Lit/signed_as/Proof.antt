@@ -1,0 +1,13 @@
+use mathlib.Core.Path.{ap}
+use Prim.Native.Nat.{_%_}
+use native.Mathlib.Omega.{arith}
+use Rattle.plan.specs.Literals.{litAt}
+use Rattle.plan.proofs.Bits.{toggled-by}
+use Rattle.plan.proofs.Lit.signed_as.Statement.{statement}
+use Rattle.plan.proofs.Lit.signed_as.Tie as tie
+
+returns : tie.Need-returns
+returns c = let a = c .before .before .args in ap litAt (toggled-by (a .self .0) (a .other .0 % 2) (omega arith))
+
+pub signed-as-spec : {M : Type 1} → statement M
+signed-as-spec = tie.close (tie.spec returns)

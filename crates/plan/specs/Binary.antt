@@ -1,0 +1,70 @@
+-- Binary form: what follows the header, read and written; binary order.
+use Prim.Native.Nat.{ℕ, suc, zero, _+_, _-_}
+use mathlib.Core.Bool.{Bool, true, false, _&&_}
+use mathlib.Core.List.{List, [], _∷_, _++_, map}
+use lib.Dec.{eqb, leb, ltb}
+use lib.ListN.{length}
+use Rattle.plan.specs.declared.Counts.{Counts}
+use Rattle.plan.specs.Literals.{litOf}
+use Rattle.plan.specs.Refusals.{Parse, got, refused, _then_}
+use Rattle.plan.specs.Circuit.{Gate, Latch, Circuit, countsOf, oneLine, latchLine, gateLine, literalOf, nexts}
+use Rattle.plan.specs.Bytes.{lines, linesOf}
+use Rattle.plan.specs.Header.{binary, headerOf, adds}
+use Rattle.plan.specs.Difference.{difference, groupsOf}
+
+-- the gate of variable v: lhs - rhs0, then rhs0 - rhs1
+abbrev pub gate : List ℕ → ℕ → ℕ → Parse Gate
+gate file v at =
+    difference file true (litOf v) at then λ d at.
+    difference file false (litOf v - d) at then λ e at.
+    got (record { lhs = litOf v; rhs0 = litOf v - d; rhs1 = litOf v - d - e }) at
+
+-- n gates, of variables v, v + 1 ..
+abbrev pub gatesFrom : List ℕ → ℕ → ℕ → ℕ → Parse (List Gate)
+gatesFrom file zero v at = got [] at
+gatesFrom file (suc n) v at =
+    gate file v at then λ g at.
+    gatesFrom file n (suc v) at then λ gs at.
+    got (g ∷ gs) at
+
+-- the literals of n variables from v on; latches of variables from v on with these next states
+abbrev pub litsFrom : ℕ → ℕ → List ℕ
+litsFrom v zero = []
+litsFrom v (suc n) = litOf v ∷ litsFrom (suc v) n
+
+abbrev pub latchesFrom : ℕ → List ℕ → List Latch
+latchesFrom v [] = []
+latchesFrom v (l ∷ ls) = record { current = litOf v; next = l } ∷ latchesFrom (suc v) ls
+
+-- L lines of a next state, O lines of an output, A gates
+abbrev pub binaryBody : List ℕ → Counts → ℕ → Parse Circuit
+binaryBody file n at =
+    lines file 1 false (n .M) (n .L) [] at then λ lats at.
+    lines file 1 false (n .M) (n .O) [] at then λ outs at.
+    gatesFrom file (n .A) (1 + n .I + n .L) at then λ gates at.
+    got (record { M = n .M; inputs = litsFrom 1 (n .I); latches = latchesFrom (1 + n .I) (map literalOf lats); outputs = map literalOf outs; gates = gates }) at
+
+-- the same, written
+abbrev pub gateBytes : List Gate → List ℕ
+gateBytes [] = []
+gateBytes (g ∷ gs) = groupsOf (g .lhs - g .rhs0) ++ (groupsOf (g .rhs0 - g .rhs1) ++ gateBytes gs)
+
+abbrev pub binaryLines : Circuit → List ℕ
+binaryLines c = linesOf (map oneLine (nexts (c .latches))) ++ (linesOf (map oneLine (c .outputs)) ++ gateBytes (c .gates))
+
+abbrev pub binaryOf : Circuit → List ℕ
+binaryOf c = headerOf binary (countsOf c) ++ binaryLines c
+
+-- binary order: M = I + L + A, the defining literals run from 2 on, and every gate keeps lhs > rhs0 ≥ rhs1
+abbrev pub runs : ℕ → List (List ℕ) → Bool
+runs v [] = true
+runs v (row ∷ rows) = eqb (literalOf row) (litOf v) && runs (suc v) rows
+
+abbrev pub falls : List Gate → Bool
+falls [] = true
+falls (g ∷ gs) = ltb (g .rhs0) (g .lhs) && (leb (g .rhs1) (g .rhs0) && falls gs)
+
+abbrev pub binaryOrder : Circuit → Bool
+binaryOrder c =
+    adds binary (countsOf c)
+    && (runs 1 (map oneLine (c .inputs) ++ (map latchLine (c .latches) ++ map gateLine (c .gates))) && falls (c .gates))

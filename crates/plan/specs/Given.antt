@@ -1,0 +1,106 @@
+-- The order of checks on given tables, as stages of which the first refusal wins.
+use Prim.Native.Nat.{ℕ, _+_, min, _-_, _^_}
+use mathlib.Core.Bool.{Bool, true, false, cond}
+use mathlib.Core.Option.{Option, none, some}
+use mathlib.Core.List.{List, [], _∷_, _++_, map}
+use lib.Dec.{leb}
+use lib.ListN.{length, take}
+use Rattle.plan.specs.declared.Counts.{Counts}
+use Rattle.plan.specs.declared.Refusal.{Refusal}
+use Rattle.plan.specs.declared.Refusal.the-variants.{LargeCount, WrongSum, ShortTable, OutOfRange, DefinedTwice, NotDefined, Cyclic, ShortBuffer, NotInOrder}
+use Rattle.plan.specs.Literals.{varOf}
+use Rattle.plan.specs.Refusals.{Parse, got, refused, stage}
+use Rattle.plan.specs.Circuit.{Circuit, Tables, Lent, circuitOf, lengthsOf, wordsToWork, against, short, oneLine, latchLine, gateLine, literalOf, vars, currents}
+use Rattle.plan.specs.Bytes.{Placed, outside, twice}
+use Rattle.plan.specs.Header.{text, listOf, over, adds}
+use Rattle.plan.specs.Depends.{undefinedIn, cyclicIn}
+use Rattle.plan.specs.Binary.{binaryOrder}
+use Rattle.plan.specs.Tail.{tailAt}
+
+-- the counts, tables 1 to 4 and table 5, scratch
+pub record Given : Type 0 where
+  pub counts : Counts
+  pub tables : Tables
+  pub scratch : List ℕ
+
+abbrev pub given : Given → Circuit
+given g = circuitOf (g .counts) (g .tables)
+
+-- what is lent: the given tables and scratch; with written tables, which bear the same numbers
+abbrev pub lentAlone : Given → List Lent
+lentAlone g = against 1 (wordsToWork (g .counts)) (lengthsOf (g .tables) ++ (length (g .scratch) ∷ []))
+
+abbrev pub lentWith : Given → Tables → List Lent
+lentWith g t = lentAlone g ++ against 1 (take 4 (wordsToWork (g .counts))) (lengthsOf t)
+
+-- numbers with the places t, t + 1 ..; with one place
+abbrev pub counted : ℕ → List ℕ → List Placed
+counted t [] = []
+counted t (n ∷ l) = record { value = n; place = t } ∷ counted (t + 1) l
+
+abbrev pub placed : ℕ → List ℕ → List Placed
+placed t [] = []
+placed t (n ∷ l) = record { value = n; place = t } ∷ placed t l
+
+abbrev pub orElse : Option ℕ → Option ℕ → Option ℕ
+orElse none o = o
+orElse (some place) o = some place
+
+-- the place 0 of a test that fails
+abbrev pub failing : Bool → Option ℕ
+failing true = none
+failing false = some 0
+
+-- 5 over the lines of table t
+abbrev pub outsideOf : ℕ → Bool → ℕ → List (List ℕ) → Option ℕ
+outsideOf t d m [] = none
+outsideOf t d m (row ∷ rows) = orElse (outside d m (placed t row)) (outsideOf t d m rows)
+
+abbrev pub outsideIn : Circuit → Option ℕ
+outsideIn c =
+    orElse (outsideOf 1 true (c .M) (map oneLine (c .inputs)))
+    (orElse (outsideOf 2 true (c .M) (map latchLine (c .latches)))
+    (orElse (outsideOf 3 false (c .M) (map oneLine (c .outputs)))
+    (outsideOf 4 true (c .M) (map gateLine (c .gates)))))
+
+-- 6 over the lines of table t; `seen` holds the variables defined before
+abbrev pub twiceOf : ℕ → List ℕ → List (List ℕ) → Option ℕ
+twiceOf t seen [] = none
+twiceOf t seen (row ∷ rows) = orElse (twice true seen (placed t row)) (twiceOf t (seen ++ (varOf (literalOf row) ∷ [])) rows)
+
+abbrev pub twiceIn : Circuit → Option ℕ
+twiceIn c =
+    orElse (twiceOf 1 [] (map oneLine (c .inputs)))
+    (orElse (twiceOf 2 (vars (c .inputs)) (map latchLine (c .latches)))
+    (twiceOf 4 (vars (c .inputs) ++ currents (c .latches)) (map gateLine (c .gates))))
+
+-- 2, 3, 4, 5, 6, 7, 8 over the whole circuit
+abbrev pub stages : Given → List Lent → List (Option Refusal)
+stages g lent =
+    stage LargeCount (over (counted 1 (listOf (g .counts))))
+    ∷ stage WrongSum (failing (adds text (g .counts)))
+    ∷ stage ShortTable (short lent)
+    ∷ stage OutOfRange (outsideIn (given g))
+    ∷ stage DefinedTwice (twiceIn (given g))
+    ∷ stage NotDefined (undefinedIn (given g))
+    ∷ stage Cyclic (cyclicIn (given g))
+    ∷ []
+
+-- then 15
+abbrev pub orderStage : Given → Option Refusal
+orderStage g = stage NotInOrder (failing (binaryOrder (given g)))
+
+-- then the tail by 1 and 10, with offsets within the tail
+abbrev pub refusalOf : {A : Type 0} → Parse A → Option Refusal
+refusalOf (got a next) = none
+refusalOf (refused r) = some r
+
+abbrev pub tailStage : Given → List ℕ → Option Refusal
+tailStage g tail = refusalOf (tailAt tail (g .counts) 0)
+
+-- 11: the length needed to hold bytes from a position on, cut at the largest number of 64 bits, where a buffer is shorter
+abbrev pub room : List ℕ → ℕ → List ℕ → Option ℕ
+room out at bytes = cond (leb (at + length bytes) (length out)) none (some (min (at + length bytes) (2 ^ 64 - 1)))
+
+abbrev pub roomStage : List ℕ → List ℕ → Option Refusal
+roomStage out bytes = stage ShortBuffer (room out 0 bytes)

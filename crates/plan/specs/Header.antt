@@ -1,0 +1,71 @@
+-- Text form and binary form: the header.
+use Prim.Native.Nat.{ℕ, _+_, _-_, _^_}
+use mathlib.Core.Bool.{Bool, true, false, cond, _&&_}
+use mathlib.Core.Option.{Option, none, some}
+use mathlib.Core.List.{List, [], _∷_, _++_}
+use lib.Dec.{eqb, leb}
+use lib.ListN.{getD}
+use Rattle.plan.specs.declared.Counts.{Counts}
+use Rattle.plan.specs.declared.Refusal.{Refusal}
+use Rattle.plan.specs.declared.Refusal.the-variants.{WrongByte, LargeCount, WrongSum}
+use Rattle.plan.specs.Literals.{most}
+use Rattle.plan.specs.Refusals.{Parse, got, refused, _then_, unless}
+use Rattle.plan.specs.Circuit.{wordsToRead}
+use Rattle.plan.specs.Bytes.{expect, Placed, numbers, values, lineOf}
+
+pub data Form : Type 0 where
+  text binary : Form
+
+-- the second letter: "aag", "aig"
+abbrev pub letterOf : Form → ℕ
+letterOf text = 97
+letterOf binary = 105
+
+abbrev pub letter : List ℕ → ℕ → Parse Form
+letter file at =
+    cond (eqb (getD file at 0) 97) (got text (at + 1))
+    (cond (eqb (getD file at 0) 105) (got binary (at + 1)) (refused (WrongByte at)))
+
+-- M, I, L, O, A
+abbrev pub countsFrom : List ℕ → Counts
+countsFrom l = record { M = getD l 0 0; I = getD l 1 0; L = getD l 2 0; O = getD l 3 0; A = getD l 4 0 }
+
+abbrev pub listOf : Counts → List ℕ
+listOf n = n .M ∷ n .I ∷ n .L ∷ n .O ∷ n .A ∷ []
+
+-- 2: the first count over the limit
+abbrev pub over : List Placed → Option ℕ
+over [] = none
+over (x ∷ xs) = cond (leb (x .value) most) (over xs) (some (x .place))
+
+-- 3: I + L + A is in text at most M, in binary equal
+abbrev pub adds : Form → Counts → Bool
+adds text n = leb (n .I + n .L + n .A) (n .M)
+adds binary n = eqb (n .I + n .L + n .A) (n .M)
+
+pub record Head : Type 0 where
+  pub form : Form
+  pub counts : Counts
+
+-- the whole line by 1, then 2, then 3
+abbrev pub header : List ℕ → ℕ → Parse Head
+header file at =
+    expect file 97 at then λ _ at.
+    letter file at then λ form at.
+    expect file 103 at then λ _ at.
+    expect file 32 at then λ _ at.
+    numbers file 5 at then λ xs next.
+    unless (over xs) LargeCount
+    (cond (adds form (countsFrom (values xs))) (got (record { form = form; counts = countsFrom (values xs) }) next) (refused (WrongSum 0)))
+
+-- the same, written
+abbrev pub headerOf : Form → Counts → List ℕ
+headerOf form n = 97 ∷ letterOf form ∷ 103 ∷ 32 ∷ lineOf (listOf n)
+
+-- the desk question: the words that table t needs, or 2 ^ 64 - 1
+abbrev pub wordsBy : ℕ → Parse Head → ℕ
+wordsBy t (got h next) = cond (leb 1 t && leb t 5) (getD (wordsToRead (h .counts)) (t - 1) 0) (2 ^ 64 - 1)
+wordsBy t (refused r) = 2 ^ 64 - 1
+
+abbrev pub wordsFor : List ℕ → ℕ → ℕ
+wordsFor file t = wordsBy t (header file 0)
