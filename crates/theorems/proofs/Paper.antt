@@ -1,0 +1,69 @@
+-- "Plans on both sides of the line": the examples marked P, from the paper's bytes to the paper's bytes.
+use Prim.Native.Nat.{ℕ}
+use mathlib.Core.Path.{_≡_, refl}
+use mathlib.Core.List.{List, [], _∷_, _++_, map}
+use Rattle.plan.specs.Refusals.{Parse, got, refused, _then_}
+use Rattle.plan.specs.Circuit.{Circuit}
+use Rattle.plan.specs.Bytes.{digits}
+use Rattle.plan.specs.Difference.{differenceAt, differenceSays}
+use Rattle.plan.specs.Binary.{binaryOf}
+use Rattle.plan.specs.Reading.{readFile}
+use Rattle.plan.specs.Convert.{convert}
+use Rattle.plan.specs.Reduce.{reduce}
+use Rattle.plan.specs.Step.{codeOf, valueOf, outputsOf, first}
+use Rattle.plan.specs.Programs.{bytesOf, lentWords, printed}
+
+-- what is asked of some bytes: the number of a difference; whether a file is accepted; its conversion; its reduction; the outputs
+-- of the first step on an input vector, of the file's circuit and of the reduced one
+pub data Asked : Type 0 where
+  value accepted converted reduced : Asked
+  outputs-on reduced-outputs-on : List ℕ → Asked
+
+abbrev circuit : List ℕ → (Circuit → List ℕ) → List ℕ
+circuit file f = printed (readFile file lentWords then λ c start. got (f c) start)
+
+abbrev outputs : List ℕ → Circuit → List ℕ
+outputs ins c = map codeOf (outputsOf c (first c) (map valueOf ins))
+
+-- the answer, in bytes; a refusal is the programs' line
+abbrev pub answer : Asked → List ℕ → List ℕ
+answer value bytes = printed (differenceSays (differenceAt bytes 0) then λ d next. got (digits d) next)
+answer accepted bytes = circuit bytes (λ c. bytesOf "accepted")
+answer converted bytes = circuit bytes (λ c. binaryOf (convert c))
+answer reduced bytes = circuit bytes (λ c. binaryOf (reduce (convert c)))
+answer (outputs-on ins) bytes = circuit bytes (outputs ins)
+answer (reduced-outputs-on ins) bytes = circuit bytes (λ c. outputs ins (reduce (convert c)))
+
+pub record Example : Type 0 where
+  pub asked : Asked
+  pub bytes : List ℕ
+  pub answered : List ℕ
+
+infix 4 _of_is_
+abbrev pub _of_is_ : Asked → List ℕ → List ℕ → Example
+a of bytes is said = record { asked = a; bytes = bytes; answered = said }
+
+abbrev halves : List ℕ
+halves = bytesOf "aag 2 1 0 1 1\n2\n5\n4 2 3\n"
+
+abbrev pub examples : List Example
+examples =
+    (value of 0x81 ∷ 0x02 ∷ [] is bytesOf "257")
+    ∷ (value of 0x82 ∷ 0x02 ∷ [] is bytesOf "258")
+    ∷ (value of 0x7f ∷ [] is bytesOf "127")
+    ∷ (value of 0x80 ∷ 0x01 ∷ [] is bytesOf "128")
+    ∷ (accepted of bytesOf "aag 0 0 0 0 0\n" is bytesOf "accepted")
+    ∷ (accepted of bytesOf "aag 1 1 0 1 0\n2\n4\n" is bytesOf "refused 5 at 16\n")
+    ∷ (accepted of bytesOf "aag 2 2 0 0 0\n2\n2\n" is bytesOf "refused 6 at 16\n")
+    ∷ (accepted of bytesOf "aag 2 1 0 1 0\n2\n4\n" is bytesOf "refused 7 at 2\n")
+    ∷ (accepted of bytesOf "aag 2 0 0 0 2\n2 4 1\n4 2 1\n" is bytesOf "refused 8 at 1\n")
+    ∷ (accepted of bytesOf "aig 1 0 0 0 1\n" ++ (0x02 ∷ 0x00 ∷ []) is bytesOf "accepted")
+    ∷ (converted of bytesOf "aag 7 2 1 2 4\n2\n4\n6 8\n6\n7\n8 4 10\n10 13 15\n12 2 6\n14 3 7\n"
+    is bytesOf "aig 7 2 1 2 4\n14\n6\n7\n" ++ (0x02 ∷ 0x04 ∷ 0x03 ∷ 0x04 ∷ 0x01 ∷ 0x02 ∷ 0x02 ∷ 0x08 ∷ []))
+    ∷ (reduced of halves is bytesOf "aig 1 1 0 1 0\n1\n")
+    ∷ (outputs-on (bytesOf "x") of halves is bytesOf "x")
+    ∷ (reduced-outputs-on (bytesOf "x") of halves is bytesOf "1")
+    ∷ []
+
+pub examples-hold : map (λ (x : Example). answer (x .asked) (x .bytes)) examples ≡ map (λ (x : Example). x .answered) examples
+examples-hold = refl
