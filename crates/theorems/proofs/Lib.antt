@@ -1,2 +1,4 @@
+pub mod Once
 pub mod Paper
 pub mod Reading
+pub mod Wrong
