@@ -13,6 +13,10 @@ use Rattle.plan.specs.declared.Number.{Number}
 use Rattle.plan.specs.declared.Number.the-variants.{Value, Wrong}
 use Rattle.plan.specs.declared.Loaded.{Loaded}
 use Rattle.plan.specs.declared.Loaded.the-variants as loaded
+use Rattle.plan.specs.declared.Passed.{Passed}
+use Rattle.plan.specs.declared.Passed.the-variants as passed
+use Rattle.plan.specs.declared.Headed.{Headed}
+use Rattle.plan.specs.declared.Headed.the-variants as headed
 use Rattle.plan.specs.declared.Checked.{Checked}
 use Rattle.plan.specs.declared.Checked.the-variants as checked
 use Rattle.plan.specs.declared.Written.{Written}
@@ -27,7 +31,7 @@ use Rattle.plan.specs.Literals.{beyond}
 use Rattle.plan.specs.Refusals.{Parse, got, refused, numberOf, placeOf, stage, firstOf}
 use Rattle.plan.specs.Circuit.{Circuit, Tables, countsOf, lengthsOf, holding, allCleared, cleared}
 use Rattle.plan.specs.Bytes.{number, digits}
-use Rattle.plan.specs.Header.{listOf}
+use Rattle.plan.specs.Header.{Form, text, binary, Head, listOf}
 use Rattle.plan.specs.Text.{textOf}
 use Rattle.plan.specs.Difference.{groupsOf}
 use Rattle.plan.specs.Binary.{binaryOf}
@@ -78,6 +82,19 @@ cutNumber (refused r) = Wrong (placeOf r)
 
 abbrev pub numberAt : List ℕ → ℕ → Number
 numberAt file at = cutNumber (number file at)
+
+-- a part of a file, and its header
+abbrev pub passedBy : {A : Type 0} → Parse A → Passed
+passedBy (got a next) = passed.To next
+passedBy (refused r) = passed.Refused r
+
+abbrev pub isBinary : Form → Bool
+isBinary text = false
+isBinary binary = true
+
+abbrev pub headedBy : Parse Head → Headed
+headedBy (got h next) = headed.Accepted (isBinary (h .form)) (h .counts) next
+headedBy (refused r) = headed.Refused r
 
 -- bytes put into a buffer from a position on, all else as it was
 abbrev pub put : List ℕ → ℕ → List ℕ → List ℕ

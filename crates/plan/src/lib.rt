@@ -178,6 +178,18 @@ pub enum Difference {
     Bad(usize),
 }
 
+// What a part of a file answers: the position after it.
+pub enum Passed {
+    To(usize),
+    Refused(Refusal),
+}
+
+// What a header answers: whether it is binary, the counts, and the position after it.
+pub enum Headed {
+    Accepted(bool, Counts, usize),
+    Refused(Refusal),
+}
+
 // What a reader answers: the counts and where the tail starts.
 pub enum Loaded {
     Accepted(Counts, usize),
