@@ -3,3 +3,6 @@ pub mod Common
 pub mod Number
 pub mod Order
 pub mod Differences
+pub mod Members
+pub mod Undefined
+pub mod Cycles
