@@ -6,3 +6,5 @@ pub mod Differences
 pub mod Members
 pub mod Undefined
 pub mod Cycles
+pub mod Lines
+pub mod Headers
