@@ -8,3 +8,5 @@ pub mod Undefined
 pub mod Cycles
 pub mod Lines
 pub mod Headers
+pub mod Rows
+pub mod Texts
