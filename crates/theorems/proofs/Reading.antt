@@ -10,3 +10,4 @@ pub mod Lines
 pub mod Headers
 pub mod Rows
 pub mod Texts
+pub mod Steps
