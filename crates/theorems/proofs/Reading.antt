@@ -11,3 +11,4 @@ pub mod Headers
 pub mod Rows
 pub mod Texts
 pub mod Steps
+pub mod Tails
