@@ -12,3 +12,4 @@ pub mod Rows
 pub mod Texts
 pub mod Steps
 pub mod Tails
+pub mod Places
