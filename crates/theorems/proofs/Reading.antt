@@ -13,3 +13,4 @@ pub mod Texts
 pub mod Steps
 pub mod Tails
 pub mod Places
+pub mod Runs
