@@ -14,3 +14,4 @@ pub mod Steps
 pub mod Tails
 pub mod Places
 pub mod Runs
+pub mod Binaries
