@@ -1,0 +1,3 @@
+-- Stepping, conversion and reduction: what they keep.
+pub mod Refinement
+pub mod Values
