@@ -2,3 +2,7 @@
 pub mod Refinement
 pub mod Values
 pub mod Monotone
+pub mod Lists
+pub mod Found
+pub mod Accepted
+pub mod GateValue

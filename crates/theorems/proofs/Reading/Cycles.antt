@@ -19,7 +19,7 @@ use Rattle.theorems.proofs.Reading.Members.{has-cases, distinct, pigeon
 abbrev pub Stuck : List Gate → ℕ → Type 0
 Stuck gs u = Depends gs u u ⊎ ((w : ℕ) × Depends gs u w × Depends gs w w)
 
-none-of : (v : ℕ) (gs : List Gate) → has v (lefts gs) ≡ false → find v gs ≡ none
+pub none-of : (v : ℕ) (gs : List Gate) → has v (lefts gs) ≡ false → find v gs ≡ none
 none-of v [] h = refl
 none-of v (g ∷ gs) h = go (eqb (g .lhs / 2) v) (none-of v gs) h
   where

@@ -28,7 +28,7 @@ has-cases C x v xs h f g = go (eqb x v) refl h
     go true e p = f (eqb-true x v e)
     go false e p = g p
 
-has-not : (v x : ℕ) (xs : List ℕ) → has x xs ≡ false → has v xs ≡ true → eqb x v ≡ false
+pub has-not : (v x : ℕ) (xs : List ℕ) → has x xs ≡ false → has v xs ≡ true → eqb x v ≡ false
 has-not v x xs h k = ne-eqb x v (λ e. false≢true (sym h ∙ subst (λ (u : ℕ). has u xs ≡ true) (sym e) k))
 
 abbrev pub distinct : List ℕ → Bool
