@@ -6,3 +6,5 @@ pub mod Lists
 pub mod Found
 pub mod Accepted
 pub mod GateValue
+pub mod Signs
+pub mod Binary

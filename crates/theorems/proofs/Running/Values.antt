@@ -60,3 +60,7 @@ both-none f (some g) p = absurd (false≢true p)
 pub settled-more : (gs : List Gate) (k v : ℕ) → settled gs k v ≡ true → settled gs (suc k) v ≡ true
 settled-more gs zero v p = both-none (λ u. settled gs zero u) (find v gs) p
 settled-more gs (suc k) v p = both-more (λ u. settled gs k u) (λ u. settled gs (suc k) u) (λ u q. settled-more gs k u q) (find v gs) p
+
+pub settled-none : (gs : List Gate) (k v : ℕ) → find v gs ≡ none → settled gs k v ≡ true
+settled-none gs zero v p = rw p
+settled-none gs (suc k) v p = rw p
