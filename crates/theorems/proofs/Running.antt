@@ -8,3 +8,7 @@ pub mod Accepted
 pub mod GateValue
 pub mod Signs
 pub mod Binary
+pub mod StandIn
+pub mod ReduceGates
+pub mod Upward
+pub mod ReduceStep

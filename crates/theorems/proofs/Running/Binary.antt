@@ -9,7 +9,7 @@ use borrow.Author.Tests.{eqb-true, eqb-false, eq-eqb, ne-eqb, leb-true, leb-fals
 use lib.Dec.{eqb, leb}
 use lib.ListN.{length}
 use Rattle.plan.specs.Literals.{litOf, varOf}
-use Rattle.plan.specs.Circuit.{Gate}
+use Rattle.plan.specs.Circuit.{Gate, Circuit, nexts}
 use Rattle.plan.specs.Depends.{find, both, settled}
 use Rattle.plan.specs.Step.{Value, and, lit, gateValue, valueIn}
 use Rattle.theorems.proofs.Reading.Common.{and-intro}
@@ -78,3 +78,18 @@ solves-in w a n (g ∷ gs) b h v p q = go (eqb (varOf (g .lhs)) v) refl (λ r. s
 -- the leaves' values are what is given
 pub leaf-given : (n : ℕ) (gs : List Gate) (e : ℕ → Value) → Binary n gs → (v : ℕ) → v < n → valueIn gs e (length gs) v ≡ e v
 leaf-given n gs e b v h = value-solves gs e (length gs) (settled-binary n gs b) v ∙ ap (gateValue (valueIn gs e (length gs)) (e v)) (find-none n gs b v h)
+
+-- each literal's variable is below n
+abbrev pub Bounded : ℕ → List ℕ → Type 0
+Bounded n [] = Unit {0}
+Bounded n (l ∷ ls) = (varOf l < n) × Bounded n ls
+
+-- the first variable after the leaves'
+abbrev pub inner : Circuit → ℕ
+inner c = 1 + length (c .inputs) + length (c .latches)
+
+-- its gates are in binary order, and what it uses has a number
+pub record Ordered (c : Circuit) : Type 0 where
+  pub gates-in : Binary (inner c) (c .gates)
+  pub next-in : Bounded (inner c + length (c .gates)) (nexts (c .latches))
+  pub output-in : Bounded (inner c + length (c .gates)) (c .outputs)
