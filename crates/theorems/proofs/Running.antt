@@ -12,3 +12,5 @@ pub mod StandIn
 pub mod ReduceGates
 pub mod Upward
 pub mod ReduceStep
+pub mod Renumber
+pub mod Numbering
