@@ -1,4 +1,5 @@
 pub mod Once
 pub mod Paper
 pub mod Reading
+pub mod Running
 pub mod Wrong

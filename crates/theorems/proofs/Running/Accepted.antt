@@ -1,0 +1,77 @@
+-- A well-formed circuit: its leaves and gates are all different, what is used is among them, and every variable settles.
+use Prim.Native.Nat.{ℕ, zero, _*_}
+use mathlib.Core.Path.{_≡_, refl, sym, ap, ap₂, _∙_, subst}
+use mathlib.Core.Bool.{Bool, true, false, _&&_, _||_, false≢true}
+use mathlib.Core.List.{List, [], _∷_, _++_, map, append-assoc}
+use native.Mathlib.Omega.{arith}
+use borrow.Author.Tests.{eqb-true, eq-eqb, leb-true}
+use lib.Dec.{eqb, leb}
+use lib.ListN.{length}
+use Rattle.plan.specs.Literals.{varOf, signOf, inRange}
+use Rattle.plan.specs.Circuit.{Latch, Gate, Circuit, oneLine, latchLine, gateLine, heads, vars, currents, lefts, definedIn, nexts, roots, rights, usedIn, has, inside, allInside}
+use Rattle.plan.specs.Depends.{settled}
+use Rattle.plan.specs.Reading.{WellFormed}
+use Rattle.plan.specs.Convert.{leaves}
+use Rattle.theorems.proofs.Reading.Common.{and-left, and-right}
+use Rattle.theorems.proofs.Reading.Members.{has-cases, distinct}
+use Rattle.theorems.proofs.Reading.Cycles.{settled-exactly}
+use Rattle.theorems.proofs.Running.Lists.{has-left, has-right, has-but, absent, distinct-cons, new-distinct, allIn, all-in}
+
+pub record Accepted (c : Circuit) : Type 0 where
+  pub once : distinct (leaves c ++ lefts (c .gates)) ≡ true
+  pub used-next : allIn (nexts (c .latches)) (leaves c ++ lefts (c .gates)) ≡ true
+  pub used-output : allIn (c .outputs) (leaves c ++ lefts (c .gates)) ≡ true
+  pub used-gate : allIn (rights (c .gates)) (leaves c ++ lefts (c .gates)) ≡ true
+  pub settles : (v : ℕ) → settled (c .gates) (length (c .gates)) v ≡ true
+
+-- a line that defines a literal within range does not define variable 0
+module _ {A : Type 0} (m : ℕ) (literal : A → ℕ) (others : A → List ℕ) where
+  abbrev line : A → List ℕ
+  line a = literal a ∷ others a
+
+  not-zero : (ls : List A) → allInside true m (map line ls) ≡ true → has 0 (heads (map line ls)) ≡ true → ⊥
+  not-zero [] h k = false≢true k
+  not-zero (a ∷ ls) h k =
+      let within : inRange true m (literal a) ≡ true = and-left (inRange true m (literal a)) (inside false m (others a)) (and-left (inside true m (line a)) (allInside true m (map line ls)) h) in
+      let least = leb-true 2 (literal a) (and-left (leb 2 (literal a)) (leb (literal a) (2 * m)) (and-right (eqb (signOf (literal a)) 0) (leb 2 (literal a) && leb (literal a) (2 * m)) within)) in
+      has-cases ⊥ (varOf (literal a)) 0 (heads (map line ls)) k (λ e. omega arith) (not-zero ls (and-right (inside true m (line a)) (allInside true m (map line ls)) h))
+
+vars-append : (xs ys : List ℕ) → vars (xs ++ ys) ≡ vars xs ++ vars ys
+vars-append [] ys = refl
+vars-append (x ∷ xs) ys = ap (λ (t : List ℕ). varOf x ∷ t) (vars-append xs ys)
+
+-- the constant, then what is defined
+leaves-lefts : (c : Circuit) → leaves c ++ lefts (c .gates) ≡ zero ∷ definedIn c
+leaves-lefts c = ap (λ (t : List ℕ). zero ∷ t) (append-assoc (vars (c .inputs)) (currents (c .latches)) (lefts (c .gates)))
+
+module _ (c : Circuit) (ok : WellFormed c) where
+  zero-new : has 0 (definedIn c) ≡ false
+  zero-new = absent (has 0 (definedIn c)) (λ h. go h (has 0 (currents (c .latches) ++ lefts (c .gates))) refl)
+    where
+      gates-not : has 0 (lefts (c .gates)) ≡ true → ⊥
+      gates-not = not-zero (c .M) (λ (g : Gate). g .lhs) (λ (g : Gate). g .rhs0 ∷ g .rhs1 ∷ []) (c .gates) (ok .gates)
+
+      latches-not : has 0 (currents (c .latches)) ≡ true → ⊥
+      latches-not = not-zero (c .M) (λ (l : Latch). l .current) (λ (l : Latch). l .next ∷ []) (c .latches) (ok .latches)
+
+      inputs-not : has 0 (vars (c .inputs)) ≡ true → ⊥
+      inputs-not = not-zero (c .M) (λ (l : ℕ). l) (λ (l : ℕ). []) (c .inputs) (ok .inputs)
+
+      go : has 0 (definedIn c) ≡ true → (t : Bool) → has 0 (currents (c .latches) ++ lefts (c .gates)) ≡ t → ⊥
+      go h true e = latches-not (has-but 0 (currents (c .latches)) (lefts (c .gates)) e (absent (has 0 (lefts (c .gates))) gates-not))
+      go h false e = inputs-not (has-but 0 (vars (c .inputs)) (currents (c .latches) ++ lefts (c .gates)) h e)
+
+  used-in : (ls : List ℕ) → ((v : ℕ) → has v (vars ls) ≡ true → has v (usedIn c) ≡ true) → allIn ls (leaves c ++ lefts (c .gates)) ≡ true
+  used-in ls h = rw (leaves-lefts c) (all-in ls (zero ∷ definedIn c) (λ v k. ok .defined v (h v k)))
+
+  has-roots : (v : ℕ) → has v (vars (roots c)) ≡ true → has v (usedIn c) ≡ true
+  has-roots v k = rw (vars-append (roots c) (rights (c .gates))) (has-left v (vars (roots c)) (vars (rights (c .gates))) k)
+
+  pub accepted : Accepted c
+  accepted = record {
+    once = ap distinct (leaves-lefts c) ∙ (distinct-cons zero (definedIn c) zero-new (new-distinct [] (definedIn c) (ok .different) .0));
+    used-next = used-in (nexts (c .latches)) (λ v k. has-roots v (rw (vars-append (nexts (c .latches)) (c .outputs)) (has-left v (vars (nexts (c .latches))) (vars (c .outputs)) k)));
+    used-output = used-in (c .outputs) (λ v k. has-roots v (rw (vars-append (nexts (c .latches)) (c .outputs)) (has-right v (vars (nexts (c .latches))) (vars (c .outputs)) k)));
+    used-gate = used-in (rights (c .gates)) (λ v k. rw (vars-append (roots c) (rights (c .gates))) (has-right v (vars (roots c)) (vars (rights (c .gates))) k));
+    settles = settled-exactly (c .gates) .1 (ok .acyclic);
+  }
