@@ -1,20 +1,18 @@
 -- A number is read from its digits, and from nothing else.
 use Prim.Native.Nat.{ℕ, suc, zero, _+_, _-_, _*_, _/_, _%_, _<_, _≤_}
 use mathlib.Core.Path.{_≡_, refl, sym, ap, ap₂, _∙_, subst}
-use mathlib.Core.Bool.{Bool, true, false, not, cond, _&&_, _||_, false≢true}
-use mathlib.Core.List.{List, [], _∷_, _++_, append-assoc, append-nil}
+use mathlib.Core.Bool.{Bool, true, false, cond, _&&_, false≢true}
+use mathlib.Core.List.{List, [], _∷_, _++_, append-nil}
 use native.Mathlib.Omega.{arith}
-use borrow.Author.Tests.{eqb-true, eqb-false, eq-eqb, ne-eqb, leb-true, leb-false, le-leb, ltb-true, ltb-false, lt-ltb, le-ltb}
+use borrow.Author.Tests.{eqb-true, eqb-false, ne-eqb, leb-true, leb-false, le-leb, ltb-true, ltb-false, lt-ltb, le-ltb}
 use lib.Dec.{eqb, leb, ltb}
 use lib.ListN.{length, getD, drop}
 use lib.Seq.{append-snoc, drop-drop}
-use Rattle.plan.specs.declared.Refusal.{Refusal}
-use Rattle.plan.specs.declared.Refusal.the-variants.{WrongByte}
-use Rattle.plan.specs.Refusals.{Parse, got, refused}
+use Rattle.plan.specs.Refusals.{got}
 use Rattle.plan.specs.declared.Class.{Class}
 use Rattle.plan.specs.declared.Class.the-variants.{Line, Space, Zero, Digit, Print, Rest}
-use Rattle.plan.specs.Bytes.{classOf, digitClass, nameClass, span, decimal, numberBy, number, spell, digits}
-use Rattle.theorems.proofs.Reading.Common.{not-got, got-value, got-next, Reads, byte-there, byte-is, byte-past, past}
+use Rattle.plan.specs.Bytes.{classOf, digitClass, span, decimal, numberBy, number, spell, digits}
+use Rattle.theorems.proofs.Reading.Common.{not-got, Reads, byte-there, byte-is, byte-past, past}
 
 -- classes
 abbrev pub Says : ℕ → Class → Type 0
@@ -123,6 +121,15 @@ digits-more v d p h =
     ∙ (spell-step n n (omega arith)
     ∙ (ap₂ (λ (x y : ℕ). spell n x ++ ((48 + y) ∷ [])) q r
     ∙ ap (λ (l : List ℕ). l ++ ((48 + d) ∷ [])) (spell-fuel n v v (omega arith) (omega arith))))
+
+pub digits-small : (n : ℕ) → n < 10 → digits n ≡ (48 + n) ∷ []
+digits-small n h = spell-small n n h
+
+-- the last digit is what a division by ten leaves
+pub digits-step : (n : ℕ) → 10 ≤ n → digits n ≡ digits (n / 10) ++ ((48 + n % 10) ∷ [])
+digits-step n h =
+    let e : n / 10 * 10 + n % 10 ≡ n = omega arith in
+    ap digits (sym e) ∙ digits-more (n / 10) (n % 10) (omega arith) (omega arith)
 
 digits-decimal : (v : ℕ) (l : List ℕ) → 0 < v → AllPass digitClass l → digits (decimal v l) ≡ digits v ++ l
 digits-decimal v [] p h = sym (append-nil (digits v))

@@ -1,0 +1,2 @@
+-- What the proofs of module classes use.
+pub mod ByClass

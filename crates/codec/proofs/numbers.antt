@@ -1,0 +1,4 @@
+-- What the proofs of module numbers use.
+pub mod Scan
+pub mod Length
+pub mod Filling

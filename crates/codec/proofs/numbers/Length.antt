@@ -1,0 +1,36 @@
+-- How many digits a number has.
+use Prim.Native.Nat.{ℕ, suc, zero, _+_, _*_, _/_, _%_, _^_, _<_, _≤_}
+use mathlib.Core.Path.{_≡_, refl, sym, ap, _∙_}
+use mathlib.Core.List.{[], _∷_}
+use native.Mathlib.Omega.{arith}
+use native.Mathlib.Nat.{le-refl, pow-suc}
+use native.Mathlib.Decide.{decLe}
+use lib.ListN.{length, length-append}
+use Rattle.plan.specs.Bytes.{digits}
+use Rattle.theorems.proofs.Reading.Number.{digits-small, digits-step}
+
+ten-power : (k : ℕ) → 1 ≤ 10 ^ k
+ten-power zero = le-refl 1
+ten-power (suc k) = rw (pow-suc 10 k) (omega (arith, ten-power k))
+
+pub one : (n : ℕ) → n < 10 → 1 ≡ length (digits n)
+one n h = sym (ap length (digits-small n h))
+
+-- one digit more than a tenth of it has
+pub more : (n k : ℕ) → 10 ≤ n → k ≡ length (digits (n / 10)) → suc k ≡ length (digits n)
+more n k h e = omega (arith, e, ap length (digits-step n h) ∙ length-append (digits (n / 10)) ((48 + n % 10) ∷ []))
+
+pub some-digit : (n : ℕ) → 1 ≤ length (digits n)
+some-digit n = go (decLe 10 n)
+  where
+    go : Dec (10 ≤ n) → 1 ≤ length (digits n)
+    go (yes h) = omega (arith, more n (length (digits (n / 10))) h refl)
+    go (no h) = omega (arith, one n (omega arith))
+
+pub many : (k n : ℕ) → 10 ^ suc k ≤ n → n < 10 ^ suc (suc k) → suc (suc k) ≡ length (digits n)
+many zero n h g = more n 1 h (one (n / 10) (omega arith))
+many (suc k) n h g =
+    let p = 10 ^ suc k in
+    let low : p * 10 ≤ n = rw (← pow-suc 10 (suc k)) h in
+    let high : n < p * 10 * 10 = rw (← pow-suc 10 (suc k), ← pow-suc 10 (suc (suc k))) g in
+    more n (suc (suc k)) (omega (arith, ten-power (suc k))) (many k (n / 10) (omega arith) (rw (pow-suc 10 (suc k)) (omega arith)))

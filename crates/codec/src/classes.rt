@@ -1,0 +1,32 @@
+// The six classes of bytes (document 01, text form).
+ghost use mathlib.Core.Path.{_≡_};
+ghost use Rattle.plan.specs.Bytes.{classOf, digitClass};
+use plan::Class;
+
+// This match alone decides what a byte is.
+pub fn class_of(b: u8) -> Class
+    ensures { λ r. ⌜ r ≡ classOf b ⌝ }
+{
+    match b {
+        10 => Class::Line,
+        32 => Class::Space,
+        48 => Class::Zero,
+        49..=57 => Class::Digit,
+        33..=126 => Class::Print,
+        _ => Class::Rest,
+    }
+}
+
+// Whether bytes of a class stand after a number's first digit.
+pub fn is_digit(c: Class) -> bool
+    ensures { λ r. ⌜ r ≡ digitClass c ⌝ }
+{
+    match c {
+        Class::Zero => true,
+        Class::Digit => true,
+        Class::Line => false,
+        Class::Space => false,
+        Class::Print => false,
+        Class::Rest => false,
+    }
+}

@@ -1,0 +1,4 @@
+// Byte classes, numbers and differences: read one, write one.
+pub mod classes;
+pub mod numbers;
+pub mod room;
