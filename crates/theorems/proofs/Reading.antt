@@ -15,3 +15,4 @@ pub mod Tails
 pub mod Places
 pub mod Runs
 pub mod Binaries
+pub mod Exactly
