@@ -4,6 +4,7 @@ pub mod Number
 pub mod Order
 pub mod Differences
 pub mod Members
+pub mod Short
 pub mod Undefined
 pub mod Cycles
 pub mod Lines

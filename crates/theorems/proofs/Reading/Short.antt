@@ -1,0 +1,70 @@
+-- 4 names the least table that is too short, and nothing if all are long enough.
+use Prim.Native.Nat.{ℕ, _<_, _≤_, min}
+use mathlib.Core.Path.{_≡_, refl, ap, subst}
+use mathlib.Core.Bool.{Bool, true, false, cond}
+use mathlib.Core.Option.{Option, none, some}
+use mathlib.Core.Logic.{_⊎_, inl, inr, _↔_}
+use mathlib.Core.List.{List, [], _∷_}
+use native.Mathlib.Omega.{arith}
+use native.Mathlib.Decide.{decLe}
+use borrow.Author.Tests.{leb-true, leb-false}
+use lib.Dec.{leb}
+use Rattle.plan.specs.Circuit.{Lent, orLess, short}
+
+abbrev pub AllLong : List Lent → Type 0
+AllLong [] = Unit {0}
+AllLong (x ∷ xs) = (x .needed ≤ x .words) × AllLong xs
+
+-- a table of number t is too short
+abbrev pub ShortIn : ℕ → List Lent → Type 0
+ShortIn t [] = ⊥
+ShortIn t (x ∷ xs) = ((x .table ≡ t) × (x .words < x .needed)) ⊎ ShortIn t xs
+
+abbrev pub ShortSays : List Lent → Option ℕ → Type 0
+ShortSays xs none = AllLong xs
+ShortSays xs (some t) = ShortIn t xs × ((u : ℕ) → ShortIn u xs → t ≤ u)
+
+none-short : (xs : List Lent) → AllLong xs → (u : ℕ) → ShortIn u xs → ⊥
+none-short [] h u k = k
+none-short (x ∷ xs) h u (inl k) = omega (arith, h .0, k .1)
+none-short (x ∷ xs) h u (inr k) = none-short xs (h .1) u k
+
+pub short-says : (xs : List Lent) → ShortSays xs (short xs)
+short-says [] = tt
+short-says (x ∷ xs) = go (leb (x .needed) (x .words)) refl (short xs) (short-says xs)
+  where
+    go : (b : Bool) → leb (x .needed) (x .words) ≡ b → (r : Option ℕ) → ShortSays xs r → ShortSays (x ∷ xs) (cond b r (orLess (x .table) r))
+    go true e none h = (leb-true _ _ e, h)
+    go true e (some t) h = (inr (h .0), least)
+      where
+        least : (u : ℕ) → ShortIn u (x ∷ xs) → t ≤ u
+        least u (inl k) = absurd (omega (arith, leb-true (x .needed) (x .words) e, k .1))
+        least u (inr k) = h .1 u k
+    go false e none h = (inl (refl, leb-false _ _ e), least)
+      where
+        least : (u : ℕ) → ShortIn u (x ∷ xs) → x .table ≤ u
+        least u (inl k) = omega (arith, k .0)
+        least u (inr k) = absurd (none-short xs h u k)
+    go false e (some t) h = (by-size (decLe t (x .table)), least)
+      where
+        by-size : Dec (t ≤ x .table) → ShortIn (min t (x .table)) (x ∷ xs)
+        by-size (yes l) = let m : t ≡ min t (x .table) = omega arith in inr (subst (λ (y : ℕ). ShortIn y xs) m (h .0))
+        by-size (no l) = let m : x .table ≡ min t (x .table) = omega arith in inl (m, leb-false _ _ e)
+
+        least : (u : ℕ) → ShortIn u (x ∷ xs) → min t (x .table) ≤ u
+        least u (inl k) = omega (arith, k .0)
+        least u (inr k) = omega (arith, h .1 u k)
+
+pub short-none : (xs : List Lent) → (short xs ≡ none) ↔ AllLong xs
+short-none xs = (λ e. subst (ShortSays xs) e (short-says xs), λ h. go h (short xs) (short-says xs))
+  where
+    go : AllLong xs → (r : Option ℕ) → ShortSays xs r → r ≡ none
+    go h none k = refl
+    go h (some t) k = absurd (none-short xs h t (k .0))
+
+pub short-named : (xs : List Lent) (t : ℕ) → (short xs ≡ some t) ↔ ShortSays xs (some t)
+short-named xs t = (λ e. subst (ShortSays xs) e (short-says xs), λ h. go h (short xs) (short-says xs))
+  where
+    go : ShortSays xs (some t) → (r : Option ℕ) → ShortSays xs r → r ≡ some t
+    go h none k = absurd (none-short xs k t (h .0))
+    go h (some u) k = let e : u ≡ t = omega (arith, h .1 u (k .0), k .1 t (h .0)) in ap some e
