@@ -20,10 +20,12 @@ use Rattle.theorems.proofs.Reading.Differences.{Bytes, gates-took, gate
 use Rattle.theorems.proofs.Reading.Runs.{upFrom, lits-inside, latches-inside, gates-inside, vars-lits, currents-latches, lefts-gates, run-new, length-lits, length-latches, length-nexts, nexts-latches, BinaryOrder}
 use Rattle.theorems.proofs.Reading.Texts.{table-reads}
 
-pub latches-using : (m : ℕ) (ls : List Latch) → allInside true m (map latchLine ls) ≡ true → allInside false m (map oneLine (nexts ls)) ≡ true
+pub latches-using : (m : ℕ) (ls : List Latch) → allInside true m (map latchLine ls) ≡ true
+    → allInside false m (map oneLine (nexts ls)) ≡ true
 latches-using m [] h = refl
 latches-using m (l ∷ ls) h =
-    and-intro (inside false m (oneLine (l .next))) _ (and-right (inRange true m (l .current)) _ (and-left (inside true m (latchLine l)) _ h))
+    and-intro (inside false m (oneLine (l .next))) _ (and-right (inRange true m (l .current)) _
+    (and-left (inside true m (latchLine l)) _ h))
     (latches-using m ls (and-right (inside true m (latchLine l)) _ h))
 
 assoc3 : (a b c d : List ℕ) → (a ++ (b ++ c)) ++ d ≡ a ++ (b ++ (c ++ d))
@@ -85,10 +87,13 @@ module _ (file : List ℕ) where
       let e-is : t3 .1 ≡ e = got-next _ c (t3 .1) e (t3 .3) in
       let n-is : record { M = n .M; I = n .I; L = length (t1 .0); O = length (t2 .0); A = length (t3 .0) } ≡ n
       = λ i. record { M = n .M; I = n .I; L = l1 .1 i; O = l2 .1 i; A = l3 .1 i } in
-      let b = binary-rows file (n .M) (n .I) at (t1 .1) (t2 .1) (t3 .1) (t1 .0) (t2 .0) (t3 .0) (omega (arith, l1 .1, l3 .1)) (l1 .0) (l1 .2) (l2 .0) (l2 .2) (l3 .0)
+      let b =
+      binary-rows file (n .M) (n .I) at (t1 .1) (t2 .1) (t3 .1) (t1 .0) (t2 .0) (t3 .0) (omega (arith, l1 .1, l3 .1)) (l1 .0) (l1 .2)
+      (l2 .0) (l2 .2) (l3 .0)
       (subst (λ (x : ℕ). InOrder (1 + n .I + x) (t3 .0)) (sym (l1 .1)) (l3 .2)) in (
         subst (λ (x : Counts). BodyOk file binaryLines x at c e) n-is
-            (subst₂ (λ (x : Circuit) (y : ℕ). BodyOk file binaryLines (record { M = n .M; I = n .I; L = length (t1 .0); O = length (t2 .0); A = length (t3 .0) }) at x y) c-is e-is (b .0)),
+            (subst₂ (λ (x : Circuit) (y : ℕ). BodyOk file binaryLines
+            (record { M = n .M; I = n .I; L = length (t1 .0); O = length (t2 .0); A = length (t3 .0) }) at x y) c-is e-is (b .0)),
         subst BinaryOrder c-is (b .1),
       )
 
@@ -96,13 +101,18 @@ module _ (file : List ℕ) where
       → Reads file (binaryBody file (countsOf c) at) c s
   binary-reads c at s w o e =
       let nx = nexts (c .latches) in
-      let k1 = rows-using 1 (c .M) [] (map oneLine nx) (map-long 1 oneLine (λ a. refl) nx) (latches-using (c .M) (c .latches) (w .latches)) in
+      let k1 =
+      rows-using 1 (c .M) [] (map oneLine nx) (map-long 1 oneLine (λ a. refl) nx) (latches-using (c .M) (c .latches) (w .latches)) in
       let k2 = rows-using 1 (c .M) [] (map oneLine (c .outputs)) (map-long 1 oneLine (λ a. refl) (c .outputs)) (w .outputs) in
-      let r1 = table-reads file 1 false (c .M) oneLine nx [] at _ k1 (e ∙ assoc3 (linesOf (map oneLine nx)) (linesOf (map oneLine (c .outputs))) (gateBytes (c .gates)) s) in
+      let r1 =
+      table-reads file 1 false (c .M) oneLine nx [] at _ k1
+      (e ∙ assoc3 (linesOf (map oneLine nx)) (linesOf (map oneLine (c .outputs))) (gateBytes (c .gates)) s) in
       let r1′ : lines file 1 false (c .M) (length (c .latches)) [] at ≡ got (map oneLine nx) (r1 .0)
       = ap (λ (x : ℕ). lines file 1 false (c .M) x [] at) (sym (length-nexts (c .latches))) ∙ r1 .1 in
       let r2 = table-reads file 1 false (c .M) oneLine (c .outputs) [] (r1 .0) _ k2 (r1 .2) in
-      let r3 = gates-reads file (c .gates) (1 + length (c .inputs) + length (c .latches)) (r2 .0) s (o .gates) (omega (arith, o .sum, w .most-M)) (r2 .2) in
+      let r3 =
+      gates-reads file (c .gates) (1 + length (c .inputs) + length (c .latches)) (r2 .0) s (o .gates)
+      (omega (arith, o .sum, w .most-M)) (r2 .2) in
       let l-is : latchesFrom (1 + length (c .inputs)) (map literalOf (map oneLine nx)) ≡ c .latches
       = ap (latchesFrom (1 + length (c .inputs))) (map-forth literalOf oneLine (λ a. refl) nx) ∙ sym (o .latches) in (
         r3 .0,

@@ -34,8 +34,12 @@ side-settled f false g p = and-right (f (g .rhs0 / 2)) (f (g .rhs1 / 2)) p
 
 uses-settled : (gs : List Gate) (k u v : ℕ) → Uses gs u v → settled gs k u ≡ true → (j : ℕ) × (j < k) × (settled gs j v ≡ true)
 uses-settled gs zero u v x p = absurd (false≢true (sym (ap isNone (x .2)) ∙ p))
-uses-settled gs (suc k) u v x p =
-    (k, omega arith, subst (λ (t : ℕ). settled gs k t ≡ true) (x .3) (side-settled (λ t. settled gs k t) (x .1) (x .0) (sym (ap (both (λ t. settled gs k t)) (x .2)) ∙ p)))
+uses-settled gs (suc k) u v x p = (
+  k,
+  omega arith,
+  subst (λ (t : ℕ). settled gs k t ≡ true) (x .3)
+      (side-settled (λ t. settled gs k t) (x .1) (x .0) (sym (ap (both (λ t. settled gs k t)) (x .2)) ∙ p)),
+)
 
 depends-settled : (gs : List Gate) (k : ℕ) {u v : ℕ} → Depends gs u v → settled gs k u ≡ true → (j : ℕ) × (j < k) × (settled gs j v ≡ true)
 depends-settled gs k (one {u = u} {v = v} x) p = uses-settled gs k u v x p
@@ -62,7 +66,8 @@ unsettled-side : (f : ℕ → Bool) (o : Option Gate) → both f o ≡ false →
 unsettled-side f none p = absurd (false≢true (sym p))
 unsettled-side f (some g) p = go (f (g .rhs0 / 2)) refl p
   where
-    go : (t : Bool) → f (g .rhs0 / 2) ≡ t → (t && f (g .rhs1 / 2)) ≡ false → (j : Gate) × (b : Bool) × (_≡_ {A = Option Gate} (some g) (some j)) × (f (side b j) ≡ false)
+    go : (t : Bool) → f (g .rhs0 / 2) ≡ t → (t && f (g .rhs1 / 2)) ≡ false
+        → (j : Gate) × (b : Bool) × (_≡_ {A = Option Gate} (some g) (some j)) × (f (side b j) ≡ false)
     go true e q = (g, false, refl, q)
     go false e q = (g, true, refl, e)
 
@@ -101,7 +106,8 @@ record Seen (gs : List Gate) (k : ℕ) (seen : List ℕ) (v : ℕ) : Type 0 wher
 
 seen-in : (gs : List Gate) (k : ℕ) (seen : List ℕ) (v : ℕ) → Seen gs k seen v → (u : ℕ) → has u (v ∷ seen) ≡ true → has u (lefts gs) ≡ true
 seen-in gs k seen v s u h =
-    has-cases (has u (lefts gs) ≡ true) v u seen h (λ q. subst (λ (x : ℕ). has x (lefts gs) ≡ true) q (gate-in v gs (none-unsettled gs k v (s .open-yet)))) (s .gates-all u)
+    has-cases (has u (lefts gs) ≡ true) v u seen h (λ q. subst (λ (x : ℕ). has x (lefts gs) ≡ true) q
+    (gate-in v gs (none-unsettled gs k v (s .open-yet)))) (s .gates-all u)
 
 seen-new : (gs : List Gate) (k : ℕ) (seen : List ℕ) (v : ℕ) → Seen gs k seen v → has v seen ≡ false → distinct (v ∷ seen) ≡ true
 seen-new gs k seen v s e = and-intro (not (has v seen)) (distinct seen) (ap not e) (s .different)
@@ -111,12 +117,19 @@ climb gs zero seen v s = go (has v seen) refl
   where
     go : (t : Bool) → has v seen ≡ t → Ends gs v
     go true e = (v, inl refl, s .came v e)
-    go false e = absurd (omega (arith, s .count, length-lefts gs, pigeon (v ∷ seen) (lefts gs) (seen-new gs zero seen v s e) (seen-in gs zero seen v s)))
+    go false e =
+        absurd (omega (
+          arith,
+          s .count,
+          length-lefts gs,
+          pigeon (v ∷ seen) (lefts gs) (seen-new gs zero seen v s e) (seen-in gs zero seen v s),
+        ))
 climb gs (suc k) seen v s =
     let t = unsettled-side (λ u. settled gs k u) (find v gs) (s .open-yet) in
     go t (has v seen) refl (climb gs k (v ∷ seen) (side (t .1) (t .0)))
   where
-    go : (t : (g : Gate) × (b : Bool) × (find v gs ≡ some g) × (settled gs k (side b g) ≡ false)) (r : Bool) → has v seen ≡ r → (Seen gs k (v ∷ seen) (side (t .1) (t .0)) → Ends gs (side (t .1) (t .0))) → Ends gs v
+    go : (t : (g : Gate) × (b : Bool) × (find v gs ≡ some g) × (settled gs k (side b g) ≡ false)) (r : Bool) → has v seen ≡ r
+        → (Seen gs k (v ∷ seen) (side (t .1) (t .0)) → Ends gs (side (t .1) (t .0))) → Ends gs v
     go t true e ih = (v, inl refl, s .came v e)
     go t false e ih =
         let x : Uses gs v (side (t .1) (t .0)) = (t .0, t .1, t .2, refl) in
@@ -124,12 +137,21 @@ climb gs (suc k) seen v s =
           open-yet = t .3;
           different = seen-new gs (suc k) seen v s e;
           gates-all = seen-in gs (suc k) seen v s;
-          came = λ u h. has-cases (Depends gs u (side (t .1) (t .0))) v u seen h (λ q. subst (λ (w : ℕ). Depends gs w (side (t .1) (t .0))) q (one x)) (λ q. snoc gs (side (t .1) (t .0)) (s .came u q) x);
+          came =
+              λ u h. has-cases (Depends gs u (side (t .1) (t .0))) v u seen h
+              (λ q. subst (λ (w : ℕ). Depends gs w (side (t .1) (t .0))) q (one x)) (λ q. snoc gs (side (t .1) (t .0)) (s .came u q) x);
           count = omega (arith, s .count);
         }))
 
 pub unsettled-stuck : (gs : List Gate) (v : ℕ) → settled gs (length gs) v ≡ false → Stuck gs v
-unsettled-stuck gs v p = go (climb gs (length gs) [] v (record { open-yet = p; different = refl; gates-all = λ u h. absurd (false≢true h); came = λ u h. absurd (false≢true h); count = omega arith }))
+unsettled-stuck gs v p =
+    go (climb gs (length gs) [] v (record {
+      open-yet = p;
+      different = refl;
+      gates-all = λ u h. absurd (false≢true h);
+      came = λ u h. absurd (false≢true h);
+      count = omega arith;
+    }))
   where
     go : Ends gs v → Stuck gs v
     go t = again (t .1)
@@ -151,7 +173,8 @@ abbrev pub PlaceSays : List Gate → List Gate → Option ℕ → Type 0
 PlaceSays all gs none = NoneStuck all gs
 PlaceSays all gs (some v) = FirstIs all gs v
 
-place-past : (all : List Gate) (g : Gate) (gs : List Gate) → ¬ Stuck all (g .lhs / 2) → (o : Option ℕ) → PlaceSays all gs o → PlaceSays all (g ∷ gs) o
+place-past : (all : List Gate) (g : Gate) (gs : List Gate) → ¬ Stuck all (g .lhs / 2) → (o : Option ℕ) → PlaceSays all gs o
+    → PlaceSays all (g ∷ gs) o
 place-past all g gs n none h = (n, h)
 place-past all g gs n (some v) h = there n h
 
@@ -159,7 +182,8 @@ pub place-says : (all gs : List Gate) → PlaceSays all gs (firstStuck all gs)
 place-says all [] = tt
 place-says all (g ∷ gs) = go (settled all (length all) (g .lhs / 2)) refl (place-says all gs)
   where
-    go : (t : Bool) → settled all (length all) (g .lhs / 2) ≡ t → PlaceSays all gs (firstStuck all gs) → PlaceSays all (g ∷ gs) (cond t (firstStuck all gs) (some (g .lhs / 2)))
+    go : (t : Bool) → settled all (length all) (g .lhs / 2) ≡ t → PlaceSays all gs (firstStuck all gs)
+        → PlaceSays all (g ∷ gs) (cond t (firstStuck all gs) (some (g .lhs / 2)))
     go true e h = place-past all g gs (λ x. stuck-unsettled all (g .lhs / 2) x (length all) e) (firstStuck all gs) h
     go false e h = here (unsettled-stuck all (g .lhs / 2) e)
 
@@ -175,7 +199,8 @@ first-named all gs v = (λ e. subst (PlaceSays all gs) e (place-says all gs), na
         go false e = refl
     named (there {g = g} {gs = gs} {v = v} n f) = go (settled all (length all) (g .lhs / 2)) refl (named f)
       where
-        go : (t : Bool) → settled all (length all) (g .lhs / 2) ≡ t → firstStuck all gs ≡ some v → cond t (firstStuck all gs) (some (g .lhs / 2)) ≡ some v
+        go : (t : Bool) → settled all (length all) (g .lhs / 2) ≡ t → firstStuck all gs ≡ some v
+            → cond t (firstStuck all gs) (some (g .lhs / 2)) ≡ some v
         go true e k = k
         go false e k = absurd (n (unsettled-stuck all (g .lhs / 2) e))
 
@@ -185,7 +210,8 @@ none-stuck all gs e = subst (PlaceSays all gs) e (place-says all gs)
 
 in-stuck : (all gs : List Gate) (v : ℕ) → NoneStuck all gs → has v (lefts gs) ≡ true → ¬ Stuck all v
 in-stuck all [] v h k = absurd (false≢true k)
-in-stuck all (g ∷ gs) v h k = has-cases (¬ Stuck all v) (g .lhs / 2) v (lefts gs) k (λ q. subst (λ (x : ℕ). ¬ Stuck all x) q (h .0)) (in-stuck all gs v (h .1))
+in-stuck all (g ∷ gs) v h k =
+    has-cases (¬ Stuck all v) (g .lhs / 2) v (lefts gs) k (λ q. subst (λ (x : ℕ). ¬ Stuck all x) q (h .0)) (in-stuck all gs v (h .1))
 
 depends-left : (gs : List Gate) {u v : ℕ} → Depends gs u v → has u (lefts gs) ≡ true
 depends-left gs (one {u = u} x) = gate-in u gs (ap isNone (x .2))
@@ -202,7 +228,8 @@ pub cycle-none : (all gs : List Gate) → ((v : ℕ) → ¬ Depends all v v) →
 cycle-none all [] h = refl
 cycle-none all (g ∷ gs) h = go (settled all (length all) (g .lhs / 2)) refl (cycle-none all gs h)
   where
-    go : (t : Bool) → settled all (length all) (g .lhs / 2) ≡ t → firstStuck all gs ≡ none → cond t (firstStuck all gs) (some (g .lhs / 2)) ≡ none
+    go : (t : Bool) → settled all (length all) (g .lhs / 2) ≡ t → firstStuck all gs ≡ none
+        → cond t (firstStuck all gs) (some (g .lhs / 2)) ≡ none
     go true e k = k
     go false e k = absurd (not-stuck all h (g .lhs / 2) (unsettled-stuck all (g .lhs / 2) e))
 

@@ -30,7 +30,8 @@ use Rattle.theorems.proofs.Reading.Tails.{tail-exactly}
 
 module _ (file : List ℕ) (c : Circuit) where
   -- what the parts say together
-  well-formed : (bytes : Circuit → List ℕ) (n : Counts) (at e : ℕ) → BodyOk file bytes n at c e → AllMost (listOf n) → n .I + n .L + n .A ≤ n .M
+  well-formed : (bytes : Circuit → List ℕ) (n : Counts) (at e : ℕ) → BodyOk file bytes n at c e → AllMost (listOf n)
+      → n .I + n .L + n .A ≤ n .M
       → undefinedIn c ≡ none → cyclicIn c ≡ none → WellFormed c
   well-formed bytes n at e b m s u a =
       let m′ : AllMost (listOf (countsOf c)) = subst (λ (x : Counts). AllMost (listOf x)) (sym (b .counts)) m in
@@ -80,7 +81,8 @@ Accepts file lengths c tail = (start : ℕ) × (readFile file lengths ≡ got c 
 
 module _ (file lengths : List ℕ) where
   -- what is accepted is stated
-  pub sound : Bytes file → (c : Circuit) (start : ℕ) → readFile file lengths ≡ got c start → States file c (drop start file) × Room c lengths
+  pub sound : Bytes file → (c : Circuit) (start : ℕ) → readFile file lengths ≡ got c start
+      → States file c (drop start file) × Room c lengths
   sound bytes c start q =
       let t1 = then-got (header file 0) _ c start q in
       let n = t1 .0 .counts in
@@ -102,11 +104,22 @@ module _ (file lengths : List ℕ) where
   all-most c w = (w .most-M, (w .most-I, (w .most-L, (w .most-O, (w .most-A, tt)))))
 
   finish : (f : Form) (c : Circuit) (at start : ℕ) (tail : List ℕ) → WellFormed c → TailOk (countsOf c) tail → Room c lengths
-      → header file 0 ≡ got (record { form = f; counts = countsOf c }) at → body file f (countsOf c) at ≡ got c start → drop start file ≡ tail
+      → header file 0 ≡ got (record { form = f; counts = countsOf c }) at → body file f (countsOf c) at ≡ got c start
+      → drop start file ≡ tail
       → Accepts file lengths c tail
   finish f c at start tail w t room h b d =
-      let r = tail-exactly file (countsOf c) start .1 (subst (TailOk (countsOf c)) (sym d) t) in
-      (start, rw (h, room, b, r .2, defined-none (zero ∷ definedIn c) (usedIn c) (w .defined), cycle-none (c .gates) (c .gates) (w .acyclic)), d)
+      let r = tail-exactly file (countsOf c) start .1 (subst (TailOk (countsOf c)) (sym d) t) in (
+        start,
+        rw (
+          h,
+          room,
+          b,
+          r .2,
+          defined-none (zero ∷ definedIn c) (usedIn c) (w .defined),
+          cycle-none (c .gates) (c .gates) (w .acyclic),
+        ),
+        d,
+      )
 
   -- what is stated is accepted
   pub complete : (c : Circuit) (tail : List ℕ) → States file c tail → Room c lengths → Accepts file lengths c tail
@@ -123,7 +136,8 @@ module _ (file lengths : List ℕ) where
       finish binary c (r1 .0) (r2 .0) tail w t room (r1 .1) (r2 .1) (r2 .2)
 
 -- with room: exactly if
-pub exactly : (file lengths : List ℕ) → Bytes file → (c : Circuit) (tail : List ℕ) → Room c lengths → Accepts file lengths c tail ↔ States file c tail
+pub exactly : (file lengths : List ℕ) → Bytes file → (c : Circuit) (tail : List ℕ) → Room c lengths
+    → Accepts file lengths c tail ↔ States file c tail
 exactly file lengths bytes c tail room =
     (λ a. subst (States file c) (a .2) (sound file lengths bytes c (a .0) (a .1) .0), λ s. complete file lengths c tail s room)
 

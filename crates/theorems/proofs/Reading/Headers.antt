@@ -25,7 +25,8 @@ over-none : (xs : List Placed) → over xs ≡ none → AllMost (values xs)
 over-none [] e = tt
 over-none (x ∷ xs) e = go (leb (x .value) most) refl (over-none xs) e
   where
-    go : (t : Bool) → leb (x .value) most ≡ t → (over xs ≡ none → AllMost (values xs)) → cond t (over xs) (some (x .place)) ≡ none → AllMost (values (x ∷ xs))
+    go : (t : Bool) → leb (x .value) most ≡ t → (over xs ≡ none → AllMost (values xs)) → cond t (over xs) (some (x .place)) ≡ none
+        → AllMost (values (x ∷ xs))
     go true q ih e = (leb-true _ _ q, ih e)
     go false q ih e = let z : _≡_ {A = ℕ} 0 1 = cc in absurd (omega arith)
 
@@ -46,7 +47,8 @@ module _ (file : List ℕ) where
   letter-took : (at : ℕ) (f : Form) (n : ℕ) → letter file at ≡ got f n → drop at file ≡ letterOf f ∷ drop n file
   letter-took at f n e = go (eqb (getD file at 0) 97) refl e
     where
-      second : (t : Bool) → eqb (getD file at 0) 105 ≡ t → cond t (got binary (at + 1)) (refused (WrongByte at)) ≡ got f n → drop at file ≡ letterOf f ∷ drop n file
+      second : (t : Bool) → eqb (getD file at 0) 105 ≡ t → cond t (got binary (at + 1)) (refused (WrongByte at)) ≡ got f n
+          → drop at file ≡ letterOf f ∷ drop n file
       second true q e =
           let f-is : binary ≡ f = cc in
           let n-is : at + 1 ≡ n = cc in
@@ -100,5 +102,9 @@ module _ (file : List ℕ) where
       let xs = r5 .0 in
       let small : over xs ≡ none = most-none xs (subst AllMost (sym (r5 .1)) h) in
       let c-is : countsFrom (values xs) ≡ n = ap countsFrom (r5 .1) in
-      let sum : adds f (countsFrom (values xs)) ≡ true = ap (adds f) c-is ∙ a in
-      (r5 .2 .0, rw (r1 .1, r2 .1, r3 .1, r4 .1, r5 .2 .1, small, sum) (ap (λ (x : Counts). got (record { form = f; counts = x }) (r5 .2 .0)) c-is), r5 .2 .2)
+      let sum : adds f (countsFrom (values xs)) ≡ true = ap (adds f) c-is ∙ a in (
+        r5 .2 .0,
+        rw (r1 .1, r2 .1, r3 .1, r4 .1, r5 .2 .1, small, sum)
+            (ap (λ (x : Counts). got (record { form = f; counts = x }) (r5 .2 .0)) c-is),
+        r5 .2 .2,
+      )

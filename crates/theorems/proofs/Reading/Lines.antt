@@ -27,8 +27,10 @@ module _ (file : List ℕ) where
       → (drop at file ≡ lineOf (values xs) ++ drop n file) × (length (values xs) ≡ k)
   numbers-took zero at xs n e =
       let x-is : [] ≡ xs = got-value [] xs at n e in
-      let n-is : at ≡ n = got-next [] xs at n e in
-      (ap₂ (λ (l : List Placed) (k : ℕ). lineOf (values l) ++ drop k file) x-is n-is, ap (λ (l : List Placed). length (values l)) (sym x-is))
+      let n-is : at ≡ n = got-next [] xs at n e in (
+        ap₂ (λ (l : List Placed) (k : ℕ). lineOf (values l) ++ drop k file) x-is n-is,
+        ap (λ (l : List Placed). length (values l)) (sym x-is),
+      )
   numbers-took (suc k) at xs n e =
       let t1 = then-got (number file at) _ xs n e in
       let t2 = then-got (expect file (endOf k) (t1 .1)) _ xs n (t1 .3) in
@@ -45,7 +47,8 @@ module _ (file : List ℕ) where
         ap (λ (y : List Placed). length (values y)) (sym x-is) ∙ ap suc (ih .1),
       )
 
-  pub numbers-reads : (l : List ℕ) (at : ℕ) (s : List ℕ) → drop at file ≡ lineOf l ++ s → (xs : List Placed) × (values xs ≡ l) × Reads file (numbers file (length l) at) xs s
+  pub numbers-reads : (l : List ℕ) (at : ℕ) (s : List ℕ) → drop at file ≡ lineOf l ++ s
+      → (xs : List Placed) × (values xs ≡ l) × Reads file (numbers file (length l) at) xs s
   numbers-reads [] at s e = ([], refl, (at, refl, e))
   numbers-reads (n ∷ l) at s e =
       let x = endOf (length l) in
@@ -64,7 +67,8 @@ outside-none : (d : Bool) (m : ℕ) (xs : List Placed) → outside d m xs ≡ no
 outside-none d m [] e = refl
 outside-none d m (x ∷ xs) e = go (inRange d m (x .value)) refl (outside-none false m xs) e
   where
-    go : (t : Bool) → inRange d m (x .value) ≡ t → (outside false m xs ≡ none → inside false m (values xs) ≡ true) → cond t (outside false m xs) (some (x .place)) ≡ none
+    go : (t : Bool) → inRange d m (x .value) ≡ t → (outside false m xs ≡ none → inside false m (values xs) ≡ true)
+        → cond t (outside false m xs) (some (x .place)) ≡ none
         → inside d m (values (x ∷ xs)) ≡ true
     go true q ih e = and-intro (inRange d m (x .value)) _ q (ih e)
     go false q ih e = let z : _≡_ {A = ℕ} 0 1 = cc in absurd (omega arith)
@@ -107,10 +111,15 @@ module _ (file : List ℕ) (k : ℕ) (d : Bool) (m : ℕ) where
       let r-is : values (t .0) ≡ row = got-value _ row (t .1) n (w .1) in
       let n-is : t .1 ≡ n = got-next _ row (t .1) n (w .1) in (
         took .0 ∙ ap₂ (λ (x : List ℕ) (y : ℕ). lineOf x ++ drop y file) r-is n-is,
-        subst (RowOk k d m seen) r-is (record { long = took .1; within = outside-none d m (t .0) (u .0); new = twice-none d seen (t .0) (w .0) }),
+        subst (RowOk k d m seen) r-is (record {
+          long = took .1;
+          within = outside-none d m (t .0) (u .0);
+          new = twice-none d seen (t .0) (w .0);
+        }),
       )
 
-  pub line-reads : (seen : List ℕ) (at : ℕ) (row s : List ℕ) → RowOk k d m seen row → drop at file ≡ lineOf row ++ s → Reads file (line file k d m seen at) row s
+  pub line-reads : (seen : List ℕ) (at : ℕ) (row s : List ℕ) → RowOk k d m seen row → drop at file ≡ lineOf row ++ s
+      → Reads file (line file k d m seen at) row s
   line-reads seen at row s ok e =
       let r = numbers-reads file row at s e in
       let xs = r .0 in

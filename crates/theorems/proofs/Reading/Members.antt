@@ -48,7 +48,8 @@ length-without : (x : ℕ) (ys : List ℕ) → has x ys ≡ true → length ys �
 length-without x [] h = absurd (false≢true h)
 length-without x (y ∷ ys) h = go (eqb y x) (length-without x ys) h
   where
-    go : (t : Bool) → (has x ys ≡ true → length ys ≡ suc (length (without x ys))) → (t || has x ys) ≡ true → suc (length ys) ≡ suc (length (keep t y ys (without x ys)))
+    go : (t : Bool) → (has x ys ≡ true → length ys ≡ suc (length (without x ys))) → (t || has x ys) ≡ true
+        → suc (length ys) ≡ suc (length (keep t y ys (without x ys)))
     go true f p = refl
     go false f p = ap suc (f p)
 
@@ -56,7 +57,8 @@ has-without : (x v : ℕ) → eqb x v ≡ false → (ys : List ℕ) → has v ys
 has-without x v n [] h = h
 has-without x v n (y ∷ ys) h = go (eqb y x) refl (eqb y v) refl (has-without x v n ys) h
   where
-    go : (t : Bool) → eqb y x ≡ t → (r : Bool) → eqb y v ≡ r → (has v ys ≡ true → has v (without x ys) ≡ true) → (r || has v ys) ≡ true → has v (keep t y ys (without x ys)) ≡ true
+    go : (t : Bool) → eqb y x ≡ t → (r : Bool) → eqb y v ≡ r → (has v ys ≡ true → has v (without x ys) ≡ true) → (r || has v ys) ≡ true
+        → has v (keep t y ys (without x ys)) ≡ true
     go true e true q f p = absurd (eqb-false x v n (sym (eqb-true y x e) ∙ eqb-true y v q))
     go true e false q f p = p
     go false e true q f p = rw q
@@ -67,7 +69,12 @@ pigeon [] ys d h = omega arith
 pigeon (x ∷ xs) ys d h =
     let x-in : has x ys ≡ true = h x (rw (eq-eqb x x refl)) in
     let x-out : has x xs ≡ false = not-true (has x xs) (and-left (not (has x xs)) (distinct xs) d) in
-    omega (arith, length-without x ys x-in, pigeon xs (without x ys) (and-right (not (has x xs)) (distinct xs) d) (λ v k. has-without x v (has-not v x xs x-out k) ys (h v (or-in (eqb x v) (has v xs) k))))
+    omega (
+      arith,
+      length-without x ys x-in,
+      pigeon xs (without x ys) (and-right (not (has x xs)) (distinct xs) d)
+          (λ v k. has-without x v (has-not v x xs x-out k) ys (h v (or-in (eqb x v) (has v xs) k))),
+    )
   where
     or-in : (a b : Bool) → b ≡ true → (a || b) ≡ true
     or-in true b k = refl

@@ -39,7 +39,8 @@ module _ (file : List ℕ) where
     on : {a : A} {n : ℕ} → n ≤ length file → Stays (got a n)
     off : {r : Refusal} → Within r → Stays (refused r)
 
-  stays-then : {A B : Type 0} (p : Parse A) (f : A → ℕ → Parse B) → Stays p → ((a : A) (n : ℕ) → n ≤ length file → Stays (f a n)) → Stays (p then f)
+  stays-then : {A B : Type 0} (p : Parse A) (f : A → ℕ → Parse B) → Stays p → ((a : A) (n : ℕ) → n ≤ length file → Stays (f a n))
+      → Stays (p then f)
   stays-then p f (on {a = a} {n = n} h) k = k a n h
   stays-then p f (off h) k = off h
 
@@ -72,7 +73,8 @@ module _ (file : List ℕ) where
 
   expect-stays : (b at : ℕ) → 0 < b → at ≤ length file → Stays (expect file b at)
   expect-stays b at p h =
-      stays-cond (eqb (getD file at 0) b) (got b (at + 1)) (refused (WrongByte at)) (λ e. on (omega (arith, byte-in at (omega (arith, eqb-true (getD file at 0) b e))))) (λ e. off (λ _. h))
+      stays-cond (eqb (getD file at 0) b) (got b (at + 1)) (refused (WrongByte at))
+      (λ e. on (omega (arith, byte-in at (omega (arith, eqb-true (getD file at 0) b e))))) (λ e. off (λ _. h))
 
   numbers-stays : (k at : ℕ) → at ≤ length file → Stays (numbers file k at)
   numbers-stays zero at h = on h
@@ -83,7 +85,9 @@ module _ (file : List ℕ) where
 
   line-stays : (k : ℕ) (d : Bool) (m : ℕ) (seen : List ℕ) (at : ℕ) → at ≤ length file → Stays (line file k d m seen at)
   line-stays k d m seen at h =
-      stays-then (numbers file k at) _ (numbers-stays k at h) (λ xs n h1. stays-unless (outside d m xs) OutOfRange _ (λ x e. absurd (omega arith)) (stays-unless (twice d seen xs) DefinedTwice (got (values xs) n) (λ x e. absurd (omega arith)) (on h1)))
+      stays-then (numbers file k at) _ (numbers-stays k at h)
+      (λ xs n h1. stays-unless (outside d m xs) OutOfRange _ (λ x e. absurd (omega arith))
+      (stays-unless (twice d seen xs) DefinedTwice (got (values xs) n) (λ x e. absurd (omega arith)) (on h1)))
 
   lines-stays : (k : ℕ) (d : Bool) (m n : ℕ) (seen : List ℕ) (at : ℕ) → at ≤ length file → Stays (lines file k d m n seen at)
   lines-stays k d m zero seen at h = on h
@@ -93,8 +97,10 @@ module _ (file : List ℕ) where
 
   letter-stays : (at : ℕ) → at ≤ length file → Stays (letter file at)
   letter-stays at h =
-      stays-cond (eqb (getD file at 0) 97) (got text (at + 1)) _ (λ e. on (omega (arith, byte-in at (omega (arith, eqb-true (getD file at 0) 97 e)))))
-      (λ _. stays-cond (eqb (getD file at 0) 105) (got binary (at + 1)) (refused (WrongByte at)) (λ e. on (omega (arith, byte-in at (omega (arith, eqb-true (getD file at 0) 105 e))))) (λ _. off (λ _. h)))
+      stays-cond (eqb (getD file at 0) 97) (got text (at + 1)) _
+      (λ e. on (omega (arith, byte-in at (omega (arith, eqb-true (getD file at 0) 97 e)))))
+      (λ _. stays-cond (eqb (getD file at 0) 105) (got binary (at + 1)) (refused (WrongByte at))
+      (λ e. on (omega (arith, byte-in at (omega (arith, eqb-true (getD file at 0) 105 e))))) (λ _. off (λ _. h)))
 
   header-stays : (at : ℕ) → at ≤ length file → Stays (header file at)
   header-stays at h =
@@ -103,7 +109,10 @@ module _ (file : List ℕ) where
       stays-then (expect file 103 b) _ (expect-stays 103 b (omega arith) h2) (λ _ c h3.
       stays-then (expect file 32 c) _ (expect-stays 32 c (omega arith) h3) (λ _ d h4.
       stays-then (numbers file 5 d) _ (numbers-stays 5 d h4) (λ xs e h5.
-      stays-unless (over xs) LargeCount _ (λ x e. absurd (omega arith)) (stays-cond (adds f (countsFrom (values xs))) (got (record { form = f; counts = countsFrom (values xs) }) e) (refused (WrongSum 0)) (λ _. on h5) (λ _. off (λ e. absurd (omega arith)))))))))
+      stays-unless (over xs) LargeCount _ (λ x e. absurd (omega arith)) (stays-cond (adds f (countsFrom (values xs))) (got (record {
+        form = f;
+        counts = countsFrom (values xs);
+      }) e) (refused (WrongSum 0)) (λ _. on h5) (λ _. off (λ e. absurd (omega arith)))))))))
 
   bad : (p : ℕ) → Within (BadDifference p)
   bad p e = absurd (omega arith)
@@ -113,7 +122,8 @@ module _ (file : List ℕ) where
   low-stays low (Ends place) (off h) = off h
   low-stays low (Bad place) (off h) = off h
 
-  says-cond : (t : Bool) (p q : Difference) → (t ≡ true → Stays (differenceSays p)) → (t ≡ false → Stays (differenceSays q)) → Stays (differenceSays (cond t p q))
+  says-cond : (t : Bool) (p q : Difference) → (t ≡ true → Stays (differenceSays p)) → (t ≡ false → Stays (differenceSays q))
+      → Stays (differenceSays (cond t p q))
   says-cond true p q h k = h refl
   says-cond false p q h k = k refl
 
@@ -122,8 +132,10 @@ module _ (file : List ℕ) where
   groups-stays first (suc k) at h =
       says-cond (leb (length file) at) _ _ (λ _. off (λ _. le-refl (length file))) (λ e.
       says-cond (leb 128 (getD file at 0)) _ _
-      (λ _. low-stays (getD file at 0 % 128) (groups file first k (at + 1)) (groups-stays first k (at + 1) (omega (arith, leb-false (length file) at e))))
-      (λ _. says-cond (eqb (getD file at 0) 0 && ltb first at) _ _ (λ _. off (bad first)) (λ _. on (omega (arith, leb-false (length file) at e)))))
+      (λ _. low-stays (getD file at 0 % 128) (groups file first k (at + 1))
+      (groups-stays first k (at + 1) (omega (arith, leb-false (length file) at e))))
+      (λ _. says-cond (eqb (getD file at 0) 0 && ltb first at) _ _ (λ _. off (bad first))
+      (λ _. on (omega (arith, leb-false (length file) at e)))))
 
   difference-stays : (b : Bool) (from at : ℕ) → at ≤ length file → Stays (difference file b from at)
   difference-stays b from at h =
@@ -143,7 +155,8 @@ module _ (file : List ℕ) where
       stays-then (lines file 1 true (n .M) (n .I) [] at) _ (lines-stays 1 true (n .M) (n .I) [] at h) (λ r1 a h1.
       stays-then (lines file 2 true (n .M) (n .L) (heads r1) a) _ (lines-stays 2 true (n .M) (n .L) (heads r1) a h1) (λ r2 b h2.
       stays-then (lines file 1 false (n .M) (n .O) [] b) _ (lines-stays 1 false (n .M) (n .O) [] b h2) (λ r3 c h3.
-      stays-then (lines file 3 true (n .M) (n .A) (heads r1 ++ heads r2) c) _ (lines-stays 3 true (n .M) (n .A) _ c h3) (λ r4 d h4. on h4))))
+      stays-then (lines file 3 true (n .M) (n .A) (heads r1 ++ heads r2) c) _ (lines-stays 3 true (n .M) (n .A) _ c h3)
+      (λ r4 d h4. on h4))))
   body-stays binary n at h =
       stays-then (lines file 1 false (n .M) (n .L) [] at) _ (lines-stays 1 false (n .M) (n .L) [] at h) (λ r1 a h1.
       stays-then (lines file 1 false (n .M) (n .O) [] a) _ (lines-stays 1 false (n .M) (n .O) [] a h1) (λ r2 b h2.
@@ -157,8 +170,13 @@ module _ (file : List ℕ) where
   symbol-stays n seen at h =
       stays-then (number file (at + 1)) _ (number-stays (at + 1) (omega arith)) (λ e a h1.
       stays-then (expect file 32 a) _ (expect-stays 32 a (omega arith) h1) (λ _ b h2.
-      stays-then (expect file 10 (b + length (span nameClass (drop b file)))) _ (expect-stays 10 _ (omega arith) (span-in nameClass b h2)) (λ _ c h3.
-      stays-cond (fits n seen (record { kind = getD file at 0; entry = e; name = span nameClass (drop b file) })) (got _ c) (refused (BadSymbol at)) (λ _. on h3) (λ _. off (λ e. absurd (omega arith))))))
+      stays-then (expect file 10 (b + length (span nameClass (drop b file)))) _ (expect-stays 10 _ (omega arith) (span-in nameClass b h2))
+      (λ _ c h3.
+      stays-cond (fits n seen (record {
+        kind = getD file at 0;
+        entry = e;
+        name = span nameClass (drop b file);
+      })) (got _ c) (refused (BadSymbol at)) (λ _. on h3) (λ _. off (λ e. absurd (omega arith))))))
 
   tail-stays : (n : Counts) (k : ℕ) (seen : List Symbol) (at : ℕ) → at ≤ length file → Stays (tailFrom file n k seen at)
   tail-stays n zero seen at h = off (λ _. h)
@@ -168,7 +186,9 @@ module _ (file : List ℕ) where
       (λ i. stays-then (symbol file n seen at) _ (symbol-stays n seen at (leb-false _ _ e)) (λ s a h1.
       stays-then (tailFrom file n k (s ∷ seen) a) _ (tail-stays n k (s ∷ seen) a h1) (λ ss b h2. on h2)))
       (λ _. stays-then (expect file 99 at) _ (expect-stays 99 at (omega arith) h) (λ _ a h1.
-      stays-then (expect file 10 a) _ (expect-stays 10 a (omega arith) h1) (λ _ b h2. stays-cond (endsLine file) (got [] (length file)) (refused (WrongByte (length file))) (λ _. on (le-refl (length file))) (λ _. off (λ _. le-refl (length file)))))))
+      stays-then (expect file 10 a) _ (expect-stays 10 a (omega arith) h1)
+      (λ _ b h2. stays-cond (endsLine file) (got [] (length file)) (refused (WrongByte (length file))) (λ _. on (le-refl (length file)))
+      (λ _. off (λ _. le-refl (length file)))))))
 
   pub read-stays : (lengths : List ℕ) → Stays (readFile file lengths)
   read-stays lengths =

@@ -36,20 +36,28 @@ new-head seen (x ∷ row) h = h
 pub rows-new : (k m : ℕ) (seen : List ℕ) (rows : List (List ℕ)) → RowsOk (suc k) true m seen rows → allNew seen (heads rows) ≡ true
 rows-new k m seen [] h = refl
 rows-new k m seen (row ∷ rows) h =
-    and-intro (not (has (varOf (literalOf row)) seen)) _ (ap not (head-new k seen row (h .0 .long) (h .0 .new))) (rows-new k m _ rows (h .1))
+    and-intro (not (has (varOf (literalOf row)) seen)) _ (ap not (head-new k seen row (h .0 .long) (h .0 .new)))
+    (rows-new k m _ rows (h .1))
 
-pub rows-defining : (k m : ℕ) (seen : List ℕ) (rows : List (List ℕ)) → Long k rows → allInside true m rows ≡ true → allNew seen (heads rows) ≡ true
+pub rows-defining : (k m : ℕ) (seen : List ℕ) (rows : List (List ℕ)) → Long k rows → allInside true m rows ≡ true
+    → allNew seen (heads rows) ≡ true
     → RowsOk k true m seen rows
 rows-defining k m seen [] l i n = tt
 rows-defining k m seen (row ∷ rows) l i n = (
-  record { long = l .0; within = and-left (inside true m row) _ i; new = new-head seen row (not-true _ (and-left (not (has (varOf (literalOf row)) seen)) _ n)) },
+  record {
+    long = l .0;
+    within = and-left (inside true m row) _ i;
+    new = new-head seen row (not-true _ (and-left (not (has (varOf (literalOf row)) seen)) _ n));
+  },
   rows-defining k m _ rows (l .1) (and-right (inside true m row) _ i) (and-right (not (has (varOf (literalOf row)) seen)) _ n),
 )
 
 pub rows-using : (k m : ℕ) (seen : List ℕ) (rows : List (List ℕ)) → Long k rows → allInside false m rows ≡ true → RowsOk k false m seen rows
 rows-using k m seen [] l i = tt
-rows-using k m seen (row ∷ rows) l i =
-    (record { long = l .0; within = and-left (inside false m row) _ i; new = tt }, rows-using k m _ rows (l .1) (and-right (inside false m row) _ i))
+rows-using k m seen (row ∷ rows) l i = (
+  record { long = l .0; within = and-left (inside false m row) _ i; new = tt },
+  rows-using k m _ rows (l .1) (and-right (inside false m row) _ i),
+)
 
 -- rows to tables and back
 one-row : (row : List ℕ) → length row ≡ 1 → oneLine (literalOf row) ≡ row

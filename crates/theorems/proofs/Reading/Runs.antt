@@ -141,7 +141,8 @@ lits-run v (suc n) = and-intro (eqb (2 * v) (2 * v)) _ (eq-eqb (2 * v) (2 * v) r
 
 run-lits : (v : ℕ) (ls : List ℕ) → runs v (map oneLine ls) ≡ true → ls ≡ litsFrom v (length ls)
 run-lits v [] h = refl
-run-lits v (l ∷ ls) h = ap₂ (λ (x : ℕ) (y : List ℕ). x ∷ y) (eqb-true _ _ (and-left (eqb l (2 * v)) _ h)) (run-lits (suc v) ls (and-right (eqb l (2 * v)) _ h))
+run-lits v (l ∷ ls) h =
+    ap₂ (λ (x : ℕ) (y : List ℕ). x ∷ y) (eqb-true _ _ (and-left (eqb l (2 * v)) _ h)) (run-lits (suc v) ls (and-right (eqb l (2 * v)) _ h))
 
 latches-run : (v : ℕ) (ls : List ℕ) → runs v (map latchLine (latchesFrom v ls)) ≡ true
 latches-run v [] = refl
@@ -157,13 +158,15 @@ run-latches v (l ∷ ls) h =
 module _ (c : Circuit) where
   all-runs : runs 1 (map oneLine (c .inputs) ++ (map latchLine (c .latches) ++ map gateLine (c .gates)))
       ≡ (runs 1 (map oneLine (c .inputs))
-      && (runs (1 + length (c .inputs)) (map latchLine (c .latches)) && runs (1 + length (c .inputs) + length (c .latches)) (map gateLine (c .gates))))
+      && (runs (1 + length (c .inputs)) (map latchLine (c .latches)) && runs (1 + length (c .inputs) + length (c .latches))
+      (map gateLine (c .gates))))
   all-runs =
       runs-append 1 (map oneLine (c .inputs)) (map latchLine (c .latches) ++ map gateLine (c .gates))
       ∙ ap (λ (x : Bool). runs 1 (map oneLine (c .inputs)) && x)
       (ap (λ (n : ℕ). runs (1 + n) (map latchLine (c .latches) ++ map gateLine (c .gates))) (length-map (c .inputs) oneLine)
       ∙ (runs-append (1 + length (c .inputs)) (map latchLine (c .latches)) (map gateLine (c .gates))
-      ∙ ap (λ (n : ℕ). runs (1 + length (c .inputs)) (map latchLine (c .latches)) && runs (1 + length (c .inputs) + n) (map gateLine (c .gates)))
+      ∙ ap (λ (n : ℕ). runs (1 + length (c .inputs)) (map latchLine (c .latches)) && runs (1 + length (c .inputs) + n)
+      (map gateLine (c .gates)))
       (length-map (c .latches) latchLine)))
 
   -- the test of binary order passes exactly if it holds
@@ -184,7 +187,9 @@ module _ (c : Circuit) where
             sum = eqb-true _ _ (and-left (adds binary (countsOf c)) _ h);
             inputs = run-lits 1 (c .inputs) (and-left (runs 1 (map oneLine (c .inputs))) _ h2);
             latches = run-latches (1 + i) (c .latches) (and-left (runs (1 + i) (map latchLine (c .latches))) _ h3);
-            gates = order-tested (1 + i + l) (c .gates) (and-right (runs (1 + i) (map latchLine (c .latches))) _ h3) (and-right (runs 1 rows) (falls (c .gates)) h1);
+            gates =
+                order-tested (1 + i + l) (c .gates) (and-right (runs (1 + i) (map latchLine (c .latches))) _ h3)
+                (and-right (runs 1 rows) (falls (c .gates)) h1);
           }
 
       passes : BinaryOrder c → binaryOrder c ≡ true

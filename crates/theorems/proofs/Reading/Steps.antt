@@ -18,12 +18,14 @@ use Rattle.plan.specs.Bytes.{line, lines}
 abbrev pub onRows : List (List ℕ) → Parse (List (List ℕ)) → Parse (List (List ℕ))
 onRows rows p = p then λ more e. got (rows ++ more) e
 
-on-one : (rows : List (List ℕ)) (row : List ℕ) (p : Parse (List (List ℕ))) → onRows rows (p then λ more e. got (row ∷ more) e) ≡ onRows (rows ++ (row ∷ [])) p
+on-one : (rows : List (List ℕ)) (row : List ℕ) (p : Parse (List (List ℕ)))
+    → onRows rows (p then λ more e. got (row ∷ more) e) ≡ onRows (rows ++ (row ∷ [])) p
 on-one rows row (got more e) = ap (λ (x : List (List ℕ)). got x e) (sym (append-snoc rows row more))
 on-one rows row (refused r) = refl
 
 module _ (file : List ℕ) (k : ℕ) (d : Bool) (m : ℕ) where
-  pub lines-turn : (rows : List (List ℕ)) (n : ℕ) (seen : List ℕ) (at : ℕ) (row : List ℕ) (next : ℕ) → line file k d m seen at ≡ got row next
+  pub lines-turn : (rows : List (List ℕ)) (n : ℕ) (seen : List ℕ) (at : ℕ) (row : List ℕ) (next : ℕ)
+      → line file k d m seen at ≡ got row next
       → onRows rows (lines file k d m (suc n) seen at) ≡ onRows (rows ++ (row ∷ [])) (lines file k d m n (seen ++ (varOf (literalOf row) ∷ [])) next)
   lines-turn rows n seen at row next e = rw e (on-one rows row (lines file k d m n (seen ++ (varOf (literalOf row) ∷ [])) next))
 

@@ -50,21 +50,24 @@ module _ (file : List ℕ) (n : Counts) where
             ∙ (ap (λ (l : List ℕ). b ∷ l) (number-took file (at + 1) (t1 .0) (t1 .1) (t1 .2)
             ∙ ap (λ (l : List ℕ). digits (t1 .0) ++ l) (expect-took file 32 (t1 .1) (t2 .0) (t2 .1) (omega arith) (t2 .2)
             ∙ ap (λ (l : List ℕ). 32 ∷ l) (span-split nameClass (drop (t2 .1) file)
-            ∙ ap (λ (l : List ℕ). w ++ l) (drop-drop (length w) (t2 .1) file ∙ expect-took file 10 (t2 .1 + length w) (t4 .0) (t4 .1) (omega arith) (t4 .2)))))
+            ∙ ap (λ (l : List ℕ). w ++ l) (drop-drop (length w) (t2 .1) file ∙ expect-took file 10 (t2 .1 + length w) (t4 .0) (t4 .1)
+            (omega arith) (t4 .2)))))
             ∙ (sym (symbol-parts u (drop (t4 .1) file)) ∙ ap₂ (λ (x : Symbol) (y : ℕ). symbolOf x ++ drop y file) s-is m-is)),
         subst (λ (x : Symbol). isKind (x .kind) ≡ true) s-is k,
         subst (λ (x : Symbol). isName (x .name) ≡ true) s-is (pass-name w (span-pass nameClass (drop (t2 .1) file))),
         subst (λ (x : Symbol). fits n seen x ≡ true) s-is (c .0),
       )
 
-  symbol-reads : (seen : List Symbol) (at : ℕ) (s : Symbol) (t : List ℕ) → isName (s .name) ≡ true → fits n seen s ≡ true → drop at file ≡ symbolOf s ++ t
+  symbol-reads : (seen : List Symbol) (at : ℕ) (s : Symbol) (t : List ℕ) → isName (s .name) ≡ true → fits n seen s ≡ true
+      → drop at file ≡ symbolOf s ++ t
       → Reads file (symbol file n seen at) s t
   symbol-reads seen at s t a f e =
       let e0 : drop at file ≡ s .kind ∷ (digits (s .entry) ++ (32 ∷ (s .name ++ (10 ∷ t)))) = e ∙ symbol-parts s t in
       let k-is : getD file at 0 ≡ s .kind = byte-is file at _ _ e0 in
       let r1 = number-reads file (at + 1) (s .entry) 32 (s .name ++ (10 ∷ t)) refl (byte-past file at _ _ e0) in
       let r2 = expect-reads file 32 (r1 .0) (s .name ++ (10 ∷ t)) (r1 .2) in
-      let w : span nameClass (drop (r2 .0) file) ≡ s .name = ap (span nameClass) (r2 .2) ∙ span-all nameClass (s .name) 10 t (name-pass (s .name) a) refl in
+      let w : span nameClass (drop (r2 .0) file) ≡ s .name =
+      ap (span nameClass) (r2 .2) ∙ span-all nameClass (s .name) 10 t (name-pass (s .name) a) refl in
       let r4 = expect-reads file 10 (r2 .0 + length (s .name)) t (past file (r2 .0) (s .name) (10 ∷ t) (r2 .2)) in
       (r4 .0, rw (r1 .1, r2 .1, w, r4 .1, k-is, f), r4 .2)
 
@@ -84,8 +87,11 @@ module _ (file : List ℕ) (n : Counts) where
       let c = cond-got (endsLine file) _ _ ss e (t2 .3) in
       let l = drop (t2 .1) file in
       let s-is : [] ≡ ss = got-value [] ss (length file) e (c .1) in
-      let d : drop at file ≡ 99 ∷ 10 ∷ l = expect-took file 99 at (t1 .0) (t1 .1) (omega arith) (t1 .2) ∙ ap (λ (x : List ℕ). 99 ∷ x) (expect-took file 10 (t1 .1) (t2 .0) (t2 .1) (omega arith) (t2 .2)) in
-      let ends : endsLine (99 ∷ 10 ∷ l) ≡ true = ap endsLine (sym d) ∙ (ap (λ (x : ℕ). eqb x 10) (ends-same at (in-file file at 99 (10 ∷ l) d)) ∙ c .0) in
+      let d : drop at file ≡ 99 ∷ 10 ∷ l =
+      expect-took file 99 at (t1 .0) (t1 .1) (omega arith) (t1 .2) ∙ ap (λ (x : List ℕ). 99 ∷ x)
+      (expect-took file 10 (t1 .1) (t2 .0) (t2 .1) (omega arith) (t2 .2)) in
+      let ends : endsLine (99 ∷ 10 ∷ l) ≡ true =
+      ap endsLine (sym d) ∙ (ap (λ (x : ℕ). eqb x 10) (ends-same at (in-file file at 99 (10 ∷ l) d)) ∙ c .0) in
       subst (λ (x : List Symbol). Rest seen x at) s-is (99 ∷ 10 ∷ l, d, refl, lines ends)
 
   abbrev Later : ℕ → Type 0
@@ -95,7 +101,8 @@ module _ (file : List ℕ) (n : Counts) where
   tail-took zero seen at ss e q = absurd (not-got _ _ _ q)
   tail-took (suc k) seen at ss e q = first (λ seen′ at′ ss′ e′ q′. tail-took k seen′ at′ ss′ e′ q′) (leb (length file) at) refl q
     where
-      more : (s : Symbol) (m : ℕ) → isKind (getD file at 0) ≡ true → symbol file n seen at ≡ got s m → (ss′ : List Symbol) → Rest (s ∷ seen) ss′ m → Rest seen (s ∷ ss′) at
+      more : (s : Symbol) (m : ℕ) → isKind (getD file at 0) ≡ true → symbol file n seen at ≡ got s m → (ss′ : List Symbol)
+          → Rest (s ∷ seen) ss′ m → Rest seen (s ∷ ss′) at
       more s m i p ss′ r =
           let t = symbol-took seen at s m i p in (
             r .0,
@@ -116,10 +123,12 @@ module _ (file : List ℕ) (n : Counts) where
       first : Later k → (t : Bool) → leb (length file) at ≡ t
           → cond t (got [] at) (cond (isKind (getD file at 0)) (symbol file n seen at then λ s next. tailFrom file n k (s ∷ seen) next then λ ss last. got (s ∷ ss) last) (comment file at)) ≡ got ss e
           → Rest seen ss at
-      first ih true l q = subst (λ (x : List Symbol). Rest seen x at) (got-value [] ss at e q) ([], drop-of-length-le file (leb-true _ _ l), refl, empty)
+      first ih true l q =
+          subst (λ (x : List Symbol). Rest seen x at) (got-value [] ss at e q) ([], drop-of-length-le file (leb-true _ _ l), refl, empty)
       first ih false l q = second ih (isKind (getD file at 0)) refl q
 
-  pub tail-reads : (ss : List Symbol) (k : ℕ) (seen : List Symbol) (at : ℕ) (rest : List ℕ) → length ss < k → symbolsOk n seen ss ≡ true → CommentOk rest
+  pub tail-reads : (ss : List Symbol) (k : ℕ) (seen : List Symbol) (at : ℕ) (rest : List ℕ) → length ss < k → symbolsOk n seen ss ≡ true
+      → CommentOk rest
       → drop at file ≡ symbolsOf ss ++ rest → (e : ℕ) × (tailFrom file n k seen at ≡ got ss e)
   tail-reads ss zero seen at rest h o c e = absurd (omega arith)
   tail-reads [] (suc k) seen at rest h o empty e =
@@ -173,19 +182,37 @@ module _ (file : List ℕ) (n : Counts) where
       let u : Symbol = record { kind = getD file at 0; entry = t1 .0; name = w } in
       let c = cond-got (fits n seen u) _ _ s m (t4 .3) in
       let x = cond-got (eqb (getD file (t2 .1 + length w) 0) 10) _ _ (t4 .0) (t4 .1) (t4 .2) in
-      let d : drop (t2 .1 + length w) file ≡ 10 ∷ drop (t2 .1 + length w + 1) file = byte-there file (t2 .1 + length w) 10 (omega arith) (eqb-true _ _ (x .0)) in
-      omega (arith, in-file file (t2 .1 + length w) 10 (drop (t2 .1 + length w + 1) file) d, got-next 10 (t4 .0) (t2 .1 + length w + 1) (t4 .1) (x .1), got-next u s (t4 .1) m (c .1))
+      let d : drop (t2 .1 + length w) file ≡ 10 ∷ drop (t2 .1 + length w + 1) file =
+      byte-there file (t2 .1 + length w) 10 (omega arith) (eqb-true _ _ (x .0)) in
+      omega (
+        arith,
+        in-file file (t2 .1 + length w) 10 (drop (t2 .1 + length w + 1) file) d,
+        got-next 10 (t4 .0) (t2 .1 + length w + 1) (t4 .1) (x .1),
+        got-next u s (t4 .1) m (c .1),
+      )
 
-  symbol-past : (seen : List Symbol) (at : ℕ) (s : Symbol) (m : ℕ) → isKind (getD file at 0) ≡ true → symbol file n seen at ≡ got s m → at < m
+  symbol-past : (seen : List Symbol) (at : ℕ) (s : Symbol) (m : ℕ) → isKind (getD file at 0) ≡ true → symbol file n seen at ≡ got s m
+      → at < m
   symbol-past seen at s m k e =
-      omega (arith, ap length (symbol-took file n seen at s m k e .0), length-append (symbolOf s) (drop m file), length-drop at file, length-drop m file, symbol-on seen at s m e)
+      omega (
+        arith,
+        ap length (symbol-took file n seen at s m k e .0),
+        length-append (symbolOf s) (drop m file),
+        length-drop at file,
+        length-drop m file,
+        symbol-on seen at s m e,
+      )
 
-  pub tail-bound : (k : ℕ) (seen : List Symbol) (at : ℕ) → at ≤ length file → length file < at + k → tailFrom file n k seen at ≡ tailFrom file n (suc k) seen at
+  pub tail-bound : (k : ℕ) (seen : List Symbol) (at : ℕ) → at ≤ length file → length file < at + k
+      → tailFrom file n k seen at ≡ tailFrom file n (suc k) seen at
   tail-bound zero seen at h l = absurd (omega arith)
-  tail-bound (suc k) seen at h l = first (leb (length file) at) refl (isKind (getD file at 0)) refl (symbol file n seen at) refl (λ s m h′ l′. tail-bound k (s ∷ seen) m h′ l′)
+  tail-bound (suc k) seen at h l =
+      first (leb (length file) at) refl (isKind (getD file at 0)) refl (symbol file n seen at) refl
+      (λ s m h′ l′. tail-bound k (s ∷ seen) m h′ l′)
     where
       second : (p : Parse Symbol) → symbol file n seen at ≡ p → isKind (getD file at 0) ≡ true
-          → ((s : Symbol) (m : ℕ) → m ≤ length file → length file < m + k → tailFrom file n k (s ∷ seen) m ≡ tailFrom file n (suc k) (s ∷ seen) m)
+          → ((s : Symbol) (m : ℕ) → m ≤ length file → length file < m + k
+          → tailFrom file n k (s ∷ seen) m ≡ tailFrom file n (suc k) (s ∷ seen) m)
           → _≡_ {A = Parse (List Symbol)} (p then λ s next. tailFrom file n k (s ∷ seen) next then λ ss last. got (s ∷ ss) last)
           (p then λ s next. tailFrom file n (suc k) (s ∷ seen) next then λ ss last. got (s ∷ ss) last)
       second (got s m) e i ih =
@@ -193,8 +220,10 @@ module _ (file : List ℕ) (n : Counts) where
           (ih s m (symbol-on seen at s m e) (omega (arith, symbol-past seen at s m i e)))
       second (refused r) e i ih = refl
 
-      first : (t : Bool) → leb (length file) at ≡ t → (u : Bool) → isKind (getD file at 0) ≡ u → (p : Parse Symbol) → symbol file n seen at ≡ p
-          → ((s : Symbol) (m : ℕ) → m ≤ length file → length file < m + k → tailFrom file n k (s ∷ seen) m ≡ tailFrom file n (suc k) (s ∷ seen) m)
+      first : (t : Bool) → leb (length file) at ≡ t → (u : Bool) → isKind (getD file at 0) ≡ u → (p : Parse Symbol)
+          → symbol file n seen at ≡ p
+          → ((s : Symbol) (m : ℕ) → m ≤ length file → length file < m + k
+          → tailFrom file n k (s ∷ seen) m ≡ tailFrom file n (suc k) (s ∷ seen) m)
           → tailFrom file n (suc k) seen at ≡ tailFrom file n (suc (suc k)) seen at
       first true e u i p q ih = rw e
       first false e true i p q ih = rw (e, i) (second (symbol file n seen at) refl i ih)

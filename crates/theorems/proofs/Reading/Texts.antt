@@ -32,7 +32,9 @@ module _ (file : List ℕ) (m at a1 a2 a3 a4 : ℕ) (r1 r2 r3 r4 : List (List �
       let b3 : map oneLine (map literalOf r3) ≡ r3 = one-back r3 (rows-long _ _ _ _ r3 k3) in
       let b4 : map gateLine (map gateOf r4) ≡ r4 = gate-back r4 (rows-long _ _ _ _ r4 k4) in
       record {
-        took = d1 ∙ (ap (λ (l : List ℕ). linesOf r1 ++ l) (d2 ∙ ap (λ (l : List ℕ). linesOf r2 ++ l) (d3 ∙ ap (λ (l : List ℕ). linesOf r3 ++ l) d4))
+        took =
+            d1 ∙ (ap (λ (l : List ℕ). linesOf r1 ++ l) (d2 ∙ ap (λ (l : List ℕ). linesOf r2 ++ l)
+            (d3 ∙ ap (λ (l : List ℕ). linesOf r3 ++ l) d4))
             ∙ (sym (assoc4 (linesOf r1) (linesOf r2) (linesOf r3) (linesOf r4) (drop a4 file))
             ∙ rw (b1, b2, b3, b4)));
         counts = λ i. record { M = m; I = length-map r1 literalOf i; L = length-map r2 latchOf i; O = length-map r3 literalOf i; A = length-map r4 gateOf i };
@@ -61,8 +63,10 @@ module _ (file : List ℕ) where
       let n-is : record { M = n .M; I = length (t1 .0); L = length (t2 .0); O = length (t3 .0); A = length (t4 .0) } ≡ n
       = λ i. record { M = n .M; I = l1 .1 i; L = l2 .1 i; O = l3 .1 i; A = l4 .1 i } in
       subst (λ (x : Counts). BodyOk file textLines x at c e) n-is
-      (subst₂ (λ (x : Circuit) (y : ℕ). BodyOk file textLines (record { M = n .M; I = length (t1 .0); L = length (t2 .0); O = length (t3 .0); A = length (t4 .0) }) at x y) c-is e-is
-      (text-rows file (n .M) at (t1 .1) (t2 .1) (t3 .1) (t4 .1) (t1 .0) (t2 .0) (t3 .0) (t4 .0) (l1 .0) (l1 .2) (l2 .0) (l2 .2) (l3 .0) (l3 .2) (l4 .0) (l4 .2)))
+      (subst₂ (λ (x : Circuit) (y : ℕ). BodyOk file textLines
+      (record { M = n .M; I = length (t1 .0); L = length (t2 .0); O = length (t3 .0); A = length (t4 .0) }) at x y) c-is e-is
+      (text-rows file (n .M) at (t1 .1) (t2 .1) (t3 .1) (t4 .1) (t1 .0) (t2 .0) (t3 .0) (t4 .0) (l1 .0) (l1 .2) (l2 .0) (l2 .2) (l3 .0)
+      (l3 .2) (l4 .0) (l4 .2)))
 
   -- n lines where n is the length of a table
   pub table-reads : {A : Type 0} (k : ℕ) (d : Bool) (m : ℕ) (g : A → List ℕ) (l : List A) (seen : List ℕ) (at : ℕ) (s : List ℕ)
@@ -71,7 +75,8 @@ module _ (file : List ℕ) where
       let r = lines-reads file k d m (map g l) seen at s ok e in
       (r .0, ap (λ (x : ℕ). lines file k d m x seen at) (sym (length-map l g)) ∙ r .1, r .2)
 
-  pub text-reads : (c : Circuit) (at : ℕ) (s : List ℕ) → WellFormed c → drop at file ≡ textLines c ++ s → Reads file (textBody file (countsOf c) at) c s
+  pub text-reads : (c : Circuit) (at : ℕ) (s : List ℕ) → WellFormed c → drop at file ≡ textLines c ++ s
+      → Reads file (textBody file (countsOf c) at) c s
   text-reads c at s w e =
       let q1 = map oneLine (c .inputs) in
       let q2 = map latchLine (c .latches) in
@@ -79,11 +84,18 @@ module _ (file : List ℕ) where
       let q4 = map gateLine (c .gates) in
       let d = w .different in
       let d′ = new-second [] (heads q1) (heads q2 ++ heads q4) d in
-      let k1 = rows-defining 1 (c .M) [] q1 (map-long 1 oneLine (λ a. refl) (c .inputs)) (w .inputs) (new-first [] (heads q1) (heads q2 ++ heads q4) d) in
-      let k2 = rows-defining 2 (c .M) (heads q1) q2 (map-long 2 latchLine (λ a. refl) (c .latches)) (w .latches) (new-first (heads q1) (heads q2) (heads q4) d′) in
+      let k1 =
+      rows-defining 1 (c .M) [] q1 (map-long 1 oneLine (λ a. refl) (c .inputs)) (w .inputs)
+      (new-first [] (heads q1) (heads q2 ++ heads q4) d) in
+      let k2 =
+      rows-defining 2 (c .M) (heads q1) q2 (map-long 2 latchLine (λ a. refl) (c .latches)) (w .latches)
+      (new-first (heads q1) (heads q2) (heads q4) d′) in
       let k3 = rows-using 1 (c .M) [] q3 (map-long 1 oneLine (λ a. refl) (c .outputs)) (w .outputs) in
-      let k4 = rows-defining 3 (c .M) (heads q1 ++ heads q2) q4 (map-long 3 gateLine (λ a. refl) (c .gates)) (w .gates) (new-second (heads q1) (heads q2) (heads q4) d′) in
-      let r1 = table-reads 1 true (c .M) oneLine (c .inputs) [] at _ k1 (e ∙ assoc4 (linesOf q1) (linesOf q2) (linesOf q3) (linesOf q4) s) in
+      let k4 =
+      rows-defining 3 (c .M) (heads q1 ++ heads q2) q4 (map-long 3 gateLine (λ a. refl) (c .gates)) (w .gates)
+      (new-second (heads q1) (heads q2) (heads q4) d′) in
+      let r1 =
+      table-reads 1 true (c .M) oneLine (c .inputs) [] at _ k1 (e ∙ assoc4 (linesOf q1) (linesOf q2) (linesOf q3) (linesOf q4) s) in
       let r2 = table-reads 2 true (c .M) latchLine (c .latches) (heads q1) (r1 .0) _ k2 (r1 .2) in
       let r3 = table-reads 1 false (c .M) oneLine (c .outputs) [] (r2 .0) _ k3 (r2 .2) in
       let r4 = table-reads 3 true (c .M) gateLine (c .gates) (heads q1 ++ heads q2) (r3 .0) s k4 (r3 .2) in (

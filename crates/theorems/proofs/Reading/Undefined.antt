@@ -21,8 +21,11 @@ least-says ds (x ∷ us) = go (has x ds) refl (leastMissing ds us) (least-says d
   where
     go : (t : Bool) → has x ds ≡ t → (r : Option ℕ) → LeastSays ds us r → LeastSays ds (x ∷ us) (cond t r (orLess x r))
     go true e none h = λ v k. has-cases (has v ds ≡ true) x v us k (λ q. subst (λ (y : ℕ). has y ds ≡ true) q e) (h v)
-    go true e (some w) h =
-        (has-later w x us (h .0), h .1, λ u l k. has-cases (has u ds ≡ true) x u us k (λ q. subst (λ (y : ℕ). has y ds ≡ true) q e) (h .2 u l))
+    go true e (some w) h = (
+      has-later w x us (h .0),
+      h .1,
+      λ u l k. has-cases (has u ds ≡ true) x u us k (λ q. subst (λ (y : ℕ). has y ds ≡ true) q e) (h .2 u l),
+    )
     go false e none h = (has-self x us, e, λ u l k. has-cases (has u ds ≡ true) x u us k (λ q. absurd (omega arith)) (h u))
     go false e (some w) h = by-size (decLe w x)
       where
