@@ -16,7 +16,7 @@ use Rattle.plan.specs.Refusals.{Parse, got, refused, _then_}
 use Rattle.plan.specs.Circuit.{Gate}
 use Rattle.plan.specs.Difference.{lowThen, groups, differenceAt, differenceSays, difference, groupsIn, groupsOf}
 use Rattle.plan.specs.Binary.{gate, gatesFrom, gateBytes}
-use Rattle.theorems.proofs.Reading.Common.{not-got, got-value, got-next, then-got, Reads, byte-is, byte-past}
+use Rattle.theorems.proofs.Reading.Common.{not-got, got-value, got-next, then-got, Reads, byte-is, byte-past, past}
 use Rattle.theorems.proofs.Reading.Order.{InOrder}
 
 -- a list of bytes
@@ -125,20 +125,24 @@ module _ (file : List ℕ) where
           high-took first at d n (t .0) (leb-false _ _ e) (leb-true _ _ e′) (bytes at) f (t .2) (ih (t .0) n (t .1))
       go ih false false e e′ q = last-took first at d n (leb-false _ _ e) (leb-false _ _ e′) q
 
-  -- groups read d and leave s to be read
-  abbrev pub Holds : Difference → ℕ → List ℕ → Type 0
-  Holds r d s = (n : ℕ) × (r ≡ Value d n) × (drop n file ≡ s)
-
-  last-reads : (k first at d : ℕ) (s : List ℕ) → d < 128 → (first < at → 0 < d) → drop at file ≡ d ∷ s → Holds (groups file first (suc k) at) d s
+  last-reads : (k first at d : ℕ) (s : List ℕ) → d < 128 → (first < at → 0 < d) → drop at file ≡ d ∷ s
+      → groups file first (suc k) at ≡ Value d (at + 1)
   last-reads k first at d s h f e =
       let i : at < length file = in-file at d s e in
       let b : getD file at 0 ≡ d = byte-is file at d s e in
-      (at + 1, rw (lt-leb (length file) at i, b, lt-leb 128 d h, groups) (ap (λ (t : Bool). cond t (Bad first) (Value d (at + 1))) (low (eqb d 0) (ltb first at) refl refl)), byte-past file at d s e)
+      rw (lt-leb (length file) at i, b, lt-leb 128 d h, groups)
+      (ap (λ (t : Bool). cond t (Bad first) (Value d (at + 1))) (low (eqb d 0) (ltb first at) refl refl))
     where
       low : (z t : Bool) → eqb d 0 ≡ z → ltb first at ≡ t → (z && t) ≡ false
       low true true z t = absurd (omega (arith, eqb-true d 0 z, f (ltb-true first at t)))
       low true false z t = refl
       low false t z t′ = refl
+
+  small-reads : (k first at d : ℕ) (s : List ℕ) → d < 128 → (first < at → 0 < d) → drop at file ≡ groupsOf d ++ s
+      → groups file first (suc k) at ≡ Value d (at + length (groupsOf d))
+  small-reads k first at d s h f e =
+      let w : groupsOf d ≡ d ∷ [] = groups-small d h in
+      last-reads k first at d s h f (e ∙ ap (λ (x : List ℕ). x ++ s) w) ∙ ap (λ (x : List ℕ). Value d (at + length x)) (sym w)
 
   high-reads : (k first at d m : ℕ) → at < length file → getD file at 0 ≡ d % 128 + 128 → groups file first k (at + 1) ≡ Value (d / 128) m
       → groups file first (suc k) at ≡ Value d m
@@ -147,21 +151,24 @@ module _ (file : List ℕ) where
       let d-is : (d % 128 + 128) % 128 + 128 * (d / 128) ≡ d = omega arith in
       rw (lt-leb (length file) at i, b, le-leb 128 (d % 128 + 128) high, r) (ap (λ (x : ℕ). Value x m) d-is)
 
+  -- k + 1 groups are enough for a number below 128 ^ (k + 1)
   pub groups-reads : (k first at d : ℕ) (s : List ℕ) → d < 128 ^ suc k → first ≤ at → (first < at → 0 < d) → drop at file ≡ groupsOf d ++ s
-      → Holds (groups file first (suc k) at) d s
-  groups-reads zero first at d s h l f e = last-reads zero first at d s h f (e ∙ ap (λ (x : List ℕ). x ++ s) (groups-small d h))
-  groups-reads (suc k) first at d s h l f e = go (λ h′ f′ e′. groups-reads k first (at + 1) (d / 128) s h′ (omega arith) f′ e′) (ltb d 128) refl
+      → groups file first (suc k) at ≡ Value d (at + length (groupsOf d))
+  groups-reads zero first at d s h l f e = small-reads zero first at d s h f e
+  groups-reads (suc k) first at d s h l f e =
+      go (λ h′ f′ e′. groups-reads k first (at + 1) (d / 128) s h′ (omega arith) f′ e′) (ltb d 128) refl
     where
-      go : (d / 128 < 128 ^ suc k → (first < at + 1 → 0 < d / 128) → drop (at + 1) file ≡ groupsOf (d / 128) ++ s → Holds (groups file first (suc k) (at + 1)) (d / 128) s)
-          → (t : Bool) → ltb d 128 ≡ t → Holds (groups file first (suc (suc k)) at) d s
-      go ih true t = last-reads (suc k) first at d s (ltb-true _ _ t) f (e ∙ ap (λ (x : List ℕ). x ++ s) (groups-small d (ltb-true _ _ t)))
+      go : (d / 128 < 128 ^ suc k → (first < at + 1 → 0 < d / 128) → drop (at + 1) file ≡ groupsOf (d / 128) ++ s
+          → groups file first (suc k) (at + 1) ≡ Value (d / 128) (at + 1 + length (groupsOf (d / 128))))
+          → (t : Bool) → ltb d 128 ≡ t → groups file first (suc (suc k)) at ≡ Value d (at + length (groupsOf d))
+      go ih true t = small-reads (suc k) first at d s (ltb-true _ _ t) f e
       go ih false t =
           let g : 128 ≤ d = ltb-false _ _ t in
-          let e0 : drop at file ≡ (d % 128 + 128) ∷ (groupsOf (d / 128) ++ s) = e ∙ ap (λ (x : List ℕ). x ++ s) (groups-step d g) in
-          let i : at < length file = in-file at _ _ e0 in
-          let b : getD file at 0 ≡ d % 128 + 128 = byte-is file at _ _ e0 in
-          let r = ih (omega arith) (λ _. omega arith) (byte-past file at _ _ e0) in
-          (r .0, high-reads (suc k) first at d (r .0) i b (r .1), r .2)
+          let w : groupsOf d ≡ (d % 128 + 128) ∷ groupsOf (d / 128) = groups-step d g in
+          let e0 : drop at file ≡ (d % 128 + 128) ∷ (groupsOf (d / 128) ++ s) = e ∙ ap (λ (x : List ℕ). x ++ s) w in
+          let n-is : at + 1 + length (groupsOf (d / 128)) ≡ at + length (groupsOf d) = omega (arith, ap length w) in
+          high-reads (suc k) first at d _ (in-file at _ _ e0) (byte-is file at _ _ e0)
+          (ih (omega arith) (λ _. omega arith) (byte-past file at _ _ e0) ∙ ap (Value (d / 128)) n-is)
 
 -- a difference and what it is taken from
 abbrev pub Fine : Bool → ℕ → ℕ → Type 0
@@ -207,8 +214,30 @@ module _ (file : List ℕ) where
   pub difference-reads : (first : Bool) (from at d : ℕ) (s : List ℕ) → Fine first from d → d < 2 ^ 21 → drop at file ≡ groupsOf d ++ s
       → Reads file (difference file first from at) d s
   difference-reads first from at d s f h e =
-      let r = groups-reads file 2 at at d s h (omega arith) (λ l. absurd (omega arith)) e in
-      (r .0, rw (r .1, test-fine first from d f), r .2)
+      let r : differenceAt file at ≡ Value d (at + length (groupsOf d)) = groups-reads file 2 at at d s h (omega arith) (λ l. absurd (omega arith)) e in
+      (at + length (groupsOf d), rw (r, test-fine first from d f), past file at (groupsOf d) s e)
+
+  -- one gate: its bytes, and what a gate of binary order keeps
+  pub gate-took : Bytes file → (v at : ℕ) (g : Gate) (n : ℕ) → gate file v at ≡ got g n
+      → (drop at file ≡ groupsOf (g .lhs - g .rhs0) ++ (groupsOf (g .rhs0 - g .rhs1) ++ drop n file)) × (g .lhs ≡ 2 * v) × (g .rhs0 < g .lhs) × (g .rhs1 ≤ g .rhs0)
+  gate-took bytes v at g n q =
+      let a = then-got (difference file true (2 * v) at) _ g n q in
+      let b = then-got (difference file false (2 * v - a .0) (a .1)) _ g n (a .3) in
+      let d0 = difference-took bytes true (2 * v) at (a .0) (a .1) (a .2) in
+      let d1 = difference-took bytes false (2 * v - a .0) (a .1) (b .0) (b .1) (b .2) in
+      let g-is : record { lhs = 2 * v; rhs0 = 2 * v - a .0; rhs1 = 2 * v - a .0 - b .0 } ≡ g = got-value _ g (b .1) n (b .3) in
+      let lhs-is : 2 * v ≡ g .lhs = ap (λ (x : Gate). x .lhs) g-is in
+      let rhs0-is : 2 * v - a .0 ≡ g .rhs0 = ap (λ (x : Gate). x .rhs0) g-is in
+      let rhs1-is : 2 * v - a .0 - b .0 ≡ g .rhs1 = ap (λ (x : Gate). x .rhs1) g-is in
+      let e0 : a .0 ≡ g .lhs - g .rhs0 = omega (arith, d0 .1 .1) in
+      let e1 : b .0 ≡ g .rhs0 - g .rhs1 = omega (arith, d1 .1) in (
+        d0 .0
+            ∙ ap₂ (λ (x : ℕ) (y : List ℕ). groupsOf x ++ y) e0
+            (d1 .0 ∙ ap₂ (λ (x y : ℕ). groupsOf x ++ drop y file) e1 (got-next _ g (b .1) n (b .3))),
+        sym lhs-is,
+        omega (arith, d0 .1 .0, d0 .1 .1),
+        omega arith,
+      )
 
   pub gates-took : Bytes file → (n v at : ℕ) (gs : List Gate) (e : ℕ) → gatesFrom file n v at ≡ got gs e
       → (drop at file ≡ gateBytes gs ++ drop e file) × (length gs ≡ n) × InOrder v gs
@@ -219,27 +248,19 @@ module _ (file : List ℕ) where
   gates-took bytes (suc n) v at gs e q =
       let t = then-got (gate file v at) _ gs e q in
       let u = then-got (gatesFrom file n (suc v) (t .1)) _ gs e (t .3) in
-      let a = then-got (difference file true (2 * v) at) _ (t .0) (t .1) (t .2) in
-      let b = then-got (difference file false (2 * v - a .0) (a .1)) _ (t .0) (t .1) (a .3) in
+      let one = gate-took bytes v at (t .0) (t .1) (t .2) in
       let ih = gates-took bytes n (suc v) (t .1) (u .0) (u .1) (u .2) in
-      let d0 = difference-took bytes true (2 * v) at (a .0) (a .1) (a .2) in
-      let d1 = difference-took bytes false (2 * v - a .0) (a .1) (b .0) (b .1) (b .2) in
-      let g : Gate = record { lhs = 2 * v; rhs0 = 2 * v - a .0; rhs1 = 2 * v - a .0 - b .0 } in
-      let g-is : g ≡ t .0 = got-value g (t .0) (b .1) (t .1) (b .3) in
-      let m-is : b .1 ≡ t .1 = got-next g (t .0) (b .1) (t .1) (b .3) in
-      let gs-is : g ∷ u .0 ≡ gs = ap (λ (x : Gate). x ∷ u .0) g-is ∙ got-value (t .0 ∷ u .0) gs (u .1) e (u .3) in
-      let n-is : u .1 ≡ e = got-next (t .0 ∷ u .0) gs (u .1) e (u .3) in
-      let p0 : a .0 ≡ 2 * v - (2 * v - a .0) = omega (arith, d0 .1 .1) in
-      let p1 : b .0 ≡ 2 * v - a .0 - (2 * v - a .0 - b .0) = omega (arith, d1 .1) in (
-        d0 .0 ∙ (ap₂ (λ (x : ℕ) (y : List ℕ). groupsOf x ++ y) p0 (d1 .0 ∙ ap₂ (λ (x : ℕ) (y : List ℕ). groupsOf x ++ y) p1 (ap (λ (x : ℕ). drop x file) m-is ∙ ih .0))
-            ∙ (sym (assoc3 (groupsOf (2 * v - (2 * v - a .0))) (groupsOf (2 * v - a .0 - (2 * v - a .0 - b .0))) (gateBytes (u .0)) (drop (u .1) file))
-            ∙ ap₂ (λ (x : List Gate) (y : ℕ). gateBytes x ++ drop y file) gs-is n-is)),
+      let gs-is : t .0 ∷ u .0 ≡ gs = got-value (t .0 ∷ u .0) gs (u .1) e (u .3) in
+      let n-is : u .1 ≡ e = got-next (t .0 ∷ u .0) gs (u .1) e (u .3) in (
+        joined (groupsOf (t .0 .lhs - t .0 .rhs0)) (groupsOf (t .0 .rhs0 - t .0 .rhs1)) (gateBytes (u .0)) (drop (u .1) file) (one .0) (ih .0)
+            ∙ ap₂ (λ (x : List Gate) (y : ℕ). gateBytes x ++ drop y file) gs-is n-is,
         ap length (sym gs-is) ∙ ap suc (ih .1),
-        subst (InOrder v) gs-is (refl, omega (arith, d0 .1 .0, d0 .1 .1), omega arith, ih .2),
+        subst (InOrder v) gs-is (one .1, one .2, one .3, ih .2),
       )
     where
-      assoc3 : (x y z w : List ℕ) → (x ++ (y ++ z)) ++ w ≡ x ++ (y ++ (z ++ w))
-      assoc3 x y z w = append-assoc x (y ++ z) w ∙ ap (λ (l : List ℕ). x ++ l) (append-assoc y z w)
+      joined : (x y z w : List ℕ) {p q : List ℕ} → p ≡ x ++ (y ++ q) → q ≡ z ++ w → p ≡ (x ++ (y ++ z)) ++ w
+      joined x y z w a b =
+          a ∙ (ap (λ (l : List ℕ). x ++ l) (ap (λ (l : List ℕ). y ++ l) b ∙ sym (append-assoc y z w)) ∙ sym (append-assoc x (y ++ z) w))
 
   pub gates-reads : (gs : List Gate) (v at : ℕ) (s : List ℕ) → InOrder v gs → v + length gs ≤ 1048576 → drop at file ≡ gateBytes gs ++ s
       → Reads file (gatesFrom file (length gs) v at) gs s
