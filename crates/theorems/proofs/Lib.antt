@@ -1,5 +1,6 @@
 pub mod Once
 pub mod Paper
+pub mod Put
 pub mod Reading
 pub mod Running
 pub mod Wrong
