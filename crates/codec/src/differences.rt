@@ -37,13 +37,14 @@ pub fn read_difference(file: &[u8], at: usize) -> Difference
         return Difference::Ends(file.len());
     }
     let d = file[j] as u32;
-    if d >= 128 {
-        return Difference::Bad(at);
+    let k = j + 1;
+    if d < 128 {
+        if d == 0 {
+            return Difference::Bad(at);
+        }
+        return Difference::Value(a & 0x7f | (b & 0x7f) << 7 | d << 14, k);
     }
-    if d == 0 {
-        return Difference::Bad(at);
-    }
-    Difference::Value(a & 0x7f | (b & 0x7f) << 7 | d << 14, j + 1)
+    Difference::Bad(at)
 }
 
 // How many groups a number has: up to five, of 32 bits.

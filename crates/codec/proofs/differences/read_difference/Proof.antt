@@ -60,23 +60,23 @@ shared-slice-read-d c = search needs
 cast-d : tie.Need-cast-d
 cast-d c = omega (arith, c .shared-slice-known3 .given (c .before .before .before .before .before .before .before .before .args .at + 1 + 1))
 
+add-k : tie.Need-add-k
+add-k c = search needs
+
 returns-7 : tie.Need-returns-7
 returns-7 c =
-    let a = c .before .before .before .before .before .before .before .before .before .args in
-    sym (bad4 (a .file .now) (a .at) (c .before .before .before .before .before .before .before .before .if1 .left) (c .before .before .before .before .before .before .if2 .left) (c .before .before .before .before .before .if3 .left) (c .before .before .before .if4 .left) (c .before .before .if6 .left) (c .if7 .taken))
+    let a = c .before .before .before .before .before .before .before .before .before .before .args in
+    sym (bad3 (a .file .now) (a .at) (c .before .before .before .before .before .before .before .before .before .if1 .left) (c .before .before .before .before .before .before .before .if2 .left) (c .before .before .before .before .before .before .if3 .left) (c .before .before .before .before .if4 .left) (c .before .before .before .if6 .left) (c .if8 .taken))
 
 returns-8 : tie.Need-returns-8
 returns-8 c =
     let a = c .before .before .before .before .before .before .before .before .before .before .args in
-    sym (bad3 (a .file .now) (a .at) (c .before .before .before .before .before .before .before .before .before .if1 .left) (c .before .before .before .before .before .before .before .if2 .left) (c .before .before .before .before .before .before .if3 .left) (c .before .before .before .before .if4 .left) (c .before .before .before .if6 .left) (c .if8 .taken))
-
-add-t8 : tie.Need-add-t8
-add-t8 c = search needs
+    sym (value3 (a .file .now) (a .at) (c .before .before .before .before .before .before .before .before .before .if1 .left) (c .before .before .before .before .before .before .before .if2 .left) (c .before .before .before .before .before .before .if3 .left) (c .before .before .before .before .if4 .left) (c .before .before .before .if6 .left) (c .before .if7 .taken) (c .if8 .left))
 
 returns-9 : tie.Need-returns-9
 returns-9 c =
-    let a = c .before .before .before .before .before .before .before .before .before .before .args in
-    sym (value3 (a .file .now) (a .at) (c .before .before .before .before .before .before .before .before .before .if1 .left) (c .before .before .before .before .before .before .before .if2 .left) (c .before .before .before .before .before .before .if3 .left) (c .before .before .before .before .if4 .left) (c .before .before .before .if6 .left) (c .before .if7 .left) (c .if8 .left))
+    let a = c .before .before .before .before .before .before .before .before .before .args in
+    sym (bad4 (a .file .now) (a .at) (c .before .before .before .before .before .before .before .before .if1 .left) (c .before .before .before .before .before .before .if2 .left) (c .before .before .before .before .before .if3 .left) (c .before .before .before .if4 .left) (c .before .before .if6 .left) (c .if7 .left))
 
 pub read-difference-spec : {M : Type 1} → statement M
 read-difference-spec =
@@ -96,7 +96,7 @@ read-difference-spec =
     returns-6
     shared-slice-read-d
     cast-d
+    add-k
     returns-7
     returns-8
-    add-t8
     returns-9)
