@@ -1,5 +1,4 @@
--- What the proofs of module differences use, and its laws.
+-- What the proofs of module differences use.
 pub mod Bits
 pub mod Ways
 pub mod Groups
-pub mod Laws

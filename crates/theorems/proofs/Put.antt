@@ -1,28 +1,49 @@
--- Bytes put into a buffer: one store, one after the other, and what stands there already.
-use Prim.Native.Nat.{ℕ, _+_, _-_, _^_, _≤_, _<_, min}
+-- Bytes put into a buffer: what stands there then, one byte more at either end, and what a writer answers with room and without.
+use Prim.Native.Nat.{ℕ, suc, _+_, _-_, _^_, _<_, _≤_, min}
 use mathlib.Core.Path.{_≡_, sym, ap, ap₂, _∙_}
-use mathlib.Core.Bool.{true, false}
+use mathlib.Core.Option.{Option, none, some}
 use mathlib.Core.List.{List, [], _∷_, _++_, append-assoc}
-use native.Mathlib.Omega.{arith}
+use native.Mathlib.Nat.{add-zero}
 use native.Mathlib.Numerals.{add-one}
-use lib.Dec.{leb}
-use lib.ListN.{length, take, drop, set, length-append, take-append-drop}
-use lib.Seq.{length-take-le, take-at, drop-at, drop-append-add, drop-drop, set-split}
+use native.Mathlib.Omega.{arith}
+use borrow.Author.Tests.{le-leb, lt-leb}
+use lib.ListN.{length, getD, take, drop, set, length-append, length-drop, take-append-drop}
+use lib.Seq.{length-take-le, take-suc, take-at, append-snoc, set-at, set-split, drop-at, drop-append-add, drop-drop}
 use Rattle.plan.specs.declared.Refusal.the-variants.{ShortBuffer}
-use Rattle.plan.specs.declared.Written.the-variants as written
-use Rattle.plan.specs.Outcome.{WriteExit, put, putBytes}
+use Rattle.plan.specs.declared.Written.the-variants.{Bytes, Refused}
+use Rattle.plan.specs.Given.{room}
+use Rattle.plan.specs.Outcome.{WriteExit, put, putBy, putBytes}
+
+pub put-none : (l : List ℕ) (at : ℕ) → put l at [] ≡ l
+put-none l at = ap (λ (k : ℕ). take at l ++ drop k l) (add-zero at) ∙ take-append-drop at l
+
+pub put-length : (l : List ℕ) (at : ℕ) (w : List ℕ) → at + length w ≤ length l → length (put l at w) ≡ length l
+put-length l at w h =
+    length-append (take at l) (w ++ drop (at + length w) l)
+    ∙ (ap₂ _+_ (length-take-le at l (omega arith)) (length-append w (drop (at + length w) l) ∙ ap (λ (k : ℕ). length w + k) (length-drop (at + length w) l))
+    ∙ omega arith)
+
+-- a byte set before the bytes that are put
+pub put-before : (l : List ℕ) (i b : ℕ) (w : List ℕ) → i + 1 + length w ≤ length l → set (put l (i + 1) w) i b ≡ put l i (b ∷ w)
+put-before l i b w h =
+    let rest : List ℕ = w ++ drop (i + 1 + length w) l in
+    let one-more : take (i + 1) l ≡ take i l ++ (getD l i 0 ∷ []) = ap (λ (k : ℕ). take k l) (add-one i) ∙ take-suc l i 0 (omega arith) in
+    let ends : i + 1 + length w ≡ i + suc (length w) = omega arith in
+    ap (λ (x : List ℕ). set (x ++ rest) i b) one-more
+    ∙ (ap (λ (x : List ℕ). set x i b) (append-snoc (take i l) (getD l i 0) rest)
+    ∙ (set-at (take i l) (getD l i 0) rest b i (length-take-le i l (omega arith))
+    ∙ ap (λ (k : ℕ). take i l ++ (b ∷ (w ++ drop k l))) ends))
+
+-- what is put stands there, and what stands there may be put
+pub put-there : (l : List ℕ) (at : ℕ) (w : List ℕ) → at ≤ length l → drop at (put l at w) ≡ w ++ drop (at + length w) l
+put-there l at w h = drop-at (take at l) (w ++ drop (at + length w) l) at (length-take-le at l h)
+
+pub put-same : (l : List ℕ) (at : ℕ) (w : List ℕ) → drop at l ≡ w ++ drop (at + length w) l → put l at w ≡ l
+put-same l at w e = ap (λ (x : List ℕ). take at l ++ x) (sym e) ∙ take-append-drop at l
 
 -- a store puts one byte
 pub put-one : (l : List ℕ) (at b : ℕ) → at < length l → set l at b ≡ put l at (b ∷ [])
 put-one l at b h = set-split l at b h ∙ ap (λ (k : ℕ). take at l ++ (b ∷ drop k l)) (sym (add-one at))
-
--- what stands there is put back
-pub put-same : (l : List ℕ) (at : ℕ) (x : List ℕ) → drop at l ≡ x ++ drop (at + length x) l → put l at x ≡ l
-put-same l at x e = ap (λ (y : List ℕ). take at l ++ y) (sym e) ∙ take-append-drop at l
-
--- what was put stands there
-pub drop-put : (l : List ℕ) (at : ℕ) (x : List ℕ) → at ≤ length l → drop at (put l at x) ≡ x ++ drop (at + length x) l
-drop-put l at x h = drop-at (take at l) (x ++ drop (at + length x) l) at (length-take-le at l h)
 
 module _ (l : List ℕ) (at : ℕ) (x y : List ℕ) (fits : at + length (x ++ y) ≤ length l) where
   -- putting y after x is putting both
@@ -43,17 +64,16 @@ module _ (l : List ℕ) (at : ℕ) (x y : List ℕ) (fits : at + length (x ++ y)
       ap₂ (λ (a b : List ℕ). a ++ (y ++ b)) front back
       ∙ (append-assoc (take at l) x _ ∙ ap (λ (b : List ℕ). take at l ++ b) (sym (append-assoc x y _)))
 
--- the outcome where the buffer has room for n bytes, and where it has not
-module _ (out : List ℕ) (at : ℕ) (bytes : List ℕ) (n : ℕ) (count : n ≡ length bytes) where
-  pub with-room : (out′ : List ℕ) → leb (at + n) (length out) ≡ true → out′ ≡ put out at bytes
-      → record { answer = written.Bytes n; out = out′ } ≡ putBytes out at bytes
-  with-room out′ h e =
-      let fits : leb (at + length bytes) (length out) ≡ true = ap (λ (k : ℕ). leb (at + k) (length out)) (sym count) ∙ h in
-      rw fits (λ i. record { answer = written.Bytes (count i); out = e i })
+-- the writer's answers
+module _ (l : List ℕ) (at : ℕ) (w : List ℕ) where
+  pub with-room : (k : ℕ) (x : List ℕ) → at + length w ≤ length l → k ≡ length w → x ≡ put l at w
+      → _≡_ {A = WriteExit} (record { answer = Bytes k; out = x }) (putBytes l at w)
+  with-room k x h e p =
+      let enough : none ≡ room l at w = sym (rw (le-leb (at + length w) (length l) h)) in
+      ap₂ (λ (k : ℕ) (x : List ℕ). record { answer = Bytes k; out = x }) e p ∙ ap (λ (o : Option ℕ). putBy o l at w) enough
 
-  pub without-room : (place : ℕ) → leb (at + n) (length out) ≡ false → place ≡ min (at + n) (2 ^ 64 - 1)
-      → record { answer = written.Refused (ShortBuffer place); out = out } ≡ putBytes out at bytes
-  without-room place h e =
-      let short : leb (at + length bytes) (length out) ≡ false = ap (λ (k : ℕ). leb (at + k) (length out)) (sym count) ∙ h in
-      let place-is : place ≡ min (at + length bytes) (2 ^ 64 - 1) = e ∙ ap (λ (k : ℕ). min (at + k) (2 ^ 64 - 1)) count in
-      rw short (λ i. record { answer = written.Refused (ShortBuffer (place-is i)); out = out })
+  pub without-room : (k : ℕ) → length l < at + length w → k ≡ min (at + length w) (2 ^ 64 - 1)
+      → _≡_ {A = WriteExit} (record { answer = Refused (ShortBuffer k); out = l }) (putBytes l at w)
+  without-room k h e =
+      let short : some k ≡ room l at w = ap some e ∙ sym (rw (lt-leb (at + length w) (length l) h)) in
+      ap (λ (o : Option ℕ). putBy o l at w) short

@@ -4,6 +4,7 @@ pub mod Number
 pub mod Back
 pub mod Order
 pub mod Differences
+pub mod DifferencesBack
 pub mod Members
 pub mod Short
 pub mod Undefined

@@ -1,16 +1,13 @@
 -- How many groups a number has, and the loop that puts them.
 use Prim.Native.Nat.{ℕ, suc, _+_, _/_, _%_, _<_, _≤_}
-use mathlib.Core.Path.{_≡_, refl, sym, ap, _∙_}
-use mathlib.Core.Bool.{Bool, true, false}
-use mathlib.Core.List.{List, [], _∷_, _++_}
+use mathlib.Core.Path.{_≡_, sym, ap, _∙_}
+use mathlib.Core.List.{List, [], _∷_}
 use native.Mathlib.Omega.{arith}
-use borrow.Author.Tests.{ltb-true, ltb-false}
-use lib.Dec.{ltb}
 use lib.ListN.{length, set, length-set}
 use Rattle.plan.specs.Difference.{groupsOf}
 use Rattle.plan.specs.Outcome.{put}
 use Rattle.theorems.proofs.Put.{put-one, put-put}
-use Rattle.theorems.proofs.Reading.Differences.{groups-small, groups-step}
+use Rattle.theorems.proofs.Reading.Differences.{groups-small, groups-step, groups-some}
 
 -- the numbers of groups, by size
 pub count-small : (d : ℕ) → d < 128 → 1 ≡ length (groupsOf d)
@@ -18,13 +15,6 @@ count-small d h = sym (ap length (groups-small d h))
 
 pub count-step : (d n : ℕ) → 128 ≤ d → n ≡ length (groupsOf (d / 128)) → suc n ≡ length (groupsOf d)
 count-step d n h e = ap suc e ∙ sym (ap length (groups-step d h))
-
-pub some-group : (d : ℕ) → 0 < length (groupsOf d)
-some-group d = go (ltb d 128) refl
-  where
-    go : (t : Bool) → ltb d 128 ≡ t → 0 < length (groupsOf d)
-    go true e = omega (arith, count-small d (ltb-true _ _ e))
-    go false e = omega (arith, count-step d (length (groupsOf (d / 128))) (ltb-false _ _ e) refl)
 
 -- the loop's state: what is left to put, from i on, completes what was to be put
 pub record Putting (out₀ : List ℕ) (at d : ℕ) (out : List ℕ) (i x : ℕ) : Type 0 where
@@ -35,7 +25,7 @@ pub record Putting (out₀ : List ℕ) (at d : ℕ) (out : List ℕ) (i x : ℕ)
 
 module _ {out₀ : List ℕ} {at d : ℕ} {out : List ℕ} {i x : ℕ} (p : Putting out₀ at d out i x) where
   pub in-room : i < length out
-  in-room = omega (arith, p .room, some-group x)
+  in-room = omega (arith, p .room, groups-some x)
 
   pub next-group : 128 ≤ x → (b : ℕ) → b ≡ x % 128 + 128 → Putting out₀ at d (set out i b) (i + 1) (x / 128)
   next-group h b e =

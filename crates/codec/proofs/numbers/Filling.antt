@@ -8,7 +8,7 @@ use lib.Seq.{append-snoc}
 use Rattle.plan.specs.Bytes.{digits}
 use Rattle.plan.specs.Outcome.{put}
 use Rattle.theorems.proofs.Reading.Number.{digits-small, digits-step, digits-some}
-use Rattle.codec.proofs.room.Put.{put-none, put-length, put-before}
+use Rattle.theorems.proofs.Put.{put-none, put-length, put-before}
 use Rattle.codec.proofs.numbers.Length.{one, more}
 
 pub record Filling (out₀ : List ℕ) (at n : ℕ) (out : List ℕ) (i rest : ℕ) : Type 0 where

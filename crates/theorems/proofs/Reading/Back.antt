@@ -8,8 +8,8 @@ use native.Mathlib.Nat.{add-zero}
 use native.Mathlib.Omega.{arith}
 use borrow.Author.Tests.{le-leb, leb-true}
 use lib.Dec.{leb}
-use lib.ListN.{length, getD, take, drop, length-append, length-drop, take-append-drop}
-use lib.Seq.{drop-at, getD-drop, length-take-le}
+use lib.ListN.{length, getD, drop, length-append, length-drop}
+use lib.Seq.{getD-drop}
 use Rattle.plan.specs.declared.Number.the-variants.{Value}
 use Rattle.plan.specs.declared.Refusal.the-variants.{ShortBuffer}
 use Rattle.plan.specs.declared.Written.the-variants.{Bytes, Refused}
@@ -18,14 +18,8 @@ use Rattle.plan.specs.Refusals.{Parse, got, refused}
 use Rattle.plan.specs.Bytes.{classOf, digitClass, number, digits}
 use Rattle.plan.specs.Given.{room}
 use Rattle.plan.specs.Outcome.{cutNumber, numberAt, put, putBy, WriteExit, writeNumber}
+use Rattle.theorems.proofs.Put.{put-there, put-same}
 use Rattle.theorems.proofs.Reading.Number.{number-took, number-next, number-digits, digits-some}
-
--- what is put stands there, and what stands there may be put
-pub put-there : (l : List ℕ) (at : ℕ) (w : List ℕ) → at ≤ length l → drop at (put l at w) ≡ w ++ drop (at + length w) l
-put-there l at w h = drop-at (take at l) (w ++ drop (at + length w) l) at (length-take-le at l h)
-
-pub put-same : (l : List ℕ) (at : ℕ) (w : List ℕ) → drop at l ≡ w ++ drop (at + length w) l → put l at w ≡ l
-put-same l at w e = ap (λ (x : List ℕ). take at l ++ x) (sym e) ∙ take-append-drop at l
 
 -- the byte after the number is no digit, or the buffer ends there
 pub written-is-read : (out : List ℕ) (at n : ℕ) → n < beyond → at + length (digits n) ≤ length out

@@ -12,7 +12,7 @@ use lib.Seq.{drop-cons}
 use Rattle.plan.specs.declared.Refusal.{Refusal}
 use Rattle.plan.specs.declared.Difference.{Difference}
 use Rattle.plan.specs.declared.Difference.the-variants.{Value, Ends, Bad}
-use Rattle.plan.specs.Refusals.{Parse, got, refused, _then_}
+use Rattle.plan.specs.Refusals.{Parse, got, refused}
 use Rattle.plan.specs.Circuit.{Gate}
 use Rattle.plan.specs.Difference.{lowThen, groups, differenceAt, differenceSays, difference, groupsIn, groupsOf}
 use Rattle.plan.specs.Binary.{gate, gatesFrom, gateBytes}
@@ -49,6 +49,13 @@ pub groups-step : (d : ℕ) → 128 ≤ d → groupsOf d ≡ (d % 128 + 128) ∷
 groups-step d h =
     in-fuel d (suc d) d (omega arith) (omega arith)
     ∙ (in-step d d h ∙ ap (λ (l : List ℕ). (d % 128 + 128) ∷ l) (in-fuel d (d / 128) (d / 128) (omega arith) (omega arith)))
+
+pub groups-some : (d : ℕ) → 0 < length (groupsOf d)
+groups-some d = go (ltb d 128) refl
+  where
+    go : (t : Bool) → ltb d 128 ≡ t → 0 < length (groupsOf d)
+    go true e = omega (arith, ap length (groups-small d (ltb-true _ _ e)))
+    go false e = omega (arith, ap length (groups-step d (ltb-false _ _ e)))
 
 -- a group and the groups above it
 low-value : (low : ℕ) (r : Difference) (d n : ℕ) → lowThen low r ≡ Value d n → (h : ℕ) × (r ≡ Value h n) × (low + 128 * h ≡ d)

@@ -1,3 +1,4 @@
+-- The number of groups, by how often 128 divides.
 use Prim.Native.Nat.{_/_}
 use native.Mathlib.Omega.{arith}
 use Rattle.codec.proofs.differences.Groups.{count-small, count-step}

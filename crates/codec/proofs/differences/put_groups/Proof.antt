@@ -1,3 +1,4 @@
+-- Each turn puts one group, and what is left completes what was to be put.
 use mathlib.Core.Path.{refl, _∙_}
 use native.Mathlib.Omega.{arith}
 use lib.ListN.{length-set}

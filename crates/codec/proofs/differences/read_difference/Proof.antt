@@ -1,3 +1,4 @@
+-- Each return is one of the ways through a difference.
 use borrow.Author.Needs.{needs}
 use Prim.Native.Nat.{_+_}
 use mathlib.Core.Path.{sym}

@@ -1,9 +1,10 @@
+-- With room the groups stand in the buffer, without it the buffer is as it was.
 use borrow.Author.Needs.{needs}
-use Prim.Native.Nat.{_+_}
-use mathlib.Core.Path.{_≡_, sym, _∙_}
-use mathlib.Core.Bool.{true}
+use Prim.Native.Nat.{ℕ, _+_, _-_, _^_, min}
+use mathlib.Core.Path.{_≡_, sym, ap, _∙_}
+use mathlib.Core.Bool.{true, false}
 use native.Mathlib.Omega.{arith}
-use borrow.Author.Tests.{leb-true, not-true, not-false}
+use borrow.Author.Tests.{leb-true, leb-false, not-true, not-false}
 use lib.Dec.{leb}
 use lib.ListN.{length}
 use Rattle.plan.specs.Difference.{groupsOf}
@@ -23,8 +24,12 @@ needed-requires c κs = search needs
 returns : tie.Need-returns
 returns c =
     let a = c .before .before .before .before .before .args in
-    without-room (a .out .now) (a .at) (groupsOf (a .d)) (c .before .before .before .groups-in .result) (c .before .before .before .groups-in .ensures)
-    (c .needed .result) (sym (c .before .before .holds .ensures) ∙ not-true _ (c .before .if1 .taken)) (c .needed .ensures)
+    let n = c .before .before .before .groups-in .result in
+    let short : leb (a .at + n) (length (a .out .now)) ≡ false = sym (c .before .before .holds .ensures) ∙ not-true _ (c .before .if1 .taken) in
+    let count : n ≡ length (groupsOf (a .d)) = c .before .before .before .groups-in .ensures in
+    without-room (a .out .now) (a .at) (groupsOf (a .d)) (c .needed .result)
+    (omega (arith, leb-false (a .at + n) (length (a .out .now)) short))
+    (c .needed .ensures ∙ ap (λ (k : ℕ). min (a .at + k) (2 ^ 64 - 1)) count)
 
 put-groups-requires : tie.Need-put-groups-requires
 put-groups-requires c κs =
@@ -39,8 +44,11 @@ same-length c = search needs
 returns-2 : tie.Need-returns-2
 returns-2 c =
     let a = c .before .before .before .before .before .before .before .before .args in
-    with-room (a .out .now) (a .at) (groupsOf (a .d)) (c .before .before .before .before .before .before .groups-in .result) (c .before .before .before .before .before .before .groups-in .ensures)
-    (c .before .before .put-groups .last .0) (sym (c .before .before .before .before .before .holds .ensures) ∙ not-false _ (c .before .before .before .before .if1 .left)) (c .before .before .put-groups .ensures)
+    let n = c .before .before .before .before .before .before .groups-in .result in
+    let fits : leb (a .at + n) (length (a .out .now)) ≡ true = sym (c .before .before .before .before .before .holds .ensures) ∙ not-false _ (c .before .before .before .before .if1 .left) in
+    let count : n ≡ length (groupsOf (a .d)) = c .before .before .before .before .before .before .groups-in .ensures in
+    with-room (a .out .now) (a .at) (groupsOf (a .d)) n (c .before .before .put-groups .last .0)
+    (omega (arith, leb-true (a .at + n) (length (a .out .now)) fits)) count (c .before .before .put-groups .ensures)
 
 pub write-difference-spec : {M : Type 1} → statement M
 write-difference-spec =

@@ -6,7 +6,7 @@ use borrow.Author.Needs.{needs}
 use borrow.Author.Tests.{leb-true, leb-false, not-true, not-false}
 use lib.ListN.{length, length-set}
 use Rattle.plan.specs.Bytes.{digits}
-use Rattle.codec.proofs.room.Put.{with-room, without-room}
+use Rattle.theorems.proofs.Put.{with-room, without-room}
 use Rattle.codec.proofs.numbers.Filling.{Filling, starts, wide, begun, inside, step, ends}
 use Rattle.codec.proofs.numbers.write_number.Statement.{statement}
 use Rattle.codec.proofs.numbers.write_number.Tie as tie
