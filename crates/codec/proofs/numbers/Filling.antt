@@ -7,9 +7,9 @@ use lib.ListN.{length, set}
 use lib.Seq.{append-snoc}
 use Rattle.plan.specs.Bytes.{digits}
 use Rattle.plan.specs.Outcome.{put}
-use Rattle.theorems.proofs.Reading.Number.{digits-small, digits-step}
+use Rattle.theorems.proofs.Reading.Number.{digits-small, digits-step, digits-some}
 use Rattle.codec.proofs.room.Put.{put-none, put-length, put-before}
-use Rattle.codec.proofs.numbers.Length.{one, more, some-digit}
+use Rattle.codec.proofs.numbers.Length.{one, more}
 
 pub record Filling (out₀ : List ℕ) (at n : ℕ) (out : List ℕ) (i rest : ℕ) : Type 0 where
   pub written : List ℕ
@@ -32,7 +32,7 @@ module _ {out₀ : List ℕ} {at n : ℕ} {out : List ℕ} {i rest : ℕ} (f : F
   wide = ap length (f .filled) ∙ put-length out₀ i (f .written) (f .fits)
 
   pub begun : at < i
-  begun = omega (arith, f .place, some-digit rest)
+  begun = omega (arith, f .place, digits-some rest)
 
   pub inside : i ≤ length out
   inside = omega (arith, f .fits, wide)

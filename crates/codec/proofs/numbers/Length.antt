@@ -1,10 +1,9 @@
 -- How many digits a number has.
 use Prim.Native.Nat.{ℕ, suc, zero, _+_, _*_, _/_, _%_, _^_, _<_, _≤_}
-use mathlib.Core.Path.{_≡_, refl, sym, ap, _∙_}
+use mathlib.Core.Path.{_≡_, sym, ap, _∙_}
 use mathlib.Core.List.{[], _∷_}
 use native.Mathlib.Omega.{arith}
 use native.Mathlib.Nat.{le-refl, pow-suc}
-use native.Mathlib.Decide.{decLe}
 use lib.ListN.{length, length-append}
 use Rattle.plan.specs.Bytes.{digits}
 use Rattle.theorems.proofs.Reading.Number.{digits-small, digits-step}
@@ -19,13 +18,6 @@ one n h = sym (ap length (digits-small n h))
 -- one digit more than a tenth of it has
 pub more : (n k : ℕ) → 10 ≤ n → k ≡ length (digits (n / 10)) → suc k ≡ length (digits n)
 more n k h e = omega (arith, e, ap length (digits-step n h) ∙ length-append (digits (n / 10)) ((48 + n % 10) ∷ []))
-
-pub some-digit : (n : ℕ) → 1 ≤ length (digits n)
-some-digit n = go (decLe 10 n)
-  where
-    go : Dec (10 ≤ n) → 1 ≤ length (digits n)
-    go (yes h) = omega (arith, more n (length (digits (n / 10))) h refl)
-    go (no h) = omega (arith, one n (omega arith))
 
 pub many : (k n : ℕ) → 10 ^ suc k ≤ n → n < 10 ^ suc (suc k) → suc (suc k) ≡ length (digits n)
 many zero n h g = more n 1 h (one (n / 10) (omega arith))

@@ -6,13 +6,13 @@ use mathlib.Core.List.{List, [], _∷_, _++_, append-nil}
 use native.Mathlib.Omega.{arith}
 use borrow.Author.Tests.{eqb-true, eqb-false, ne-eqb, leb-true, leb-false, le-leb, ltb-true, ltb-false, lt-ltb, le-ltb}
 use lib.Dec.{eqb, leb, ltb}
-use lib.ListN.{length, getD, drop}
+use lib.ListN.{length, getD, drop, length-append}
 use lib.Seq.{append-snoc, drop-drop}
 use Rattle.plan.specs.Refusals.{got}
 use Rattle.plan.specs.declared.Class.{Class}
 use Rattle.plan.specs.declared.Class.the-variants.{Line, Space, Zero, Digit, Print, Rest}
 use Rattle.plan.specs.Bytes.{classOf, digitClass, span, decimal, numberBy, number, spell, digits}
-use Rattle.theorems.proofs.Reading.Common.{not-got, Reads, byte-there, byte-is, byte-past, past}
+use Rattle.theorems.proofs.Reading.Common.{not-got, Reads, byte-there, byte-is, past}
 
 -- classes
 abbrev pub Says : ℕ → Class → Type 0
@@ -85,9 +85,14 @@ span-split t (b ∷ l) = go (t (classOf b)) (span-split t l)
     go true h = ap (λ (r : List ℕ). b ∷ r) h
     go false h = refl
 
+-- past the end stands the byte 0
+pub span-stops : (t : Class → Bool) (w s : List ℕ) → AllPass t w → t (classOf (getD s 0 0)) ≡ false → span t (w ++ s) ≡ w
+span-stops t [] [] h e = refl
+span-stops t [] (x ∷ s) h e = rw e
+span-stops t (b ∷ w) s h e = rw (h .0) (ap (λ (r : List ℕ). b ∷ r) (span-stops t w s (h .1) e))
+
 pub span-all : (t : Class → Bool) (w : List ℕ) (x : ℕ) (s : List ℕ) → AllPass t w → t (classOf x) ≡ false → span t (w ++ (x ∷ s)) ≡ w
-span-all t [] x s h e = rw e
-span-all t (b ∷ w) x s h e = rw (h .0) (ap (λ (r : List ℕ). b ∷ r) (span-all t w x s (h .1) e))
+span-all t w x s h e = span-stops t w (x ∷ s) h e
 
 pass-append : (t : Class → Bool) (w v : List ℕ) → AllPass t w → AllPass t v → AllPass t (w ++ v)
 pass-append t [] v h k = k
@@ -131,6 +136,13 @@ digits-step n h =
     let e : n / 10 * 10 + n % 10 ≡ n = omega arith in
     ap digits (sym e) ∙ digits-more (n / 10) (n % 10) (omega arith) (omega arith)
 
+pub digits-some : (n : ℕ) → 1 ≤ length (digits n)
+digits-some n = go (ltb n 10) refl
+  where
+    go : (t : Bool) → ltb n 10 ≡ t → 1 ≤ length (digits n)
+    go true e = omega (arith, ap length (digits-small n (ltb-true _ _ e)))
+    go false e = omega (arith, ap length (digits-step n (ltb-false _ _ e)) ∙ length-append (digits (n / 10)) ((48 + n % 10) ∷ []))
+
 digits-decimal : (v : ℕ) (l : List ℕ) → 0 < v → AllPass digitClass l → digits (decimal v l) ≡ digits v ++ l
 digits-decimal v [] p h = sym (append-nil (digits v))
 digits-decimal v (b ∷ l) p h =
@@ -140,14 +152,15 @@ digits-decimal v (b ∷ l) p h =
     ∙ (ap (λ (x : List ℕ). x ++ l) (digits-more v (b - 48) p (omega (arith, k .0, k .1)))
     ∙ (append-snoc (digits v) (48 + (b - 48)) l ∙ ap (λ (x : ℕ). digits v ++ (x ∷ l)) b-is))
 
--- what a number took
+-- what a number took, and where it ends
 module _ (file : List ℕ) (at n next : ℕ) where
-  by-class : (c : Class) → classOf (getD file at 0) ≡ c → numberBy c (drop at file) at ≡ got n next → drop at file ≡ digits n ++ drop next file
+  by-class : (c : Class) → classOf (getD file at 0) ≡ c → numberBy c (drop at file) at ≡ got n next
+      → (drop at file ≡ digits n ++ drop next file) × (next ≡ at + length (digits n))
   by-class Zero c e =
       let b : getD file at 0 ≡ 48 = subst (Says (getD file at 0)) c (class-says (getD file at 0)) in
       let z : 0 ≡ n = cc in
       let m : at + 1 ≡ next = cc in
-      byte-there file at 48 (omega arith) b ∙ ap₂ (λ (x y : ℕ). digits x ++ drop y file) z m
+      (byte-there file at 48 (omega arith) b ∙ ap₂ (λ (x y : ℕ). digits x ++ drop y file) z m, sym m ∙ ap (λ (x : ℕ). at + length (digits x)) z)
   by-class Digit c e =
       let b = getD file at 0 in
       let k : (49 ≤ b) × (b ≤ 57) = subst (Says b) c (class-says b) in
@@ -159,16 +172,21 @@ module _ (file : List ℕ) (at n next : ℕ) where
       let spelled : digits n ≡ b ∷ l
       = ap digits (sym v ∙ ap (decimal 0) w)
       ∙ (digits-decimal (0 * 10 + (b - 48)) l (omega (arith, k .0)) (span-pass digitClass (drop (at + 1) file))
-      ∙ (ap (λ (x : List ℕ). x ++ l) (spell-small (0 * 10 + (b - 48)) (0 * 10 + (b - 48)) (omega (arith, k .1))) ∙ ap (λ (x : ℕ). x ∷ l) (omega (arith, k .0)))) in
-      span-split digitClass (drop at file)
-      ∙ ap₂ (λ (x y : List ℕ). x ++ y) (w ∙ sym spelled) (drop-drop (length (span digitClass (drop at file))) at file ∙ ap (λ (x : ℕ). drop x file) m)
+      ∙ (ap (λ (x : List ℕ). x ++ l) (spell-small (0 * 10 + (b - 48)) (0 * 10 + (b - 48)) (omega (arith, k .1))) ∙ ap (λ (x : ℕ). x ∷ l) (omega (arith, k .0)))) in (
+        span-split digitClass (drop at file)
+            ∙ ap₂ (λ (x y : List ℕ). x ++ y) (w ∙ sym spelled) (drop-drop (length (span digitClass (drop at file))) at file ∙ ap (λ (x : ℕ). drop x file) m),
+        sym m ∙ ap (λ (x : List ℕ). at + length x) (w ∙ sym spelled),
+      )
   by-class Line c e = absurd (not-got _ _ _ e)
   by-class Space c e = absurd (not-got _ _ _ e)
   by-class Print c e = absurd (not-got _ _ _ e)
   by-class Rest c e = absurd (not-got _ _ _ e)
 
   pub number-took : number file at ≡ got n next → drop at file ≡ digits n ++ drop next file
-  number-took e = by-class (classOf (getD file at 0)) refl e
+  number-took e = by-class (classOf (getD file at 0)) refl e .0
+
+  pub number-next : number file at ≡ got n next → next ≡ at + length (digits n)
+  number-next e = by-class (classOf (getD file at 0)) refl e .1
 
 -- digits are read back
 decimal-snoc : (v : ℕ) (l : List ℕ) (b : ℕ) → decimal v (l ++ (b ∷ [])) ≡ decimal v l * 10 + (b - 48)
@@ -215,16 +233,18 @@ spell-first (suc k) n h p = go (ltb n 10) refl (λ a b. spell-first k (n / 10) a
         let f = ih (omega arith) (omega arith) in
         (f .0, f .1 ++ ((48 + n % 10) ∷ []), spell-step k n g ∙ ap (λ (l : List ℕ). l ++ ((48 + n % 10) ∷ [])) (f .2), f .3, f .4)
 
-pub number-reads : (file : List ℕ) (at n x : ℕ) (s : List ℕ) → digitClass (classOf x) ≡ false → drop at file ≡ digits n ++ (x ∷ s) → Reads file (number file at) n (x ∷ s)
-number-reads file at zero x s c e = (at + 1, rw (byte-is file at 48 (x ∷ s) e), byte-past file at 48 (x ∷ s) e)
-number-reads file at (suc n) x s c e =
+-- digits with no digit after them
+pub number-digits : (file : List ℕ) (at n : ℕ) (s : List ℕ) → digitClass (classOf (getD s 0 0)) ≡ false → drop at file ≡ digits n ++ s
+    → number file at ≡ got n (at + length (digits n))
+number-digits file at zero s c e = rw (byte-is file at 48 s e)
+number-digits file at (suc n) s c e =
     let m = suc n in
     let f = spell-first m m (omega arith) (omega arith) in
-    let b-is : getD file at 0 ≡ f .0 = byte-is file at (f .0) (f .1 ++ (x ∷ s)) (e ∙ ap (λ (l : List ℕ). l ++ (x ∷ s)) (f .2)) in
+    let b-is : getD file at 0 ≡ f .0 = byte-is file at (f .0) (f .1 ++ s) (e ∙ ap (λ (l : List ℕ). l ++ s) (f .2)) in
     let is-digit : classOf (getD file at 0) ≡ Digit = ap classOf b-is ∙ class-digit (f .0) (f .3) (f .4) in
-    let w : span digitClass (drop at file) ≡ digits m = ap (span digitClass) e ∙ span-all digitClass (digits m) x s (spell-pass m m (omega arith)) c in (
-      at + length (digits m),
-      ap (λ (k : Class). numberBy k (drop at file) at) is-digit
-          ∙ (ap (λ (l : List ℕ). got (decimal 0 l) (at + length l)) w ∙ ap (λ (v : ℕ). got v (at + length (digits m))) (decimal-spell m m (omega arith))),
-      past file at (digits m) (x ∷ s) e,
-    )
+    let w : span digitClass (drop at file) ≡ digits m = ap (span digitClass) e ∙ span-stops digitClass (digits m) s (spell-pass m m (omega arith)) c in
+    ap (λ (k : Class). numberBy k (drop at file) at) is-digit
+    ∙ (ap (λ (l : List ℕ). got (decimal 0 l) (at + length l)) w ∙ ap (λ (v : ℕ). got v (at + length (digits m))) (decimal-spell m m (omega arith)))
+
+pub number-reads : (file : List ℕ) (at n x : ℕ) (s : List ℕ) → digitClass (classOf x) ≡ false → drop at file ≡ digits n ++ (x ∷ s) → Reads file (number file at) n (x ∷ s)
+number-reads file at n x s c e = (at + length (digits n), number-digits file at n (x ∷ s) c e, past file at (digits n) (x ∷ s) e)
