@@ -14,3 +14,5 @@ pub mod Upward
 pub mod ReduceStep
 pub mod Renumber
 pub mod Numbering
+pub mod Converted
+pub mod ConvertStep
