@@ -16,3 +16,5 @@ pub mod Renumber
 pub mod Numbering
 pub mod Converted
 pub mod ConvertStep
+pub mod WithoutX
+pub mod DemandThree

@@ -82,9 +82,9 @@ module _ (c : Circuit) (good : Ordered c) (s s′ i i′ : List Value) (hs : Les
       (holds e′ w′ (inner c) (reduced c .retained) (reduced-ok c .order) (λ v _. value-solves (reduced c .retained) e′ (length (reduced c .retained)) (settled-binary (inner c) (reduced c .retained) (reduced-ok c .order)) v))
       (λ v h. leaf-le v (omega (arith, h, length-lits 0 (inner c))))
 
-  pub reduce-out : Les (outputsOf c s i) (outputsOf (reduce c) s′ i′)
+  pub reduce-outputs : Les (outputsOf c s i) (outputsOf (reduce c) s′ i′)
   unfolding w w′
-  reduce-out = becomes-les w w′ (reduced c .became) refines (c .outputs) (rw (length-became c) (good .output-in))
+  reduce-outputs = becomes-les w w′ (reduced c .became) refines (c .outputs) (rw (length-became c) (good .output-in))
 
   pub reduce-next : Les (nextOf c s i) (nextOf (reduce c) s′ i′)
   unfolding w w′
