@@ -18,3 +18,4 @@ pub mod Converted
 pub mod ConvertStep
 pub mod WithoutX
 pub mod DemandThree
+pub mod Unchanged
