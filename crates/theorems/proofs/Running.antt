@@ -19,3 +19,6 @@ pub mod ConvertStep
 pub mod WithoutX
 pub mod DemandThree
 pub mod Unchanged
+pub mod Scan
+pub mod Settled
+pub mod Sweep
