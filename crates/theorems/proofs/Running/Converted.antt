@@ -1,5 +1,5 @@
 -- A converted circuit: its leaves are the first variables, its gates in binary order, and what it uses has a number.
-use Prim.Native.Nat.{ℕ, zero, suc, _+_, _≤_, _<_}
+use Prim.Native.Nat.{ℕ, suc, _+_, _<_}
 use mathlib.Core.Path.{_≡_, refl, sym, ap, ap₂, _∙_, subst}
 use mathlib.Core.Bool.{true}
 use mathlib.Core.List.{List, [], _∷_, _++_, map, append-nil}
@@ -9,12 +9,12 @@ use Rattle.plan.specs.Literals.{varOf}
 use Rattle.plan.specs.Circuit.{Gate, Latch, Circuit, vars, currents, lefts, nexts, has}
 use Rattle.plan.specs.Convert.{leaves, sorted, numbered, index, renumber, renumberGates, convert}
 use Rattle.theorems.proofs.Reading.Runs.{upFrom, up-append, vars-lits, currents-latches, nexts-latches, length-lits, length-latches, length-nexts}
-use Rattle.theorems.proofs.Running.Lists.{has-left, index-front, allIn, in-head, in-tail}
-use Rattle.theorems.proofs.Running.Found.{sides-in}
+use Rattle.theorems.proofs.Running.Lists.{index-front, allIn, in-head, in-tail}
 use Rattle.theorems.proofs.Running.Accepted.{Accepted}
 use Rattle.theorems.proofs.Running.Binary.{Binary, inner, Bounded, Ordered}
 use Rattle.theorems.proofs.Running.Renumber.{renumber-half, renumberGates-binary}
-use Rattle.theorems.proofs.Running.Numbering.{order-readied, order-closed, complete}
+use Rattle.theorems.proofs.Running.Numbering.{order-readied}
+use Rattle.theorems.proofs.Running.Settled.{settled-numbered}
 
 length-vars : (ls : List ℕ) → length (vars ls) ≡ length ls
 length-vars [] = refl
@@ -67,10 +67,7 @@ module _ (c : Circuit) where
 module _ (c : Circuit) (ok : Accepted c) where
   -- every used variable has a number
   pub gets-number : (v : ℕ) → has v (leaves c ++ lefts (c .gates)) ≡ true → has v (numbered c) ≡ true
-  gets-number v h =
-      complete (c .gates) (leaves c) (numbered c) (λ u k. has-left u (leaves c) (lefts (sorted c)) k)
-      (order-closed (length (c .gates)) (leaves c) (c .gates) (omega arith))
-      (sides-in (leaves c ++ lefts (c .gates)) (c .gates) (ok .used-gate)) (length (c .gates)) v (ok .settles v) h
+  gets-number v h = settled-numbered c (ok .used-gate) v h (ok .settles v)
 
   bounded : (ls : List ℕ) → allIn ls (leaves c ++ lefts (c .gates)) ≡ true → Bounded (inner c + length (convert c .gates)) (map (renumber (numbered c)) ls)
   bounded [] a = tt

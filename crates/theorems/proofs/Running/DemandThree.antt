@@ -1,13 +1,13 @@
 -- Converted and reduced, a well-formed circuit does what it did: what was 0 or 1 is the same at every step, and without x all is.
 use Prim.Native.Nat.{ℕ}
 use mathlib.Core.Path.{_≡_, refl, sym, ap, ap₂, _∙_, subst}
-use mathlib.Core.List.{List, [], _∷_, map}
+use mathlib.Core.List.{List, [], _∷_}
 use lib.ListN.{length, replicate, length-replicate, length-map}
 use Rattle.plan.specs.Circuit.{Circuit, nexts}
 use Rattle.plan.specs.Reading.{WellFormed}
 use Rattle.plan.specs.Convert.{convert}
 use Rattle.plan.specs.Reduce.{reduced, latchBecomes, reduce}
-use Rattle.plan.specs.Step.{Value, v0, lit, valuesOf, outputsOf, nextOf, Step, stepOf, run, first}
+use Rattle.plan.specs.Step.{Value, v0, lit, valuesOf, outputsOf, nextOf, run, first}
 use Rattle.theorems.proofs.Reading.Runs.{length-nexts}
 use Rattle.theorems.proofs.Running.Refinement.{Les, les-refl}
 use Rattle.theorems.proofs.Running.Monotone.{Replaced, Kept}

@@ -65,8 +65,9 @@ module _ (c : Circuit) (once : distinct (leaves c ++ lefts (c .gates)) ≡ true)
       (order-all (λ g. find (varOf (g .lhs)) (c .gates) ≡ some g) k (leaves c) (c .gates) (found-own (c .gates) (distinct-right (leaves c) (lefts (c .gates)) once)))
       (λ u t. settled-none (c .gates) 0 u (none-of u (c .gates) (distinct-apart u (leaves c) (lefts (c .gates)) once t))) v h))
 
-  pub settled-numbered : allIn (rights (c .gates)) (leaves c ++ lefts (c .gates)) ≡ true → (v : ℕ) → has v (leaves c ++ lefts (c .gates)) ≡ true → settled (c .gates) (length (c .gates)) v ≡ true → has v (numbered c) ≡ true
-  settled-numbered used v h s =
-      complete (c .gates) (leaves c) (numbered c) (λ u k. has-left u (leaves c) (lefts (sorted c)) k)
-      (order-closed (length (c .gates)) (leaves c) (c .gates) (omega arith))
-      (sides-in (leaves c ++ lefts (c .gates)) (c .gates) used) (length (c .gates)) v s h
+pub settled-numbered : (c : Circuit) → allIn (rights (c .gates)) (leaves c ++ lefts (c .gates)) ≡ true → (v : ℕ) → has v (leaves c ++ lefts (c .gates)) ≡ true
+    → settled (c .gates) (length (c .gates)) v ≡ true → has v (numbered c) ≡ true
+settled-numbered c used v h s =
+    complete (c .gates) (leaves c) (numbered c) (λ u k. has-left u (leaves c) (lefts (sorted c)) k)
+    (order-closed (length (c .gates)) (leaves c) (c .gates) (omega arith))
+    (sides-in (leaves c ++ lefts (c .gates)) (c .gates) used) (length (c .gates)) v s h
