@@ -22,3 +22,4 @@ pub mod Unchanged
 pub mod Scan
 pub mod Settled
 pub mod Sweep
+pub mod InOrder

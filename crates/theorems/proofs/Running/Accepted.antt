@@ -41,7 +41,7 @@ vars-append [] ys = refl
 vars-append (x ∷ xs) ys = ap (λ (t : List ℕ). varOf x ∷ t) (vars-append xs ys)
 
 -- the constant, then what is defined
-leaves-lefts : (c : Circuit) → leaves c ++ lefts (c .gates) ≡ zero ∷ definedIn c
+pub leaves-lefts : (c : Circuit) → leaves c ++ lefts (c .gates) ≡ zero ∷ definedIn c
 leaves-lefts c = ap (λ (t : List ℕ). zero ∷ t) (append-assoc (vars (c .inputs)) (currents (c .latches)) (lefts (c .gates)))
 
 module _ (c : Circuit) (ok : WellFormed c) where

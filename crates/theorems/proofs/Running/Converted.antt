@@ -12,6 +12,7 @@ use Rattle.theorems.proofs.Reading.Runs.{upFrom, up-append, vars-lits, 
 use Rattle.theorems.proofs.Running.Lists.{index-front, allIn, in-head, in-tail}
 use Rattle.theorems.proofs.Running.Accepted.{Accepted}
 use Rattle.theorems.proofs.Running.Binary.{Binary, inner, Bounded, Ordered}
+use Rattle.theorems.proofs.Running.Upward.{leaves-up}
 use Rattle.theorems.proofs.Running.Renumber.{renumber-half, renumberGates-binary}
 use Rattle.theorems.proofs.Running.Numbering.{order-readied}
 use Rattle.theorems.proofs.Running.Settled.{settled-numbered}
@@ -30,12 +31,6 @@ length-renumberGates o u (g ∷ gs) = ap suc (length-renumberGates o (suc u) gs)
 
 pub length-leaves : (c : Circuit) → length (leaves c) ≡ inner c
 length-leaves c = omega (arith, length-append (vars (c .inputs)) (currents (c .latches)), length-vars (c .inputs), length-currents (c .latches))
-
--- leaves that stand in a row from variable 1 on
-pub leaves-up : (c : Circuit) (i l : ℕ) → vars (c .inputs) ≡ upFrom 1 i → currents (c .latches) ≡ upFrom (1 + i) l → leaves c ≡ upFrom 0 (1 + i + l)
-leaves-up c i l p q =
-    let e : suc (i + l) ≡ 1 + i + l = omega arith in
-    ap₂ (λ (s t : List ℕ). 0 ∷ (s ++ t)) p q ∙ ap (λ (t : List ℕ). 0 ∷ t) (sym (up-append 1 i l)) ∙ ap (upFrom 0) e
 
 module _ (c : Circuit) where
   abbrev nexts′ : List ℕ

@@ -17,7 +17,7 @@ use Rattle.theorems.proofs.Reading.Order.{InOrder}
 use Rattle.theorems.proofs.Reading.Runs.{upFrom, up-append, vars-lits, currents-latches, lefts-gates, length-nexts, BinaryOrder, order-exactly}
 use Rattle.theorems.proofs.Running.Binary.{inner, Bounded}
 use Rattle.theorems.proofs.Running.Upward.{index-up, has-up, up-snoc}
-use Rattle.theorems.proofs.Running.Converted.{leaves-up}
+use Rattle.theorems.proofs.Running.InOrder.{leaves-order, well-ordered}
 
 order-same : (n : ℕ) (gs : List Gate) → InOrder n gs → order (length gs) (upFrom 0 n) gs ≡ gs
 order-same n [] b = refl
@@ -65,45 +65,25 @@ gates-same m n (g ∷ gs) b h = ap₂ (λ (x : Gate) (t : List Gate). x ∷ t) t
     this : gateFor n (renumber (upFrom 0 m) (g .rhs0)) (renumber (upFrom 0 m) (g .rhs1)) ≡ g
     this = λ j. record { lhs = l j; rhs0 = hi j; rhs1 = lo j }
 
--- what is in range has a number
-outputs-bounded : (m n : ℕ) (ls : List ℕ) → m < n → allInside false m (map oneLine ls) ≡ true → Bounded n ls
-outputs-bounded m n [] k h = tt
-outputs-bounded m n (l ∷ ls) k h = (
-  omega (arith, leb-true l (2 * m + 1) (and-left (inRange false m l) true (and-left (inside false m (oneLine l)) (allInside false m (map oneLine ls)) h))),
-  outputs-bounded m n ls k (and-right (inside false m (oneLine l)) (allInside false m (map oneLine ls)) h),
-)
-
-nexts-bounded : (m n : ℕ) (ls : List Latch) → m < n → allInside true m (map latchLine ls) ≡ true → Bounded n (nexts ls)
-nexts-bounded m n [] k h = tt
-nexts-bounded m n (l ∷ ls) k h = (
-  omega (arith, leb-true (l .next) (2 * m + 1) (and-left (inRange false m (l .next)) true (and-right (inRange true m (l .current)) (inside false m (l .next ∷ [])) (and-left (inside true m (latchLine l)) (allInside true m (map latchLine ls)) h)))),
-  nexts-bounded m n ls k (and-right (inside true m (latchLine l)) (allInside true m (map latchLine ls)) h),
-)
-
 module _ (c : Circuit) (w : WellFormed c) (b : BinaryOrder c) where
-  leaves-same : leaves c ≡ upFrom 0 (inner c)
-  leaves-same =
-      leaves-up c (length (c .inputs)) (length (c .latches)) (ap vars (b .inputs) ∙ vars-lits 1 (length (c .inputs)))
-      (ap currents (b .latches) ∙ currents-latches (1 + length (c .inputs)) (nexts (c .latches)) ∙ ap (upFrom (1 + length (c .inputs))) (length-nexts (c .latches)))
-
   sorted-same : sorted c ≡ c .gates
-  sorted-same = ap (λ (o : List ℕ). order (length (c .gates)) o (c .gates)) leaves-same ∙ order-same (inner c) (c .gates) (b .gates)
+  sorted-same = ap (λ (o : List ℕ). order (length (c .gates)) o (c .gates)) (leaves-order c b) ∙ order-same (inner c) (c .gates) (b .gates)
 
   numbered-same : numbered c ≡ upFrom 0 (inner c + length (c .gates))
   numbered-same =
       let p : inner c ≡ 0 + inner c = omega arith in
-      ap₂ (λ (s t : List ℕ). s ++ t) leaves-same (ap lefts sorted-same ∙ lefts-gates (inner c) (c .gates) (b .gates))
+      ap₂ (λ (s t : List ℕ). s ++ t) (leaves-order c b) (ap lefts sorted-same ∙ lefts-gates (inner c) (c .gates) (b .gates))
       ∙ ap (λ (k : ℕ). upFrom 0 (inner c) ++ upFrom k (length (c .gates))) p ∙ sym (up-append 0 (inner c) (length (c .gates)))
 
   used-same : (ls : List ℕ) → Bounded (inner c + length (c .gates)) ls → map (renumber (numbered c)) ls ≡ ls
   used-same ls k = ap (λ (o : List ℕ). map (renumber o) ls) numbered-same ∙ literals-same (inner c + length (c .gates)) ls k
 
   outputs-same : map (renumber (numbered c)) (c .outputs) ≡ c .outputs
-  outputs-same = used-same (c .outputs) (outputs-bounded (c .M) (inner c + length (c .gates)) (c .outputs) (omega (arith, b .sum)) (w .outputs))
+  outputs-same = used-same (c .outputs) (well-ordered c b w .output-in)
 
   latches-same : latchesFrom (1 + length (c .inputs)) (map (renumber (numbered c)) (nexts (c .latches))) ≡ c .latches
   latches-same =
-      ap (latchesFrom (1 + length (c .inputs))) (used-same (nexts (c .latches)) (nexts-bounded (c .M) (inner c + length (c .gates)) (c .latches) (omega (arith, b .sum)) (w .latches)))
+      ap (latchesFrom (1 + length (c .inputs))) (used-same (nexts (c .latches)) (well-ordered c b w .next-in))
       ∙ sym (b .latches)
 
   gates-kept : renumberGates (numbered c) (inner c) (sorted c) ≡ c .gates

@@ -1,17 +1,17 @@
 -- Variables and literals in a row: members and places.
 use Prim.Native.Nat.{ℕ, zero, suc, _+_, _≤_, _<_}
-use mathlib.Core.Path.{_≡_, refl, sym, ap, _∙_}
+use mathlib.Core.Path.{_≡_, refl, sym, ap, ap₂, _∙_}
 use mathlib.Core.Bool.{Bool, true, false, _||_}
-use mathlib.Core.List.{[], _∷_, _++_}
+use mathlib.Core.List.{List, [], _∷_, _++_}
 use native.Mathlib.Omega.{arith}
 use native.Mathlib.Nat.{not-suc-le-zero}
 use borrow.Author.Tests.{eqb-false, eq-eqb, ne-eqb}
 use lib.Dec.{eqb}
 use lib.ListN.{getD}
 use Rattle.plan.specs.Literals.{litOf, varOf}
-use Rattle.plan.specs.Circuit.{has}
+use Rattle.plan.specs.Circuit.{Circuit, vars, currents, has}
 use Rattle.plan.specs.Binary.{litsFrom}
-use Rattle.plan.specs.Convert.{index}
+use Rattle.plan.specs.Convert.{leaves, index}
 use Rattle.theorems.proofs.Reading.Runs.{upFrom, up-append}
 
 pub index-up : (u n v : ℕ) → v < n → index (u + v) (upFrom u n) ≡ v
@@ -48,3 +48,9 @@ pub lits-low : (u n f : ℕ) → 0 < f → u + n ≤ f → (v : ℕ) → varOf (
 lits-low u zero f z h v = z
 lits-low u (suc n) f z h zero = omega arith
 lits-low u (suc n) f z h (suc v) = lits-low (suc u) n f z (omega arith) v
+
+-- leaves that stand in a row from variable 1 on
+pub leaves-up : (c : Circuit) (i l : ℕ) → vars (c .inputs) ≡ upFrom 1 i → currents (c .latches) ≡ upFrom (1 + i) l → leaves c ≡ upFrom 0 (1 + i + l)
+leaves-up c i l p q =
+    let e : suc (i + l) ≡ 1 + i + l = omega arith in
+    ap₂ (λ (s t : List ℕ). 0 ∷ (s ++ t)) p q ∙ ap (λ (t : List ℕ). 0 ∷ t) (sym (up-append 1 i l)) ∙ ap (upFrom 0) e
