@@ -23,3 +23,4 @@ pub mod Scan
 pub mod Settled
 pub mod Sweep
 pub mod InOrder
+pub mod Results

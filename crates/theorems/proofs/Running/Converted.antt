@@ -25,7 +25,7 @@ length-currents : (ls : List Latch) → length (currents ls) ≡ length ls
 length-currents [] = refl
 length-currents (l ∷ ls) = ap suc (length-currents ls)
 
-length-renumberGates : (o : List ℕ) (u : ℕ) (gs : List Gate) → length (renumberGates o u gs) ≡ length (lefts gs)
+pub length-renumberGates : (o : List ℕ) (u : ℕ) (gs : List Gate) → length (renumberGates o u gs) ≡ length (lefts gs)
 length-renumberGates o u [] = refl
 length-renumberGates o u (g ∷ gs) = ap suc (length-renumberGates o (suc u) gs)
 

@@ -22,7 +22,7 @@ currents-becomes : (m : List ℕ) (ls : List Latch) → currents (map (latchBeco
 currents-becomes m [] = refl
 currents-becomes m (l ∷ ls) = ap (λ (t : List ℕ). varOf (l .current) ∷ t) (currents-becomes m ls)
 
-nexts-becomes : (m : List ℕ) (ls : List Latch) → nexts (map (latchBecomes m) ls) ≡ map (becomes m) (nexts ls)
+pub nexts-becomes : (m : List ℕ) (ls : List Latch) → nexts (map (latchBecomes m) ls) ≡ map (becomes m) (nexts ls)
 nexts-becomes m [] = refl
 nexts-becomes m (l ∷ ls) = ap (λ (t : List ℕ). becomes m (l .next) ∷ t) (nexts-becomes m ls)
 
