@@ -17,6 +17,7 @@ pub mod Numbering
 pub mod Converted
 pub mod ConvertStep
 pub mod WithoutX
+pub mod Runs
 pub mod DemandThree
 pub mod Unchanged
 pub mod Scan

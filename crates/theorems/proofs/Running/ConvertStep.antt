@@ -10,38 +10,24 @@ use lib.ListN.{length, getD, length-append, List·getD-eq-default}
 use Rattle.plan.specs.Literals.{varOf, signOf}
 use Rattle.plan.specs.Circuit.{Circuit, lefts, nexts}
 use Rattle.plan.specs.Depends.{find}
-use Rattle.plan.specs.Convert.{leaves, sorted, numbered, index, renumber, convert}
-use Rattle.plan.specs.Step.{Value, v0, vx, signedValue, lit, gateValue, leafValue, valuesOf, outputsOf, nextOf}
-use Rattle.theorems.proofs.Reading.Runs.{upFrom}
+use Rattle.plan.specs.Convert.{leaves, sorted, numbered, renumber, convert}
+use Rattle.plan.specs.Step.{Value, vx, signedValue, lit, gateValue, leafValue, valuesOf, outputsOf, nextOf}
 use Rattle.theorems.proofs.Running.Values.{Solves, unique}
 use Rattle.theorems.proofs.Running.Lists.{distinct-left, has-at, index-at, allIn, in-head, in-tail}
 use Rattle.theorems.proofs.Running.Accepted.{Accepted}
 use Rattle.theorems.proofs.Running.GateValue.{GateEq, gates-hold, leaf-holds}
 use Rattle.theorems.proofs.Running.Binary.{Holds, find-none, find-above, settled-binary, solves-in, inner}
-use Rattle.theorems.proofs.Running.Upward.{index-up, index-up-past}
+use Rattle.theorems.proofs.Running.Upward.{given, leaf-at}
 use Rattle.theorems.proofs.Running.Renumber.{look, look-past, look-front, lit-renumber, renumberGates-hold}
 use Rattle.theorems.proofs.Running.Numbering.{order-readied, order-all}
 use Rattle.theorems.proofs.Running.Converted.{length-leaves, leaves-convert, nexts-convert, gates-binary, length-numbered, gets-number}
-
--- the leaves' values, by their new numbers
-abbrev given : List Value → List Value → List Value
-given s i = v0 ∷ (i ++ s)
 
 module _ (c : Circuit) (ok : Accepted c) (s i : List Value) (ls : length s ≡ length (c .latches)) (li : length i ≡ length (c .inputs)) where
   length-given : length (given s i) ≡ inner c
   length-given = omega (arith, length-append i s, ls, li)
 
   leaf-convert : (v : ℕ) → leafValue (convert c) s i v ≡ getD (given s i) v vx
-  leaf-convert v = ap (λ (xs : List ℕ). getD (given s i) (index v xs) vx) (leaves-convert c) ∙ go (leb (inner c) v) refl
-    where
-      go : (t : Bool) → leb (inner c) v ≡ t → getD (given s i) (index v (upFrom 0 (inner c))) vx ≡ getD (given s i) v vx
-      go false e =
-          let p : 0 + v ≡ v = omega arith in
-          ap (λ (n : ℕ). getD (given s i) n vx) (ap (λ (n : ℕ). index n (upFrom 0 (inner c))) (sym p) ∙ index-up 0 (inner c) v (leb-false (inner c) v e))
-      go true e =
-          let h : inner c ≤ v = leb-true (inner c) v e in
-          ap (λ (n : ℕ). getD (given s i) n vx) (index-up-past 0 (inner c) v (omega arith))
-          ∙ List·getD-eq-default (given s i) vx {n = inner c} (omega (arith, length-given)) ∙ sym (List·getD-eq-default (given s i) vx {n = v} (omega (arith, length-given)))
+  leaf-convert = leaf-at (convert c) (inner c) s i (leaves-convert c) length-given
 
   before : ℕ → Value
   before = valuesOf c s i

@@ -8,7 +8,7 @@ use lib.ListN.{length, length-append, length-map}
 use Rattle.plan.specs.Literals.{varOf}
 use Rattle.plan.specs.Circuit.{Gate, Latch, Circuit, vars, currents, lefts, nexts, has}
 use Rattle.plan.specs.Convert.{leaves, sorted, numbered, index, renumber, renumberGates, convert}
-use Rattle.theorems.proofs.Reading.Runs.{upFrom, up-append, vars-lits, currents-latches, nexts-latches, length-lits, length-latches, length-nexts}
+use Rattle.theorems.proofs.Reading.Runs.{upFrom, vars-lits, currents-latches, nexts-latches, length-lits, length-latches, length-nexts}
 use Rattle.theorems.proofs.Running.Lists.{index-front, allIn, in-head, in-tail}
 use Rattle.theorems.proofs.Running.Accepted.{Accepted}
 use Rattle.theorems.proofs.Running.Binary.{Binary, inner, Bounded, Ordered}

@@ -6,7 +6,7 @@ use mathlib.Core.Option.{Option, none, some}
 use mathlib.Core.List.{List, [], _∷_, _++_, map}
 use native.Mathlib.Omega.{arith}
 use lib.ListN.{length, getD, length-append, length-map}
-use Rattle.plan.specs.Literals.{most, litOf, varOf, signOf}
+use Rattle.plan.specs.Literals.{litOf, varOf, signOf}
 use Rattle.plan.specs.Circuit.{Gate, Latch, Circuit, nexts}
 use Rattle.plan.specs.Reading.{WellFormed}
 use Rattle.plan.specs.Binary.{litsFrom, latchesFrom, binaryOrder}
@@ -16,14 +16,13 @@ use Rattle.theorems.proofs.Reading.Cycles.{length-lefts}
 use Rattle.theorems.proofs.Reading.Order.{InOrder}
 use Rattle.theorems.proofs.Reading.Runs.{length-lits, BinaryOrder, order-exactly}
 use Rattle.theorems.proofs.Running.Found.{AllG}
-use Rattle.theorems.proofs.Running.Accepted.{Accepted, accepted}
+use Rattle.theorems.proofs.Running.Accepted.{accepted}
 use Rattle.theorems.proofs.Running.Signs.{signed-half}
 use Rattle.theorems.proofs.Running.Binary.{inner, Bounded}
 use Rattle.theorems.proofs.Running.InOrder.{LargerFirst, binary-order, well-formed}
 use Rattle.theorems.proofs.Running.Converted.{length-renumberGates, latches-convert, nexts-convert, inner-convert, gates-binary, convert-ordered}
 use Rattle.theorems.proofs.Running.Scan.{every-gate}
 use Rattle.theorems.proofs.Running.Unchanged.{convert-same}
-use Rattle.theorems.proofs.Running.ReduceGates.{Ok}
 use Rattle.theorems.proofs.Running.ReduceStep.{nexts-becomes, reduced-ok}
 
 renumbered-larger : (o : List ℕ) (v : ℕ) (gs : List Gate) → AllG LargerFirst (renumberGates o v gs)

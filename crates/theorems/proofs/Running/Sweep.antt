@@ -9,12 +9,15 @@ use lib.Dec.{leb}
 use lib.ListN.{length, getD, length-append, List·getD-append, List·getD-eq-default}
 use lib.Seq.{getD-append-seam}
 use Rattle.plan.specs.Literals.{varOf, signOf}
-use Rattle.plan.specs.Circuit.{Gate}
+use Rattle.plan.specs.Circuit.{Gate, Circuit}
 use Rattle.plan.specs.Depends.{find}
-use Rattle.plan.specs.Step.{Value, vx, and, signedValue, lit, gateValue, valueIn}
+use Rattle.plan.specs.Step.{Value, vx, and, signedValue, lit, gateValue, valueIn, valuesOf}
+use Rattle.theorems.proofs.Reading.Runs.{BinaryOrder}
 use Rattle.theorems.proofs.Running.Values.{Solves, unique}
 use Rattle.theorems.proofs.Running.Signs.{lit-double}
-use Rattle.theorems.proofs.Running.Binary.{Binary, Holds, find-none, find-above, settled-binary, solves-in}
+use Rattle.theorems.proofs.Running.Binary.{Binary, Holds, find-none, find-above, settled-binary, solves-in, inner}
+use Rattle.theorems.proofs.Running.Upward.{given, leaf-at}
+use Rattle.theorems.proofs.Running.InOrder.{order-binary, leaves-order}
 
 -- the values of variables 0, 1 ..: each gate adds one
 abbrev pub sweep : List Value → List Gate → List Value
@@ -79,3 +82,13 @@ sweep-values t gs b v = unique gs (at t) (at (sweep t gs)) solves (length gs) v 
         low false e =
             let h : u < length t = leb-false (length t) u e in
             sweep-keeps t gs u h ∙ ap (gateValue (at (sweep t gs)) (at t u)) (sym (find-none (length t) gs b u h))
+
+-- a circuit in binary order: its leaves' values, and then one sweep
+pub sweep-step : (c : Circuit) → BinaryOrder c → (s i : List Value) → length s ≡ length (c .latches) → length i ≡ length (c .inputs)
+    → (v : ℕ) → at (sweep (given s i) (c .gates)) v ≡ valuesOf c s i v
+sweep-step c b s i ls li v =
+    sweep-values (given s i) (c .gates) (subst (λ (n : ℕ). Binary n (c .gates)) (sym count) (order-binary (inner c) (c .gates) (b .gates))) v
+    ∙ ap (λ (e : ℕ → Value). valueIn (c .gates) e (length (c .gates)) v) (λ j u. sym (leaf-at c (inner c) s i (leaves-order c b) count u) j)
+  where
+    count : length (given s i) ≡ inner c
+    count = omega (arith, length-append i s)

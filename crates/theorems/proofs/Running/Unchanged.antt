@@ -1,20 +1,19 @@
 -- On a circuit in binary order conversion changes nothing.
-use Prim.Native.Nat.{ℕ, suc, _+_, _*_, _≤_, _<_, min, max}
+use Prim.Native.Nat.{ℕ, suc, _+_, _≤_, _<_, min, max}
 use mathlib.Core.Path.{_≡_, refl, sym, ap, ap₂, _∙_}
-use mathlib.Core.Bool.{Bool, true, false, cond}
+use mathlib.Core.Bool.{Bool, true, cond}
 use mathlib.Core.Option.{some}
 use mathlib.Core.List.{List, [], _∷_, _++_, map}
 use native.Mathlib.Omega.{arith}
-use borrow.Author.Tests.{leb-true}
 use lib.ListN.{length}
-use Rattle.plan.specs.Literals.{litOf, varOf, inRange}
-use Rattle.plan.specs.Circuit.{Gate, Latch, Circuit, oneLine, latchLine, vars, currents, lefts, nexts, has, inside, allInside}
+use Rattle.plan.specs.Literals.{litOf, varOf}
+use Rattle.plan.specs.Circuit.{Gate, Circuit, lefts, nexts, has}
 use Rattle.plan.specs.Reading.{WellFormed}
 use Rattle.plan.specs.Binary.{latchesFrom, binaryOrder}
-use Rattle.plan.specs.Convert.{leaves, ready, past, pick, orderBy, order, sorted, numbered, index, renumber, gateFor, renumberGates, convert}
-use Rattle.theorems.proofs.Reading.Common.{and-left, and-right, and-intro}
+use Rattle.plan.specs.Convert.{ready, past, pick, orderBy, order, sorted, numbered, index, renumber, gateFor, renumberGates, convert}
+use Rattle.theorems.proofs.Reading.Common.{and-intro}
 use Rattle.theorems.proofs.Reading.Order.{InOrder}
-use Rattle.theorems.proofs.Reading.Runs.{upFrom, up-append, vars-lits, currents-latches, lefts-gates, length-nexts, BinaryOrder, order-exactly}
+use Rattle.theorems.proofs.Reading.Runs.{upFrom, up-append, lefts-gates, BinaryOrder, order-exactly}
 use Rattle.theorems.proofs.Running.Binary.{inner, Bounded}
 use Rattle.theorems.proofs.Running.Upward.{index-up, has-up, up-snoc}
 use Rattle.theorems.proofs.Running.InOrder.{leaves-order, well-ordered}
