@@ -14,3 +14,14 @@ pub mod Upward
 pub mod ReduceStep
 pub mod Renumber
 pub mod Numbering
+pub mod Converted
+pub mod ConvertStep
+pub mod WithoutX
+pub mod Runs
+pub mod DemandThree
+pub mod Unchanged
+pub mod Scan
+pub mod Settled
+pub mod Sweep
+pub mod InOrder
+pub mod Results

@@ -1,14 +1,14 @@
 -- A well-formed circuit: its leaves and gates are all different, what is used is among them, and every variable settles.
 use Prim.Native.Nat.{ℕ, zero, _*_}
-use mathlib.Core.Path.{_≡_, refl, sym, ap, ap₂, _∙_, subst}
-use mathlib.Core.Bool.{Bool, true, false, _&&_, _||_, false≢true}
+use mathlib.Core.Path.{_≡_, refl, ap, _∙_}
+use mathlib.Core.Bool.{Bool, true, false, _&&_, false≢true}
 use mathlib.Core.List.{List, [], _∷_, _++_, map, append-assoc}
 use native.Mathlib.Omega.{arith}
-use borrow.Author.Tests.{eqb-true, eq-eqb, leb-true}
+use borrow.Author.Tests.{leb-true}
 use lib.Dec.{eqb, leb}
 use lib.ListN.{length}
 use Rattle.plan.specs.Literals.{varOf, signOf, inRange}
-use Rattle.plan.specs.Circuit.{Latch, Gate, Circuit, oneLine, latchLine, gateLine, heads, vars, currents, lefts, definedIn, nexts, roots, rights, usedIn, has, inside, allInside}
+use Rattle.plan.specs.Circuit.{Latch, Gate, Circuit, heads, vars, currents, lefts, definedIn, nexts, roots, rights, usedIn, has, inside, allInside}
 use Rattle.plan.specs.Depends.{settled}
 use Rattle.plan.specs.Reading.{WellFormed}
 use Rattle.plan.specs.Convert.{leaves}
@@ -41,7 +41,7 @@ vars-append [] ys = refl
 vars-append (x ∷ xs) ys = ap (λ (t : List ℕ). varOf x ∷ t) (vars-append xs ys)
 
 -- the constant, then what is defined
-leaves-lefts : (c : Circuit) → leaves c ++ lefts (c .gates) ≡ zero ∷ definedIn c
+pub leaves-lefts : (c : Circuit) → leaves c ++ lefts (c .gates) ≡ zero ∷ definedIn c
 leaves-lefts c = ap (λ (t : List ℕ). zero ∷ t) (append-assoc (vars (c .inputs)) (currents (c .latches)) (lefts (c .gates)))
 
 module _ (c : Circuit) (ok : WellFormed c) where

@@ -1,5 +1,5 @@
 -- A step of a reduced circuit refines a step of the circuit.
-use Prim.Native.Nat.{ℕ, zero, suc, _+_, _≤_, _<_}
+use Prim.Native.Nat.{ℕ, _+_, _<_}
 use mathlib.Core.Path.{_≡_, refl, sym, ap, _∙_, subst}
 use mathlib.Core.List.{List, [], _∷_, _++_, map}
 use native.Mathlib.Omega.{arith}
@@ -22,7 +22,7 @@ currents-becomes : (m : List ℕ) (ls : List Latch) → currents (map (latchBeco
 currents-becomes m [] = refl
 currents-becomes m (l ∷ ls) = ap (λ (t : List ℕ). varOf (l .current) ∷ t) (currents-becomes m ls)
 
-nexts-becomes : (m : List ℕ) (ls : List Latch) → nexts (map (latchBecomes m) ls) ≡ map (becomes m) (nexts ls)
+pub nexts-becomes : (m : List ℕ) (ls : List Latch) → nexts (map (latchBecomes m) ls) ≡ map (becomes m) (nexts ls)
 nexts-becomes m [] = refl
 nexts-becomes m (l ∷ ls) = ap (λ (t : List ℕ). becomes m (l .next) ∷ t) (nexts-becomes m ls)
 
@@ -82,9 +82,9 @@ module _ (c : Circuit) (good : Ordered c) (s s′ i i′ : List Value) (hs : Les
       (holds e′ w′ (inner c) (reduced c .retained) (reduced-ok c .order) (λ v _. value-solves (reduced c .retained) e′ (length (reduced c .retained)) (settled-binary (inner c) (reduced c .retained) (reduced-ok c .order)) v))
       (λ v h. leaf-le v (omega (arith, h, length-lits 0 (inner c))))
 
-  pub reduce-out : Les (outputsOf c s i) (outputsOf (reduce c) s′ i′)
+  pub reduce-outputs : Les (outputsOf c s i) (outputsOf (reduce c) s′ i′)
   unfolding w w′
-  reduce-out = becomes-les w w′ (reduced c .became) refines (c .outputs) (rw (length-became c) (good .output-in))
+  reduce-outputs = becomes-les w w′ (reduced c .became) refines (c .outputs) (rw (length-became c) (good .output-in))
 
   pub reduce-next : Les (nextOf c s i) (nextOf (reduce c) s′ i′)
   unfolding w w′
