@@ -1,4 +1,4 @@
--- Stepping, conversion and reduction: what they keep.
+-- Stepping, conversion and reduction: what they keep, and what they give.
 pub mod Refinement
 pub mod Values
 pub mod Monotone
@@ -8,20 +8,20 @@ pub mod Accepted
 pub mod GateValue
 pub mod Signs
 pub mod Binary
+pub mod Upward
+pub mod InOrder
+pub mod Sweep
 pub mod StandIn
 pub mod ReduceGates
-pub mod Upward
 pub mod ReduceStep
 pub mod Renumber
 pub mod Numbering
+pub mod Settled
 pub mod Converted
 pub mod ConvertStep
+pub mod Scan
+pub mod Unchanged
+pub mod Results
 pub mod WithoutX
 pub mod Runs
 pub mod DemandThree
-pub mod Unchanged
-pub mod Scan
-pub mod Settled
-pub mod Sweep
-pub mod InOrder
-pub mod Results

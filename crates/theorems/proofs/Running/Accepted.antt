@@ -32,9 +32,13 @@ module _ {A : Type 0} (m : ℕ) (literal : A → ℕ) (others : A → List ℕ) 
   not-zero : (ls : List A) → allInside true m (map line ls) ≡ true → has 0 (heads (map line ls)) ≡ true → ⊥
   not-zero [] h k = false≢true k
   not-zero (a ∷ ls) h k =
-      let within : inRange true m (literal a) ≡ true = and-left (inRange true m (literal a)) (inside false m (others a)) (and-left (inside true m (line a)) (allInside true m (map line ls)) h) in
-      let least = leb-true 2 (literal a) (and-left (leb 2 (literal a)) (leb (literal a) (2 * m)) (and-right (eqb (signOf (literal a)) 0) (leb 2 (literal a) && leb (literal a) (2 * m)) within)) in
-      has-cases ⊥ (varOf (literal a)) 0 (heads (map line ls)) k (λ e. omega arith) (not-zero ls (and-right (inside true m (line a)) (allInside true m (map line ls)) h))
+      let within : inRange true m (literal a) ≡ true
+      = and-left (inRange true m (literal a)) (inside false m (others a))
+      (and-left (inside true m (line a)) (allInside true m (map line ls)) h) in
+      let least = leb-true 2 (literal a) (and-left (leb 2 (literal a)) (leb (literal a) (2 * m))
+      (and-right (eqb (signOf (literal a)) 0) (leb 2 (literal a) && leb (literal a) (2 * m)) within)) in
+      has-cases ⊥ (varOf (literal a)) 0 (heads (map line ls)) k (λ e. omega arith)
+      (not-zero ls (and-right (inside true m (line a)) (allInside true m (map line ls)) h))
 
 vars-append : (xs ys : List ℕ) → vars (xs ++ ys) ≡ vars xs ++ vars ys
 vars-append [] ys = refl
@@ -70,8 +74,12 @@ module _ (c : Circuit) (ok : WellFormed c) where
   pub accepted : Accepted c
   accepted = record {
     once = ap distinct (leaves-lefts c) ∙ (distinct-cons zero (definedIn c) zero-new (new-distinct [] (definedIn c) (ok .different) .0));
-    used-next = used-in (nexts (c .latches)) (λ v k. has-roots v (rw (vars-append (nexts (c .latches)) (c .outputs)) (has-left v (vars (nexts (c .latches))) (vars (c .outputs)) k)));
-    used-output = used-in (c .outputs) (λ v k. has-roots v (rw (vars-append (nexts (c .latches)) (c .outputs)) (has-right v (vars (nexts (c .latches))) (vars (c .outputs)) k)));
-    used-gate = used-in (rights (c .gates)) (λ v k. rw (vars-append (roots c) (rights (c .gates))) (has-right v (vars (roots c)) (vars (rights (c .gates))) k));
+    used-next = used-in (nexts (c .latches))
+        (λ v k. has-roots v (rw (vars-append (nexts (c .latches)) (c .outputs))
+        (has-left v (vars (nexts (c .latches))) (vars (c .outputs)) k)));
+    used-output = used-in (c .outputs) (λ v k. has-roots v (rw (vars-append (nexts (c .latches)) (c .outputs))
+        (has-right v (vars (nexts (c .latches))) (vars (c .outputs)) k)));
+    used-gate = used-in (rights (c .gates))
+        (λ v k. rw (vars-append (roots c) (rights (c .gates))) (has-right v (vars (roots c)) (vars (rights (c .gates))) k));
     settles = settled-exactly (c .gates) .1 (ok .acyclic);
   }

@@ -34,7 +34,9 @@ both-below f n [] b v h = refl
 both-below f n (g ∷ gs) b v h = go (both-below f (suc n) gs (b .3) v h) (eqb (varOf (g .lhs)) v) refl
   where
     go : both f (find v gs) ≡ true → (t : Bool) → eqb (varOf (g .lhs)) v ≡ t → both f (cond t (some g) (find v gs)) ≡ true
-    go ih true p = and-intro (f (varOf (g .rhs0))) (f (varOf (g .rhs1))) (h (varOf (g .rhs0)) (omega (arith, eqb-true, b .0, b .1))) (h (varOf (g .rhs1)) (omega (arith, eqb-true, b .0, b .2)))
+    go ih true p =
+        and-intro (f (varOf (g .rhs0))) (f (varOf (g .rhs1))) (h (varOf (g .rhs0)) (omega (arith, eqb-true, b .0, b .1)))
+        (h (varOf (g .rhs1)) (omega (arith, eqb-true, b .0, b .2)))
     go ih false p = ih
 
 settled-below : (n : ℕ) (gs : List Gate) → Binary n gs → (k v : ℕ) → v < n + k → settled gs k v ≡ true
@@ -59,17 +61,23 @@ holds e w n [] b s = tt
 holds e w n (g ∷ gs) b s = (at-n, holds e w (suc n) gs (b .3) later)
   where
     at-n : lit w (g .lhs) ≡ and (lit w (g .rhs0)) (lit w (g .rhs1))
-    at-n = ap (lit w) (b .0) ∙ lit-double w n ∙ s n (omega arith) ∙ ap (λ (t : Bool). gateValue w (e n) (cond t (some g) (find n gs))) (eq-eqb (varOf (g .lhs)) n (omega (arith, b .0)))
+    at-n =
+        ap (lit w) (b .0) ∙ lit-double w n ∙ s n (omega arith)
+        ∙ ap (λ (t : Bool). gateValue w (e n) (cond t (some g) (find n gs))) (eq-eqb (varOf (g .lhs)) n (omega (arith, b .0)))
 
     later : (v : ℕ) → suc n ≤ v → w v ≡ gateValue w (e v) (find v gs)
-    later v h = s v (omega arith) ∙ ap (λ (t : Bool). gateValue w (e v) (cond t (some g) (find v gs))) (ne-eqb (varOf (g .lhs)) v (λ p. omega (arith, p, b .0)))
+    later v h =
+        s v (omega arith) ∙ ap (λ (t : Bool). gateValue w (e v) (cond t (some g) (find v gs)))
+        (ne-eqb (varOf (g .lhs)) v (λ p. omega (arith, p, b .0)))
 
 -- the equations at the gates' places
-pub solves-in : (w : ℕ → Value) (a : Value) (n : ℕ) (gs : List Gate) → Binary n gs → Holds w gs → (v : ℕ) → n ≤ v → v < n + length gs → w v ≡ gateValue w a (find v gs)
+pub solves-in : (w : ℕ → Value) (a : Value) (n : ℕ) (gs : List Gate) → Binary n gs → Holds w gs → (v : ℕ) → n ≤ v → v < n + length gs
+    → w v ≡ gateValue w a (find v gs)
 solves-in w a n [] b h v p q = absurd (omega arith)
 solves-in w a n (g ∷ gs) b h v p q = go (eqb (varOf (g .lhs)) v) refl (λ r. solves-in w a (suc n) gs (b .3) (h .1) v r (omega arith))
   where
-    go : (t : Bool) → eqb (varOf (g .lhs)) v ≡ t → (suc n ≤ v → w v ≡ gateValue w a (find v gs)) → w v ≡ gateValue w a (cond t (some g) (find v gs))
+    go : (t : Bool) → eqb (varOf (g .lhs)) v ≡ t → (suc n ≤ v → w v ≡ gateValue w a (find v gs))
+        → w v ≡ gateValue w a (cond t (some g) (find v gs))
     go true e f =
         let r : litOf v ≡ g .lhs = omega (arith, eqb-true, b .0) in
         sym (lit-double w v) ∙ ap (lit w) r ∙ h .0
@@ -77,7 +85,8 @@ solves-in w a n (g ∷ gs) b h v p q = go (eqb (varOf (g .lhs)) v) refl (λ r. s
 
 -- the leaves' values are what is given
 pub leaf-given : (n : ℕ) (gs : List Gate) (e : ℕ → Value) → Binary n gs → (v : ℕ) → v < n → valueIn gs e (length gs) v ≡ e v
-leaf-given n gs e b v h = value-solves gs e (length gs) (settled-binary n gs b) v ∙ ap (gateValue (valueIn gs e (length gs)) (e v)) (find-none n gs b v h)
+leaf-given n gs e b v h =
+    value-solves gs e (length gs) (settled-binary n gs b) v ∙ ap (gateValue (valueIn gs e (length gs)) (e v)) (find-none n gs b v h)
 
 -- each literal's variable is below n
 abbrev pub Bounded : ℕ → List ℕ → Type 0

@@ -35,7 +35,8 @@ module _ (c : Circuit) (ok : Accepted c) (s i : List Value) (ls : length s ≡ l
   after-holds : Holds (look before (numbered c)) (convert c .gates)
   unfolding before
   after-holds =
-      rw (length-leaves c) at (renumberGates-hold before (numbered c) (leaves c) (sorted c) (order-readied (length (c .gates)) (leaves c) (c .gates)) refl
+      rw (length-leaves c) at (renumberGates-hold before (numbered c) (leaves c) (sorted c)
+      (order-readied (length (c .gates)) (leaves c) (c .gates)) refl
       (order-all (GateEq before) (length (c .gates)) (leaves c) (c .gates) (gates-hold c ok s i)))
 
   before-leaf : (v : ℕ) → v < inner c → look before (numbered c) v ≡ getD (given s i) v vx
@@ -49,22 +50,30 @@ module _ (c : Circuit) (ok : Accepted c) (s i : List Value) (ls : length s ≡ l
   after-solves : Solves (convert c .gates) (leafValue (convert c) s i) (look before (numbered c))
   after-solves v = low (leb (inner c) v) refl
     where
-      high : (t : Bool) → leb (inner c + length (convert c .gates)) v ≡ t → inner c ≤ v → look before (numbered c) v ≡ gateValue (look before (numbered c)) (leafValue (convert c) s i v) (find v (convert c .gates))
-      high false e h = solves-in (look before (numbered c)) (leafValue (convert c) s i v) (inner c) (convert c .gates) (gates-binary c) after-holds v h (leb-false (inner c + length (convert c .gates)) v e)
+      high : (t : Bool) → leb (inner c + length (convert c .gates)) v ≡ t → inner c ≤ v
+          → look before (numbered c) v ≡ gateValue (look before (numbered c)) (leafValue (convert c) s i v) (find v (convert c .gates))
+      high false e h =
+          solves-in (look before (numbered c)) (leafValue (convert c) s i v) (inner c) (convert c .gates) (gates-binary c) after-holds v h
+          (leb-false (inner c + length (convert c .gates)) v e)
       high true e h =
           let k : inner c + length (convert c .gates) ≤ v = leb-true (inner c + length (convert c .gates)) v e in
           look-past before (numbered c) v (omega (arith, length-numbered c))
           ∙ sym (List·getD-eq-default (given s i) vx {n = v} (omega (arith, length-given))) ∙ sym (leaf-convert v)
-          ∙ ap (gateValue (look before (numbered c)) (leafValue (convert c) s i v)) (sym (find-above (inner c) (convert c .gates) (gates-binary c) v k))
+          ∙ ap (gateValue (look before (numbered c)) (leafValue (convert c) s i v))
+          (sym (find-above (inner c) (convert c .gates) (gates-binary c) v k))
 
-      low : (t : Bool) → leb (inner c) v ≡ t → look before (numbered c) v ≡ gateValue (look before (numbered c)) (leafValue (convert c) s i v) (find v (convert c .gates))
+      low : (t : Bool) → leb (inner c) v ≡ t
+          → look before (numbered c) v ≡ gateValue (look before (numbered c)) (leafValue (convert c) s i v) (find v (convert c .gates))
       low true e = high (leb (inner c + length (convert c .gates)) v) refl (leb-true (inner c) v e)
       low false e =
           let h : v < inner c = leb-false (inner c) v e in
-          before-leaf v h ∙ sym (leaf-convert v) ∙ ap (gateValue (look before (numbered c)) (leafValue (convert c) s i v)) (sym (find-none (inner c) (convert c .gates) (gates-binary c) v h))
+          before-leaf v h ∙ sym (leaf-convert v) ∙ ap (gateValue (look before (numbered c)) (leafValue (convert c) s i v))
+          (sym (find-none (inner c) (convert c .gates) (gates-binary c) v h))
 
   after-values : (v : ℕ) → valuesOf (convert c) s i v ≡ look before (numbered c) v
-  after-values v = sym (unique (convert c .gates) (leafValue (convert c) s i) (look before (numbered c)) after-solves (length (convert c .gates)) v (settled-binary (inner c) (convert c .gates) (gates-binary c) v))
+  after-values v =
+      sym (unique (convert c .gates) (leafValue (convert c) s i) (look before (numbered c)) after-solves (length (convert c .gates)) v
+      (settled-binary (inner c) (convert c .gates) (gates-binary c) v))
 
   lits-renumber : (ls : List ℕ) → allIn ls (leaves c ++ lefts (c .gates)) ≡ true
       → map (lit (valuesOf (convert c) s i)) (map (renumber (numbered c)) ls) ≡ map (lit (valuesOf c s i)) ls

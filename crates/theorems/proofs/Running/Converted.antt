@@ -30,7 +30,8 @@ length-renumberGates o u [] = refl
 length-renumberGates o u (g ∷ gs) = ap suc (length-renumberGates o (suc u) gs)
 
 pub length-leaves : (c : Circuit) → length (leaves c) ≡ inner c
-length-leaves c = omega (arith, length-append (vars (c .inputs)) (currents (c .latches)), length-vars (c .inputs), length-currents (c .latches))
+length-leaves c =
+    omega (arith, length-append (vars (c .inputs)) (currents (c .latches)), length-vars (c .inputs), length-currents (c .latches))
 
 module _ (c : Circuit) where
   abbrev nexts′ : List ℕ
@@ -54,26 +55,35 @@ module _ (c : Circuit) where
   inner-convert = ap₂ (λ (m n : ℕ). 1 + m + n) (length-lits 1 (length (c .inputs))) latches-convert
 
   pub gates-binary : Binary (inner c) (convert c .gates)
-  gates-binary = rw (length-leaves c) at (renumberGates-binary (numbered c) (leaves c) (sorted c) (order-readied (length (c .gates)) (leaves c) (c .gates)) refl)
+  gates-binary =
+      rw (length-leaves c) at (renumberGates-binary (numbered c) (leaves c) (sorted c)
+      (order-readied (length (c .gates)) (leaves c) (c .gates)) refl)
 
   pub length-numbered : length (numbered c) ≡ inner c + length (convert c .gates)
-  length-numbered = length-append (leaves c) (lefts (sorted c)) ∙ ap₂ _+_ (length-leaves c) (sym (length-renumberGates (numbered c) (inner c) (sorted c)))
+  length-numbered =
+      length-append (leaves c) (lefts (sorted c))
+      ∙ ap₂ _+_ (length-leaves c) (sym (length-renumberGates (numbered c) (inner c) (sorted c)))
 
 module _ (c : Circuit) (ok : Accepted c) where
   -- every used variable has a number
   pub gets-number : (v : ℕ) → has v (leaves c ++ lefts (c .gates)) ≡ true → has v (numbered c) ≡ true
   gets-number v h = settled-numbered c (ok .used-gate) v h (ok .settles v)
 
-  bounded : (ls : List ℕ) → allIn ls (leaves c ++ lefts (c .gates)) ≡ true → Bounded (inner c + length (convert c .gates)) (map (renumber (numbered c)) ls)
+  bounded : (ls : List ℕ) → allIn ls (leaves c ++ lefts (c .gates)) ≡ true
+      → Bounded (inner c + length (convert c .gates)) (map (renumber (numbered c)) ls)
   bounded [] a = tt
   bounded (l ∷ ls) a =
       let h : has (varOf l) (numbered c) ≡ true = gets-number (varOf l) (in-head l ls (leaves c ++ lefts (c .gates)) a) in
-      let k : index (varOf l) (numbered c) < length (numbered c) = subst (λ (o : List ℕ). index (varOf l) o < length (numbered c)) (append-nil (numbered c)) (index-front (varOf l) (numbered c) [] h) in
+      let k : index (varOf l) (numbered c) < length (numbered c)
+      = subst (λ (o : List ℕ). index (varOf l) o < length (numbered c)) (append-nil (numbered c))
+      (index-front (varOf l) (numbered c) [] h) in
       (omega (arith, k, renumber-half (numbered c) l, length-numbered c), bounded ls (in-tail l ls (leaves c ++ lefts (c .gates)) a))
 
   pub convert-ordered : Ordered (convert c)
   convert-ordered = record {
     gates-in = subst (λ (n : ℕ). Binary n (convert c .gates)) (sym (inner-convert c)) (gates-binary c);
-    next-in = subst (λ (n : ℕ). Bounded (n + length (convert c .gates)) (nexts (convert c .latches))) (sym (inner-convert c)) (rw (nexts-convert c) (bounded (nexts (c .latches)) (ok .used-next)));
-    output-in = subst (λ (n : ℕ). Bounded (n + length (convert c .gates)) (map (renumber (numbered c)) (c .outputs))) (sym (inner-convert c)) (bounded (c .outputs) (ok .used-output));
+    next-in = subst (λ (n : ℕ). Bounded (n + length (convert c .gates)) (nexts (convert c .latches))) (sym (inner-convert c))
+        (rw (nexts-convert c) (bounded (nexts (c .latches)) (ok .used-next)));
+    output-in = subst (λ (n : ℕ). Bounded (n + length (convert c .gates)) (map (renumber (numbered c)) (c .outputs)))
+        (sym (inner-convert c)) (bounded (c .outputs) (ok .used-output));
   }

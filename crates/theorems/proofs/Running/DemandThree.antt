@@ -19,21 +19,26 @@ abbrev after : Circuit → Circuit
 after c = reduce (convert c)
 
 same-first : (c : Circuit) → first c ≡ first (after c)
-same-first c = ap (λ (n : ℕ). replicate n v0) (sym (length-map (convert c .latches) (latchBecomes (reduced (convert c) .became)) ∙ latches-convert c))
+same-first c =
+    ap (λ (n : ℕ). replicate n v0) (sym (length-map (convert c .latches) (latchBecomes (reduced (convert c) .became))
+    ∙ latches-convert c))
 
 same-inputs : (is js : List (List Value)) → Replaced is js → NoXs is → is ≡ js
 same-inputs [] [] r x = refl
 same-inputs [] (j ∷ js) r x = absurd r
 same-inputs (i ∷ is) [] r x = absurd r
-same-inputs (i ∷ is) (j ∷ js) r x = ap₂ (λ (a : List Value) (t : List (List Value)). a ∷ t) (les-eq i j (r .0) (x .0)) (same-inputs is js (r .1) (x .1))
+same-inputs (i ∷ is) (j ∷ js) r x =
+    ap₂ (λ (a : List Value) (t : List (List Value)). a ∷ t) (les-eq i j (r .0) (x .0)) (same-inputs is js (r .1) (x .1))
 
 module _ (c : Circuit) (ok : Accepted c) where
-  run-same : (is : List (List Value)) → Sized (length (c .inputs)) is → NoXs is → (s s′ : List Value) → length s ≡ length (c .latches) → NoX s → s ≡ s′
+  run-same : (is : List (List Value)) → Sized (length (c .inputs)) is → NoXs is → (s s′ : List Value) → length s ≡ length (c .latches)
+      → NoX s → s ≡ s′
       → Kept (run c s is) (run (after c) s′ is) → run c s is ≡ run (after c) s′ is
   run-same [] z x s s′ h k e r = refl
   run-same (i ∷ is) z x s s′ h k e r =
       let n = lits-nox c ok s i h (z .0) k (x .0) (nexts (c .latches)) (ok .used-next) in
-      let p = les-eq (outputsOf c s i) (outputsOf (after c) s′ i) (r .1) (lits-nox c ok s i h (z .0) k (x .0) (c .outputs) (ok .used-output)) in
+      let p = les-eq (outputsOf c s i) (outputsOf (after c) s′ i) (r .1)
+      (lits-nox c ok s i h (z .0) k (x .0) (c .outputs) (ok .used-output)) in
       let q = les-eq (nextOf c s i) (nextOf (after c) s′ i) (r .2) n in
       let t = run-same is (z .1) (x .1) (nextOf c s i) (nextOf (after c) s′ i) (next-length c s i) n q (r .3) in
       λ j. record { state = e j; inputs = i; outputs = p j; next = q j } ∷ t j
@@ -62,5 +67,6 @@ demand-three c w is js z r = (kept js r, same)
     same : NoXs is → run c (first c) is ≡ run (after c) (first (after c)) js
     same x =
         let e = same-inputs is js r x in
-        run-same c ok is z x (first c) (first (after c)) sized (nox-first (length (c .latches))) (same-first c) (kept is (subst (λ (t : List (List Value)). Replaced is t) (sym e) r))
+        run-same c ok is z x (first c) (first (after c)) sized (nox-first (length (c .latches))) (same-first c)
+        (kept is (subst (λ (t : List (List Value)). Replaced is t) (sym e) r))
         ∙ ap (run (after c) (first (after c))) e

@@ -34,7 +34,8 @@ abbrev pub FindSays : ℕ → List Gate → Option Gate → Type 1
 FindSays v gs none = (_≡_ {A = Bool} (has v (lefts gs)) false) × Unit {1}
 FindSays v gs (some g) = (varOf (g .lhs) ≡ v) × ((P : Gate → Type 0) → AllG P gs → P g)
 
-find-past : (v : ℕ) (g : Gate) (gs : List Gate) → eqb (varOf (g .lhs)) v ≡ false → (r : Option Gate) → FindSays v gs r → FindSays v (g ∷ gs) r
+find-past : (v : ℕ) (g : Gate) (gs : List Gate) → eqb (varOf (g .lhs)) v ≡ false → (r : Option Gate) → FindSays v gs r
+    → FindSays v (g ∷ gs) r
 find-past v g gs e none h = (rw e (h .0), tt)
 find-past v g gs e (some j) h = (h .0, λ P a. h .1 P (a .1))
 
@@ -53,8 +54,10 @@ Sides ds g = (has (varOf (g .rhs0)) ds ≡ true) × (has (varOf (g .rhs1)) ds �
 pub sides-in : (ds : List ℕ) (gs : List Gate) → allIn (rights gs) ds ≡ true → AllG (Sides ds) gs
 sides-in ds [] h = tt
 sides-in ds (g ∷ gs) h =
-    let k = in-tail (g .rhs0) (g .rhs1 ∷ rights gs) ds h in
-    ((in-head (g .rhs0) (g .rhs1 ∷ rights gs) ds h, in-head (g .rhs1) (rights gs) ds k), sides-in ds gs (in-tail (g .rhs1) (rights gs) ds k))
+    let k = in-tail (g .rhs0) (g .rhs1 ∷ rights gs) ds h in (
+      (in-head (g .rhs0) (g .rhs1 ∷ rights gs) ds h, in-head (g .rhs1) (rights gs) ds k),
+      sides-in ds gs (in-tail (g .rhs1) (rights gs) ds k),
+    )
 
 -- every gate is found by its own left side
 or-none : (a b : Bool) → (a || b) ≡ false → (a ≡ false) × (b ≡ false)
@@ -72,7 +75,8 @@ pub found-own : (gs : List Gate) → distinct (lefts gs) ≡ true → AllG (λ g
 found-own [] h = tt
 found-own (g ∷ gs) h = (
   rw (eq-eqb (varOf (g .lhs)) (varOf (g .lhs)) refl),
-  all-map (λ j. (eqb (varOf (g .lhs)) (varOf (j .lhs)) ≡ false) × (find (varOf (j .lhs)) gs ≡ some j)) (λ j. find (varOf (j .lhs)) (g ∷ gs) ≡ some j) (λ j t. rw (t .0) (t .1)) gs
+  all-map (λ j. (eqb (varOf (g .lhs)) (varOf (j .lhs)) ≡ false) × (find (varOf (j .lhs)) gs ≡ some j))
+      (λ j. find (varOf (j .lhs)) (g ∷ gs) ≡ some j) (λ j t. rw (t .0) (t .1)) gs
       (all-both (λ j. eqb (varOf (g .lhs)) (varOf (j .lhs)) ≡ false) (λ j. find (varOf (j .lhs)) gs ≡ some j) gs
       (other-left (varOf (g .lhs)) gs (distinct-head (varOf (g .lhs)) (lefts gs) h))
       (found-own gs (distinct-tail (varOf (g .lhs)) (lefts gs) h))),

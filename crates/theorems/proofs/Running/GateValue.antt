@@ -30,11 +30,13 @@ module _ (c : Circuit) (ok : Accepted c) where
   pub gates-hold : (s i : List Value) → AllG (GateEq (valuesOf c s i)) (c .gates)
   gates-hold s i =
       all-map (λ g. find (varOf (g .lhs)) (c .gates) ≡ some g) (GateEq (valuesOf c s i))
-      (λ g e. values-solve s i (varOf (g .lhs)) ∙ ap (gateValue (valuesOf c s i) (leafValue c s i (varOf (g .lhs)))) e) (c .gates) gates-found
+      (λ g e. values-solve s i (varOf (g .lhs)) ∙ ap (gateValue (valuesOf c s i) (leafValue c s i (varOf (g .lhs)))) e)
+      (c .gates) gates-found
 
   pub leaf-holds : (s i : List Value) (v : ℕ) → has v (leaves c) ≡ true → valuesOf c s i v ≡ leafValue c s i v
   leaf-holds s i v h =
-      values-solve s i v ∙ ap (gateValue (valuesOf c s i) (leafValue c s i v)) (none-of v (c .gates) (distinct-apart v (leaves c) (lefts (c .gates)) (ok .once) h))
+      values-solve s i v ∙ ap (gateValue (valuesOf c s i) (leafValue c s i v))
+      (none-of v (c .gates) (distinct-apart v (leaves c) (lefts (c .gates)) (ok .once) h))
 
 module _ (c : Circuit) (ok : WellFormed c) where
   -- every gate of the list is the gate of its left side's variable

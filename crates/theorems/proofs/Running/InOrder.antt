@@ -36,21 +36,32 @@ binary-order n (g ∷ gs) b a = (b .0, omega (arith, b .0, b .1), a .0, binary-o
 outputs-bounded : (m n : ℕ) (ls : List ℕ) → m < n → allInside false m (map oneLine ls) ≡ true → Bounded n ls
 outputs-bounded m n [] k h = tt
 outputs-bounded m n (l ∷ ls) k h = (
-  omega (arith, leb-true l (2 * m + 1) (and-left (inRange false m l) true (and-left (inside false m (oneLine l)) (allInside false m (map oneLine ls)) h))),
+  omega (
+    arith,
+    leb-true l (2 * m + 1) (and-left (inRange false m l) true
+        (and-left (inside false m (oneLine l)) (allInside false m (map oneLine ls)) h)),
+  ),
   outputs-bounded m n ls k (and-right (inside false m (oneLine l)) (allInside false m (map oneLine ls)) h),
 )
 
 nexts-bounded : (m n : ℕ) (ls : List Latch) → m < n → allInside true m (map latchLine ls) ≡ true → Bounded n (nexts ls)
 nexts-bounded m n [] k h = tt
 nexts-bounded m n (l ∷ ls) k h = (
-  omega (arith, leb-true (l .next) (2 * m + 1) (and-left (inRange false m (l .next)) true (and-right (inRange true m (l .current)) (inside false m (l .next ∷ [])) (and-left (inside true m (latchLine l)) (allInside true m (map latchLine ls)) h)))),
+  omega (
+    arith,
+    leb-true (l .next) (2 * m + 1)
+        (and-left (inRange false m (l .next)) true
+        (and-right (inRange true m (l .current)) (inside false m (l .next ∷ []))
+        (and-left (inside true m (latchLine l)) (allInside true m (map latchLine ls)) h))),
+  ),
   nexts-bounded m n ls k (and-right (inside true m (latchLine l)) (allInside true m (map latchLine ls)) h),
 )
 
 pub bounded-outputs : (m : ℕ) (ls : List ℕ) → Bounded (suc m) ls → allInside false m (map oneLine ls) ≡ true
 bounded-outputs m [] b = refl
 bounded-outputs m (l ∷ ls) b =
-    and-intro (inside false m (oneLine l)) (allInside false m (map oneLine ls)) (and-intro (inRange false m l) true (le-leb l (2 * m + 1) (omega (arith, b .0))) refl)
+    and-intro (inside false m (oneLine l)) (allInside false m (map oneLine ls))
+    (and-intro (inRange false m l) true (le-leb l (2 * m + 1) (omega (arith, b .0))) refl)
     (bounded-outputs m ls (b .1))
 
 bounded-append : (n : ℕ) (xs ys : List ℕ) → Bounded n xs → Bounded n ys → Bounded n (xs ++ ys)
@@ -59,7 +70,8 @@ bounded-append n (x ∷ xs) ys b d = (b .0, bounded-append n xs ys (b .1) d)
 
 rights-bounded : (m n : ℕ) (gs : List Gate) → InOrder n gs → n + length gs ≤ m → Bounded m (rights gs)
 rights-bounded m n [] o h = tt
-rights-bounded m n (g ∷ gs) o h = (omega (arith, o .0, o .1), (omega (arith, o .0, o .1, o .2), rights-bounded m (suc n) gs (o .3) (omega arith)))
+rights-bounded m n (g ∷ gs) o h =
+    (omega (arith, o .0, o .1), (omega (arith, o .0, o .1, o .2), rights-bounded m (suc n) gs (o .3) (omega arith)))
 
 bounded-has : (n : ℕ) (ls : List ℕ) → Bounded n ls → (v : ℕ) → has v (vars ls) ≡ true → v < n
 bounded-has n [] b v h = absurd (false≢true h)
@@ -70,7 +82,9 @@ module _ (c : Circuit) (b : BinaryOrder c) where
   inputs-up = ap vars (b .inputs) ∙ vars-lits 1 (length (c .inputs))
 
   latches-up : currents (c .latches) ≡ upFrom (1 + length (c .inputs)) (length (c .latches))
-  latches-up = ap currents (b .latches) ∙ currents-latches (1 + length (c .inputs)) (nexts (c .latches)) ∙ ap (upFrom (1 + length (c .inputs))) (length-nexts (c .latches))
+  latches-up =
+      ap currents (b .latches) ∙ currents-latches (1 + length (c .inputs)) (nexts (c .latches))
+      ∙ ap (upFrom (1 + length (c .inputs))) (length-nexts (c .latches))
 
   pub leaves-order : leaves c ≡ upFrom 0 (inner c)
   leaves-order = leaves-up c (length (c .inputs)) (length (c .latches)) inputs-up latches-up
@@ -80,7 +94,8 @@ module _ (c : Circuit) (b : BinaryOrder c) where
       let p : inner c ≡ 0 + inner c = omega arith in
       let q : inner c + length (c .gates) ≡ suc (c .M) = omega (arith, b .sum) in
       sym (leaves-lefts c) ∙ ap₂ (λ (s t : List ℕ). s ++ t) leaves-order (lefts-gates (inner c) (c .gates) (b .gates))
-      ∙ ap (λ (k : ℕ). upFrom 0 (inner c) ++ upFrom k (length (c .gates))) p ∙ sym (up-append 0 (inner c) (length (c .gates))) ∙ ap (upFrom 0) q
+      ∙ ap (λ (k : ℕ). upFrom 0 (inner c) ++ upFrom k (length (c .gates))) p ∙ sym (up-append 0 (inner c) (length (c .gates)))
+      ∙ ap (upFrom 0) q
 
   pub well-ordered : WellFormed c → Ordered c
   well-ordered w = record {
@@ -89,7 +104,8 @@ module _ (c : Circuit) (b : BinaryOrder c) where
     output-in = outputs-bounded (c .M) (inner c + length (c .gates)) (c .outputs) (omega (arith, b .sum)) (w .outputs);
   }
 
-  pub well-formed : c .M ≤ most → length (c .outputs) ≤ most → Bounded (suc (c .M)) (nexts (c .latches)) → Bounded (suc (c .M)) (c .outputs) → WellFormed c
+  pub well-formed : c .M ≤ most → length (c .outputs) ≤ most → Bounded (suc (c .M)) (nexts (c .latches))
+      → Bounded (suc (c .M)) (c .outputs) → WellFormed c
   well-formed m o n u = record {
     most-M = m;
     most-I = omega (arith, b .sum);
@@ -97,9 +113,11 @@ module _ (c : Circuit) (b : BinaryOrder c) where
     most-O = o;
     most-A = omega (arith, b .sum);
     sum = omega (arith, b .sum);
-    inputs = ap (λ (ls : List ℕ). allInside true (c .M) (map oneLine ls)) (b .inputs) ∙ lits-inside (c .M) (length (c .inputs)) 1 (omega arith) (omega (arith, b .sum));
+    inputs = ap (λ (ls : List ℕ). allInside true (c .M) (map oneLine ls)) (b .inputs)
+        ∙ lits-inside (c .M) (length (c .inputs)) 1 (omega arith) (omega (arith, b .sum));
     latches = ap (λ (ls : List Latch). allInside true (c .M) (map latchLine ls)) (b .latches)
-        ∙ latches-inside (c .M) (1 + length (c .inputs)) (nexts (c .latches)) (omega arith) (omega (arith, b .sum, length-nexts (c .latches))) (bounded-outputs (c .M) (nexts (c .latches)) n);
+        ∙ latches-inside (c .M) (1 + length (c .inputs)) (nexts (c .latches)) (omega arith)
+        (omega (arith, b .sum, length-nexts (c .latches))) (bounded-outputs (c .M) (nexts (c .latches)) n);
     outputs = bounded-outputs (c .M) (c .outputs) u;
     gates = gates-inside (c .M) (inner c) (c .gates) (b .gates) (omega arith) (omega (arith, b .sum));
     different = ap (allNew []) in-a-row ∙ run-new (length (c .inputs)) (length (c .latches)) (length (c .gates));
@@ -113,5 +131,8 @@ module _ (c : Circuit) (b : BinaryOrder c) where
           bounded-append (suc (c .M)) (roots c) (rights (c .gates)) (bounded-append (suc (c .M)) (nexts (c .latches)) (c .outputs) n u)
           (rights-bounded (suc (c .M)) (inner c) (c .gates) (b .gates) (omega (arith, b .sum)))
 
-      in-a-row : definedIn c ≡ upFrom 1 (length (c .inputs)) ++ (upFrom (1 + length (c .inputs)) (length (c .latches)) ++ upFrom (inner c) (length (c .gates)))
-      in-a-row = ap₂ (λ (s t : List ℕ). s ++ t) inputs-up (ap₂ (λ (s t : List ℕ). s ++ t) latches-up (lefts-gates (inner c) (c .gates) (b .gates)))
+      in-a-row : definedIn c
+          ≡ upFrom 1 (length (c .inputs)) ++ (upFrom (1 + length (c .inputs)) (length (c .latches)) ++ upFrom (inner c) (length (c .gates)))
+      in-a-row =
+          ap₂ (λ (s t : List ℕ). s ++ t) inputs-up
+          (ap₂ (λ (s t : List ℕ). s ++ t) latches-up (lefts-gates (inner c) (c .gates) (b .gates)))

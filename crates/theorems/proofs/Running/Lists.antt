@@ -42,7 +42,8 @@ pub has-rest : (v : ℕ) (xs ys : List ℕ) → has v (xs ++ ys) ≡ true → ha
 has-rest v [] ys h k = h
 has-rest v (x ∷ xs) ys h k = go (eqb x v) (has-rest v xs ys) h k
   where
-    go : (t : Bool) → (has v (xs ++ ys) ≡ true → has v xs ≡ false → has v ys ≡ true) → (t || has v (xs ++ ys)) ≡ true → (t || has v xs) ≡ false → has v ys ≡ true
+    go : (t : Bool) → (has v (xs ++ ys) ≡ true → has v xs ≡ false → has v ys ≡ true) → (t || has v (xs ++ ys)) ≡ true
+        → (t || has v xs) ≡ false → has v ys ≡ true
     go true f p q = absurd (false≢true (sym q))
     go false f p q = f p q
 
@@ -51,7 +52,8 @@ pub index-front : (v : ℕ) (xs ys : List ℕ) → has v xs ≡ true → index v
 index-front v [] ys h = absurd (false≢true h)
 index-front v (x ∷ xs) ys h = go (eqb x v) (index-front v xs ys) h
   where
-    go : (t : Bool) → (has v xs ≡ true → index v (xs ++ ys) < length xs) → (t || has v xs) ≡ true → cond t zero (suc (index v (xs ++ ys))) < suc (length xs)
+    go : (t : Bool) → (has v xs ≡ true → index v (xs ++ ys) < length xs) → (t || has v xs) ≡ true
+        → cond t zero (suc (index v (xs ++ ys))) < suc (length xs)
     go true f p = omega arith
     go false f p = omega (arith, f p)
 
@@ -86,7 +88,9 @@ distinct-apart v [] ys h k = absurd (false≢true k)
 distinct-apart v (x ∷ xs) ys h k = has-cases (has v ys ≡ false) x v xs k here (distinct-apart v xs ys (distinct-tail x (xs ++ ys) h))
   where
     here : x ≡ v → has v ys ≡ false
-    here e = absent (has v ys) (λ p. false≢true (sym (distinct-head x (xs ++ ys) h) ∙ has-right x xs ys (subst (λ (u : ℕ). has u ys ≡ true) (sym e) p)))
+    here e =
+        absent (has v ys) (λ p. false≢true (sym (distinct-head x (xs ++ ys) h) ∙ has-right x xs ys
+        (subst (λ (u : ℕ). has u ys ≡ true) (sym e) p)))
 
 pub apart : (xs ys : List ℕ) → distinct (xs ++ ys) ≡ true → (v : ℕ) → has v ys ≡ true → has v xs ≡ false
 apart xs ys d v h = absent (has v xs) (λ e. false≢true (sym (distinct-apart v xs ys d e) ∙ h))
@@ -98,7 +102,8 @@ new-distinct seen (x ∷ xs) h =
     let later = new-distinct (seen ++ (x ∷ [])) xs (and-right (not (has x seen)) (allNew (seen ++ (x ∷ [])) xs) h) in (
       distinct-cons x xs (absent (has x xs) (λ e. false≢true (sym (later .1 x e) ∙ has-seam x seen []))) (later .0),
       λ v k. has-cases (has v seen ≡ false) x v xs k
-          (λ e. subst (λ (u : ℕ). has u seen ≡ false) e (not-true (has x seen) (and-left (not (has x seen)) (allNew (seen ++ (x ∷ [])) xs) h)))
+          (λ e. subst (λ (u : ℕ). has u seen ≡ false) e
+          (not-true (has x seen) (and-left (not (has x seen)) (allNew (seen ++ (x ∷ [])) xs) h)))
           (λ p. absent (has v seen) (λ q. false≢true (sym (later .1 v p) ∙ has-left v seen (x ∷ []) q))),
     )
 
@@ -123,7 +128,8 @@ allIn (l ∷ ls) ds = has (varOf l) ds && allIn ls ds
 pub all-in : (ls ds : List ℕ) → ((v : ℕ) → has v (vars ls) ≡ true → has v ds ≡ true) → allIn ls ds ≡ true
 all-in [] ds h = refl
 all-in (l ∷ ls) ds h =
-    and-intro (has (varOf l) ds) (allIn ls ds) (h (varOf l) (has-self (varOf l) (vars ls))) (all-in ls ds (λ v k. h v (has-later v (varOf l) (vars ls) k)))
+    and-intro (has (varOf l) ds) (allIn ls ds) (h (varOf l) (has-self (varOf l) (vars ls)))
+    (all-in ls ds (λ v k. h v (has-later v (varOf l) (vars ls) k)))
 
 pub in-head : (l : ℕ) (ls ds : List ℕ) → allIn (l ∷ ls) ds ≡ true → has (varOf l) ds ≡ true
 in-head l ls ds h = and-left (has (varOf l) ds) (allIn ls ds) h

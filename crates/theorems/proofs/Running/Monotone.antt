@@ -31,7 +31,10 @@ module _ (c : Circuit) where
     values-le v = value-le (c .gates) (leafValue c s i) (leafValue c s′ i′) leaf-le (length (c .gates)) v
 
     pub step-monotone : Les (outputsOf c s i) (outputsOf c s′ i′) × Les (nextOf c s i) (nextOf c s′ i′)
-    step-monotone = (lits-le (valuesOf c s i) (valuesOf c s′ i′) values-le (c .outputs), lits-le (valuesOf c s i) (valuesOf c s′ i′) values-le (nexts (c .latches)))
+    step-monotone = (
+      lits-le (valuesOf c s i) (valuesOf c s′ i′) values-le (c .outputs),
+      lits-le (valuesOf c s i) (valuesOf c s′ i′) values-le (nexts (c .latches)),
+    )
 
   pub run-monotone : (is js : List (List Value)) → Replaced is js → (s s′ : List Value) → Les s s′ → Kept (run c s is) (run c s′ js)
   run-monotone [] [] r s s′ h = tt

@@ -28,7 +28,8 @@ abbrev PickSays : List ℕ → List Gate → Option Picked → Type 1
 PickSays o gs none = (P : Gate → Type 0) → ((g : Gate) → ready o g ≡ false → P g) → AllG P gs
 PickSays o gs (some q) = PickOk o gs q
 
-past-says : (o : List ℕ) (g : Gate) (gs : List Gate) → ready o g ≡ false → (r : Option Picked) → PickSays o gs r → PickSays o (g ∷ gs) (past g r)
+past-says : (o : List ℕ) (g : Gate) (gs : List Gate) → ready o g ≡ false → (r : Option Picked) → PickSays o gs r
+    → PickSays o (g ∷ gs) (past g r)
 past-says o g gs e none h = λ P f. (f g e, h P f)
 past-says o g gs e (some q) h = record {
   is-ready = h .is-ready;
@@ -41,7 +42,8 @@ pick-says : (o : List ℕ) (gs : List Gate) → PickSays o gs (pick o gs)
 pick-says o [] = λ P f. tt
 pick-says o (g ∷ gs) = go (ready o g) refl (pick-says o gs)
   where
-    go : (t : Bool) → ready o g ≡ t → PickSays o gs (pick o gs) → PickSays o (g ∷ gs) (cond t (some (record { gate = g; rest = gs })) (past g (pick o gs)))
+    go : (t : Bool) → ready o g ≡ t → PickSays o gs (pick o gs)
+        → PickSays o (g ∷ gs) (cond t (some (record { gate = g; rest = gs })) (past g (pick o gs)))
     go true e h = record { is-ready = e; size = refl; part = λ P a. (a .0, a .1); whole = λ P x a. (x, a) }
     go false e h = past-says o g gs e (pick o gs) h
 
@@ -50,7 +52,8 @@ pub order-readied : (k : ℕ) (o : List ℕ) (gs : List Gate) → Readied o (ord
 order-readied zero o gs = tt
 order-readied (suc k) o gs = go (λ o′ gs′. order-readied k o′ gs′) (pick o gs) (pick-says o gs)
   where
-    go : ((o′ : List ℕ) (gs′ : List Gate) → Readied o′ (order k o′ gs′)) → (r : Option Picked) → PickSays o gs r → Readied o (orderBy (λ o′ gs′. order k o′ gs′) o r)
+    go : ((o′ : List ℕ) (gs′ : List Gate) → Readied o′ (order k o′ gs′)) → (r : Option Picked) → PickSays o gs r
+        → Readied o (orderBy (λ o′ gs′. order k o′ gs′) o r)
     go ih none h = tt
     go ih (some q) h = (h .is-ready, ih (o ++ (varOf (q .gate .lhs) ∷ [])) (q .rest))
 
@@ -58,7 +61,8 @@ pub order-all : (P : Gate → Type 0) (k : ℕ) (o : List ℕ) (gs : List Gate) 
 order-all P zero o gs a = tt
 order-all P (suc k) o gs a = go (λ o′ gs′ a′. order-all P k o′ gs′ a′) (pick o gs) (pick-says o gs)
   where
-    go : ((o′ : List ℕ) (gs′ : List Gate) → AllG P gs′ → AllG P (order k o′ gs′)) → (r : Option Picked) → PickSays o gs r → AllG P (orderBy (λ o′ gs′. order k o′ gs′) o r)
+    go : ((o′ : List ℕ) (gs′ : List Gate) → AllG P gs′ → AllG P (order k o′ gs′)) → (r : Option Picked) → PickSays o gs r
+        → AllG P (orderBy (λ o′ gs′. order k o′ gs′) o r)
     go ih none h = tt
     go ih (some q) h = (h .part P a .0, ih (o ++ (varOf (q .gate .lhs) ∷ [])) (q .rest) (h .part P a .1))
 
@@ -71,7 +75,8 @@ order-closed zero o [] h = tt
 order-closed zero o (g ∷ gs) h = absurd (not-suc-le-zero h)
 order-closed (suc k) o gs h = go (λ o′ gs′ h′. order-closed k o′ gs′ h′) (pick o gs) (pick-says o gs)
   where
-    go : ((o′ : List ℕ) (gs′ : List Gate) → length gs′ ≤ k → AllG (Closed (o′ ++ lefts (order k o′ gs′))) gs′) → (r : Option Picked) → PickSays o gs r
+    go : ((o′ : List ℕ) (gs′ : List Gate) → length gs′ ≤ k → AllG (Closed (o′ ++ lefts (order k o′ gs′))) gs′) → (r : Option Picked)
+        → PickSays o gs r
         → AllG (Closed (o ++ lefts (orderBy (λ o′ gs′. order k o′ gs′) o r))) gs
     go ih none t = rw (append-nil o) (t (Closed o) (λ g e p. absurd (false≢true (sym e ∙ p))))
     go ih (some q) t =
@@ -84,7 +89,8 @@ pub order-length : (k : ℕ) (o : List ℕ) (gs : List Gate) → length (order k
 order-length zero o gs = omega arith
 order-length (suc k) o gs = go (pick o gs) (λ o′ gs′. order-length k o′ gs′)
   where
-    go : (r : Option Picked) → ((o′ : List ℕ) (gs′ : List Gate) → length (order k o′ gs′) ≤ k) → length (orderBy (λ o′ gs′. order k o′ gs′) o r) ≤ suc k
+    go : (r : Option Picked) → ((o′ : List ℕ) (gs′ : List Gate) → length (order k o′ gs′) ≤ k)
+        → length (orderBy (λ o′ gs′. order k o′ gs′) o r) ≤ suc k
     go none ih = omega arith
     go (some q) ih = omega (arith, ih (o ++ (varOf (q .gate .lhs) ∷ [])) (q .rest))
 
@@ -99,7 +105,8 @@ module _ (gs : List Gate) (lv f : List ℕ) (leaf-in : (v : ℕ) → has v lv �
       go (some g) h q = absurd (false≢true q)
   complete (suc k) v p d = go (λ u q t. complete k u q t) (find v gs) (find-says v gs) p
     where
-      go : ((u : ℕ) → settled gs k u ≡ true → has u (lv ++ lefts gs) ≡ true → has u f ≡ true) → (r : Option Gate) → FindSays v gs r → both (λ u. settled gs k u) r ≡ true → has v f ≡ true
+      go : ((u : ℕ) → settled gs k u ≡ true → has u (lv ++ lefts gs) ≡ true → has u f ≡ true) → (r : Option Gate) → FindSays v gs r
+          → both (λ u. settled gs k u) r ≡ true → has v f ≡ true
       go ih none h q = leaf-in v (has-but v lv (lefts gs) d (h .0))
       go ih (some g) h q =
           let s = h .1 (Sides (lv ++ lefts gs)) used in

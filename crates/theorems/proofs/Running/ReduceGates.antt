@@ -48,7 +48,8 @@ retain-became : (r : Reduced) (a b : ℕ) (o : Option ℕ) → retain r a b o .b
 retain-became r a b none = refl
 retain-became r a b (some l) = refl
 
-newest-stands : (w : ℕ → Value) (zero-is : w 0 ≡ v0) (r : Reduced) (a b : ℕ) (o : Option ℕ) → All (Stands w zero-is a b) o → Holds w (retain r a b o .retained) → Stands w zero-is a b (newest r o)
+newest-stands : (w : ℕ → Value) (zero-is : w 0 ≡ v0) (r : Reduced) (a b : ℕ) (o : Option ℕ) → All (Stands w zero-is a b) o
+    → Holds w (retain r a b o .retained) → Stands w zero-is a b (newest r o)
 newest-stands w z r a b (some l) f h = f
 newest-stands w z r a b none f h = le-of (sym (holds-back w (r .retained) (gateFor (r .fresh) a b ∷ []) h .0 ∙ larger-first w a b))
 
@@ -73,7 +74,8 @@ refines-more w w′ m l h k v b = go (leb (length m) v) refl
 length-retain : (r : Reduced) (a b : ℕ) (o : Option ℕ) → length (retain r a b o .became) ≡ suc (length (r .became))
 length-retain r a b o = ap length (retain-became r a b o) ∙ length-append (r .became) (newest r o ∷ []) ∙ omega arith
 
-pub refines-all : (w w′ : ℕ → Value) → w′ 0 ≡ v0 → (r : Reduced) (gs : List Gate) → Binary (length (r .became)) gs → Holds w gs → Holds w′ (reduceGates r gs .retained) → Refines w w′ (r .became) → Refines w w′ (reduceGates r gs .became)
+pub refines-all : (w w′ : ℕ → Value) → w′ 0 ≡ v0 → (r : Reduced) (gs : List Gate) → Binary (length (r .became)) gs → Holds w gs
+    → Holds w′ (reduceGates r gs .retained) → Refines w w′ (r .became) → Refines w w′ (reduceGates r gs .became)
 refines-all w w′ z r [] b h k f = f
 refines-all w w′ z r (g ∷ gs) b h k f =
     refines-all w w′ z (reduceGate r a₀ a₁) gs (subst (λ (n : ℕ). Binary n gs) (sym (length-retain r a₀ a₁ o)) (b .3)) (h .1) k
@@ -98,7 +100,8 @@ refines-all w w′ z r (g ∷ gs) b h k f =
     this =
         subst (λ (t : Value). Le t (lit w′ (newest r o))) (sym eqn)
         (le-trans (and (lit w (g .rhs0)) (lit w (g .rhs1))) (and (lit w′ a₀) (lit w′ a₁)) (lit w′ (newest r o))
-        (and-le (lit w (g .rhs0)) (lit w′ a₀) (lit w (g .rhs1)) (lit w′ a₁) (becomes-le w w′ (r .became) f (g .rhs0) (b .1)) (becomes-le w w′ (r .became) f (g .rhs1) (b .2)))
+        (and-le (lit w (g .rhs0)) (lit w′ a₀) (lit w (g .rhs1)) (lit w′ a₁) (becomes-le w w′ (r .became) f (g .rhs0) (b .1))
+        (becomes-le w w′ (r .became) f (g .rhs1) (b .2)))
         (newest-stands w′ z r a₀ a₁ o (standIn-stands w′ z a₀ a₁ (r .retained) (retain-keeps w′ r a₀ a₁ o held)) held))
 
 -- the retained gates are in binary order from n, and what variables became is of numbers in use
@@ -108,7 +111,8 @@ pub record Ok (n : ℕ) (r : Reduced) : Type 0 where
   pub count : r .fresh ≡ n + length (r .retained)
   pub low : (v : ℕ) → varOf (getD (r .became) v 0) < r .fresh
 
-binary-more : (n : ℕ) (ks : List Gate) (g : Gate) → Binary n ks → g .lhs ≡ litOf (n + length ks) → varOf (g .rhs0) < n + length ks → varOf (g .rhs1) < n + length ks → Binary n (ks ++ (g ∷ []))
+binary-more : (n : ℕ) (ks : List Gate) (g : Gate) → Binary n ks → g .lhs ≡ litOf (n + length ks) → varOf (g .rhs0) < n + length ks
+    → varOf (g .rhs1) < n + length ks → Binary n (ks ++ (g ∷ []))
 binary-more n [] g b e h k = (e ∙ omega arith, omega arith, omega arith, tt)
 binary-more n (j ∷ ks) g b e h k = (b .0, b .1, b .2, binary-more (suc n) ks g (b .3) (e ∙ omega arith) (omega arith) (omega arith))
 
@@ -118,11 +122,14 @@ low-more f [] l h k (suc v) = k 0
 low-more f (x ∷ m) l h k zero = k 0
 low-more f (x ∷ m) l h k (suc v) = low-more f m l h (λ u. k (suc u)) v
 
-ok-retain : (n : ℕ) (r : Reduced) (a b : ℕ) (o : Option ℕ) → Ok n r → varOf a < r .fresh → varOf b < r .fresh → All (λ l. varOf l < r .fresh) o → Ok n (retain r a b o)
-ok-retain n r a b (some l) k p q t = record { some-var = k .some-var; order = k .order; count = k .count; low = low-more (r .fresh) (r .became) l t (k .low) }
+ok-retain : (n : ℕ) (r : Reduced) (a b : ℕ) (o : Option ℕ) → Ok n r → varOf a < r .fresh → varOf b < r .fresh
+    → All (λ l. varOf l < r .fresh) o → Ok n (retain r a b o)
+ok-retain n r a b (some l) k p q t =
+    record { some-var = k .some-var; order = k .order; count = k .count; low = low-more (r .fresh) (r .became) l t (k .low) }
 ok-retain n r a b none k p q t = record {
   some-var = k .some-var;
-  order = binary-more n (r .retained) (gateFor (r .fresh) a b) (k .order) (omega (arith, k .count)) (omega (arith, k .count)) (omega (arith, k .count));
+  order = binary-more n (r .retained) (gateFor (r .fresh) a b) (k .order) (omega (arith, k .count)) (omega (arith, k .count))
+      (omega (arith, k .count));
   count = omega (arith, k .count, length-append (r .retained) (gateFor (r .fresh) a b ∷ []));
   low = low-more (suc (r .fresh)) (r .became) (litOf (r .fresh)) (omega arith) (λ v. omega (arith, k .low v));
 }
@@ -134,8 +141,10 @@ ok-all n r (g ∷ gs) k =
     let b = becomes (r .became) (g .rhs1) in
     let p : varOf a < r .fresh = rw (signed-half (signOf (g .rhs0)) (getD (r .became) (varOf (g .rhs0)) 0)) (k .low (varOf (g .rhs0))) in
     let q : varOf b < r .fresh = rw (signed-half (signOf (g .rhs1)) (getD (r .became) (varOf (g .rhs1)) 0)) (k .low (varOf (g .rhs1))) in
-    let t : All (λ l. varOf l < r .fresh) (twin (max a b) (min a b) (r .retained)) = rw (k .count) (twin-low n (max a b) (min a b) (r .retained) (k .order)) in
-    ok-all n (reduceGate r a b) gs (ok-retain n r a b (standIn a b (r .retained)) k p q (standIn-low (r .fresh) a b (r .retained) (omega (arith, k .count, k .some-var)) p q t))
+    let t : All (λ l. varOf l < r .fresh) (twin (max a b) (min a b) (r .retained))
+    = rw (k .count) (twin-low n (max a b) (min a b) (r .retained) (k .order)) in
+    ok-all n (reduceGate r a b) gs (ok-retain n r a b (standIn a b (r .retained)) k p q
+    (standIn-low (r .fresh) a b (r .retained) (omega (arith, k .count, k .some-var)) p q t))
 
 pub length-all : (r : Reduced) (gs : List Gate) → length (reduceGates r gs .became) ≡ length (r .became) + length gs
 length-all r [] = omega arith

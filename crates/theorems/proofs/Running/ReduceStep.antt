@@ -26,7 +26,8 @@ pub nexts-becomes : (m : List ℕ) (ls : List Latch) → nexts (map (latchBecome
 nexts-becomes m [] = refl
 nexts-becomes m (l ∷ ls) = ap (λ (t : List ℕ). becomes m (l .next) ∷ t) (nexts-becomes m ls)
 
-becomes-les : (w w′ : ℕ → Value) (m : List ℕ) → Refines w w′ m → (ls : List ℕ) → Bounded (length m) ls → Les (map (lit w) ls) (map (lit w′) (map (becomes m) ls))
+becomes-les : (w w′ : ℕ → Value) (m : List ℕ) → Refines w w′ m → (ls : List ℕ) → Bounded (length m) ls
+    → Les (map (lit w) ls) (map (lit w′) (map (becomes m) ls))
 becomes-les w w′ m h [] b = tt
 becomes-les w w′ m h (l ∷ ls) b = (becomes-le w w′ m h l (b .0), becomes-les w w′ m h ls (b .1))
 
@@ -36,7 +37,13 @@ module _ (c : Circuit) where
 
   pub reduced-ok : Ok (inner c) (reduced c)
   unfolding start
-  reduced-ok = ok-all (inner c) start (c .gates) (record { some-var = omega arith; order = tt; count = omega arith; low = lits-low 0 (inner c) (inner c) (omega arith) (omega arith) })
+  reduced-ok =
+      ok-all (inner c) start (c .gates) (record {
+        some-var = omega arith;
+        order = tt;
+        count = omega arith;
+        low = lits-low 0 (inner c) (inner c) (omega arith) (omega arith);
+      })
 
   pub length-became : length (reduced c .became) ≡ inner c + length (c .gates)
   unfolding start
@@ -57,7 +64,9 @@ module _ (c : Circuit) (good : Ordered c) (s s′ i i′ : List Value) (hs : Les
 
   e-le : (v : ℕ) → Le (e v) (e′ v)
   unfolding e e′
-  e-le v = rw (currents-becomes (reduced c .became) (c .latches)) (les-at (v0 ∷ (i ++ s)) (v0 ∷ (i′ ++ s′)) (tt, les-append i i′ s s′ hi hs) (index v (leaves c)))
+  e-le v =
+      rw (currents-becomes (reduced c .became) (c .latches))
+      (les-at (v0 ∷ (i ++ s)) (v0 ∷ (i′ ++ s′)) (tt, les-append i i′ s s′ hi hs) (index v (leaves c)))
 
   w-leaf : (v : ℕ) → v < inner c → w v ≡ e v
   unfolding w e
@@ -78,8 +87,11 @@ module _ (c : Circuit) (good : Ordered c) (s s′ i i′ : List Value) (hs : Les
   refines =
       refines-all w w′ (w′-leaf 0 (omega arith)) (start c) (c .gates)
       (rw (length-lits 0 (inner c)) (good .gates-in))
-      (holds e w (inner c) (c .gates) (good .gates-in) (λ v _. value-solves (c .gates) e (length (c .gates)) (settled-binary (inner c) (c .gates) (good .gates-in)) v))
-      (holds e′ w′ (inner c) (reduced c .retained) (reduced-ok c .order) (λ v _. value-solves (reduced c .retained) e′ (length (reduced c .retained)) (settled-binary (inner c) (reduced c .retained) (reduced-ok c .order)) v))
+      (holds e w (inner c) (c .gates) (good .gates-in)
+      (λ v _. value-solves (c .gates) e (length (c .gates)) (settled-binary (inner c) (c .gates) (good .gates-in)) v))
+      (holds e′ w′ (inner c) (reduced c .retained) (reduced-ok c .order)
+      (λ v _. value-solves (reduced c .retained) e′ (length (reduced c .retained))
+      (settled-binary (inner c) (reduced c .retained) (reduced-ok c .order)) v))
       (λ v h. leaf-le v (omega (arith, h, length-lits 0 (inner c))))
 
   pub reduce-outputs : Les (outputsOf c s i) (outputsOf (reduce c) s′ i′)
@@ -88,4 +100,6 @@ module _ (c : Circuit) (good : Ordered c) (s s′ i i′ : List Value) (hs : Les
 
   pub reduce-next : Les (nextOf c s i) (nextOf (reduce c) s′ i′)
   unfolding w w′
-  reduce-next = rw (nexts-becomes (reduced c .became) (c .latches)) (becomes-les w w′ (reduced c .became) refines (nexts (c .latches)) (rw (length-became c) (good .next-in)))
+  reduce-next =
+      rw (nexts-becomes (reduced c .became) (c .latches))
+      (becomes-les w w′ (reduced c .became) refines (nexts (c .latches)) (rw (length-became c) (good .next-in)))

@@ -30,7 +30,8 @@ pub look-index : (w : ℕ → Value) (v : ℕ) (xs : List ℕ) → has v xs ≡ 
 look-index w v [] h = absurd (false≢true h)
 look-index w v (x ∷ xs) h = go (eqb x v) refl (look-index w v xs) h
   where
-    go : (t : Bool) → eqb x v ≡ t → (has v xs ≡ true → look w xs (index v xs) ≡ w v) → (t || has v xs) ≡ true → look w (x ∷ xs) (cond t zero (suc (index v xs))) ≡ w v
+    go : (t : Bool) → eqb x v ≡ t → (has v xs ≡ true → look w xs (index v xs) ≡ w v) → (t || has v xs) ≡ true
+        → look w (x ∷ xs) (cond t zero (suc (index v xs))) ≡ w v
     go true e f p = ap w (eqb-true x v e)
     go false e f p = f p
 
@@ -55,7 +56,9 @@ renumber-mod : (o : List ℕ) (l : ℕ) → signOf (renumber o l) ≡ signOf l
 renumber-mod o l = omega arith
 
 pub lit-renumber : (w : ℕ → Value) (o : List ℕ) (l : ℕ) → has (varOf l) o ≡ true → lit (look w o) (renumber o l) ≡ lit w l
-lit-renumber w o l h = ap₂ (λ (s u : ℕ). signedValue s (look w o u)) (renumber-mod o l) (renumber-half o l) ∙ ap (signedValue (signOf l)) (look-index w (varOf l) o h)
+lit-renumber w o l h =
+    ap₂ (λ (s u : ℕ). signedValue s (look w o u)) (renumber-mod o l) (renumber-half o l)
+    ∙ ap (signedValue (signOf l)) (look-index w (varOf l) o h)
 
 -- a gate list in an order where right sides come first
 abbrev pub Readied : List ℕ → List Gate → Type 0
@@ -65,9 +68,16 @@ Readied p (g ∷ gs) = (ready p g ≡ true) × Readied (p ++ (varOf (g .lhs) ∷
 length-snoc : (p : List ℕ) (x : ℕ) → length (p ++ (x ∷ [])) ≡ suc (length p)
 length-snoc p x = length-append p (x ∷ []) ∙ omega arith
 
-pub renumberGates-binary : (o p : List ℕ) (gs : List Gate) → Readied p gs → o ≡ p ++ lefts gs → Binary (length p) (renumberGates o (length p) gs)
+pub renumberGates-binary : (o p : List ℕ) (gs : List Gate) → Readied p gs → o ≡ p ++ lefts gs
+    → Binary (length p) (renumberGates o (length p) gs)
 renumberGates-binary o p [] r e = tt
-renumberGates-binary o p (g ∷ gs) r e = (refl, high, low, subst (λ (n : ℕ). Binary n (renumberGates o n gs)) (length-snoc p (varOf (g .lhs))) (renumberGates-binary o (p ++ (varOf (g .lhs) ∷ [])) gs (r .1) (e ∙ sym (append-snoc p (varOf (g .lhs)) (lefts gs)))))
+renumberGates-binary o p (g ∷ gs) r e = (
+  refl,
+  high,
+  low,
+  subst (λ (n : ℕ). Binary n (renumberGates o n gs)) (length-snoc p (varOf (g .lhs)))
+      (renumberGates-binary o (p ++ (varOf (g .lhs) ∷ [])) gs (r .1) (e ∙ sym (append-snoc p (varOf (g .lhs)) (lefts gs)))),
+)
   where
     in0 : index (varOf (g .rhs0)) o < length p
     in0 = rw e (index-front (varOf (g .rhs0)) p (lefts (g ∷ gs)) (and-left (has (varOf (g .rhs0)) p) (has (varOf (g .rhs1)) p) (r .0)))
@@ -81,10 +91,14 @@ renumberGates-binary o p (g ∷ gs) r e = (refl, high, low, subst (λ (n : ℕ).
     low : varOf (min (renumber o (g .rhs0)) (renumber o (g .rhs1))) < length p
     low = omega (arith, in0, in1)
 
-pub renumberGates-hold : (w : ℕ → Value) (o p : List ℕ) (gs : List Gate) → Readied p gs → o ≡ p ++ lefts gs → AllG (GateEq w) gs → Holds (look w o) (renumberGates o (length p) gs)
+pub renumberGates-hold : (w : ℕ → Value) (o p : List ℕ) (gs : List Gate) → Readied p gs → o ≡ p ++ lefts gs → AllG (GateEq w) gs
+    → Holds (look w o) (renumberGates o (length p) gs)
 renumberGates-hold w o p [] r e a = tt
-renumberGates-hold w o p (g ∷ gs) r e a =
-    (this, subst (λ (n : ℕ). Holds (look w o) (renumberGates o n gs)) (length-snoc p (varOf (g .lhs))) (renumberGates-hold w o (p ++ (varOf (g .lhs) ∷ [])) gs (r .1) (e ∙ sym (append-snoc p (varOf (g .lhs)) (lefts gs))) (a .1)))
+renumberGates-hold w o p (g ∷ gs) r e a = (
+  this,
+  subst (λ (n : ℕ). Holds (look w o) (renumberGates o n gs)) (length-snoc p (varOf (g .lhs)))
+      (renumberGates-hold w o (p ++ (varOf (g .lhs) ∷ [])) gs (r .1) (e ∙ sym (append-snoc p (varOf (g .lhs)) (lefts gs))) (a .1)),
+)
   where
     in0 : has (varOf (g .rhs0)) o ≡ true
     in0 = rw e (has-left (varOf (g .rhs0)) p (lefts (g ∷ gs)) (and-left (has (varOf (g .rhs0)) p) (has (varOf (g .rhs1)) p) (r .0)))
@@ -95,7 +109,8 @@ renumberGates-hold w o p (g ∷ gs) r e a =
     at : look w o (length p) ≡ w (varOf (g .lhs))
     at = rw e (look-seam w p (varOf (g .lhs)) (lefts gs))
 
-    this : lit (look w o) (litOf (length p)) ≡ and (lit (look w o) (max (renumber o (g .rhs0)) (renumber o (g .rhs1)))) (lit (look w o) (min (renumber o (g .rhs0)) (renumber o (g .rhs1))))
+    this : lit (look w o) (litOf (length p)) ≡ and (lit (look w o) (max (renumber o (g .rhs0)) (renumber o (g .rhs1))))
+        (lit (look w o) (min (renumber o (g .rhs0)) (renumber o (g .rhs1))))
     this =
         lit-double (look w o) (length p) ∙ at ∙ a .0
         ∙ ap₂ and (sym (lit-renumber w o (g .rhs0) in0)) (sym (lit-renumber w o (g .rhs1) in1))

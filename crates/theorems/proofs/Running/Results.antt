@@ -51,7 +51,8 @@ module _ (c : Circuit) (w : WellFormed c) where
 
   pub convert-well-formed : WellFormed (convert c)
   convert-well-formed =
-      well-formed (convert c) convert-order (omega (arith, w .sum, w .most-M)) (omega (arith, w .most-O, length-map (c .outputs) (renumber (numbered c))))
+      well-formed (convert c) convert-order (omega (arith, w .sum, w .most-M))
+      (omega (arith, w .most-O, length-map (c .outputs) (renumber (numbered c))))
       (subst (λ (n : ℕ). Bounded n (nexts (convert c .latches))) numbers (convert-ordered c (accepted c w) .next-in))
       (subst (λ (n : ℕ). Bounded n (convert c .outputs)) numbers (convert-ordered c (accepted c w) .output-in))
     where
@@ -104,11 +105,16 @@ module _ (c : Circuit) (w : WellFormed c) (t : binaryOrder c ≡ true) where
 
   reduce-order : BinaryOrder (reduce c)
   reduce-order = record {
-    sum = ap (λ (n : ℕ). length (c .inputs) + n + length (reduced c .retained)) (length-map (c .latches) (latchBecomes (reduced c .became)));
+    sum = ap (λ (n : ℕ). length (c .inputs) + n + length (reduced c .retained))
+        (length-map (c .latches) (latchBecomes (reduced c .became)));
     inputs = b .inputs;
-    latches = ap (map (latchBecomes (reduced c .became))) (b .latches) ∙ latches-become (reduced c .became) (1 + length (c .inputs)) (nexts (c .latches))
+    latches =
+        ap (map (latchBecomes (reduced c .became))) (b .latches)
+        ∙ latches-become (reduced c .became) (1 + length (c .inputs)) (nexts (c .latches))
         ∙ ap (latchesFrom (1 + length (c .inputs))) (sym (nexts-becomes (reduced c .became) (c .latches)));
-    gates = subst (λ (n : ℕ). InOrder (1 + length (c .inputs) + n) (reduced c .retained)) (sym (length-map (c .latches) (latchBecomes (reduced c .became))))
+    gates =
+        subst (λ (n : ℕ). InOrder (1 + length (c .inputs) + n) (reduced c .retained))
+        (sym (length-map (c .latches) (latchBecomes (reduced c .became))))
         (binary-order (inner c) (reduced c .retained) (reduced-ok c .order)
         (reduced-larger (record { became = litsFrom 0 (inner c); retained = []; fresh = inner c }) (c .gates) tt));
   }
@@ -121,8 +127,10 @@ module _ (c : Circuit) (w : WellFormed c) (t : binaryOrder c ≡ true) where
 
   pub reduce-well-formed : WellFormed (reduce c)
   reduce-well-formed =
-      well-formed (reduce c) reduce-order (omega (arith, w .sum, w .most-M, reduce-fewer)) (omega (arith, w .most-O, length-map (c .outputs) (becomes (reduced c .became))))
-      (rw (nexts-becomes (reduced c .became) (c .latches)) (becomes-bounded (suc (reduce c .M)) (reduced c .became) low (nexts (c .latches))))
+      well-formed (reduce c) reduce-order (omega (arith, w .sum, w .most-M, reduce-fewer))
+      (omega (arith, w .most-O, length-map (c .outputs) (becomes (reduced c .became))))
+      (rw (nexts-becomes (reduced c .became) (c .latches))
+      (becomes-bounded (suc (reduce c .M)) (reduced c .became) low (nexts (c .latches))))
       (becomes-bounded (suc (reduce c .M)) (reduced c .became) low (c .outputs))
     where
       low : (v : ℕ) → varOf (getD (reduced c .became) v 0) < suc (reduce c .M)

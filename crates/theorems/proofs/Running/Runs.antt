@@ -47,11 +47,13 @@ module _ (c : Circuit) (ok : Ordered c) where
       (h, reduce-outputs c ok s s′ i j h (r .0), n, run-reduced is js (r .1) (nextOf c s i) (nextOf (reduce c) s′ j) n)
 
 -- conversion changes no step
-pub convert-run : (c : Circuit) → WellFormed c → (is : List (List Value)) → Sized (length (c .inputs)) is → (s : List Value) → length s ≡ length (c .latches)
+pub convert-run : (c : Circuit) → WellFormed c → (is : List (List Value)) → Sized (length (c .inputs)) is → (s : List Value)
+    → length s ≡ length (c .latches)
     → run (convert c) s is ≡ run c s is
 convert-run c w = run-converted c (accepted c w)
 
 -- reduction changes nothing that was 0 or 1, whatever replaces x
-pub reduce-run : (c : Circuit) → WellFormed c → binaryOrder c ≡ true → (is js : List (List Value)) → Replaced is js → (s s′ : List Value) → Les s s′
+pub reduce-run : (c : Circuit) → WellFormed c → binaryOrder c ≡ true → (is js : List (List Value)) → Replaced is js → (s s′ : List Value)
+    → Les s s′
     → Kept (run c s is) (run (reduce c) s′ js)
 reduce-run c w t = run-reduced c (well-ordered c (order-exactly c .0 t) w)

@@ -31,24 +31,32 @@ has-snoc-cases C v x [] h f g = go (eqb x v) refl h
     go false e q = absurd (false≢true q)
 has-snoc-cases C v x (y ∷ p) h f g = go (eqb y v) h (λ q k. has-snoc-cases C v x p q k g) f
   where
-    go : (t : Bool) → (t || has v (p ++ (x ∷ []))) ≡ true → (has v (p ++ (x ∷ [])) ≡ true → (has v p ≡ true → C) → C) → ((t || has v p) ≡ true → C) → C
+    go : (t : Bool) → (t || has v (p ++ (x ∷ []))) ≡ true → (has v (p ++ (x ∷ [])) ≡ true → (has v p ≡ true → C) → C)
+        → ((t || has v p) ≡ true → C) → C
     go true q ih k = k refl
     go false q ih k = ih q k
 
-settled-in : (gs : List Gate) (j : ℕ) (p : List ℕ) (qs : List Gate) → Readied p qs → AllG (λ g. find (varOf (g .lhs)) gs ≡ some g) qs → ((v : ℕ) → has v p ≡ true → settled gs j v ≡ true) → (v : ℕ) → has v (p ++ lefts qs) ≡ true → settled gs (j + length qs) v ≡ true
+settled-in : (gs : List Gate) (j : ℕ) (p : List ℕ) (qs : List Gate) → Readied p qs → AllG (λ g. find (varOf (g .lhs)) gs ≡ some g) qs
+    → ((v : ℕ) → has v p ≡ true → settled gs j v ≡ true) → (v : ℕ) → has v (p ++ lefts qs) ≡ true → settled gs (j + length qs) v ≡ true
 settled-in gs j p [] r a h v k = rw (add-zero j) (h v (rw (append-nil p) at k))
 settled-in gs j p (g ∷ qs) r a h v k =
     subst (λ (n : ℕ). settled gs n v ≡ true) (suc-swap j (length qs))
-    (settled-in gs (suc j) (p ++ (varOf (g .lhs) ∷ [])) qs (r .1) (a .1) now v (subst (λ (o : List ℕ). has v o ≡ true) (sym (append-snoc p (varOf (g .lhs)) (lefts qs))) k))
+    (settled-in gs (suc j) (p ++ (varOf (g .lhs) ∷ [])) qs (r .1) (a .1) now v
+    (subst (λ (o : List ℕ). has v o ≡ true) (sym (append-snoc p (varOf (g .lhs)) (lefts qs))) k))
   where
     suc-swap : (m n : ℕ) → suc m + n ≡ m + suc n
     suc-swap m n = omega arith
 
     this : settled gs (suc j) (varOf (g .lhs)) ≡ true
-    this = ap (both (λ u. settled gs j u)) (a .0) ∙ and-intro (settled gs j (varOf (g .rhs0))) (settled gs j (varOf (g .rhs1))) (h (varOf (g .rhs0)) (and-left (has (varOf (g .rhs0)) p) (has (varOf (g .rhs1)) p) (r .0))) (h (varOf (g .rhs1)) (and-right (has (varOf (g .rhs0)) p) (has (varOf (g .rhs1)) p) (r .0)))
+    this =
+        ap (both (λ u. settled gs j u)) (a .0) ∙ and-intro (settled gs j (varOf (g .rhs0))) (settled gs j (varOf (g .rhs1)))
+        (h (varOf (g .rhs0)) (and-left (has (varOf (g .rhs0)) p) (has (varOf (g .rhs1)) p) (r .0)))
+        (h (varOf (g .rhs1)) (and-right (has (varOf (g .rhs0)) p) (has (varOf (g .rhs1)) p) (r .0)))
 
     now : (u : ℕ) → has u (p ++ (varOf (g .lhs) ∷ [])) ≡ true → settled gs (suc j) u ≡ true
-    now u q = has-snoc-cases (settled gs (suc j) u ≡ true) u (varOf (g .lhs)) p q (λ t. settled-more gs j u (h u t)) (λ e. subst (λ (x : ℕ). settled gs (suc j) x ≡ true) e this)
+    now u q =
+        has-snoc-cases (settled gs (suc j) u ≡ true) u (varOf (g .lhs)) p q (λ t. settled-more gs j u (h u t))
+        (λ e. subst (λ (x : ℕ). settled gs (suc j) x ≡ true) e this)
 
 settled-plus : (gs : List Gate) (j d v : ℕ) → settled gs j v ≡ true → settled gs (j + d) v ≡ true
 settled-plus gs j zero v h = rw (add-zero j) h
@@ -62,10 +70,12 @@ module _ (c : Circuit) (once : distinct (leaves c ++ lefts (c .gates)) ≡ true)
       subst (λ (n : ℕ). settled (c .gates) n v ≡ true) q
       (settled-plus (c .gates) (0 + length (sorted c)) (k - length (sorted c)) v
       (settled-in (c .gates) 0 (leaves c) (sorted c) (order-readied k (leaves c) (c .gates))
-      (order-all (λ g. find (varOf (g .lhs)) (c .gates) ≡ some g) k (leaves c) (c .gates) (found-own (c .gates) (distinct-right (leaves c) (lefts (c .gates)) once)))
+      (order-all (λ g. find (varOf (g .lhs)) (c .gates) ≡ some g) k (leaves c) (c .gates)
+      (found-own (c .gates) (distinct-right (leaves c) (lefts (c .gates)) once)))
       (λ u t. settled-none (c .gates) 0 u (none-of u (c .gates) (distinct-apart u (leaves c) (lefts (c .gates)) once t))) v h))
 
-pub settled-numbered : (c : Circuit) → allIn (rights (c .gates)) (leaves c ++ lefts (c .gates)) ≡ true → (v : ℕ) → has v (leaves c ++ lefts (c .gates)) ≡ true
+pub settled-numbered : (c : Circuit) → allIn (rights (c .gates)) (leaves c ++ lefts (c .gates)) ≡ true → (v : ℕ)
+    → has v (leaves c ++ lefts (c .gates)) ≡ true
     → settled (c .gates) (length (c .gates)) v ≡ true → has v (numbered c) ≡ true
 settled-numbered c used v h s =
     complete (c .gates) (leaves c) (numbered c) (λ u k. has-left u (leaves c) (lefts (sorted c)) k)

@@ -36,7 +36,8 @@ lit-neg w l = go (signOf l) refl
         ap₂ (λ (s u : ℕ). signedValue s (w u)) q same-half ∙ ap (λ (s : ℕ). inv (signedValue s (w (varOf l)))) (sym p)
     go (suc s) p =
         let q : signOf (negOf l) ≡ 0 = omega arith in
-        ap₂ (λ (s u : ℕ). signedValue s (w u)) q same-half ∙ inv-inv (w (varOf l)) ∙ ap (λ (s : ℕ). inv (signedValue s (w (varOf l)))) (sym p)
+        ap₂ (λ (s u : ℕ). signedValue s (w u)) q same-half ∙ inv-inv (w (varOf l))
+        ∙ ap (λ (s : ℕ). inv (signedValue s (w (varOf l)))) (sym p)
 
 pub lit-signed : (w : ℕ → Value) (s l : ℕ) → lit w (signed s l) ≡ signedValue s (lit w l)
 lit-signed w zero l = refl

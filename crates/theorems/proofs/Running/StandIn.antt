@@ -59,7 +59,8 @@ module _ (w : ℕ → Value) (zero-is : w 0 ≡ v0) where
   twin-stands a b [] h = tt
   twin-stands a b (g ∷ ks) h =
       all-pick (λ l. lit w l ≡ and (lit w a) (lit w b)) (eqb (g .rhs0) a && eqb (g .rhs1) b) (g .lhs) (twin a b ks)
-      (λ p. h .0 ∙ ap₂ (λ (x y : ℕ). and (lit w x) (lit w y)) (eqb-true (g .rhs0) a (and-left (eqb (g .rhs0) a) (eqb (g .rhs1) b) p)) (eqb-true (g .rhs1) b (and-right (eqb (g .rhs0) a) (eqb (g .rhs1) b) p)))
+      (λ p. h .0 ∙ ap₂ (λ (x y : ℕ). and (lit w x) (lit w y)) (eqb-true (g .rhs0) a (and-left (eqb (g .rhs0) a) (eqb (g .rhs1) b) p))
+      (eqb-true (g .rhs1) b (and-right (eqb (g .rhs0) a) (eqb (g .rhs1) b) p)))
       (twin-stands a b ks (h .1))
 
   all-map : (P Q : ℕ → Type 0) → ((l : ℕ) → P l → Q l) → (o : Option ℕ) → All P o → All Q o
@@ -82,10 +83,13 @@ module _ (w : ℕ → Value) (zero-is : w 0 ≡ v0) where
   standIn-stands a b ks h =
       all-pick (Stands a b) (eqb a b) a _ (λ p. le-of (ap (λ (x : ℕ). and (lit w a) (lit w x)) (sym (eqb-true a b p)) ∙ and-same (lit w a)))
       (all-pick (Stands a b) (eqb a (negOf b)) 0 _ (λ p. opposite a b p)
-      (all-pick (Stands a b) (eqb a 0 || eqb b 0) 0 _ (λ p. or-cases (Stands a b 0) (eqb a 0) (eqb b 0) p (λ q. le-of (left-0 a b q)) (λ q. le-of (and-comm (lit w a) (lit w b) ∙ left-0 b a q)))
+      (all-pick (Stands a b) (eqb a 0 || eqb b 0) 0 _
+      (λ p. or-cases (Stands a b 0) (eqb a 0) (eqb b 0) p (λ q. le-of (left-0 a b q))
+      (λ q. le-of (and-comm (lit w a) (lit w b) ∙ left-0 b a q)))
       (all-pick (Stands a b) (eqb a 1) b _ (λ p. le-of (left-1 a b p))
       (all-pick (Stands a b) (eqb b 1) a _ (λ p. le-of (and-comm (lit w a) (lit w b) ∙ left-1 b a p))
-      (all-map (λ l. lit w l ≡ and (lit w (max a b)) (lit w (min a b))) (Stands a b) (λ l q. le-of (sym (q ∙ larger-first w a b))) (twin (max a b) (min a b) ks) (twin-stands (max a b) (min a b) ks h))))))
+      (all-map (λ l. lit w l ≡ and (lit w (max a b)) (lit w (min a b))) (Stands a b) (λ l q. le-of (sym (q ∙ larger-first w a b)))
+      (twin (max a b) (min a b) ks) (twin-stands (max a b) (min a b) ks h))))))
 
 pub twin-low : (n : ℕ) (a b : ℕ) (ks : List Gate) → Binary n ks → All (λ l. varOf l < n + length ks) (twin a b ks)
 twin-low n a b [] h = tt
@@ -98,7 +102,8 @@ twin-low n a b (g ∷ ks) h =
     all-weaken x y q none t = tt
     all-weaken x y q (some l) t = omega arith
 
-pub standIn-low : (f a b : ℕ) (ks : List Gate) → 0 < f → varOf a < f → varOf b < f → All (λ l. varOf l < f) (twin (max a b) (min a b) ks) → All (λ l. varOf l < f) (standIn a b ks)
+pub standIn-low : (f a b : ℕ) (ks : List Gate) → 0 < f → varOf a < f → varOf b < f → All (λ l. varOf l < f) (twin (max a b) (min a b) ks)
+    → All (λ l. varOf l < f) (standIn a b ks)
 standIn-low f a b ks h p q t =
     all-pick P (eqb a b) a _ (λ _. p)
     (all-pick P (eqb a (negOf b)) 0 _ (λ _. h)

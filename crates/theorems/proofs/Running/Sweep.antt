@@ -41,7 +41,8 @@ sweep-keeps t (g ∷ gs) v h =
 
 sweep-holds : (t : List Value) (gs : List Gate) → Binary (length t) gs → Holds (at (sweep t gs)) gs
 sweep-holds t [] b = tt
-sweep-holds t (g ∷ gs) b = (this, sweep-holds (t ++ (x ∷ [])) gs (subst (λ (n : ℕ). Binary n gs) (sym (length-append t (x ∷ []) ∙ one-more)) (b .3)))
+sweep-holds t (g ∷ gs) b =
+    (this, sweep-holds (t ++ (x ∷ [])) gs (subst (λ (n : ℕ). Binary n gs) (sym (length-append t (x ∷ []) ∙ one-more)) (b .3)))
   where
     x : Value
     x = and (lit (at t) (g .rhs0)) (lit (at t) (g .rhs1))
@@ -61,7 +62,8 @@ sweep-holds t (g ∷ gs) b = (this, sweep-holds (t ++ (x ∷ [])) gs (subst (λ 
     this : lit w (g .lhs) ≡ and (lit w (g .rhs0)) (lit w (g .rhs1))
     this =
         ap (lit w) (b .0) ∙ lit-double w (length t) ∙ new
-        ∙ ap₂ and (ap (signedValue (signOf (g .rhs0))) (sym (old (varOf (g .rhs0)) (b .1)))) (ap (signedValue (signOf (g .rhs1))) (sym (old (varOf (g .rhs1)) (b .2))))
+        ∙ ap₂ and (ap (signedValue (signOf (g .rhs0))) (sym (old (varOf (g .rhs0)) (b .1))))
+        (ap (signedValue (signOf (g .rhs1))) (sym (old (varOf (g .rhs1)) (b .2))))
 
 -- e: the leaves' values, as a list t
 pub sweep-values : (t : List Value) (gs : List Gate) → Binary (length t) gs → (v : ℕ) → at (sweep t gs) v ≡ valueIn gs (at t) (length gs) v
@@ -70,8 +72,10 @@ sweep-values t gs b v = unique gs (at t) (at (sweep t gs)) solves (length gs) v 
     solves : Solves gs (at t) (at (sweep t gs))
     solves u = low (leb (length t) u) refl
       where
-        high : (r : Bool) → leb (length t + length gs) u ≡ r → length t ≤ u → at (sweep t gs) u ≡ gateValue (at (sweep t gs)) (at t u) (find u gs)
-        high false e h = solves-in (at (sweep t gs)) (at t u) (length t) gs b (sweep-holds t gs b) u h (leb-false (length t + length gs) u e)
+        high : (r : Bool) → leb (length t + length gs) u ≡ r → length t ≤ u
+            → at (sweep t gs) u ≡ gateValue (at (sweep t gs)) (at t u) (find u gs)
+        high false e h =
+            solves-in (at (sweep t gs)) (at t u) (length t) gs b (sweep-holds t gs b) u h (leb-false (length t + length gs) u e)
         high true e h =
             let k : length t + length gs ≤ u = leb-true (length t + length gs) u e in
             List·getD-eq-default (sweep t gs) vx {n = u} (omega (arith, length-sweep t gs)) ∙ sym (List·getD-eq-default t vx {n = u} h)
@@ -87,7 +91,8 @@ sweep-values t gs b v = unique gs (at t) (at (sweep t gs)) solves (length gs) v 
 pub sweep-step : (c : Circuit) → BinaryOrder c → (s i : List Value) → length s ≡ length (c .latches) → length i ≡ length (c .inputs)
     → (v : ℕ) → at (sweep (given s i) (c .gates)) v ≡ valuesOf c s i v
 sweep-step c b s i ls li v =
-    sweep-values (given s i) (c .gates) (subst (λ (n : ℕ). Binary n (c .gates)) (sym count) (order-binary (inner c) (c .gates) (b .gates))) v
+    sweep-values (given s i) (c .gates) (subst (λ (n : ℕ). Binary n (c .gates)) (sym count)
+    (order-binary (inner c) (c .gates) (b .gates))) v
     ∙ ap (λ (e : ℕ → Value). valueIn (c .gates) e (length (c .gates)) v) (λ j u. sym (leaf-at c (inner c) s i (leaves-order c b) count u) j)
   where
     count : length (given s i) ≡ inner c

@@ -21,8 +21,10 @@ use Rattle.theorems.proofs.Running.InOrder.{leaves-order, well-ordered}
 order-same : (n : ℕ) (gs : List Gate) → InOrder n gs → order (length gs) (upFrom 0 n) gs ≡ gs
 order-same n [] b = refl
 order-same n (g ∷ gs) b =
-    ap (λ (t : Bool). orderBy (λ o rest. order (length gs) o rest) (upFrom 0 n) (cond t (some (record { gate = g; rest = gs })) (past g (pick (upFrom 0 n) gs)))) is-ready
-    ∙ ap (λ (t : List Gate). g ∷ t) (ap (λ (o : List ℕ). order (length gs) o gs) (ap (λ (k : ℕ). upFrom 0 n ++ (k ∷ [])) half ∙ up-snoc n) ∙ order-same (suc n) gs (b .3))
+    ap (λ (t : Bool). orderBy (λ o rest. order (length gs) o rest) (upFrom 0 n)
+    (cond t (some (record { gate = g; rest = gs })) (past g (pick (upFrom 0 n) gs)))) is-ready
+    ∙ ap (λ (t : List Gate). g ∷ t) (ap (λ (o : List ℕ). order (length gs) o gs) (ap (λ (k : ℕ). upFrom 0 n ++ (k ∷ [])) half ∙ up-snoc n)
+    ∙ order-same (suc n) gs (b .3))
   where
     half : varOf (g .lhs) ≡ n
     half = omega (arith, b .0)
@@ -30,7 +32,8 @@ order-same n (g ∷ gs) b =
     is-ready : ready (upFrom 0 n) g ≡ true
     is-ready =
         and-intro (has (varOf (g .rhs0)) (upFrom 0 n)) (has (varOf (g .rhs1)) (upFrom 0 n))
-        (has-up 0 n (varOf (g .rhs0)) (omega arith) (omega (arith, b .0, b .1))) (has-up 0 n (varOf (g .rhs1)) (omega arith) (omega (arith, b .0, b .1, b .2)))
+        (has-up 0 n (varOf (g .rhs0)) (omega arith) (omega (arith, b .0, b .1)))
+        (has-up 0 n (varOf (g .rhs1)) (omega arith) (omega (arith, b .0, b .1, b .2)))
 
 renumber-same : (m l : ℕ) → varOf l < m → renumber (upFrom 0 m) l ≡ l
 renumber-same m l h =
@@ -91,7 +94,15 @@ module _ (c : Circuit) (w : WellFormed c) (b : BinaryOrder c) where
       ∙ gates-same (inner c + length (c .gates)) (inner c) (c .gates) (b .gates) (omega arith)
 
 pub convert-same : (c : Circuit) → WellFormed c → binaryOrder c ≡ true → convert c ≡ c
-convert-same c w t = λ j. record { M = b .sum j; inputs = sym (b .inputs) j; latches = latches-same c w b j; outputs = outputs-same c w b j; gates = gates-kept c w b j }
+convert-same c w t =
+    λ j. record {
+      M = b .sum j;
+      inputs = sym
+          (b .inputs) j;
+      latches = latches-same c w b j;
+      outputs = outputs-same c w b j;
+      gates = gates-kept c w b j;
+    }
   where
     b : BinaryOrder c
     b = order-exactly c .0 t

@@ -20,7 +20,8 @@ index-up u zero v h = absurd (not-suc-le-zero h)
 index-up u (suc n) zero h = rw (eq-eqb u (u + 0) (omega arith))
 index-up u (suc n) (suc v) h =
     let p : u + suc v ≡ suc u + v = omega arith in
-    rw (ne-eqb u (u + suc v) (λ e. omega arith)) (ap suc (ap (λ (k : ℕ). index k (upFrom (suc u) n)) p ∙ index-up (suc u) n v (omega arith)))
+    rw (ne-eqb u (u + suc v) (λ e. omega arith))
+    (ap suc (ap (λ (k : ℕ). index k (upFrom (suc u) n)) p ∙ index-up (suc u) n v (omega arith)))
 
 index-up-past : (u n v : ℕ) → u + n ≤ v → index v (upFrom u n) ≡ n
 index-up-past u zero v h = refl
@@ -51,7 +52,8 @@ lits-low u (suc n) f z h zero = omega arith
 lits-low u (suc n) f z h (suc v) = lits-low (suc u) n f z (omega arith) v
 
 -- leaves that stand in a row from variable 1 on
-pub leaves-up : (c : Circuit) (i l : ℕ) → vars (c .inputs) ≡ upFrom 1 i → currents (c .latches) ≡ upFrom (1 + i) l → leaves c ≡ upFrom 0 (1 + i + l)
+pub leaves-up : (c : Circuit) (i l : ℕ) → vars (c .inputs) ≡ upFrom 1 i → currents (c .latches) ≡ upFrom (1 + i) l
+    → leaves c ≡ upFrom 0 (1 + i + l)
 leaves-up c i l p q =
     let e : suc (i + l) ≡ 1 + i + l = omega arith in
     ap₂ (λ (s t : List ℕ). 0 ∷ (s ++ t)) p q ∙ ap (λ (t : List ℕ). 0 ∷ t) (sym (up-append 1 i l)) ∙ ap (upFrom 0) e
@@ -61,7 +63,8 @@ abbrev pub given : List Value → List Value → List Value
 given s i = v0 ∷ (i ++ s)
 
 -- leaves in a row have the values of their places
-pub leaf-at : (c : Circuit) (n : ℕ) (s i : List Value) → leaves c ≡ upFrom 0 n → length (given s i) ≡ n → (v : ℕ) → leafValue c s i v ≡ getD (given s i) v vx
+pub leaf-at : (c : Circuit) (n : ℕ) (s i : List Value) → leaves c ≡ upFrom 0 n → length (given s i) ≡ n → (v : ℕ)
+    → leafValue c s i v ≡ getD (given s i) v vx
 leaf-at c n s i p l v = ap (λ (xs : List ℕ). getD (given s i) (index v xs) vx) p ∙ go (leb n v) refl
   where
     go : (t : Bool) → leb n v ≡ t → getD (given s i) (index v (upFrom 0 n)) vx ≡ getD (given s i) v vx

@@ -11,21 +11,25 @@ use Rattle.plan.specs.Step.{Value, and, signedValue, lit, gateValue, valueIn}
 use Rattle.theorems.proofs.Reading.Common.{and-left, and-right, and-intro}
 use Rattle.theorems.proofs.Running.Refinement.{Le, and-le, lit-le}
 
-gateValue-le : (w w′ : ℕ → Value) → ((v : ℕ) → Le (w v) (w′ v)) → (a b : Value) → Le a b → (o : Option Gate) → Le (gateValue w a o) (gateValue w′ b o)
+gateValue-le : (w w′ : ℕ → Value) → ((v : ℕ) → Le (w v) (w′ v)) → (a b : Value) → Le a b → (o : Option Gate)
+    → Le (gateValue w a o) (gateValue w′ b o)
 gateValue-le w w′ h a b k none = k
 gateValue-le w w′ h a b k (some g) =
-    and-le (lit w (g .rhs0)) (lit w′ (g .rhs0)) (lit w (g .rhs1)) (lit w′ (g .rhs1)) (lit-le w w′ (g .rhs0) (h (varOf (g .rhs0)))) (lit-le w w′ (g .rhs1) (h (varOf (g .rhs1))))
+    and-le (lit w (g .rhs0)) (lit w′ (g .rhs0)) (lit w (g .rhs1)) (lit w′ (g .rhs1)) (lit-le w w′ (g .rhs0) (h (varOf (g .rhs0))))
+    (lit-le w w′ (g .rhs1) (h (varOf (g .rhs1))))
 
 -- refining what is given refines every value
 pub value-le : (gs : List Gate) (e e′ : ℕ → Value) → ((v : ℕ) → Le (e v) (e′ v)) → (k v : ℕ) → Le (valueIn gs e k v) (valueIn gs e′ k v)
 value-le gs e e′ h zero v = h v
-value-le gs e e′ h (suc k) v = gateValue-le (λ u. valueIn gs e k u) (λ u. valueIn gs e′ k u) (λ u. value-le gs e e′ h k u) (e v) (e′ v) (h v) (find v gs)
+value-le gs e e′ h (suc k) v =
+    gateValue-le (λ u. valueIn gs e k u) (λ u. valueIn gs e′ k u) (λ u. value-le gs e e′ h k u) (e v) (e′ v) (h v) (find v gs)
 
 -- the equation and its only solution
 abbrev pub Solves : List Gate → (ℕ → Value) → (ℕ → Value) → Type 0
 Solves gs e w = (v : ℕ) → w v ≡ gateValue w (e v) (find v gs)
 
-agree : (f : ℕ → Bool) (w w′ : ℕ → Value) → ((u : ℕ) → f u ≡ true → w u ≡ w′ u) → (a : Value) (o : Option Gate) → both f o ≡ true → gateValue w a o ≡ gateValue w′ a o
+agree : (f : ℕ → Bool) (w w′ : ℕ → Value) → ((u : ℕ) → f u ≡ true → w u ≡ w′ u) → (a : Value) (o : Option Gate) → both f o ≡ true
+    → gateValue w a o ≡ gateValue w′ a o
 agree f w w′ h a none p = refl
 agree f w w′ h a (some g) p =
     ap₂ and (ap (signedValue (signOf (g .rhs0))) (h (varOf (g .rhs0)) (and-left (f (varOf (g .rhs0))) (f (varOf (g .rhs1))) p)))
@@ -38,7 +42,8 @@ leaf w a (some g) p = absurd (false≢true p)
 -- one round more changes nothing at what is settled
 pub stable : (gs : List Gate) (e : ℕ → Value) (k v : ℕ) → settled gs k v ≡ true → valueIn gs e (suc k) v ≡ valueIn gs e k v
 stable gs e zero v p = leaf e (e v) (find v gs) p
-stable gs e (suc k) v p = agree (λ u. settled gs k u) (λ u. valueIn gs e (suc k) u) (λ u. valueIn gs e k u) (λ u q. stable gs e k u q) (e v) (find v gs) p
+stable gs e (suc k) v p =
+    agree (λ u. settled gs k u) (λ u. valueIn gs e (suc k) u) (λ u. valueIn gs e k u) (λ u q. stable gs e k u q) (e v) (find v gs) p
 
 pub value-solves : (gs : List Gate) (e : ℕ → Value) (k : ℕ) → ((v : ℕ) → settled gs k v ≡ true) → Solves gs e (valueIn gs e k)
 value-solves gs e k p v = sym (stable gs e k v (p v))
@@ -51,7 +56,8 @@ unique gs e w s (suc k) v p = s v ∙ agree (λ u. settled gs k u) w (λ u. valu
 both-more : (f f′ : ℕ → Bool) → ((u : ℕ) → f u ≡ true → f′ u ≡ true) → (o : Option Gate) → both f o ≡ true → both f′ o ≡ true
 both-more f f′ h none p = refl
 both-more f f′ h (some g) p =
-    and-intro (f′ (varOf (g .rhs0))) (f′ (varOf (g .rhs1))) (h (varOf (g .rhs0)) (and-left (f (varOf (g .rhs0))) (f (varOf (g .rhs1))) p)) (h (varOf (g .rhs1)) (and-right (f (varOf (g .rhs0))) (f (varOf (g .rhs1))) p))
+    and-intro (f′ (varOf (g .rhs0))) (f′ (varOf (g .rhs1))) (h (varOf (g .rhs0)) (and-left (f (varOf (g .rhs0))) (f (varOf (g .rhs1))) p))
+    (h (varOf (g .rhs1)) (and-right (f (varOf (g .rhs0))) (f (varOf (g .rhs1))) p))
 
 both-none : (f : ℕ → Bool) (o : Option Gate) → isNone o ≡ true → both f o ≡ true
 both-none f none p = refl

@@ -76,7 +76,8 @@ les-eq (x ∷ xs) [] h k = absurd h
 les-eq (x ∷ xs) (y ∷ ys) h k = ap₂ (λ (a : Value) (t : List Value). a ∷ t) (le-eq x y (h .0) (k .0)) (les-eq xs ys (h .1) (k .1))
 
 -- without x in what is given no defined variable is x
-module _ (gs : List Gate) (e : ℕ → Value) (lv : List ℕ) (leaf-not : (v : ℕ) → has v lv ≡ true → NotX (e v)) (used : AllG (Sides (lv ++ lefts gs)) gs) where
+module _ (gs : List Gate) (e : ℕ → Value) (lv : List ℕ) (leaf-not : (v : ℕ) → has v lv ≡ true → NotX (e v))
+    (used : AllG (Sides (lv ++ lefts gs)) gs) where
   value-notx : (k v : ℕ) → settled gs k v ≡ true → has v (lv ++ lefts gs) ≡ true → NotX (valueIn gs e k v)
   value-notx zero v p d = go (find v gs) (find-says v gs) p
     where
@@ -85,30 +86,41 @@ module _ (gs : List Gate) (e : ℕ → Value) (lv : List ℕ) (leaf-not : (v : �
       go (some g) h q = absurd (false≢true q)
   value-notx (suc k) v p d = go (λ u q t. value-notx k u q t) (find v gs) (find-says v gs) p
     where
-      go : ((u : ℕ) → settled gs k u ≡ true → has u (lv ++ lefts gs) ≡ true → NotX (valueIn gs e k u)) → (r : Option Gate) → FindSays v gs r → both (λ u. settled gs k u) r ≡ true → NotX (gateValue (λ u. valueIn gs e k u) (e v) r)
+      go : ((u : ℕ) → settled gs k u ≡ true → has u (lv ++ lefts gs) ≡ true → NotX (valueIn gs e k u)) → (r : Option Gate)
+          → FindSays v gs r → both (λ u. settled gs k u) r ≡ true → NotX (gateValue (λ u. valueIn gs e k u) (e v) r)
       go ih none h q = leaf-not v (has-but v lv (lefts gs) d (h .0))
       go ih (some g) h q =
           let s = h .1 (Sides (lv ++ lefts gs)) used in
           notx-and (lit (λ u. valueIn gs e k u) (g .rhs0)) (lit (λ u. valueIn gs e k u) (g .rhs1))
-          (notx-signed (signOf (g .rhs0)) (valueIn gs e k (varOf (g .rhs0))) (ih (varOf (g .rhs0)) (and-left (settled gs k (varOf (g .rhs0))) (settled gs k (varOf (g .rhs1))) q) (s .0)))
-          (notx-signed (signOf (g .rhs1)) (valueIn gs e k (varOf (g .rhs1))) (ih (varOf (g .rhs1)) (and-right (settled gs k (varOf (g .rhs0))) (settled gs k (varOf (g .rhs1))) q) (s .1)))
+          (notx-signed (signOf (g .rhs0)) (valueIn gs e k (varOf (g .rhs0)))
+          (ih (varOf (g .rhs0)) (and-left (settled gs k (varOf (g .rhs0))) (settled gs k (varOf (g .rhs1))) q) (s .0)))
+          (notx-signed (signOf (g .rhs1)) (valueIn gs e k (varOf (g .rhs1)))
+          (ih (varOf (g .rhs1)) (and-right (settled gs k (varOf (g .rhs0))) (settled gs k (varOf (g .rhs1))) q) (s .1)))
 
 pub nox-first : (n : ℕ) → NoX (replicate n v0)
 nox-first zero = tt
 nox-first (suc n) = (tt, nox-first n)
 
-module _ (c : Circuit) (ok : Accepted c) (s i : List Value) (ls : length s ≡ length (c .latches)) (li : length i ≡ length (c .inputs)) (hs : NoX s) (hi : NoX i) where
+module _ (c : Circuit) (ok : Accepted c) (s i : List Value) (ls : length s ≡ length (c .latches)) (li : length i ≡ length (c .inputs))
+    (hs : NoX s) (hi : NoX i) where
   leaf-notx : (v : ℕ) → has v (leaves c) ≡ true → NotX (leafValue c s i v)
   leaf-notx v h =
       nox-at (v0 ∷ (i ++ s)) (tt, nox-append i s hi hs) (index v (leaves c))
-      (omega (arith, subst (λ (o : List ℕ). index v o < length (leaves c)) (append-nil (leaves c)) (index-front v (leaves c) [] h), length-leaves c, length-append i s))
+      (omega (
+        arith,
+        subst (λ (o : List ℕ). index v o < length (leaves c)) (append-nil (leaves c))
+            (index-front v (leaves c) [] h),
+        length-leaves c,
+        length-append i s,
+      ))
 
   -- no used literal is x
   pub lits-nox : (qs : List ℕ) → allIn qs (leaves c ++ lefts (c .gates)) ≡ true → NoX (map (lit (valuesOf c s i)) qs)
   lits-nox [] a = tt
   lits-nox (l ∷ qs) a = (
     notx-signed (signOf l) (valuesOf c s i (varOf l))
-        (value-notx (c .gates) (leafValue c s i) (leaves c) leaf-notx (sides-in (leaves c ++ lefts (c .gates)) (c .gates) (ok .used-gate)) (length (c .gates)) (varOf l)
+        (value-notx (c .gates) (leafValue c s i) (leaves c) leaf-notx (sides-in (leaves c ++ lefts (c .gates)) (c .gates) (ok .used-gate))
+        (length (c .gates)) (varOf l)
         (ok .settles (varOf l)) (in-head l qs (leaves c ++ lefts (c .gates)) a)),
     lits-nox qs (in-tail l qs (leaves c ++ lefts (c .gates)) a),
   )
