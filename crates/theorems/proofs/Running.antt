@@ -1,6 +1,7 @@
 -- Stepping, conversion and reduction: what they keep, and what they give.
 pub mod Refinement
 pub mod Values
+pub mod Rank
 pub mod Monotone
 pub mod Lists
 pub mod Found
