@@ -1,6 +1,7 @@
 -- Reading and writing: each level took what it says from the file, and reads what is written there.
 pub mod Common
 pub mod Number
+pub mod Cut
 pub mod Back
 pub mod Order
 pub mod Differences

@@ -63,7 +63,7 @@ New true seen [] = Unit {0}
 New true seen (l ∷ ls) = has (varOf l) seen ≡ false
 New false seen row = Unit {0}
 
-outside-none : (d : Bool) (m : ℕ) (xs : List Placed) → outside d m xs ≡ none → inside d m (values xs) ≡ true
+pub outside-none : (d : Bool) (m : ℕ) (xs : List Placed) → outside d m xs ≡ none → inside d m (values xs) ≡ true
 outside-none d m [] e = refl
 outside-none d m (x ∷ xs) e = go (inRange d m (x .value)) refl (outside-none false m xs) e
   where

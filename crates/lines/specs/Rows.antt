@@ -1,0 +1,51 @@
+-- What the readers of lines answer, and what their tables then hold.
+use Prim.Native.Nat.{ℕ, _≤_}
+use mathlib.Core.Path.{_≡_}
+use mathlib.Core.Bool.{Bool, true, false, not, cond, _&&_}
+use mathlib.Core.Option.{Option, none, some}
+use mathlib.Core.List.{List, _++_}
+use lib.Dec.{eqb}
+use lib.ListN.{getD, set}
+use Rattle.plan.specs.declared.Refusal.the-variants.{OutOfRange}
+use Rattle.plan.specs.declared.Passed.{Passed}
+use Rattle.plan.specs.declared.Passed.the-variants.{To, Refused}
+use Rattle.plan.specs.Refusals.{Parse, got, refused, _then_, unless}
+use Rattle.plan.specs.Circuit.{has, heads, flat}
+use Rattle.plan.specs.Bytes.{numbers, values, outside}
+use Rattle.plan.specs.Outcome.{put}
+use Rattle.lines.specs.declared.Found.{Found}
+use Rattle.lines.specs.declared.Found.the-variants.{Nothing, At}
+
+-- a new line after the last number of a line, a space before the next
+abbrev pub endFor : Bool → ℕ
+endFor true = 10
+endFor false = 32
+
+abbrev pub foundOf : Found → Option ℕ
+foundOf Nothing = none
+foundOf (At place) = some place
+
+-- one line by 1 and 5
+abbrev pub row : List ℕ → ℕ → Bool → ℕ → ℕ → Parse (List ℕ)
+row file k d m at = numbers file k at then λ xs next. unless (outside d m xs) OutOfRange (got (values xs) next)
+
+-- marks, a word for each variable up to m, agree with a list of variables: a word is 0 exactly if its variable is not in the list
+abbrev pub Agrees : ℕ → List ℕ → List ℕ → Type 0
+Agrees m seen marks = (v : ℕ) → v ≤ m → eqb (getD marks v 0) 0 ≡ not (has v seen)
+
+abbrev pub marked : Bool → ℕ → List ℕ → Bool
+marked d v marks = d && not (eqb (getD marks v 0) 0)
+
+abbrev pub marking : Bool → Bool → ℕ → List ℕ → List ℕ
+marking d before v marks = cond (d && not before) (set marks v 1) marks
+
+-- the variables seen after lines that define or do not
+abbrev pub seenAfter : Bool → List ℕ → List (List ℕ) → List ℕ
+seenAfter true seen rows = seen ++ heads rows
+seenAfter false seen rows = seen
+
+-- what n lines leave: the lines in the table from its start, and marks of all that is defined; after a refusal only the refusal counts
+abbrev pub LinesSay : Bool → ℕ → List ℕ → List ℕ → Parse (List (List ℕ)) → Passed → List ℕ → List ℕ → Type 0
+LinesSay d m seen table (got rows next) r table′ marks′ =
+    (r ≡ To next) × (table′ ≡ put table 0 (flat rows)) × Agrees m (seenAfter d seen rows) marks′
+LinesSay d m seen table (refused r′) r table′ marks′ = r ≡ Refused r′
