@@ -7,8 +7,8 @@ use native.Mathlib.Omega.{arith}
 use lib.Dec.{eqb}
 use lib.ListN.{getD}
 use Rattle.plan.specs.Literals.{varOf}
-use Rattle.plan.specs.Circuit.{Gate, Latch, nexts, rights}
-use Rattle.theorems.proofs.Tables.{firsts, gateAt, gatesAt, latchAt}
+use Rattle.plan.specs.Circuit.{Gate, rights}
+use Rattle.theorems.proofs.Tables.{gateAt, gatesAt}
 use Rattle.used.specs.Least.{every, lower, lowest}
 
 -- of two variables either may come first

@@ -24,7 +24,8 @@ lessOf k none = k
 lessOf k (some v) = min v k
 
 -- one more literal: what has no mark is not defined
-turn : (k v mark : ℕ) (t : Bool) → eqb mark 0 ≡ not t → (o : Option ℕ) → lessOf (lower k v mark) o ≡ lessOf k (cond (eqb 0 v || t) o (orLess v o))
+turn : (k v mark : ℕ) (t : Bool) → eqb mark 0 ≡ not t → (o : Option ℕ)
+    → lessOf (lower k v mark) o ≡ lessOf k (cond (eqb 0 v || t) o (orLess v o))
 unfolding lower
 turn k v mark t e o = rw e (go (eqb 0 v) t o)
   where

@@ -79,7 +79,12 @@ pub fn undefined(
     requires { ⌜ ((i : ℕ) → i < o → varOf (getD (now outputs) i 0) ≤ m) ⌝ }
     requires { ⌜ ((i : ℕ) → i < a → varOf (getD (now gates) (3 * i + 1) 0) ≤ m) ⌝ }
     requires { ⌜ ((i : ℕ) → i < a → varOf (getD (now gates) (3 * i + 2) 0) ≤ m) ⌝ }
-    ensures { λ r. ⌜ ((c : Circuit) → c .latches ≡ map latchOf (rowsOf 2 l (now (latches .entry))) → c .outputs ≡ take o (now (outputs .entry)) → c .gates ≡ map gateOf (rowsOf 3 a (now (gates .entry))) → Agrees m (definedIn c) (now (marks .entry)) → missingOf r ≡ undefinedIn c) ⌝ }
+    ensures { λ r. ⌜ ((c : Circuit)
+        → c .latches ≡ map latchOf (rowsOf 2 l (now (latches .entry)))
+        → c .outputs ≡ take o (now (outputs .entry))
+        → c .gates ≡ map gateOf (rowsOf 3 a (now (gates .entry)))
+        → Agrees m (definedIn c) (now (marks .entry))
+        → missingOf r ≡ undefinedIn c) ⌝ }
 {
     // One more than M: above every variable.
     let none = m + 1;

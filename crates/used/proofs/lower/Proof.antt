@@ -1,5 +1,5 @@
 use Prim.Native.Nat.{ℕ}
-use mathlib.Core.Path.{_≡_, refl, sym}
+use mathlib.Core.Path.{_≡_, refl}
 use mathlib.Core.Bool.{Bool, true, false, cond, _||_}
 use native.Mathlib.Omega.{arith}
 use borrow.Author.Tests.{eq-eqb, ne-eqb}
@@ -18,19 +18,21 @@ returns c = rw (ne-eqb (c .before .args .mark) 0 (c .if1 .taken)) (either (eqb 0
 
 returns-2 : tie.Need-returns-2
 unfolding lower
-returns-2 c = rw (eq-eqb 0 (c .before .before .args .v) (sym (c .if2 .taken)))
+returns-2 c =
+    let zero-is : 0 ≡ c .before .before .args .v = omega arith in
+    rw (eq-eqb 0 (c .before .before .args .v) zero-is)
 
 returns-3 : tie.Need-returns-3
 unfolding lower
 returns-3 c =
     let a = c .before .before .before .args in
-    rw (ne-eqb 0 (a .v) (λ e. c .before .if2 .left (sym e)), eq-eqb (a .mark) 0 (c .before .before .if1 .left)) (omega arith)
+    rw (ne-eqb 0 (a .v) (λ e. omega arith), eq-eqb (a .mark) 0 (c .before .before .if1 .left)) (omega arith)
 
 returns-4 : tie.Need-returns-4
 unfolding lower
 returns-4 c =
     let a = c .before .before .before .args in
-    rw (ne-eqb 0 (a .v) (λ e. c .before .if2 .left (sym e)), eq-eqb (a .mark) 0 (c .before .before .if1 .left)) (omega arith)
+    rw (ne-eqb 0 (a .v) (λ e. omega arith), eq-eqb (a .mark) 0 (c .before .before .if1 .left)) (omega arith)
 
 pub lower-spec : {M : Type 1} → statement M
 lower-spec = tie.close (tie.spec returns returns-2 returns-3 returns-4)

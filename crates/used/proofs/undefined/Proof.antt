@@ -1,41 +1,69 @@
+use native.Mathlib.Omega.{arith}
 use borrow.Author.Needs.{needs}
+use Rattle.used.proofs.Walked.{one-word, Walks, nothing-missing, one-missing}
 use Rattle.used.proofs.undefined.Statement.{statement}
 use Rattle.used.proofs.undefined.Tie as tie
-use Rattle.used.proofs.undefined.Reads as reads
-use Rattle.used.proofs.undefined.Lts as lts
-use Rattle.used.proofs.least.Reads as least-reads
 
--- src/lib.rt:85:16
 add-none : tie.Need-add-none
 add-none c = search needs
 
--- src/lib.rt:86:9
 least-requires : tie.Need-least-requires
-least-requires c κs = ?
+least-requires c κs =
+    let p = c .before .before .before .before .pre .1 in (
+      omega arith,
+      (omega (arith, p .1 .0), λ i h. omega (arith, p .1 .1 .1 .1 .0 i h, p .0)),
+    )
 
--- src/lib.rt:87:9
 least-requires-2 : tie.Need-least-requires-2
-least-requires-2 c κs = ?
+least-requires-2 c κs =
+    let s = c .before .before .before .before .before in
+    let p = s .pre .1 in (
+      omega arith,
+      (omega (arith, p .1 .1 .0), λ i h. omega (arith, p .1 .1 .1 .1 .1 .0 i h, one-word (s .args .outputs .now) i, p .0)),
+    )
 
--- src/lib.rt:88:9
 least-requires-3 : tie.Need-least-requires-3
-least-requires-3 c κs = ?
+least-requires-3 c κs =
+    let p = c .before .before .before .before .before .before .pre .1 in (
+      omega arith,
+      (omega (arith, p .1 .1 .1 .0), λ i h. omega (arith, p .1 .1 .1 .1 .1 .1 .0 i h, p .1 .1 .1 .1 .1 .1 .1 i h, p .0)),
+    )
 
--- src/lib.rt:89:9
 least-requires-4 : tie.Need-least-requires-4
-least-requires-4 c κs = ?
+least-requires-4 c κs =
+    let p = c .before .before .before .before .before .before .before .pre .1 in (
+      omega arith,
+      (omega (arith, p .1 .1 .1 .0), λ i h. omega (arith, p .1 .1 .1 .1 .1 .1 .0 i h, p .1 .1 .1 .1 .1 .1 .1 i h, p .0)),
+    )
 
--- src/lib.rt:91:9
+walks : (c : tie.After-least4)
+    → let a = c .before .before .before .before .before .before .before .before .args in
+    Walks (a .latches .now) (a .l) (a .outputs .now) (a .o) (a .gates .now) (a .a) (a .m) (a .marks .now) (c .least4 .result)
+walks c =
+    let p = c .before .before .before .before .before .before .before .before .pre .1 .1 .1 in
+    record {
+      room = p .0;
+      up-next = p .1 .1 .0;
+      up-output = p .1 .1 .1 .0;
+      up-first = p .1 .1 .1 .1 .0;
+      up-second = p .1 .1 .1 .1 .1;
+      r₁ = _;
+      r₂ = _;
+      r₃ = _;
+      by-latches = c .before .before .before .least .ensures;
+      by-outputs = c .before .before .least2 .ensures;
+      by-firsts = c .before .least3 .ensures;
+      by-seconds = c .least4 .ensures;
+    }
+
 returns : tie.Need-returns
-returns c = ?
+returns c circuit latches outputs gates agrees = nothing-missing (walks (c .before)) circuit latches outputs gates agrees (c .if1 .taken)
 
--- src/lib.rt:93:20
 cast-t15 : tie.Need-cast-t15
 cast-t15 c = search needs
 
--- src/lib.rt:63:1
 returns-2 : tie.Need-returns-2
-returns-2 c = ?
+returns-2 c circuit latches outputs gates agrees = one-missing (walks (c .before)) circuit latches outputs gates agrees (c .if1 .left)
 
 pub undefined-spec : {M : Type 1} → statement M
 undefined-spec =
