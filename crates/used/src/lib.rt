@@ -23,14 +23,14 @@ fn variable(word: u32) -> u32
     Lit::at(word).var().index()
 }
 
-// The least so far, or a used variable below it that has no mark. Nearly every variable has one: one test decides for it.
+// The least so far, or a used variable below it that has no mark. Nearly every variable has one, so one test decides nearly always.
 fn lower(least: u32, v: u32, mark: u32) -> u32
     ensures { λ r. ⌜ r ≡ lower least v mark ⌝ }
 {
     if mark != 0 {
         return least;
     }
-    // Of the constants, which nothing defines.
+    // Variable 0, of the constants, needs no definition.
     if v == 0 {
         return least;
     }
