@@ -18,11 +18,12 @@ use Rattle.plan.specs.Refusals.{Parse, got, refused}
 use Rattle.plan.specs.Circuit.{literalOf, has, heads, flat}
 use Rattle.plan.specs.Bytes.{line, lines}
 use Rattle.plan.specs.Outcome.{passedBy, put}
+use Rattle.theorems.proofs.Marks.{Agrees}
 use Rattle.theorems.proofs.Put.{put-none, put-length, put-there, put-put}
 use Rattle.theorems.proofs.Reading.Steps.{onRows, lines-turn, lines-stop, lines-done}
 use Rattle.theorems.proofs.Running.Lists.{has-seam}
 use Rattle.theorems.proofs.Running.Scan.{has-snoc}
-use Rattle.lines.specs.Rows.{row, Agrees, marked, marking, seenAfter, LinesSay}
+use Rattle.lines.specs.Rows.{row, marked, marking, seenAfter, LinesSay}
 use Rattle.lines.proofs.OneLine.{line-row, line-refused, row-long, row-var}
 
 flat-snoc : (rows : List (List ℕ)) (ls : List ℕ) → flat (rows ++ (ls ∷ [])) ≡ flat rows ++ ls

@@ -9,7 +9,7 @@ use lib.Dec.{eqb}
 use lib.ListN.{length, getD, set}
 use lib.Seq.{getD-set-same, getD-set-other}
 use Rattle.plan.specs.Circuit.{has}
-use Rattle.lines.specs.Rows.{Agrees, marked, marking}
+use Rattle.lines.specs.Rows.{marked, marking}
 
 module _ (d : Bool) (w v : ℕ) (at : w ≡ v) (marks : List ℕ) where
   pub unasked : d ≡ false → (false ≡ marked d v marks) × (marks ≡ marking d false v marks)

@@ -1,5 +1,5 @@
 -- What the readers of lines answer, and what their tables then hold.
-use Prim.Native.Nat.{ℕ, _≤_}
+use Prim.Native.Nat.{ℕ}
 use mathlib.Core.Path.{_≡_}
 use mathlib.Core.Bool.{Bool, true, false, not, cond, _&&_}
 use mathlib.Core.Option.{Option, none, some}
@@ -10,9 +10,10 @@ use Rattle.plan.specs.declared.Refusal.the-variants.{OutOfRange}
 use Rattle.plan.specs.declared.Passed.{Passed}
 use Rattle.plan.specs.declared.Passed.the-variants.{To, Refused}
 use Rattle.plan.specs.Refusals.{Parse, got, refused, _then_, unless}
-use Rattle.plan.specs.Circuit.{has, heads, flat}
+use Rattle.plan.specs.Circuit.{heads, flat}
 use Rattle.plan.specs.Bytes.{numbers, values, outside}
 use Rattle.plan.specs.Outcome.{put}
+use Rattle.theorems.proofs.Marks.{Agrees}
 use Rattle.lines.specs.declared.Found.{Found}
 use Rattle.lines.specs.declared.Found.the-variants.{Nothing, At}
 
@@ -28,10 +29,6 @@ foundOf (At place) = some place
 -- one line by 1 and 5
 abbrev pub row : List ℕ → ℕ → Bool → ℕ → ℕ → Parse (List ℕ)
 row file k d m at = numbers file k at then λ xs next. unless (outside d m xs) OutOfRange (got (values xs) next)
-
--- marks, a word for each variable up to m, agree with a list of variables: a word is 0 exactly if its variable is not in the list
-abbrev pub Agrees : ℕ → List ℕ → List ℕ → Type 0
-Agrees m seen marks = (v : ℕ) → v ≤ m → eqb (getD marks v 0) 0 ≡ not (has v seen)
 
 abbrev pub marked : Bool → ℕ → List ℕ → Bool
 marked d v marks = d && not (eqb (getD marks v 0) 0)

@@ -1,0 +1,4 @@
+pub mod Lowest
+pub mod Named
+pub mod Steps
+pub mod Walked

@@ -1,0 +1,99 @@
+use Prim.Native.Nat.{ℕ, _+_, _*_, _-_, _≤_}
+use mathlib.Core.Path.{_≡_, ap, _∙_}
+use native.Mathlib.Omega.{arith}
+use borrow.Author.Needs.{needs}
+use lib.ListN.{length}
+use Rattle.used.specs.Least.{every, lowest}
+use Rattle.used.proofs.Steps.{row-ends, next-word, in-marks, next-low}
+use Rattle.used.proofs.least.Statement.{statement}
+use Rattle.used.proofs.least.Tie as tie
+
+abbrev Inv-loop : tie.InvT-loop
+Inv-loop table start stride n marks before low₀ at₀ i₀ low at i =
+    (i ≤ n) × (at ≡ stride * i + start) × (low ≡ lowest marks before (every table start stride i))
+
+abbrev μ-loop : tie.MeasureT-loop
+μ-loop table start stride n marks before low₀ at₀ i₀ low at i = n - i
+
+-- the row of this turn ends in the table
+room : (c : tie.In-loop Inv-loop μ-loop)
+    → let s = c .before .before .before .before in s .args .stride * c .before .loop .i + s .args .stride ≤ length (s .args .table .now)
+room c =
+    let s = c .before .before .before .before in
+    row-ends (s .args .stride) (s .args .n) (c .before .loop .i) (s .args .table .now) (s .pre .1 .0) (c .loop-test .taken)
+
+loop-holds : tie.Need-loop-holds Inv-loop μ-loop
+loop-holds c = search needs
+
+mul-variable : tie.Need-mul-variable Inv-loop μ-loop
+mul-variable c = omega (arith, room c, c .before .before .before .before .pre .0)
+
+shared-slice-read-variable : tie.Need-shared-slice-read-variable Inv-loop μ-loop
+shared-slice-read-variable c = omega (arith, room (c .before), c .before .before .before .before .before .pre .0)
+
+variable-requires : tie.Need-variable-requires Inv-loop μ-loop
+variable-requires c κs = search needs
+
+cast-lower : tie.Need-cast-lower Inv-loop μ-loop
+cast-lower c = search needs
+
+mul-lower : tie.Need-mul-lower Inv-loop μ-loop
+mul-lower c = search needs
+
+shared-slice-read-lower : tie.Need-shared-slice-read-lower Inv-loop μ-loop
+shared-slice-read-lower c =
+    let s = c .before .before .before .before .before .before .before in
+    let w = c .before .before .before .before .loop in
+    in-marks (s .args .table .now) (s .args .start) (s .args .stride) (w .at) (w .i) _ (length (s .args .marks .now))
+    (w .inv .1) (c .before .variable .ensures)
+    (s .pre .1 .1 (w .i) (c .before .before .before .loop-test .taken))
+
+lower-requires : tie.Need-lower-requires Inv-loop μ-loop
+lower-requires c κs = search needs
+
+add-at : tie.Need-add-at Inv-loop μ-loop
+add-at c = let t = c .before .before .before .before in omega (arith, room t, t .before .before .before .before .pre .0)
+
+add-i : tie.Need-add-i Inv-loop μ-loop
+add-i c = search needs
+
+loop-less : tie.Need-loop-less Inv-loop μ-loop
+loop-less c = search needs
+
+loop-again : tie.Need-loop-again Inv-loop μ-loop
+loop-again c =
+    let s = c .before .before .before .before .before .before .before .before in
+    let w = c .before .before .before .before .before .loop in (
+      omega arith,
+      next-word (s .args .start) (s .args .stride) (w .i) (w .at) (w .inv .1),
+      next-low (s .args .table .now) (s .args .start) (s .args .stride) (s .args .marks .now) (s .args .before) (w .low) (w .at) (w .i) _ _
+          (w .inv .1) (c .before .before .variable .ensures) (w .inv .2) (c .lower .ensures),
+    )
+
+returns : tie.Need-returns Inv-loop μ-loop
+returns c =
+    let s = c .before .before .before .before in
+    let w = c .before .loop in
+    let all : w .i ≡ s .args .n = omega arith in
+    w .inv .2
+    ∙ ap (λ (k : ℕ). lowest (s .args .marks .now) (s .args .before) (every (s .args .table .now) (s .args .start) (s .args .stride) k)) all
+
+pub least-spec : {M : Type 1} → statement M
+least-spec =
+    tie.close
+    (tie.spec
+    Inv-loop
+    μ-loop
+    loop-holds
+    mul-variable
+    shared-slice-read-variable
+    variable-requires
+    cast-lower
+    mul-lower
+    shared-slice-read-lower
+    lower-requires
+    add-at
+    add-i
+    loop-less
+    loop-again
+    returns)
