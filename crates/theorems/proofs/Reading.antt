@@ -20,3 +20,4 @@ pub mod Places
 pub mod Runs
 pub mod Binaries
 pub mod Exactly
+pub mod Spans

@@ -3,12 +3,10 @@ use Prim.Native.Nat.{ℕ, suc, _+_, _-_, _*_, _<_, _≤_, min}
 use mathlib.Core.Path.{_≡_, refl, sym, ap, ap₂, _∙_}
 use mathlib.Core.List.{List, [], _∷_}
 use mathlib.Core.Bool.{Bool, true, false, true≢false}
-use native.Mathlib.Numerals.{add-one}
 use native.Mathlib.Omega.{arith}
 use native.Mathlib.Nat.{le-refl, le-trans}
 use native.Mathlib.Decide.{decLe}
-use lib.ListN.{length, drop, getD, drop-of-length-le, List·getD-eq-default}
-use lib.Seq.{drop-cons}
+use lib.ListN.{length, drop, getD, List·getD-eq-default}
 use Rattle.plan.specs.declared.Class.{Class}
 use Rattle.plan.specs.declared.Class.the-variants.{Line, Space, Zero, Digit, Print, Rest}
 use Rattle.plan.specs.declared.Number.{Number}
@@ -17,6 +15,7 @@ use Rattle.plan.specs.Literals.{beyond}
 use Rattle.plan.specs.Bytes.{classOf, digitClass, span, decimal, numberBy}
 use Rattle.plan.specs.Outcome.{cutNumber, numberAt}
 use Rattle.theorems.proofs.Reading.Number.{class-says, digit-bounds, class-digit}
+use Rattle.theorems.proofs.Reading.Spans.{span-more}
 
 -- digits only make a value larger
 grows : (v : ℕ) (l : List ℕ) → v ≤ decimal v l
@@ -59,16 +58,6 @@ module _ (s : List ℕ) (at : ℕ) where
       go Print e = refl
       go Rest e = refl
 
-module _ (s : List ℕ) (i : ℕ) where
-  more : i < length s → digitClass (classOf (getD s i 0)) ≡ true → span digitClass (drop i s) ≡ getD s i 0 ∷ span digitClass (drop (i + 1) s)
-  more h d = ap (span digitClass) (drop-cons s i 0 h) ∙ rw (d, add-one)
-
-  pub stops : i < length s → digitClass (classOf (getD s i 0)) ≡ false → span digitClass (drop i s) ≡ []
-  stops h d = ap (span digitClass) (drop-cons s i 0 h) ∙ rw d
-
-  pub ends : length s ≤ i → span digitClass (drop i s) ≡ []
-  ends h = ap (span digitClass) (drop-of-length-le s h)
-
 pub record Scan (s : List ℕ) (at v i : ℕ) : Type 0 where
   pub value : min (decimal v (span digitClass (drop i s))) beyond ≡ min (decimal 0 (span digitClass (drop at s))) beyond
   pub next : i + length (span digitClass (drop i s)) ≡ at + length (span digitClass (drop at s))
@@ -79,7 +68,7 @@ module _ {s : List ℕ} {at v i : ℕ} (scan : Scan s at v i) where
   pub step : (w : ℕ) → i < length s → digitClass (classOf (getD s i 0)) ≡ true → w ≡ min (v * 10 + (getD s i 0 - 48)) beyond → Scan s at w (i + 1)
   step w h d e =
       let rest : List ℕ = span digitClass (drop (i + 1) s) in
-      let one-more : span digitClass (drop i s) ≡ getD s i 0 ∷ rest = more s i h d in
+      let one-more : span digitClass (drop i s) ≡ getD s i 0 ∷ rest = span-more digitClass s i h d in
       let ends : i + suc (length rest) ≡ at + length (span digitClass (drop at s)) = ap (λ (l : List ℕ). i + length l) (sym one-more) ∙ scan .next in
       record {
         value =

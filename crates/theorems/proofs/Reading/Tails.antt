@@ -191,7 +191,7 @@ module _ (file : List ℕ) (n : Counts) where
         got-next u s (t4 .1) m (c .1),
       )
 
-  symbol-past : (seen : List Symbol) (at : ℕ) (s : Symbol) (m : ℕ) → isKind (getD file at 0) ≡ true → symbol file n seen at ≡ got s m
+  pub symbol-past : (seen : List Symbol) (at : ℕ) (s : Symbol) (m : ℕ) → isKind (getD file at 0) ≡ true → symbol file n seen at ≡ got s m
       → at < m
   symbol-past seen at s m k e =
       omega (

@@ -4,7 +4,9 @@ use native.Mathlib.Omega.{arith}
 use borrow.Author.Needs.{needs}
 use borrow.Author.Tests.{not-true, not-false}
 use lib.ListN.{length, getD}
-use Rattle.codec.proofs.numbers.Scan.{Scan, tested, at-least, past-end, zero-alone, no-digit, stops, ends, step, done, starts}
+use Rattle.plan.specs.Bytes.{digitClass}
+use Rattle.theorems.proofs.Reading.Spans.{span-none, span-past}
+use Rattle.codec.proofs.numbers.Scan.{Scan, tested, at-least, past-end, zero-alone, no-digit, step, done, starts}
 use Rattle.codec.proofs.numbers.read_number.Statement.{statement}
 use Rattle.codec.proofs.numbers.read_number.Tie as tie
 
@@ -75,7 +77,7 @@ returns-4 c =
     let a = c .before .before .before .before .before .before .before .before .before .before .before .before .before .before .args in
     let l = c .before .before .before .before .before .loop in
     done (l .inv)
-    (stops (a .file .now) (l .i) (omega arith)
+    (span-none digitClass (a .file .now) (l .i) (omega arith)
     (tested (getD (a .file .now) (l .i) 0) (c .before .before .class-of2 .ensures) (c .before .is-digit2 .ensures) (not-true _ (c .if4 .taken))))
 
 sub-with-digit-2 : tie.Need-sub-with-digit-2 Inv-loop μ-loop
@@ -106,7 +108,7 @@ returns-5 : tie.Need-returns-5 Inv-loop μ-loop
 returns-5 c =
     let a = c .before .before .before .before .before .before .before .before .before .before .args in
     let l = c .before .loop in
-    done (l .inv) (ends (a .file .now) (l .i) (c .loop-test .left))
+    done (l .inv) (span-past digitClass (a .file .now) (l .i) (c .loop-test .left))
 
 pub read-number-spec : {M : Type 1} → statement M
 read-number-spec =

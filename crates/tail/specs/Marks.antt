@@ -1,0 +1,55 @@
+-- A symbol line, and the marks of the entries that have a symbol.
+use Prim.Native.Nat.{ℕ, _+_, _≤_, _<_}
+use mathlib.Core.Path.{_≡_}
+use mathlib.Core.Bool.{Bool, cond, _&&_}
+use mathlib.Core.List.{List}
+use lib.Dec.{eqb, ltb}
+use lib.ListN.{length, getD, set}
+use Rattle.plan.specs.declared.Counts.{Counts}
+use Rattle.plan.specs.declared.Refusal.the-variants.{BadSymbol}
+use Rattle.plan.specs.Literals.{most}
+use Rattle.plan.specs.Refusals.{Parse, got, refused, _then_}
+use Rattle.plan.specs.Bytes.{number, expect}
+use Rattle.plan.specs.Tail.{Symbol, countOf, nameAt}
+
+-- a symbol line by 1 alone
+abbrev pub symbolLine : List ℕ → ℕ → Parse Symbol
+symbolLine file at =
+    number file (at + 1) then λ entry next.
+    expect file 32 next then λ _ next.
+    nameAt file next then λ name next.
+    expect file 10 next then λ _ next.
+    got (record { kind = getD file at 0; entry = entry; name = name }) next
+
+abbrev pub entryOf : Parse Symbol → Parse ℕ
+entryOf p = p then λ s next. got (s .entry) next
+
+-- the first word of a letter's list: inputs, then latches, then outputs
+abbrev pub firstWord : Counts → ℕ → ℕ
+firstWord n b = cond (eqb b 105) 0 (cond (eqb b 108) (n .I) (n .I + n .L))
+
+abbrev pub wordOf : Counts → Symbol → ℕ
+wordOf n s = firstWord n (s .kind) + s .entry
+
+-- the position is below the count of its list, and its word is 0
+abbrev pub free : Counts → List ℕ → Symbol → Bool
+free n marks s = ltb (s .entry) (countOf n (s .kind)) && eqb (getD marks (wordOf n s) 0) 0
+
+-- a symbol line by 1, then 10, by the marks
+abbrev pub markedSymbol : List ℕ → Counts → List ℕ → ℕ → Parse Symbol
+markedSymbol file n marks at = symbolLine file at then λ s next. cond (free n marks s) (got s next) (refused (BadSymbol at))
+
+abbrev pub marksAfter : Counts → List ℕ → Parse Symbol → List ℕ
+marksAfter n marks (got s next) = set marks (wordOf n s) 1
+marksAfter n marks (refused r) = marks
+
+-- the marks have a word for each entry, and the counts are within the limits
+pub record Holds (n : Counts) (marks : List ℕ) : Type 0 where
+  pub most-I : n .I ≤ most
+  pub most-L : n .L ≤ most
+  pub most-O : n .O ≤ most
+  pub words : n .I + n .L + n .O ≤ length marks
+
+-- no entry is marked
+abbrev pub Blank : Counts → List ℕ → Type 0
+Blank n marks = (i : ℕ) → i < n .I + n .L + n .O → getD marks i 0 ≡ 0

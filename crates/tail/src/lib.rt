@@ -1,0 +1,180 @@
+// The one check of a symbol and comment part, of a whole file and of a tail alone (document 01, symbols and comments; document 001,
+// section 12).
+ghost use mathlib.Core.Path.{_≡_};
+ghost use Prim.Native.Nat.{_+_, _<_, _^_};
+ghost use lib.Dec.{eqb};
+ghost use lib.ListN.{length, getD, drop};
+ghost use Rattle.plan.specs.Bytes.{nameClass, span};
+ghost use Rattle.plan.specs.Tail.{isKind, countOf, comment as commentAt, tailAt};
+ghost use Rattle.plan.specs.Given.{refusalOf};
+ghost use Rattle.plan.specs.Outcome.{cutNumber, passedBy, checkedBy};
+ghost use Rattle.tail.specs.Marks.{symbolLine, entryOf, firstWord, markedSymbol, marksAfter, Holds, Blank};
+use codec::classes::class_of;
+use codec::numbers::read_number;
+use plan::Checked;
+use plan::Class;
+use plan::Counts;
+use plan::Number;
+use plan::Passed;
+use plan::Refusal;
+
+// Whether a byte stands at a position. Past the end 0 is read, which stands nowhere.
+fn stands(file: &[u8], at: usize, b: u8) -> bool
+    ensures { λ r. ⌜ r ≡ eqb (getD (now (file .entry)) at 0) b ⌝ }
+{
+    if file.len() <= at {
+        return 0 == b;
+    }
+    file[at] == b
+}
+
+// Whether bytes of a class stand in a name.
+fn in_name(c: Class) -> bool
+    ensures { λ r. ⌜ r ≡ nameClass c ⌝ }
+{
+    match c {
+        Class::Space => true,
+        Class::Zero => true,
+        Class::Digit => true,
+        Class::Print => true,
+        Class::Line => false,
+        Class::Rest => false,
+    }
+}
+
+// The position after the name that starts here.
+fn name_end(file: &[u8], at: usize) -> usize
+    ensures { λ r. ⌜ r ≡ at + length (span nameClass (drop at (now (file .entry)))) ⌝ }
+{
+    let mut i = at;
+    while i < file.len() {
+        let c = class_of(file[i]);
+        if !in_name(c) {
+            return i;
+        }
+        i += 1;
+    }
+    i
+}
+
+// A symbol line by 1 to its end: its number, and the position after the line.
+fn read_line(file: &[u8], at: usize) -> Number
+    requires { ⌜ at < length (now file) ⌝ }
+    ensures { λ r. ⌜ r ≡ cutNumber (entryOf (symbolLine (now (file .entry)) at)) ⌝ }
+{
+    match read_number(file, at + 1) {
+        Number::Wrong(place) => Number::Wrong(place),
+        Number::Value(entry, space) => {
+            if !stands(file, space, 32) {
+                return Number::Wrong(space);
+            }
+            let end = name_end(file, space + 1);
+            if !stands(file, end, 10) {
+                return Number::Wrong(end);
+            }
+            Number::Value(entry, end + 1)
+        }
+    }
+}
+
+// Whether a line that starts with this letter is a symbol line.
+fn is_kind(b: u8) -> bool
+    ensures { λ r. ⌜ r ≡ isKind b ⌝ }
+{
+    match b {
+        105 => true,
+        108 => true,
+        111 => true,
+        _ => false,
+    }
+}
+
+// The count of a letter's list.
+fn count_of(n: Counts, b: u8) -> usize
+    ensures { λ r. ⌜ r ≡ countOf n b ⌝ }
+{
+    match b {
+        105 => n.I,
+        108 => n.L,
+        _ => n.O,
+    }
+}
+
+// The first word of a letter's list: inputs, then latches, then outputs.
+fn first_word(n: Counts, b: u8) -> usize
+    requires { ⌜ n .I + n .L < 2 ^ 64 ⌝ }
+    ensures { λ r. ⌜ r ≡ firstWord n b ⌝ }
+{
+    match b {
+        105 => 0,
+        108 => n.I,
+        _ => n.I + n.L,
+    }
+}
+
+// One symbol line by 1, then 10. An entry's word is 0 until its symbol comes, so that no list of symbols is searched.
+fn read_symbol(file: &[u8], at: usize, n: Counts, marks: &mut [u32]) -> Passed
+    requires { ⌜ at < length (now file) ⌝ }
+    requires { ⌜ Holds n (now marks) ⌝ }
+    ensures { λ r. ⌜ r ≡ passedBy (markedSymbol (now (file .entry)) n (now (marks .entry)) at) ⌝ }
+    ensures { λ _. ⌜ now (marks .exit) ≡ marksAfter n (now (marks .entry)) (markedSymbol (now (file .entry)) n (now (marks .entry)) at) ⌝ }
+{
+    let kind = file[at];
+    match read_line(file, at) {
+        Number::Wrong(place) => Passed::Refused(Refusal::WrongByte(place)),
+        Number::Value(entry, next) => {
+            let e = entry as usize;
+            let bad = Passed::Refused(Refusal::BadSymbol(at));
+            if count_of(n, kind) <= e {
+                return bad;
+            }
+            let w = first_word(n, kind) + e;
+            if marks[w] != 0 {
+                return bad;
+            }
+            marks[w] = 1;
+            Passed::To(next)
+        }
+    }
+}
+
+// "c" and a new line, then any bytes, of which the last is a new line.
+fn comment(file: &[u8], at: usize) -> Checked
+    requires { ⌜ at < length (now file) ⌝ }
+    ensures { λ r. ⌜ r ≡ checkedBy (refusalOf (commentAt (now (file .entry)) at)) ⌝ }
+{
+    if !stands(file, at, 99) {
+        return Checked::Refused(Refusal::WrongByte(at));
+    }
+    if !stands(file, at + 1, 10) {
+        return Checked::Refused(Refusal::WrongByte(at + 1));
+    }
+    if !stands(file, file.len() - 1, 10) {
+        return Checked::Refused(Refusal::WrongByte(file.len()));
+    }
+    Checked::Good
+}
+
+// The tail that starts at a position: symbol lines in order, then the end of the file or a comment. `marks` has a word for each input,
+// latch and output, all 0; what it holds after is left open.
+pub fn check(file: &[u8], at: usize, n: Counts, marks: &mut [u32]) -> Checked
+    requires { ⌜ Holds n (now marks) ⌝ }
+    requires { ⌜ Blank n (now marks) ⌝ }
+    ensures { λ r. ⌜ r ≡ checkedBy (refusalOf (tailAt (now (file .entry)) n at)) ⌝ }
+{
+    let mut pos = at;
+    while pos < file.len() {
+        if !is_kind(file[pos]) {
+            return comment(file, pos);
+        }
+        match read_symbol(file, pos, n, marks) {
+            Passed::Refused(r) => {
+                return Checked::Refused(r);
+            }
+            Passed::To(next) => {
+                pos = next;
+            }
+        }
+    }
+    Checked::Good
+}
