@@ -1,13 +1,12 @@
 -- The loop that reads gates: what was read before, and the answer from here on.
-use Prim.Native.Nat.{ℕ, zero, suc, _+_, _*_, _-_, _<_, _≤_}
+use Prim.Native.Nat.{ℕ, suc, _+_, _*_, _-_, _<_, _≤_}
 use mathlib.Core.Path.{_≡_, refl, sym, ap, ap₂, _∙_, subst}
-use mathlib.Core.List.{List, [], _∷_, _++_, append-assoc, append-nil, map}
+use mathlib.Core.List.{List, [], _∷_, _++_, append-nil, map}
 use native.Mathlib.Omega.{arith}
 use lib.ListN.{length, set, length-append, length-set}
 use lib.Seq.{append-snoc}
 use Rattle.plan.specs.declared.Lit.{Lit}
 use Rattle.plan.specs.declared.Refusal.{Refusal}
-use Rattle.plan.specs.declared.Passed.{Passed}
 use Rattle.plan.specs.declared.Passed.the-variants as passed
 use Rattle.plan.specs.Literals.{litAt, wordOf}
 use Rattle.plan.specs.Refusals.{Parse, got, refused, _then_}
@@ -15,7 +14,6 @@ use Rattle.plan.specs.Circuit.{Gate, flat, gateLine}
 use Rattle.plan.specs.Binary.{gate, gatesFrom}
 use Rattle.plan.specs.Outcome.{put}
 use Rattle.theorems.proofs.Put.{put-none, put-put}
-use Rattle.gates.specs.declared.Gated.{Gated}
 use Rattle.gates.specs.declared.Gated.the-variants as gated
 use Rattle.gates.specs.Gates.{gateBy, GatesSay}
 use Rattle.gates.proofs.Words.{three-put}
@@ -71,6 +69,11 @@ pub record Gathered (file : List ℕ) (at first n : ℕ) (table₀ table : List 
   pub table-is : table ≡ put table₀ 0 (wordsOf gates)
   pub same : length table ≡ length table₀
 
+module _ (file : List ℕ) where
+  -- k gates of variables from v on, after a gate
+  abbrev more : ℕ → ℕ → Gate → ℕ → Parse (List Gate)
+  more k v g at = gatesFrom file k v at then λ gs at. got (g ∷ gs) at
+
 module _ (file : List ℕ) (at first n : ℕ) (table₀ : List ℕ) where
   pub none-read : Gathered file at first n table₀ table₀ at 0
   none-read =
@@ -88,13 +91,13 @@ module _ (file : List ℕ) (at first n : ℕ) (table₀ : List ℕ) where
   module _ (table : List ℕ) (next i : ℕ) (s : Gathered file at first n table₀ table next i) where
     -- the answer, with the next gate taken apart
     turn : i < n → gatesFrom file n first at
-        ≡ after (s .gates) (gate file (first + i) next then λ g at. gatesFrom file (n - (i + 1)) (first + (i + 1)) at then λ gs at. got (g ∷ gs) at)
+        ≡ after (s .gates) (gate file (first + i) next then more file (n - (i + 1)) (first + (i + 1)))
     turn h =
         let n-is : n - i ≡ suc (n - (i + 1)) = omega arith in
         let v-is : suc (first + i) ≡ first + (i + 1) = omega arith in
         s .whole
         ∙ (ap (λ (k : ℕ). after (s .gates) (gatesFrom file k (first + i) next)) n-is
-        ∙ ap (λ (v : ℕ). after (s .gates) (gate file (first + i) next then λ g at. gatesFrom file (n - (i + 1)) v at then λ gs at. got (g ∷ gs) at))
+        ∙ ap (λ (v : ℕ). after (s .gates) (gate file (first + i) next then more file (n - (i + 1)) v))
         v-is)
 
     pub one-refused : (r : Refusal) (table′ : List ℕ) → i < n → gated.Refused r ≡ gateBy (gate file (first + i) next)
@@ -103,7 +106,7 @@ module _ (file : List ℕ) (at first n : ℕ) (table₀ : List ℕ) where
         let p = read-refused (gate file (first + i) next) r e in
         let all : gatesFrom file n first at ≡ refused r
         = turn h ∙ ap (λ (x : Parse Gate). after (s .gates)
-        (x then λ g at. gatesFrom file (n - (i + 1)) (first + (i + 1)) at then λ gs at. got (g ∷ gs) at)) p in
+        (x then more file (n - (i + 1)) (first + (i + 1)))) p in
         subst (λ (x : Parse (List Gate)). GatesSay table₀ x (passed.Refused r) table′) (sym all) refl
 
     pub one-more : (a b c : Lit) (end : ℕ) → i < n → 3 * n ≤ length table₀ → gated.Whole a b c end ≡ gateBy (gate file (first + i) next)
@@ -125,7 +128,7 @@ module _ (file : List ℕ) (at first n : ℕ) (table₀ : List ℕ) where
           whole =
               turn h
               ∙ (ap (λ (x : Parse Gate). after (s .gates)
-              (x then λ g at. gatesFrom file (n - (i + 1)) (first + (i + 1)) at then λ gs at. got (g ∷ gs) at)) p
+              (x then more file (n - (i + 1)) (first + (i + 1)))) p
               ∙ after-last (s .gates) g (gatesFrom file (n - (i + 1)) (first + (i + 1)) end));
           table-is =
               (λ j. set (set (set table (3 * i) (x-is j)) (3 * i + 1) (y-is j)) (3 * i + 2) (z-is j))

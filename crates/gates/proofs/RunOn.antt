@@ -26,9 +26,9 @@ pub record RunsOn (first n : ℕ) (table₀ table : List ℕ) (i : ℕ) : Type 0
 pub none-written : (first n : ℕ) (table₀ : List ℕ) → RunsOn first n table₀ table₀ 0
 none-written first n table₀ = record { bound = omega arith; table-is = sym (put-none table₀ 0); same = refl }
 
-pub one-written : (first n : ℕ) (table₀ table : List ℕ) (i l : ℕ) → RunsOn first n table₀ table i → n ≤ length table₀ → i < n → l ≡ litOf (first + i)
-    → RunsOn first n table₀ (set table i l) (i + 1)
-one-written first n table₀ table i l s room h l-is =
+pub one-written : (first n : ℕ) (table₀ table : List ℕ) (i : ℕ) → RunsOn first n table₀ table i → n ≤ length table₀ → i < n
+    → (l : ℕ) → l ≡ litOf (first + i) → RunsOn first n table₀ (set table i l) (i + 1)
+one-written first n table₀ table i s room h l l-is =
     let before : List ℕ = litsFrom first i in
     let size : length before ≡ i = length-lits first i in
     let both : length (before ++ (litOf (first + i) ∷ [])) ≡ length before + 1 = length-append before _ in
@@ -45,7 +45,8 @@ one-written first n table₀ table i l s room h l-is =
       same = simp length-set (s .same);
     }
 
-pub all-written : (first n : ℕ) (table₀ table : List ℕ) (i : ℕ) → RunsOn first n table₀ table i → n ≤ i → table ≡ put table₀ 0 (litsFrom first n)
+pub all-written : (first n : ℕ) (table₀ table : List ℕ) (i : ℕ) → RunsOn first n table₀ table i → n ≤ i
+    → table ≡ put table₀ 0 (litsFrom first n)
 all-written first n table₀ table i s h =
     let i-is : i ≡ n = omega (arith, s .bound) in
     s .table-is ∙ ap (λ (k : ℕ). put table₀ 0 (litsFrom first k)) i-is

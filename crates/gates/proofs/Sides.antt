@@ -1,26 +1,26 @@
 -- The ways through one difference that is taken from a literal, and through one gate.
 use Prim.Native.Nat.{ℕ, _-_, _<_, _≤_}
-use mathlib.Core.Path.{_≡_, refl, sym, ap, ap₂, _∙_}
+use mathlib.Core.Path.{_≡_, sym, ap, _∙_}
 use mathlib.Core.Bool.{Bool, true, false, cond, _&&_, _||_, or-true, and-false}
 use mathlib.Core.List.{List}
 use native.Mathlib.Omega.{arith}
 use borrow.Author.Tests.{lt-ltb, le-ltb, eq-eqb, ne-eqb}
 use lib.Dec.{eqb, ltb}
+use Rattle.plan.specs.declared.Var.{Var}
 use Rattle.plan.specs.declared.Lit.{Lit}
 use Rattle.plan.specs.declared.Refusal.{Refusal}
 use Rattle.plan.specs.declared.Refusal.the-variants.{BadDifference}
 use Rattle.plan.specs.declared.Difference.{Difference}
 use Rattle.plan.specs.declared.Difference.the-variants.{Value}
-use Rattle.plan.specs.Literals.{litAt, wordOf, litOf}
+use Rattle.plan.specs.Literals.{varAt, litAt, wordOf, doubled}
 use Rattle.plan.specs.Refusals.{Parse, got, refused, _then_}
 use Rattle.plan.specs.Circuit.{Gate}
 use Rattle.plan.specs.Difference.{differenceAt, differenceSays, difference}
 use Rattle.plan.specs.Binary.{gate}
-use Rattle.gates.specs.declared.Side.{Side}
 use Rattle.gates.specs.declared.Side.the-variants as side
-use Rattle.gates.specs.declared.Gated.{Gated}
 use Rattle.gates.specs.declared.Gated.the-variants as gated
 use Rattle.gates.specs.Gates.{sideBy, gateBy}
+use Rattle.gates.proofs.Words.{lit-is}
 
 -- what is said of a difference that was read
 abbrev pub judged : Bool → ℕ → ℕ → Difference → Parse ℕ
@@ -35,7 +35,8 @@ pub not-first : (first : Bool) (d : ℕ) → first ≡ false → (first && eqb d
 not-first first d h = rw h
 
 module _ (file : List ℕ) (at : ℕ) (first : Bool) (from : ℕ) where
-  pub as-judged : (x : Difference) → x ≡ differenceAt file at → sideBy from (judged first from at x) ≡ sideBy from (difference file first from at)
+  pub as-judged : (x : Difference) → x ≡ differenceAt file at
+      → sideBy from (judged first from at x) ≡ sideBy from (difference file first from at)
   as-judged x e = ap (λ (y : Difference). sideBy from (judged first from at y)) e
 
   module _ (d next : ℕ) (e : Value d next ≡ differenceAt file at) where
@@ -75,8 +76,10 @@ module _ (file : List ℕ) where
   abbrev pub gateOn : ℕ → ℕ → Parse Gate
   gateOn lhs at = difference file true lhs at then λ d at. second lhs (lhs - d) at
 
-  pub of-variable : (lhs v at : ℕ) → lhs ≡ litOf v → gateBy (gateOn lhs at) ≡ gateBy (gate file v at)
-  of-variable lhs v at e = ap (λ (l : ℕ). gateBy (gateOn l at)) e
+  -- the gate of a variable is that of its literal
+  pub of-variable : (v at : ℕ) (w : Var) (lhs : Lit) → v < 1048576 → w ≡ varAt v → lhs ≡ doubled w
+      → gateBy (gateOn (wordOf lhs) at) ≡ gateBy (gate file v at)
+  of-variable v at w lhs h p q = ap (λ (l : ℕ). gateBy (gateOn l at)) (lit-is w lhs v h p q)
 
   module _ (lhs at : ℕ) where
     pub first-refused : (r : Refusal) → side.Refused r ≡ sideBy lhs (difference file true lhs at) → gated.Refused r ≡ gateBy (gateOn lhs at)

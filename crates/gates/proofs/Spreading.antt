@@ -1,5 +1,5 @@
 -- The loop that spreads next states to latches, from the last one down: below the latches made so far nothing has changed.
-use Prim.Native.Nat.{ℕ, zero, suc, _+_, _*_, _-_, _<_, _≤_}
+use Prim.Native.Nat.{ℕ, suc, _+_, _*_, _-_, _<_, _≤_}
 use mathlib.Core.Path.{_≡_, refl, sym, ap, ap₂, _∙_}
 use mathlib.Core.List.{List, [], _∷_, _++_, map}
 use native.Mathlib.Omega.{arith}
@@ -38,7 +38,11 @@ module _ (first n : ℕ) (table₀ : List ℕ) (room : 2 * n ≤ length table₀
   pub none-spread : Spread first n table₀ table₀ n
   none-spread =
       let none : drop n (take n table₀) ≡ [] = drop-of-length-le (take n table₀) {i = n} (omega (arith, few)) in
-      record { bound = omega arith; table-is = sym (ap (λ (l : List ℕ). put table₀ (2 * n) (wordsFrom (first + n) l)) none ∙ put-none table₀ (2 * n)); same = refl }
+      record {
+        bound = omega arith;
+        table-is = sym (ap (λ (l : List ℕ). put table₀ (2 * n) (wordsFrom (first + n) l)) none ∙ put-none table₀ (2 * n));
+        same = refl;
+      }
 
   module _ (table : List ℕ) (i : ℕ) (s : Spread first n table₀ table i) (h : 0 < i) where
     -- the next state is still there
@@ -57,7 +61,8 @@ module _ (first n : ℕ) (table₀ : List ℕ) (room : 2 * n ≤ length table₀
         let i-is : i ≡ suc j = omega arith in
         let v-is : first + i ≡ suc (first + j) = omega arith in
         let k-is : 2 * i ≡ 2 * j + 1 + 1 = omega arith in
-        let size : length w ≡ 2 * (n - i) = words-length (first + i) ls ∙ ap (λ (k : ℕ). 2 * k) (length-drop i (take n table₀) ∙ ap (λ (k : ℕ). k - i) few) in
+        let size : length w ≡ 2 * (n - i)
+        = words-length (first + i) ls ∙ ap (λ (k : ℕ). 2 * k) (length-drop i (take n table₀) ∙ ap (λ (k : ℕ). k - i) few) in
         let b : i ≤ n = s .bound in
         let in₁ : 2 * j + 1 + 1 + length w ≤ length table₀ = omega arith in
         let in₀ : 2 * j + 1 + length (x ∷ w) ≤ length table₀ = omega arith in

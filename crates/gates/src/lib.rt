@@ -1,4 +1,5 @@
-// What only the binary form has: gates as differences, and inputs and latches whose variables run on (document 001, section 10 to 12).
+// What only the binary form has: gates as differences, and inputs and latches whose variables run on (document 001, sections 11
+// and 12).
 ghost use mathlib.Core.Path.{_≡_};
 ghost use mathlib.Core.List.{map};
 ghost use Prim.Native.Nat.{_+_, _*_, _<_, _≤_};
@@ -64,7 +65,7 @@ fn gate_at(file: &[u8], at: usize, v: u32) -> Gated
     }
 }
 
-// n gates of the variables from first on, three words each. After a refusal the table holds the gates before it.
+// n gates of the variables from first on, three words each. After a refusal nothing is promised of the words: the caller clears them.
 pub fn read_gates(file: &[u8], at: usize, first: u32, n: usize, table: &mut [u32]) -> Passed
     requires { ⌜ 3 * n ≤ length (now table) ⌝ }
     requires { ⌜ first + n ≤ 1048576 ⌝ }

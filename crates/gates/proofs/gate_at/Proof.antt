@@ -1,6 +1,6 @@
-use mathlib.Core.Path.{_≡_, sym, _∙_}
-use Rattle.plan.specs.Literals.{litOf, wordOf}
-use Rattle.gates.proofs.Words.{lit-is}
+-- Each return is one of the ways through a gate.
+use mathlib.Core.Path.{sym, _∙_}
+use Rattle.plan.specs.Literals.{wordOf}
 use Rattle.gates.proofs.Sides.{of-variable, first-refused, second-refused, both-taken}
 use borrow.Author.Needs.{needs}
 use Rattle.gates.proofs.gate_at.Statement.{statement}
@@ -32,29 +32,42 @@ enum-known-rhs1 c = search needs
 
 returns : tie.Need-returns
 returns c =
-    let a = c .before .before .before .before .before .before .before .args in
-    let lhs : wordOf (c .before .before .before .before .lit .result) ≡ litOf (a .v) = lit-is (c .before .before .before .before .before .at .result) (c .before .before .before .before .lit .result) (a .v) (c .before .before .before .before .before .before .before .pre) (c .before .before .before .before .before .at .ensures) (c .before .before .before .before .lit .ensures) in
-    let here = of-variable (a .file .now) (wordOf (c .before .before .before .before .lit .result)) (a .v) (a .at) lhs in
+    let asked = c .before .before .before in
+    let lit = asked .before in
+    let start = lit .before .before .before in
+    let a = start .args in
+    let lhs = lit .lit .result in
     let g = c .before .r .given in
-    first-refused (a .file .now) (wordOf (c .before .before .before .before .lit .result)) (a .at) (g .0 .0) (sym (g .1) ∙ c .before .before .before .taken .ensures) ∙ here
+    first-refused (a .file .now) (wordOf lhs) (a .at) (g .0 .0) (sym (g .1) ∙ asked .taken .ensures)
+    ∙ of-variable (a .file .now) (a .v) (a .at) (lit .before .at .result) lhs (start .pre) (lit .before .at .ensures) (lit .lit .ensures)
 
 returns-2 : tie.Need-returns-2
 returns-2 c =
-    let a = c .before .before .before .before .before .before .before .before .before .before .before .args in
-    let lhs : wordOf (c .before .before .before .before .before .before .before .before .lit .result) ≡ litOf (a .v) = lit-is (c .before .before .before .before .before .before .before .before .before .at .result) (c .before .before .before .before .before .before .before .before .lit .result) (a .v) (c .before .before .before .before .before .before .before .before .before .before .before .pre) (c .before .before .before .before .before .before .before .before .before .at .ensures) (c .before .before .before .before .before .before .before .before .lit .ensures) in
-    let here = of-variable (a .file .now) (wordOf (c .before .before .before .before .before .before .before .before .lit .result)) (a .v) (a .at) lhs in
-    let g = c .before .before .before .before .before .rhs0 .given in
+    let again = c .before .before .before in
+    let asked = again .before .before .before .before in
+    let lit = asked .before in
+    let start = lit .before .before .before in
+    let a = start .args in
+    let lhs = lit .lit .result in
+    let g = again .before .before .rhs0 .given in
     let k = c .before .r2 .given in
-    second-refused (a .file .now) (wordOf (c .before .before .before .before .before .before .before .before .lit .result)) (a .at) (g .0 .0) (g .0 .1 .0) (sym (g .1) ∙ c .before .before .before .before .before .before .before .taken .ensures) (k .0 .0) (sym (k .1) ∙ c .before .before .before .taken2 .ensures) ∙ here
+    second-refused (a .file .now) (wordOf lhs) (a .at) (g .0 .0) (g .0 .1 .0) (sym (g .1) ∙ asked .taken .ensures)
+    (k .0 .0) (sym (k .1) ∙ again .taken2 .ensures)
+    ∙ of-variable (a .file .now) (a .v) (a .at) (lit .before .at .result) lhs (start .pre) (lit .before .at .ensures) (lit .lit .ensures)
 
 returns-3 : tie.Need-returns-3
 returns-3 c =
-    let a = c .before .before .before .before .before .before .before .before .before .before .before .args in
-    let lhs : wordOf (c .before .before .before .before .before .before .before .before .lit .result) ≡ litOf (a .v) = lit-is (c .before .before .before .before .before .before .before .before .before .at .result) (c .before .before .before .before .before .before .before .before .lit .result) (a .v) (c .before .before .before .before .before .before .before .before .before .before .before .pre) (c .before .before .before .before .before .before .before .before .before .at .ensures) (c .before .before .before .before .before .before .before .before .lit .ensures) in
-    let here = of-variable (a .file .now) (wordOf (c .before .before .before .before .before .before .before .before .lit .result)) (a .v) (a .at) lhs in
-    let g = c .before .before .before .before .before .rhs0 .given in
+    let again = c .before .before .before in
+    let asked = again .before .before .before .before in
+    let lit = asked .before in
+    let start = lit .before .before .before in
+    let a = start .args in
+    let lhs = lit .lit .result in
+    let g = again .before .before .rhs0 .given in
     let k = c .before .rhs1 .given in
-    both-taken (a .file .now) (wordOf (c .before .before .before .before .before .before .before .before .lit .result)) (a .at) (g .0 .0) (g .0 .1 .0) (sym (g .1) ∙ c .before .before .before .before .before .before .before .taken .ensures) (k .0 .0) (k .0 .1 .0) (sym (k .1) ∙ c .before .before .before .taken2 .ensures) ∙ here
+    both-taken (a .file .now) (wordOf lhs) (a .at) (g .0 .0) (g .0 .1 .0) (sym (g .1) ∙ asked .taken .ensures)
+    (k .0 .0) (k .0 .1 .0) (sym (k .1) ∙ again .taken2 .ensures)
+    ∙ of-variable (a .file .now) (a .v) (a .at) (lit .before .at .result) lhs (start .pre) (lit .before .at .ensures) (lit .lit .ensures)
 
 pub gate-at-spec : {M : Type 1} → statement M
 gate-at-spec =

@@ -1,3 +1,4 @@
+-- A turn adds one gate to those that were read, or refuses as the whole does.
 use borrow.Author.Needs.{needs}
 use native.Mathlib.Omega.{arith}
 use Prim.Native.Nat.{_-_}
@@ -33,10 +34,13 @@ same-length c = search needs
 
 returns : tie.Need-returns Inv-loop μ-loop
 returns c =
-    let a = c .before .before .before .before .before .before .before .before .args in
-    let s = c .before .before .before .before .before .loop in
+    let asked = c .before .before .before in
+    let test = asked .before in
+    let s = test .before .loop in
+    let a = test .before .before .before .before .args in
     let g = c .before .r .given in
-    one-refused (a .file .now) (a .at) (a .first) (a .n) (a .table .now) (s .table) (s .next) (s .i) (s .inv) (g .0 .0) (s .table) (c .before .before .before .before .loop-test .taken) (sym (g .1) ∙ c .before .before .before .gate-at .ensures)
+    one-refused (a .file .now) (a .at) (a .first) (a .n) (a .table .now) (s .table) (s .next) (s .i) (s .inv) (g .0 .0) (s .table)
+    (test .loop-test .taken) (sym (g .1) ∙ asked .gate-at .ensures)
 
 enum-known-lhs : tie.Need-enum-known-lhs Inv-loop μ-loop
 enum-known-lhs c = search needs
@@ -85,10 +89,16 @@ loop-less c = search needs
 
 loop-again : tie.Need-loop-again Inv-loop μ-loop
 loop-again c =
-    let a = c .before .before .before .before .before .before .before .before .before .before .before .args in
-    let s = c .before .before .before .before .before .before .before .before .loop in
-    let g = c .before .before .before .before .lhs .given in
-    one-more (a .file .now) (a .at) (a .first) (a .n) (a .table .now) (s .table) (s .next) (s .i) (s .inv) (g .0 .0) (g .0 .1 .0) (g .0 .1 .1 .0) (g .0 .1 .1 .1 .0) (c .before .before .before .before .before .before .before .loop-test .taken) (c .before .before .before .before .before .before .before .before .before .before .before .pre .0) (sym (g .1) ∙ c .before .before .before .before .before .before .gate-at .ensures) _ _ _ (c .before .before .word .ensures) (c .before .word2 .ensures) (c .word3 .ensures)
+    let words = c .before .before in
+    let asked = words .before .before .before .before in
+    let test = asked .before in
+    let s = test .before .loop in
+    let start = test .before .before .before .before in
+    let a = start .args in
+    let g = words .before .before .lhs .given in
+    one-more (a .file .now) (a .at) (a .first) (a .n) (a .table .now) (s .table) (s .next) (s .i) (s .inv)
+    (g .0 .0) (g .0 .1 .0) (g .0 .1 .1 .0) (g .0 .1 .1 .1 .0) (test .loop-test .taken) (start .pre .0) (sym (g .1) ∙ asked .gate-at .ensures)
+    _ _ _ (words .word .ensures) (c .before .word2 .ensures) (c .word3 .ensures)
 
 same-length-2 : tie.Need-same-length-2 Inv-loop μ-loop
 same-length-2 c = search needs

@@ -1,8 +1,8 @@
+-- A turn adds one literal.
 use borrow.Author.Needs.{needs}
 use native.Mathlib.Omega.{arith}
-use Prim.Native.Nat.{_+_, _-_, _<_}
-use mathlib.Core.Path.{_≡_, _∙_}
-use Rattle.plan.specs.Literals.{litOf, wordOf}
+use Prim.Native.Nat.{_+_, _-_}
+use mathlib.Core.Path.{_∙_}
 use Rattle.gates.proofs.Words.{lit-is}
 use Rattle.gates.proofs.RunOn.{RunsOn, none-written, one-written, all-written}
 use Rattle.gates.proofs.run_on.Statement.{statement}
@@ -46,11 +46,13 @@ loop-less c = search needs
 
 loop-again : tie.Need-loop-again Inv-loop μ-loop
 loop-again c =
-    let a = c .before .before .before .before .before .before .args in
-    let s = c .before .before .before .before .loop in
-    let h : s .i < a .n = c .before .before .before .loop-test .taken in
-    let lit : wordOf (c .before .lit .result) ≡ litOf (a .first + s .i) = lit-is (c .before .before .at .result) (c .before .lit .result) (a .first + s .i) (omega arith) (c .before .before .at .ensures) (c .before .lit .ensures) in
-    one-written (a .first) (a .n) (a .table .now) (s .table) (s .i) _ (s .inv) (omega arith) h (c .word .ensures ∙ lit)
+    let lit = c .before in
+    let test = lit .before .before in
+    let s = test .before .loop in
+    let a = test .before .before .before .args in
+    let v = a .first + s .i in
+    let l = lit-is (lit .before .at .result) (lit .lit .result) v (omega arith) (lit .before .at .ensures) (lit .lit .ensures) in
+    one-written (a .first) (a .n) (a .table .now) (s .table) (s .i) (s .inv) (omega arith) (test .loop-test .taken) _ (c .word .ensures ∙ l)
 
 same-length : tie.Need-same-length Inv-loop μ-loop
 same-length c = search needs

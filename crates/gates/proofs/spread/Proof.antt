@@ -1,9 +1,9 @@
+-- A turn makes one latch below those that were made.
 use borrow.Author.Needs.{needs}
 use native.Mathlib.Omega.{arith}
-use Prim.Native.Nat.{_+_, _-_, _*_, _≤_}
-use mathlib.Core.Path.{_≡_, _∙_}
-use lib.ListN.{length, length-set}
-use Rattle.plan.specs.Literals.{litOf, wordOf}
+use Prim.Native.Nat.{_+_, _-_}
+use mathlib.Core.Path.{_∙_}
+use lib.ListN.{length-set}
 use Rattle.gates.proofs.Words.{lit-is}
 use Rattle.gates.proofs.Spreading.{Spread, none-spread, one-spread, all-spread}
 use Rattle.gates.proofs.spread.Statement.{statement}
@@ -65,12 +65,14 @@ loop-less c = search needs
 
 loop-again : tie.Need-loop-again Inv-loop μ-loop
 loop-again c =
-    let a = c .before .before .before .before .before .before .before .args in
-    let s = c .before .before .before .before .before .loop in
-    let h = c .before .before .before .before .loop-test .taken in
-    let room : 2 * a .n ≤ length (a .table .now) = c .before .before .before .before .before .before .before .pre .0 in
-    let lit : wordOf (c .before .lit .result) ≡ litOf (a .first + (s .i - 1)) = lit-is (c .before .before .at .result) (c .before .lit .result) (a .first + (s .i - 1)) (omega arith) (c .before .before .at .ensures) (c .before .lit .ensures) in
-    one-spread (a .first) (a .n) (a .table .now) room (s .table) (s .i) (s .inv) h _ (c .word .ensures ∙ lit)
+    let lit = c .before in
+    let test = lit .before .before .before in
+    let s = test .before .loop in
+    let start = test .before .before .before in
+    let a = start .args in
+    let v = a .first + (s .i - 1) in
+    let l = lit-is (lit .before .at .result) (lit .lit .result) v (omega arith) (lit .before .at .ensures) (lit .lit .ensures) in
+    one-spread (a .first) (a .n) (a .table .now) (start .pre .0) (s .table) (s .i) (s .inv) (test .loop-test .taken) _ (c .word .ensures ∙ l)
 
 same-length : tie.Need-same-length Inv-loop μ-loop
 same-length c = search needs

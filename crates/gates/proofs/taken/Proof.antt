@@ -1,3 +1,4 @@
+-- Each return is one of the ways through a difference that is taken from a literal.
 use Prim.Native.Nat.{_<_, _≤_}
 use mathlib.Core.Bool.{false, _&&_}
 use mathlib.Core.Logic.{⊎-elim}
@@ -58,12 +59,16 @@ returns-4 c =
 
 returns-5 : tie.Need-returns-5
 returns-5 c =
-    let a = c .before .before .before .before .before .before .before .before .before .args in
-    let g = c .before .before .before .before .before .d .given in
-    let read = sym (g .1) ∙ c .before .before .before .before .before .before .before .read-difference .ensures in
-    let f : (a .first && eqb (g .0 .0) 0) ≡ false = ⊎-elim (λ w. not-zero (a .first) (g .0 .0) (w .1 .left)) (λ w. not-first (a .first) (g .0 .0) (w .left)) (c .before .before .before .if1 .came) in
-    let h : g .0 .0 ≤ wordOf (a .from) = omega (arith, c .before .if3 .left, c .before .before .word .ensures) in
-    good-taken (a .file .now) (a .at) (a .first) (wordOf (a .from)) (g .0 .0) (g .0 .1 .0) read f h _ (c .down .ensures)
+    let joined = c .before .before .before in
+    let read = joined .before .before .before .before in
+    let a = read .before .before .args in
+    let g = joined .before .before .d .given in
+    let d = g .0 .0 in
+    let f : (a .first && eqb d 0) ≡ false
+    = ⊎-elim (λ w. not-zero (a .first) d (w .1 .left)) (λ w. not-first (a .first) d (w .left)) (joined .if1 .came) in
+    let h : d ≤ wordOf (a .from) = omega (arith, c .before .if3 .left, c .before .before .word .ensures) in
+    good-taken (a .file .now) (a .at) (a .first) (wordOf (a .from)) d (g .0 .1 .0)
+    (sym (g .1) ∙ read .read-difference .ensures) f h _ (c .down .ensures)
 
 pub taken-spec : {M : Type 1} → statement M
 taken-spec =
