@@ -1,0 +1,5 @@
+pub mod Words
+pub mod Sides
+pub mod Gathered
+pub mod RunOn
+pub mod Spreading
