@@ -1,3 +1,4 @@
+pub mod Held
 pub mod Marks
 pub mod Once
 pub mod Paper
