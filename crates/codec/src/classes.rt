@@ -1,4 +1,4 @@
-// The six classes of bytes (document 01, text form).
+// The six classes of bytes (the paper, text form).
 ghost use mathlib.Core.Path.{_≡_};
 ghost use Rattle.plan.specs.Bytes.{classOf, digitClass};
 use plan::Class;

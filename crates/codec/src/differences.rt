@@ -1,5 +1,5 @@
 // Differences of the binary form: groups of seven bits, low group first, the high bit set on all but the last byte, in the
-// fewest bytes (document 001, section 12).
+// fewest bytes (AIGER report, section 12).
 ghost use mathlib.Core.Path.{_≡_};
 ghost use Prim.Native.Nat.{_+_, _≤_};
 ghost use lib.ListN.{length};

@@ -1,4 +1,4 @@
-// What only the binary form has: gates as differences, and inputs and latches whose variables run on (document 001, sections 11
+// What only the binary form has: gates as differences, and inputs and latches whose variables run on (AIGER report, sections 11
 // and 12).
 ghost use mathlib.Core.Path.{_≡_};
 ghost use mathlib.Core.List.{map};

@@ -103,7 +103,7 @@ pub fn read_row(
 }
 
 // Marks the variable of a literal that defines; whether it was marked already.
-pub fn defined_before(defines: bool, l: Lit, marks: &mut [u32]) -> bool
+fn defined_before(defines: bool, l: Lit, marks: &mut [u32]) -> bool
     requires { ⌜ varOf (wordOf l) < length (now marks) ⌝ }
     ensures { λ r. ⌜ r ≡ marked defines (varOf (wordOf l)) (now (marks .entry)) ⌝ }
     ensures { λ r. ⌜ now (marks .exit) ≡ marking defines r (varOf (wordOf l)) (now (marks .entry)) ⌝ }

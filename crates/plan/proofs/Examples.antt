@@ -1,4 +1,4 @@
--- The definitions compute: document 001's table of differences, its circuits, the paper's cases that are not marked P, and the points
+-- The definitions compute: the AIGER report's table of differences, its circuits, the paper's cases that are not marked P, and the points
 -- that docs/DECISIONS.md decides. A slip in a definition shows here, in its own crate.
 use Prim.Native.Nat.{ℕ, _+_, _-_, _^_}
 use mathlib.Core.Path.{_≡_, refl}
@@ -133,7 +133,7 @@ givens =
 givens-hold : map (λ (x : Given × List ℕ). checkedValues (check (x .0) .answer)) givens ≡ map (λ (x : Given × List ℕ). x .1) givens
 givens-hold = refl
 
--- the toggle of document 001: the tracer's four lines, and both ways through the converter
+-- the AIGER report's toggle: the tracer's four lines, and both ways through the converter
 abbrev toggle : List ℕ
 toggle = bytesOf "aag 7 2 1 2 4\n2\n4\n6 8\n6\n7\n8 4 10\n10 13 15\n12 2 6\n14 3 7\ni0 enable\nc\nany\n"
 

@@ -8,7 +8,7 @@ ghost use Rattle.plan.specs.Literals.{litAt, wordOf, halved, signOf, neg
 // A variable's index. Neither it nor a literal stands for the other: a doubling and a halving lead across.
 pub struct Var(u32);
 
-// Twice a variable and the sign (document 001, section 6).
+// Twice a variable and the sign (AIGER report, section 6).
 pub struct Lit(u32);
 
 impl Var {
@@ -98,7 +98,7 @@ impl Lit {
         self.0 < other.0
     }
 
-    // The difference of two literals, 0 where the other is larger (document 001, section 11).
+    // The difference of two literals, 0 where the other is larger (AIGER report, section 11).
     pub fn minus(self, other: Lit) -> u32
         ensures { λ r. ⌜ r ≡ wordOf self - wordOf other ⌝ }
     {

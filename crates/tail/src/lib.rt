@@ -1,4 +1,4 @@
-// The one check of a symbol and comment part, of a whole file and of a tail alone (document 01, symbols and comments; document 001,
+// The one check of a symbol and comment part, of a whole file and of a tail alone (the paper, symbols and comments; AIGER report,
 // section 12).
 ghost use mathlib.Core.Path.{_≡_};
 ghost use Prim.Native.Nat.{_+_, _<_, _^_};

@@ -31,7 +31,7 @@ halves = record {
   scratch = words 13;
 }
 
--- document 001's toggle flip flop without inputs
+-- the AIGER report's toggle flip flop without inputs
 abbrev pub flip : Given
 flip = record {
   counts = record { M = 1; I = 0; L = 1; O = 2; A = 0 };

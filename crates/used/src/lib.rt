@@ -1,4 +1,4 @@
-// Refusal 7: each variable that is used must be defined (document 01, text form; document 001, section 7).
+// Refusal 7: each variable that is used must be defined (the paper, text form; AIGER report, section 7).
 ghost use mathlib.Core.Path.{_≡_};
 ghost use mathlib.Core.List.{map};
 ghost use Prim.Native.Nat.{ℕ, _+_, _*_, _≤_, _<_};
