@@ -1,26 +1,87 @@
-mod aiger;
-mod generate;
-mod naive;
-mod random;
+//! The second program: makes cases, reads them with an implementation of its own, and compares the library's
+//! answers with that. Without the library it runs only the checks of itself.
 
-fn main() {
-    let mut counts = [[0u64; 2]; 16];
-    for number in 0..20000 {
-        let case = generate::case(1, number);
-        let answer = aiger::read::read(&case.file, &case.lengths);
-        if let Some(p) = &case.promise {
-            if *p != answer {
-                println!(
-                    "case {number}: promise {p:?} answer {answer:?} file {:?} lent {:?}",
-                    String::from_utf8_lossy(&case.file),
-                    case.lengths
-                );
-            }
+mod aiger;
+mod compare;
+mod coverage;
+mod examples;
+mod faults;
+mod ffi;
+mod generate;
+mod library;
+mod naive;
+mod options;
+mod properties;
+mod random;
+mod tally;
+
+use aiger::read;
+use coverage::Coverage;
+use generate::{Answer, Case};
+use library::Library;
+use options::Options;
+use random::Random;
+use std::process::ExitCode;
+use tally::Tally;
+
+fn main() -> ExitCode {
+    let options = match Options::from_arguments() {
+        Ok(options) => options,
+        Err(why) => {
+            println!("{why}\n0 passed, 1 failed");
+            return ExitCode::FAILURE;
         }
-        match answer {
-            Ok((c, _)) => counts[0][(c.gates.len() > 0) as usize] += 1,
-            Err(r) => counts[r.number as usize][0] += 1,
+    };
+    let library = ffi::library();
+    let library = library.as_deref();
+    println!(
+        "seed {}, {}",
+        options.seed,
+        if library.is_some() {
+            "compared with the library"
+        } else {
+            "self checks only"
         }
+    );
+    let mut tally = Tally::default();
+    match options.only {
+        Some(number) => {
+            let _ = one(&mut tally, &options, number, library);
+        }
+        None => all(&mut tally, &options, library),
     }
-    println!("{counts:?}");
+    println!("{} passed, {} failed", tally.passed, tally.failed);
+    if tally.failed == 0 {
+        ExitCode::SUCCESS
+    } else {
+        ExitCode::FAILURE
+    }
+}
+
+fn all(tally: &mut Tally, options: &Options, library: Option<&dyn Library>) {
+    examples::run(tally, library);
+    faults::run(tally, options.seed);
+    let mut coverage = Coverage::default();
+    for number in 0..options.cases {
+        let (case, answer) = one(tally, options, number, library);
+        coverage.add(&case, &answer);
+    }
+    coverage.report(tally);
+}
+
+/// One case, which can be made again from the seed and its number.
+fn one(tally: &mut Tally, options: &Options, number: u64, library: Option<&dyn Library>) -> (Case, Answer) {
+    let case = generate::case(options.seed, number);
+    let answer = read::read(&case.file, &case.lengths);
+    // A source apart from the generator's, so that a change of one leaves the other's cases as they are.
+    let mut random = Random::new(!options.seed, number);
+    let mut outcome = properties::check(&case, &answer, &mut random);
+    if let (Ok(()), Some(library)) = (&outcome, library) {
+        outcome = compare::compare(library, &case.file, &case.lengths, case.junk, &answer);
+    }
+    if let Err(why) = &outcome {
+        options.keep(number, &case, why);
+    }
+    tally.check(&format!("seed {} case {number}", options.seed), outcome);
+    (case, answer)
 }

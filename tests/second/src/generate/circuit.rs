@@ -185,7 +185,7 @@ fn names(random: &mut Random, defined: usize, m: usize) -> Vec<usize> {
         random.shuffle(&mut all);
         all
     } else {
-        // A stride that shares no factor with m would need care; steps of one size do for a few names.
+        // Shuffling all would be slow for the few names that are needed; they are spread from the top instead.
         let stride = m / defined.max(1);
         (0..defined).map(|k| m - k * stride).collect()
     };

@@ -43,7 +43,7 @@ pub fn counts_disagree(random: &mut Random, circuit: &Circuit, draft: &mut Draft
     if value > MOST {
         return None;
     }
-    draft.counts[k] = digits(value);
+    *draft.counts.get_mut(k)? = digits(value);
     harm(3, Spot::Exactly(0))
 }
 
