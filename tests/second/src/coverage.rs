@@ -76,9 +76,12 @@ impl Coverage {
         for (form, count) in [(Form::Text, text), (Form::Binary, binary)] {
             tally.check(&format!("accepted, A > 0, {form:?}"), at_least(count, self.cases / 12));
         }
-        tally.check("differences of three bytes", at_least(self.three_bytes, 20));
+        tally.check(
+            "differences of three bytes",
+            at_least(self.three_bytes, self.cases / 1000),
+        );
         tally.check("tables exactly long enough", at_least(self.exact, self.cases / 12));
-        tally.check("the largest M", at_least(self.largest, 2));
+        tally.check("the largest M", at_least(self.largest, self.cases / 30_000));
     }
 }
 

@@ -1,4 +1,4 @@
-//! The worked examples below `tests/`: files with the answer that the documents give, beside each.
+//! The worked examples below `tests/`: files, each with the answer that the paper or the AIGER report gives beside it.
 
 use crate::aiger::read::{self, header};
 use crate::aiger::{convert, literal, reduce, step, tables, write, Circuit, Counts, Form, Refusal};

@@ -8,6 +8,7 @@ mod examples;
 mod faults;
 mod ffi;
 mod generate;
+mod large;
 mod library;
 mod naive;
 mod options;
@@ -21,6 +22,7 @@ use generate::{Answer, Case};
 use library::Library;
 use options::Options;
 use random::Random;
+use std::panic::{catch_unwind, AssertUnwindSafe};
 use std::process::ExitCode;
 use tally::Tally;
 
@@ -59,8 +61,10 @@ fn main() -> ExitCode {
 }
 
 fn all(tally: &mut Tally, options: &Options, library: Option<&dyn Library>) {
+    options::forget_failures();
     examples::run(tally, library);
     faults::run(tally, options.seed);
+    large::run(tally, library);
     let mut coverage = Coverage::default();
     for number in 0..options.cases {
         let (case, answer) = one(tally, options, number, library);
@@ -75,11 +79,12 @@ fn one(tally: &mut Tally, options: &Options, number: u64, library: Option<&dyn L
     let answer = read::read(&case.file, &case.lengths);
     // A source apart from the generator's, so that a change of one leaves the other's cases as they are.
     let mut random = Random::new(!options.seed, number);
-    let mut outcome = properties::check(&case, &answer, &mut random);
+    let checked = catch_unwind(AssertUnwindSafe(|| properties::check(&case, &answer, &mut random)));
+    let mut outcome = checked.unwrap_or_else(|_| Err("panicked".to_string()));
     if let (Ok(()), Some(library)) = (&outcome, library) {
         outcome = compare::compare(library, &case.file, &case.lengths, case.junk, &answer);
     }
-    if let Err(why) = &outcome {
+    if let (Err(why), true) = (&outcome, tally.tells()) {
         options.keep(number, &case, why);
     }
     tally.check(&format!("seed {} case {number}", options.seed), outcome);

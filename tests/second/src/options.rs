@@ -2,7 +2,7 @@
 
 use crate::generate::Case;
 use std::fs;
-use std::path::Path;
+use std::path::{Path, PathBuf};
 
 pub struct Options {
     pub seed: u64,
@@ -13,11 +13,21 @@ pub struct Options {
 
 const USAGE: &str = "second [--seed S] [--cases N] [--only CASE]";
 
+fn failures() -> PathBuf {
+    Path::new(env!("CARGO_MANIFEST_DIR")).join("../../target/second-failures")
+}
+
+/// Failures of an earlier run would be taken for this one's.
+pub fn forget_failures() {
+    // Mostly there are none.
+    let _ = fs::remove_dir_all(failures());
+}
+
 impl Options {
     pub fn from_arguments() -> Result<Options, String> {
         let mut options = Options {
             seed: 20071012,
-            cases: 120_000,
+            cases: 80_000,
             only: None,
         };
         let mut arguments = std::env::args().skip(1);
@@ -35,7 +45,7 @@ impl Options {
 
     /// Writes a failing case out with what was expected and given.
     pub fn keep(&self, number: u64, case: &Case, why: &str) {
-        let folder = Path::new(env!("CARGO_MANIFEST_DIR")).join("../../target/second-failures");
+        let folder = failures();
         let path = folder.join(format!("seed-{}-case-{number}", self.seed));
         let told = format!(
             "lent {:?}, filled from {}\nforetold {:?}\n{why}\n",

@@ -26,8 +26,8 @@ enum Sides {
 
 pub fn size(random: &mut Random, form: Form) -> Size {
     match random.below(3000) {
-        0 => extreme(random, form),
-        1..=60 => wide(random, form),
+        0..=1 => extreme(random, form),
+        2..=60 => wide(random, form),
         61..=80 => up_to(random, 4000),
         81..=300 => up_to(random, 300),
         301..=1300 => up_to(random, 40),

@@ -67,16 +67,17 @@ fn damages(number: u64) -> &'static [Damage] {
         3 => &[numbers::counts_disagree],
         5 => numbers::RANGES,
         6 => &[numbers::second_definition],
-        7 => &[numbers::undefined],
+        7 => &[numbers::undefined, numbers::undefined, numbers::undefined_and_cycle],
         8 => &[numbers::cycle],
         9 => differences::ALL,
         10 => tail::SYMBOLS,
+        11 => &[numbers::count_changed],
         _ => tail::MARKS,
     }
 }
 
-/// What damage aims at: 0 is for refusal 1 in the tail, so that it has its own share.
-pub const AIMS: &[u64] = &[0, 1, 2, 3, 5, 6, 7, 8, 9, 10];
+/// What damage aims at: a refusal; 0 is for 1 in the tail, so that it has its own share; 11 for none in particular.
+pub const AIMS: &[u64] = &[0, 1, 2, 3, 5, 6, 7, 8, 9, 10, 11];
 
 pub fn damage(random: &mut Random, aim: u64, circuit: &Circuit, draft: &mut Draft) -> Option<Harm> {
     random.pick(damages(aim))(random, circuit, draft)

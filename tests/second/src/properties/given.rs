@@ -9,6 +9,7 @@ pub fn check(random: &mut Random, circuit: &Circuit, tail: &[u8]) -> Result<(), 
     counts(random, circuit)?;
     lengths(random, circuit)?;
     words(random, circuit)?;
+    order(circuit)?;
     writers(circuit, tail)?;
     tails(circuit)?;
     vectors(random, circuit)
@@ -101,6 +102,22 @@ fn words(random: &mut Random, circuit: &Circuit) -> Result<(), String> {
         Err(refusal) => Err(refusal),
     };
     expect("a word changed", given_check(&given), expected)
+}
+
+/// 5 over all tables, the least first, and only then 6.
+fn order(circuit: &Circuit) -> Result<(), String> {
+    let mut given = Given::exactly(circuit);
+    if circuit.inputs.len() > 1 {
+        given.tables[0][1] = given.tables[0][0];
+        expect("an input twice", given_check(&given), refuse(6, 1))?;
+    }
+    for k in (0..4).rev() {
+        if let Some(word) = given.tables[k].last_mut() {
+            *word = 2 * circuit.m as u32 + 2;
+            expect("a word out of range", given_check(&given), refuse(5, k + 1))?;
+        }
+    }
+    Ok(())
 }
 
 /// 15 and 11.

@@ -19,6 +19,7 @@ pub fn check(random: &mut Random, circuit: &Circuit, converted: &Converted, redu
         .map(|_| vector(random, unknown, circuit.inputs.len()))
         .collect();
     let steps = run(circuit, &list);
+    ensure!(follow(&steps), "the states don't follow each other: {steps:?}");
     ensure!(steps == run(&converted.circuit, &list), "steps differ after conversion");
     let fewer = run(reduced, &list);
     ensure!(refines(&fewer, &steps), "{fewer:?} after reduction, {steps:?} before");
@@ -61,6 +62,12 @@ fn ground(random: &mut Random, vector: &[u8]) -> Vec<u8> {
 
 fn run(circuit: &Circuit, list: &[Vec<u8>]) -> Vec<(Vec<u8>, Step)> {
     step::run(circuit, list.iter().map(Vec::as_slice)).collect()
+}
+
+/// Whether the first state is all "0" and each later one the next state of the step before.
+fn follow(steps: &[(Vec<u8>, Step)]) -> bool {
+    let first = steps[0].0.iter().all(|&value| value == b'0');
+    first && steps.windows(2).all(|pair| pair[1].0 == pair[0].1.next)
 }
 
 /// Whether the one has the other's "0" and "1" at least.

@@ -47,6 +47,20 @@ pub fn counts_disagree(random: &mut Random, circuit: &Circuit, draft: &mut Draft
     harm(3, Spot::Exactly(0))
 }
 
+/// A count a little off: what the lines then mean, only a reader can tell.
+pub fn count_changed(random: &mut Random, circuit: &Circuit, draft: &mut Draft) -> Option<Harm> {
+    let k = random.below(5);
+    let off = random.between(1, 2) as u64;
+    let count = circuit.counts().list()[k];
+    let changed = if random.once_in(2) {
+        count + off
+    } else {
+        count.saturating_sub(off)
+    };
+    *draft.counts.get_mut(k)? = digits(changed);
+    None
+}
+
 /// The lines of a text file whose first number defines.
 fn defining_lines(circuit: &Circuit, draft: &Draft) -> Vec<usize> {
     if draft.is_binary() {
@@ -154,6 +168,12 @@ pub fn undefined(random: &mut Random, circuit: &Circuit, draft: &mut Draft) -> O
         draft.lines[line][k] = digits(literal(v) + random.below(2) as u32);
     }
     harm(7, Spot::Exactly(least))
+}
+
+/// 7 comes before 8.
+pub fn undefined_and_cycle(random: &mut Random, circuit: &Circuit, draft: &mut Draft) -> Option<Harm> {
+    cycle(random, circuit, draft)?;
+    undefined(random, circuit, draft)
 }
 
 /// A gate is made to depend on itself, at once or through those that depend on it.

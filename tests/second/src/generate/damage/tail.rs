@@ -1,13 +1,13 @@
 //! The symbol and comment part: 1 and 10.
 
-use super::{harm, too_large, Damage, Harm, Spot};
+use super::{harm, numbers, too_large, Damage, Harm, Spot};
 use crate::aiger::Circuit;
 use crate::generate::draft::{symbol, Draft};
 use crate::random::Random;
 
-pub const SYMBOLS: &[Damage] = &[too_high, second];
+pub const SYMBOLS: &[Damage] = &[too_high, second, too_high, second, symbol_and_meaning];
 
-pub const MARKS: &[Damage] = &[malformed, malformed, unterminated, comment, other];
+pub const MARKS: &[Damage] = &[malformed, malformed, unterminated, comment, other, comment_and_meaning];
 
 fn lists(circuit: &Circuit) -> [(u8, usize); 3] {
     [
@@ -117,4 +117,19 @@ fn comment(random: &mut Random, _: &Circuit, draft: &mut Draft) -> Option<Harm> 
 fn other(random: &mut Random, _: &Circuit, draft: &mut Draft) -> Option<Harm> {
     draft.comment = vec![*random.pick(b"\n \t\r\0abC2\x80\xff"), b'\n'];
     harm(1, Spot::Comment(0))
+}
+
+/// What only the whole file shows, 7 or 8, comes after the tail.
+fn meaning(random: &mut Random, circuit: &Circuit, draft: &mut Draft) -> Option<Harm> {
+    numbers::undefined(random, circuit, draft).or_else(|| numbers::cycle(random, circuit, draft))
+}
+
+fn symbol_and_meaning(random: &mut Random, circuit: &Circuit, draft: &mut Draft) -> Option<Harm> {
+    meaning(random, circuit, draft)?;
+    too_high(random, circuit, draft)
+}
+
+fn comment_and_meaning(random: &mut Random, circuit: &Circuit, draft: &mut Draft) -> Option<Harm> {
+    meaning(random, circuit, draft)?;
+    comment(random, circuit, draft)
 }
