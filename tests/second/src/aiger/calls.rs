@@ -1,0 +1,64 @@
+//! The calls that are given tables, each with all of its refusals in the paper's order: 2 to 8, 15, the tail
+//! by 1 and 10, 12, 11.
+
+use super::step::{self, Step};
+use super::tables::{binary_order, check, Given};
+use super::{convert, reduce, refuse, tail, write, Circuit, Form, Refusal};
+
+pub fn write_text(given: &Given, tail: &[u8], buffer: u64) -> Result<Vec<u8>, Refusal> {
+    let circuit = check(given)?;
+    tail::check(tail, &given.counts)?;
+    write::fits(write::file(&circuit, Form::Text, tail), buffer)
+}
+
+pub fn write_binary(given: &Given, tail: &[u8], buffer: u64) -> Result<Vec<u8>, Refusal> {
+    let circuit = in_order(given)?;
+    tail::check(tail, &given.counts)?;
+    write::fits(write::file(&circuit, Form::Binary, tail), buffer)
+}
+
+pub fn convert(given: &Given) -> Result<Circuit, Refusal> {
+    Ok(convert::convert(&check(given)?).circuit)
+}
+
+pub fn reduce(given: &Given) -> Result<Circuit, Refusal> {
+    Ok(reduce::reduce(&in_order(given)?))
+}
+
+/// `output` is the length of the vector lent for the outputs.
+pub fn step(given: &Given, state: &[u8], input: &[u8], output: u64) -> Result<Step, Refusal> {
+    let circuit = in_order(given)?;
+    if state.len() as u64 != given.counts.l || !are_values(state) {
+        return refuse(12, 1);
+    }
+    if input.len() as u64 != given.counts.i || !are_values(input) {
+        return refuse(12, 2);
+    }
+    if output != given.counts.o {
+        return refuse(12, 3);
+    }
+    Ok(step::step(&circuit, state, input))
+}
+
+/// The list is judged as a whole before the first step. Its length is compared as a true product.
+pub fn witness(given: &Given, number: u64, list: &[u8]) -> Result<bool, Refusal> {
+    let circuit = in_order(given)?;
+    let length = u128::from(number) * u128::from(given.counts.i);
+    if list.len() as u128 != length || !are_values(list) {
+        return refuse(12, 2);
+    }
+    let i = circuit.inputs.len();
+    let vectors = (0..number as usize).map(|k| &list[k * i..(k + 1) * i]);
+    let found = step::run(&circuit, vectors).any(|(_, step)| step.output.contains(&b'1'));
+    Ok(found)
+}
+
+fn in_order(given: &Given) -> Result<Circuit, Refusal> {
+    let circuit = check(given)?;
+    binary_order(&circuit)?;
+    Ok(circuit)
+}
+
+fn are_values(vector: &[u8]) -> bool {
+    vector.iter().all(|value| b"01x".contains(value))
+}

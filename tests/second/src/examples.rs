@@ -1,0 +1,187 @@
+//! The worked examples below `tests/`: files, each with the answer that the paper or the AIGER report gives beside it.
+
+use crate::aiger::read::{self, header};
+use crate::aiger::{convert, literal, reduce, step, tables, write, Circuit, Counts, Form, Refusal};
+use crate::compare::compare;
+use crate::ensure;
+use crate::generate::Answer;
+use crate::library::Library;
+use crate::tally::Tally;
+use std::fs;
+use std::path::{Path, PathBuf};
+
+struct Example {
+    path: PathBuf,
+    file: Vec<u8>,
+    lengths: [u64; 5],
+    answer: Answer,
+    /// The desk question's answers for tables 1 to 5.
+    words: Option<[u64; 5]>,
+}
+
+/// At least so many files must be found, so that a lost folder doesn't pass.
+const FEWEST: usize = 100;
+
+pub fn run(tally: &mut Tally, library: Option<&dyn Library>) {
+    let root = Path::new(env!("CARGO_MANIFEST_DIR")).join("..");
+    let paths = files(&root);
+    let enough = if paths.len() < FEWEST {
+        Err(format!("only {} found", paths.len()))
+    } else {
+        Ok(())
+    };
+    tally.check("worked examples", enough);
+    for path in paths {
+        let name = path.strip_prefix(&root).unwrap_or(&path).display().to_string();
+        tally.check(&name, example(&path).and_then(|example| check(&example, library)));
+    }
+}
+
+/// All circuits in `accepted` and `refused-NN`.
+fn files(root: &Path) -> Vec<PathBuf> {
+    let folders = ["accepted".to_string()]
+        .into_iter()
+        .chain((1..=10).map(|number| format!("refused-{number:02}")));
+    let entries = folders
+        .filter_map(|folder| fs::read_dir(root.join(folder)).ok())
+        .flatten();
+    let paths = entries.filter_map(|entry| Some(entry.ok()?.path()));
+    let is_circuit = |path: &PathBuf| path.extension().is_some_and(|end| end == "aag" || end == "aig");
+    let mut paths: Vec<PathBuf> = paths.filter(is_circuit).collect();
+    paths.sort();
+    paths
+}
+
+fn example(path: &Path) -> Result<Example, String> {
+    let file = fs::read(path).map_err(|error| error.to_string())?;
+    let expected = fs::read_to_string(path.with_extension("expected")).map_err(|error| error.to_string())?;
+    let (first, rest) = expected.split_once('\n').ok_or("no line in .expected")?;
+    let lines = Lines(rest);
+    let answer = match first.split(' ').collect::<Vec<_>>()[..] {
+        ["accepted"] => Ok(accepted(&lines)?),
+        ["refused", number, "at", place] => Err(Refusal {
+            number: whole(number)?,
+            place: whole(place)?,
+        }),
+        _ => return Err(format!("no answer: {first}")),
+    };
+    let needed = header(&file).map_or([0; 5], |header| header.counts.words());
+    let words = match lines.find("words") {
+        Some("none") => Some([u64::MAX; 5]),
+        Some(_) => Some(lines.five("words")?),
+        None => None,
+    };
+    let lengths = if lines.find("lent").is_some() {
+        lines.five("lent")?
+    } else {
+        needed
+    };
+    Ok(Example {
+        path: path.to_path_buf(),
+        file,
+        lengths,
+        answer,
+        words,
+    })
+}
+
+/// The lines after the first of an answer, each a name and numbers.
+struct Lines<'a>(&'a str);
+
+impl<'a> Lines<'a> {
+    fn find(&self, name: &str) -> Option<&'a str> {
+        let mut lines = self.0.lines().map(|line| line.split_once(' ').unwrap_or((line, "")));
+        lines.find(|(first, _)| *first == name).map(|(_, rest)| rest)
+    }
+
+    /// The numbers of a line; "2 .. 8" stands for the even ones between as well.
+    fn numbers(&self, name: &str) -> Result<Vec<u64>, String> {
+        let line = self.find(name).ok_or_else(|| format!("no line {name}"))?;
+        match line.split_once(" .. ") {
+            Some((first, last)) => Ok((whole(first)?..=whole(last)?).step_by(2).collect()),
+            None => line.split_ascii_whitespace().map(whole).collect(),
+        }
+    }
+
+    fn five(&self, name: &str) -> Result<[u64; 5], String> {
+        self.numbers(name)?
+            .try_into()
+            .map_err(|_| format!("{name} has not five numbers"))
+    }
+}
+
+fn whole(digits: &str) -> Result<u64, String> {
+    digits.parse().map_err(|_| format!("no number: {digits}"))
+}
+
+fn accepted(lines: &Lines) -> Result<(Circuit, usize), String> {
+    let counts = Counts::new(lines.five("counts")?);
+    let table =
+        |name| -> Result<Vec<u32>, String> { Ok(lines.numbers(name)?.into_iter().map(|word| word as u32).collect()) };
+    let circuit = Circuit {
+        m: counts.m,
+        inputs: table("inputs")?,
+        latches: table("latches")?.as_chunks().0.to_vec(),
+        outputs: table("outputs")?,
+        gates: table("gates")?.as_chunks().0.to_vec(),
+    };
+    ensure!(circuit.counts() == counts, "the tables don't fit the counts");
+    let tail = lines.numbers("tail")?;
+    ensure!(tail.len() == 1, "the tail is one number");
+    Ok((circuit, tail[0] as usize))
+}
+
+fn check(example: &Example, library: Option<&dyn Library>) -> Result<(), String> {
+    let Example {
+        file, lengths, answer, ..
+    } = example;
+    let given = read::read(file, lengths);
+    ensure!(given == *answer, "expected {answer:?}, given {given:?}");
+    if let Some(words) = example.words {
+        let given = [1, 2, 3, 4, 5].map(|table| read::words(file, table));
+        ensure!(given == words, "words: expected {words:?}, given {given:?}");
+    }
+    if let Some(library) = library {
+        compare(library, file, lengths, literal(file.len()).into(), answer)?;
+    }
+    match answer {
+        Ok((circuit, tail)) => beside(example, circuit, &file[*tail..]),
+        Err(_) => Ok(()),
+    }
+}
+
+/// What stands beside an accepted file: what it converts to, reduces to, and its trace.
+fn beside(example: &Example, circuit: &Circuit, tail: &[u8]) -> Result<(), String> {
+    let beside = |end: &str| fs::read(example.path.with_extension(end)).ok();
+    let converted = convert::convert(circuit).circuit;
+    let ends = [("converts", converted.clone()), ("reduces", reduce::reduce(&converted))];
+    for (end, circuit) in ends {
+        tables::binary_order(&circuit).map_err(|_| format!("{end}: not in binary order"))?;
+        let given = write::file(&circuit, Form::Binary, tail);
+        ensure!(
+            beside(end).is_none_or(|expected| expected == given),
+            "{end}: given {given:02x?}"
+        );
+    }
+    if let (Some(inputs), Some(trace)) = (beside("inputs"), beside("trace")) {
+        for circuit in [circuit, &converted] {
+            let given = self::trace(circuit, &inputs);
+            ensure!(given == trace, "trace: given {:?}", String::from_utf8_lossy(&given));
+        }
+    }
+    Ok(())
+}
+
+/// A line for each line of inputs: state, inputs, outputs, next state.
+fn trace(circuit: &Circuit, inputs: &[u8]) -> Vec<u8> {
+    let vectors = || {
+        inputs
+            .split_inclusive(|&byte| byte == b'\n')
+            .map(|line| &line[..line.len() - 1])
+    };
+    let steps = step::run(circuit, vectors());
+    let lines = steps
+        .zip(vectors())
+        .map(|((state, step), input)| [&state, input, &step.output, &step.next].join(&b' '));
+    lines.flat_map(|line| [line, vec![b'\n']].concat()).collect()
+}

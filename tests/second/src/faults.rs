@@ -1,0 +1,135 @@
+//! Libraries with a slip each, to show that the comparison would notice it.
+
+use crate::aiger::read;
+use crate::compare::compare;
+use crate::generate;
+use crate::library::{Library, ReadAnswer};
+use crate::tally::Tally;
+
+#[derive(Clone, Copy, Debug, PartialEq, Eq)]
+enum Slip {
+    None,
+    RefusesAll,
+    HighGroupFirst,
+    GatesSorted,
+    ScratchLeft,
+    SpareWordLeft,
+    TablesLeftAfterRefusal,
+    CountsAfterRefusal,
+    TailAtTheEnd,
+    PlaceOff,
+    WritesBeside,
+    WordsOfTheWholeFile,
+}
+
+const SLIPS: [Slip; 11] = [
+    Slip::RefusesAll,
+    Slip::HighGroupFirst,
+    Slip::GatesSorted,
+    Slip::ScratchLeft,
+    Slip::SpareWordLeft,
+    Slip::TablesLeftAfterRefusal,
+    Slip::CountsAfterRefusal,
+    Slip::TailAtTheEnd,
+    Slip::PlaceOff,
+    Slip::WritesBeside,
+    Slip::WordsOfTheWholeFile,
+];
+
+struct Slipping(Slip);
+
+impl Library for Slipping {
+    fn words(&self, file: &[u8], table: u64) -> u64 {
+        let words = read::words(file, table);
+        let refused = words != u64::MAX && read::read(file, &[u64::MAX; 5]).is_err();
+        match self.0 {
+            Slip::WordsOfTheWholeFile if refused => u64::MAX,
+            _ => words,
+        }
+    }
+
+    fn read(&self, file: &[u8], mut lent: [&mut [u32]; 5]) -> ReadAnswer {
+        let lengths = lent.each_ref().map(|table| table.len() as u64);
+        let answer = read::read(file, &lengths);
+        let slip = self.0;
+        if slip != Slip::TablesLeftAfterRefusal || answer.is_ok() {
+            lent.iter_mut().for_each(|table| table.fill(0));
+        }
+        match answer {
+            Ok((circuit, tail)) if slip != Slip::RefusesAll => {
+                for (lent, table) in lent.iter_mut().zip(circuit.tables()) {
+                    lent[..table.len()].copy_from_slice(&table);
+                }
+                let counts = circuit.counts();
+                spoil(slip, &mut lent, counts.a as usize);
+                ReadAnswer {
+                    number: 0,
+                    place: 0,
+                    counts: counts.list(),
+                    tail: if slip == Slip::TailAtTheEnd { file.len() } else { tail } as u64,
+                }
+            }
+            refused => {
+                let (number, place) = refused.map_or_else(|refusal| (refusal.number, refusal.place), |_| (1, 0));
+                ReadAnswer {
+                    number,
+                    place: place + u64::from(slip == Slip::PlaceOff && number == 9),
+                    counts: if slip == Slip::CountsAfterRefusal {
+                        [1; 5]
+                    } else {
+                        [0; 5]
+                    },
+                    tail: file.len() as u64,
+                }
+            }
+        }
+    }
+}
+
+/// Slips in the tables of an accepted file with `a` gates.
+fn spoil(slip: Slip, lent: &mut [&mut [u32]; 5], a: usize) {
+    match slip {
+        Slip::ScratchLeft => *lent[4].last_mut().expect("scratch is never empty") = 7,
+        Slip::SpareWordLeft if lent[3].len() > 3 * a => lent[3][3 * a] = 7,
+        Slip::GatesSorted => lent[3][..3 * a].as_chunks_mut::<3>().0.sort(),
+        Slip::HighGroupFirst => {
+            for [lhs, rhs0, _] in lent[3][..3 * a].as_chunks_mut().0 {
+                *rhs0 = lhs.wrapping_sub(turned(lhs.wrapping_sub(*rhs0)));
+            }
+        }
+        // SAFETY: the comparison lends with guards on both sides.
+        Slip::WritesBeside => unsafe { *lent[0].as_mut_ptr().add(lent[0].len()) = 0 },
+        _ => {}
+    }
+}
+
+/// A difference of two groups, taken high group first.
+fn turned(difference: u32) -> u32 {
+    match difference {
+        128..=16383 => difference % 128 * 128 + difference / 128,
+        _ => difference,
+    }
+}
+
+/// How many of the first cases must do to notice a slip.
+const CASES: u64 = 3000;
+
+pub fn run(tally: &mut Tally, seed: u64) {
+    tally.check(
+        "a library without a slip",
+        notices(Slip::None, seed).map_or(Ok(()), Err),
+    );
+    for slip in SLIPS {
+        let noticed = notices(slip, seed).map(drop).ok_or_else(|| "not noticed".to_string());
+        tally.check(&format!("the slip {slip:?}"), noticed);
+    }
+}
+
+/// The first difference that a slip makes.
+fn notices(slip: Slip, seed: u64) -> Option<String> {
+    (0..CASES).find_map(|number| {
+        let case = generate::case(seed, number);
+        let answer = read::read(&case.file, &case.lengths);
+        compare(&Slipping(slip), &case.file, &case.lengths, case.junk, &answer).err()
+    })
+}

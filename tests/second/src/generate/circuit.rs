@@ -1,0 +1,211 @@
+//! Random well-formed circuits of many shapes.
+
+use crate::aiger::{literal, negation, variable, Circuit, Form, MOST};
+use crate::random::Random;
+
+/// The size and kind of a circuit to be made.
+pub struct Size {
+    pub i: usize,
+    pub l: usize,
+    pub o: usize,
+    pub a: usize,
+    /// Variables without a definition; only the text form has them.
+    pub unused: usize,
+}
+
+/// How the right sides of gates are chosen.
+#[derive(Clone, Copy)]
+enum Sides {
+    Anywhere,
+    Near,
+    Far,
+    Chain,
+    Star,
+    Duplicates,
+}
+
+pub fn size(random: &mut Random, form: Form) -> Size {
+    match random.below(3000) {
+        0..=1 => extreme(random, form),
+        2..=60 => wide(random, form),
+        61..=80 => up_to(random, 4000),
+        81..=300 => up_to(random, 300),
+        301..=1300 => up_to(random, 40),
+        _ => up_to(random, 6),
+    }
+}
+
+fn up_to(random: &mut Random, most: usize) -> Size {
+    let few = most.min(8);
+    Size {
+        i: random.below(few + 1),
+        l: random.below(few + 1),
+        o: random.below(few + 1),
+        a: if random.once_in(12) { 0 } else { random.between(1, most) },
+        unused: if random.once_in(2) { random.below(few + 1) } else { 0 },
+    }
+}
+
+/// So many variables below the gates that differences take three bytes.
+fn wide(random: &mut Random, form: Form) -> Size {
+    let sources = random.between(8_190, 12_000);
+    let l = random.below(4);
+    match form {
+        Form::Binary => Size {
+            i: sources,
+            l,
+            o: random.below(5),
+            a: random.between(1, 12),
+            unused: 0,
+        },
+        Form::Text => Size {
+            i: random.below(5),
+            l,
+            o: random.below(5),
+            a: random.between(1, 12),
+            unused: sources,
+        },
+    }
+}
+
+/// M as large as it may be.
+fn extreme(random: &mut Random, form: Form) -> Size {
+    let [l, o, a] = [random.below(4), random.below(5), random.between(1, 9)];
+    let rest = MOST as usize - l - a;
+    match form {
+        Form::Binary => Size {
+            i: rest,
+            l,
+            o,
+            a,
+            unused: 0,
+        },
+        Form::Text => Size {
+            i: 3,
+            l,
+            o,
+            a,
+            unused: rest - 3,
+        },
+    }
+}
+
+/// A circuit in binary order; for the text form then renamed, reordered or both.
+pub fn circuit(random: &mut Random, form: Form, size: &Size) -> Circuit {
+    let mut circuit = in_order(random, size);
+    if form == Form::Text {
+        circuit.m += size.unused as u64;
+        if !random.once_in(4) {
+            rename(random, &mut circuit);
+        }
+        arrange(random, &mut circuit.gates);
+    }
+    circuit
+}
+
+fn in_order(random: &mut Random, size: &Size) -> Circuit {
+    let sources = size.i + size.l;
+    let defined = sources + size.a;
+    let gates = gates(random, sources, size.a);
+    let latches = (size.i + 1..=sources).map(|v| [literal(v), next(random, v, defined)]);
+    Circuit {
+        m: defined as u64,
+        inputs: (1..=size.i).map(literal).collect(),
+        latches: latches.collect(),
+        outputs: (0..size.o).map(|_| any_literal(random, defined)).collect(),
+        gates,
+    }
+}
+
+/// A literal of a variable up to `last`, constants included.
+fn any_literal(random: &mut Random, last: usize) -> u32 {
+    random.below(2 * last + 2) as u32
+}
+
+/// A next state; every fourth latch feeds itself.
+fn next(random: &mut Random, current: usize, defined: usize) -> u32 {
+    match random.below(8) {
+        0 => literal(current),
+        1 => negation(literal(current)),
+        _ => any_literal(random, defined),
+    }
+}
+
+fn gates(random: &mut Random, sources: usize, a: usize) -> Vec<[u32; 3]> {
+    use Sides::*;
+    let kind = *random.pick(&[Anywhere, Near, Far, Chain, Star, Duplicates]);
+    let mut gates: Vec<[u32; 3]> = Vec::with_capacity(a);
+    for k in 0..a {
+        let below = sources + k;
+        let [rhs0, mut rhs1] = sides(random, kind, &gates, sources, below);
+        match random.below(24) {
+            0 | 1 => rhs1 = rhs0,
+            2 => rhs1 = negation(rhs0),
+            3 => rhs1 = random.below(2) as u32,
+            _ => {}
+        }
+        gates.push([literal(below + 1), rhs0.max(rhs1), rhs0.min(rhs1)]);
+    }
+    gates
+}
+
+/// Two right sides of variables up to `below`.
+fn sides(random: &mut Random, kind: Sides, gates: &[[u32; 3]], sources: usize, below: usize) -> [u32; 2] {
+    let other = any_literal(random, below);
+    let sign = random.below(2) as u32;
+    match kind {
+        Sides::Anywhere => [other, any_literal(random, below)],
+        Sides::Near => [0, 1].map(|_| literal(below - random.below(below.min(4) + 1)) + random.below(2) as u32),
+        Sides::Far => [0, 1].map(|_| any_literal(random, below.min(5))),
+        Sides::Chain => [literal(below) + sign, other],
+        Sides::Star => [literal(below.min(sources + 1)) + sign, other],
+        Sides::Duplicates if !gates.is_empty() && !random.once_in(3) => {
+            let [_, rhs0, rhs1] = *random.pick(gates);
+            [rhs0, rhs1]
+        }
+        Sides::Duplicates => [any_literal(random, sources), any_literal(random, sources)],
+    }
+}
+
+/// Gives the defined variables other numbers up to M.
+fn rename(random: &mut Random, circuit: &mut Circuit) {
+    let defined = circuit.defining().count();
+    let names = names(random, defined, circuit.m as usize);
+    let rename = |old: &mut u32| *old = literal(names[variable(*old)]) + *old % 2;
+    circuit.inputs.iter_mut().for_each(rename);
+    circuit.latches.iter_mut().flatten().for_each(rename);
+    circuit.outputs.iter_mut().for_each(rename);
+    circuit.gates.iter_mut().flatten().for_each(rename);
+}
+
+/// Different numbers from 1 to `m` for the variables 1 to `defined`; 0 stays.
+fn names(random: &mut Random, defined: usize, m: usize) -> Vec<usize> {
+    let mut names: Vec<usize> = if m < 20_000 {
+        let mut all: Vec<usize> = (1..=m).collect();
+        random.shuffle(&mut all);
+        all
+    } else {
+        // Shuffling all would be slow for the few names that are needed; they are spread from the top instead.
+        let stride = m / defined.max(1);
+        (0..defined).map(|k| m - k * stride).collect()
+    };
+    names.truncate(defined);
+    names.insert(0, 0);
+    names
+}
+
+/// Puts gates in another order and exchanges right sides.
+fn arrange(random: &mut Random, gates: &mut [[u32; 3]]) {
+    match random.below(4) {
+        0 => {}
+        1 => gates.reverse(),
+        2 => random.shuffle(gates),
+        // Only the first gates go last: the hub of a star, the start of a chain.
+        _ => gates.rotate_left(gates.len().min(2)),
+    }
+    for gate in gates {
+        if random.once_in(2) {
+            gate.swap(1, 2);
+        }
+    }
+}

@@ -1,0 +1,58 @@
+//! A long chain of gates, last gate first: quick only if no step looks at all gates again.
+
+use crate::aiger::convert::convert;
+use crate::aiger::{literal, meaning, read, step, write, Circuit, Form};
+use crate::compare::compare;
+use crate::ensure;
+use crate::library::Library;
+use crate::tally::Tally;
+
+/// The chain in binary order: each gate is the And of the one below it and the input.
+fn chain(a: usize) -> Circuit {
+    Circuit {
+        m: a as u64 + 1,
+        inputs: vec![2],
+        latches: Vec::new(),
+        outputs: vec![literal(a + 1)],
+        gates: (1..=a).map(|below| [literal(below + 1), literal(below), 2]).collect(),
+    }
+}
+
+fn upside_down(a: usize) -> Circuit {
+    let mut circuit = chain(a);
+    circuit.gates.reverse();
+    circuit
+}
+
+pub fn run(tally: &mut Tally, library: Option<&dyn Library>) {
+    tally.check("a chain of 100,000 gates", long(100_000));
+    if let Some(library) = library {
+        tally.check("a chain of 20,000 gates", compared(library, 20_000));
+    }
+}
+
+fn long(a: usize) -> Result<(), String> {
+    let circuit = upside_down(a);
+    let text = write::file(&circuit, Form::Text, b"");
+    let given = read::read(&text, &circuit.counts().words());
+    ensure!(given == Ok((circuit.clone(), text.len())), "read otherwise");
+    // The gates already run from the last variable to the first, so each keeps its number.
+    ensure!(convert(&circuit).circuit == chain(a), "converted otherwise");
+    for value in *b"01x" {
+        ensure!(
+            step::step(&circuit, b"", &[value]).output == [value],
+            "stepped otherwise"
+        );
+    }
+    let mut cyclic = circuit;
+    cyclic.gates[a - 1][1] = literal(a + 1);
+    ensure!(meaning::acyclic(&cyclic).is_err(), "the cycle is missed");
+    Ok(())
+}
+
+fn compared(library: &dyn Library, a: usize) -> Result<(), String> {
+    let circuit = upside_down(a);
+    let text = write::file(&circuit, Form::Text, b"");
+    let lengths = circuit.counts().words();
+    compare(library, &text, &lengths, 1 << 33, &Ok((circuit, text.len())))
+}
