@@ -1,6 +1,10 @@
 // Lent tables of words.
 ghost use mathlib.Core.Path.{_≡_};
-ghost use Rattle.plan.specs.Circuit.{cleared};
+ghost use Prim.Native.Nat.{_≤_};
+ghost use Rattle.plan.specs.Literals.{most};
+ghost use Rattle.plan.specs.Circuit.{cleared, wordsToRead, against, short};
+ghost use Rattle.tables.specs.Lengths.{five, tableOf};
+use plan::Counts;
 
 // Zero throughout.
 pub fn clear(table: &mut [u32])
@@ -11,4 +15,34 @@ pub fn clear(table: &mut [u32])
         table[i] = 0;
         i += 1;
     }
+}
+
+// Refusal 4: the least of tables 1 to 5 that is shorter than the counts ask, or 0. Tables are looked at in the order of their numbers.
+pub fn too_short(
+    n: Counts,
+    inputs: usize,
+    latches: usize,
+    outputs: usize,
+    gates: usize,
+    scratch: usize,
+) -> usize
+    requires { ⌜ (n .M ≤ most) × (n .L ≤ most) × (n .O ≤ most) × (n .A ≤ most) ⌝ }
+    ensures { λ r. ⌜ tableOf r ≡ short (against 1 (wordsToRead n) (five inputs latches outputs gates scratch)) ⌝ }
+{
+    if inputs < n.I {
+        return 1;
+    }
+    if latches < 2 * n.L {
+        return 2;
+    }
+    if outputs < n.O {
+        return 3;
+    }
+    if gates < 3 * n.A {
+        return 4;
+    }
+    if scratch < 4 * (n.M + 1) + n.O {
+        return 5;
+    }
+    0
 }
