@@ -2,6 +2,7 @@
 pub mod Refinement
 pub mod Values
 pub mod Rank
+pub mod Ascending
 pub mod Monotone
 pub mod Lists
 pub mod Found

@@ -1,0 +1,91 @@
+-- A table's rows, each at its own place: a list of n rows grows by its last one.
+use Prim.Native.Nat.{ℕ, zero, suc, _+_, _*_, _≤_, _<_}
+use mathlib.Core.Path.{_≡_, refl, sym, ap, ap₂, _∙_}
+use mathlib.Core.List.{List, [], _∷_, _++_, map, map-append}
+use native.Mathlib.Nat.{mul-zero, mul-suc}
+use native.Mathlib.Omega.{arith}
+use lib.ListN.{length, getD, take, drop, length-append}
+use lib.Seq.{getD-take, getD-drop, drop-drop, take-suc}
+use Rattle.plan.specs.Circuit.{Gate, Latch, literalOf, latchOf, gateOf, rowsOf}
+
+-- row i of k words
+abbrev pub rowAt : ℕ → List ℕ → ℕ → List ℕ
+rowAt k t i = take k (drop (k * i) t)
+
+rows-snoc : (k n : ℕ) (t : List ℕ) → rowsOf k (suc n) t ≡ rowsOf k n t ++ (rowAt k t n ∷ [])
+rows-snoc k zero t = ap (λ (m : ℕ). take k (drop m t) ∷ []) (sym (mul-zero k))
+rows-snoc k (suc n) t =
+    ap (λ (r : List (List ℕ)). take k t ∷ r) (rows-snoc k n (drop k t))
+    ∙ ap (λ (l : List ℕ). take k t ∷ (rowsOf k n (drop k t) ++ (take k l ∷ []))) (drop-drop (k * n) k t ∙ ap (λ (m : ℕ). drop m t) (next k n))
+  where
+    next : (k n : ℕ) → k + k * n ≡ k * suc n
+    next k n = omega (arith, mul-suc k n)
+
+module _ {A : Type 0} where
+  -- the first n of what stands at each place
+  abbrev pub firsts : (ℕ → A) → ℕ → List A
+  firsts at zero = []
+  firsts at (suc n) = firsts at n ++ (at n ∷ [])
+
+  pub length-firsts : (at : ℕ → A) (n : ℕ) → length (firsts at n) ≡ n
+  length-firsts at zero = refl
+  length-firsts at (suc n) = length-append (firsts at n) (at n ∷ []) ∙ omega (arith, length-firsts at n)
+
+  -- a table as a list of rows is the list of what stands at each place
+  pub rows-firsts : (k : ℕ) (f : List ℕ → A) (at : ℕ → A) (t : List ℕ) → ((i : ℕ) → f (rowAt k t i) ≡ at i) → (n : ℕ)
+      → map f (rowsOf k n t) ≡ firsts at n
+  rows-firsts k f at t e zero = refl
+  rows-firsts k f at t e (suc n) =
+      ap (map f) (rows-snoc k n t) ∙ (map-append f (rowsOf k n t) (rowAt k t n ∷ [])
+      ∙ ap₂ (λ (xs : List A) (x : A). xs ++ (x ∷ [])) (rows-firsts k f at t e n) (e n))
+
+-- word j of row i
+row-word : (k : ℕ) (t : List ℕ) (i j : ℕ) → j < k → getD (rowAt k t i) j 0 ≡ getD t (k * i + j) 0
+row-word k t i j h = getD-take k (drop (k * i) t) j 0 h ∙ getD-drop (k * i) t j 0
+
+-- gates
+abbrev pub gateAt : List ℕ → ℕ → Gate
+gateAt t i = record { lhs = getD t (3 * i) 0; rhs0 = getD t (3 * i + 1) 0; rhs1 = getD t (3 * i + 2) 0 }
+
+abbrev pub gatesAt : List ℕ → ℕ → List Gate
+gatesAt t = firsts (gateAt t)
+
+pub gates-rows : (t : List ℕ) (n : ℕ) → map gateOf (rowsOf 3 n t) ≡ gatesAt t n
+gates-rows t = rows-firsts 3 gateOf (gateAt t) t (λ i. row i)
+  where
+    row : (i : ℕ) → gateOf (rowAt 3 t i) ≡ gateAt t i
+    row i =
+        let z : 3 * i + 0 ≡ 3 * i = omega arith in
+        λ j. record {
+          lhs = (row-word 3 t i 0 (omega arith) ∙ ap (λ (m : ℕ). getD t m 0) z) j;
+          rhs0 = row-word 3 t i 1 (omega arith) j;
+          rhs1 = row-word 3 t i 2 (omega arith) j;
+        }
+
+-- latches
+abbrev pub latchAt : List ℕ → ℕ → Latch
+latchAt t i = record { current = getD t (2 * i) 0; next = getD t (2 * i + 1) 0 }
+
+pub latches-rows : (t : List ℕ) (n : ℕ) → map latchOf (rowsOf 2 n t) ≡ firsts (latchAt t) n
+latches-rows t = rows-firsts 2 latchOf (latchAt t) t (λ i. row i)
+  where
+    row : (i : ℕ) → latchOf (rowAt 2 t i) ≡ latchAt t i
+    row i =
+        let z : 2 * i + 0 ≡ 2 * i = omega arith in
+        λ j. record {
+          current = (row-word 2 t i 0 (omega arith) ∙ ap (λ (m : ℕ). getD t m 0) z) j;
+          next = row-word 2 t i 1 (omega arith) j;
+        }
+
+-- inputs and outputs: rows of one word
+pub words-rows : (t : List ℕ) (n : ℕ) → map literalOf (rowsOf 1 n t) ≡ firsts (λ i. getD t i 0) n
+words-rows t = rows-firsts 1 literalOf (λ i. getD t i 0) t (λ i. row i)
+  where
+    row : (i : ℕ) → literalOf (rowAt 1 t i) ≡ getD t i 0
+    row i =
+        let z : 1 * i + 0 ≡ i = omega arith in
+        row-word 1 t i 0 (omega arith) ∙ ap (λ (m : ℕ). getD t m 0) z
+
+pub words-take : (t : List ℕ) (n : ℕ) → n ≤ length t → take n t ≡ firsts (λ i. getD t i 0) n
+words-take t zero h = refl
+words-take t (suc n) h = take-suc t n 0 (omega arith) ∙ ap (λ (l : List ℕ). l ++ (getD t n 0 ∷ [])) (words-take t n (omega arith))
