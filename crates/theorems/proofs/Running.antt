@@ -22,6 +22,7 @@ pub mod Settled
 pub mod Converted
 pub mod ConvertStep
 pub mod Scan
+pub mod FirstOut
 pub mod Unchanged
 pub mod Results
 pub mod WithoutX
