@@ -2,6 +2,7 @@
 pub mod Refinement
 pub mod Values
 pub mod Rank
+pub mod Ascending
 pub mod Monotone
 pub mod Lists
 pub mod Found
@@ -21,6 +22,7 @@ pub mod Settled
 pub mod Converted
 pub mod ConvertStep
 pub mod Scan
+pub mod FirstOut
 pub mod Unchanged
 pub mod Results
 pub mod WithoutX

@@ -16,7 +16,8 @@ rows-snoc : (k n : ℕ) (t : List ℕ) → rowsOf k (suc n) t ≡ rowsOf k n t +
 rows-snoc k zero t = ap (λ (m : ℕ). take k (drop m t) ∷ []) (sym (mul-zero k))
 rows-snoc k (suc n) t =
     ap (λ (r : List (List ℕ)). take k t ∷ r) (rows-snoc k n (drop k t))
-    ∙ ap (λ (l : List ℕ). take k t ∷ (rowsOf k n (drop k t) ++ (take k l ∷ []))) (drop-drop (k * n) k t ∙ ap (λ (m : ℕ). drop m t) (next k n))
+    ∙ ap (λ (l : List ℕ). take k t ∷ (rowsOf k n (drop k t) ++ (take k l ∷ [])))
+    (drop-drop (k * n) k t ∙ ap (λ (m : ℕ). drop m t) (next k n))
   where
     next : (k n : ℕ) → k + k * n ≡ k * suc n
     next k n = omega (arith, mul-suc k n)

@@ -1,5 +1,5 @@
 -- The order of new numbers, said by a scan of all gates in file order that starts again after every number; every gate gets one.
-use Prim.Native.Nat.{ℕ, zero, suc}
+use Prim.Native.Nat.{ℕ, zero, suc, _≤_}
 use mathlib.Core.Path.{_≡_, refl, sym, ap, ap₂, _∙_}
 use mathlib.Core.Bool.{Bool, true, false, not, cond, _&&_, _||_, false≢true}
 use mathlib.Core.Option.{Option, none, some}
@@ -136,3 +136,11 @@ every-gate c ok =
           (λ v h. has-rest v (leaves c) (lefts (sorted c)) (gets-number c ok v (has-right v (leaves c) (lefts (c .gates)) h))
           (apart (leaves c) (lefts (c .gates)) (ok .once) v h)),
     )
+
+pub scanned-length : (all : List Gate) (k : ℕ) (o : List ℕ) → length (scanned all k o) ≤ k
+scanned-length all zero o = omega arith
+scanned-length all (suc k) o = go (scan o all) (λ o′. scanned-length all k o′)
+  where
+    go : (r : Option Gate) → ((o′ : List ℕ) → length (scanned all k o′) ≤ k) → length (scanGo (λ o′. scanned all k o′) o r) ≤ suc k
+    go none ih = omega arith
+    go (some g) ih = omega (arith, ih (o ++ (varOf (g .lhs) ∷ [])))

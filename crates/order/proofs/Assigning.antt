@@ -1,0 +1,69 @@
+-- The loop that gives the numbers, by the laws of the plain scan.
+use Prim.Native.Nat.{ℕ, _+_, _-_, _*_, _<_, _≤_}
+use mathlib.Core.Path.{_≡_, sym, ap, _∙_, subst}
+use mathlib.Core.Bool.{true}
+use mathlib.Core.List.{List}
+use native.Mathlib.Omega.{arith}
+use lib.ListN.{length, set, length-set}
+use Rattle.plan.specs.Literals.{varOf}
+use Rattle.theorems.proofs.Tables.{gateAt}
+use Rattle.order.specs.Numbers.{NumTable, InRange}
+use Rattle.order.specs.Waiting.{shown, clean, readyAt, Chains, Marks, Before, Given}
+use Rattle.order.proofs.Shown.{shown-low, clean-length, clean-set, clean-same, ready-clean}
+use Rattle.order.proofs.Numbering.{Starts}
+use Rattle.order.proofs.Going.{NotReady, Going, Final, going-start, going-more, going-break, going-end}
+use Rattle.order.proofs.Idling.{Idle}
+
+-- the outer loop's state. Whatever the variables are that t₀ numbers, all of them below `first`, k more are numbered now
+pub record State (gates t₀ t : List ℕ) (n a first next from k : ℕ) : Type 0 where
+  pub long : n ≤ length t
+  pub chains : Chains gates t n (2 * a)
+  pub marks : Marks gates t n a from (Before a)
+  pub going : (lv : List ℕ) → NumTable lv (clean n t₀) → Starts lv → length lv ≡ first → Going gates lv (clean n t) a next k
+
+abbrev pub Done : List ℕ → List ℕ → List ℕ → ℕ → ℕ → ℕ → Type 0
+Done gates t₀ t n a first = (lv : List ℕ) → NumTable lv (clean n t₀) → Starts lv → length lv ≡ first → Final gates lv (clean n t) a
+
+module _ (gates t₀ t : List ℕ) (n a first next from k : ℕ) (range : InRange n gates a) (s : State gates t₀ t n a first next from k) where
+  range′ : InRange (length (clean n t)) gates a
+  range′ = subst (λ (m : ℕ). InRange m gates a) (sym (clean-length n t (s .long))) range
+
+  idle-not : (j : ℕ) → j ≤ a → Idle gates t a j → NotReady gates (clean n t) j
+  idle-not j h f i k = ready-clean n t (gateAt gates i) (range i (omega arith)) ∙ f i k (omega arith)
+
+  pub state-break : (j : ℕ) → a ≤ j → Idle gates t a j → Done gates t₀ t n a first
+  state-break j h f lv tab st len =
+      going-break gates lv (clean n t) a next k range′ (idle-not a (omega arith) (λ i p q. f i (omega arith) q)) (s .going lv tab st len)
+
+  pub state-end : a ≤ k → Done gates t₀ t n a first
+  state-end h lv tab st len = going-end gates lv (clean n t) a next k h (s .going lv tab st len)
+
+  pub state-more : (u : List ℕ) (j r : ℕ) → k < a → j < a → next < 2147483648 → Idle gates t a j → readyAt gates t j ≡ true
+      → length u ≡ length t
+      → Given gates t u n a j next r → State gates t₀ u n a first (next + 1) r (k + 1)
+  state-more u j r hk hj small f e same-length g = record {
+    long = omega (arith, s .long);
+    chains = g .chains;
+    marks = g .marks;
+    going = λ lv tab st len.
+        subst (λ (c : List ℕ). Going gates lv c a (next + 1) (k + 1)) same
+        (going-more gates lv (clean n t) a next k j hk hj range′ (idle-not j (omega arith) f)
+        (ready-clean n t (gateAt gates j) (range j hj) ∙ e) (s .going lv tab st len));
+  }
+    where
+      same : set (clean n t) (varOf (gateAt gates j .lhs)) next ≡ clean n u
+      same =
+          sym (clean-same n (set t (varOf (gateAt gates j .lhs)) next) u
+          (omega (arith, s .long, length-set t (varOf (gateAt gates j .lhs)) next)) (omega (arith, s .long))
+          (λ w q. ap shown (g .low w (omega arith)))
+          ∙ clean-set n t (varOf (gateAt gates j .lhs)) next (range j hj .0)
+          ∙ ap (set (clean n t) (varOf (gateAt gates j .lhs))) (shown-low next small))
+
+pub state-start : (gates t : List ℕ) (n a first : ℕ) → n ≤ length t → Chains gates t n (2 * a) → Marks gates t n a 0 (Before a)
+    → State gates t t n a first first 0 0
+state-start gates t n a first l c m = record {
+  long = l;
+  chains = c;
+  marks = m;
+  going = λ lv tab st len. going-start gates lv (clean n t) a first tab st len;
+}

@@ -1,0 +1,15 @@
+pub mod Shown
+pub mod Hanging
+pub mod Marking
+pub mod Unmarking
+pub mod Skipping
+pub mod Spaces
+pub mod Waking
+pub mod NewNumber
+pub mod Numbering
+pub mod Going
+pub mod Idling
+pub mod Assigning
+pub mod Settling
+pub mod Rising
+pub mod Refusing

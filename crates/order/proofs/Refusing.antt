@@ -1,0 +1,113 @@
+-- The first gate without a number is the one that 8 names.
+use Prim.Native.Nat.{ℕ, zero, suc, _+_, _<_, _≤_}
+use mathlib.Core.Path.{_≡_, refl, sym, ap, _∙_, subst}
+use mathlib.Core.Bool.{Bool, true, false, not, cond, _||_}
+use mathlib.Core.Option.{none, some}
+use mathlib.Core.List.{List, [], _∷_, _++_, map}
+use native.Mathlib.Nat.{not-suc-le-zero}
+use native.Mathlib.Omega.{arith}
+use borrow.Author.Tests.{eqb-true, eqb-false}
+use lib.Dec.{eqb}
+use lib.ListN.{length, getD, take, length-take, length-append}
+use lib.Seq.{getD-take}
+use Rattle.plan.specs.Literals.{varOf}
+use Rattle.plan.specs.Circuit.{Gate, Circuit, gateOf, rowsOf, lefts, rights, has}
+use Rattle.plan.specs.Depends.{cyclicIn}
+use Rattle.plan.specs.Convert.{leaves}
+use Rattle.theorems.proofs.Reading.Members.{distinct}
+use Rattle.theorems.proofs.Reading.Cycles.{length-lefts}
+use Rattle.theorems.proofs.Running.Lists.{allIn}
+use Rattle.theorems.proofs.Running.Scan.{scanned, scanned-length}
+use Rattle.theorems.proofs.Running.FirstOut.{firstOut, out-append-none, out-append-some, cyclic-out}
+use Rattle.theorems.proofs.Tables.{gateAt, gatesAt, gates-rows, length-firsts}
+use Rattle.order.specs.Numbers.{numberedT, NumTable, InRange}
+use Rattle.order.specs.Waiting.{numberedV, FirstAt}
+use Rattle.order.proofs.Shown.{shown-low}
+use Rattle.order.proofs.Numbering.{Starts, numbered-has}
+use Rattle.order.proofs.Settling.{small-words}
+
+-- by places: all are in o; all before r are, and r is not
+out-none : (o gates : List ℕ) (a : ℕ) → ((i : ℕ) → i < a → has (varOf (gateAt gates i .lhs)) o ≡ true) → firstOut o (gatesAt gates a) ≡ none
+out-none o gates zero h = refl
+out-none o gates (suc a) h =
+    out-append-none o (gatesAt gates a) (gateAt gates a ∷ []) (out-none o gates a (λ i k. h i (omega arith)))
+    ∙ ap (λ (b : Bool). cond b none (some (varOf (gateAt gates a .lhs)))) (h a (omega arith))
+
+out-some : (o gates : List ℕ) (a r : ℕ) → r < a → ((i : ℕ) → i < r → has (varOf (gateAt gates i .lhs)) o ≡ true)
+    → has (varOf (gateAt gates r .lhs)) o ≡ false → firstOut o (gatesAt gates a) ≡ some (varOf (gateAt gates r .lhs))
+out-some o gates zero r h f e = absurd (not-suc-le-zero h)
+out-some o gates (suc a) r h f e = go (eqb r a) refl (λ q. out-some o gates a r q f e)
+  where
+    go : (b : Bool) → eqb r a ≡ b → (r < a → firstOut o (gatesAt gates a) ≡ some (varOf (gateAt gates r .lhs)))
+        → firstOut o (gatesAt gates a ++ (gateAt gates a ∷ [])) ≡ some (varOf (gateAt gates r .lhs))
+    go true z ih =
+        subst (λ (m : ℕ). firstOut o (gatesAt gates m ++ (gateAt gates m ∷ [])) ≡ some (varOf (gateAt gates r .lhs))) (eqb-true r a z)
+        (out-append-none o (gatesAt gates r) (gateAt gates r ∷ []) (out-none o gates r f)
+        ∙ ap (λ (b : Bool). cond b none (some (varOf (gateAt gates r .lhs)))) e)
+    go false z ih =
+        out-append-some o (gatesAt gates a) (gateAt gates a ∷ []) (varOf (gateAt gates r .lhs)) (ih (omega (arith, eqb-false r a z)))
+
+-- a table of numbers is a table of words that show them
+numbered-take : (t : List ℕ) (n v : ℕ) → v < n → getD t v 0 < 2147483648 → numberedT (take n t) v ≡ numberedV t v
+unfolding numberedT numberedV
+numbered-take t n v h small = ap (λ (w : ℕ). eqb v 0 || not (eqb w 0)) (getD-take n t v 0 h ∙ sym (shown-low (getD t v 0) small))
+
+module _ (gates t o : List ℕ) (n a r : ℕ) (long : n ≤ length t) (range : InRange n gates a) (starts : Starts o)
+    (short : length o < 2147483648) (tab : NumTable o (take n t)) (f : FirstAt gates t a r) where
+  same : (i : ℕ) → i < a → has (varOf (gateAt gates i .lhs)) o ≡ numberedV t (varOf (gateAt gates i .lhs))
+  same i k =
+      let v = varOf (gateAt gates i .lhs) in
+      let inn = range i k .0 in
+      sym (numbered-has o (take n t) starts tab v (omega (arith, inn, length-take n t)))
+      ∙ numbered-take t n v inn (small-words o t n long short tab v inn)
+
+  pub out-good : r ≡ a → firstOut o (gatesAt gates a) ≡ none
+  out-good e = out-none o gates a (λ i k. same i k ∙ f .before i (omega arith))
+
+  pub out-here : (r ≡ a → ⊥) → firstOut o (gatesAt gates a) ≡ some (varOf (gateAt gates r .lhs))
+  out-here e =
+      let h : r < a = omega (arith, f .within, e) in
+      out-some o gates a r h (λ i k. same i (omega arith) ∙ f .before i k) (same r h ∙ f .there h)
+
+-- of a circuit
+module _ (gates t : List ℕ) (n a first : ℕ) (c : Circuit) (its : c .gates ≡ map gateOf (rowsOf 3 a gates))
+    (once : distinct (leaves c ++ lefts (c .gates)) ≡ true)
+    (used : allIn (rights (c .gates)) (leaves c ++ lefts (c .gates)) ≡ true) (count : length (leaves c) ≡ first)
+    (long : n ≤ length t) (range : InRange n gates a) (few : first + a < 2147483648)
+    (tab : NumTable (leaves c ++ lefts (scanned (map gateOf (rowsOf 3 a gates)) a (leaves c))) (take n t)) (r : ℕ)
+    (f : FirstAt gates t a r) where
+  rows : c .gates ≡ gatesAt gates a
+  rows = its ∙ gates-rows gates a
+
+  o : List ℕ
+  o = leaves c ++ lefts (scanned (map gateOf (rowsOf 3 a gates)) a (leaves c))
+
+  size : length (c .gates) ≡ a
+  size = ap length rows ∙ length-firsts (gateAt gates) a
+
+  short : length o < 2147483648
+  unfolding o
+  short =
+      let gs = map gateOf (rowsOf 3 a gates) in
+      omega (
+        arith,
+        length-append (leaves c) (lefts (scanned gs a (leaves c))),
+        length-lefts (scanned gs a (leaves c)),
+        scanned-length gs a (leaves c),
+      )
+
+  place : cyclicIn c ≡ firstOut o (gatesAt gates a)
+  unfolding o
+  place =
+      cyclic-out c once used
+      ∙ (ap (λ (k : ℕ). firstOut (leaves c ++ lefts (scanned (c .gates) k (leaves c))) (c .gates)) size
+      ∙ (ap (λ (gs : List Gate). firstOut (leaves c ++ lefts (scanned gs a (leaves c))) (c .gates)) its
+      ∙ ap (firstOut (leaves c ++ lefts (scanned (map gateOf (rowsOf 3 a gates)) a (leaves c)))) rows))
+
+  pub cycle-good : r ≡ a → cyclicIn c ≡ none
+  unfolding o
+  cycle-good e = place ∙ out-good gates t o n a r long range refl short tab f e
+
+  pub cycle-here : (r ≡ a → ⊥) → cyclicIn c ≡ some (varOf (gateAt gates r .lhs))
+  unfolding o
+  cycle-here e = place ∙ out-here gates t o n a r long range refl short tab f e

@@ -1,0 +1,98 @@
+-- From one part of `number` to the next: what the words show at its start, between and at its end.
+use Prim.Native.Nat.{ℕ, _+_, _-_, _*_, _/_, _<_, _≤_}
+use mathlib.Core.Path.{_≡_, refl, sym, ap, _∙_, subst}
+use mathlib.Core.Bool.{Bool, true, false, cond}
+use mathlib.Core.List.{List, [], _++_, map, append-nil}
+use native.Mathlib.Omega.{arith}
+use borrow.Author.Tests.{eqb-true, eqb-false}
+use lib.Dec.{eqb}
+use lib.ListN.{length, getD, set, take, length-take}
+use lib.Seq.{getD-set-same, getD-set-other, getD-take}
+use Rattle.plan.specs.Circuit.{Gate, gateOf, rowsOf, lefts, has}
+use Rattle.plan.specs.Convert.{index}
+use Rattle.theorems.proofs.Tables.{gatesAt, gates-rows}
+use Rattle.theorems.proofs.Running.Lists.{index-front}
+use Rattle.theorems.proofs.Running.Scan.{scanned}
+use Rattle.order.specs.Numbers.{NumTable}
+use Rattle.order.specs.Waiting.{shown, headOf, clean, Top, p0, Chains, Agree, Hung, Ups, Fresh, Unmarked}
+use Rattle.order.proofs.Shown.{shown-low, clean-at, clean-length, numbered-by}
+use Rattle.order.proofs.Numbering.{Starts}
+use Rattle.order.proofs.Assigning.{Done}
+
+-- the numbers before and after
+index-below : (v : ℕ) (o : List ℕ) → has v o ≡ true → index v o < length o
+index-below v o h = subst (λ (l : List ℕ). index v l < length o) (append-nil o) (index-front v o [] h)
+
+pub small-words : (lv t : List ℕ) (n : ℕ) → n ≤ length t → length lv < 2147483648 → NumTable lv (take n t) → Fresh t n
+unfolding NumTable
+small-words lv t n l h tab v k = go (has v lv) refl
+  where
+    e : getD t v 0 ≡ cond (has v lv) (index v lv) 0
+    e = sym (getD-take n t v 0 k) ∙ tab v (omega (arith, length-take n t))
+
+    go : (b : Bool) → has v lv ≡ b → getD t v 0 < 2147483648
+    go true q = let z = e ∙ ap (λ (b : Bool). cond b (index v lv) 0) q in omega (arith, z, index-below v lv q)
+    go false q = let z = e ∙ ap (λ (b : Bool). cond b (index v lv) 0) q in omega (arith, z)
+
+pub table-in : (lv t u : List ℕ) (n : ℕ) → n ≤ length t → n ≤ length u → Fresh t n
+    → ((v : ℕ) → v < n → shown (getD u v 0) ≡ shown (getD t v 0)) → NumTable lv (take n t) → NumTable lv (clean n u)
+unfolding NumTable
+table-in lv t u n lt lu small same tab v h =
+    let k : v < n = omega (arith, clean-length n u lu) in
+    clean-at n u v k ∙ same v k ∙ shown-low (getD t v 0) (small v k) ∙ sym (getD-take n t v 0 k) ∙ tab v (omega (arith, length-take n t))
+
+pub table-out : (o t u : List ℕ) (n : ℕ) → n ≤ length t → n ≤ length u → ((v : ℕ) → v < n → getD u v 0 ≡ shown (getD t v 0))
+    → NumTable o (clean n t) → NumTable o (take n u)
+unfolding NumTable
+table-out o t u n lt lu same tab v h =
+    let k : v < n = omega (arith, length-take n u) in
+    getD-take n u v 0 k ∙ same v k ∙ sym (clean-at n t v k) ∙ tab v (omega (arith, clean-length n t lt))
+
+-- from one part of `number` to the next
+pub ups-zero : (t u : List ℕ) (n a : ℕ) → Unmarked t n a → ((p : ℕ) → n + 2 * a ≤ p → getD u p 0 ≡ getD t p 0) → Ups u n a
+ups-zero t u n a z e = record {
+  up1 = λ w k pos. let q = e (n + 2 * a + w) (omega arith) ∙ z (n + 2 * a + w) (omega arith) in absurd (omega (arith, q, pos));
+  up2 =
+      λ w k pos. let q = e (n + 2 * a + (a / 32 + 1) + w) (omega arith) ∙ z (n + 2 * a + (a / 32 + 1) + w) (omega arith) in
+      absurd (omega (arith, q, pos));
+}
+
+pub chains-agree : (gates t u : List ℕ) (n a : ℕ) → Agree (p0 n a) t u → Chains gates t n (2 * a) → Chains gates u n (2 * a)
+chains-agree gates t u n a low ch v k f =
+    let same = low v (omega arith) in
+    let c = ch v k (sym (numbered-by t u v (ap shown same)) ∙ f) in
+    record {
+      top = subst (λ (z : ℕ). Top gates (2 * a) v (headOf z)) (sym same) (c .top);
+      nexts = λ s q e. subst (λ (z : ℕ). Top gates s v z) (sym (low (n + s) (omega arith))) (c .nexts s q e);
+    }
+
+-- all parts: sides hung, gates marked, numbers given, words settled
+pub all-parts : (gates t x y z w : List ℕ) (n a first : ℕ) → n ≤ length t → n ≤ length y → n ≤ length z → n ≤ length w → Fresh t n
+    → Hung gates t x n a (2 * a) → Agree (p0 n a) x y → Done gates y z n a first → ((v : ℕ) → v < n → getD w v 0 ≡ shown (getD z v 0))
+    → (lv : List ℕ) → NumTable lv (take n t) → Starts lv → length lv ≡ first
+    → NumTable (lv ++ lefts (scanned (map gateOf (rowsOf 3 a gates)) a lv)) (take n w)
+all-parts gates t x y z w n a first lt ly lz lw fresh hung marked given settled lv tab st len =
+    subst (λ (gs : List Gate). NumTable (lv ++ lefts (scanned gs a lv)) (take n w)) (sym (gates-rows gates a))
+    (table-out (lv ++ lefts (scanned (gatesAt gates a) a lv)) z w n lz lw settled
+    (given lv (table-in lv t y n lt ly fresh (λ v k. ap shown (marked v (omega arith)) ∙ hung .keep v k) tab) st len))
+
+-- words from v on still to be settled
+pub settle-step : (t₀ t u : List ℕ) (v : ℕ) → v < length t → ((w : ℕ) → w < v → getD t w 0 ≡ shown (getD t₀ w 0))
+    → ((w : ℕ) → v ≤ w → getD t w 0 ≡ getD t₀ w 0)
+    → u ≡ set t v (shown (getD t v 0))
+    → ((w : ℕ) → w < v + 1 → getD u w 0 ≡ shown (getD t₀ w 0)) × ((w : ℕ) → v + 1 ≤ w → getD u w 0 ≡ getD t₀ w 0)
+settle-step t₀ t u v fits done rest e = (
+  yes-done,
+  λ w k. ap (λ (l : List ℕ). getD l w 0) e ∙ getD-set-other t v w (shown (getD t v 0)) 0 (λ q. omega (arith, q)) ∙ rest w
+      (omega arith),
+)
+  where
+    yes-done : (w : ℕ) → w < v + 1 → getD u w 0 ≡ shown (getD t₀ w 0)
+    yes-done w k = ap (λ (l : List ℕ). getD l w 0) e ∙ go (eqb w v) refl
+      where
+        go : (b : Bool) → eqb w v ≡ b → getD (set t v (shown (getD t v 0))) w 0 ≡ shown (getD t₀ w 0)
+        go true q =
+            let z = eqb-true w v q in
+            ap (λ (x : ℕ). getD (set t v (shown (getD t v 0))) x 0) z ∙ getD-set-same t v (shown (getD t v 0)) 0 fits
+            ∙ ap shown (rest v (omega arith)) ∙ ap (λ (x : ℕ). shown (getD t₀ x 0)) (sym z)
+        go false q = let d = eqb-false w v q in getD-set-other t v w (shown (getD t v 0)) 0 d ∙ done w (omega (arith, d))
