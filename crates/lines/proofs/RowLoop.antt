@@ -8,7 +8,7 @@ use native.Mathlib.Omega.{arith}
 use native.Mathlib.Nat.{zero-add, add-zero}
 use borrow.Author.Tests.{eqb-true, leb-false, leb-true}
 use lib.Dec.{eqb, leb}
-use lib.ListN.{length, getD, set, length-append, length-set, List·getD-eq-default}
+use lib.ListN.{length, getD, set, length-append, length-map, List·getD-eq-default}
 use Rattle.plan.specs.declared.Refusal.{Refusal}
 use Rattle.plan.specs.declared.Refusal.the-variants.{WrongByte, OutOfRange}
 use Rattle.plan.specs.declared.Number.{Number}
@@ -37,10 +37,6 @@ pub record Scan (file : List ℕ) (k : ℕ) (defines : Bool) (m at : ℕ) (t₀ 
   pub count : length ls ≡ j
   pub whole : row file k defines m at ≡ judged ls (foundOf bad) d m (numbers file left pos)
   pub table : t ≡ put t₀ base (map cut ls)
-
-length-map : (f : ℕ → ℕ) (l : List ℕ) → length (map f l) ≡ length l
-length-map f [] = refl
-length-map f (x ∷ l) = ap suc (length-map f l)
 
 pub begins : (file : List ℕ) (k : ℕ) (d : Bool) (m at : ℕ) (t : List ℕ) (base : ℕ) (bad : Found) → foundOf bad ≡ none → Scan file k d m at t base t at d bad 0
 begins file k d m at t base bad e = record {
@@ -75,7 +71,7 @@ inner file at last e = go (leb (length file) at) refl (end-pos last)
 module _ {file : List ℕ} {k : ℕ} {defines : Bool} {m at : ℕ} {t₀ : List ℕ} {base : ℕ} {t : List ℕ} {pos : ℕ} {d : Bool} {bad : Found} {j : ℕ}
     (s : Scan file k defines m at t₀ base t pos d bad j) where
   pub wide : base + k ≤ length t₀ → length t ≡ length t₀
-  wide h = ap length (s .table) ∙ put-length t₀ base (map cut (s .ls)) (omega (arith, length-map cut (s .ls), s .count, s .sum))
+  wide h = ap length (s .table) ∙ put-length t₀ base (map cut (s .ls)) (omega (arith, length-map (s .ls) cut, s .count, s .sum))
 
   -- what is left is one number and the others
   rest : j < k → (l : ℕ) × (s .left ≡ suc l) × (j + 1 + l ≡ k)
@@ -108,7 +104,7 @@ module _ {file : List ℕ} {k : ℕ} {defines : Bool} {m at : ℕ} {t₀ : List 
         let same : fine ≡ inRange d m (w .0) = f ∙ (ap (inRange d m) (w .2) ∙ cut-range d m (w .0) small) in
         let o-is : orElse (foundOf bad) (cond (inRange d m (w .0)) none (some pos)) ≡ foundOf bad′
         = ap (λ (x : Bool). orElse (foundOf bad) (cond x none (some pos))) (sym same) ∙ sym o in
-        let size : length (map cut (s .ls)) ≡ j = length-map cut (s .ls) ∙ s .count in
+        let size : length (map cut (s .ls)) ≡ j = length-map (s .ls) cut ∙ s .count in
         record {
           ls = s .ls ++ (w .0 ∷ []);
           left = l .0;

@@ -1,12 +1,16 @@
 -- What a reader leaves in tables 1 to 4: the circuit's words from the start of each; after a refusal only the refusal counts.
-use Prim.Native.Nat.{ℕ}
-use mathlib.Core.Path.{_≡_}
-use mathlib.Core.List.{List, map}
+use Prim.Native.Nat.{ℕ, _+_}
+use mathlib.Core.Path.{_≡_, refl, sym, ap, ap₂, _∙_}
+use mathlib.Core.List.{List, [], _∷_, _++_, append-assoc, map}
+use lib.ListN.{length, take, drop, length-map}
+use lib.Seq.{take-at, drop-at}
+use Rattle.plan.specs.declared.Counts.{Counts}
 use Rattle.plan.specs.declared.Passed.{Passed}
 use Rattle.plan.specs.declared.Passed.the-variants.{To, Refused}
 use Rattle.plan.specs.Refusals.{Parse, got, refused}
-use Rattle.plan.specs.Circuit.{Circuit, Tables, latchLine, gateLine, flat}
+use Rattle.plan.specs.Circuit.{Circuit, Tables, countsOf, circuitOf, latchLine, gateLine, latchOf, gateOf, rowsOf, flat}
 use Rattle.plan.specs.Outcome.{put}
+use Rattle.theorems.proofs.Reading.Rows.{Long, map-long, map-forth}
 
 pub record Holds (t : Tables) (c : Circuit) (t′ : Tables) : Type 0 where
   pub inputs : t′ .inputs ≡ put (t .inputs) 0 (c .inputs)
@@ -17,3 +21,40 @@ pub record Holds (t : Tables) (c : Circuit) (t′ : Tables) : Type 0 where
 abbrev pub BodySays : Tables → Parse Circuit → Passed → Tables → Type 0
 BodySays t (got c next) r t′ = (r ≡ To next) × Holds t c t′
 BodySays t (refused r′) r t′ = r ≡ Refused r′
+
+-- the rows of a table that starts with them
+pub rows-flat : (k : ℕ) (rows : List (List ℕ)) (more : List ℕ) → Long k rows → rowsOf k (length rows) (flat rows ++ more) ≡ rows
+rows-flat k [] more h = refl
+rows-flat k (row ∷ rows) more h =
+    let whole : (row ++ flat rows) ++ more ≡ row ++ (flat rows ++ more) = append-assoc row (flat rows) more in
+    ap₂ (λ (x : List ℕ) (y : List (List ℕ)). x ∷ y)
+    (ap (take k) whole ∙ take-at row (flat rows ++ more) k (h .0))
+    (ap (λ (x : List ℕ). rowsOf k (length rows) x) (ap (drop k) whole ∙ drop-at row (flat rows ++ more) k (h .0)) ∙ rows-flat k rows more (h .1))
+
+-- the circuit that the tables hold is the circuit that they were filled with
+pub holds-circuit : (n : Counts) (t t′ : Tables) (c : Circuit) → Holds t c t′ → countsOf c ≡ n → circuitOf n t′ ≡ c
+holds-circuit n t t′ c h e =
+    ap (λ (m : Counts). circuitOf m t′) (sym e)
+    ∙ λ i. record { M = c .M; inputs = ins i; latches = lats i; outputs = outs i; gates = gs i }
+  where
+    one : (words table table′ : List ℕ) → table′ ≡ put table 0 words → take (length words) table′ ≡ words
+    one words table table′ q = ap (take (length words)) q ∙ take-at words (drop (0 + length words) table) (length words) refl
+
+    rows : {A : Type 0} (k : ℕ) (f : List ℕ → A) (g : A → List ℕ) (l : List A) (table table′ : List ℕ) → ((a : A) → f (g a) ≡ a) → ((a : A) → length (g a) ≡ k)
+        → table′ ≡ put table 0 (flat (map g l)) → map f (rowsOf k (length l) table′) ≡ l
+    rows k f g l table table′ back long q =
+        ap (λ (x : List ℕ). map f (rowsOf k (length l) x)) q
+        ∙ (ap (λ (x : ℕ). map f (rowsOf k x (flat (map g l) ++ drop (0 + length (flat (map g l))) table))) (sym (length-map l g))
+        ∙ (ap (map f) (rows-flat k (map g l) (drop (0 + length (flat (map g l))) table) (map-long k g long l)) ∙ map-forth f g back l))
+
+    ins : take (length (c .inputs)) (t′ .inputs) ≡ c .inputs
+    ins = one (c .inputs) (t .inputs) (t′ .inputs) (h .inputs)
+
+    outs : take (length (c .outputs)) (t′ .outputs) ≡ c .outputs
+    outs = one (c .outputs) (t .outputs) (t′ .outputs) (h .outputs)
+
+    lats : map latchOf (rowsOf 2 (length (c .latches)) (t′ .latches)) ≡ c .latches
+    lats = rows 2 latchOf latchLine (c .latches) (t .latches) (t′ .latches) (λ a. refl) (λ a. refl) (h .latches)
+
+    gs : map gateOf (rowsOf 3 (length (c .gates)) (t′ .gates)) ≡ c .gates
+    gs = rows 3 gateOf gateLine (c .gates) (t .gates) (t′ .gates) (λ a. refl) (λ a. refl) (h .gates)
