@@ -53,7 +53,7 @@ pub passed-to : (p : Parse (List ℕ)) (next : ℕ) → To next ≡ passedBy p �
 passed-to (got ls n) next e = (ls, ap (got ls) (cc))
 passed-to (refused r) next e = let z : _≡_ {A = ℕ} 0 1 = cc in absurd (omega arith)
 
-passed-refused : (p : Parse (List ℕ)) (r : Refusal) → Refused r ≡ passedBy p → p ≡ refused r
+pub passed-refused : (p : Parse (List ℕ)) (r : Refusal) → Refused r ≡ passedBy p → p ≡ refused r
 passed-refused (got ls n) r e = let z : _≡_ {A = ℕ} 0 1 = cc in absurd (omega arith)
 passed-refused (refused q) r e = let same : q ≡ r = cc in ap refused same
 

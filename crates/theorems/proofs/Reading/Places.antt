@@ -102,7 +102,7 @@ module _ (file : List ℕ) where
       (λ _. stays-cond (eqb (getD file at 0) 105) (got binary (at + 1)) (refused (WrongByte at))
       (λ e. on (omega (arith, byte-in at (omega (arith, eqb-true (getD file at 0) 105 e))))) (λ _. off (λ _. h)))
 
-  header-stays : (at : ℕ) → at ≤ length file → Stays (header file at)
+  pub header-stays : (at : ℕ) → at ≤ length file → Stays (header file at)
   header-stays at h =
       stays-then (expect file 97 at) _ (expect-stays 97 at (omega arith) h) (λ _ a h1.
       stays-then (letter file a) _ (letter-stays a h1) (λ f b h2.

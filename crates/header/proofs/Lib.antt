@@ -1,0 +1,5 @@
+pub mod Accepted
+pub mod FiveCounts
+pub mod FourBytes
+pub mod Limit
+pub mod Sizes

@@ -1,0 +1,36 @@
+-- An accepted header has counts at most the limit, so no sum is too large.
+use mathlib.Core.Path.{sym, ap, _∙_}
+use borrow.Author.Needs.{needs}
+use Rattle.plan.specs.Header.{wordsBy}
+use Rattle.header.proofs.Accepted.{accepted, not-accepted}
+use Rattle.header.proofs.words.Statement.{statement}
+use Rattle.header.proofs.words.Tie as tie
+
+read-header-requires : tie.Need-read-header-requires
+read-header-requires c κs = search needs
+
+enum-told : tie.Need-enum-told
+enum-told c = search needs
+
+enum-known-n : tie.Need-enum-known-n
+enum-known-n c = search needs
+
+words-of-requires : tie.Need-words-of-requires
+words-of-requires c κs =
+    accepted (c .before .before .before .before .before .args .file .now) _ _ _ (sym (c .before .n .given .1) ∙ c .before .before .before .read-header .ensures) .small
+
+returns : tie.Need-returns
+returns c =
+    let a = c .before .before .before .before .args in
+    sym (ap (wordsBy (a .table)) (not-accepted (a .file .now) _ (sym (c .enum-told .given .1) ∙ c .before .before .read-header .ensures)))
+
+returns-2 : tie.Need-returns-2
+returns-2 c =
+    let a = c .before .before .before .before .before .before .args in
+    let took = accepted (a .file .now) _ _ _ (sym (c .before .before .n .given .1) ∙ c .before .before .before .before .read-header .ensures) in
+    c .words-of .ensures ∙ sym (ap (wordsBy (a .table)) (took .head))
+
+pub words-spec : {M : Type 1} → statement M
+words-spec =
+    tie.close
+    (tie.spec read-header-requires enum-told enum-known-n words-of-requires returns returns-2)

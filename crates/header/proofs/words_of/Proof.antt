@@ -1,0 +1,54 @@
+-- Each arm answers its table.
+use native.Mathlib.Omega.{arith}
+use Rattle.header.proofs.Sizes.{no-table}
+use Rattle.header.proofs.words_of.Statement.{statement}
+use Rattle.header.proofs.words_of.Tie as tie
+
+mul-result : tie.Need-mul-result
+mul-result c = omega arith
+
+mul-result-2 : tie.Need-mul-result-2
+mul-result-2 c = omega arith
+
+add-result : tie.Need-add-result
+add-result c = omega arith
+
+mul-result-3 : tie.Need-mul-result-3
+mul-result-3 c = omega arith
+
+add-result-2 : tie.Need-add-result-2
+add-result-2 c = omega arith
+
+returns : tie.Need-returns
+returns c = rw (c .match .keys1)
+
+returns-2 : tie.Need-returns-2
+returns-2 c = rw (c .match .keys2)
+
+returns-3 : tie.Need-returns-3
+returns-3 c = rw (c .match .keys3)
+
+returns-4 : tie.Need-returns-4
+returns-4 c = rw (c .match .keys4)
+
+returns-5 : tie.Need-returns-5
+returns-5 c = rw (c .match .keys5)
+
+returns-6 : tie.Need-returns-6
+returns-6 c = let a = c .before .args in let r = c .match .rest in no-table (a .n) (a .table) (r .0 .0 .0 .0 .1) (r .0 .0 .0 .1) (r .0 .0 .1) (r .0 .1) (r .1)
+
+pub words-of-spec : {M : Type 1} → statement M
+words-of-spec =
+    tie.close
+    (tie.spec
+    mul-result
+    mul-result-2
+    add-result
+    mul-result-3
+    add-result-2
+    returns
+    returns-2
+    returns-3
+    returns-4
+    returns-5
+    returns-6)
