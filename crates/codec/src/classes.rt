@@ -1,5 +1,7 @@
 // The six classes of bytes (the paper, text form).
 ghost use mathlib.Core.Path.{_≡_};
+ghost use lib.Dec.{eqb};
+ghost use lib.ListN.{getD};
 ghost use Rattle.plan.specs.Bytes.{classOf, digitClass};
 use plan::Class;
 
@@ -29,4 +31,14 @@ pub fn is_digit(c: Class) -> bool
         Class::Print => false,
         Class::Rest => false,
     }
+}
+
+// Whether a byte stands at a position. Past the end 0 is read, which stands nowhere.
+pub fn stands(file: &[u8], at: usize, b: u8) -> bool
+    ensures { λ r. ⌜ r ≡ eqb (getD (now (file .entry)) at 0) b ⌝ }
+{
+    if file.len() <= at {
+        return 0 == b;
+    }
+    file[at] == b
 }

@@ -1,11 +1,10 @@
-// The header of both forms (document 001, section 5), and the desk's question how many words a table needs.
+// The header of both forms (AIGER report, section 5), and the desk's question how many words a table needs.
 ghost use mathlib.Core.Path.{_≡_};
-ghost use lib.Dec.{eqb};
-ghost use lib.ListN.{getD};
 ghost use Rattle.plan.specs.Header.{header, wordsFor, listOf};
 ghost use Rattle.plan.specs.Outcome.{headedBy};
 ghost use Rattle.theorems.proofs.Reading.Headers.{AllMost};
 ghost use Rattle.header.specs.Parts.{formOf, magicEnd, magic, counted, ofCount, sums, wordsOf};
+use codec::classes::stands;
 use lines::read_row;
 use plan::Counts;
 use plan::Headed;
@@ -20,16 +19,6 @@ enum Magic {
     Text,
     Binary,
     Wrong(usize),
-}
-
-// Whether a byte stands at an offset, which may lie past the end.
-fn stands(file: &[u8], at: usize, b: u8) -> bool
-    ensures { λ r. ⌜ r ≡ eqb (getD (now (file .entry)) at 0) b ⌝ }
-{
-    if file.len() <= at {
-        return b == 0;
-    }
-    file[at] == b
 }
 
 fn end_of_magic(file: &[u8], form: Magic) -> Magic
@@ -69,7 +58,7 @@ fn of_count(r: Refusal) -> Refusal
     r
 }
 
-// In text variables may be left over, in binary not (document 001, section 11).
+// In text variables may be left over, in binary not (AIGER report, section 11).
 fn adds_up(binary: bool, sum: usize, m: usize) -> bool
     ensures { λ r. ⌜ r ≡ sums binary sum m ⌝ }
 {

@@ -10,6 +10,7 @@ ghost use Rattle.plan.specs.Given.{refusalOf};
 ghost use Rattle.plan.specs.Outcome.{cutNumber, passedBy, checkedBy};
 ghost use Rattle.tail.specs.Marks.{symbolLine, entryOf, firstWord, markedSymbol, marksAfter, Holds, Blank};
 use codec::classes::class_of;
+use codec::classes::stands;
 use codec::numbers::read_number;
 use plan::Checked;
 use plan::Class;
@@ -17,16 +18,6 @@ use plan::Counts;
 use plan::Number;
 use plan::Passed;
 use plan::Refusal;
-
-// Whether a byte stands at a position. Past the end 0 is read, which stands nowhere.
-fn stands(file: &[u8], at: usize, b: u8) -> bool
-    ensures { λ r. ⌜ r ≡ eqb (getD (now (file .entry)) at 0) b ⌝ }
-{
-    if file.len() <= at {
-        return 0 == b;
-    }
-    file[at] == b
-}
 
 // Whether bytes of a class stand in a name.
 fn in_name(c: Class) -> bool

@@ -4,8 +4,8 @@ use mathlib.Core.Path.{sym, ap}
 use borrow.Author.Needs.{needs}
 use lib.Dec.{eqb}
 use lib.ListN.{List·getD-eq-default}
-use Rattle.tail.proofs.stands.Statement.{statement}
-use Rattle.tail.proofs.stands.Tie as tie
+use Rattle.codec.proofs.classes.stands.Statement.{statement}
+use Rattle.codec.proofs.classes.stands.Tie as tie
 
 returns : tie.Need-returns
 returns c =
