@@ -27,7 +27,11 @@ pub fn read_text(
     requires { ⌜ 3 * n .A ≤ length (now gates) ⌝ }
     requires { ⌜ n .M < length (now marks) ⌝ }
     requires { ⌜ ((v : ℕ) → v ≤ n .M → getD (now marks) v 0 ≡ 0) ⌝ }
-    ensures { λ r. ⌜ TextSays (now (file .entry)) n at (record { inputs = now (inputs .entry); latches = now (latches .entry); outputs = now (outputs .entry); gates = now (gates .entry) }) r (record { inputs = now (inputs .exit); latches = now (latches .exit); outputs = now (outputs .exit); gates = now (gates .exit) }) (now (marks .exit)) ⌝ }
+    ensures { λ r. ⌜ TextSays (now (file .entry)) n at
+        (record { inputs = now (inputs .entry); latches = now (latches .entry); outputs = now (outputs .entry); gates = now (gates .entry) })
+        r
+        (record { inputs = now (inputs .exit); latches = now (latches .exit); outputs = now (outputs .exit); gates = now (gates .exit) })
+        (now (marks .exit)) ⌝ }
 {
     let m = n.M as u32;
     let read = read_lines(file, at, 1, true, m, n.I, inputs, marks);
