@@ -15,6 +15,7 @@ pub mod Headers
 pub mod Rows
 pub mod Texts
 pub mod Steps
+pub mod Using
 pub mod Tails
 pub mod Places
 pub mod Runs
