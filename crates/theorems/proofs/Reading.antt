@@ -20,5 +20,6 @@ pub mod Tails
 pub mod Places
 pub mod Runs
 pub mod Binaries
+pub mod NoSevenEight
 pub mod Exactly
 pub mod Spans
