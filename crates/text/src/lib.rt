@@ -1,4 +1,4 @@
-// The body of the text form (document 01, text form; document 001, section 7).
+// The body of the text form (the paper, text form; AIGER report, section 7).
 ghost use mathlib.Core.Path.{_≡_};
 ghost use Prim.Native.Nat.{ℕ, _*_, _≤_, _<_};
 ghost use lib.ListN.{length, getD};

@@ -1,6 +1,6 @@
 -- Bytes put into a buffer: what stands there then, one byte more at either end, and what a writer answers with room and without.
 use Prim.Native.Nat.{ℕ, suc, _+_, _-_, _^_, _<_, _≤_, min}
-use mathlib.Core.Path.{_≡_, sym, ap, ap₂, _∙_}
+use mathlib.Core.Path.{_≡_, refl, sym, ap, ap₂, _∙_}
 use mathlib.Core.Option.{Option, none, some}
 use mathlib.Core.List.{List, [], _∷_, _++_, append-assoc}
 use native.Mathlib.Nat.{add-zero}
@@ -63,6 +63,23 @@ module _ (l : List ℕ) (at : ℕ) (x y : List ℕ) (fits : at + length (x ++ y)
       ∙ (drop-append-add p q (length y) ∙ (drop-drop (length y) (at + length x) l ∙ ap (λ (n : ℕ). drop n l) sum))) in
       ap₂ (λ (a b : List ℕ). a ++ (y ++ b)) front back
       ∙ (append-assoc (take at l) x _ ∙ ap (λ (b : List ℕ). take at l ++ b) (sym (append-assoc x y _)))
+
+-- what is put over a part that is no longer is all that was put
+pub put-over : (l : List ℕ) (at : ℕ) (x y : List ℕ) → at ≤ length l → length x ≤ length y → put (put l at x) at y ≡ put l at y
+put-over l at x y h k =
+    let d : ℕ = length y - length x in
+    let q : List ℕ = drop (at + length x) l in
+    let long : length y ≡ length x + d = omega arith in
+    let ends : at + length x + d ≡ at + length y = omega arith in
+    let front : take at (put l at x) ≡ take at l = take-at (take at l) (x ++ q) at (length-take-le at l h) in
+    let back : drop (at + length y) (put l at x) ≡ drop (at + length y) l
+    = sym (drop-drop (length y) at (put l at x)) ∙ (ap (drop (length y)) (put-there l at x h)
+    ∙ (ap (λ (n : ℕ). drop n (x ++ q)) long ∙ (drop-append-add x q d ∙ (drop-drop d (at + length x) l ∙ ap (λ (n : ℕ). drop n l) ends)))) in
+    ap₂ (λ (a b : List ℕ). a ++ (y ++ b)) front back
+
+-- the first part of what is put at the start
+pub put-first : (l x : List ℕ) → take (length x) (put l 0 x) ≡ x
+put-first l x = take-at x (drop (0 + length x) l) (length x) refl
 
 -- the writer's answers
 module _ (l : List ℕ) (at : ℕ) (w : List ℕ) where

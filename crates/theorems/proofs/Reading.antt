@@ -15,9 +15,11 @@ pub mod Headers
 pub mod Rows
 pub mod Texts
 pub mod Steps
+pub mod Using
 pub mod Tails
 pub mod Places
 pub mod Runs
 pub mod Binaries
+pub mod NoSevenEight
 pub mod Exactly
 pub mod Spans

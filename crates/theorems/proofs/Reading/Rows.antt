@@ -9,7 +9,7 @@ use lib.ListN.{length, drop}
 use lib.Seq.{append-snoc}
 use Rattle.plan.specs.declared.Counts.{Counts}
 use Rattle.plan.specs.Literals.{varOf}
-use Rattle.plan.specs.Circuit.{Circuit, countsOf, oneLine, latchLine, gateLine, literalOf, latchOf, gateOf, heads, has, allNew, definedIn, inside, allInside}
+use Rattle.plan.specs.Circuit.{Circuit, countsOf, oneLine, latchLine, gateLine, literalOf, latchOf, gateOf, flat, heads, has, allNew, definedIn, inside, allInside}
 use Rattle.theorems.proofs.Reading.Common.{and-left, and-right, and-intro}
 use Rattle.theorems.proofs.Reading.Lines.{New, RowsOk}
 
@@ -85,6 +85,11 @@ map-back k f g h (row ∷ rows) l = ap₂ (λ (x : List ℕ) (y : List (List ℕ
 
 pub one-back : (rows : List (List ℕ)) → Long 1 rows → map oneLine (map literalOf rows) ≡ rows
 one-back = map-back 1 literalOf oneLine one-row
+
+-- rows of one literal, one after the other
+pub flat-one : (rows : List (List ℕ)) → Long 1 rows → flat rows ≡ map literalOf rows
+flat-one [] l = refl
+flat-one (row ∷ rows) l = ap₂ (λ (x y : List ℕ). x ++ y) (sym (one-row row (l .0))) (flat-one rows (l .1))
 
 pub latch-back : (rows : List (List ℕ)) → Long 2 rows → map latchLine (map latchOf rows) ≡ rows
 latch-back = map-back 2 latchOf latchLine two-row

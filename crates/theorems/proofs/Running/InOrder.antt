@@ -7,7 +7,8 @@ use native.Mathlib.Omega.{arith}
 use borrow.Author.Tests.{leb-true, le-leb}
 use lib.ListN.{length}
 use Rattle.plan.specs.Literals.{most, varOf, inRange}
-use Rattle.plan.specs.Circuit.{Gate, Latch, Circuit, oneLine, latchLine, vars, currents, definedIn, nexts, roots, rights, has, allNew, inside, allInside}
+use Rattle.plan.specs.Circuit.{Gate, Latch, Circuit, oneLine, latchLine, vars, currents, definedIn, usedIn, nexts, roots, rights, has, allNew, inside, allInside}
+use Rattle.plan.specs.Depends.{Depends}
 use Rattle.plan.specs.Reading.{WellFormed}
 use Rattle.plan.specs.Convert.{leaves}
 use Rattle.theorems.proofs.Reading.Common.{and-left, and-right, and-intro}
@@ -33,7 +34,7 @@ binary-order n [] b a = tt
 binary-order n (g ∷ gs) b a = (b .0, omega (arith, b .0, b .1), a .0, binary-order (suc n) gs (b .3) (a .1))
 
 -- what is in range has a number
-outputs-bounded : (m n : ℕ) (ls : List ℕ) → m < n → allInside false m (map oneLine ls) ≡ true → Bounded n ls
+pub outputs-bounded : (m n : ℕ) (ls : List ℕ) → m < n → allInside false m (map oneLine ls) ≡ true → Bounded n ls
 outputs-bounded m n [] k h = tt
 outputs-bounded m n (l ∷ ls) k h = (
   omega (
@@ -44,7 +45,7 @@ outputs-bounded m n (l ∷ ls) k h = (
   outputs-bounded m n ls k (and-right (inside false m (oneLine l)) (allInside false m (map oneLine ls)) h),
 )
 
-nexts-bounded : (m n : ℕ) (ls : List Latch) → m < n → allInside true m (map latchLine ls) ≡ true → Bounded n (nexts ls)
+pub nexts-bounded : (m n : ℕ) (ls : List Latch) → m < n → allInside true m (map latchLine ls) ≡ true → Bounded n (nexts ls)
 nexts-bounded m n [] k h = tt
 nexts-bounded m n (l ∷ ls) k h = (
   omega (
@@ -104,6 +105,20 @@ module _ (c : Circuit) (b : BinaryOrder c) where
     output-in = outputs-bounded (c .M) (inner c + length (c .gates)) (c .outputs) (omega (arith, b .sum)) (w .outputs);
   }
 
+  pub defined-ordered : Bounded (suc (c .M)) (nexts (c .latches)) → Bounded (suc (c .M)) (c .outputs)
+      → (v : ℕ) → has v (usedIn c) ≡ true → has v (zero ∷ definedIn c) ≡ true
+  defined-ordered n u v h =
+      ap (has v) defined-order ∙ has-up 0 (suc (c .M)) v (omega arith)
+      (omega (arith, bounded-has (suc (c .M)) (roots c ++ rights (c .gates)) used v h))
+    where
+      used : Bounded (suc (c .M)) (roots c ++ rights (c .gates))
+      used =
+          bounded-append (suc (c .M)) (roots c) (rights (c .gates)) (bounded-append (suc (c .M)) (nexts (c .latches)) (c .outputs) n u)
+          (rights-bounded (suc (c .M)) (inner c) (c .gates) (b .gates) (omega (arith, b .sum)))
+
+  pub acyclic-ordered : (v : ℕ) → ¬ Depends (c .gates) v v
+  acyclic-ordered = settled-exactly (c .gates) .0 (settled-binary (inner c) (c .gates) (order-binary (inner c) (c .gates) (b .gates)))
+
   pub well-formed : c .M ≤ most → length (c .outputs) ≤ most → Bounded (suc (c .M)) (nexts (c .latches))
       → Bounded (suc (c .M)) (c .outputs) → WellFormed c
   well-formed m o n u = record {
@@ -121,16 +136,10 @@ module _ (c : Circuit) (b : BinaryOrder c) where
     outputs = bounded-outputs (c .M) (c .outputs) u;
     gates = gates-inside (c .M) (inner c) (c .gates) (b .gates) (omega arith) (omega (arith, b .sum));
     different = ap (allNew []) in-a-row ∙ run-new (length (c .inputs)) (length (c .latches)) (length (c .gates));
-    defined = λ v h. ap (has v) defined-order ∙ has-up 0 (suc (c .M)) v (omega arith)
-        (omega (arith, bounded-has (suc (c .M)) (roots c ++ rights (c .gates)) used v h));
-    acyclic = settled-exactly (c .gates) .0 (settled-binary (inner c) (c .gates) (order-binary (inner c) (c .gates) (b .gates)));
+    defined = defined-ordered n u;
+    acyclic = acyclic-ordered;
   }
     where
-      used : Bounded (suc (c .M)) (roots c ++ rights (c .gates))
-      used =
-          bounded-append (suc (c .M)) (roots c) (rights (c .gates)) (bounded-append (suc (c .M)) (nexts (c .latches)) (c .outputs) n u)
-          (rights-bounded (suc (c .M)) (inner c) (c .gates) (b .gates) (omega (arith, b .sum)))
-
       in-a-row : definedIn c
           ≡ upFrom 1 (length (c .inputs)) ++ (upFrom (1 + length (c .inputs)) (length (c .latches)) ++ upFrom (inner c) (length (c .gates)))
       in-a-row =
