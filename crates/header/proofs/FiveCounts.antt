@@ -71,7 +71,9 @@ inside-at (v ∷ ls) e (suc i) = inside-at ls (and-right (inRange false 524287 v
 
 -- a table written whole
 put-whole : (l w : List ℕ) → length w ≡ length l → put l 0 w ≡ w
-put-whole l w e = let none-left : drop (0 + length w) l ≡ [] = drop-of-length-le l {i = 0 + length w} (omega arith) in ap (λ (x : List ℕ). w ++ x) none-left ∙ append-nil w
+put-whole l w e =
+    let none-left : drop (0 + length w) l ≡ [] = drop-of-length-le l {i = 0 + length w} (omega arith) in
+    ap (λ (x : List ℕ). w ++ x) none-left ∙ append-nil w
 
 -- 3, of counts that 1 and 2 accept
 abbrev countsBy : Form → List ℕ → ℕ → Parse Head
@@ -86,7 +88,8 @@ module _ (file : List ℕ) (form : Form) where
       go (refused r) q = absurd (not-got r ls next q)
       go (got xs n) q = by-limit (over xs) (ap (λ (o : Option ℕ). unless o OutOfRange (got (values xs) n)) (sym (outside-over xs)) ∙ q)
         where
-          by-limit : (o : Option ℕ) → unless o OutOfRange (got (values xs) n) ≡ got ls next → unless o LargeCount (countsBy form (values xs) n) ≡ countsBy form ls next
+          by-limit : (o : Option ℕ) → unless o OutOfRange (got (values xs) n) ≡ got ls next
+              → unless o LargeCount (countsBy form (values xs) n) ≡ countsBy form ls next
           by-limit none h = ap₂ (countsBy form) (got-value _ ls n next h) (got-next _ ls n next h)
           by-limit (some x) h = absurd (not-got (OutOfRange x) ls next h)
 
@@ -102,7 +105,8 @@ module _ (file : List ℕ) (form : Form) where
           ap refused (same ∙ rw one)
       go (got xs n) h e = by-limit (over xs) (ap (λ (o : Option ℕ). unless o OutOfRange (got (values xs) n)) (sym (outside-over xs)) ∙ e)
         where
-          by-limit : (o : Option ℕ) → unless o OutOfRange (got (values xs) n) ≡ refused r → unless o LargeCount (countsBy form (values xs) n) ≡ refused (ofCount r)
+          by-limit : (o : Option ℕ) → unless o OutOfRange (got (values xs) n) ≡ refused r
+              → unless o LargeCount (countsBy form (values xs) n) ≡ refused (ofCount r)
           by-limit none q = absurd (not-got r _ _ (sym q))
           by-limit (some x) q = let same : OutOfRange x ≡ r = cc in ap (λ (y : Refusal). refused (ofCount y)) same
 

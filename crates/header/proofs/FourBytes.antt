@@ -3,7 +3,6 @@ use Prim.Native.Nat.{ℕ}
 use mathlib.Core.Path.{_≡_, refl, sym, ap, _∙_}
 use mathlib.Core.Bool.{Bool, true, false, cond}
 use mathlib.Core.List.{List}
-use borrow.Author.Tests.{eqb-true, eqb-false, eq-eqb, ne-eqb}
 use lib.Dec.{eqb}
 use lib.ListN.{getD}
 use Rattle.plan.specs.declared.Refusal.the-variants.{LargeCount, WrongSum}
@@ -14,14 +13,6 @@ use Rattle.plan.specs.Outcome.{headedBy}
 use Rattle.header.specs.declared.Magic.{Magic}
 use Rattle.header.specs.declared.Magic.the-variants.{Text, Binary}
 use Rattle.header.specs.Parts.{magicEnd, magic, counted, headedFrom}
-
--- past the end the byte 0 is read
-pub past-end : (b x : ℕ) → x ≡ 0 → eqb b 0 ≡ eqb x b
-past-end b x e = go (eqb b 0) refl
-  where
-    go : (t : Bool) → eqb b 0 ≡ t → t ≡ eqb x b
-    go true p = sym (eq-eqb x b (e ∙ sym (eqb-true b 0 p)))
-    go false p = sym (ne-eqb x b (λ h. eqb-false b 0 p (sym h ∙ e)))
 
 module _ (file : List ℕ) where
   -- after the letter

@@ -21,6 +21,7 @@ enum Magic {
     Wrong(usize),
 }
 
+// "g " after the letter of a form.
 fn end_of_magic(file: &[u8], form: Magic) -> Magic
     ensures { λ r. ⌜ r ≡ magicEnd (now (file .entry)) form ⌝ }
 {
@@ -107,6 +108,7 @@ pub fn read_header(file: &[u8]) -> Headed
     }
 }
 
+// How many words a table needs, each count being at most the limit: 2 words to a latch, 3 to a gate.
 fn words_of(n: Counts, table: u64) -> u64
     requires { ⌜ AllMost (listOf n) ⌝ }
     ensures { λ r. ⌜ r ≡ wordsOf n table ⌝ }

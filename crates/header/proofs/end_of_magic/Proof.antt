@@ -16,11 +16,17 @@ stands-requires-2 c κs = search needs
 
 returns-2 : tie.Need-returns-2
 returns-2 c =
-    simp (sym (c .before .before .before .stands .ensures) ∙ not-false _ (c .before .before .if1 .left), sym (c .before .stands2 .ensures) ∙ not-true _ (c .if2 .taken))
+    simp (
+      sym (c .before .before .before .stands .ensures) ∙ not-false _ (c .before .before .if1 .left),
+      sym (c .before .stands2 .ensures) ∙ not-true _ (c .if2 .taken),
+    )
 
 returns-3 : tie.Need-returns-3
 returns-3 c =
-    simp (sym (c .before .before .before .stands .ensures) ∙ not-false _ (c .before .before .if1 .left), sym (c .before .stands2 .ensures) ∙ not-false _ (c .if2 .left))
+    simp (
+      sym (c .before .before .before .stands .ensures) ∙ not-false _ (c .before .before .if1 .left),
+      sym (c .before .stands2 .ensures) ∙ not-false _ (c .if2 .left),
+    )
 
 pub end-of-magic-spec : {M : Type 1} → statement M
 end-of-magic-spec =

@@ -73,7 +73,8 @@ adds-up-requires c κs = search needs
 
 returns : tie.Need-returns
 returns c =
-    sum-wrong (c .before .before .before .before .before .before .before .before .before .args .binary) (held (c .before .before)) (sym (c .before .adds-up .ensures) ∙ not-true _ (c .if1 .taken))
+    sum-wrong (c .before .before .before .before .before .before .before .before .before .args .binary) (held (c .before .before))
+    (sym (c .before .adds-up .ensures) ∙ not-true _ (c .if1 .taken))
 
 returns-2 : tie.Need-returns-2
 returns-2 c =
@@ -83,7 +84,8 @@ returns-2 c =
 
 returns-3 : tie.Need-returns-3
 returns-3 c =
-    sum-right (c .before .before .before .before .before .before .before .before .before .args .binary) (held (c .before .before)) (sym (c .before .adds-up .ensures) ∙ not-false _ (c .if1 .left))
+    sum-right (c .before .before .before .before .before .before .before .before .before .args .binary) (held (c .before .before))
+    (sym (c .before .adds-up .ensures) ∙ not-false _ (c .if1 .left))
 
 pub read-counts-spec : {M : Type 1} → statement M
 read-counts-spec =

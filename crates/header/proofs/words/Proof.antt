@@ -17,7 +17,8 @@ enum-known-n c = search needs
 
 words-of-requires : tie.Need-words-of-requires
 words-of-requires c κs =
-    accepted (c .before .before .before .before .before .args .file .now) _ _ _ (sym (c .before .n .given .1) ∙ c .before .before .before .read-header .ensures) .small
+    accepted (c .before .before .before .before .before .args .file .now) _ _ _
+    (sym (c .before .n .given .1) ∙ c .before .before .before .read-header .ensures) .small
 
 returns : tie.Need-returns
 returns c =
