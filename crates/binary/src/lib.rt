@@ -1,5 +1,5 @@
 // What follows the header of the binary form: a next state for each latch and the outputs as lines, then the gates as differences
-// (AIGER report, sections 10 to 12).
+// (AIGER report, sections 11 and 12).
 ghost use mathlib.Core.Path.{_≡_};
 ghost use Prim.Native.Nat.{_+_, _*_, _<_, _≤_};
 ghost use lib.ListN.{length};
