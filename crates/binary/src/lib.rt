@@ -1,5 +1,5 @@
 // What follows the header of the binary form: a next state for each latch and the outputs as lines, then the gates as differences
-// (AIGER report, sections 10 to 12).
+// (AIGER report, sections 11 and 12).
 ghost use mathlib.Core.Path.{_≡_};
 ghost use Prim.Native.Nat.{_+_, _*_, _<_, _≤_};
 ghost use lib.ListN.{length};
@@ -32,7 +32,11 @@ pub fn read_binary(
     requires { ⌜ n .O ≤ length (now outputs) ⌝ }
     requires { ⌜ 3 * n .A ≤ length (now gates) ⌝ }
     requires { ⌜ n .M < length (now marks) ⌝ }
-    ensures { λ r. ⌜ BodySays (record { inputs = now (inputs .entry); latches = now (latches .entry); outputs = now (outputs .entry); gates = now (gates .entry) }) (binaryBody (now (file .entry)) n at) r (record { inputs = now (inputs .exit); latches = now (latches .exit); outputs = now (outputs .exit); gates = now (gates .exit) }) ⌝ }
+    ensures { λ r. ⌜ BodySays
+        (record { inputs = now (inputs .entry); latches = now (latches .entry); outputs = now (outputs .entry); gates = now (gates .entry) })
+        (binaryBody (now (file .entry)) n at)
+        r
+        (record { inputs = now (inputs .exit); latches = now (latches .exit); outputs = now (outputs .exit); gates = now (gates .exit) }) ⌝ }
 {
     let m = n.M as u32;
     let first_latch = 1 + n.I as u32;

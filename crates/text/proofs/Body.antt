@@ -15,9 +15,10 @@ use Rattle.plan.specs.Outcome.{put}
 use Rattle.theorems.proofs.Held.{Holds, BodySays}
 use Rattle.theorems.proofs.Marks.{Agrees}
 use Rattle.theorems.proofs.Reading.Common.{not-got, got-value}
-use Rattle.theorems.proofs.Reading.Rows.{one-back, latch-back, gate-back}
+use Rattle.theorems.proofs.Reading.Rows.{one-back, flat-one, latch-back, gate-back}
+use Rattle.theorems.proofs.Reading.Using.{lines-using}
 use Rattle.text.specs.Said.{TextSays}
-use Rattle.text.proofs.Parts.{Says, Part, part-read, part-refused, lines-using, flat-literals}
+use Rattle.text.proofs.Parts.{Says, Part, part-read, part-refused}
 
 -- the variables that inputs and latches define
 abbrev pub both : List (List ℕ) → List (List ℕ) → List ℕ
@@ -78,9 +79,9 @@ module _ {file : List ℕ} {n : Counts} {at : ℕ} {t : Tables} {r : Passed} {t�
             let latches-back = latch-back (a₂ .rows) (a₂ .long) in
             let gates-back = gate-back (a₄ .rows) (a₄ .long) in
             let holds : Holds t made t′ = record {
-              inputs = a₁ .held ∙ ap (put (t .inputs) 0) (flat-literals (a₁ .rows) (a₁ .long));
+              inputs = a₁ .held ∙ ap (put (t .inputs) 0) (flat-one (a₁ .rows) (a₁ .long));
               latches = a₂ .held ∙ ap (λ (x : List (List ℕ)). put (t .latches) 0 (flat x)) (sym latches-back);
-              outputs = a₃ .held ∙ ap (put (t .outputs) 0) (flat-literals (a₃ .rows) (a₃ .long));
+              outputs = a₃ .held ∙ ap (put (t .outputs) 0) (flat-one (a₃ .rows) (a₃ .long));
               gates = a₄ .held ∙ ap (λ (x : List (List ℕ)). put (t .gates) 0 (flat x)) (sym gates-back);
             } in
             let defined : definedIn made ≡ both (a₁ .rows) (a₂ .rows) ++ heads (a₄ .rows)

@@ -1,4 +1,5 @@
--- What a binary body reads can't be refused by 7 or 8: every variable up to M is defined, and right sides lie below their gate.
+-- What a binary body reads can't be refused by 7 or 8: every variable up to M is defined, and right sides lie below their gate
+-- (AIGER report, section 7: "the binary format does not require such an explicit check").
 use Prim.Native.Nat.{ℕ, zero, suc, _+_}
 use mathlib.Core.Path.{_≡_}
 use mathlib.Core.Option.{none}
