@@ -1,42 +1,30 @@
 //! Holds a library to this program's answers: number, place, counts, every word of every table, the tail.
 
 use crate::aiger::read;
+use crate::ensure;
 use crate::generate::Answer;
-use crate::library::{Library, ReadAnswer};
+use crate::library::{Library, Memory, Question, ReadAnswer};
 
-/// Words on both sides of a lent table that nobody may touch.
-const GUARD: usize = 4;
-
-/// A table as it is lent: full of junk, with guards.
-struct Lent {
-    words: Vec<u32>,
-}
-
-impl Lent {
-    fn new(length: u64, junk: u64) -> Lent {
-        let words = (0..length as usize + 2 * GUARD).map(|k| filling(junk, k)).collect();
-        Lent { words }
-    }
-
-    fn inner(&mut self) -> &mut [u32] {
-        let end = self.words.len() - GUARD;
-        &mut self.words[GUARD..end]
-    }
-
-    /// Whether the table holds `start`, then zeros, and its guards are as they were.
-    fn holds(&self, start: &[u32], junk: u64) -> bool {
-        let end = self.words.len() - GUARD;
-        let inner = &self.words[GUARD..end];
-        let guards = (0..GUARD).chain(end..self.words.len());
-        inner.starts_with(start)
-            && inner[start.len()..].iter().all(|&word| word == 0)
-            && guards.into_iter().all(|k| self.words[k] == filling(junk, k))
-    }
+/// A table as it is lent: full of junk. Half of the cases have margins, which show a word written beside it; in
+/// the others it is all the memory there is, so that a checker of addresses sees what lies outside.
+fn memory(length: u64, junk: u64) -> Memory {
+    let margin = if junk.is_multiple_of(2) { 0 } else { 4 };
+    let words = (0..length as usize + 2 * margin).map(|k| filling(junk, k)).collect();
+    Memory { words, margin }
 }
 
 /// Never zero, so that a word left as it was shows.
 fn filling(junk: u64, k: usize) -> u32 {
     (junk.wrapping_mul(2 * k as u64 + 1) >> 32) as u32 | 1
+}
+
+/// Whether the table holds `start`, then zeros, and its margins are as they were.
+fn holds(memory: &Memory, start: &[u32], junk: u64) -> bool {
+    let Memory { words, margin } = memory;
+    let margins = (0..*margin).chain(words.len() - margin..words.len());
+    let rest = memory.lent().strip_prefix(start);
+    rest.is_some_and(|rest| rest.iter().all(|&word| word == 0))
+        && margins.into_iter().all(|k| words[k] == filling(junk, k))
 }
 
 /// The table numbers asked of the desk question: all that exist, their neighbours, and some that wrap.
@@ -49,33 +37,43 @@ pub fn compare(
     junk: u64,
     answer: &Answer,
 ) -> Result<(), String> {
-    for table in ASKED {
-        let (given, expected) = (library.words(file, table), read::words(file, table));
-        if given != expected {
-            return Err(format!("words of table {table}: expected {expected}, given {given}"));
-        }
+    ask(library, file, lengths, junk);
+    judge(library, file, junk, answer)
+}
+
+/// The first half of a comparison. Others may come between it and the second, in the same order.
+pub fn ask(library: &dyn Library, file: &[u8], lengths: &[u64; 5], junk: u64) {
+    library.ask(Question {
+        file: file.to_vec(),
+        words: ASKED.to_vec(),
+        tables: lengths.map(|length| memory(length, junk)),
+    });
+}
+
+pub fn judge(library: &dyn Library, file: &[u8], junk: u64, answer: &Answer) -> Result<(), String> {
+    let given = library.reply()?;
+    for (table, given) in ASKED.into_iter().zip(given.words) {
+        let expected = read::words(file, table);
+        ensure!(
+            given == expected,
+            "words of table {table}: expected {expected}, given {given}"
+        );
     }
-    let mut lent = lengths.map(|length| Lent::new(length, junk));
-    let given = library.read(file, lent.each_mut().map(Lent::inner));
     let expected = expected(file, answer);
-    if given != expected {
-        return Err(format!("expected {expected:?}, given {given:?}"));
-    }
+    ensure!(given.read == expected, "expected {expected:?}, given {:?}", given.read);
     let tables = match answer {
         Ok((circuit, _)) => circuit.tables(),
         Err(_) => Default::default(),
     };
-    for (k, lent) in lent.iter().enumerate() {
+    for (k, memory) in given.tables.iter().enumerate() {
         let start: &[u32] = tables.get(k).map_or(&[], |table| table);
-        if !lent.holds(start, junk) {
-            let given = &lent.words[GUARD..];
-            let shown = given.len().min(start.len() + 20);
-            return Err(format!(
-                "table {}: expected {start:?} and zeros, given {:?}",
-                k + 1,
-                &given[..shown]
-            ));
-        }
+        ensure!(
+            holds(memory, start, junk),
+            "table {}: expected {start:?} and zeros, given {:?} with margins of {}",
+            k + 1,
+            &memory.words[..memory.words.len().min(start.len() + 20)],
+            memory.margin
+        );
     }
     Ok(())
 }

@@ -3,8 +3,10 @@
 use crate::aiger::read;
 use crate::compare::compare;
 use crate::generate;
-use crate::library::{Library, ReadAnswer};
+use crate::library::{Library, Memory, Question, ReadAnswer, Reply};
 use crate::tally::Tally;
+use std::cell::RefCell;
+use std::collections::VecDeque;
 
 #[derive(Clone, Copy, Debug, PartialEq, Eq)]
 enum Slip {
@@ -36,13 +38,38 @@ const SLIPS: [Slip; 11] = [
     Slip::WordsOfTheWholeFile,
 ];
 
-struct Slipping(Slip);
+struct Slipping {
+    slip: Slip,
+    asked: RefCell<VecDeque<Question>>,
+}
 
 impl Library for Slipping {
+    fn ask(&self, question: Question) {
+        self.asked.borrow_mut().push_back(question);
+    }
+
+    fn reply(&self) -> Result<Reply, String> {
+        let question = self.asked.borrow_mut().pop_front().expect("a question was asked");
+        let Question {
+            file,
+            words,
+            mut tables,
+        } = question;
+        let words = words.into_iter().map(|table| self.words(&file, table)).collect();
+        let read = self.read(&file, tables.each_mut().map(Memory::lent_mut));
+        if self.slip == Slip::WritesBeside {
+            let Memory { words, margin } = &mut tables[0];
+            words.iter_mut().rev().take(*margin).for_each(|word| *word = 0);
+        }
+        Ok(Reply { words, read, tables })
+    }
+}
+
+impl Slipping {
     fn words(&self, file: &[u8], table: u64) -> u64 {
         let words = read::words(file, table);
         let refused = words != u64::MAX && read::read(file, &[u64::MAX; 5]).is_err();
-        match self.0 {
+        match self.slip {
             Slip::WordsOfTheWholeFile if refused => u64::MAX,
             _ => words,
         }
@@ -51,7 +78,7 @@ impl Library for Slipping {
     fn read(&self, file: &[u8], mut lent: [&mut [u32]; 5]) -> ReadAnswer {
         let lengths = lent.each_ref().map(|table| table.len() as u64);
         let answer = read::read(file, &lengths);
-        let slip = self.0;
+        let slip = self.slip;
         if slip != Slip::TablesLeftAfterRefusal || answer.is_ok() {
             lent.iter_mut().for_each(|table| table.fill(0));
         }
@@ -97,8 +124,6 @@ fn spoil(slip: Slip, lent: &mut [&mut [u32]; 5], a: usize) {
                 *rhs0 = lhs.wrapping_sub(turned(lhs.wrapping_sub(*rhs0)));
             }
         }
-        // SAFETY: the comparison lends with guards on both sides.
-        Slip::WritesBeside => unsafe { *lent[0].as_mut_ptr().add(lent[0].len()) = 0 },
         _ => {}
     }
 }
@@ -127,9 +152,13 @@ pub fn run(tally: &mut Tally, seed: u64) {
 
 /// The first difference that a slip makes.
 fn notices(slip: Slip, seed: u64) -> Option<String> {
+    let library = Slipping {
+        slip,
+        asked: RefCell::default(),
+    };
     (0..CASES).find_map(|number| {
         let case = generate::case(seed, number);
         let answer = read::read(&case.file, &case.lengths);
-        compare(&Slipping(slip), &case.file, &case.lengths, case.junk, &answer).err()
+        compare(&library, &case.file, &case.lengths, case.junk, &answer).err()
     })
 }

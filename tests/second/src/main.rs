@@ -1,12 +1,13 @@
 //! The second program: makes cases, reads them with an implementation of its own, and compares the library's
 //! answers with that. Without the library it runs only the checks of itself.
 
+#![forbid(unsafe_code)]
+
 mod aiger;
 mod compare;
 mod coverage;
 mod examples;
 mod faults;
-mod ffi;
 mod generate;
 mod large;
 mod library;
@@ -14,6 +15,7 @@ mod naive;
 mod options;
 mod properties;
 mod random;
+mod remote;
 mod tally;
 
 use aiger::read;
@@ -22,6 +24,7 @@ use generate::{Answer, Case};
 use library::Library;
 use options::Options;
 use random::Random;
+use std::collections::VecDeque;
 use std::panic::{catch_unwind, AssertUnwindSafe};
 use std::process::ExitCode;
 use tally::Tally;
@@ -34,8 +37,14 @@ fn main() -> ExitCode {
             return ExitCode::FAILURE;
         }
     };
-    let library = ffi::library();
-    let library = library.as_deref();
+    let remote = match remote::library() {
+        Ok(remote) => remote,
+        Err(why) => {
+            println!("{why}\n0 passed, 1 failed");
+            return ExitCode::FAILURE;
+        }
+    };
+    let library = remote.as_ref().map(|remote| remote as &dyn Library);
     println!(
         "seed {}, {}",
         options.seed,
@@ -47,10 +56,11 @@ fn main() -> ExitCode {
     );
     let mut tally = Tally::default();
     match options.only {
-        Some(number) => {
-            let _ = one(&mut tally, &options, number, library);
-        }
+        Some(number) => begin(&options, number, library).finish(&mut tally, &options, library),
         None => all(&mut tally, &options, library),
+    }
+    if let Some(remote) = remote {
+        tally.check("the server's end", remote.end());
     }
     println!("{} passed, {} failed", tally.passed, tally.failed);
     if tally.failed == 0 {
@@ -60,33 +70,71 @@ fn main() -> ExitCode {
     }
 }
 
+/// So many cases are made while the library answers for the first of them.
+const AHEAD: usize = 100;
+
 fn all(tally: &mut Tally, options: &Options, library: Option<&dyn Library>) {
     options::forget_failures();
     examples::run(tally, library);
     faults::run(tally, options.seed);
     large::run(tally, library);
     let mut coverage = Coverage::default();
+    let mut begun = VecDeque::new();
     for number in 0..options.cases {
-        let (case, answer) = one(tally, options, number, library);
-        coverage.add(&case, &answer);
+        let next = begin(options, number, library);
+        coverage.add(&next.case, &next.answer);
+        begun.push_back(next);
+        if begun.len() > AHEAD {
+            begun.pop_front().expect("just pushed").finish(tally, options, library);
+        }
+    }
+    for begun in begun {
+        begun.finish(tally, options, library);
     }
     coverage.report(tally);
 }
 
+/// A case that the library is asked about, unless it failed already.
+struct Begun {
+    number: u64,
+    case: Case,
+    answer: Answer,
+    outcome: Result<(), String>,
+}
+
 /// One case, which can be made again from the seed and its number.
-fn one(tally: &mut Tally, options: &Options, number: u64, library: Option<&dyn Library>) -> (Case, Answer) {
+fn begin(options: &Options, number: u64, library: Option<&dyn Library>) -> Begun {
     let case = generate::case(options.seed, number);
     let answer = read::read(&case.file, &case.lengths);
     // A source apart from the generator's, so that a change of one leaves the other's cases as they are.
     let mut random = Random::new(!options.seed, number);
     let checked = catch_unwind(AssertUnwindSafe(|| properties::check(&case, &answer, &mut random)));
-    let mut outcome = checked.unwrap_or_else(|_| Err("panicked".to_string()));
+    let outcome = checked.unwrap_or_else(|_| Err("panicked".to_string()));
     if let (Ok(()), Some(library)) = (&outcome, library) {
-        outcome = compare::compare(library, &case.file, &case.lengths, case.junk, &answer);
+        compare::ask(library, &case.file, &case.lengths, case.junk);
     }
-    if let (Err(why), true) = (&outcome, tally.tells()) {
-        options.keep(number, &case, why);
+    Begun {
+        number,
+        case,
+        answer,
+        outcome,
     }
-    tally.check(&format!("seed {} case {number}", options.seed), outcome);
-    (case, answer)
+}
+
+impl Begun {
+    fn finish(self, tally: &mut Tally, options: &Options, library: Option<&dyn Library>) {
+        let Begun {
+            number,
+            case,
+            answer,
+            mut outcome,
+        } = self;
+        if let (Ok(()), Some(library)) = (&outcome, library) {
+            outcome = compare::judge(library, &case.file, case.junk, &answer);
+        }
+        if let (Err(why), true) = (&outcome, tally.tells()) {
+            options.keep(number, &case, why);
+        }
+        tally.check(&format!("seed {} case {number}", options.seed), outcome);
+    }
 }

@@ -1,0 +1,18 @@
+/* The desk: Golvanzo for C. A caller owes each call: buffers that do not overlap, aligned and as long as said; no null
+   pointer with a length above 0, and none for `answer`. Lengths of tables are in words. Nothing is kept or allocated. */
+#ifndef GOLVANZO_H
+#define GOLVANZO_H
+
+#include <stddef.h>
+#include <stdint.h>
+
+/* How many words table 1 to 5 needs for the file's header; 2^64 - 1 if there is no such table or the header is refused. */
+uint64_t golvanzo_words(const uint8_t *file, size_t file_len, uint64_t table);
+
+/* Reads a file into the tables, `answer` being number (0: accepted), place, M, I, L, O, A; returns the offset where the
+   tail starts (the file's length after a refusal). */
+uint64_t golvanzo_read(const uint8_t *file, size_t file_len, uint32_t *inputs, size_t n1, uint32_t *latches, size_t n2,
+                       uint32_t *outputs, size_t n3, uint32_t *gates, size_t n4, uint32_t *scratch, size_t n5,
+                       uint64_t *answer /* 7 words */);
+
+#endif
