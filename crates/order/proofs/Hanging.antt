@@ -1,16 +1,16 @@
 -- The chains grow by one side.
+use Prim.Native.Nat.{ℕ, _+_, _-_, _*_, _<_, _≤_}
 use mathlib.Core.Path.{_≡_, refl, sym, ap, _∙_, subst}
 use mathlib.Core.Bool.{Bool, true, false, cond, false≢true}
 use mathlib.Core.List.{List}
-use Prim.Native.Nat.{ℕ, _+_, _-_, _*_, _<_, _≤_}
 use native.Mathlib.Omega.{arith}
 use borrow.Author.Tests.{eqb-true, eqb-false}
 use lib.Dec.{eqb}
 use lib.ListN.{length, getD, set, length-set}
 use lib.Seq.{getD-set-same, getD-set-other}
-use Rattle.order.specs.Waiting.{shown, headOf, numberedV, sideOf, Top, Chain, Chains, hung, Hung}
 use Rattle.plan.specs.Literals.{varOf}
 use Rattle.theorems.proofs.Tables.{gateAt}
+use Rattle.order.specs.Waiting.{shown, headOf, numberedV, sideOf, Top, Chain, Chains, hung, Hung}
 use Rattle.order.specs.Numbers.{InRange}
 use Rattle.order.proofs.Shown.{shown-high, head-low, head-high, numbered-by, unnumbered, side-even, side-odd}
 

@@ -12,4 +12,5 @@ pub mod Idling
 pub mod Assigning
 pub mod Settling
 pub mod Rising
+pub mod Conversion
 pub mod Refusing

@@ -7,9 +7,9 @@ use native.Mathlib.Omega.{arith}
 use lib.ListN.{length, getD, set, length-set}
 use lib.Seq.{getD-set-other}
 use Rattle.plan.specs.Literals.{varOf}
+use Rattle.theorems.proofs.Tables.{gateAt}
 use Rattle.bitmap.specs.Bitmap.{OnAt}
 use Rattle.bitmap.proofs.Places.{on-at-same}
-use Rattle.theorems.proofs.Tables.{gateAt}
 use Rattle.order.specs.Waiting.{shown, headOf, numberedV, readyAt, Top, Chain, Chains, p0, p1, p2, Ups, Marks, Before, Past, Agree, Space, Giving, TakenOff, Given}
 use Rattle.order.proofs.Shown.{numbered-by, ready-left, given-here, given-unnumbered, given-ready, side-even, side-odd}
 use Rattle.order.proofs.Waking.{ready-low, agree-trans}

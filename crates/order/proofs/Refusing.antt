@@ -19,12 +19,13 @@ use Rattle.theorems.proofs.Reading.Cycles.{length-lefts}
 use Rattle.theorems.proofs.Running.Lists.{allIn}
 use Rattle.theorems.proofs.Running.Scan.{scanned, scanned-length}
 use Rattle.theorems.proofs.Running.FirstOut.{firstOut, out-append-none, out-append-some, cyclic-out}
-use Rattle.theorems.proofs.Tables.{gateAt, gatesAt, gates-rows, length-firsts}
+use Rattle.theorems.proofs.Tables.{gateAt, gatesAt, gates-rows}
 use Rattle.order.specs.Numbers.{numberedT, NumTable, InRange}
 use Rattle.order.specs.Waiting.{numberedV, FirstAt}
 use Rattle.order.proofs.Shown.{shown-low}
 use Rattle.order.proofs.Numbering.{Starts, numbered-has}
 use Rattle.order.proofs.Settling.{small-words}
+use Rattle.order.proofs.Conversion.{gates-count}
 
 -- by places: all are in o; all before r are, and r is not
 out-none : (o gates : List ℕ) (a : ℕ) → ((i : ℕ) → i < a → has (varOf (gateAt gates i .lhs)) o ≡ true) → firstOut o (gatesAt gates a) ≡ none
@@ -82,9 +83,6 @@ module _ (gates t : List ℕ) (n a first : ℕ) (c : Circuit) (its : c .gates �
   o : List ℕ
   o = leaves c ++ lefts (scanned (map gateOf (rowsOf 3 a gates)) a (leaves c))
 
-  size : length (c .gates) ≡ a
-  size = ap length rows ∙ length-firsts (gateAt gates) a
-
   short : length o < 2147483648
   unfolding o
   short =
@@ -100,7 +98,7 @@ module _ (gates t : List ℕ) (n a first : ℕ) (c : Circuit) (its : c .gates �
   unfolding o
   place =
       cyclic-out c once used
-      ∙ (ap (λ (k : ℕ). firstOut (leaves c ++ lefts (scanned (c .gates) k (leaves c))) (c .gates)) size
+      ∙ (ap (λ (k : ℕ). firstOut (leaves c ++ lefts (scanned (c .gates) k (leaves c))) (c .gates)) (gates-count gates a c its)
       ∙ (ap (λ (gs : List Gate). firstOut (leaves c ++ lefts (scanned gs a (leaves c))) (c .gates)) its
       ∙ ap (firstOut (leaves c ++ lefts (scanned (map gateOf (rowsOf 3 a gates)) a (leaves c)))) rows))
 

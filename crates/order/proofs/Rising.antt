@@ -10,8 +10,8 @@ use borrow.Author.Tests.{lt-ltb, le-ltb, eqb-true, eqb-false}
 use lib.Dec.{eqb, ltb}
 use Rattle.plan.specs.Literals.{varOf}
 use Rattle.plan.specs.Circuit.{Gate, gateOf, rowsOf}
-use Rattle.theorems.proofs.Tables.{gateAt, gatesAt, gates-rows}
 use Rattle.theorems.proofs.Running.Ascending.{above, ascends, ascends-snoc}
+use Rattle.theorems.proofs.Tables.{gateAt, gatesAt, gates-rows}
 
 -- one gate
 pub rises : (g : Gate) → varOf (g .rhs0) < varOf (g .lhs) → varOf (g .rhs1) < varOf (g .lhs) → above g ≡ true

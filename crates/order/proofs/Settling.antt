@@ -10,9 +10,9 @@ use lib.ListN.{length, getD, set, take, length-take}
 use lib.Seq.{getD-set-same, getD-set-other, getD-take}
 use Rattle.plan.specs.Circuit.{Gate, gateOf, rowsOf, lefts, has}
 use Rattle.plan.specs.Convert.{index}
-use Rattle.theorems.proofs.Tables.{gatesAt, gates-rows}
 use Rattle.theorems.proofs.Running.Lists.{index-front}
 use Rattle.theorems.proofs.Running.Scan.{scanned}
+use Rattle.theorems.proofs.Tables.{gatesAt, gates-rows}
 use Rattle.order.specs.Numbers.{NumTable}
 use Rattle.order.specs.Waiting.{shown, headOf, clean, Top, p0, Chains, Agree, Hung, Ups, Fresh, Unmarked}
 use Rattle.order.proofs.Shown.{shown-low, clean-at, clean-length, numbered-by}

@@ -1,14 +1,14 @@
 -- The marks while gates are offered and while a chain is walked.
+use Prim.Native.Nat.{ℕ, _+_, _-_, _*_, _/_, _<_, _≤_}
 use mathlib.Core.Path.{_≡_, refl, sym, ap, _∙_, subst}
 use mathlib.Core.Bool.{Bool, true, false}
 use mathlib.Core.List.{List}
-use Prim.Native.Nat.{ℕ, _+_, _-_, _*_, _/_, _<_, _≤_}
 use native.Mathlib.Omega.{arith}
 use borrow.Author.Tests.{eqb-true, eqb-false}
 use lib.Dec.{eqb}
 use lib.ListN.{getD}
-use Rattle.bitmap.specs.Bitmap.{OnAt}
 use Rattle.theorems.proofs.Tables.{gateAt}
+use Rattle.bitmap.specs.Bitmap.{OnAt}
 use Rattle.order.specs.Numbers.{InRange}
 use Rattle.order.specs.Waiting.{shown, readyAt, sideOf, Top, Chain, p0, Ups, Marks, Before, Past, Agree, Offered}
 use Rattle.order.proofs.Shown.{ready-agree}

@@ -8,8 +8,8 @@ use lib.Dec.{eqb, ltb}
 use lib.ListN.{length, getD, set}
 use Rattle.plan.specs.Literals.{varOf}
 use Rattle.plan.specs.Circuit.{Gate, gateOf, rowsOf}
-use Rattle.theorems.proofs.Tables.{gateAt}
 use Rattle.theorems.proofs.Running.Found.{AllG}
+use Rattle.theorems.proofs.Tables.{gateAt}
 use Rattle.bitmap.specs.Bitmap.{OnAt}
 use Rattle.order.specs.Numbers.{InTable, InRange}
 

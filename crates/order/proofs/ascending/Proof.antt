@@ -4,8 +4,8 @@ use mathlib.Core.Bool.{true}
 use mathlib.Core.Path.{_≡_, sym}
 use native.Mathlib.Omega.{arith}
 use borrow.Author.Needs.{needs}
-use Rattle.theorems.proofs.Tables.{gateAt, gatesAt}
 use Rattle.theorems.proofs.Running.Ascending.{ascends}
+use Rattle.theorems.proofs.Tables.{gateAt, gatesAt}
 use Rattle.order.proofs.Rising.{rises, falls-first, falls-second, rises-more, rises-all, falls-all}
 use Rattle.order.proofs.ascending.Statement.{statement}
 use Rattle.order.proofs.ascending.Tie as tie

@@ -3,6 +3,7 @@ use Prim.Native.Nat.{ℕ}
 use mathlib.Core.Option.{Option}
 use mathlib.Core.Path.{_≡_, refl, sym, ap, _∙_}
 use native.Mathlib.Omega.{arith}
+use borrow.Author.Needs.{needs}
 use lib.ListN.{length}
 use Rattle.plan.specs.declared.Refusal.the-variants.{Cyclic}
 use Rattle.plan.specs.declared.Checked.the-variants.{Refused}
@@ -10,7 +11,6 @@ use Rattle.plan.specs.Refusals.{stage}
 use Rattle.plan.specs.Outcome.{checkedBy}
 use Rattle.order.proofs.Spaces.{space-of, space-again, gate-fits}
 use Rattle.order.proofs.Refusing.{cycle-good, cycle-here}
-use borrow.Author.Needs.{needs}
 use Rattle.order.proofs.cycle.Statement.{statement}
 use Rattle.order.proofs.cycle.Tie as tie
 

@@ -2,10 +2,10 @@
 use Prim.Native.Nat.{_≤_}
 use mathlib.Core.Path.{_≡_, _∙_}
 use native.Mathlib.Omega.{arith}
+use borrow.Author.Needs.{needs}
 use lib.ListN.{length}
 use Rattle.order.proofs.Spaces.{space-of, space-again}
 use Rattle.order.proofs.Settling.{ups-zero, chains-agree, all-parts}
-use borrow.Author.Needs.{needs}
 use Rattle.order.proofs.number.Statement.{statement}
 use Rattle.order.proofs.number.Tie as tie
 

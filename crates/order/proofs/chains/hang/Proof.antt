@@ -1,10 +1,11 @@
-use Rattle.order.specs.Waiting.{hung, headOf}
-use lib.ListN.{getD, set, length-set}
+-- A side whose variable has a number stays off.
 use Prim.Native.Nat.{ℕ, _+_, _/_}
-use native.Mathlib.Omega.{arith}
 use mathlib.Core.Bool.{Bool, cond}
 use mathlib.Core.Path.{sym, ap, ap₂, _∙_}
+use native.Mathlib.Omega.{arith}
 use borrow.Author.Needs.{needs}
+use lib.ListN.{getD, set, length-set}
+use Rattle.order.specs.Waiting.{hung, headOf}
 use Rattle.order.proofs.chains.hang.Statement.{statement}
 use Rattle.order.proofs.chains.hang.Tie as tie
 

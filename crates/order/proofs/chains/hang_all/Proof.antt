@@ -1,11 +1,10 @@
-use Rattle.order.proofs.Hanging.{hang-none, hang-two}
-use native.Mathlib.Omega.{arith}
-use mathlib.Core.Path.{_≡_, refl, subst}
+-- The chains run through the sides passed.
 use Prim.Native.Nat.{ℕ, _≤_, _-_, _*_}
-use Rattle.order.specs.Waiting.{Hung}
+use mathlib.Core.Path.{_≡_, refl, subst}
+use native.Mathlib.Omega.{arith}
 use lib.ListN.{length}
-use mathlib.Core.Path.{_≡_}
-use Prim.Native.Nat.{_≤_, _-_, _*_}
+use Rattle.order.specs.Waiting.{Hung}
+use Rattle.order.proofs.Hanging.{hang-none, hang-two}
 use Rattle.order.proofs.chains.hang_all.Statement.{statement}
 use Rattle.order.proofs.chains.hang_all.Tie as tie
 
@@ -100,7 +99,8 @@ same-length c = c .before .loop .inv .1
 
 returns : tie.Need-returns Inv-loop μ-loop
 returns c =
-    let L = c .before .loop in let e : L .i ≡ c .before .before .before .before .args .a = omega arith in
+    let L = c .before .loop in
+    let e : L .i ≡ c .before .before .before .before .args .a = omega arith in
     subst (λ (m : ℕ). Hung (c .before .before .before .before .args .gates .now) (c .before .before .before .before .args .t .now) (L .t)
     (c .before .before .before .before .args .n) (c .before .before .before .before .args .a) (2 * m)) e (L .inv .2)
 

@@ -1,9 +1,9 @@
 -- The number is stored, the mark goes, and the chain is walked.
-use native.Mathlib.Omega.{arith}
 use mathlib.Core.Path.{_≡_, _∙_}
+use native.Mathlib.Omega.{arith}
+use borrow.Author.Needs.{needs}
 use lib.ListN.{length, set, length-set}
 use Rattle.order.proofs.NewNumber.{give-fits, give-ups, give-on, give-space, give-chain, give-marks, give-done}
-use borrow.Author.Needs.{needs}
 use Rattle.order.proofs.giving.give.Statement.{statement}
 use Rattle.order.proofs.giving.give.Tie as tie
 

@@ -1,9 +1,11 @@
-use borrow.Author.Needs.{needs}
-use Rattle.order.proofs.Waking.{Walk, walk-start, walk-end, walk-less, walk-step}
-use lib.ListN.{length}
-use native.Mathlib.Omega.{arith}
-use mathlib.Core.Path.{_≡_, refl, sym, subst}
+-- The chain is walked down; its gates are offered.
 use Prim.Native.Nat.{ℕ, _-_}
+use mathlib.Core.Path.{_≡_, refl, sym, subst}
+use native.Mathlib.Omega.{arith}
+use borrow.Author.Needs.{needs}
+use lib.ListN.{length}
+use Rattle.order.proofs.Spaces.{space-again}
+use Rattle.order.proofs.Waking.{Walk, walk-start, walk-end, walk-less, walk-step}
 use Rattle.order.proofs.giving.wake.Statement.{statement}
 use Rattle.order.proofs.giving.wake.Tie as tie
 
@@ -15,7 +17,8 @@ abbrev μ-loop : tie.MeasureT-loop
 
 loop-holds : tie.Need-loop-holds Inv-loop μ-loop
 loop-holds c =
-    let P = c .before .before in let A = P .args in
+    let P = c .before .before in
+    let A = P .args in
     (refl, walk-start (A .gates .now) (A .t .now) (A .n) (A .a) (A .v) (A .h) (A .r) (P .pre .1) (P .pre .2))
 
 sub-offer : tie.Need-sub-offer Inv-loop μ-loop
@@ -23,15 +26,10 @@ sub-offer c = omega arith
 
 offer-requires : tie.Need-offer-requires Inv-loop μ-loop
 offer-requires c κs =
-    let P = c .before .before .before .before .before in let R = P .pre .0 in let L = c .before .before .loop in (
-      record {
-        gates-long = R .gates-long;
-        table-long = omega (arith, R .table-long, L .inv .0);
-        small = R .small;
-        inside = R .inside;
-      },
-      omega (arith, L .inv .1 .within),
-    )
+    let P = c .before .before .before .before .before in
+    let A = P .args in
+    let L = c .before .before .loop in
+    (space-again (A .gates .now) (A .t .now) (L .t) (A .n) (A .a) (L .inv .0) (P .pre .0), omega (arith, L .inv .1 .within))
 
 sub-ix : tie.Need-sub-ix Inv-loop μ-loop
 sub-ix c = omega arith
@@ -88,7 +86,8 @@ same-length c = c .before .loop .inv .0
 
 returns : tie.Need-returns Inv-loop μ-loop
 returns c =
-    let L = c .before .loop in let A = c .before .before .before .before .args in
+    let L = c .before .loop in
+    let A = c .before .before .before .before .args in
     walk-end (A .gates .now) (A .t .now) (L .t) (A .n) (A .a) (A .v) (L .at) (L .low) (omega arith) (L .inv .1)
 
 pub wake-spec : {M : Type 1} → statement M

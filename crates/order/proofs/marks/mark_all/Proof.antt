@@ -1,9 +1,11 @@
-use Rattle.order.proofs.Waking.{marks-none, mark-step}
-use Rattle.order.specs.Waiting.{Marks, Before, Agree}
-use lib.ListN.{length}
-use native.Mathlib.Omega.{arith}
-use mathlib.Core.Path.{_≡_, refl, subst}
+-- The gates passed that are ready are marked.
 use Prim.Native.Nat.{ℕ, _≤_, _-_, _*_, _+_}
+use mathlib.Core.Path.{_≡_, refl, subst}
+use native.Mathlib.Omega.{arith}
+use lib.ListN.{length}
+use Rattle.order.specs.Waiting.{Marks, Before, Agree}
+use Rattle.order.proofs.Spaces.{space-again}
+use Rattle.order.proofs.Waking.{marks-none, mark-step}
 use Rattle.order.proofs.marks.mark_all.Statement.{statement}
 use Rattle.order.proofs.marks.mark_all.Tie as tie
 
@@ -24,15 +26,10 @@ loop-holds c = (
 
 offer-requires : tie.Need-offer-requires Inv-loop μ-loop
 offer-requires c κs =
-    let P = c .before .before .before .before .before in let R = P .pre .0 in (
-      record {
-        gates-long = R .gates-long;
-        table-long = omega (arith, R .table-long, c .before .before .loop .inv .1);
-        small = R .small;
-        inside = R .inside;
-      },
-      omega arith,
-    )
+    let P = c .before .before .before .before .before in
+    let A = P .args in
+    let L = c .before .before .loop in
+    (space-again (A .gates .now) (A .t .now) (L .t) (A .n) (A .a) (L .inv .1) (P .pre .0), omega arith)
 
 add-i : tie.Need-add-i Inv-loop μ-loop
 add-i c = omega arith

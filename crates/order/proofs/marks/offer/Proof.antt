@@ -1,9 +1,9 @@
 -- A gate that is ready is marked at three levels.
-use native.Mathlib.Omega.{arith}
 use mathlib.Core.Path.{sym, _∙_}
+use native.Mathlib.Omega.{arith}
+use borrow.Author.Needs.{needs}
 use Rattle.order.proofs.Spaces.{gate-fits}
 use Rattle.order.proofs.Marking.{offer-yes, offer-no}
-use borrow.Author.Needs.{needs}
 use Rattle.order.proofs.marks.offer.Statement.{statement}
 use Rattle.order.proofs.marks.offer.Tie as tie
 

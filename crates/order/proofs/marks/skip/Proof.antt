@@ -1,6 +1,7 @@
+-- In the word, then by the words, then by the words of words.
 use native.Mathlib.Omega.{arith}
-use Rattle.order.proofs.Skipping.{skip-one, skip-two, skip-three}
 use borrow.Author.Needs.{needs}
+use Rattle.order.proofs.Skipping.{skip-one, skip-two, skip-three}
 use Rattle.order.proofs.marks.skip.Statement.{statement}
 use Rattle.order.proofs.marks.skip.Tie as tie
 

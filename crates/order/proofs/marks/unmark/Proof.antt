@@ -1,6 +1,7 @@
+-- The marks above go with the last of a word.
 use native.Mathlib.Omega.{arith}
-use Rattle.order.proofs.Unmarking.{unmark-one, unmark-two, unmark-three}
 use borrow.Author.Needs.{needs}
+use Rattle.order.proofs.Unmarking.{unmark-one, unmark-two, unmark-three}
 use Rattle.order.proofs.marks.unmark.Statement.{statement}
 use Rattle.order.proofs.marks.unmark.Tie as tie
 

@@ -1,5 +1,6 @@
-use Rattle.order.proofs.Shown.{head-low, head-high}
+-- Below 2 ^ 31 there is no chain.
 use mathlib.Core.Path.{sym}
+use Rattle.order.proofs.Shown.{head-low, head-high}
 use Rattle.order.proofs.words.chain.Statement.{statement}
 use Rattle.order.proofs.words.chain.Tie as tie
 

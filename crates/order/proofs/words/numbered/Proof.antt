@@ -1,11 +1,12 @@
-use native.Mathlib.Omega.{arith}
-use Rattle.order.proofs.Shown.{numbered-zero, numbered-low, numbered-high}
-use lib.ListN.{getD}
-use lib.Dec.{eqb}
+-- The constant, a number, or a chain.
 use Prim.Native.Nat.{ℕ, _/_, _<_, _≤_}
 use mathlib.Core.Bool.{not}
 use mathlib.Core.Path.{sym, ap, _∙_, subst}
+use native.Mathlib.Omega.{arith}
 use borrow.Author.Needs.{needs}
+use lib.ListN.{getD}
+use lib.Dec.{eqb}
+use Rattle.order.proofs.Shown.{numbered-zero, numbered-low, numbered-high}
 use Rattle.order.proofs.words.numbered.Statement.{statement}
 use Rattle.order.proofs.words.numbered.Tie as tie
 

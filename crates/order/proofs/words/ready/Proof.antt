@@ -1,9 +1,9 @@
 -- Each test settles the gate's.
 use mathlib.Core.Bool.{true, false}
 use mathlib.Core.Path.{refl, sym, _∙_}
+use borrow.Author.Needs.{needs}
 use Rattle.theorems.proofs.Tables.{gateAt}
 use Rattle.order.proofs.Shown.{ready-by}
-use borrow.Author.Needs.{needs}
 use Rattle.order.proofs.words.ready.Statement.{statement}
 use Rattle.order.proofs.words.ready.Tie as tie
 

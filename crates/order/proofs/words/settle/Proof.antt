@@ -1,10 +1,11 @@
-use borrow.Author.Needs.{needs}
-use Rattle.order.proofs.Settling.{settle-step}
-use Rattle.order.specs.Waiting.{shown}
-use lib.ListN.{length, getD}
-use native.Mathlib.Omega.{arith}
-use mathlib.Core.Path.{_≡_, refl}
+-- Words before v are settled, the others are as they came.
 use Prim.Native.Nat.{ℕ, _≤_, _<_, _-_}
+use mathlib.Core.Path.{_≡_, refl}
+use native.Mathlib.Omega.{arith}
+use borrow.Author.Needs.{needs}
+use lib.ListN.{length, getD}
+use Rattle.order.specs.Waiting.{shown}
+use Rattle.order.proofs.Settling.{settle-step}
 use Rattle.order.proofs.words.settle.Statement.{statement}
 use Rattle.order.proofs.words.settle.Tie as tie
 

@@ -1,9 +1,10 @@
+-- A number stays, a chain becomes 0.
+use mathlib.Core.Path.{sym, ap, _∙_}
 use native.Mathlib.Omega.{arith}
-use Rattle.order.proofs.Shown.{shown-low, shown-high}
+use borrow.Author.Needs.{needs}
 use lib.Seq.{set-getD}
 use lib.ListN.{getD, set}
-use mathlib.Core.Path.{sym, ap, _∙_}
-use borrow.Author.Needs.{needs}
+use Rattle.order.proofs.Shown.{shown-low, shown-high}
 use Rattle.order.proofs.words.settle_one.Statement.{statement}
 use Rattle.order.proofs.words.settle_one.Tie as tie
 

@@ -1,7 +1,7 @@
 -- The variable of a literal, by the doors of plan.
 use mathlib.Core.Path.{ap, _∙_}
-use Rattle.plan.specs.Literals.{indexOf, halved}
 use borrow.Author.Needs.{needs}
+use Rattle.plan.specs.Literals.{indexOf, halved}
 use Rattle.order.proofs.words.var_of.Statement.{statement}
 use Rattle.order.proofs.words.var_of.Tie as tie
 
