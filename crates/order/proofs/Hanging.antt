@@ -139,7 +139,8 @@ module _ (gates t₀ t : List ℕ) (n a m : ℕ) (below : m < 2 * a) (long : n +
   hang-step = go (numberedV t (sideOf gates m)) refl
     where
       go : (b : Bool) → numberedV t (sideOf gates m) ≡ b
-          → Hung gates t₀ (cond b t (set (set t (n + m) (headOf (getD t (sideOf gates m) 0))) (sideOf gates m) (2147483649 + m))) n a (m + 1)
+          → Hung gates t₀ (cond b t (set (set t (n + m) (headOf (getD t (sideOf gates m) 0))) (sideOf gates m) (2147483649 + m))) n a
+          (m + 1)
       go true e = skipped e
       go false e = more e
 

@@ -1,5 +1,5 @@
 -- From one part of `number` to the next: what the words show at its start, between and at its end.
-use Prim.Native.Nat.{ℕ, _+_, _-_, _*_, _/_, _<_, _≤_}
+use Prim.Native.Nat.{ℕ, _+_, _-_, _*_, _<_, _≤_}
 use mathlib.Core.Path.{_≡_, refl, sym, ap, _∙_, subst}
 use mathlib.Core.Bool.{Bool, true, false, cond}
 use mathlib.Core.List.{List, [], _++_, map, append-nil}
@@ -14,7 +14,7 @@ use Rattle.theorems.proofs.Running.Lists.{index-front}
 use Rattle.theorems.proofs.Running.Scan.{scanned}
 use Rattle.theorems.proofs.Tables.{gatesAt, gates-rows}
 use Rattle.order.specs.Numbers.{NumTable}
-use Rattle.order.specs.Waiting.{shown, headOf, clean, Top, p0, Chains, Agree, Hung, Ups, Fresh, Unmarked}
+use Rattle.order.specs.Waiting.{shown, headOf, clean, Top, p0, p1, wordsFor, Chains, Agree, Hung, Ups, Fresh, Unmarked}
 use Rattle.order.proofs.Shown.{shown-low, clean-at, clean-length, numbered-by}
 use Rattle.order.proofs.Numbering.{Starts}
 use Rattle.order.proofs.Assigning.{Done}
@@ -51,11 +51,12 @@ table-out o t u n lt lu same tab v h =
 -- from one part of `number` to the next
 pub ups-zero : (t u : List ℕ) (n a : ℕ) → Unmarked t n a → ((p : ℕ) → n + 2 * a ≤ p → getD u p 0 ≡ getD t p 0) → Ups u n a
 ups-zero t u n a z e = record {
-  up1 = λ w k pos. let q = e (n + 2 * a + w) (omega arith) ∙ z (n + 2 * a + w) (omega arith) in absurd (omega (arith, q, pos));
-  up2 =
-      λ w k pos. let q = e (n + 2 * a + (a / 32 + 1) + w) (omega arith) ∙ z (n + 2 * a + (a / 32 + 1) + w) (omega arith) in
-      absurd (omega (arith, q, pos));
+  up1 = λ w k pos. absurd (omega (arith, zero-at (p0 n a + w) (omega arith) (omega arith), pos));
+  up2 = λ w k pos. absurd (omega (arith, zero-at (p1 n a + w) (omega arith) (omega arith), pos));
 }
+  where
+    zero-at : (p : ℕ) → p0 n a ≤ p → p < wordsFor n a → getD u p 0 ≡ 0
+    zero-at p h k = e p h ∙ z p h k
 
 pub chains-agree : (gates t u : List ℕ) (n a : ℕ) → Agree (p0 n a) t u → Chains gates t n (2 * a) → Chains gates u n (2 * a)
 chains-agree gates t u n a low ch v k f =

@@ -111,7 +111,7 @@ abbrev pub Fresh : List ℕ → ℕ → Type 0
 Fresh t n = (v : ℕ) → v < n → getD t v 0 < 2147483648
 
 abbrev pub Unmarked : List ℕ → ℕ → ℕ → Type 0
-Unmarked t n a = (p : ℕ) → n + 2 * a ≤ p → getD t p 0 ≡ 0
+Unmarked t n a = (p : ℕ) → p0 n a ≤ p → p < wordsFor n a → getD t p 0 ≡ 0
 
 -- what `hang` does, and what `hang_all` has done of m sides
 unfoldable pub hung : List ℕ → ℕ → ℕ → ℕ → List ℕ
