@@ -1,16 +1,15 @@
 -- The leaves that tables hold, by places: their variables, and the numbers that two walks over the rows give them.
-use Prim.Native.Nat.{ℕ, zero, suc, _+_, _*_, _<_, _≤_}
+use Prim.Native.Nat.{ℕ, zero, suc, _+_, _*_, _<_}
 use mathlib.Core.Path.{_≡_, refl, sym, ap, ap₂, _∙_, subst}
 use mathlib.Core.Bool.{Bool, true, false, cond, _||_}
 use mathlib.Core.List.{List, [], _∷_, _++_, map}
 use native.Mathlib.Omega.{arith}
 use lib.Dec.{eqb}
-use lib.ListN.{length, getD, take, length-take}
+use lib.ListN.{length, getD, take, length-take, length-append}
 use lib.Seq.{getD-take}
 use Rattle.plan.specs.declared.Counts.{Counts}
 use Rattle.plan.specs.Literals.{varOf}
-use Rattle.plan.specs.Circuit.{oneLine, latchLine, vars, currents, has, allInside}
-use Rattle.plan.specs.Convert.{index}
+use Rattle.plan.specs.Circuit.{oneLine, latchLine, vars, currents, allInside}
 use Rattle.theorems.proofs.Tables.{firsts, length-firsts, latchAt, latches-rows, words-take, heads-firsts}
 use Rattle.theorems.proofs.Ranges.{first-var, inside-at}
 use Rattle.theorems.proofs.Reading.Members.{distinct}
@@ -44,6 +43,16 @@ module _ {n : Counts} {inputs latches t : List ℕ} (p : Leaves n inputs latches
 
   leaves-at : leavesOf n inputs latches ≡ zero ∷ (headsAt inputs 1 (n .I) ++ headsAt latches 2 (n .L))
   leaves-at = ap₂ (λ (x y : List ℕ). zero ∷ (x ++ y)) inputs-at latches-at
+
+  pub leaves-count : length (leavesOf n inputs latches) ≡ 1 + n .I + n .L
+  leaves-count =
+      ap length leaves-at
+      ∙ omega (
+        arith,
+        length-append (headsAt inputs 1 (n .I)) (headsAt latches 2 (n .L)),
+        length-firsts (headAt inputs 1) (n .I),
+        length-firsts (headAt latches 2) (n .L),
+      )
 
   pub input-in : (i : ℕ) → i < n .I → headAt inputs 1 i < n .M + 1
   input-in i h =

@@ -1,101 +1,145 @@
+-- 7 from the marks; else gates that ascend, or the order of gates from the numbers of the leaves.
+use mathlib.Core.List.{List}
+use mathlib.Core.Option.{Option, none}
+use mathlib.Core.Path.{_≡_, refl, sym, ap, _∙_}
+use Prim.Native.Nat.{ℕ}
+use native.Mathlib.Omega.{arith}
+use lib.ListN.{length, getD}
+use Rattle.plan.specs.declared.Refusal.the-variants.{Cyclic}
+use Rattle.plan.specs.Refusals.{stage}
+use Rattle.plan.specs.Circuit.{Circuit}
+use Rattle.plan.specs.Depends.{undefinedIn}
+use Rattle.plan.specs.Outcome.{checkedBy}
+use Rattle.theorems.proofs.Marks.{zeros}
+use Rattle.theorems.proofs.Running.Ascending.{ascends-none}
+use Rattle.used.specs.Least.{missingOf}
+use Rattle.closing.specs.Leaves.{Leaves}
+use Rattle.closing.specs.Read.{circuitIn}
+use Rattle.closing.proofs.Leaving.{leaves-count}
+use Rattle.closing.proofs.Closing.{next-up, output-up, first-up, second-up, part-long, part-marked, once, used, leaves-ask, room, fresh, unmarked, by-missing, by-cycle}
 use borrow.Author.Needs.{needs}
 use Rattle.closing.proofs.check.Statement.{statement}
 use Rattle.closing.proofs.check.Tie as tie
-use Rattle.closing.proofs.check.Reads as reads
-use Rattle.closing.proofs.check.Lts as lts
-use Rattle.closing.proofs.number_leaves.Reads as number-leaves-reads
-use Rattle.order.proofs.ascending.Reads as ascending-reads
-use Rattle.order.proofs.cycle.Reads as cycle-reads
-use Rattle.tables.proofs.clear.Reads as clear-reads
-use Rattle.used.proofs.undefined.Reads as undefined-reads
 
--- src/lib.rt:58:17
+-- the circuit of the tables
+abbrev circuit : tie.Start → Circuit
+circuit s = circuitIn (s .args .n) (s .args .inputs .now) (s .args .latches .now) (s .args .outputs .now) (s .args .gates .now)
+
+-- back to the start, where nothing is missing, and from where the table is cleared
+abbrev start : tie.After-enum-told → tie.Start
+start c = c .before .before .before .before .before .before .before .before .before .before .before
+
+abbrev told : tie.After-scratch2 → tie.After-enum-told
+told c = c .before .before .before .before .before
+
+all-named : (c : tie.After-enum-told) → none ≡ undefinedIn (circuit (start c))
+all-named c =
+    sym (ap missingOf (c .enum-told .given .1))
+    ∙ c .before .before .undefined .ensures (circuit (start c)) refl refl refl (part-marked (start c .pre))
+
+-- the table is blank
+asked : (c : tie.After-scratch2) → let a = start (told c) .args in Leaves (a .n) (a .inputs .now) (a .latches .now) (c .before .clear .last .0)
+asked c =
+    let s = start (told c) in
+    leaves-ask (s .pre) (c .before .clear .last .0) (c .scratch2 .given)
+    (λ v. ap (λ (l : List ℕ). getD l v 0) (c .before .clear .ensures) ∙ zeros (length (s .args .scratch .now)) v)
+
 mul-marks : tie.Need-mul-marks
 mul-marks c = search needs
 
--- src/lib.rt:58:17
 sub-marks : tie.Need-sub-marks
 sub-marks c = search needs
 
--- src/lib.rt:58:17
 part-marks-start : tie.Need-part-marks-start
 part-marks-start c = search needs
 
--- src/lib.rt:58:17
 part-marks-end : tie.Need-part-marks-end
 part-marks-end c = search needs
 
--- src/lib.rt:59:67
 cast-undefined : tie.Need-cast-undefined
 cast-undefined c = search needs
 
--- src/lib.rt:59:11
 undefined-requires : tie.Need-undefined-requires
-undefined-requires c κs = ?
+undefined-requires c κs =
+    let p = c .before .before .before .before .before .before .before .before .pre in
+    (p .most-M, (part-long p, (p .latches-long, (p .outputs-long, (p .gates-long, (next-up p, (output-up p, (first-up p, second-up p))))))))
 
--- src/lib.rt:60:24
 enum-known-v : tie.Need-enum-known-v
 enum-known-v c = search needs
 
--- src/lib.rt:62:16
 enum-told : tie.Need-enum-told
 enum-told c = search needs
 
--- src/lib.rt:62:16
 ascending-requires : tie.Need-ascending-requires
 ascending-requires c κs = search needs
 
--- src/lib.rt:63:17
 same-length : tie.Need-same-length
 same-length c = search needs
 
--- src/lib.rt:63:17
 returns : tie.Need-returns
-returns c = ?
+returns c =
+    let n = c .before .before in
+    by-cycle (circuit (start n)) _ (all-named n)
+    (sym (ap (λ (o : Option ℕ). checkedBy (stage Cyclic o))
+    (ascends-none (circuit (start n)) (sym (c .before .ascending .ensures) ∙ c .if1 .taken))))
 
--- src/lib.rt:65:13
 clear-requires : tie.Need-clear-requires
 clear-requires c κs = search needs
 
--- src/lib.rt:66:13
 number-leaves-requires : tie.Need-number-leaves-requires
-number-leaves-requires c κs = ?
+number-leaves-requires c κs = asked (c .before .before)
 
--- src/lib.rt:67:43
 add-cycle : tie.Need-add-cycle
 add-cycle c = search needs
 
--- src/lib.rt:67:43
 add-cycle-2 : tie.Need-add-cycle-2
 add-cycle-2 c = search needs
 
--- src/lib.rt:67:42
 cast-cycle : tie.Need-cast-cycle
 cast-cycle c = search needs
 
--- src/lib.rt:67:66
 add-cycle-3 : tie.Need-add-cycle-3
-add-cycle-3 c = ?
+add-cycle-3 c = let e = c .before .before .before .before .before .before .before .before .before in omega (arith, start (told e) .pre .most-M)
 
--- src/lib.rt:67:13
 cycle-requires : tie.Need-cycle-requires
-cycle-requires c κs = ?
+cycle-requires c κs =
+    let d = c .before .before .before .before .before in
+    let e = d .before .before .before .before in
+    let s = start (told e) in
+    let p = s .pre in
+    let t = e .before .clear .last .0 in
+    let u = d .before .number-leaves .last .1 .1 .1 .0 in
+    let kept : length u ≡ length t = d .scratch3 .given in
+    let same : length t ≡ length (s .args .scratch .now) = e .scratch2 .given in
+    let done = d .before .number-leaves .ensures in (
+      room p t same (asked e) u kept done,
+      omega arith,
+      omega (arith, p .sum, p .most-M),
+      fresh p t same (asked e) u kept done,
+      unmarked p t same (asked e) u kept done,
+    )
 
--- src/lib.rt:46:1
 same-length-2 : tie.Need-same-length-2
 same-length-2 c = search needs
 
--- src/lib.rt:46:1
 returns-2 : tie.Need-returns-2
-returns-2 c = ?
+returns-2 c =
+    let s = c .before .before .before .before .before .before .before .before .before .before .before .before in
+    by-missing (circuit s) _
+    (sym (ap missingOf (c .before .v .given .1)) ∙ c .before .before .before .undefined .ensures (circuit s) refl refl refl (part-marked (s .pre)))
 
--- src/lib.rt:46:1
 same-length-3 : tie.Need-same-length-3
 same-length-3 c = search needs
 
--- src/lib.rt:46:1
 returns-3 : tie.Need-returns-3
-returns-3 c = ?
+returns-3 c =
+    let d = c .before .before .before .before .before .before .before .before in
+    let e = d .before .before .before .before in
+    let s = start (told e) in
+    let named = all-named (told e) in
+    by-cycle (circuit s) _ named
+    (c .before .before .cycle .ensures (circuit s) refl (once (s .pre)) (used (s .pre) named) (d .before .number-leaves .ensures .numbers)
+    (leaves-count (asked e)))
 
 pub check-spec : {M : Type 1} → statement M
 check-spec =
