@@ -11,7 +11,8 @@ use Rattle.closing.proofs.number_heads.Statement.{statement}
 use Rattle.closing.proofs.number_heads.Tie as tie
 
 abbrev Inv-loop : tie.InvT-loop
-Inv-loop table stride n first t₀ next₀ at₀ i₀ t next at i = (i ≤ n) × (at ≡ stride * i) × (next ≡ first + i) × (t ≡ withHeads table stride first i t₀)
+Inv-loop table stride n first t₀ next₀ at₀ i₀ t next at i =
+    (i ≤ n) × (at ≡ stride * i) × (next ≡ first + i) × (t ≡ withHeads table stride first i t₀)
 
 abbrev μ-loop : tie.MeasureT-loop
 μ-loop table stride n first t₀ next₀ at₀ i₀ t next at i = n - i
@@ -25,7 +26,7 @@ room c =
 
 -- the variable of this turn
 var-is : (c : tie.After-index Inv-loop μ-loop)
-    → c .index .result ≡ varOf (getD (c .before .before .before .before .before .before .before .before .args .table .now) (c .before .before .before .before .before .loop .at) 0)
+    → let t = c .before .before .before .before .before in c .index .result ≡ varOf (getD (t .before .before .before .args .table .now) (t .loop .at) 0)
 var-is c = c .index .ensures ∙ ap indexOf (c .before .var .ensures ∙ ap halved (c .before .before .at .ensures))
 
 loop-holds : tie.Need-loop-holds Inv-loop μ-loop
