@@ -1,15 +1,20 @@
 -- Room: of the list of gates and by their places; in the words that are lent; for a circuit whose literals are in range.
 use Prim.Native.Nat.{ℕ, suc, zero, _+_, _*_, _<_, _≤_}
 use mathlib.Core.Path.{_≡_, refl, sym, subst}
-use mathlib.Core.Bool.{Bool, true, false, _&&_}
+use mathlib.Core.Bool.{Bool, true, false}
 use mathlib.Core.List.{List, [], _∷_, _++_, map}
 use native.Mathlib.Omega.{arith}
-use borrow.Author.Tests.{leb-true, eqb-true, eqb-false}
-use lib.Dec.{eqb, leb}
+use borrow.Author.Tests.{eqb-true, eqb-false}
+use lib.Dec.{eqb}
 use lib.ListN.{length}
-use Rattle.plan.specs.Literals.{varOf, signOf, inRange}
+use Rattle.plan.specs.Literals.{inRange}
 use Rattle.plan.specs.Circuit.{Gate, gateLine, inside, allInside}
 use Rattle.theorems.proofs.Reading.Common.{and-left, and-right}
+<<<<<<< HEAD
+=======
+use Rattle.theorems.proofs.Ranges.{range-var}
+use Rattle.theorems.proofs.Tables.{firsts, gateAt, gates-rows}
+>>>>>>> 2d112a21256dec0aab0b41a2dfcd4f2cdd140305
 use Rattle.theorems.proofs.Running.Found.{AllG}
 use Rattle.theorems.proofs.Tables.{firsts, gateAt, gates-rows}
 use Rattle.order.specs.Numbers.{InTable}
@@ -69,16 +74,9 @@ gates-inside m (g ∷ gs) h = (this, gates-inside m gs (and-right (inside true m
     sides : inside false m (g .rhs0 ∷ g .rhs1 ∷ []) ≡ true
     sides = and-right (inRange true m (g .lhs)) _ line
 
-    defines : (l : ℕ) → inRange true m l ≡ true → varOf l < m + 1
-    defines l k =
-        omega (arith, leb-true l (2 * m) (and-right (leb 2 l) (leb l (2 * m)) (and-right (eqb (signOf l) 0) (leb 2 l && leb l (2 * m)) k)))
-
-    uses : (l : ℕ) → inRange false m l ≡ true → varOf l < m + 1
-    uses l k = omega (arith, leb-true l (2 * m + 1) k)
-
     this : InTable (m + 1) g
     this = (
-      defines (g .lhs) (and-left (inRange true m (g .lhs)) _ line),
-      uses (g .rhs0) (and-left (inRange false m (g .rhs0)) _ sides),
-      uses (g .rhs1) (and-left (inRange false m (g .rhs1)) _ (and-right (inRange false m (g .rhs0)) _ sides)),
+      omega (arith, range-var true m (g .lhs) (and-left (inRange true m (g .lhs)) _ line)),
+      omega (arith, range-var false m (g .rhs0) (and-left (inRange false m (g .rhs0)) _ sides)),
+      omega (arith, range-var false m (g .rhs1) (and-left (inRange false m (g .rhs1)) _ (and-right (inRange false m (g .rhs0)) _ sides))),
     )

@@ -6,7 +6,8 @@ use native.Mathlib.Nat.{mul-zero, mul-suc}
 use native.Mathlib.Omega.{arith}
 use lib.ListN.{length, getD, take, drop, length-append}
 use lib.Seq.{getD-take, getD-drop, drop-drop, take-suc}
-use Rattle.plan.specs.Circuit.{Gate, Latch, literalOf, latchOf, gateOf, rowsOf}
+use Rattle.plan.specs.Literals.{varOf}
+use Rattle.plan.specs.Circuit.{Gate, Latch, literalOf, latchOf, gateOf, rowsOf, heads}
 
 -- row i of k words
 abbrev pub rowAt : ℕ → List ℕ → ℕ → List ℕ
@@ -90,3 +91,16 @@ words-rows t = rows-firsts 1 literalOf (λ i. getD t i 0) t (λ i. row i)
 pub words-take : (t : List ℕ) (n : ℕ) → n ≤ length t → take n t ≡ firsts (λ i. getD t i 0) n
 words-take t zero h = refl
 words-take t (suc n) h = take-suc t n 0 (omega arith) ∙ ap (λ (l : List ℕ). l ++ (getD t n 0 ∷ [])) (words-take t n (omega arith))
+
+-- the variables that lines define, at each place
+heads-snoc : (rows : List (List ℕ)) (row : List ℕ) → heads (rows ++ (row ∷ [])) ≡ heads rows ++ (varOf (literalOf row) ∷ [])
+heads-snoc [] row = refl
+heads-snoc (r ∷ rows) row = ap (λ (l : List ℕ). varOf (literalOf r) ∷ l) (heads-snoc rows row)
+
+pub heads-firsts : {A : Type 0} (line : A → List ℕ) (at : ℕ → A) (n : ℕ)
+    → heads (map line (firsts at n)) ≡ firsts (λ i. varOf (literalOf (line (at i)))) n
+heads-firsts line at zero = refl
+heads-firsts line at (suc n) =
+    ap heads (map-append line (firsts at n) (at n ∷ []))
+    ∙ (heads-snoc (map line (firsts at n)) (line (at n))
+    ∙ ap (λ (l : List ℕ). l ++ (varOf (literalOf (line (at n))) ∷ [])) (heads-firsts line at n))

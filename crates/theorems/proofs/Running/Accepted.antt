@@ -8,7 +8,7 @@ use borrow.Author.Tests.{leb-true}
 use lib.Dec.{eqb, leb}
 use lib.ListN.{length}
 use Rattle.plan.specs.Literals.{varOf, signOf, inRange}
-use Rattle.plan.specs.Circuit.{Latch, Gate, Circuit, heads, vars, currents, lefts, definedIn, nexts, roots, rights, usedIn, has, inside, allInside}
+use Rattle.plan.specs.Circuit.{Latch, Gate, Circuit, oneLine, latchLine, gateLine, heads, vars, currents, lefts, definedIn, nexts, roots, rights, usedIn, has, allNew, inside, allInside}
 use Rattle.plan.specs.Depends.{settled}
 use Rattle.plan.specs.Reading.{WellFormed}
 use Rattle.plan.specs.Convert.{leaves}
@@ -48,38 +48,59 @@ vars-append (x ∷ xs) ys = ap (λ (t : List ℕ). varOf x ∷ t) (vars-append x
 pub leaves-lefts : (c : Circuit) → leaves c ++ lefts (c .gates) ≡ zero ∷ definedIn c
 leaves-lefts c = ap (λ (t : List ℕ). zero ∷ t) (append-assoc (vars (c .inputs)) (currents (c .latches)) (lefts (c .gates)))
 
-module _ (c : Circuit) (ok : WellFormed c) where
+-- literals in their ranges, none defined twice: the leaves and the gates are all different
+module _ (c : Circuit) (inputs : allInside true (c .M) (map oneLine (c .inputs)) ≡ true)
+    (latches : allInside true (c .M) (map latchLine (c .latches)) ≡ true) (gates : allInside true (c .M) (map gateLine (c .gates)) ≡ true)
+    (different : allNew [] (definedIn c) ≡ true) where
   zero-new : has 0 (definedIn c) ≡ false
   zero-new = absent (has 0 (definedIn c)) (λ h. go h (has 0 (currents (c .latches) ++ lefts (c .gates))) refl)
     where
       gates-not : has 0 (lefts (c .gates)) ≡ true → ⊥
-      gates-not = not-zero (c .M) (λ (g : Gate). g .lhs) (λ (g : Gate). g .rhs0 ∷ g .rhs1 ∷ []) (c .gates) (ok .gates)
+      gates-not = not-zero (c .M) (λ (g : Gate). g .lhs) (λ (g : Gate). g .rhs0 ∷ g .rhs1 ∷ []) (c .gates) gates
 
       latches-not : has 0 (currents (c .latches)) ≡ true → ⊥
-      latches-not = not-zero (c .M) (λ (l : Latch). l .current) (λ (l : Latch). l .next ∷ []) (c .latches) (ok .latches)
+      latches-not = not-zero (c .M) (λ (l : Latch). l .current) (λ (l : Latch). l .next ∷ []) (c .latches) latches
 
       inputs-not : has 0 (vars (c .inputs)) ≡ true → ⊥
-      inputs-not = not-zero (c .M) (λ (l : ℕ). l) (λ (l : ℕ). []) (c .inputs) (ok .inputs)
+      inputs-not = not-zero (c .M) (λ (l : ℕ). l) (λ (l : ℕ). []) (c .inputs) inputs
 
       go : has 0 (definedIn c) ≡ true → (t : Bool) → has 0 (currents (c .latches) ++ lefts (c .gates)) ≡ t → ⊥
       go h true e = latches-not (has-but 0 (currents (c .latches)) (lefts (c .gates)) e (absent (has 0 (lefts (c .gates))) gates-not))
       go h false e = inputs-not (has-but 0 (vars (c .inputs)) (currents (c .latches) ++ lefts (c .gates)) h e)
 
+  pub all-once : distinct (leaves c ++ lefts (c .gates)) ≡ true
+  all-once = ap distinct (leaves-lefts c) ∙ (distinct-cons zero (definedIn c) zero-new (new-distinct [] (definedIn c) different .0))
+
+-- what is used is defined: it is among the leaves and the gates
+module _ (c : Circuit) (defined : (v : ℕ) → has v (usedIn c) ≡ true → has v (zero ∷ definedIn c) ≡ true) where
   used-in : (ls : List ℕ) → ((v : ℕ) → has v (vars ls) ≡ true → has v (usedIn c) ≡ true) → allIn ls (leaves c ++ lefts (c .gates)) ≡ true
-  used-in ls h = rw (leaves-lefts c) (all-in ls (zero ∷ definedIn c) (λ v k. ok .defined v (h v k)))
+  used-in ls h = rw (leaves-lefts c) (all-in ls (zero ∷ definedIn c) (λ v k. defined v (h v k)))
 
   has-roots : (v : ℕ) → has v (vars (roots c)) ≡ true → has v (usedIn c) ≡ true
   has-roots v k = rw (vars-append (roots c) (rights (c .gates))) (has-left v (vars (roots c)) (vars (rights (c .gates))) k)
 
-  pub accepted : Accepted c
-  accepted = record {
-    once = ap distinct (leaves-lefts c) ∙ (distinct-cons zero (definedIn c) zero-new (new-distinct [] (definedIn c) (ok .different) .0));
-    used-next = used-in (nexts (c .latches))
-        (λ v k. has-roots v (rw (vars-append (nexts (c .latches)) (c .outputs))
-        (has-left v (vars (nexts (c .latches))) (vars (c .outputs)) k)));
-    used-output = used-in (c .outputs) (λ v k. has-roots v (rw (vars-append (nexts (c .latches)) (c .outputs))
-        (has-right v (vars (nexts (c .latches))) (vars (c .outputs)) k)));
-    used-gate = used-in (rights (c .gates))
-        (λ v k. rw (vars-append (roots c) (rights (c .gates))) (has-right v (vars (roots c)) (vars (rights (c .gates))) k));
-    settles = settled-exactly (c .gates) .1 (ok .acyclic);
-  }
+  pub nexts-in : allIn (nexts (c .latches)) (leaves c ++ lefts (c .gates)) ≡ true
+  nexts-in =
+      used-in (nexts (c .latches))
+      (λ v k. has-roots v (rw (vars-append (nexts (c .latches)) (c .outputs))
+      (has-left v (vars (nexts (c .latches))) (vars (c .outputs)) k)))
+
+  pub outputs-in : allIn (c .outputs) (leaves c ++ lefts (c .gates)) ≡ true
+  outputs-in =
+      used-in (c .outputs)
+      (λ v k. has-roots v (rw (vars-append (nexts (c .latches)) (c .outputs))
+      (has-right v (vars (nexts (c .latches))) (vars (c .outputs)) k)))
+
+  pub rights-in : allIn (rights (c .gates)) (leaves c ++ lefts (c .gates)) ≡ true
+  rights-in =
+      used-in (rights (c .gates))
+      (λ v k. rw (vars-append (roots c) (rights (c .gates))) (has-right v (vars (roots c)) (vars (rights (c .gates))) k))
+
+pub accepted : (c : Circuit) → WellFormed c → Accepted c
+accepted c ok = record {
+  once = all-once c (ok .inputs) (ok .latches) (ok .gates) (ok .different);
+  used-next = nexts-in c (ok .defined);
+  used-output = outputs-in c (ok .defined);
+  used-gate = rights-in c (ok .defined);
+  settles = settled-exactly (c .gates) .1 (ok .acyclic);
+}

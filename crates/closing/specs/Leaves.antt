@@ -1,0 +1,52 @@
+-- Numbers of the leaves: inputs from 1 on, then latches.
+use Prim.Native.Nat.{ℕ, zero, suc, _+_, _*_, _<_, _≤_}
+use mathlib.Core.Path.{_≡_}
+use mathlib.Core.Bool.{true}
+use mathlib.Core.List.{List, _∷_, _++_, map}
+use lib.ListN.{length, getD, set, take}
+use Rattle.plan.specs.declared.Counts.{Counts}
+use Rattle.plan.specs.Literals.{most, varOf}
+use Rattle.plan.specs.Circuit.{Latch, latchOf, rowsOf, oneLine, latchLine, vars, currents, allInside}
+use Rattle.theorems.proofs.Tables.{firsts}
+use Rattle.theorems.proofs.Reading.Members.{distinct}
+use Rattle.order.specs.Numbers.{NumTable}
+
+-- the variable of the first word of row i, of `stride` words; those of n rows
+abbrev pub headAt : List ℕ → ℕ → ℕ → ℕ
+headAt table stride i = varOf (getD table (stride * i) 0)
+
+abbrev pub headsAt : List ℕ → ℕ → ℕ → List ℕ
+headsAt table stride n = firsts (headAt table stride) n
+
+-- t, after the variables of n rows took the numbers from `first` on
+abbrev pub withHeads : List ℕ → ℕ → ℕ → ℕ → List ℕ → List ℕ
+withHeads table stride first zero t = t
+withHeads table stride first (suc n) t = set (withHeads table stride first n t) (headAt table stride n) (first + n)
+
+-- the inputs and latches that tables hold
+abbrev pub inputsOf : Counts → List ℕ → List ℕ
+inputsOf n inputs = take (n .I) inputs
+
+abbrev pub latchesOf : Counts → List ℕ → List Latch
+latchesOf n latches = map latchOf (rowsOf 2 (n .L) latches)
+
+-- `leaves` of the circuit that they are of
+abbrev pub leavesOf : Counts → List ℕ → List ℕ → List ℕ
+leavesOf n inputs latches = zero ∷ (vars (inputsOf n inputs) ++ currents (latchesOf n latches))
+
+-- what `number_leaves` asks: literals in range, no variable twice, and a blank table with a word for each variable up to M
+pub record Leaves (n : Counts) (inputs latches t : List ℕ) : Type 0 where
+  pub most-M : n .M ≤ most
+  pub sum : n .I + n .L ≤ n .M
+  pub inputs-long : n .I ≤ length inputs
+  pub latches-long : 2 * n .L ≤ length latches
+  pub table-long : n .M < length t
+  pub inputs-inside : allInside true (n .M) (map oneLine (inputsOf n inputs)) ≡ true
+  pub latches-inside : allInside true (n .M) (map latchLine (latchesOf n latches)) ≡ true
+  pub different : distinct (leavesOf n inputs latches) ≡ true
+  pub blank : (v : ℕ) → getD t v 0 ≡ 0
+
+-- what it leaves: each leaf's number, and nothing past variable M
+pub record Numbered (n : Counts) (inputs latches t : List ℕ) : Type 0 where
+  pub numbers : NumTable (leavesOf n inputs latches) (take (n .M + 1) t)
+  pub rest : (p : ℕ) → n .M < p → getD t p 0 ≡ 0

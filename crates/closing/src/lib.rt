@@ -1,0 +1,70 @@
+// Refusal 7, then 8, over the whole circuit in the tables: what is left to check when every literal is in range and no variable is
+// defined twice.
+ghost use mathlib.Core.Path.{_≡_};
+ghost use Prim.Native.Nat.{ℕ, _+_, _*_, _<_, _≤_};
+ghost use lib.ListN.{length};
+ghost use Rattle.plan.specs.Outcome.{checkedBy};
+ghost use Rattle.closing.specs.Leaves.{headAt, withHeads, Leaves, Numbered};
+ghost use Rattle.closing.specs.Read.{circuitIn, closing, Read};
+use plan::Checked;
+use plan::Counts;
+use plan::Lit;
+use plan::Refusal;
+use used::Missing;
+
+// The variables of n rows, of `stride` words of which the first defines, take the numbers from `first` on.
+fn number_heads(table: &[u32], stride: usize, n: usize, first: u32, t: &mut [u32])
+    requires { ⌜ 0 < stride ⌝ }
+    requires { ⌜ stride * n ≤ length (now table) ⌝ }
+    requires { ⌜ first + n < 4294967296 ⌝ }
+    requires { ⌜ ((i : ℕ) → i < n → headAt (now table) stride i < length (now t)) ⌝ }
+    ensures { λ _. ⌜ now (t .exit) ≡ withHeads (now (table .entry)) stride first n (now (t .entry)) ⌝ }
+{
+    let mut next = first;
+    let mut at = 0;
+    let mut i = 0;
+    while i < n {
+        let v = Lit::at(table[at]).var().index() as usize;
+        t[v] = next;
+        next += 1;
+        at += stride;
+        i += 1;
+    }
+}
+
+// Inputs get the numbers from 1 on, in list order, and latches the next; the constant has 0, and so has what is no leaf
+// (the paper, conversion).
+pub fn number_leaves(n: Counts, inputs: &[u32], latches: &[u32], t: &mut [u32])
+    requires { ⌜ Leaves n (now inputs) (now latches) (now t) ⌝ }
+    ensures { λ _. ⌜ Numbered n (now (inputs .entry)) (now (latches .entry)) (now (t .exit)) ⌝ }
+{
+    number_heads(inputs, 1, n.I, 1, t);
+    number_heads(latches, 2, n.L, (1 + n.I) as u32, t);
+}
+
+// The gates' variables are ordered only where some gate uses a variable that is not below its own.
+pub fn check(
+    n: Counts,
+    inputs: &[u32],
+    latches: &[u32],
+    outputs: &[u32],
+    gates: &[u32],
+    scratch: &mut [u32],
+    base: usize,
+) -> Checked
+    requires { ⌜ Read n (now inputs) (now latches) (now outputs) (now gates) (now scratch) base ⌝ }
+    ensures { λ r. ⌜ r ≡ checkedBy (closing (circuitIn n (now (inputs .entry)) (now (latches .entry)) (now (outputs .entry)) (now (gates .entry)))) ⌝ }
+{
+    let marks = &scratch[base..];
+    match used::undefined(latches, n.L, outputs, n.O, gates, n.A, n.M as u32, marks) {
+        Missing::Least(v) => Checked::Refused(Refusal::NotDefined(v)),
+        Missing::Nothing => {
+            if order::ascending(gates, n.A) {
+                return Checked::Good;
+            }
+            tables::clear(scratch);
+            number_leaves(n, inputs, latches, scratch);
+            order::cycle(gates, scratch, (1 + n.I + n.L) as u32, n.M + 1, n.A)
+        }
+    }
+}
