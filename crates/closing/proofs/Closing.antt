@@ -109,7 +109,7 @@ module _ {n : Counts} {inputs latches outputs gates scratch : List ℕ} {base : 
         (omega (arith, leaves-count l, p .sum, p .most-M)) (done .numbers)
 
     pub unmarked : Unmarked u (n .M + 1) (n .A)
-    unmarked q h = done .rest q (omega arith)
+    unmarked q h _ = done .rest q (omega arith)
 
 -- what is answered: 7 if it is found, else what 8 gives
 pub by-missing : (c : Circuit) (v : ℕ) → some v ≡ undefinedIn c → Refused (NotDefined v) ≡ checkedBy (closing c)

@@ -10,13 +10,9 @@ use lib.ListN.{length}
 use Rattle.plan.specs.Literals.{inRange}
 use Rattle.plan.specs.Circuit.{Gate, gateLine, inside, allInside}
 use Rattle.theorems.proofs.Reading.Common.{and-left, and-right}
-<<<<<<< HEAD
-=======
 use Rattle.theorems.proofs.Ranges.{range-var}
 use Rattle.theorems.proofs.Tables.{firsts, gateAt, gates-rows}
->>>>>>> 2d112a21256dec0aab0b41a2dfcd4f2cdd140305
 use Rattle.theorems.proofs.Running.Found.{AllG}
-use Rattle.theorems.proofs.Tables.{firsts, gateAt, gates-rows}
 use Rattle.order.specs.Numbers.{InTable}
 use Rattle.order.specs.Waiting.{Room, Space, wordsFor}
 

@@ -1,5 +1,4 @@
 -- Marks of variables.
-<<<<<<< HEAD
 use Prim.Native.Nat.{ℕ, zero, suc, _≤_, _<_}
 use mathlib.Core.Path.{_≡_, refl, sym, ap, _∙_, subst}
 use mathlib.Core.Bool.{Bool, true, false, not, cond}
@@ -7,12 +6,6 @@ use mathlib.Core.List.{List, [], _∷_}
 use native.Mathlib.Omega.{arith}
 use native.Mathlib.Decide.{decLt}
 use borrow.Author.Tests.{eq-eqb, ne-eqb}
-=======
-use Prim.Native.Nat.{ℕ, suc, zero, _≤_}
-use mathlib.Core.Path.{_≡_, refl}
-use mathlib.Core.Bool.{not}
-use mathlib.Core.List.{List}
->>>>>>> 2d112a21256dec0aab0b41a2dfcd4f2cdd140305
 use lib.Dec.{eqb}
 use lib.ListN.{getD, replicate}
 use Rattle.plan.specs.Circuit.{has}
@@ -21,7 +14,6 @@ use Rattle.plan.specs.Circuit.{has}
 abbrev pub Agrees : ℕ → List ℕ → List ℕ → Type 0
 Agrees m seen marks = (v : ℕ) → v ≤ m → eqb (getD marks v 0) 0 ≡ not (has v seen)
 
-<<<<<<< HEAD
 -- the variables below n that are marked
 abbrev markedBelow : List ℕ → ℕ → List ℕ
 markedBelow marks zero = []
@@ -58,10 +50,9 @@ module _ (marks : List ℕ) where
   -- marks agree with some list, whatever they are
   pub agreeing : (m : ℕ) → (seen : List ℕ) × Agrees m seen marks
   agreeing m = (markedBelow marks (suc m), λ v h. marked-below (suc m) v (omega arith))
-=======
+
 -- a table that was cleared has no mark
 pub zeros : (k i : ℕ) → _≡_ {A = ℕ} (getD (replicate k 0) i 0) 0
 zeros zero i = refl
 zeros (suc k) zero = refl
 zeros (suc k) (suc i) = zeros k i
->>>>>>> 2d112a21256dec0aab0b41a2dfcd4f2cdd140305
