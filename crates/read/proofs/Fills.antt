@@ -1,0 +1,67 @@
+-- From the header's answer, 4 and the rest to the whole answer.
+use Prim.Native.Nat.{ℕ, suc, zero, _+_, _≤_}
+use mathlib.Core.Path.{_≡_, refl, sym, ap, _∙_, subst}
+use mathlib.Core.Bool.{Bool, true, false}
+use mathlib.Core.Option.{Option, none, some}
+use mathlib.Core.List.{List}
+use native.Mathlib.Omega.{arith}
+use borrow.Author.Tests.{eqb-true, leb-true}
+use lib.ListN.{length}
+use Rattle.plan.specs.declared.Counts.{Counts}
+use Rattle.plan.specs.declared.Refusal.{Refusal}
+use Rattle.plan.specs.declared.Refusal.the-variants.{ShortTable}
+use Rattle.plan.specs.declared.Passed.{Passed}
+use Rattle.plan.specs.declared.Passed.the-variants as passed
+use Rattle.plan.specs.declared.Loaded.{Loaded}
+use Rattle.plan.specs.declared.Loaded.the-variants.{Accepted, Refused}
+use Rattle.plan.specs.Refusals.{Parse, got, refused, _then_, unless}
+use Rattle.plan.specs.Circuit.{Circuit, Tables, countsOf, wordsToRead, against, short}
+use Rattle.plan.specs.Header.{Form, text, binary, Head, header, adds}
+use Rattle.plan.specs.Depends.{undefinedIn, cyclicIn}
+use Rattle.plan.specs.Tail.{tailAt}
+use Rattle.plan.specs.Reading.{body, readFile}
+use Rattle.theorems.proofs.Held.{Holds, BodySays}
+use Rattle.theorems.proofs.Reading.Common.{then-got, unless-got, got-value}
+use Rattle.theorems.proofs.Reading.Differences.{Bytes}
+use Rattle.theorems.proofs.Reading.Texts.{text-took}
+use Rattle.theorems.proofs.Reading.Binaries.{binary-took}
+use Rattle.read.specs.Rest.{after, rest, lengths, LoadedSays}
+use Rattle.read.proofs.After.{body-passed, body-refused}
+
+-- the counts of what is read are the header's
+body-counts : (file : List ℕ) → Bytes file → (f : Form) (n : Counts) (at : ℕ) (c : Circuit) (e : ℕ) → adds f n ≡ true → body file f n at ≡ got c e → countsOf c ≡ n
+body-counts file bytes text n at c e s q = text-took file n at c e q .counts
+body-counts file bytes binary n at c e s q = binary-took file bytes n at c e (eqb-true _ _ s) q .0 .counts
+
+rest-counts : (file : List ℕ) → Bytes file → (f : Form) (n : Counts) (at : ℕ) (c : Circuit) (e : ℕ) → adds f n ≡ true → rest file f n at ≡ got c e → countsOf c ≡ n
+rest-counts file bytes f n at c e s q =
+    let t = then-got (body file f n at) _ c e q in
+    let u = then-got (tailAt file n (t .1)) _ c e (t .3) in
+    let w = unless-got (undefinedIn (t .0)) _ _ c e (u .3) in
+    let v = unless-got (cyclicIn (t .0)) _ _ c e (w .1) in
+    ap countsOf (sym (got-value (t .0) c (t .1) e (v .1))) ∙ body-counts file bytes f n at (t .0) (t .1) s (t .2)
+
+loaded-refused : (t t′ : Tables) (p : Parse Circuit) (k : Refusal) → p ≡ refused k → LoadedSays t p (Refused k) t′
+loaded-refused t t′ p k e = subst (λ (q : Parse Circuit). LoadedSays t q (Refused k) t′) (sym e) refl
+
+module _ (file : List ℕ) (t t′ : Tables) (scratch : List ℕ) where
+  pub header-told : (k : Refusal) → header file 0 ≡ refused k → LoadedSays t (readFile file (lengths t scratch)) (Refused k) t′
+  header-told k e = loaded-refused t t′ (readFile file (lengths t scratch)) k (rw e)
+
+  module _ (f : Form) (n : Counts) (at : ℕ) (e : header file 0 ≡ got (record { form = f; counts = n }) at) where
+    pub short-told : (k : ℕ) → short (against 1 (wordsToRead n) (lengths t scratch)) ≡ some k → LoadedSays t (readFile file (lengths t scratch)) (Refused (ShortTable k)) t′
+    short-told k s = loaded-refused t t′ (readFile file (lengths t scratch)) (ShortTable k) (rw (e, s))
+
+    module _ (s : short (against 1 (wordsToRead n) (lengths t scratch)) ≡ none) where
+      whole : readFile file (lengths t scratch) ≡ rest file f n at
+      whole = rw (e, s)
+
+      pub rest-refused : (k : Refusal) → BodySays t (rest file f n at) (passed.Refused k) t′ → LoadedSays t (readFile file (lengths t scratch)) (Refused k) t′
+      rest-refused k h = loaded-refused t t′ (readFile file (lengths t scratch)) k (whole ∙ body-refused t (rest file f n at) k t′ h)
+
+      pub rest-accepted : (next : ℕ) → Bytes file → adds f n ≡ true → BodySays t (rest file f n at) (passed.To next) t′
+          → LoadedSays t (readFile file (lengths t scratch)) (Accepted n next) t′
+      rest-accepted next bytes sum h =
+          let p = body-passed t (rest file f n at) next t′ h in
+          subst (λ (q : Parse Circuit). LoadedSays t q (Accepted n next) t′) (sym (whole ∙ p .1))
+          (ap (λ (m : Counts). Accepted m next) (sym (rest-counts file bytes f n at (p .0) next sum (p .1))), p .2)

@@ -1,0 +1,5 @@
+pub mod After
+pub mod Fills
+pub mod Loads
+pub mod Parts
+pub mod TextRead

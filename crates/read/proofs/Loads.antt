@@ -1,0 +1,66 @@
+-- What a reader leaves of tables that were cleared before it filled them.
+use Prim.Native.Nat.{ℕ, suc, zero, _+_, _-_}
+use mathlib.Core.Path.{_≡_, refl, sym, ap, ap₂, _∙_, subst}
+use mathlib.Core.List.{List, [], _∷_, _++_, map}
+use native.Mathlib.Nat.{zero-add, zero-sub, sub-zero}
+use native.Mathlib.Omega.{arith}
+use lib.ListN.{length, drop, replicate, length-replicate}
+use Rattle.plan.specs.declared.Counts.{Counts}
+use Rattle.plan.specs.declared.Refusal.{Refusal}
+use Rattle.plan.specs.declared.Loaded.{Loaded}
+use Rattle.plan.specs.declared.Loaded.the-variants.{Accepted, Refused}
+use Rattle.plan.specs.Refusals.{Parse, got, refused}
+use Rattle.plan.specs.Circuit.{Circuit, Tables, countsOf, lengthsOf, filled, cleared, holding, allCleared, latchLine, gateLine, flat}
+use Rattle.plan.specs.Reading.{readFile}
+use Rattle.plan.specs.Outcome.{put, ReadEntry, LoadExit, load, loadBy}
+use Rattle.theorems.proofs.Held.{Holds}
+use Rattle.read.specs.Rest.{LoadedSays, lengths}
+
+drop-zeros : (k n : ℕ) → drop {A = ℕ} k (replicate n 0) ≡ replicate (n - k) 0
+drop-zeros zero n = ap (λ (m : ℕ). replicate m 0) (sym (sub-zero n))
+drop-zeros (suc k) zero = ap (λ (m : ℕ). replicate m 0) (sym (zero-sub (suc k)))
+drop-zeros (suc k) (suc n) = let e : n - k ≡ suc n - suc k = omega arith in drop-zeros k n ∙ ap (λ (m : ℕ). replicate m 0) e
+
+-- words put into a table of zeros, and zeros past them
+put-cleared : (table ws : List ℕ) → put (cleared table) 0 ws ≡ filled table ws
+put-cleared table ws = ap (λ (x : List ℕ). ws ++ x) (ap (λ (k : ℕ). drop k (cleared table)) (zero-add (length ws)) ∙ drop-zeros (length ws) (length table))
+
+pub holds-filled : (t t′ : Tables) (c : Circuit) → Holds (allCleared t) c t′ → t′ ≡ holding t c
+holds-filled t t′ c h = λ i. record {
+  inputs = (h .inputs ∙ put-cleared (t .inputs) (c .inputs)) i;
+  latches = (h .latches ∙ put-cleared (t .latches) (flat (map latchLine (c .latches)))) i;
+  outputs = (h .outputs ∙ put-cleared (t .outputs) (c .outputs)) i;
+  gates = (h .gates ∙ put-cleared (t .gates) (flat (map gateLine (c .gates)))) i;
+}
+
+-- clearing keeps the lengths
+pub lengths-cleared : (t : Tables) (scratch : List ℕ) → lengths (allCleared t) (cleared scratch) ≡ lengths t scratch
+lengths-cleared t scratch = simp length-replicate
+
+-- the outcome by the answer of the filled tables
+module _ (e : ReadEntry) (t′ : Tables) where
+  by-parse : (p : Parse Circuit) (r : Loaded) → LoadedSays (allCleared (e .tables)) p r t′ → (n : Counts) (start : ℕ) → r ≡ Accepted n start
+      → record { answer = Accepted n start; tables = t′; scratch = cleared (e .scratch) } ≡ loadBy e p
+  by-parse (got c s) r h n start q =
+      ap₂ (λ (x : Loaded) (y : Tables). record { answer = x; tables = y; scratch = cleared (e .scratch) }) (sym q ∙ h .0) (holds-filled (e .tables) t′ c (h .1))
+  by-parse (refused k) r h n start q = let z : _≡_ {A = ℕ} 0 1 = cc in absurd (omega arith)
+
+  pub accepted : (r : Loaded) → LoadedSays (allCleared (e .tables)) (readFile (e .file) (lengths (allCleared (e .tables)) (cleared (e .scratch)))) r t′
+      → (n : Counts) (start : ℕ) → r ≡ Accepted n start → record { answer = Accepted n start; tables = t′; scratch = cleared (e .scratch) } ≡ load e
+  accepted r h n start q =
+      by-parse (readFile (e .file) (lengths (allCleared (e .tables)) (cleared (e .scratch)))) r h n start q
+      ∙ ap (λ (x : List ℕ). loadBy e (readFile (e .file) x)) (lengths-cleared (e .tables) (e .scratch))
+
+by-refusal : (e : ReadEntry) (t′ : Tables) (p : Parse Circuit) (r : Loaded) → LoadedSays (allCleared (e .tables)) p r t′ → (k : Refusal) → r ≡ Refused k
+    → record { answer = Refused k; tables = allCleared (e .tables); scratch = cleared (e .scratch) } ≡ loadBy e p
+by-refusal e t′ (got c s) r h k q = let a = h .0 in let z : _≡_ {A = ℕ} 0 1 = cc in absurd (omega arith)
+by-refusal e t′ (refused j) r h k q =
+    let same : k ≡ j = cc in
+    ap (λ (x : Refusal). record { answer = Refused x; tables = allCleared (e .tables); scratch = cleared (e .scratch) }) same
+
+pub not-accepted : (e : ReadEntry) (t′ : Tables) (r : Loaded)
+    → LoadedSays (allCleared (e .tables)) (readFile (e .file) (lengths (allCleared (e .tables)) (cleared (e .scratch)))) r t′ → (k : Refusal) → r ≡ Refused k
+    → record { answer = Refused k; tables = allCleared (e .tables); scratch = cleared (e .scratch) } ≡ load e
+not-accepted e t′ r h k q =
+    by-refusal e t′ (readFile (e .file) (lengths (allCleared (e .tables)) (cleared (e .scratch)))) r h k q
+    ∙ ap (λ (x : List ℕ). loadBy e (readFile (e .file) x)) (lengths-cleared (e .tables) (e .scratch))
