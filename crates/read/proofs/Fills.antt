@@ -6,7 +6,7 @@ use mathlib.Core.Option.{Option, none, some}
 use mathlib.Core.List.{List}
 use native.Mathlib.Omega.{arith}
 use borrow.Author.Tests.{eqb-true, leb-true}
-use lib.ListN.{length}
+use lib.ListN.{getD}
 use Rattle.plan.specs.declared.Counts.{Counts}
 use Rattle.plan.specs.declared.Refusal.{Refusal}
 use Rattle.plan.specs.declared.Refusal.the-variants.{ShortTable}
@@ -14,18 +14,22 @@ use Rattle.plan.specs.declared.Passed.{Passed}
 use Rattle.plan.specs.declared.Passed.the-variants as passed
 use Rattle.plan.specs.declared.Loaded.{Loaded}
 use Rattle.plan.specs.declared.Loaded.the-variants.{Accepted, Refused}
-use Rattle.plan.specs.Refusals.{Parse, got, refused, _then_, unless}
+use Rattle.plan.specs.Refusals.{Parse, got, refused}
 use Rattle.plan.specs.Circuit.{Circuit, Tables, countsOf, wordsToRead, against, short}
-use Rattle.plan.specs.Header.{Form, text, binary, Head, header, adds}
+use Rattle.plan.specs.Header.{Form, text, binary, header, adds, listOf}
 use Rattle.plan.specs.Depends.{undefinedIn, cyclicIn}
 use Rattle.plan.specs.Tail.{tailAt}
 use Rattle.plan.specs.Reading.{body, readFile}
 use Rattle.theorems.proofs.Held.{Holds, BodySays}
 use Rattle.theorems.proofs.Reading.Common.{then-got, unless-got, got-value}
 use Rattle.theorems.proofs.Reading.Differences.{Bytes}
+use Rattle.theorems.proofs.Reading.Headers.{AllMost}
+use Rattle.theorems.proofs.Reading.Short.{short-none}
 use Rattle.theorems.proofs.Reading.Texts.{text-took}
 use Rattle.theorems.proofs.Reading.Binaries.{binary-took}
-use Rattle.read.specs.Rest.{after, rest, lengths, LoadedSays}
+use Rattle.header.specs.Parts.{formOf}
+use Rattle.tables.specs.Lengths.{tableOf}
+use Rattle.read.specs.Rest.{rest, Room, lengths, LoadedSays}
 use Rattle.read.proofs.After.{body-passed, body-refused}
 
 -- the counts of what is read are the header's
@@ -56,12 +60,57 @@ module _ (file : List ℕ) (t t′ : Tables) (scratch : List ℕ) where
       whole : readFile file (lengths t scratch) ≡ rest file f n at
       whole = rw (e, s)
 
-      pub rest-refused : (k : Refusal) → BodySays t (rest file f n at) (passed.Refused k) t′ → LoadedSays t (readFile file (lengths t scratch)) (Refused k) t′
-      rest-refused k h = loaded-refused t t′ (readFile file (lengths t scratch)) k (whole ∙ body-refused t (rest file f n at) k t′ h)
+      pub rest-refused : (k : Refusal) (r : Passed) → BodySays t (rest file f n at) r t′ → r ≡ passed.Refused k → LoadedSays t (readFile file (lengths t scratch)) (Refused k) t′
+      rest-refused k r h q =
+          loaded-refused t t′ (readFile file (lengths t scratch)) k
+          (whole ∙ body-refused t (rest file f n at) k t′ (subst (λ (x : Passed). BodySays t (rest file f n at) x t′) q h))
 
-      pub rest-accepted : (next : ℕ) → Bytes file → adds f n ≡ true → BodySays t (rest file f n at) (passed.To next) t′
+      pub rest-accepted : (next : ℕ) (r : Passed) → Bytes file → adds f n ≡ true → BodySays t (rest file f n at) r t′ → r ≡ passed.To next
           → LoadedSays t (readFile file (lengths t scratch)) (Accepted n next) t′
-      rest-accepted next bytes sum h =
-          let p = body-passed t (rest file f n at) next t′ h in
+      rest-accepted next r bytes sum h q =
+          let p = body-passed t (rest file f n at) next t′ (subst (λ (x : Passed). BodySays t (rest file f n at) x t′) q h) in
           subst (λ (q : Parse Circuit). LoadedSays t q (Accepted n next) t′) (sym (whole ∙ p .1))
           (ap (λ (m : Counts). Accepted m next) (sym (rest-counts file bytes f n at (p .0) next sum (p .1))), p .2)
+
+-- by the header's form
+module _ (file : List ℕ) (n : Counts) (at : ℕ) (t t′ : Tables) (r : Passed) (b : Bool) where
+  pub as-binary : b ≡ true → BodySays t (rest file binary n at) r t′ → BodySays t (rest file (formOf b) n at) r t′
+  as-binary e h = subst (λ (x : Bool). BodySays t (rest file (formOf x) n at) r t′) (sym e) h
+
+  pub as-text : b ≡ false → BodySays t (rest file text n at) r t′ → BodySays t (rest file (formOf b) n at) r t′
+  as-text e h = subst (λ (x : Bool). BodySays t (rest file (formOf x) n at) r t′) (sym e) h
+
+pub binary-sum : (n : Counts) (b : Bool) → b ≡ true → adds (formOf b) n ≡ true → n .I + n .L + n .A ≡ n .M
+binary-sum n b e h = eqb-true _ _ (subst (λ (x : Bool). adds (formOf x) n ≡ true) e h)
+
+pub text-sum : (n : Counts) (b : Bool) → b ≡ false → adds (formOf b) n ≡ true → n .I + n .L + n .A ≤ n .M
+text-sum n b e h = leb-true _ _ (subst (λ (x : Bool). adds (formOf x) n ≡ true) e h)
+
+-- what 4 answers: a table, or room for all
+table-some : (k : ℕ) → (k ≡ 0 → ⊥) → tableOf k ≡ some k
+table-some zero h = absurd (h refl)
+table-some (suc k) h = refl
+
+pub some-table : (k : ℕ) (o : Option ℕ) → (k ≡ 0 → ⊥) → tableOf k ≡ o → o ≡ some k
+some-table k o h e = sym e ∙ table-some k h
+
+pub no-table : (k : ℕ) (o : Option ℕ) → k ≡ 0 → tableOf k ≡ o → o ≡ none
+no-table k o h e = sym e ∙ ap tableOf h
+
+pub room-for : (n : Counts) (t : Tables) (scratch : List ℕ) → AllMost (listOf n) → short (against 1 (wordsToRead n) (lengths t scratch)) ≡ none
+    → ((i : ℕ) → getD scratch i 0 ≡ 0) → Room n t scratch
+room-for n t scratch small s blank =
+    let l = short-none (against 1 (wordsToRead n) (lengths t scratch)) .0 s in
+    record {
+      most-M = small .0;
+      most-I = small .1 .0;
+      most-L = small .1 .1 .0;
+      most-O = small .1 .1 .1 .0;
+      most-A = small .1 .1 .1 .1 .0;
+      inputs = l .0;
+      latches = l .1 .0;
+      outputs = l .1 .1 .0;
+      gates = l .1 .1 .1 .0;
+      words = l .1 .1 .1 .1 .0;
+      blank = blank;
+    }

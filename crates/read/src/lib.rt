@@ -1,14 +1,24 @@
 // Reading a file of either form.
 ghost use mathlib.Core.Path.{_≡_};
-ghost use Prim.Native.Nat.{_+_, _≤_};
-ghost use lib.ListN.{length};
-ghost use Rattle.plan.specs.Header.{text, binary};
+ghost use mathlib.Core.Bool.{true};
+ghost use Prim.Native.Nat.{ℕ, _+_, _≤_};
+ghost use lib.ListN.{getD};
+ghost use Rattle.plan.specs.Header.{text, binary, adds};
+ghost use Rattle.plan.specs.Reading.{readFile};
+ghost use Rattle.plan.specs.Outcome.{Says, load};
 ghost use Rattle.theorems.proofs.Held.{BodySays};
-ghost use Rattle.read.specs.Rest.{rest, Room};
+ghost use Rattle.header.specs.Parts.{formOf};
+ghost use Rattle.read.specs.Rest.{rest, Room, lengths, LoadedSays};
 use binary::read_binary;
+use header::read_header;
 use plan::Checked;
 use plan::Counts;
+use plan::Headed;
+use plan::Loaded;
 use plan::Passed;
+use plan::Refusal;
+use tables::clear;
+use tables::too_short;
 use text::read_text;
 
 // What follows the header of a text file: the body, the tail, then 7 and 8. Marks of symbols stand at the start of the scratch, marks of
@@ -72,4 +82,88 @@ fn rest_of_binary(
         Checked::Refused(r) => Passed::Refused(r),
         Checked::Good => Passed::To(next),
     }
+}
+
+fn rest_of(
+    binary: bool,
+    file: &[u8],
+    at: usize,
+    n: Counts,
+    inputs: &mut [u32],
+    latches: &mut [u32],
+    outputs: &mut [u32],
+    gates: &mut [u32],
+    scratch: &mut [u32],
+) -> Passed
+    requires { ⌜ Room n (record { inputs = now inputs; latches = now latches; outputs = now outputs; gates = now gates }) (now scratch) ⌝ }
+    requires { ⌜ adds (formOf binary) n ≡ true ⌝ }
+    ensures { λ r. ⌜ BodySays
+        (record { inputs = now (inputs .entry); latches = now (latches .entry); outputs = now (outputs .entry); gates = now (gates .entry) })
+        (rest (now (file .entry)) (formOf binary) n at) r
+        (record { inputs = now (inputs .exit); latches = now (latches .exit); outputs = now (outputs .exit); gates = now (gates .exit) }) ⌝ }
+{
+    if binary {
+        return rest_of_binary(file, at, n, inputs, latches, outputs, gates, scratch);
+    }
+    rest_of_text(file, at, n, inputs, latches, outputs, gates, scratch)
+}
+
+// The header by 1, 2, 3, then 4, then the file in order, then 7, then 8. After a refusal the tables hold what was read before it.
+fn fill(
+    file: &[u8],
+    inputs: &mut [u32],
+    latches: &mut [u32],
+    outputs: &mut [u32],
+    gates: &mut [u32],
+    scratch: &mut [u32],
+) -> Loaded
+    requires { ⌜ ((i : ℕ) → getD (now scratch) i 0 ≡ 0) ⌝ }
+    ensures { λ r. ⌜ LoadedSays
+        (record { inputs = now (inputs .entry); latches = now (latches .entry); outputs = now (outputs .entry); gates = now (gates .entry) })
+        (readFile (now (file .entry)) (lengths (record { inputs = now (inputs .entry); latches = now (latches .entry); outputs = now (outputs .entry); gates = now (gates .entry) }) (now (scratch .entry)))) r
+        (record { inputs = now (inputs .exit); latches = now (latches .exit); outputs = now (outputs .exit); gates = now (gates .exit) }) ⌝ }
+{
+    match read_header(file) {
+        Headed::Refused(r) => Loaded::Refused(r),
+        Headed::Accepted(binary, n, at) => {
+            let short = too_short(n, inputs.len(), latches.len(), outputs.len(), gates.len(), scratch.len());
+            if short != 0 {
+                return Loaded::Refused(Refusal::ShortTable(short));
+            }
+            match rest_of(binary, file, at, n, inputs, latches, outputs, gates, scratch) {
+                Passed::Refused(r) => Loaded::Refused(r),
+                Passed::To(next) => Loaded::Accepted(n, next),
+            }
+        }
+    }
+}
+
+// Reads a file into tables 1 to 4, whatever they hold on entry: the counts and where the tail starts, or a refusal.
+pub fn load(
+    file: &[u8],
+    inputs: &mut [u32],
+    latches: &mut [u32],
+    outputs: &mut [u32],
+    gates: &mut [u32],
+    scratch: &mut [u32],
+) -> Loaded
+    ensures { λ r. ⌜ Says load
+        (record { file = now (file .entry); tables = (record { inputs = now (inputs .entry); latches = now (latches .entry); outputs = now (outputs .entry); gates = now (gates .entry) }); scratch = now (scratch .entry) })
+        (record { answer = r; tables = (record { inputs = now (inputs .exit); latches = now (latches .exit); outputs = now (outputs .exit); gates = now (gates .exit) }); scratch = now (scratch .exit) }) ⌝ }
+{
+    clear(inputs);
+    clear(latches);
+    clear(outputs);
+    clear(gates);
+    clear(scratch);
+    let read = fill(file, inputs, latches, outputs, gates, scratch);
+    clear(scratch);
+    if let Loaded::Refused(r) = read {
+        clear(inputs);
+        clear(latches);
+        clear(outputs);
+        clear(gates);
+        return Loaded::Refused(r);
+    }
+    read
 }
