@@ -1,6 +1,6 @@
 -- What a reader leaves of tables that were cleared before it filled them.
 use Prim.Native.Nat.{ℕ, suc, zero, _+_, _-_}
-use mathlib.Core.Path.{_≡_, refl, sym, ap, ap₂, _∙_, subst}
+use mathlib.Core.Path.{_≡_, refl, sym, ap, ap₂, _∙_, subst₂}
 use mathlib.Core.List.{List, [], _∷_, _++_, map}
 use native.Mathlib.Nat.{zero-add, zero-sub, sub-zero}
 use native.Mathlib.Omega.{arith}
@@ -64,3 +64,28 @@ pub not-accepted : (e : ReadEntry) (t′ : Tables) (r : Loaded)
 not-accepted e t′ r h k q =
     by-refusal e t′ (readFile (e .file) (lengths (allCleared (e .tables)) (cleared (e .scratch)))) r h k q
     ∙ ap (λ (x : List ℕ). loadBy e (readFile (e .file) x)) (lengths-cleared (e .tables) (e .scratch))
+
+-- what clearing leaves goes by the lengths
+pub same-cleared : (a b : List ℕ) → length a ≡ length b → cleared a ≡ cleared b
+same-cleared a b e = ap (λ (k : ℕ). replicate k 0) e
+
+pub all-same : (t u : Tables) → length (t .inputs) ≡ length (u .inputs) → length (t .latches) ≡ length (u .latches) → length (t .outputs) ≡ length (u .outputs)
+    → length (t .gates) ≡ length (u .gates) → allCleared t ≡ allCleared u
+all-same t u i l o g = λ j. record {
+  inputs = same-cleared (t .inputs) (u .inputs) i j;
+  latches = same-cleared (t .latches) (u .latches) l j;
+  outputs = same-cleared (t .outputs) (u .outputs) o j;
+  gates = same-cleared (t .gates) (u .gates) g j;
+}
+
+-- the whole call: cleared, filled, and cleared again
+module _ (e : ReadEntry) (T t′ : Tables) (S : List ℕ) (r : Loaded) (T-is : T ≡ allCleared (e .tables)) (S-is : S ≡ cleared (e .scratch))
+  (h : LoadedSays T (readFile (e .file) (lengths T S)) r t′) (scratch : List ℕ) (s-is : scratch ≡ cleared (e .scratch)) where
+  carried : LoadedSays (allCleared (e .tables)) (readFile (e .file) (lengths (allCleared (e .tables)) (cleared (e .scratch)))) r t′
+  carried = subst₂ (λ (x : Tables) (y : List ℕ). LoadedSays x (readFile (e .file) (lengths x y)) r t′) T-is S-is h
+
+  pub load-accepted : (n : Counts) (start : ℕ) → r ≡ Accepted n start → record { answer = r; tables = t′; scratch = scratch } ≡ load e
+  load-accepted n start q = (λ i. record { answer = q i; tables = t′; scratch = s-is i }) ∙ accepted e t′ r carried n start q
+
+  pub load-refused : (k : Refusal) → r ≡ Refused k → (x : Tables) → x ≡ allCleared (e .tables) → record { answer = Refused k; tables = x; scratch = scratch } ≡ load e
+  load-refused k q x x-is = (λ i. record { answer = Refused k; tables = x-is i; scratch = s-is i }) ∙ not-accepted e t′ r carried k q

@@ -4,6 +4,7 @@ ghost use mathlib.Core.Bool.{true};
 ghost use Prim.Native.Nat.{ℕ, _+_, _≤_};
 ghost use lib.ListN.{getD};
 ghost use Rattle.plan.specs.Header.{text, binary, adds};
+ghost use Rattle.plan.specs.Circuit.{Tables, allCleared};
 ghost use Rattle.plan.specs.Reading.{readFile};
 ghost use Rattle.plan.specs.Outcome.{Says, load};
 ghost use Rattle.theorems.proofs.Held.{BodySays};
@@ -138,6 +139,16 @@ fn fill(
     }
 }
 
+// Tables 1 to 4, zero throughout.
+fn clear_four(inputs: &mut [u32], latches: &mut [u32], outputs: &mut [u32], gates: &mut [u32])
+    ensures { λ _. ⌜ record { inputs = now (inputs .exit); latches = now (latches .exit); outputs = now (outputs .exit); gates = now (gates .exit) } ≡ allCleared (record { inputs = now (inputs .entry); latches = now (latches .entry); outputs = now (outputs .entry); gates = now (gates .entry) }) ⌝ }
+{
+    clear(inputs);
+    clear(latches);
+    clear(outputs);
+    clear(gates);
+}
+
 // Reads a file into tables 1 to 4, whatever they hold on entry: the counts and where the tail starts, or a refusal.
 pub fn load(
     file: &[u8],
@@ -151,18 +162,12 @@ pub fn load(
         (record { file = now (file .entry); tables = (record { inputs = now (inputs .entry); latches = now (latches .entry); outputs = now (outputs .entry); gates = now (gates .entry) }); scratch = now (scratch .entry) })
         (record { answer = r; tables = (record { inputs = now (inputs .exit); latches = now (latches .exit); outputs = now (outputs .exit); gates = now (gates .exit) }); scratch = now (scratch .exit) }) ⌝ }
 {
-    clear(inputs);
-    clear(latches);
-    clear(outputs);
-    clear(gates);
+    clear_four(inputs, latches, outputs, gates);
     clear(scratch);
     let read = fill(file, inputs, latches, outputs, gates, scratch);
     clear(scratch);
     if let Loaded::Refused(r) = read {
-        clear(inputs);
-        clear(latches);
-        clear(outputs);
-        clear(gates);
+        clear_four(inputs, latches, outputs, gates);
         return Loaded::Refused(r);
     }
     read

@@ -1,0 +1,50 @@
+use borrow.Author.Needs.{needs}
+use Rattle.read.proofs.clear_four.Statement.{statement}
+use Rattle.read.proofs.clear_four.Tie as tie
+
+clear-requires : tie.Need-clear-requires
+clear-requires c κs = search needs
+
+clear-requires-2 : tie.Need-clear-requires-2
+clear-requires-2 c κs = search needs
+
+clear-requires-3 : tie.Need-clear-requires-3
+clear-requires-3 c κs = search needs
+
+clear-requires-4 : tie.Need-clear-requires-4
+clear-requires-4 c κs = search needs
+
+same-length : tie.Need-same-length
+same-length c = search needs
+
+same-length-2 : tie.Need-same-length-2
+same-length-2 c = search needs
+
+same-length-3 : tie.Need-same-length-3
+same-length-3 c = search needs
+
+same-length-4 : tie.Need-same-length-4
+same-length-4 c = search needs
+
+returns : tie.Need-returns
+returns c =
+    λ i. record {
+      inputs = c .before .before .before .before .before .before .before .before .before .before .before .before .before .before .clear .ensures i;
+      latches = c .before .before .before .before .before .before .before .before .before .before .clear2 .ensures i;
+      outputs = c .before .before .before .before .before .before .clear3 .ensures i;
+      gates = c .before .before .clear4 .ensures i;
+    }
+
+pub clear-four-spec : {M : Type 1} → statement M
+clear-four-spec =
+    tie.close
+    (tie.spec
+    clear-requires
+    clear-requires-2
+    clear-requires-3
+    clear-requires-4
+    same-length
+    same-length-2
+    same-length-3
+    same-length-4
+    returns)
