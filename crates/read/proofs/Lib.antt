@@ -1,4 +1,5 @@
 pub mod After
+pub mod Answers
 pub mod Fills
 pub mod Loads
 pub mod Parts

@@ -1,12 +1,13 @@
 // Reading a file of either form.
 ghost use mathlib.Core.Path.{_≡_};
 ghost use mathlib.Core.Bool.{true};
+ghost use mathlib.Core.List.{_∷_};
 ghost use Prim.Native.Nat.{ℕ, _+_, _≤_};
 ghost use lib.ListN.{getD};
-ghost use Rattle.plan.specs.Header.{text, binary, adds};
+ghost use Rattle.plan.specs.Header.{text, binary, adds, listOf};
 ghost use Rattle.plan.specs.Circuit.{Tables, allCleared};
 ghost use Rattle.plan.specs.Reading.{readFile};
-ghost use Rattle.plan.specs.Outcome.{Says, load};
+ghost use Rattle.plan.specs.Outcome.{Says, load, read};
 ghost use Rattle.theorems.proofs.Held.{BodySays};
 ghost use Rattle.header.specs.Parts.{formOf};
 ghost use Rattle.read.specs.Rest.{rest, Room, lengths, LoadedSays};
@@ -171,4 +172,48 @@ pub fn load(
         return Loaded::Refused(r);
     }
     read
+}
+
+// Number, place, M, I, L, O, A.
+fn tell(answer: &mut [u64; 7], number: u64, place: u64, n: Counts)
+    ensures { λ _. ⌜ now (answer .exit) ≡ number ∷ place ∷ listOf n ⌝ }
+{
+    *answer = [
+        number, place, n.M as u64, n.I as u64, n.L as u64, n.O as u64, n.A as u64,
+    ];
+}
+
+// Reads a file into tables 1 to 4 and hands back its tail, which is empty after a refusal. The answer is the number, 0 if the file is
+// accepted, the place and the counts.
+pub fn read<'a>(
+    file: &'a [u8],
+    inputs: &mut [u32],
+    latches: &mut [u32],
+    outputs: &mut [u32],
+    gates: &mut [u32],
+    scratch: &mut [u32],
+    answer: &mut [u64; 7],
+) -> &'a [u8]
+    ensures { λ r. ⌜ Says read
+        (record { file = now (file .entry); tables = (record { inputs = now (inputs .entry); latches = now (latches .entry); outputs = now (outputs .entry); gates = now (gates .entry) }); scratch = now (scratch .entry) })
+        (record { answer = now (answer .exit); tail = now r; tables = (record { inputs = now (inputs .exit); latches = now (latches .exit); outputs = now (outputs .exit); gates = now (gates .exit) }); scratch = now (scratch .exit) }) ⌝ }
+{
+    match load(file, inputs, latches, outputs, gates, scratch) {
+        Loaded::Accepted(n, start) => {
+            tell(answer, 0, 0, n);
+            &file[start..]
+        }
+        Loaded::Refused(r) => {
+            let none = Counts {
+                M: 0,
+                I: 0,
+                L: 0,
+                O: 0,
+                A: 0,
+            };
+            tell(answer, r.told_number(), r.told_place() as u64, none);
+            let end = file.len();
+            &file[end..]
+        }
+    }
 }

@@ -1,0 +1,42 @@
+-- A reader's answer and tail, by what was loaded.
+use Prim.Native.Nat.{ℕ, suc, zero, _+_, _-_, _≤_}
+use mathlib.Core.Path.{_≡_, refl, sym, ap, ap₂, _∙_, subst}
+use mathlib.Core.List.{List, [], _∷_, _++_}
+use native.Mathlib.Nat.{le-refl, sub-self}
+use native.Mathlib.Omega.{arith}
+use borrow.Rule.Slice.PartMut.{midOf}
+use lib.ListN.{length, take, drop, length-drop}
+use lib.Seq.{drop-length, take-all}
+use Rattle.plan.specs.declared.Counts.{Counts}
+use Rattle.plan.specs.declared.Refusal.{Refusal}
+use Rattle.plan.specs.declared.Loaded.{Loaded}
+use Rattle.plan.specs.declared.Loaded.the-variants.{Accepted, Refused}
+use Rattle.plan.specs.Refusals.{Parse, got, refused, numberOf, placeOf}
+use Rattle.plan.specs.Circuit.{Circuit, Tables, lengthsOf, countsOf}
+use Rattle.plan.specs.Header.{listOf}
+use Rattle.plan.specs.Reading.{readFile}
+use Rattle.plan.specs.Outcome.{ReadEntry, LoadExit, ReadExit, load, loadBy, read, loadedValues, tailOf}
+use Rattle.theorems.proofs.Reading.Places.{start-within}
+
+-- the part from a position on is the rest of the list
+pub part-from : (start : ℕ) (l : List ℕ) → midOf start (length l - start) l ≡ drop start l
+part-from start l = take-all (length l - start) (drop start l) (omega (arith, length-drop start l))
+
+pub part-none : (l : List ℕ) → midOf (length l) (length l - length l) l ≡ []
+part-none l = part-from (length l) l ∙ drop-length l
+
+module _ (e : ReadEntry) (x : LoadExit) (said : x ≡ load e) where
+  by-parse : (p : Parse Circuit) (n : Counts) (start : ℕ) → loadBy e p .answer ≡ Accepted n start → (c : Circuit) × (p ≡ got c start)
+  by-parse (got c s) n start q = (c, ap (got c) (cc))
+  by-parse (refused r) n start q = let z : _≡_ {A = ℕ} 0 1 = cc in absurd (omega arith)
+
+  -- the tail starts in the file
+  pub starts-within : (n : Counts) (start : ℕ) → x .answer ≡ Accepted n start → start ≤ length (e .file)
+  starts-within n start q =
+      let p = by-parse (readFile (e .file) (lengthsOf (e .tables) ++ (length (e .scratch) ∷ []))) n start (ap (λ (y : LoadExit). y .answer) (sym said) ∙ q) in
+      start-within (e .file) (lengthsOf (e .tables) ++ (length (e .scratch) ∷ [])) (p .0) start (p .1)
+
+  pub read-by : (answer tail : List ℕ) → answer ≡ loadedValues (x .answer) → tail ≡ tailOf (e .file) (x .answer)
+      → record { answer = answer; tail = tail; tables = x .tables; scratch = x .scratch } ≡ read e
+  read-by answer tail a t = (λ i. record { answer = a i; tail = t i; tables = x .tables; scratch = x .scratch })
+      ∙ ap (λ (y : LoadExit). record { answer = loadedValues (y .answer); tail = tailOf (e .file) (y .answer); tables = y .tables; scratch = y .scratch }) said

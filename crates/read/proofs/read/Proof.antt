@@ -1,0 +1,170 @@
+use borrow.Author.Needs.{needs}
+use Prim.Native.Nat.{ℕ, _≤_}
+use mathlib.Core.Path.{_≡_, sym, ap, ap₂, _∙_}
+use mathlib.Core.List.{List, _∷_}
+use native.Mathlib.Omega.{arith}
+use lib.ListN.{length}
+use Rattle.plan.specs.Header.{listOf}
+use Rattle.plan.specs.Outcome.{ReadEntry, LoadExit, loadedValues, tailOf}
+use Rattle.read.proofs.Answers.{part-from, part-none, starts-within, read-by}
+use Rattle.read.proofs.read.Statement.{statement}
+use Rattle.read.proofs.read.Tie as tie
+
+load-requires : tie.Need-load-requires
+load-requires c κs = search needs
+
+enum-known-n : tie.Need-enum-known-n
+enum-known-n c = search needs
+
+tell-requires : tie.Need-tell-requires
+tell-requires c κs = search needs
+
+sub-result : tie.Need-sub-result
+sub-result c =
+    let a = c .before .before .before .before .before .before .before .before .before .before .before .before .before .before .before .before .before .before .before .before .before .before .before .before .before .before .before .args in
+    let e : ReadEntry = record {
+      file = a .file .now;
+      tables = record { inputs = a .inputs .now; latches = a .latches .now; outputs = a .outputs .now; gates = a .gates .now };
+      scratch = a .scratch .now;
+    } in
+    let x : LoadExit = record {
+      answer = c .before .before .before .before .before .before .before .before .before .before .before .before .before .before .before .load .result;
+      tables = record { inputs = c .before .before .before .before .before .before .before .before .before .before .before .before .before .before .before .load .last .1 .0; latches = c .before .before .before .before .before .before .before .before .before .before .before .before .before .before .before .load .last .1 .1 .0; outputs = c .before .before .before .before .before .before .before .before .before .before .before .before .before .before .before .load .last .1 .1 .1 .0; gates = c .before .before .before .before .before .before .before .before .before .before .before .before .before .before .before .load .last .1 .1 .1 .1 .0 };
+      scratch = c .before .before .before .before .before .before .before .before .before .before .before .before .before .before .before .load .last .1 .1 .1 .1 .1 .0;
+    } in
+    let said = c .before .before .before .before .before .before .before .before .before .before .before .before .before .before .before .load .ensures in
+    omega (arith, starts-within e x said _ _ (c .before .before .before .n .given .1))
+
+part-result-start : tie.Need-part-result-start
+part-result-start c =
+    let a = c .before .before .before .before .before .before .before .before .before .before .before .before .before .before .before .before .before .before .before .before .before .before .before .before .before .before .before .args in
+    let e : ReadEntry = record {
+      file = a .file .now;
+      tables = record { inputs = a .inputs .now; latches = a .latches .now; outputs = a .outputs .now; gates = a .gates .now };
+      scratch = a .scratch .now;
+    } in
+    let x : LoadExit = record {
+      answer = c .before .before .before .before .before .before .before .before .before .before .before .before .before .before .before .load .result;
+      tables = record { inputs = c .before .before .before .before .before .before .before .before .before .before .before .before .before .before .before .load .last .1 .0; latches = c .before .before .before .before .before .before .before .before .before .before .before .before .before .before .before .load .last .1 .1 .0; outputs = c .before .before .before .before .before .before .before .before .before .before .before .before .before .before .before .load .last .1 .1 .1 .0; gates = c .before .before .before .before .before .before .before .before .before .before .before .before .before .before .before .load .last .1 .1 .1 .1 .0 };
+      scratch = c .before .before .before .before .before .before .before .before .before .before .before .before .before .before .before .load .last .1 .1 .1 .1 .1 .0;
+    } in
+    let said = c .before .before .before .before .before .before .before .before .before .before .before .before .before .before .before .load .ensures in
+    starts-within e x said _ _ (c .before .before .before .n .given .1)
+
+part-result-end : tie.Need-part-result-end
+part-result-end c = search needs
+
+enum-known-r : tie.Need-enum-known-r
+enum-known-r c = search needs
+
+told-number-requires : tie.Need-told-number-requires
+told-number-requires c κs = search needs
+
+told-place-requires : tie.Need-told-place-requires
+told-place-requires c κs = search needs
+
+tell-requires-2 : tie.Need-tell-requires-2
+tell-requires-2 c κs = search needs
+
+sub-result-2 : tie.Need-sub-result-2
+sub-result-2 c = search needs
+
+part-result-start-2 : tie.Need-part-result-start-2
+part-result-start-2 c = search needs
+
+part-result-end-2 : tie.Need-part-result-end-2
+part-result-end-2 c = search needs
+
+same-length : tie.Need-same-length
+same-length c = search needs
+
+same-length-2 : tie.Need-same-length-2
+same-length-2 c = search needs
+
+same-length-3 : tie.Need-same-length-3
+same-length-3 c = search needs
+
+same-length-4 : tie.Need-same-length-4
+same-length-4 c = search needs
+
+same-length-5 : tie.Need-same-length-5
+same-length-5 c = search needs
+
+returns : tie.Need-returns
+returns c =
+    let a = c .before .before .before .before .before .before .before .before .before .before .before .before .before .before .before .before .before .before .before .before .before .before .before .before .before .before .before .before .args in
+    let e : ReadEntry = record {
+      file = a .file .now;
+      tables = record { inputs = a .inputs .now; latches = a .latches .now; outputs = a .outputs .now; gates = a .gates .now };
+      scratch = a .scratch .now;
+    } in
+    let x : LoadExit = record {
+      answer = c .before .before .before .before .before .before .before .before .before .before .before .before .before .before .before .before .load .result;
+      tables = record { inputs = c .before .before .before .before .before .before .before .before .before .before .before .before .before .before .before .before .load .last .1 .0; latches = c .before .before .before .before .before .before .before .before .before .before .before .before .before .before .before .before .load .last .1 .1 .0; outputs = c .before .before .before .before .before .before .before .before .before .before .before .before .before .before .before .before .load .last .1 .1 .1 .0; gates = c .before .before .before .before .before .before .before .before .before .before .before .before .before .before .before .before .load .last .1 .1 .1 .1 .0 };
+      scratch = c .before .before .before .before .before .before .before .before .before .before .before .before .before .before .before .before .load .last .1 .1 .1 .1 .1 .0;
+    } in
+    let said = c .before .before .before .before .before .before .before .before .before .before .before .before .before .before .before .before .load .ensures in
+    read-by e x said _ _ (c .before .tell .ensures ∙ ap loadedValues (sym (c .before .before .before .before .n .given .1))) (part-from _ (a .file .now) ∙ ap (tailOf (a .file .now)) (sym (c .before .before .before .before .n .given .1)))
+
+same-length-6 : tie.Need-same-length-6
+same-length-6 c = search needs
+
+same-length-7 : tie.Need-same-length-7
+same-length-7 c = search needs
+
+same-length-8 : tie.Need-same-length-8
+same-length-8 c = search needs
+
+same-length-9 : tie.Need-same-length-9
+same-length-9 c = search needs
+
+same-length-10 : tie.Need-same-length-10
+same-length-10 c = search needs
+
+returns-2 : tie.Need-returns-2
+returns-2 c =
+    let a = c .before .before .before .before .before .before .before .before .before .before .before .before .before .before .before .before .before .before .before .before .before .before .before .before .before .before .before .before .before .before .args in
+    let e : ReadEntry = record {
+      file = a .file .now;
+      tables = record { inputs = a .inputs .now; latches = a .latches .now; outputs = a .outputs .now; gates = a .gates .now };
+      scratch = a .scratch .now;
+    } in
+    let x : LoadExit = record {
+      answer = c .before .before .before .before .before .before .before .before .before .before .before .before .before .before .before .before .before .before .load .result;
+      tables = record { inputs = c .before .before .before .before .before .before .before .before .before .before .before .before .before .before .before .before .before .before .load .last .1 .0; latches = c .before .before .before .before .before .before .before .before .before .before .before .before .before .before .before .before .before .before .load .last .1 .1 .0; outputs = c .before .before .before .before .before .before .before .before .before .before .before .before .before .before .before .before .before .before .load .last .1 .1 .1 .0; gates = c .before .before .before .before .before .before .before .before .before .before .before .before .before .before .before .before .before .before .load .last .1 .1 .1 .1 .0 };
+      scratch = c .before .before .before .before .before .before .before .before .before .before .before .before .before .before .before .before .before .before .load .last .1 .1 .1 .1 .1 .0;
+    } in
+    let said = c .before .before .before .before .before .before .before .before .before .before .before .before .before .before .before .before .before .before .load .ensures in
+    read-by e x said _ _
+    (c .before .tell2 .ensures ∙ (ap₂ (λ (m k : ℕ). m ∷ k ∷ listOf (record { M = 0; I = 0; L = 0; O = 0; A = 0 })) (c .before .before .before .told-number .ensures) (c .before .before .told-place .ensures) ∙ ap loadedValues (sym (c .before .before .before .before .before .before .r .given .1))))
+    (part-none (a .file .now) ∙ ap (tailOf (a .file .now)) (sym (c .before .before .before .before .before .before .r .given .1)))
+
+pub read-spec : {M : Type 1} → statement M
+read-spec =
+    tie.close
+    (tie.spec
+    load-requires
+    enum-known-n
+    tell-requires
+    sub-result
+    part-result-start
+    part-result-end
+    enum-known-r
+    told-number-requires
+    told-place-requires
+    tell-requires-2
+    sub-result-2
+    part-result-start-2
+    part-result-end-2
+    same-length
+    same-length-2
+    same-length-3
+    same-length-4
+    same-length-5
+    returns
+    same-length-6
+    same-length-7
+    same-length-8
+    same-length-9
+    same-length-10
+    returns-2)
