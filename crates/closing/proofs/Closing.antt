@@ -20,13 +20,13 @@ use Rattle.plan.specs.Depends.{undefinedIn, cyclicIn}
 use Rattle.plan.specs.Convert.{leaves}
 use Rattle.plan.specs.Outcome.{checkedBy}
 use Rattle.theorems.proofs.Marks.{Agrees}
-use Rattle.theorems.proofs.Tables.{gateAt, gates-rows, latchAt, latches-rows, words-take}
 use Rattle.theorems.proofs.Ranges.{first-var, second-var, inside-at}
 use Rattle.theorems.proofs.Reading.Members.{distinct}
 use Rattle.theorems.proofs.Reading.Undefined.{all-defined}
+use Rattle.theorems.proofs.Running.Accepted.{all-once, rights-in}
 use Rattle.theorems.proofs.Running.Found.{AllG}
 use Rattle.theorems.proofs.Running.Lists.{allIn, distinct-left}
-use Rattle.theorems.proofs.Running.Accepted.{all-once, rights-in}
+use Rattle.theorems.proofs.Tables.{gateAt, gates-rows, latchAt, latches-rows, words-take}
 use Rattle.order.specs.Numbers.{InTable, InRange}
 use Rattle.order.specs.Waiting.{Room, Fresh, Unmarked}
 use Rattle.order.proofs.Spaces.{all-places, words-enough, gates-inside}
@@ -89,12 +89,12 @@ module _ {n : Counts} {inputs latches outputs gates scratch : List ℕ} {base : 
     inputs-inside = p .inputs-inside;
     latches-inside = p .latches-inside;
     different = distinct-left (leaves c) (lefts (c .gates)) once;
-    blank = blank;
+    blank = λ v h. blank v;
   }
 
   -- a table with the leaves' numbers is one to order the gates in
   module _ (t : List ℕ) (same : length t ≡ length scratch) (l : Leaves n inputs latches t) (u : List ℕ) (kept : length u ≡ length t)
-      (done : Numbered n inputs latches u) where
+      (done : Numbered n inputs latches t u) where
     pub room : Room gates u (n .M + 1) (n .A)
     room = record {
       gates-long = p .gates-long;
@@ -108,8 +108,8 @@ module _ {n : Counts} {inputs latches outputs gates scratch : List ℕ} {base : 
         small-words (leavesOf n inputs latches) u (n .M + 1) (omega (arith, p .scratch-long, same, kept))
         (omega (arith, leaves-count l, p .sum, p .most-M)) (done .numbers)
 
-    pub unmarked : Unmarked u (n .M + 1) (n .A)
-    unmarked q h _ = done .rest q (omega arith)
+    pub unmarked : ((v : ℕ) → getD t v 0 ≡ 0) → Unmarked u (n .M + 1) (n .A)
+    unmarked blank q h k = done .rest q (omega arith) ∙ blank q
 
 -- what is answered: 7 if it is found, else what 8 gives
 pub by-missing : (c : Circuit) (v : ℕ) → some v ≡ undefinedIn c → Refused (NotDefined v) ≡ checkedBy (closing c)

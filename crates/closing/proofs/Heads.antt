@@ -9,9 +9,9 @@ use native.Mathlib.Omega.{arith}
 use lib.ListN.{length, getD, set, take, length-set, length-take, length-append}
 use lib.Seq.{getD-set-other, take-set-lt}
 use Rattle.plan.specs.Literals.{varOf}
-use Rattle.theorems.proofs.Tables.{length-firsts}
 use Rattle.theorems.proofs.Reading.Members.{has-self, distinct}
 use Rattle.theorems.proofs.Running.Lists.{distinct-left, apart}
+use Rattle.theorems.proofs.Tables.{length-firsts}
 use Rattle.order.specs.Numbers.{NumTable}
 use Rattle.order.proofs.Numbering.{numtable-more}
 use Rattle.closing.specs.Leaves.{headAt, headsAt, withHeads}

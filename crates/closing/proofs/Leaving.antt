@@ -1,5 +1,5 @@
 -- The leaves that tables hold, by places: their variables, and the numbers that two walks over the rows give them.
-use Prim.Native.Nat.{ℕ, zero, suc, _+_, _*_, _<_}
+use Prim.Native.Nat.{ℕ, zero, suc, _+_, _*_, _<_, _≤_}
 use mathlib.Core.Path.{_≡_, refl, sym, ap, ap₂, _∙_, subst}
 use mathlib.Core.Bool.{Bool, true, false, cond, _||_}
 use mathlib.Core.List.{List, [], _∷_, _++_, map}
@@ -10,19 +10,20 @@ use lib.Seq.{getD-take}
 use Rattle.plan.specs.declared.Counts.{Counts}
 use Rattle.plan.specs.Literals.{varOf}
 use Rattle.plan.specs.Circuit.{oneLine, latchLine, vars, currents, allInside}
-use Rattle.theorems.proofs.Tables.{firsts, length-firsts, latchAt, latches-rows, words-take, heads-firsts}
 use Rattle.theorems.proofs.Ranges.{first-var, inside-at}
 use Rattle.theorems.proofs.Reading.Members.{distinct}
 use Rattle.theorems.proofs.Running.Lists.{distinct-left}
+use Rattle.theorems.proofs.Tables.{firsts, length-firsts, latchAt, latches-rows, words-take, heads-firsts}
 use Rattle.order.specs.Numbers.{NumTable}
 use Rattle.closing.specs.Leaves.{headAt, headsAt, withHeads, inputsOf, latchesOf, leavesOf, Leaves, Numbered}
 use Rattle.closing.proofs.Heads.{with-length, with-rest, with-numbers}
 
 -- a blank table numbers the constant alone
-blank-numbers : (t : List ℕ) (size : ℕ) → ((v : ℕ) → getD t v 0 ≡ 0) → NumTable (zero ∷ []) (take size t)
+blank-numbers : (t : List ℕ) (m : ℕ) → ((v : ℕ) → v ≤ m → getD t v 0 ≡ 0) → NumTable (zero ∷ []) (take (m + 1) t)
 unfolding NumTable
-blank-numbers t size blank v h =
-    getD-take size t v 0 (omega (arith, length-take size t)) ∙ (blank v ∙ go (eqb zero v))
+blank-numbers t m blank v h =
+    let k : v ≤ m = omega (arith, length-take (m + 1) t) in
+    getD-take (m + 1) t v 0 (omega arith) ∙ (blank v k ∙ go (eqb zero v))
   where
     go : (b : Bool) → 0 ≡ cond (b || false) (cond b zero (suc zero)) 0
     go true = refl
@@ -68,7 +69,7 @@ module _ {n : Counts} {inputs latches t : List ℕ} (p : Leaves n inputs latches
 
   -- inputs from 1 on, then latches
   pub leaves-numbered : (u w : List ℕ) → u ≡ withHeads inputs 1 1 (n .I) t → w ≡ withHeads latches 2 (1 + n .I) (n .L) u
-      → Numbered n inputs latches w
+      → Numbered n inputs latches t w
   leaves-numbered u w by-inputs by-latches = record { numbers = numbers; rest = rest }
     where
       once : distinct ((zero ∷ headsAt inputs 1 (n .I)) ++ headsAt latches 2 (n .L)) ≡ true
@@ -85,7 +86,7 @@ module _ {n : Counts} {inputs latches t : List ℕ} (p : Leaves n inputs latches
           subst (λ (l : List ℕ). NumTable (zero ∷ headsAt inputs 1 (n .I)) (take (n .M + 1) l)) (sym by-inputs)
           (with-numbers inputs 1 1 (n .M + 1) (zero ∷ []) refl (n .I) t (omega (arith, p .table-long)) input-in
           (distinct-left (zero ∷ headsAt inputs 1 (n .I)) (headsAt latches 2 (n .L)) once)
-          (blank-numbers t (n .M + 1) (p .blank)))
+          (blank-numbers t (n .M) (p .blank)))
 
       numbers : NumTable (leavesOf n inputs latches) (take (n .M + 1) w)
       numbers =
@@ -94,9 +95,9 @@ module _ {n : Counts} {inputs latches t : List ℕ} (p : Leaves n inputs latches
           (with-numbers latches 2 (1 + n .I) (n .M + 1) (zero ∷ headsAt inputs 1 (n .I)) count (n .L) u
           (omega (arith, p .table-long, long)) latch-in once after-inputs))
 
-      rest : (q : ℕ) → n .M < q → getD w q 0 ≡ 0
+      rest : (q : ℕ) → n .M < q → getD w q 0 ≡ getD t q 0
       rest q h =
           ap (λ (l : List ℕ). getD l q 0) by-latches
           ∙ (with-rest latches 2 (1 + n .I) (n .M + 1) (n .L) u latch-in q (omega arith)
           ∙ (ap (λ (l : List ℕ). getD l q 0) by-inputs
-          ∙ (with-rest inputs 1 1 (n .M + 1) (n .I) t input-in q (omega arith) ∙ p .blank q)))
+          ∙ with-rest inputs 1 1 (n .M + 1) (n .I) t input-in q (omega arith)))

@@ -7,8 +7,8 @@ use lib.ListN.{length, getD, set, take}
 use Rattle.plan.specs.declared.Counts.{Counts}
 use Rattle.plan.specs.Literals.{most, varOf}
 use Rattle.plan.specs.Circuit.{Latch, latchOf, rowsOf, oneLine, latchLine, vars, currents, allInside}
-use Rattle.theorems.proofs.Tables.{firsts}
 use Rattle.theorems.proofs.Reading.Members.{distinct}
+use Rattle.theorems.proofs.Tables.{firsts}
 use Rattle.order.specs.Numbers.{NumTable}
 
 -- the variable of the first word of row i, of `stride` words; those of n rows
@@ -34,7 +34,7 @@ latchesOf n latches = map latchOf (rowsOf 2 (n .L) latches)
 abbrev pub leavesOf : Counts → List ℕ → List ℕ → List ℕ
 leavesOf n inputs latches = zero ∷ (vars (inputsOf n inputs) ++ currents (latchesOf n latches))
 
--- what `number_leaves` asks: literals in range, no variable twice, and a blank table with a word for each variable up to M
+-- what `number_leaves` asks: literals in range, no variable twice, and a table whose words of variables up to M are blank
 pub record Leaves (n : Counts) (inputs latches t : List ℕ) : Type 0 where
   pub most-M : n .M ≤ most
   pub sum : n .I + n .L ≤ n .M
@@ -44,9 +44,9 @@ pub record Leaves (n : Counts) (inputs latches t : List ℕ) : Type 0 where
   pub inputs-inside : allInside true (n .M) (map oneLine (inputsOf n inputs)) ≡ true
   pub latches-inside : allInside true (n .M) (map latchLine (latchesOf n latches)) ≡ true
   pub different : distinct (leavesOf n inputs latches) ≡ true
-  pub blank : (v : ℕ) → getD t v 0 ≡ 0
+  pub blank : (v : ℕ) → v ≤ n .M → getD t v 0 ≡ 0
 
--- what it leaves: each leaf's number, and nothing past variable M
-pub record Numbered (n : Counts) (inputs latches t : List ℕ) : Type 0 where
-  pub numbers : NumTable (leavesOf n inputs latches) (take (n .M + 1) t)
-  pub rest : (p : ℕ) → n .M < p → getD t p 0 ≡ 0
+-- what it leaves: each leaf's number, and the words past variable M as they were
+pub record Numbered (n : Counts) (inputs latches t t′ : List ℕ) : Type 0 where
+  pub numbers : NumTable (leavesOf n inputs latches) (take (n .M + 1) t′)
+  pub rest : (p : ℕ) → n .M < p → getD t′ p 0 ≡ getD t p 0

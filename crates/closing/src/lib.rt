@@ -36,7 +36,7 @@ fn number_heads(table: &[u32], stride: usize, n: usize, first: u32, t: &mut [u32
 // (the paper, conversion).
 pub fn number_leaves(n: Counts, inputs: &[u32], latches: &[u32], t: &mut [u32])
     requires { ⌜ Leaves n (now inputs) (now latches) (now t) ⌝ }
-    ensures { λ _. ⌜ Numbered n (now (inputs .entry)) (now (latches .entry)) (now (t .exit)) ⌝ }
+    ensures { λ _. ⌜ Numbered n (now (inputs .entry)) (now (latches .entry)) (now (t .entry)) (now (t .exit)) ⌝ }
 {
     number_heads(inputs, 1, n.I, 1, t);
     number_heads(latches, 2, n.L, (1 + n.I) as u32, t);

@@ -1,20 +1,19 @@
 -- One line: by 1 and 5 first, then by 6.
-use Prim.Native.Nat.{ℕ, suc, zero, _+_, _*_, _/_, _≤_, _<_}
-use mathlib.Core.Path.{_≡_, refl, sym, ap, ap₂, _∙_, subst}
+use Prim.Native.Nat.{ℕ, suc, zero, _≤_, _<_}
+use mathlib.Core.Path.{_≡_, refl, sym, ap, ap₂, _∙_}
 use mathlib.Core.Bool.{Bool, true, false, cond, _&&_}
 use mathlib.Core.Option.{Option, none, some}
-use mathlib.Core.List.{List, [], _∷_, _++_}
+use mathlib.Core.List.{List, [], _∷_}
 use native.Mathlib.Omega.{arith}
-use borrow.Author.Tests.{leb-true}
-use lib.Dec.{eqb, leb}
-use lib.ListN.{length, getD}
+use lib.ListN.{length}
 use Rattle.plan.specs.declared.Refusal.{Refusal}
 use Rattle.plan.specs.declared.Refusal.the-variants.{OutOfRange, DefinedTwice}
-use Rattle.plan.specs.Literals.{varOf, inRange, signOf}
+use Rattle.plan.specs.Literals.{varOf}
 use Rattle.plan.specs.Refusals.{Parse, got, refused, _then_, unless}
 use Rattle.plan.specs.Circuit.{literalOf, has, inside}
 use Rattle.plan.specs.Bytes.{number, expect, endOf, Placed, numbers, values, outside, twice, line}
-use Rattle.theorems.proofs.Reading.Common.{then-got, unless-got, got-value, got-next, and-left, and-right}
+use Rattle.theorems.proofs.Ranges.{first-var}
+use Rattle.theorems.proofs.Reading.Common.{then-got, unless-got, got-value, got-next}
 use Rattle.theorems.proofs.Reading.Lines.{numbers-took}
 use Rattle.lines.specs.Rows.{row}
 use Rattle.lines.proofs.Judge.{row-inside}
@@ -76,15 +75,9 @@ row-long file k d m at ls next e =
     let u = unless-got (outside d m (t .0)) _ _ ls next (t .3) in
     ap length (sym (got-value _ ls (t .1) next (u .1))) ∙ numbers-took file k at (t .0) (t .1) (t .2) .1
 
-range-var : (d : Bool) (m v : ℕ) → inRange d m v ≡ true → varOf v ≤ m
-range-var true m v e =
-    let k : v ≤ 2 * m = leb-true v (2 * m) (and-right (leb 2 v) _ (and-right (eqb (signOf v) 0) _ e)) in
-    omega arith
-range-var false m v e = let k : v ≤ 2 * m + 1 = leb-true v (2 * m + 1) e in omega arith
-
 pub row-var : (file : List ℕ) (k : ℕ) (d : Bool) (m at : ℕ) (ls : List ℕ) (next : ℕ) → 0 < k → row file k d m at ≡ got ls next → varOf (literalOf ls) ≤ m
 row-var file k d m at ls next h e = go ls (row-long file k d m at ls next e) (row-inside file k d m at ls next e)
   where
     go : (l : List ℕ) → length l ≡ k → inside d m l ≡ true → varOf (literalOf l) ≤ m
     go [] q i = absurd (omega arith)
-    go (v ∷ l) q i = range-var d m v (and-left (inRange d m v) _ i)
+    go (v ∷ l) q i = first-var d m v l i

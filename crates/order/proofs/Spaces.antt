@@ -9,10 +9,10 @@ use lib.Dec.{eqb}
 use lib.ListN.{length}
 use Rattle.plan.specs.Literals.{inRange}
 use Rattle.plan.specs.Circuit.{Gate, gateLine, inside, allInside}
-use Rattle.theorems.proofs.Reading.Common.{and-left, and-right}
 use Rattle.theorems.proofs.Ranges.{range-var}
-use Rattle.theorems.proofs.Tables.{firsts, gateAt, gates-rows}
+use Rattle.theorems.proofs.Reading.Common.{and-left, and-right}
 use Rattle.theorems.proofs.Running.Found.{AllG}
+use Rattle.theorems.proofs.Tables.{firsts, gateAt, gates-rows}
 use Rattle.order.specs.Numbers.{InTable}
 use Rattle.order.specs.Waiting.{Room, Space, wordsFor}
 

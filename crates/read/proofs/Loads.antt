@@ -80,7 +80,7 @@ all-same t u i l o g = λ j. record {
 
 -- the whole call: cleared, filled, and cleared again
 module _ (e : ReadEntry) (T t′ : Tables) (S : List ℕ) (r : Loaded) (T-is : T ≡ allCleared (e .tables)) (S-is : S ≡ cleared (e .scratch))
-  (h : LoadedSays T (readFile (e .file) (lengths T S)) r t′) (scratch : List ℕ) (s-is : scratch ≡ cleared (e .scratch)) where
+    (h : LoadedSays T (readFile (e .file) (lengths T S)) r t′) (scratch : List ℕ) (s-is : scratch ≡ cleared (e .scratch)) where
   carried : LoadedSays (allCleared (e .tables)) (readFile (e .file) (lengths (allCleared (e .tables)) (cleared (e .scratch)))) r t′
   carried = subst₂ (λ (x : Tables) (y : List ℕ). LoadedSays x (readFile (e .file) (lengths x y)) r t′) T-is S-is h
 

@@ -43,7 +43,16 @@ fn rest_of_text(
         (record { inputs = now (inputs .exit); latches = now (latches .exit); outputs = now (outputs .exit); gates = now (gates .exit) }) ⌝ }
 {
     let base = n.I + n.L + n.O;
-    let read = read_text(file, at, n, inputs, latches, outputs, gates, &mut scratch[base..]);
+    let read = read_text(
+        file,
+        at,
+        n,
+        inputs,
+        latches,
+        outputs,
+        gates,
+        &mut scratch[base..],
+    );
     let Passed::To(next) = read else {
         return read;
     };
@@ -76,7 +85,16 @@ fn rest_of_binary(
         (record { inputs = now (inputs .exit); latches = now (latches .exit); outputs = now (outputs .exit); gates = now (gates .exit) }) ⌝ }
 {
     let base = n.I + n.L + n.O;
-    let read = read_binary(file, at, n, inputs, latches, outputs, gates, &mut scratch[base..]);
+    let read = read_binary(
+        file,
+        at,
+        n,
+        inputs,
+        latches,
+        outputs,
+        gates,
+        &mut scratch[base..],
+    );
     let Passed::To(next) = read else {
         return read;
     };
@@ -128,11 +146,28 @@ fn fill(
     match read_header(file) {
         Headed::Refused(r) => Loaded::Refused(r),
         Headed::Accepted(binary, n, at) => {
-            let short = too_short(n, inputs.len(), latches.len(), outputs.len(), gates.len(), scratch.len());
+            let short = too_short(
+                n,
+                inputs.len(),
+                latches.len(),
+                outputs.len(),
+                gates.len(),
+                scratch.len(),
+            );
             if short != 0 {
                 return Loaded::Refused(Refusal::ShortTable(short));
             }
-            match rest_of(binary, file, at, n, inputs, latches, outputs, gates, scratch) {
+            match rest_of(
+                binary,
+                file,
+                at,
+                n,
+                inputs,
+                latches,
+                outputs,
+                gates,
+                scratch,
+            ) {
                 Passed::Refused(r) => Loaded::Refused(r),
                 Passed::To(next) => Loaded::Accepted(n, next),
             }
@@ -166,7 +201,7 @@ pub fn load(
     clear_four(inputs, latches, outputs, gates);
     clear(scratch);
     let read = fill(file, inputs, latches, outputs, gates, scratch);
-    clear(scratch);
+    tables::clear(scratch);
     if let Loaded::Refused(r) = read {
         clear_four(inputs, latches, outputs, gates);
         return Loaded::Refused(r);
@@ -179,7 +214,13 @@ fn tell(answer: &mut [u64; 7], number: u64, place: u64, n: Counts)
     ensures { λ _. ⌜ now (answer .exit) ≡ number ∷ place ∷ listOf n ⌝ }
 {
     *answer = [
-        number, place, n.M as u64, n.I as u64, n.L as u64, n.O as u64, n.A as u64,
+        number,
+        place,
+        n.M as u64,
+        n.I as u64,
+        n.L as u64,
+        n.O as u64,
+        n.A as u64,
     ];
 }
 

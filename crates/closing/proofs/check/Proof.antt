@@ -1,9 +1,10 @@
 -- 7 from the marks; else gates that ascend, or the order of gates from the numbers of the leaves.
-use mathlib.Core.List.{List}
-use mathlib.Core.Option.{Option, none}
-use mathlib.Core.Path.{_≡_, refl, sym, ap, _∙_}
 use Prim.Native.Nat.{ℕ}
+use mathlib.Core.Path.{_≡_, refl, sym, ap, _∙_}
+use mathlib.Core.Option.{Option, none}
+use mathlib.Core.List.{List}
 use native.Mathlib.Omega.{arith}
+use borrow.Author.Needs.{needs}
 use lib.ListN.{length, getD}
 use Rattle.plan.specs.declared.Refusal.the-variants.{Cyclic}
 use Rattle.plan.specs.Refusals.{stage}
@@ -17,7 +18,6 @@ use Rattle.closing.specs.Leaves.{Leaves}
 use Rattle.closing.specs.Read.{circuitIn}
 use Rattle.closing.proofs.Leaving.{leaves-count}
 use Rattle.closing.proofs.Closing.{next-up, output-up, first-up, second-up, part-long, part-marked, once, used, leaves-ask, room, fresh, unmarked, by-missing, by-cycle}
-use borrow.Author.Needs.{needs}
 use Rattle.closing.proofs.check.Statement.{statement}
 use Rattle.closing.proofs.check.Tie as tie
 
@@ -38,11 +38,11 @@ all-named c =
     ∙ c .before .before .undefined .ensures (circuit (start c)) refl refl refl (part-marked (start c .pre))
 
 -- the table is blank
+blank : (c : tie.After-scratch2) (v : ℕ) → getD (c .before .clear .last .0) v 0 ≡ 0
+blank c v = ap (λ (l : List ℕ). getD l v 0) (c .before .clear .ensures) ∙ zeros (length (start (told c) .args .scratch .now)) v
+
 asked : (c : tie.After-scratch2) → let a = start (told c) .args in Leaves (a .n) (a .inputs .now) (a .latches .now) (c .before .clear .last .0)
-asked c =
-    let s = start (told c) in
-    leaves-ask (s .pre) (c .before .clear .last .0) (c .scratch2 .given)
-    (λ v. ap (λ (l : List ℕ). getD l v 0) (c .before .clear .ensures) ∙ zeros (length (s .args .scratch .now)) v)
+asked c = leaves-ask (start (told c) .pre) (c .before .clear .last .0) (c .scratch2 .given) (blank c)
 
 mul-marks : tie.Need-mul-marks
 mul-marks c = search needs
@@ -116,7 +116,7 @@ cycle-requires c κs =
       omega arith,
       omega (arith, p .sum, p .most-M),
       fresh p t same (asked e) u kept done,
-      unmarked p t same (asked e) u kept done,
+      unmarked p t same (asked e) u kept done (blank e),
     )
 
 same-length-2 : tie.Need-same-length-2

@@ -1,0 +1,32 @@
+// What C calls: numbers and slices only. The header for C is desk/golvanzo.h.
+ghost use mathlib.Core.Path.{_≡_};
+ghost use lib.ListN.{drop};
+ghost use Rattle.plan.specs.Header.{wordsFor};
+ghost use Rattle.plan.specs.Outcome.{Says, read};
+
+// How many words table 1 to 5 needs for the file's header, or 2^64 - 1.
+#[no_mangle]
+pub extern "C" fn golvanzo_words(file: &[u8], table: u64) -> u64
+    ensures { λ r. ⌜ r ≡ wordsFor (now (file .entry)) table ⌝ }
+{
+    header::words(file, table)
+}
+
+// Reads a file into the tables; where its tail starts, which after a refusal is the file's length.
+#[no_mangle]
+pub extern "C" fn golvanzo_read(
+    file: &[u8],
+    inputs: &mut [u32],
+    latches: &mut [u32],
+    outputs: &mut [u32],
+    gates: &mut [u32],
+    scratch: &mut [u32],
+    answer: &mut [u64; 7],
+) -> u64
+    ensures { λ r. ⌜ Says read
+        (record { file = now (file .entry); tables = (record { inputs = now (inputs .entry); latches = now (latches .entry); outputs = now (outputs .entry); gates = now (gates .entry) }); scratch = now (scratch .entry) })
+        (record { answer = now (answer .exit); tail = drop r (now (file .entry)); tables = (record { inputs = now (inputs .exit); latches = now (latches .exit); outputs = now (outputs .exit); gates = now (gates .exit) }); scratch = now (scratch .exit) }) ⌝ }
+{
+    let tail = read::read(file, inputs, latches, outputs, gates, scratch, answer);
+    (file.len() - tail.len()) as u64
+}
