@@ -1,0 +1,89 @@
+// Refusal 5 over given tables: each literal must be in its range (the paper, order of checks; AIGER report, section 6).
+ghost use mathlib.Core.Path.{_≡_};
+ghost use Prim.Native.Nat.{_+_, _*_, _≤_};
+ghost use lib.ListN.{length, take, drop};
+ghost use Rattle.plan.specs.Literals.{most, inRange};
+ghost use Rattle.plan.specs.Circuit.{circuitOf, rowsOf, inside, allInside};
+ghost use Rattle.plan.specs.Given.{outsideIn};
+ghost use Rattle.tables.specs.Lengths.{tableOf};
+use plan::Counts;
+use plan::Lit;
+
+// Whether a table's word is in its range.
+fn word_within(word: u32, defines: bool, m: u32) -> bool
+    ensures { λ r. ⌜ r ≡ inRange defines m word ⌝ }
+{
+    Lit::at(word).within(defines, m)
+}
+
+// Whether the k words of the row that starts at `start` are in their ranges. The first defines or not, the others never do.
+fn row_within(table: &[u32], start: usize, k: usize, defines: bool, m: u32) -> bool
+    requires { ⌜ start + k ≤ length (now table) ⌝ }
+    ensures { λ r. ⌜ r ≡ inside defines m (take k (drop start (now (table .entry)))) ⌝ }
+{
+    let mut at = start;
+    let mut left = k;
+    let mut first = defines;
+    while left > 0 {
+        if !word_within(table[at], first, m) {
+            return false;
+        }
+        at += 1;
+        left -= 1;
+        first = false;
+    }
+    true
+}
+
+// Whether the first n rows of k words are in their ranges, the first word of each as one that defines or not.
+fn rows_within(table: &[u32], k: usize, n: usize, defines: bool, m: u32) -> bool
+    requires { ⌜ k * n ≤ length (now table) ⌝ }
+    ensures { λ r. ⌜ r ≡ allInside defines m (rowsOf k n (now (table .entry))) ⌝ }
+{
+    let mut at = 0;
+    let mut left = n;
+    while left > 0 {
+        if !row_within(table, at, k, defines, m) {
+            return false;
+        }
+        at += k;
+        left -= 1;
+    }
+    true
+}
+
+// The first of tables 1 to 4 with a literal out of its range, or 0. Inputs, latches and gates define, outputs do not.
+pub fn out_of_range(
+    n: Counts,
+    inputs: &[u32],
+    latches: &[u32],
+    outputs: &[u32],
+    gates: &[u32],
+) -> usize
+    requires { ⌜ n .M ≤ most ⌝ }
+    requires { ⌜ n .I ≤ length (now inputs) ⌝ }
+    requires { ⌜ 2 * n .L ≤ length (now latches) ⌝ }
+    requires { ⌜ n .O ≤ length (now outputs) ⌝ }
+    requires { ⌜ 3 * n .A ≤ length (now gates) ⌝ }
+    ensures { λ r. ⌜ tableOf r ≡ outsideIn (circuitOf n (record {
+      inputs = now (inputs .entry);
+      latches = now (latches .entry);
+      outputs = now (outputs .entry);
+      gates = now (gates .entry);
+    })) ⌝ }
+{
+    let m = n.M as u32;
+    if !rows_within(inputs, 1, n.I, true, m) {
+        return 1;
+    }
+    if !rows_within(latches, 2, n.L, true, m) {
+        return 2;
+    }
+    if !rows_within(outputs, 1, n.O, false, m) {
+        return 3;
+    }
+    if !rows_within(gates, 3, n.A, true, m) {
+        return 4;
+    }
+    0
+}
