@@ -1,14 +1,12 @@
 -- The loop over lines.
 use Prim.Native.Nat.{ℕ, suc, zero, _+_, _*_, _≤_, _<_}
 use mathlib.Core.Path.{_≡_, refl, sym, ap, ap₂, _∙_, subst}
-use mathlib.Core.Bool.{Bool, true, false, not, cond, _&&_}
+use mathlib.Core.Bool.{Bool, true, false, cond, _&&_}
 use mathlib.Core.List.{List, [], _∷_, _++_, append-nil, append-assoc}
 use native.Mathlib.Omega.{arith}
 use native.Mathlib.Nat.{add-zero, zero-add, zero-mul, suc-mul, mul-le-mul-right}
-use borrow.Author.Tests.{eq-eqb, ne-eqb, eqb-true, eqb-false}
-use lib.Dec.{eqb}
 use lib.ListN.{length, getD, set, length-append, length-set}
-use lib.Seq.{getD-drop, getD-set-same, getD-set-other}
+use lib.Seq.{getD-drop}
 use Rattle.plan.specs.declared.Refusal.{Refusal}
 use Rattle.plan.specs.declared.Refusal.the-variants.{DefinedTwice}
 use Rattle.plan.specs.declared.Passed.{Passed}
@@ -18,35 +16,16 @@ use Rattle.plan.specs.Refusals.{Parse, got, refused}
 use Rattle.plan.specs.Circuit.{literalOf, has, heads, flat}
 use Rattle.plan.specs.Bytes.{line, lines}
 use Rattle.plan.specs.Outcome.{passedBy, put}
-use Rattle.theorems.proofs.Marks.{Agrees}
+use Rattle.theorems.proofs.Marks.{Agrees, agrees-tell, agrees-more}
 use Rattle.theorems.proofs.Put.{put-none, put-length, put-there, put-put}
 use Rattle.theorems.proofs.Reading.Steps.{onRows, lines-turn, lines-stop, lines-done}
-use Rattle.theorems.proofs.Running.Lists.{has-seam}
-use Rattle.theorems.proofs.Running.Scan.{has-snoc}
+use Rattle.theorems.proofs.Tables.{heads-snoc}
 use Rattle.lines.specs.Rows.{row, marked, marking, seenAfter, LinesSay}
 use Rattle.lines.proofs.OneLine.{line-row, line-refused, row-long, row-var}
 
 flat-snoc : (rows : List (List ℕ)) (ls : List ℕ) → flat (rows ++ (ls ∷ [])) ≡ flat rows ++ ls
 flat-snoc [] ls = append-nil ls
 flat-snoc (r ∷ rows) ls = ap (λ (x : List ℕ). r ++ x) (flat-snoc rows ls) ∙ sym (append-assoc r (flat rows) ls)
-
-heads-snoc : (rows : List (List ℕ)) (ls : List ℕ) → heads (rows ++ (ls ∷ [])) ≡ heads rows ++ (varOf (literalOf ls) ∷ [])
-heads-snoc [] ls = refl
-heads-snoc (r ∷ rows) ls = ap (λ (x : List ℕ). varOf (literalOf r) ∷ x) (heads-snoc rows ls)
-
--- a variable up to m that is marked is one more that is seen
-agrees-more : (m : ℕ) (seen marks : List ℕ) (v : ℕ) → Agrees m seen marks → v < length marks → Agrees m (seen ++ (v ∷ [])) (set marks v 1)
-agrees-more m seen marks v a h u l = go (eqb v u) refl
-  where
-    go : (t : Bool) → eqb v u ≡ t → eqb (getD (set marks v 1) u 0) 0 ≡ not (has u (seen ++ (v ∷ [])))
-    go true e =
-        let same : v ≡ u = eqb-true v u e in
-        let lit : getD (set marks v 1) u 0 ≡ 1 = ap (λ (x : ℕ). getD (set marks v 1) x 0) (sym same) ∙ getD-set-same marks v 1 0 h in
-        let there : has u (seen ++ (v ∷ [])) ≡ true = ap (λ (x : ℕ). has u (seen ++ (x ∷ []))) same ∙ has-seam u seen [] in
-        ap (λ (x : ℕ). eqb x 0) lit ∙ ap not (sym there)
-    go false e =
-        let other : getD (set marks v 1) u 0 ≡ getD marks u 0 = getD-set-other marks v u 1 0 (λ p. eqb-false v u e (sym p)) in
-        ap (λ (x : ℕ). eqb x 0) other ∙ (a u l ∙ ap not (sym (has-snoc u v seen e)))
 
 -- the answer of a line's numbers and ranges
 pub passed-to : (p : Parse (List ℕ)) (next : ℕ) → To next ≡ passedBy p → (ls : List ℕ) × (p ≡ got ls next)
@@ -138,12 +117,8 @@ module _ {file : List ℕ} {k : ℕ} {d : Bool} {m n at : ℕ} {t₀ marks₀ ta
         → marked d (varOf (literalOf ls)) marks ≡ (d && has (varOf (literalOf ls)) (seen ++ heads rows))
     tells seen rows a = go d a
       where
-        not-not : (t : Bool) → not (not t) ≡ t
-        not-not true = refl
-        not-not false = refl
-
         go : (x : Bool) → Agrees m (seenAfter x seen rows) marks → marked x (varOf (literalOf ls)) marks ≡ (x && has (varOf (literalOf ls)) (seen ++ heads rows))
-        go true q = ap not (q (varOf (literalOf ls)) (row-var file k d m pos ls next positive e)) ∙ not-not (has (varOf (literalOf ls)) (seen ++ heads rows))
+        go true q = agrees-tell m (seen ++ heads rows) marks (varOf (literalOf ls)) q (row-var file k d m pos ls next positive e)
         go false q = refl
 
     judged-line : (seen : List ℕ) (rows : List (List ℕ)) (t : Bool) → Agrees m (seenAfter d seen rows) marks → marked d (varOf (literalOf ls)) marks ≡ t

@@ -2,13 +2,16 @@
 use Prim.Native.Nat.{ℕ, zero, suc, _≤_, _<_}
 use mathlib.Core.Path.{_≡_, refl, sym, ap, _∙_, subst}
 use mathlib.Core.Bool.{Bool, true, false, not, cond}
-use mathlib.Core.List.{List, [], _∷_}
+use mathlib.Core.List.{List, [], _∷_, _++_}
 use native.Mathlib.Omega.{arith}
 use native.Mathlib.Decide.{decLt}
-use borrow.Author.Tests.{eq-eqb, ne-eqb}
+use borrow.Author.Tests.{eq-eqb, ne-eqb, eqb-true, eqb-false}
 use lib.Dec.{eqb}
-use lib.ListN.{getD, replicate}
+use lib.ListN.{length, getD, set, replicate}
+use lib.Seq.{getD-set-same, getD-set-other}
 use Rattle.plan.specs.Circuit.{has}
+use Rattle.theorems.proofs.Running.Lists.{has-seam}
+use Rattle.theorems.proofs.Running.Scan.{has-snoc}
 
 -- marks, a word for each variable up to m, agree with a list of variables: a word is 0 exactly if its variable is not in the list
 abbrev pub Agrees : ℕ → List ℕ → List ℕ → Type 0
@@ -56,3 +59,25 @@ pub zeros : (k i : ℕ) → _≡_ {A = ℕ} (getD (replicate k 0) i 0) 0
 zeros zero i = refl
 zeros (suc k) zero = refl
 zeros (suc k) (suc i) = zeros k i
+
+-- marks tell whether a variable up to m is in the list
+pub agrees-tell : (m : ℕ) (seen marks : List ℕ) (v : ℕ) → Agrees m seen marks → v ≤ m → not (eqb (getD marks v 0) 0) ≡ has v seen
+agrees-tell m seen marks v a h = ap not (a v h) ∙ not-not (has v seen)
+  where
+    not-not : (t : Bool) → not (not t) ≡ t
+    not-not true = refl
+    not-not false = refl
+
+-- a variable up to m that is marked is one more that is seen
+pub agrees-more : (m : ℕ) (seen marks : List ℕ) (v : ℕ) → Agrees m seen marks → v < length marks → Agrees m (seen ++ (v ∷ [])) (set marks v 1)
+agrees-more m seen marks v a h u l = go (eqb v u) refl
+  where
+    go : (t : Bool) → eqb v u ≡ t → eqb (getD (set marks v 1) u 0) 0 ≡ not (has u (seen ++ (v ∷ [])))
+    go true e =
+        let same : v ≡ u = eqb-true v u e in
+        let lit : getD (set marks v 1) u 0 ≡ 1 = ap (λ (x : ℕ). getD (set marks v 1) x 0) (sym same) ∙ getD-set-same marks v 1 0 h in
+        let there : has u (seen ++ (v ∷ [])) ≡ true = ap (λ (x : ℕ). has u (seen ++ (x ∷ []))) same ∙ has-seam u seen [] in
+        ap (λ (x : ℕ). eqb x 0) lit ∙ ap not (sym there)
+    go false e =
+        let other : getD (set marks v 1) u 0 ≡ getD marks u 0 = getD-set-other marks v u 1 0 (λ p. eqb-false v u e (sym p)) in
+        ap (λ (x : ℕ). eqb x 0) other ∙ (a u l ∙ ap not (sym (has-snoc u v seen e)))

@@ -7,10 +7,11 @@ use native.Mathlib.Nat.{not-suc-le-zero}
 use native.Mathlib.Omega.{arith}
 use borrow.Author.Tests.{leb-true, eqb-true, eqb-false}
 use lib.Dec.{eqb, leb}
+use lib.ListN.{length, getD, take}
 use Rattle.plan.specs.Literals.{varOf, signOf, inRange}
-use Rattle.plan.specs.Circuit.{inside, allInside}
+use Rattle.plan.specs.Circuit.{oneLine, latchLine, gateLine, latchOf, gateOf, rowsOf, inside, allInside}
 use Rattle.theorems.proofs.Reading.Common.{and-left, and-right, and-intro}
-use Rattle.theorems.proofs.Tables.{firsts}
+use Rattle.theorems.proofs.Tables.{firsts, headAt, latchAt, gateAt, latches-rows, gates-rows, words-take}
 
 pub range-var : (d : Bool) (m l : ℕ) → inRange d m l ≡ true → varOf l ≤ m
 range-var true m l h =
@@ -44,3 +45,23 @@ module _ {A : Type 0} (line : A → List ℕ) (d : Bool) (m : ℕ) where
       go : (b : Bool) → eqb i n ≡ b → (i < n → inside d m (line (at i)) ≡ true) → inside d m (line (at i)) ≡ true
       go true e f = subst (λ (j : ℕ). inside d m (line (at j)) ≡ true) (sym (eqb-true i n e)) (inside-last (firsts at n) (at n) h)
       go false e f = f (omega (arith, eqb-false i n e))
+
+-- the variables that inputs, latches and gates of a table define, at each place
+pub input-in : (m : ℕ) (t : List ℕ) (n : ℕ) → n ≤ length t → allInside true m (map oneLine (take n t)) ≡ true → (i : ℕ) → i < n → headAt t 1 i ≤ m
+input-in m t n long h i k =
+    let line = inside-at oneLine true m (λ j. getD t j 0) n
+    (subst (λ (ls : List ℕ). allInside true m (map oneLine ls) ≡ true) (words-take t n long) h) i k in
+    let at : i ≡ 1 * i = omega arith in
+    subst (λ (j : ℕ). varOf (getD t j 0) ≤ m) at (first-var true m (getD t i 0) [] line)
+
+pub latch-in : (m : ℕ) (t : List ℕ) (n : ℕ) → allInside true m (map latchLine (map latchOf (rowsOf 2 n t))) ≡ true
+    → (i : ℕ) → i < n → headAt t 2 i ≤ m
+latch-in m t n h i k =
+    first-var true m (getD t (2 * i) 0) (getD t (2 * i + 1) 0 ∷ [])
+    (inside-at latchLine true m (latchAt t) n (rw (← latches-rows t n) h) i k)
+
+pub gate-in : (m : ℕ) (t : List ℕ) (n : ℕ) → allInside true m (map gateLine (map gateOf (rowsOf 3 n t))) ≡ true
+    → (i : ℕ) → i < n → headAt t 3 i ≤ m
+gate-in m t n h i k =
+    first-var true m (getD t (3 * i) 0) (getD t (3 * i + 1) 0 ∷ getD t (3 * i + 2) 0 ∷ [])
+    (inside-at gateLine true m (gateAt t) n (rw (← gates-rows t n) h) i k)

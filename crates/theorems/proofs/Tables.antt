@@ -2,12 +2,13 @@
 use Prim.Native.Nat.{ℕ, zero, suc, _+_, _*_, _≤_, _<_}
 use mathlib.Core.Path.{_≡_, refl, sym, ap, ap₂, _∙_}
 use mathlib.Core.List.{List, [], _∷_, _++_, map, map-append}
-use native.Mathlib.Nat.{mul-zero, mul-suc}
+use native.Mathlib.Nat.{mul-zero, mul-suc, mul-le-mul-left}
+use native.Mathlib.Numerals.{add-one}
 use native.Mathlib.Omega.{arith}
 use lib.ListN.{length, getD, take, drop, length-append}
 use lib.Seq.{getD-take, getD-drop, drop-drop, take-suc}
 use Rattle.plan.specs.Literals.{varOf}
-use Rattle.plan.specs.Circuit.{Gate, Latch, literalOf, latchOf, gateOf, rowsOf, heads}
+use Rattle.plan.specs.Circuit.{Gate, Latch, oneLine, latchLine, gateLine, literalOf, latchOf, gateOf, rowsOf, heads, vars, currents, lefts}
 
 -- row i of k words
 abbrev pub rowAt : ℕ → List ℕ → ℕ → List ℕ
@@ -93,7 +94,7 @@ words-take t zero h = refl
 words-take t (suc n) h = take-suc t n 0 (omega arith) ∙ ap (λ (l : List ℕ). l ++ (getD t n 0 ∷ [])) (words-take t n (omega arith))
 
 -- the variables that lines define, at each place
-heads-snoc : (rows : List (List ℕ)) (row : List ℕ) → heads (rows ++ (row ∷ [])) ≡ heads rows ++ (varOf (literalOf row) ∷ [])
+pub heads-snoc : (rows : List (List ℕ)) (row : List ℕ) → heads (rows ++ (row ∷ [])) ≡ heads rows ++ (varOf (literalOf row) ∷ [])
 heads-snoc [] row = refl
 heads-snoc (r ∷ rows) row = ap (λ (l : List ℕ). varOf (literalOf r) ∷ l) (heads-snoc rows row)
 
@@ -104,3 +105,33 @@ heads-firsts line at (suc n) =
     ap heads (map-append line (firsts at n) (at n ∷ []))
     ∙ (heads-snoc (map line (firsts at n)) (line (at n))
     ∙ ap (λ (l : List ℕ). l ++ (varOf (literalOf (line (at n))) ∷ [])) (heads-firsts line at n))
+
+-- the variable of the first word of row i, of `stride` words; those of n rows
+abbrev pub headAt : List ℕ → ℕ → ℕ → ℕ
+headAt table stride i = varOf (getD table (stride * i) 0)
+
+abbrev pub headsAt : List ℕ → ℕ → ℕ → List ℕ
+headsAt table stride n = firsts (headAt table stride) n
+
+-- the variables that inputs, latches and gates of a table define
+pub inputs-heads : (t : List ℕ) (n : ℕ) → n ≤ length t → vars (take n t) ≡ headsAt t 1 n
+inputs-heads t n h =
+    ap vars (words-take t n h) ∙ (heads-firsts oneLine (λ i. getD t i 0) n ∙ ap (λ (at : ℕ → ℕ). firsts at n) (λ j i. one-row i j))
+  where
+    one-row : (i : ℕ) → varOf (getD t i 0) ≡ headAt t 1 i
+    one-row i = let at : i ≡ 1 * i = omega arith in ap (λ (k : ℕ). varOf (getD t k 0)) at
+
+pub latches-heads : (t : List ℕ) (n : ℕ) → currents (map latchOf (rowsOf 2 n t)) ≡ headsAt t 2 n
+latches-heads t n = ap currents (latches-rows t n) ∙ heads-firsts latchLine (latchAt t) n
+
+pub gates-heads : (t : List ℕ) (n : ℕ) → lefts (map gateOf (rowsOf 3 n t)) ≡ headsAt t 3 n
+gates-heads t n = ap lefts (gates-rows t n) ∙ heads-firsts gateLine (gateAt t) n
+
+-- row i of those that the table has room for ends in it, and the next row starts there
+pub row-ends : (stride n i : ℕ) (table : List ℕ) → stride * n ≤ length table → i < n → stride * i + stride ≤ length table
+row-ends stride n i table room h =
+    let more : stride * suc i ≤ stride * n = mul-le-mul-left stride h in
+    omega (arith, mul-suc stride i)
+
+pub next-row : (stride i at : ℕ) → at ≡ stride * i → at + stride ≡ stride * (i + 1)
+next-row stride i at e = rw (add-one, mul-suc) (omega arith)

@@ -1,0 +1,3 @@
+pub mod Defined
+pub mod Marking
+pub mod Rows
