@@ -1,21 +1,19 @@
 -- The leaves that tables hold, by places: their variables, and the numbers that two walks over the rows give them.
-use Prim.Native.Nat.{ℕ, zero, suc, _+_, _*_, _<_, _≤_}
+use Prim.Native.Nat.{ℕ, zero, suc, _+_, _<_, _≤_}
 use mathlib.Core.Path.{_≡_, refl, sym, ap, ap₂, _∙_, subst}
 use mathlib.Core.Bool.{Bool, true, false, cond, _||_}
-use mathlib.Core.List.{List, [], _∷_, _++_, map}
+use mathlib.Core.List.{List, [], _∷_, _++_}
 use native.Mathlib.Omega.{arith}
 use lib.Dec.{eqb}
 use lib.ListN.{length, getD, take, length-take, length-append}
 use lib.Seq.{getD-take}
 use Rattle.plan.specs.declared.Counts.{Counts}
-use Rattle.plan.specs.Literals.{varOf}
-use Rattle.plan.specs.Circuit.{oneLine, latchLine, vars, currents, allInside}
-use Rattle.theorems.proofs.Ranges.{first-var, inside-at}
+use Rattle.theorems.proofs.Ranges.{input-in, latch-in}
 use Rattle.theorems.proofs.Reading.Members.{distinct}
 use Rattle.theorems.proofs.Running.Lists.{distinct-left}
-use Rattle.theorems.proofs.Tables.{firsts, length-firsts, latchAt, latches-rows, words-take, heads-firsts}
+use Rattle.theorems.proofs.Tables.{headAt, headsAt, length-firsts, inputs-heads, latches-heads}
 use Rattle.order.specs.Numbers.{NumTable}
-use Rattle.closing.specs.Leaves.{headAt, headsAt, withHeads, inputsOf, latchesOf, leavesOf, Leaves, Numbered}
+use Rattle.closing.specs.Leaves.{withHeads, leavesOf, Leaves, Numbered}
 use Rattle.closing.proofs.Heads.{with-length, with-rest, with-numbers}
 
 -- a blank table numbers the constant alone
@@ -29,21 +27,9 @@ blank-numbers t m blank v h =
     go true = refl
     go false = refl
 
--- rows of one word
-one-row : (t : List ℕ) (i : ℕ) → varOf (getD t i 0) ≡ headAt t 1 i
-one-row t i = let at : i ≡ 1 * i = omega arith in ap (λ (n : ℕ). varOf (getD t n 0)) at
-
 module _ {n : Counts} {inputs latches t : List ℕ} (p : Leaves n inputs latches t) where
-  inputs-at : vars (inputsOf n inputs) ≡ headsAt inputs 1 (n .I)
-  inputs-at =
-      ap vars (words-take inputs (n .I) (p .inputs-long))
-      ∙ (heads-firsts oneLine (λ i. getD inputs i 0) (n .I) ∙ ap (λ (at : ℕ → ℕ). firsts at (n .I)) (λ j i. one-row inputs i j))
-
-  latches-at : currents (latchesOf n latches) ≡ headsAt latches 2 (n .L)
-  latches-at = ap currents (latches-rows latches (n .L)) ∙ heads-firsts latchLine (latchAt latches) (n .L)
-
   leaves-at : leavesOf n inputs latches ≡ zero ∷ (headsAt inputs 1 (n .I) ++ headsAt latches 2 (n .L))
-  leaves-at = ap₂ (λ (x y : List ℕ). zero ∷ (x ++ y)) inputs-at latches-at
+  leaves-at = ap₂ (λ (x y : List ℕ). zero ∷ (x ++ y)) (inputs-heads inputs (n .I) (p .inputs-long)) (latches-heads latches (n .L))
 
   pub leaves-count : length (leavesOf n inputs latches) ≡ 1 + n .I + n .L
   leaves-count =
@@ -55,17 +41,11 @@ module _ {n : Counts} {inputs latches t : List ℕ} (p : Leaves n inputs latches
         length-firsts (headAt latches 2) (n .L),
       )
 
-  pub input-in : (i : ℕ) → i < n .I → headAt inputs 1 i < n .M + 1
-  input-in i h =
-      let line = inside-at oneLine true (n .M) (λ k. getD inputs k 0) (n .I)
-      (subst (λ (ls : List ℕ). allInside true (n .M) (map oneLine ls) ≡ true) (words-take inputs (n .I) (p .inputs-long)) (p .inputs-inside)) i h in
-      omega (arith, first-var true (n .M) (getD inputs i 0) [] line, one-row inputs i)
+  pub input-below : (i : ℕ) → i < n .I → headAt inputs 1 i < n .M + 1
+  input-below i h = omega (arith, input-in (n .M) inputs (n .I) (p .inputs-long) (p .inputs-inside) i h)
 
-  pub latch-in : (i : ℕ) → i < n .L → headAt latches 2 i < n .M + 1
-  latch-in i h =
-      let line = inside-at latchLine true (n .M) (latchAt latches) (n .L)
-      (rw (← latches-rows latches (n .L)) (p .latches-inside)) i h in
-      omega (arith, first-var true (n .M) (getD latches (2 * i) 0) (getD latches (2 * i + 1) 0 ∷ []) line)
+  pub latch-below : (i : ℕ) → i < n .L → headAt latches 2 i < n .M + 1
+  latch-below i h = omega (arith, latch-in (n .M) latches (n .L) (p .latches-inside) i h)
 
   -- inputs from 1 on, then latches
   pub leaves-numbered : (u w : List ℕ) → u ≡ withHeads inputs 1 1 (n .I) t → w ≡ withHeads latches 2 (1 + n .I) (n .L) u
@@ -84,7 +64,7 @@ module _ {n : Counts} {inputs latches t : List ℕ} (p : Leaves n inputs latches
       after-inputs : NumTable (zero ∷ headsAt inputs 1 (n .I)) (take (n .M + 1) u)
       after-inputs =
           subst (λ (l : List ℕ). NumTable (zero ∷ headsAt inputs 1 (n .I)) (take (n .M + 1) l)) (sym by-inputs)
-          (with-numbers inputs 1 1 (n .M + 1) (zero ∷ []) refl (n .I) t (omega (arith, p .table-long)) input-in
+          (with-numbers inputs 1 1 (n .M + 1) (zero ∷ []) refl (n .I) t (omega (arith, p .table-long)) input-below
           (distinct-left (zero ∷ headsAt inputs 1 (n .I)) (headsAt latches 2 (n .L)) once)
           (blank-numbers t (n .M) (p .blank)))
 
@@ -93,11 +73,11 @@ module _ {n : Counts} {inputs latches t : List ℕ} (p : Leaves n inputs latches
           subst (λ (l : List ℕ). NumTable l (take (n .M + 1) w)) (sym leaves-at)
           (subst (λ (l : List ℕ). NumTable ((zero ∷ headsAt inputs 1 (n .I)) ++ headsAt latches 2 (n .L)) (take (n .M + 1) l)) (sym by-latches)
           (with-numbers latches 2 (1 + n .I) (n .M + 1) (zero ∷ headsAt inputs 1 (n .I)) count (n .L) u
-          (omega (arith, p .table-long, long)) latch-in once after-inputs))
+          (omega (arith, p .table-long, long)) latch-below once after-inputs))
 
       rest : (q : ℕ) → n .M < q → getD w q 0 ≡ getD t q 0
       rest q h =
           ap (λ (l : List ℕ). getD l q 0) by-latches
-          ∙ (with-rest latches 2 (1 + n .I) (n .M + 1) (n .L) u latch-in q (omega arith)
+          ∙ (with-rest latches 2 (1 + n .I) (n .M + 1) (n .L) u latch-below q (omega arith)
           ∙ (ap (λ (l : List ℕ). getD l q 0) by-inputs
-          ∙ with-rest inputs 1 1 (n .M + 1) (n .I) t input-in q (omega arith)))
+          ∙ with-rest inputs 1 1 (n .M + 1) (n .I) t input-below q (omega arith)))

@@ -5,18 +5,11 @@ use mathlib.Core.Bool.{true}
 use mathlib.Core.List.{List, _∷_, _++_, map}
 use lib.ListN.{length, getD, set, take}
 use Rattle.plan.specs.declared.Counts.{Counts}
-use Rattle.plan.specs.Literals.{most, varOf}
+use Rattle.plan.specs.Literals.{most}
 use Rattle.plan.specs.Circuit.{Latch, latchOf, rowsOf, oneLine, latchLine, vars, currents, allInside}
 use Rattle.theorems.proofs.Reading.Members.{distinct}
-use Rattle.theorems.proofs.Tables.{firsts}
+use Rattle.theorems.proofs.Tables.{headAt}
 use Rattle.order.specs.Numbers.{NumTable}
-
--- the variable of the first word of row i, of `stride` words; those of n rows
-abbrev pub headAt : List ℕ → ℕ → ℕ → ℕ
-headAt table stride i = varOf (getD table (stride * i) 0)
-
-abbrev pub headsAt : List ℕ → ℕ → ℕ → List ℕ
-headsAt table stride n = firsts (headAt table stride) n
 
 -- t, after the variables of n rows took the numbers from `first` on
 abbrev pub withHeads : List ℕ → ℕ → ℕ → ℕ → List ℕ → List ℕ

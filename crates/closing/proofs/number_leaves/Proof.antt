@@ -1,6 +1,6 @@
 use native.Mathlib.Omega.{arith}
 use borrow.Author.Needs.{needs}
-use Rattle.closing.proofs.Leaving.{input-in, latch-in, leaves-numbered}
+use Rattle.closing.proofs.Leaving.{input-below, latch-below, leaves-numbered}
 use Rattle.closing.proofs.number_leaves.Statement.{statement}
 use Rattle.closing.proofs.number_leaves.Tie as tie
 
@@ -8,7 +8,7 @@ number-heads-requires : tie.Need-number-heads-requires
 number-heads-requires c κs =
     let s = c .before .before .before .before in
     let p = s .pre in
-    (omega arith, (omega (arith, p .inputs-long), (omega (arith, p .most-M, p .sum), λ i h. omega (arith, input-in p i h, p .table-long))))
+    (omega arith, (omega (arith, p .inputs-long), (omega (arith, p .most-M, p .sum), λ i h. omega (arith, input-below p i h, p .table-long))))
 
 add-number-heads : tie.Need-add-number-heads
 add-number-heads c = search needs
@@ -21,7 +21,7 @@ number-heads-requires-2 c κs =
     let s = c .before .before .before .before .before .before .before .before .before in
     let p = s .pre in
     let same = c .before .before .before .t .given in
-    (omega arith, (omega (arith, p .latches-long), (omega (arith, p .most-M, p .sum), λ i h. omega (arith, latch-in p i h, p .table-long, same))))
+    (omega arith, (omega (arith, p .latches-long), (omega (arith, p .most-M, p .sum), λ i h. omega (arith, latch-below p i h, p .table-long, same))))
 
 same-length : tie.Need-same-length
 same-length c = search needs
