@@ -3,7 +3,6 @@ use Prim.Native.Nat.{ℕ, zero, suc, _+_, _*_, _<_, _≤_}
 use mathlib.Core.Path.{_≡_, refl, sym, ap, ap₂, _∙_, subst}
 use mathlib.Core.Bool.{true}
 use mathlib.Core.List.{List, [], _∷_, _++_, append-assoc, append-nil}
-use native.Mathlib.Nat.{mul-suc}
 use native.Mathlib.Numerals.{add-one}
 use native.Mathlib.Omega.{arith}
 use lib.ListN.{length, getD, set, take, length-set, length-take, length-append}
@@ -20,10 +19,7 @@ pub with-length : (table : List ℕ) (stride first n : ℕ) (t : List ℕ) → l
 with-length table stride first zero t = refl
 with-length table stride first (suc n) t = length-set (withHeads table stride first n t) _ _ ∙ with-length table stride first n t
 
--- row i starts at the next word, and its variable takes the next number
-pub next-row : (stride i at : ℕ) → at ≡ stride * i → at + stride ≡ stride * (i + 1)
-next-row stride i at e = rw (add-one, mul-suc) (omega arith)
-
+-- the next row's variable takes the next number
 pub next-head : (table : List ℕ) (stride first i at v next : ℕ) (t₀ t : List ℕ) → at ≡ stride * i → next ≡ first + i
     → v ≡ varOf (getD table at 0) → t ≡ withHeads table stride first i t₀ → set t v next ≡ withHeads table stride first (i + 1) t₀
 next-head table stride first i at v next t₀ t place number var was =

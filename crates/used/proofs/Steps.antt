@@ -1,20 +1,14 @@
 -- The walk over words of a table, from `start` on by `stride`.
-use Prim.Native.Nat.{ℕ, suc, _+_, _*_, _≤_, _<_}
+use Prim.Native.Nat.{ℕ, _+_, _*_, _<_}
 use mathlib.Core.Path.{_≡_, sym, ap, _∙_}
 use mathlib.Core.List.{List, [], _∷_}
-use native.Mathlib.Nat.{mul-suc, mul-le-mul-left}
+use native.Mathlib.Nat.{mul-suc}
 use native.Mathlib.Numerals.{add-one}
 use native.Mathlib.Omega.{arith}
-use lib.ListN.{length, getD}
+use lib.ListN.{getD}
 use Rattle.plan.specs.Literals.{varOf}
 use Rattle.used.specs.Least.{every, lower, lowest}
 use Rattle.used.proofs.Lowest.{lowest-append}
-
--- row i of those that the table has room for ends in it
-pub row-ends : (stride n i : ℕ) (table : List ℕ) → stride * n ≤ length table → i < n → stride * i + stride ≤ length table
-row-ends stride n i table room h =
-    let more : stride * suc i ≤ stride * n = mul-le-mul-left stride h in
-    omega (arith, mul-suc stride i)
 
 pub next-word : (start stride i at : ℕ) → at ≡ stride * i + start → at + stride ≡ stride * (i + 1) + start
 next-word start stride i at e = rw (add-one, mul-suc) (omega arith)

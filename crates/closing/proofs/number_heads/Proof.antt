@@ -4,9 +4,9 @@ use native.Mathlib.Omega.{arith}
 use borrow.Author.Needs.{needs}
 use lib.ListN.{length, getD}
 use Rattle.plan.specs.Literals.{varOf, indexOf, halved}
-use Rattle.used.proofs.Steps.{row-ends}
+use Rattle.theorems.proofs.Tables.{row-ends, next-row}
 use Rattle.closing.specs.Leaves.{headAt, withHeads}
-use Rattle.closing.proofs.Heads.{with-length, next-row, next-head}
+use Rattle.closing.proofs.Heads.{with-length, next-head}
 use Rattle.closing.proofs.number_heads.Statement.{statement}
 use Rattle.closing.proofs.number_heads.Tie as tie
 
