@@ -12,6 +12,8 @@ pub mod Signs
 pub mod Binary
 pub mod Upward
 pub mod InOrder
+pub mod Different
+pub mod NoSixToEight
 pub mod Sweep
 pub mod StandIn
 pub mod ReduceGates

@@ -156,7 +156,8 @@ run-latches v (l ∷ ls) h =
     λ i. record { current = e i; next = l .next } ∷ t i
 
 module _ (c : Circuit) where
-  all-runs : runs 1 (map oneLine (c .inputs) ++ (map latchLine (c .latches) ++ map gateLine (c .gates)))
+  -- the rows of the three tables run on, one table after the other
+  pub all-runs : runs 1 (map oneLine (c .inputs) ++ (map latchLine (c .latches) ++ map gateLine (c .gates)))
       ≡ (runs 1 (map oneLine (c .inputs))
       && (runs (1 + length (c .inputs)) (map latchLine (c .latches)) && runs (1 + length (c .inputs) + length (c .latches))
       (map gateLine (c .gates))))

@@ -119,6 +119,17 @@ module _ (c : Circuit) (b : BinaryOrder c) where
   pub acyclic-ordered : (v : ℕ) → ¬ Depends (c .gates) v v
   acyclic-ordered = settled-exactly (c .gates) .0 (settled-binary (inner c) (c .gates) (order-binary (inner c) (c .gates) (b .gates)))
 
+  -- the variables that are defined run from 1 on, so each is defined once
+  pub different-ordered : allNew [] (definedIn c) ≡ true
+  different-ordered =
+      ap (allNew []) in-a-row ∙ run-new (length (c .inputs)) (length (c .latches)) (length (c .gates))
+    where
+      in-a-row : definedIn c
+          ≡ upFrom 1 (length (c .inputs)) ++ (upFrom (1 + length (c .inputs)) (length (c .latches)) ++ upFrom (inner c) (length (c .gates)))
+      in-a-row =
+          ap₂ (λ (s t : List ℕ). s ++ t) inputs-up
+          (ap₂ (λ (s t : List ℕ). s ++ t) latches-up (lefts-gates (inner c) (c .gates) (b .gates)))
+
   pub well-formed : c .M ≤ most → length (c .outputs) ≤ most → Bounded (suc (c .M)) (nexts (c .latches))
       → Bounded (suc (c .M)) (c .outputs) → WellFormed c
   well-formed m o n u = record {
@@ -135,13 +146,7 @@ module _ (c : Circuit) (b : BinaryOrder c) where
         (omega (arith, b .sum, length-nexts (c .latches))) (bounded-outputs (c .M) (nexts (c .latches)) n);
     outputs = bounded-outputs (c .M) (c .outputs) u;
     gates = gates-inside (c .M) (inner c) (c .gates) (b .gates) (omega arith) (omega (arith, b .sum));
-    different = ap (allNew []) in-a-row ∙ run-new (length (c .inputs)) (length (c .latches)) (length (c .gates));
+    different = different-ordered;
     defined = defined-ordered n u;
     acyclic = acyclic-ordered;
   }
-    where
-      in-a-row : definedIn c
-          ≡ upFrom 1 (length (c .inputs)) ++ (upFrom (1 + length (c .inputs)) (length (c .latches)) ++ upFrom (inner c) (length (c .gates)))
-      in-a-row =
-          ap₂ (λ (s t : List ℕ). s ++ t) inputs-up
-          (ap₂ (λ (s t : List ℕ). s ++ t) latches-up (lefts-gates (inner c) (c .gates) (b .gates)))

@@ -3,8 +3,8 @@ use mathlib.Core.Path.{_≡_, ap, _∙_}
 use native.Mathlib.Omega.{arith}
 use borrow.Author.Needs.{needs}
 use lib.ListN.{length}
-use Rattle.used.specs.Least.{every, lowest}
 use Rattle.theorems.proofs.Tables.{row-ends}
+use Rattle.used.specs.Least.{every, lowest}
 use Rattle.used.proofs.Steps.{next-word, in-marks, next-low}
 use Rattle.used.proofs.least.Statement.{statement}
 use Rattle.used.proofs.least.Tie as tie
