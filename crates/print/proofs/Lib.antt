@@ -1,0 +1,5 @@
+-- What the proofs of lines and gates use.
+pub mod Lines
+pub mod Filling
+pub mod Sizes
+pub mod Turns
