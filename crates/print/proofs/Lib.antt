@@ -3,3 +3,4 @@ pub mod Lines
 pub mod Filling
 pub mod Sizes
 pub mod Turns
+pub mod Gates
