@@ -1,30 +1,29 @@
 -- The loops over gates: one turn takes one gate.
-use Prim.Native.Nat.{ℕ, suc, zero, _+_, _*_, _-_, _<_, _≤_}
+use Prim.Native.Nat.{ℕ, suc, zero, _+_, _*_, _-_, _^_, _<_, _≤_}
 use mathlib.Core.Path.{_≡_, refl, sym, ap, ap₂, subst, _∙_}
 use mathlib.Core.List.{List, [], _++_, map, append-assoc}
 use native.Mathlib.Omega.{arith}
 use lib.ListN.{length, getD, take, drop, length-append}
-use lib.Seq.{getD-take, getD-drop, drop-drop}
+use lib.Seq.{drop-drop}
 use Rattle.plan.specs.declared.Written.{Written}
 use Rattle.plan.specs.Circuit.{rowsOf, gateOf}
 use Rattle.plan.specs.Difference.{groupsOf}
 use Rattle.plan.specs.Binary.{gateBytes}
 use Rattle.plan.specs.Outcome.{WriteExit, put, putBytes}
+use Rattle.theorems.proofs.Tables.{row-word}
 use Rattle.theorems.proofs.Put.{put-put, put-length}
 use Rattle.print.specs.Words.{bytesIn, sidesBytes, bytesAt, bytesFrom}
+use Rattle.print.proofs.Sizes.{groups-five}
 use Rattle.print.proofs.Filling.{Filling, none-filled, part-room, part-filled, all-filled, all-ends, wrote-bytes, wrote-out}
 
--- word j of the first row
-row-word : (t : List ℕ) (i j : ℕ) → j < 3 → getD (take 3 (drop (3 * i) t)) j 0 ≡ getD t (3 * i + j) 0
-row-word t i j h = getD-take 3 (drop (3 * i) t) j 0 h ∙ getD-drop (3 * i) t j 0
-
+-- the first row
 row-bytes : (t : List ℕ) (i : ℕ)
     → sidesBytes (getD (take 3 (drop (3 * i) t)) 0 0) (getD (take 3 (drop (3 * i) t)) 1 0) (getD (take 3 (drop (3 * i) t)) 2 0) ≡ bytesAt t i
 row-bytes t i =
     let z : 3 * i + 0 ≡ 3 * i = omega arith in
-    let zero-word : getD (take 3 (drop (3 * i) t)) 0 0 ≡ getD t (3 * i) 0 = row-word t i 0 (omega arith) ∙ ap (λ (k : ℕ). getD t k 0) z in
-    ap₂ (λ (a b : ℕ). sidesBytes a b (getD (take 3 (drop (3 * i) t)) 2 0)) zero-word (row-word t i 1 (omega arith))
-    ∙ ap (λ (c : ℕ). sidesBytes (getD t (3 * i) 0) (getD t (3 * i + 1) 0) c) (row-word t i 2 (omega arith))
+    let zero-word : getD (take 3 (drop (3 * i) t)) 0 0 ≡ getD t (3 * i) 0 = row-word 3 t i 0 (omega arith) ∙ ap (λ (k : ℕ). getD t k 0) z in
+    ap₂ (λ (a b : ℕ). sidesBytes a b (getD (take 3 (drop (3 * i) t)) 2 0)) zero-word (row-word 3 t i 1 (omega arith))
+    ∙ ap (λ (c : ℕ). sidesBytes (getD t (3 * i) 0) (getD t (3 * i + 1) 0) c) (row-word 3 t i 2 (omega arith))
 
 -- gates are their bytes one after another
 rows-from : (t : List ℕ) (m i : ℕ) → gateBytes (map gateOf (rowsOf 3 m (drop (3 * i) t))) ≡ bytesFrom t m i
@@ -37,6 +36,19 @@ rows-from t (suc m) i =
     sym (append-assoc (groupsOf (getD row 0 0 - getD row 1 0)) (groupsOf (getD row 1 0 - getD row 2 0)) rest)
     ∙ ap₂ (λ (x y : List ℕ). x ++ y) (row-bytes t i)
     (ap (λ (l : List ℕ). gateBytes (map gateOf (rowsOf 3 m l))) tail ∙ rows-from t m (i + 1))
+
+-- the groups of both differences, counted
+pub sides-count : (lhs rhs0 rhs1 d e a b : ℕ) → lhs < 2 ^ 32 → rhs0 < 2 ^ 32 → d ≡ lhs - rhs0 → e ≡ rhs0 - rhs1
+    → a ≡ length (groupsOf d) → b ≡ length (groupsOf e) → (a + b ≡ length (sidesBytes lhs rhs0 rhs1)) × (a + b ≤ 10)
+sides-count lhs rhs0 rhs1 d e a b hl hr d-is e-is a-is b-is =
+    let x : List ℕ = groupsOf (lhs - rhs0) in
+    let y : List ℕ = groupsOf (rhs0 - rhs1) in
+    let first : a ≡ length x = a-is ∙ ap (λ (d : ℕ). length (groupsOf d)) d-is in
+    let second : b ≡ length y = b-is ∙ ap (λ (d : ℕ). length (groupsOf d)) e-is in
+    let few : length x ≤ 5 = groups-five (lhs - rhs0) (omega arith) in
+    let few₂ : length y ≤ 5 = groups-five (rhs0 - rhs1) (omega arith) in
+    let both : length (x ++ y) ≡ length x + length y = length-append x y in
+    (omega arith, omega arith)
 
 -- the first difference, then the second
 module _ (out : List ℕ) (at lhs rhs0 rhs1 : ℕ) (fits : at + length (sidesBytes lhs rhs0 rhs1) ≤ length out) where
@@ -111,17 +123,14 @@ module _ (t : List ℕ) (n : ℕ) where
   pub none-counted : Counted t n 0 0
   none-counted = record { bound = omega arith; few = omega arith; total = omega (arith, ap length whole) }
 
-  pub one-counted : (sum i a b : ℕ) → Counted t n sum i → i < n → a ≡ length (groupsOf (getD t (3 * i) 0 - getD t (3 * i + 1) 0))
-      → b ≡ length (groupsOf (getD t (3 * i + 1) 0 - getD t (3 * i + 2) 0)) → a ≤ 5 → b ≤ 5 → Counted t n (sum + a + b) (i + 1)
-  one-counted sum i a b s h a-is b-is a-few b-few =
-      let x : List ℕ = groupsOf (getD t (3 * i) 0 - getD t (3 * i + 1) 0) in
-      let y : List ℕ = groupsOf (getD t (3 * i + 1) 0 - getD t (3 * i + 2) 0) in
+  pub one-counted : (sum i d : ℕ) → Counted t n sum i → i < n → d ≡ length (bytesAt t i) → d ≤ 10 → Counted t n (sum + d) (i + 1)
+  one-counted sum i d s h d-is d-few =
       let rest : List ℕ = bytesFrom t (n - (i + 1)) (i + 1) in
-      let size : length (bytesFrom t (n - i) i) ≡ length (x ++ y) + length rest = ap length (one-gate i h) ∙ length-append (x ++ y) rest in
-      let sides : length (x ++ y) ≡ length x + length y = length-append x y in
+      let size : length (bytesFrom t (n - i) i) ≡ length (bytesAt t i) + length rest
+      = ap length (one-gate i h) ∙ length-append (bytesAt t i) rest in
       let before : sum + length (bytesFrom t (n - i) i) ≡ length (gateBytes (map gateOf (rowsOf 3 n t))) = s .total in
       let few : sum ≤ 10 * i = s .few in
-      let total : sum + a + b + length rest ≡ length (gateBytes (map gateOf (rowsOf 3 n t))) = omega arith in
+      let total : sum + d + length rest ≡ length (gateBytes (map gateOf (rowsOf 3 n t))) = omega arith in
       record { bound = omega arith; few = omega arith; total = total }
 
   pub all-counted : (sum i : ℕ) → Counted t n sum i → n ≤ i → sum ≡ length (gateBytes (map gateOf (rowsOf 3 n t)))

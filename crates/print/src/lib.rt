@@ -101,6 +101,14 @@ fn above(a: u32, b: u32) -> u32
     Lit::at(a).minus(Lit::at(b))
 }
 
+// The bytes of one gate: of lhs - rhs0 and of rhs0 - rhs1.
+fn gate_length(lhs: u32, rhs0: u32, rhs1: u32) -> usize
+    ensures { λ r. ⌜ r ≡ length (sidesBytes lhs rhs0 rhs1) ⌝ }
+    ensures { λ r. ⌜ r ≤ 10 ⌝ }
+{
+    differences::groups_in(above(lhs, rhs0)) + differences::groups_in(above(rhs0, rhs1))
+}
+
 // The bytes of n gates of three words.
 pub fn gates_length(gates: &[u32], n: usize) -> usize
     requires { ⌜ 3 * n ≤ length (now gates) ⌝ }
@@ -111,10 +119,7 @@ pub fn gates_length(gates: &[u32], n: usize) -> usize
     let mut i = 0;
     while i < n {
         let k = 3 * i;
-        let rhs0 = gates[k + 1];
-        let first = differences::groups_in(above(gates[k], rhs0));
-        let second = differences::groups_in(above(rhs0, gates[k + 2]));
-        sum = sum + first + second;
+        sum += gate_length(gates[k], gates[k + 1], gates[k + 2]);
         i += 1;
     }
     sum
