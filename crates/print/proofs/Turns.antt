@@ -20,7 +20,7 @@ word-length j w = length-append (digits w) (endOf j ∷ [])
 module _ (out : List ℕ) (at j w : ℕ) (answer : Written) (out' : List ℕ) (fits : at + length (wordBytes j w) ≤ length out)
     (says : _≡_ {A = WriteExit} (record { answer = answer; out = out' }) (putBytes out at (digits w)))
     (count : ℕ) (count-is : count ≡ bytesIn answer) where
-  pub count-digits : count ≡ length (digits w)
+  count-digits : count ≡ length (digits w)
   count-digits = count-is ∙ wrote-bytes out at (digits w) answer out' (omega (arith, word-length j w)) says
 
   pub word-ends : at + count + 1 ≡ at + length (wordBytes j w)
@@ -102,7 +102,8 @@ module _ (t : List ℕ) (k n : ℕ) where
     word-fits h = part-room (s .fill) (wordBytes left (getD t i 0)) (rest left i) (one-word left i h)
 
     pub one-printed : (out' : List ℕ) (next' left' : ℕ) → i < k * n → out' ≡ put out next (wordBytes left (getD t i 0))
-        → next' ≡ next + length (wordBytes left (getD t i 0)) → left' ≡ following (k - 1) left → Printed t k n out₀ at out' next' left' (i + 1)
+        → next' ≡ next + length (wordBytes left (getD t i 0)) → left' ≡ following (k - 1) left
+        → Printed t k n out₀ at out' next' left' (i + 1)
     one-printed out' next' left' h o p q = record {
       bound = omega arith;
       fill =

@@ -20,14 +20,16 @@ groups-in-requires-2 c κs = search needs
 add-result : tie.Need-add-result
 add-result c =
     let a = c .before .before .before .before .args in
-    let count = sides-count (a .lhs) (a .rhs0) (a .rhs1) _ _ _ _ (omega arith) (omega arith) (c .before .before .before .above .ensures) (c .before .above2 .ensures)
+    let count = sides-count (a .lhs) (a .rhs0) (a .rhs1) _ _ _ _ (omega arith) (omega arith)
+    (c .before .before .before .above .ensures) (c .before .above2 .ensures)
     (c .before .before .groups-in .ensures) (c .groups-in2 .ensures) in
     omega (arith, count .1)
 
 returns : tie.Need-returns
 returns c =
     let a = c .before .before .before .before .args in
-    sides-count (a .lhs) (a .rhs0) (a .rhs1) _ _ _ _ (omega arith) (omega arith) (c .before .before .before .above .ensures) (c .before .above2 .ensures)
+    sides-count (a .lhs) (a .rhs0) (a .rhs1) _ _ _ _ (omega arith) (omega arith) (c .before .before .before .above .ensures)
+    (c .before .above2 .ensures)
     (c .before .before .groups-in .ensures) (c .groups-in2 .ensures)
 
 pub gate-length-spec : {M : Type 1} → statement M

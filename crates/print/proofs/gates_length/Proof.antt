@@ -46,7 +46,9 @@ gate-length-requires : tie.Need-gate-length-requires Inv-loop μ-loop
 gate-length-requires c κs = search needs
 
 add-sum : tie.Need-add-sum Inv-loop μ-loop
-add-sum c = let s = c .before .before .before .before .before .loop in omega (arith, s .inv .few, s .inv .bound, c .gate-length .ensures .1)
+add-sum c =
+    let s = c .before .before .before .before .before .loop in
+    omega (arith, s .inv .few, s .inv .bound, c .gate-length .ensures .1)
 
 add-i : tie.Need-add-i Inv-loop μ-loop
 add-i c = search needs
@@ -60,7 +62,8 @@ loop-again c =
     let s = test .before .loop in
     let a = test .before .before .before .args in
     let count = c .gate-length in
-    one-counted (a .gates .now) (a .n) (s .sum) (s .i) (count .result) (s .inv) (test .loop-test .taken) (count .ensures .0) (count .ensures .1)
+    one-counted (a .gates .now) (a .n) (s .sum) (s .i) (count .result) (s .inv) (test .loop-test .taken) (count .ensures .0)
+    (count .ensures .1)
 
 returns : tie.Need-returns Inv-loop μ-loop
 returns c =

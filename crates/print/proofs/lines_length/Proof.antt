@@ -55,7 +55,8 @@ loop-again c =
     let s = test .before .loop in
     let a = test .before .before .before .args in
     let few = digits-ten (getD (a .table .now) (s .i) 0) (omega (arith, c .before .shared-slice-known2 .given (s .i))) in
-    one-counted (a .table .now) (a .k) (a .n) (s .sum) (s .i) (c .digits-in .result) (s .inv) (test .loop-test .taken) (c .digits-in .ensures)
+    one-counted (a .table .now) (a .k) (a .n) (s .sum) (s .i) (c .digits-in .result) (s .inv) (test .loop-test .taken)
+    (c .digits-in .ensures)
     (omega (arith, few, c .digits-in .ensures))
 
 returns : tie.Need-returns Inv-loop μ-loop

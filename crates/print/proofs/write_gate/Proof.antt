@@ -21,7 +21,11 @@ add-middle c =
     let d = c .before .before .before .before .above in
     let start = c .before .before .before .before .before .before .before in
     let a = start .args in
-    omega (arith, first-fits (a .out .now) (a .at) (a .lhs) (a .rhs0) (a .rhs1) (start .pre) (w .result) (w .last .0) (d .result) (d .ensures) (w .ensures) (b .result) (b .ensures))
+    omega (
+      arith,
+      first-fits (a .out .now) (a .at) (a .lhs) (a .rhs0) (a .rhs1) (start .pre) (w .result) (w .last .0)
+          (d .result) (d .ensures) (w .ensures) (b .result) (b .ensures),
+    )
 
 above-requires-2 : tie.Need-above-requires-2
 above-requires-2 c κs = search needs
@@ -44,7 +48,8 @@ add-result c =
     omega (
       arith,
       start .pre,
-      sides-end (a .out .now) (a .at) (a .lhs) (a .rhs0) (a .rhs1) (start .pre) (w .result) (w .last .0) (d .result) (d .ensures) (w .ensures) (b .result) (b .ensures)
+      sides-end (a .out .now) (a .at) (a .lhs) (a .rhs0) (a .rhs1) (start .pre) (w .result) (w .last .0) (d .result)
+          (d .ensures) (w .ensures) (b .result) (b .ensures)
           (w₂ .result) (w₂ .last .0) (e .result) (e .ensures) (w₂ .ensures) (c .bytes2 .result) (c .bytes2 .ensures),
     )
 
@@ -60,9 +65,11 @@ returns c =
     let a = start .args in
     let w₂ = c .before .before .before .write-difference2 in
     let e = c .before .before .before .before .above2 in (
-      sides-end (a .out .now) (a .at) (a .lhs) (a .rhs0) (a .rhs1) (start .pre) (w .result) (w .last .0) (d .result) (d .ensures) (w .ensures) (b .result) (b .ensures)
+      sides-end (a .out .now) (a .at) (a .lhs) (a .rhs0) (a .rhs1) (start .pre) (w .result) (w .last .0) (d .result)
+          (d .ensures) (w .ensures) (b .result) (b .ensures)
           (w₂ .result) (w₂ .last .0) (e .result) (e .ensures) (w₂ .ensures) (c .bytes2 .result) (c .bytes2 .ensures),
-      sides-put (a .out .now) (a .at) (a .lhs) (a .rhs0) (a .rhs1) (start .pre) (w .result) (w .last .0) (d .result) (d .ensures) (w .ensures) (b .result) (b .ensures)
+      sides-put (a .out .now) (a .at) (a .lhs) (a .rhs0) (a .rhs1) (start .pre) (w .result) (w .last .0) (d .result)
+          (d .ensures) (w .ensures) (b .result) (b .ensures)
           (w₂ .result) (w₂ .last .0) (e .result) (e .ensures) (w₂ .ensures) (c .bytes2 .result) (c .bytes2 .ensures),
     )
 

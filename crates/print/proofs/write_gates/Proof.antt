@@ -63,7 +63,8 @@ loop-again c =
     let test = c .before .before .before .before .before .before .before in
     let s = test .before .loop in
     let a = test .before .before .before .before .args in
-    one-printed (a .gates .now) (a .n) (a .out .now) (a .at) (s .out) (s .next) (s .i) (s .inv) _ _ (test .loop-test .taken) (wrote .1) (wrote .0)
+    one-printed (a .gates .now) (a .n) (a .out .now) (a .at) (s .out) (s .next) (s .i) (s .inv) _ _ (test .loop-test .taken)
+    (wrote .1) (wrote .0)
 
 same-length : tie.Need-same-length Inv-loop μ-loop
 same-length c = c .before .loop .inv .fill .size
@@ -71,8 +72,10 @@ same-length c = c .before .loop .inv .fill .size
 returns : tie.Need-returns Inv-loop μ-loop
 returns c =
     let s = c .before .loop in
-    let a = c .before .before .before .before .args in
-    (all-passed (a .gates .now) (a .n) (a .out .now) (a .at) (s .out) (s .next) (s .i) (s .inv) (c .loop-test .left), all-printed (a .gates .now) (a .n) (a .out .now) (a .at) (s .out) (s .next) (s .i) (s .inv) (c .loop-test .left))
+    let a = c .before .before .before .before .args in (
+      all-passed (a .gates .now) (a .n) (a .out .now) (a .at) (s .out) (s .next) (s .i) (s .inv) (c .loop-test .left),
+      all-printed (a .gates .now) (a .n) (a .out .now) (a .at) (s .out) (s .next) (s .i) (s .inv) (c .loop-test .left),
+    )
 
 pub write-gates-spec : {M : Type 1} → statement M
 write-gates-spec =

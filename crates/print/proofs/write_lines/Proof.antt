@@ -51,7 +51,8 @@ loop-again c =
     let test = wrote .before .before .before in
     let s = test .before .loop in
     let a = test .before .before .before .before .args in
-    one-printed (a .table .now) (a .k) (a .n) (a .out .now) (a .at) (s .out) (s .next) (s .left) (s .i) (s .inv) _ _ _ (test .loop-test .taken)
+    one-printed (a .table .now) (a .k) (a .n) (a .out .now) (a .at) (s .out) (s .next) (s .left) (s .i) (s .inv) _ _ _
+    (test .loop-test .taken)
     (wrote .write-word .ensures .1) (wrote .write-word .ensures .0) (c .following .ensures)
 
 same-length : tie.Need-same-length Inv-loop μ-loop

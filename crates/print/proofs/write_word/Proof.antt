@@ -17,7 +17,12 @@ add-end c =
     let wn = c .before .before .before .write-number in
     let start = c .before .before .before .before .before .before in
     let a = start .args in
-    omega (arith, start .pre, word-ends (a .out .now) (a .at) (a .left) (a .word) (wn .result) (wn .last .0) (start .pre) (wn .ensures) (b .result) (b .ensures))
+    omega (
+      arith,
+      start .pre,
+      word-ends (a .out .now) (a .at) (a .left) (a .word) (wn .result) (wn .last .0) (start .pre)
+          (wn .ensures) (b .result) (b .ensures),
+    )
 
 end-of-requires : tie.Need-end-of-requires
 end-of-requires c κs = search needs
@@ -28,7 +33,13 @@ slice-write-out c =
     let wn = c .before .before .before .before .write-number in
     let start = c .before .before .before .before .before .before .before in
     let a = start .args in
-    omega (arith, start .pre, word-ends (a .out .now) (a .at) (a .left) (a .word) (wn .result) (wn .last .0) (start .pre) (wn .ensures) (b .result) (b .ensures), c .before .before .before .out .given)
+    omega (
+      arith,
+      start .pre,
+      word-ends (a .out .now) (a .at) (a .left) (a .word) (wn .result) (wn .last .0) (start .pre)
+          (wn .ensures) (b .result) (b .ensures),
+      c .before .before .before .out .given,
+    )
 
 add-result : tie.Need-add-result
 add-result c =
@@ -36,7 +47,12 @@ add-result c =
     let wn = c .before .before .before .before .write-number in
     let start = c .before .before .before .before .before .before .before in
     let a = start .args in
-    omega (arith, start .pre, word-ends (a .out .now) (a .at) (a .left) (a .word) (wn .result) (wn .last .0) (start .pre) (wn .ensures) (b .result) (b .ensures))
+    omega (
+      arith,
+      start .pre,
+      word-ends (a .out .now) (a .at) (a .left) (a .word) (wn .result) (wn .last .0) (start .pre)
+          (wn .ensures) (b .result) (b .ensures),
+    )
 
 same-length : tie.Need-same-length
 same-length c = search needs
@@ -48,7 +64,8 @@ returns c =
     let start = c .before .before .before .before .before .before .before in
     let a = start .args in (
       word-ends (a .out .now) (a .at) (a .left) (a .word) (wn .result) (wn .last .0) (start .pre) (wn .ensures) (b .result) (b .ensures),
-      word-put (a .out .now) (a .at) (a .left) (a .word) (wn .result) (wn .last .0) (start .pre) (wn .ensures) (b .result) (b .ensures) _ (c .end-of .ensures),
+      word-put (a .out .now) (a .at) (a .left) (a .word) (wn .result) (wn .last .0) (start .pre) (wn .ensures) (b .result)
+          (b .ensures) _ (c .end-of .ensures),
     )
 
 pub write-word-spec : {M : Type 1} → statement M
