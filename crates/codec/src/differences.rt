@@ -48,7 +48,7 @@ pub fn read_difference(file: &[u8], at: usize) -> Difference
 }
 
 // How many groups a number has: up to five, of 32 bits.
-fn groups_in(d: u32) -> usize
+pub fn groups_in(d: u32) -> usize
     ensures { λ r. ⌜ r ≡ length (groupsOf d) ⌝ }
 {
     if d < 128 {

@@ -52,7 +52,7 @@ pub fn read_number(file: &[u8], at: usize) -> Number
 }
 
 // How many digits a number has.
-fn digits_in(n: u32) -> usize
+pub fn digits_in(n: u32) -> usize
     ensures { λ r. ⌜ r ≡ length (digits n) ⌝ }
 {
     if n < 10 {

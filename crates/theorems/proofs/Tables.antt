@@ -43,7 +43,7 @@ module _ {A : Type 0} where
       ∙ ap₂ (λ (xs : List A) (x : A). xs ++ (x ∷ [])) (rows-firsts k f at t e n) (e n))
 
 -- word j of row i
-row-word : (k : ℕ) (t : List ℕ) (i j : ℕ) → j < k → getD (rowAt k t i) j 0 ≡ getD t (k * i + j) 0
+pub row-word : (k : ℕ) (t : List ℕ) (i j : ℕ) → j < k → getD (rowAt k t i) j 0 ≡ getD t (k * i + j) 0
 row-word k t i j h = getD-take k (drop (k * i) t) j 0 h ∙ getD-drop (k * i) t j 0
 
 -- gates

@@ -1,0 +1,6 @@
+-- What the proofs of lines and gates use.
+pub mod Lines
+pub mod Filling
+pub mod Sizes
+pub mod Turns
+pub mod Gates

@@ -1,0 +1,120 @@
+-- The loops over the words of lines: one turn takes one word.
+use Prim.Native.Nat.{ℕ, suc, _+_, _*_, _-_, _<_, _≤_}
+use mathlib.Core.Path.{_≡_, refl, sym, ap, ap₂, subst, _∙_}
+use mathlib.Core.List.{List, [], _∷_, _++_}
+use native.Mathlib.Omega.{arith}
+use lib.ListN.{length, getD, set, length-append}
+use Rattle.plan.specs.declared.Written.{Written}
+use Rattle.plan.specs.Circuit.{rowsOf}
+use Rattle.plan.specs.Bytes.{digits, endOf, linesOf}
+use Rattle.plan.specs.Outcome.{WriteExit, put, putBytes}
+use Rattle.theorems.proofs.Put.{put-one, put-put, put-length}
+use Rattle.print.specs.Words.{bytesIn, following, wordBytes, wordsFrom}
+use Rattle.print.proofs.Lines.{lines-words}
+use Rattle.print.proofs.Filling.{Filling, none-filled, part-room, part-filled, all-filled, all-ends, wrote-bytes, wrote-out}
+
+word-length : (j w : ℕ) → length (wordBytes j w) ≡ length (digits w) + 1
+word-length j w = length-append (digits w) (endOf j ∷ [])
+
+-- a number and then the byte after it
+module _ (out : List ℕ) (at j w : ℕ) (answer : Written) (out' : List ℕ) (fits : at + length (wordBytes j w) ≤ length out)
+    (says : _≡_ {A = WriteExit} (record { answer = answer; out = out' }) (putBytes out at (digits w)))
+    (count : ℕ) (count-is : count ≡ bytesIn answer) where
+  count-digits : count ≡ length (digits w)
+  count-digits = count-is ∙ wrote-bytes out at (digits w) answer out' (omega (arith, word-length j w)) says
+
+  pub word-ends : at + count + 1 ≡ at + length (wordBytes j w)
+  word-ends = omega (arith, word-length j w, count-digits)
+
+  pub word-put : (byte : ℕ) → byte ≡ endOf j → set out' (at + count) byte ≡ put out at (wordBytes j w)
+  word-put byte e =
+      let d : List ℕ = digits w in
+      let long : length (wordBytes j w) ≡ length d + 1 = word-length j w in
+      let room : at + length d ≤ length out = omega arith in
+      let same : length (put out at d) ≡ length out = put-length out at d room in
+      ap (λ (l : List ℕ). set l (at + count) byte) (wrote-out out at d answer out' room says)
+      ∙ (ap₂ (λ (k b : ℕ). set (put out at d) (at + k) b) count-digits e
+      ∙ (put-one (put out at d) (at + length d) (endOf j) (omega arith) ∙ put-put out at d (endOf j ∷ []) fits))
+
+-- the bytes of the first i words are counted
+pub record Counted (t : List ℕ) (k n sum i : ℕ) : Type 0 where
+  pub left : ℕ
+  pub bound : i ≤ k * n
+  pub few : sum ≤ 11 * i
+  pub total : sum + length (wordsFrom t (k - 1) (k * n - i) left i) ≡ length (linesOf (rowsOf k n t))
+
+-- the bytes of the first i words are written
+pub record Printed (t : List ℕ) (k n : ℕ) (out₀ : List ℕ) (at : ℕ) (out : List ℕ) (next left i : ℕ) : Type 0 where
+  pub bound : i ≤ k * n
+  pub fill : Filling out₀ at (linesOf (rowsOf k n t)) out next (wordsFrom t (k - 1) (k * n - i) left i)
+
+module _ (t : List ℕ) (k n : ℕ) where
+  whole : 0 < k → k * n ≤ length t → wordsFrom t (k - 1) (k * n - 0) (k - 1) 0 ≡ linesOf (rowsOf k n t)
+  whole some inside =
+      let all : k * n - 0 ≡ k * n = omega arith in
+      ap (λ (m : ℕ). wordsFrom t (k - 1) m (k - 1) 0) all ∙ lines-words t (k - 1) k n 0 (k * n) (omega arith) refl (omega arith)
+
+  -- the word at i, then the rest
+  abbrev rest : ℕ → ℕ → List ℕ
+  rest j i = wordsFrom t (k - 1) (k * n - (i + 1)) (following (k - 1) j) (i + 1)
+
+  one-word : (j i : ℕ) → i < k * n → wordsFrom t (k - 1) (k * n - i) j i ≡ wordBytes j (getD t i 0) ++ rest j i
+  one-word j i h =
+      let more : k * n - i ≡ suc (k * n - (i + 1)) = omega arith in
+      ap (λ (m : ℕ). wordsFrom t (k - 1) m j i) more
+
+  no-word : (j i : ℕ) → k * n ≤ i → wordsFrom t (k - 1) (k * n - i) j i ≡ []
+  no-word j i h =
+      let none : k * n - i ≡ 0 = omega arith in
+      ap (λ (m : ℕ). wordsFrom t (k - 1) m j i) none
+
+  pub none-counted : 0 < k → k * n ≤ length t → Counted t k n 0 0
+  none-counted some inside =
+      let w = ap length (whole some inside) in
+      record { left = k - 1; bound = omega arith; few = omega arith; total = omega (arith, w) }
+
+  pub one-counted : (sum i d : ℕ) → Counted t k n sum i → i < k * n → d ≡ length (digits (getD t i 0)) → d ≤ 10
+      → Counted t k n (sum + d + 1) (i + 1)
+  one-counted sum i d s h d-is d-few =
+      let j : ℕ = s .left in
+      let size : length (wordsFrom t (k - 1) (k * n - i) j i) ≡ length (wordBytes j (getD t i 0)) + length (rest j i)
+      = ap length (one-word j i h) ∙ length-append (wordBytes j (getD t i 0)) (rest j i) in
+      let one : length (wordBytes j (getD t i 0)) ≡ length (digits (getD t i 0)) + 1 = word-length j (getD t i 0) in
+      let before : sum + length (wordsFrom t (k - 1) (k * n - i) j i) ≡ length (linesOf (rowsOf k n t)) = s .total in
+      let few : sum ≤ 11 * i = s .few in
+      let total : sum + d + 1 + length (rest j i) ≡ length (linesOf (rowsOf k n t)) = omega arith in
+      record { left = following (k - 1) j; bound = omega arith; few = omega arith; total = total }
+
+  pub all-counted : (sum i : ℕ) → Counted t k n sum i → k * n ≤ i → sum ≡ length (linesOf (rowsOf k n t))
+  all-counted sum i s h = omega (arith, s .total, ap length (no-word (s .left) i h))
+
+  pub none-printed : (out : List ℕ) (at : ℕ) → 0 < k → k * n ≤ length t → at + length (linesOf (rowsOf k n t)) ≤ length out
+      → Printed t k n out at out at (k - 1) 0
+  none-printed out at some inside fits = record {
+    bound = omega arith;
+    fill =
+        subst (λ (l : List ℕ). Filling out at (linesOf (rowsOf k n t)) out at l) (sym (whole some inside))
+        (none-filled out at (linesOf (rowsOf k n t)) fits);
+  }
+
+  module _ (out₀ : List ℕ) (at : ℕ) (out : List ℕ) (next left i : ℕ) (s : Printed t k n out₀ at out next left i) where
+    pub word-fits : i < k * n → next + length (wordBytes left (getD t i 0)) ≤ length out
+    word-fits h = part-room (s .fill) (wordBytes left (getD t i 0)) (rest left i) (one-word left i h)
+
+    pub one-printed : (out' : List ℕ) (next' left' : ℕ) → i < k * n → out' ≡ put out next (wordBytes left (getD t i 0))
+        → next' ≡ next + length (wordBytes left (getD t i 0)) → left' ≡ following (k - 1) left
+        → Printed t k n out₀ at out' next' left' (i + 1)
+    one-printed out' next' left' h o p q = record {
+      bound = omega arith;
+      fill =
+          subst
+          (λ (j : ℕ). Filling out₀ at (linesOf (rowsOf k n t)) out' next' (wordsFrom t (k - 1) (k * n - (i + 1)) j (i + 1)))
+          (sym q)
+          (part-filled (s .fill) (wordBytes left (getD t i 0)) (rest left i) out' next' (one-word left i h) o p);
+    }
+
+    pub all-printed : k * n ≤ i → out ≡ put out₀ at (linesOf (rowsOf k n t))
+    all-printed h = all-filled (s .fill) (no-word left i h)
+
+    pub all-passed : k * n ≤ i → next ≡ at + length (linesOf (rowsOf k n t))
+    all-passed h = all-ends (s .fill) (no-word left i h)

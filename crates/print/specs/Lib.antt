@@ -1,0 +1,2 @@
+-- What the writing of lines and gates is stated with.
+pub mod Words

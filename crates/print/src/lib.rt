@@ -1,0 +1,154 @@
+// Lines of literals and gates of the binary form, written into a buffer that has room (the paper, writing; AIGER report,
+// sections 7 and 12). A writer asks for the length first, so that nothing is written where the buffer is too short.
+ghost use mathlib.Core.Path.{_≡_};
+ghost use mathlib.Core.List.{map};
+ghost use Prim.Native.Nat.{_+_, _-_, _*_, _<_, _≤_};
+ghost use lib.ListN.{length};
+ghost use Rattle.plan.specs.Circuit.{rowsOf, gateOf};
+ghost use Rattle.plan.specs.Bytes.{endOf, linesOf};
+ghost use Rattle.plan.specs.Binary.{gateBytes};
+ghost use Rattle.plan.specs.Outcome.{put};
+ghost use Rattle.print.specs.Words.{bytesIn, following, wordBytes, sidesBytes};
+use codec::differences;
+use codec::numbers;
+use plan::Lit;
+use plan::Written;
+
+// The bytes that a writer wrote.
+fn bytes(answer: Written) -> usize
+    ensures { λ r. ⌜ r ≡ bytesIn answer ⌝ }
+{
+    match answer {
+        Written::Bytes(n) => n,
+        Written::Refused(_) => 0,
+    }
+}
+
+// What stands after a number: a space if more follow in its line, the new line after the last.
+fn end_of(left: usize) -> u8
+    ensures { λ r. ⌜ r ≡ endOf left ⌝ }
+{
+    if left == 0 {
+        return 10;
+    }
+    32
+}
+
+// How many words follow the next one in its line.
+fn following(last: usize, left: usize) -> usize
+    ensures { λ r. ⌜ r ≡ following last left ⌝ }
+{
+    if left == 0 {
+        return last;
+    }
+    left - 1
+}
+
+// The bytes of n lines of k words.
+pub fn lines_length(table: &[u32], k: usize, n: usize) -> usize
+    requires { ⌜ 0 < k ⌝ }
+    requires { ⌜ k * n ≤ length (now table) ⌝ }
+    requires { ⌜ k * n ≤ 16777216 ⌝ }
+    ensures { λ r. ⌜ r ≡ length (linesOf (rowsOf k n (now (table .entry)))) ⌝ }
+{
+    let words = k * n;
+    let mut sum: usize = 0;
+    let mut i = 0;
+    while i < words {
+        sum = sum + numbers::digits_in(table[i]) + 1;
+        i += 1;
+    }
+    sum
+}
+
+// One number and what stands after it; the position after both.
+fn write_word(out: &mut [u8], at: usize, word: u32, left: usize) -> usize
+    requires { ⌜ at + length (wordBytes left word) ≤ length (now out) ⌝ }
+    ensures { λ r. ⌜ r ≡ at + length (wordBytes left word) ⌝ }
+    ensures { λ _. ⌜ now (out .exit) ≡ put (now (out .entry)) at (wordBytes left word) ⌝ }
+{
+    let end = at + bytes(numbers::write_number(out, at, word));
+    out[end] = end_of(left);
+    end + 1
+}
+
+// n lines of k words from a position on; the position after them.
+pub fn write_lines(out: &mut [u8], at: usize, table: &[u32], k: usize, n: usize) -> usize
+    requires { ⌜ 0 < k ⌝ }
+    requires { ⌜ k * n ≤ length (now table) ⌝ }
+    requires { ⌜ k * n ≤ 16777216 ⌝ }
+    requires { ⌜ at + length (linesOf (rowsOf k n (now table))) ≤ length (now out) ⌝ }
+    ensures { λ r. ⌜ r ≡ at + length (linesOf (rowsOf k n (now (table .entry)))) ⌝ }
+    ensures { λ _. ⌜ now (out .exit) ≡ put (now (out .entry)) at (linesOf (rowsOf k n (now (table .entry)))) ⌝ }
+{
+    let words = k * n;
+    let last = k - 1;
+    let mut next = at;
+    let mut left = last;
+    let mut i = 0;
+    while i < words {
+        next = write_word(out, next, table[i], left);
+        left = following(last, left);
+        i += 1;
+    }
+    next
+}
+
+// How far a literal lies above another.
+fn above(a: u32, b: u32) -> u32
+    ensures { λ r. ⌜ r ≡ a - b ⌝ }
+{
+    Lit::at(a).minus(Lit::at(b))
+}
+
+// The bytes of one gate: of lhs - rhs0 and of rhs0 - rhs1.
+fn gate_length(lhs: u32, rhs0: u32, rhs1: u32) -> usize
+    ensures { λ r. ⌜ r ≡ length (sidesBytes lhs rhs0 rhs1) ⌝ }
+    ensures { λ r. ⌜ r ≤ 10 ⌝ }
+{
+    differences::groups_in(above(lhs, rhs0)) + differences::groups_in(above(rhs0, rhs1))
+}
+
+// The bytes of n gates of three words.
+pub fn gates_length(gates: &[u32], n: usize) -> usize
+    requires { ⌜ 3 * n ≤ length (now gates) ⌝ }
+    requires { ⌜ 3 * n ≤ 16777216 ⌝ }
+    ensures { λ r. ⌜ r ≡ length (gateBytes (map gateOf (rowsOf 3 n (now (gates .entry))))) ⌝ }
+{
+    let mut sum: usize = 0;
+    let mut i = 0;
+    while i < n {
+        let k = 3 * i;
+        sum += gate_length(gates[k], gates[k + 1], gates[k + 2]);
+        i += 1;
+    }
+    sum
+}
+
+// One gate: lhs - rhs0, then rhs0 - rhs1; the position after both.
+fn write_gate(out: &mut [u8], at: usize, lhs: u32, rhs0: u32, rhs1: u32) -> usize
+    requires { ⌜ at + length (sidesBytes lhs rhs0 rhs1) ≤ length (now out) ⌝ }
+    ensures { λ r. ⌜ r ≡ at + length (sidesBytes lhs rhs0 rhs1) ⌝ }
+    ensures { λ _. ⌜ now (out .exit) ≡ put (now (out .entry)) at (sidesBytes lhs rhs0 rhs1) ⌝ }
+{
+    let middle = at + bytes(differences::write_difference(out, at, above(lhs, rhs0)));
+    middle + bytes(differences::write_difference(out, middle, above(rhs0, rhs1)))
+}
+
+// n gates of three words from a position on; the position after them.
+pub fn write_gates(out: &mut [u8], at: usize, gates: &[u32], n: usize) -> usize
+    requires { ⌜ 3 * n ≤ length (now gates) ⌝ }
+    requires { ⌜ 3 * n ≤ 16777216 ⌝ }
+    requires { ⌜ at + length (gateBytes (map gateOf (rowsOf 3 n (now gates)))) ≤ length (now out) ⌝ }
+    ensures { λ r. ⌜ r ≡ at + length (gateBytes (map gateOf (rowsOf 3 n (now (gates .entry))))) ⌝ }
+    ensures { λ _. ⌜ now (out .exit) ≡ put (now (out .entry)) at (gateBytes (map gateOf (rowsOf 3 n (now (gates .entry))))) ⌝ }
+{
+    let mut next = at;
+    let mut i = 0;
+    while i < n {
+        let k = 3 * i;
+        next = write_gate(out, next, gates[k], gates[k + 1], gates[k + 2]);
+        i += 1;
+    }
+    next
+}
