@@ -1,16 +1,15 @@
 -- The stages of the checks of given tables: the first that refuses is the answer.
 use Prim.Native.Nat.{ℕ}
-use mathlib.Core.Path.{_≡_, refl, ap, _∙_}
+use mathlib.Core.Path.{_≡_}
 use mathlib.Core.Bool.{true, false}
-use mathlib.Core.Option.{Option, none, some}
-use mathlib.Core.List.{List, [], _∷_}
-use Rattle.plan.specs.declared.Refusal.{Refusal}
-use Rattle.plan.specs.declared.Refusal.the-variants.{LargeCount, WrongSum, ShortTable, OutOfRange, DefinedTwice, NotDefined, Cyclic}
-use Rattle.plan.specs.Refusals.{stage, firstOf}
+use mathlib.Core.Option.{none, some}
+use mathlib.Core.List.{List}
+use Rattle.plan.specs.declared.Refusal.the-variants.{LargeCount, WrongSum, ShortTable}
+use Rattle.plan.specs.Refusals.{firstOf}
 use Rattle.plan.specs.Circuit.{Lent, short}
 use Rattle.plan.specs.Header.{text, listOf, over, adds}
-use Rattle.plan.specs.Depends.{undefinedIn, cyclicIn}
-use Rattle.plan.specs.Given.{Given, given, counted, outsideIn, twiceIn, stages}
+use Rattle.plan.specs.Given.{Given, counted, stages}
+use Rattle.given.specs.Judged.{circuitStages}
 
 module _ (g : Given) (lent : List Lent) where
   pub at-two : (k : ℕ) → over (counted 1 (listOf (g .counts))) ≡ some k → firstOf (stages g lent) ≡ some (LargeCount k)
@@ -25,14 +24,6 @@ module _ (g : Given) (lent : List Lent) where
       at-four k e = rw (e2, e3, e)
 
       module _ (e4 : short lent ≡ none) where
-        pub at-five : (k : ℕ) → outsideIn (given g) ≡ some k → firstOf (stages g lent) ≡ some (OutOfRange k)
-        at-five k e = rw (e2, e3, e4, e)
-
-        module _ (e5 : outsideIn (given g) ≡ none) where
-          pub at-six : (k : ℕ) → twiceIn (given g) ≡ some k → firstOf (stages g lent) ≡ some (DefinedTwice k)
-          at-six k e = rw (e2, e3, e4, e5, e)
-
-          -- what is left is 7, then 8
-          pub past-six : twiceIn (given g) ≡ none
-              → firstOf (stages g lent) ≡ firstOf (stage NotDefined (undefinedIn (given g)) ∷ stage Cyclic (cyclicIn (given g)) ∷ [])
-          past-six e = rw (e2, e3, e4, e5, e)
+        -- what is left is the circuit
+        pub past-four : firstOf (stages g lent) ≡ firstOf (circuitStages (g .counts) (g .tables))
+        past-four = rw (e2, e3, e4)
