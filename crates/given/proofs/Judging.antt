@@ -1,8 +1,8 @@
 -- 5, 6, 7, 8 over the circuit that the tables hold; and the answers from the counts on.
-use Prim.Native.Nat.{ℕ, suc, zero, _+_, _*_, _<_, _≤_}
-use mathlib.Core.Path.{_≡_, refl, sym, ap, _∙_}
+use Prim.Native.Nat.{ℕ, _+_, _*_, _<_, _≤_}
+use mathlib.Core.Path.{_≡_, refl, sym, ap}
 use mathlib.Core.Bool.{Bool, true, false, cond}
-use mathlib.Core.Option.{Option, none, some}
+use mathlib.Core.Option.{none, some}
 use mathlib.Core.List.{List, [], _∷_, _++_}
 use native.Mathlib.Omega.{arith}
 use borrow.Author.Tests.{leb-true}
@@ -19,7 +19,6 @@ use Rattle.plan.specs.Circuit.{Circuit, Tables, circuitOf, definedIn, against, 
 use Rattle.plan.specs.Header.{text, listOf, over, adds}
 use Rattle.plan.specs.Given.{counted, outsideIn, twiceIn, stages, lentAlone}
 use Rattle.plan.specs.Outcome.{checkedBy}
-use Rattle.tables.specs.Lengths.{tableOf}
 use Rattle.theorems.proofs.Marks.{Agrees}
 use Rattle.theorems.proofs.Reading.Headers.{AllMost}
 use Rattle.theorems.proofs.Reading.Short.{short-none}
@@ -28,17 +27,6 @@ use Rattle.once.specs.Twice.{Ranged}
 use Rattle.once.proofs.Defined.{all-new}
 use Rattle.closing.specs.Read.{Read, closing}
 use Rattle.given.specs.Judged.{Fits, circuitStages}
-
--- an answer that names a table, or none
-table-some : (k : ℕ) → (k ≡ 0 → ⊥) → tableOf k ≡ some k
-table-some zero h = absurd (h refl)
-table-some (suc k) h = refl
-
-pub some-table : (k : ℕ) (o : Option ℕ) → (k ≡ 0 → ⊥) → tableOf k ≡ o → o ≡ some k
-some-table k o h e = sym e ∙ table-some k h
-
-pub no-table : (k : ℕ) (o : Option ℕ) → k ≡ 0 → tableOf k ≡ o → o ≡ none
-no-table k o h e = sym e ∙ ap tableOf h
 
 module _ (n : Counts) (t : Tables) where
   pub at-five : (k : ℕ) → outsideIn (circuitOf n t) ≡ some k → checked.Refused (OutOfRange k) ≡ checkedBy (firstOf (circuitStages n t))

@@ -1,8 +1,8 @@
 -- From the header's answer, 4 and the rest to the whole answer.
-use Prim.Native.Nat.{ℕ, suc, zero, _+_, _≤_}
+use Prim.Native.Nat.{ℕ, _+_, _≤_}
 use mathlib.Core.Path.{_≡_, refl, sym, ap, _∙_, subst}
 use mathlib.Core.Bool.{Bool, true, false}
-use mathlib.Core.Option.{Option, none, some}
+use mathlib.Core.Option.{none, some}
 use mathlib.Core.List.{List}
 use native.Mathlib.Omega.{arith}
 use borrow.Author.Tests.{eqb-true, leb-true}
@@ -28,7 +28,6 @@ use Rattle.theorems.proofs.Reading.Short.{short-none}
 use Rattle.theorems.proofs.Reading.Texts.{text-took}
 use Rattle.theorems.proofs.Reading.Binaries.{binary-took}
 use Rattle.header.specs.Parts.{formOf}
-use Rattle.tables.specs.Lengths.{tableOf}
 use Rattle.read.specs.Rest.{rest, Room, lengths, LoadedSays}
 use Rattle.read.proofs.After.{body-passed, body-refused}
 
@@ -85,17 +84,6 @@ binary-sum n b e h = eqb-true _ _ (subst (λ (x : Bool). adds (formOf x) n ≡ t
 
 pub text-sum : (n : Counts) (b : Bool) → b ≡ false → adds (formOf b) n ≡ true → n .I + n .L + n .A ≤ n .M
 text-sum n b e h = leb-true _ _ (subst (λ (x : Bool). adds (formOf x) n ≡ true) e h)
-
--- what 4 answers: a table, or room for all
-table-some : (k : ℕ) → (k ≡ 0 → ⊥) → tableOf k ≡ some k
-table-some zero h = absurd (h refl)
-table-some (suc k) h = refl
-
-pub some-table : (k : ℕ) (o : Option ℕ) → (k ≡ 0 → ⊥) → tableOf k ≡ o → o ≡ some k
-some-table k o h e = sym e ∙ table-some k h
-
-pub no-table : (k : ℕ) (o : Option ℕ) → k ≡ 0 → tableOf k ≡ o → o ≡ none
-no-table k o h e = sym e ∙ ap tableOf h
 
 pub room-for : (n : Counts) (t : Tables) (scratch : List ℕ) → AllMost (listOf n) → short (against 1 (wordsToRead n) (lengths t scratch)) ≡ none
     → ((i : ℕ) → getD scratch i 0 ≡ 0) → Room n t scratch

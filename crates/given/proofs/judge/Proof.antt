@@ -4,7 +4,8 @@ use borrow.Author.Tests.{not-true, not-false}
 use Rattle.plan.specs.Circuit.{Tables}
 use Rattle.plan.specs.Given.{Given, lentAlone}
 use Rattle.plan.specs.Outcome.{checkedBy}
-use Rattle.given.proofs.Judging.{some-table, no-table, small-counts, fits}
+use Rattle.tables.proofs.Told.{some-table, no-table}
+use Rattle.given.proofs.Judging.{small-counts, fits}
 use Rattle.given.proofs.Stages.{at-two, at-three, at-four, past-four}
 use Rattle.given.proofs.judge.Statement.{statement}
 use Rattle.given.proofs.judge.Tie as tie

@@ -1,7 +1,8 @@
 use borrow.Author.Needs.{needs}
 use mathlib.Core.Path.{_≡_, _∙_}
 use Rattle.plan.specs.Circuit.{Tables}
-use Rattle.given.proofs.Judging.{some-table, no-table, at-five, at-six, past-six, ranged, judged}
+use Rattle.tables.proofs.Told.{some-table, no-table}
+use Rattle.given.proofs.Judging.{at-five, at-six, past-six, ranged, judged}
 use Rattle.given.proofs.judge_circuit.Statement.{statement}
 use Rattle.given.proofs.judge_circuit.Tie as tie
 

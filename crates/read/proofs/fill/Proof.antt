@@ -3,7 +3,8 @@ use mathlib.Core.Path.{sym, _∙_}
 use Rattle.plan.specs.Circuit.{Tables}
 use Rattle.header.specs.Parts.{formOf}
 use Rattle.header.proofs.Accepted.{accepted, not-accepted}
-use Rattle.read.proofs.Fills.{header-told, short-told, rest-refused, rest-accepted, some-table, no-table, room-for}
+use Rattle.read.proofs.Fills.{header-told, short-told, rest-refused, rest-accepted, room-for}
+use Rattle.tables.proofs.Told.{some-table, no-table}
 use Rattle.read.proofs.fill.Statement.{statement}
 use Rattle.read.proofs.fill.Tie as tie
 
