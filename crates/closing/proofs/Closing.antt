@@ -32,7 +32,8 @@ use Rattle.order.specs.Waiting.{Room, Fresh, Unmarked}
 use Rattle.order.proofs.Spaces.{all-places, words-enough, gates-inside}
 use Rattle.order.proofs.Settling.{small-words}
 use Rattle.closing.specs.Leaves.{leavesOf, Leaves, Numbered}
-use Rattle.closing.specs.Read.{circuitIn, closing, Read}
+use Rattle.tables.specs.Held.{circuitIn}
+use Rattle.closing.specs.Read.{closing, Read}
 use Rattle.closing.proofs.Leaving.{leaves-count}
 
 module _ {n : Counts} {inputs latches outputs gates scratch : List ℕ} {base : ℕ} (p : Read n inputs latches outputs gates scratch base) where

@@ -10,13 +10,10 @@ use Rattle.plan.specs.declared.Refusal.{Refusal}
 use Rattle.plan.specs.declared.Refusal.the-variants.{NotDefined, Cyclic}
 use Rattle.plan.specs.Literals.{most}
 use Rattle.plan.specs.Refusals.{stage, firstOf}
-use Rattle.plan.specs.Circuit.{Circuit, circuitOf, oneLine, latchLine, gateLine, definedIn, allNew, allInside}
+use Rattle.plan.specs.Circuit.{Circuit, oneLine, latchLine, gateLine, definedIn, allNew, allInside}
 use Rattle.plan.specs.Depends.{undefinedIn, cyclicIn}
 use Rattle.theorems.proofs.Marks.{Agrees}
-
--- the circuit that tables 1 to 4 hold
-abbrev pub circuitIn : Counts → List ℕ → List ℕ → List ℕ → List ℕ → Circuit
-circuitIn n inputs latches outputs gates = circuitOf n (record { inputs = inputs; latches = latches; outputs = outputs; gates = gates })
+use Rattle.tables.specs.Held.{circuitIn}
 
 -- 7, then 8
 abbrev pub closing : Circuit → Option Refusal

@@ -7,10 +7,11 @@ use mathlib.Core.List.{List, _++_, map}
 use lib.ListN.{length, getD, take}
 use Rattle.plan.specs.declared.Counts.{Counts}
 use Rattle.plan.specs.Literals.{most}
-use Rattle.plan.specs.Circuit.{Circuit, circuitOf, latchOf, gateOf, rowsOf, oneLine, latchLine, gateLine, definedIn, allNew, allInside}
+use Rattle.plan.specs.Circuit.{latchOf, gateOf, rowsOf, oneLine, latchLine, gateLine, definedIn, allNew, allInside}
 use Rattle.plan.specs.Given.{twiceIn}
 use Rattle.theorems.proofs.Marks.{Agrees}
 use Rattle.tables.specs.Lengths.{tableOf}
+use Rattle.tables.specs.Held.{circuitIn}
 
 -- what rows that define these variables answer, after the variables `seen`: whether one of them was seen already; if none was,
 -- they are marked too
@@ -30,12 +31,8 @@ pub record Ranged (n : Counts) (inputs latches gates marks : List ℕ) : Type 0 
   pub gates-inside : allInside true (n .M) (map gateLine (map gateOf (rowsOf 3 (n .A) gates))) ≡ true
   pub blank : (v : ℕ) → v ≤ n .M → getD marks v 0 ≡ 0
 
--- the circuit that tables hold
-abbrev pub tabled : Counts → List ℕ → List ℕ → List ℕ → List ℕ → Circuit
-tabled n inputs latches outputs gates = circuitOf n (record { inputs = inputs; latches = latches; outputs = outputs; gates = gates })
-
 -- 6 names the table that is answered, whatever the outputs are; without 6, each variable that is defined has a mark
 pub record TwiceSays (n : Counts) (inputs latches gates : List ℕ) (r : ℕ) (marks′ : List ℕ) : Type 0 where
-  pub told : (outputs : List ℕ) → tableOf r ≡ twiceIn (tabled n inputs latches outputs gates)
-  pub marked : (outputs : List ℕ) → twiceIn (tabled n inputs latches outputs gates) ≡ none
-      → Agrees (n .M) (definedIn (tabled n inputs latches outputs gates)) marks′
+  pub told : (outputs : List ℕ) → tableOf r ≡ twiceIn (circuitIn n inputs latches outputs gates)
+  pub marked : (outputs : List ℕ) → twiceIn (circuitIn n inputs latches outputs gates) ≡ none
+      → Agrees (n .M) (definedIn (circuitIn n inputs latches outputs gates)) marks′

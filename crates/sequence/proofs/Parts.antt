@@ -12,7 +12,8 @@ use Rattle.plan.specs.Circuit.{oneLine, latchLine, gateLine, literalOf, latchOf
 use Rattle.plan.specs.Binary.{runs, falls, binaryOrder}
 use Rattle.theorems.proofs.Reading.Runs.{all-runs}
 use Rattle.theorems.proofs.Tables.{length-firsts, words-take, words-rows, latches-rows, gates-rows}
-use Rattle.sequence.specs.Tables.{circuitIn, Long}
+use Rattle.tables.specs.Held.{circuitIn}
+use Rattle.sequence.specs.Tables.{Long}
 
 -- rows that are read and written again define the same variables
 runs-through : {A : Type 0} (read : List ℕ → A) (line : A → List ℕ) → ((row : List ℕ) → literalOf (line (read row)) ≡ literalOf row)

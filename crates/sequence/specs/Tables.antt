@@ -4,11 +4,6 @@ use mathlib.Core.List.{List}
 use lib.ListN.{length}
 use Rattle.plan.specs.declared.Counts.{Counts}
 use Rattle.plan.specs.Literals.{most}
-use Rattle.plan.specs.Circuit.{Circuit, circuitOf}
-
--- the circuit that tables 1 to 4 hold
-abbrev pub circuitIn : Counts → List ℕ → List ℕ → List ℕ → List ℕ → Circuit
-circuitIn n inputs latches outputs gates = circuitOf n (record { inputs = inputs; latches = latches; outputs = outputs; gates = gates })
 
 pub record Long (n : Counts) (inputs latches gates : List ℕ) : Type 0 where
   pub most-M : n .M ≤ most

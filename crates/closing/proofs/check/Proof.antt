@@ -15,7 +15,7 @@ use Rattle.theorems.proofs.Marks.{zeros}
 use Rattle.theorems.proofs.Running.Ascending.{ascends-none}
 use Rattle.used.specs.Least.{missingOf}
 use Rattle.closing.specs.Leaves.{Leaves}
-use Rattle.closing.specs.Read.{circuitIn}
+use Rattle.tables.specs.Held.{circuitIn}
 use Rattle.closing.proofs.Leaving.{leaves-count}
 use Rattle.closing.proofs.Closing.{next-up, output-up, first-up, second-up, part-long, part-marked, once, used, leaves-ask, room, fresh, unmarked, by-missing, by-cycle}
 use Rattle.closing.proofs.check.Statement.{statement}
