@@ -13,3 +13,15 @@ some-table k o h e = sym e ∙ told k h
 
 pub no-table : (k : ℕ) (o : Option ℕ) → k ≡ 0 → tableOf k ≡ o → o ≡ none
 no-table k o h e = sym e ∙ ap tableOf h
+
+-- no second number tells the same
+abbrev number : Option ℕ → ℕ
+number none = 0
+number (some k) = k
+
+back : (k : ℕ) → number (tableOf k) ≡ k
+back zero = refl
+back (suc k) = refl
+
+pub told-once : (j k : ℕ) → tableOf j ≡ tableOf k → j ≡ k
+told-once j k e = sym (back j) ∙ ap number e ∙ back k
