@@ -7,15 +7,13 @@ use mathlib.Core.List.{List, [], _∷_, _++_}
 use native.Mathlib.Omega.{arith}
 use borrow.Author.Tests.{leb-true}
 use lib.Dec.{leb}
-use lib.ListN.{length, getD, drop}
+use lib.ListN.{length, getD}
 use Rattle.plan.specs.declared.Counts.{Counts}
-use Rattle.plan.specs.declared.Checked.{Checked}
 use Rattle.plan.specs.declared.Checked.the-variants as checked
-use Rattle.plan.specs.declared.Refusal.{Refusal}
-use Rattle.plan.specs.declared.Refusal.the-variants.{OutOfRange, DefinedTwice, NotDefined, Cyclic}
-use Rattle.plan.specs.Refusals.{stage, firstOf}
+use Rattle.plan.specs.declared.Refusal.the-variants.{OutOfRange, DefinedTwice}
+use Rattle.plan.specs.Refusals.{firstOf}
 use Rattle.plan.specs.Literals.{most}
-use Rattle.plan.specs.Circuit.{Circuit, Tables, circuitOf, definedIn, against, short, wordsToWork, lengthsOf}
+use Rattle.plan.specs.Circuit.{Tables, circuitOf, definedIn, against, short, wordsToWork, lengthsOf}
 use Rattle.plan.specs.Header.{text, listOf, over, adds}
 use Rattle.plan.specs.Given.{counted, outsideIn, twiceIn, stages, lentAlone}
 use Rattle.plan.specs.Outcome.{checkedBy}
