@@ -120,17 +120,18 @@ fn order(circuit: &Circuit) -> Result<(), String> {
     Ok(())
 }
 
+/// 11: a buffer one byte short is refused with the file's length, one that is just long enough gets the file.
+fn bounded(write: impl Fn(u64) -> Result<Vec<u8>, Refusal>, file: Vec<u8>) -> Result<(), String> {
+    let length = file.len();
+    expect("a short buffer", write(length as u64 - 1), refuse(11, length))?;
+    expect("a buffer", write(length as u64), Ok(file))
+}
+
 /// 15 and 11.
 fn writers(circuit: &Circuit, tail: &[u8]) -> Result<(), String> {
     let given = Given::exactly(circuit);
     let text = write::file(circuit, Form::Text, tail);
-    let length = text.len();
-    expect(
-        "a short buffer",
-        calls::write_text(&given, tail, length as u64 - 1),
-        refuse(11, length),
-    )?;
-    expect("a buffer", calls::write_text(&given, tail, length as u64), Ok(text))?;
+    bounded(|room| calls::write_text(&given, tail, room), text)?;
     if binary_order(circuit).is_err() {
         expect(
             "no binary order",
@@ -143,13 +144,7 @@ fn writers(circuit: &Circuit, tail: &[u8]) -> Result<(), String> {
         return expect("no binary order", calls::witness(&given, 1, b"?"), refuse(15, 0));
     }
     let binary = write::file(circuit, Form::Binary, tail);
-    let length = binary.len();
-    expect(
-        "a short buffer",
-        calls::write_binary(&given, tail, length as u64 - 1),
-        refuse(11, length),
-    )?;
-    expect("a buffer", calls::write_binary(&given, tail, length as u64), Ok(binary))
+    bounded(|room| calls::write_binary(&given, tail, room), binary)
 }
 
 /// The tail by 1 and 10, offsets within it, before 11.
