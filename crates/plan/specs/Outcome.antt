@@ -165,8 +165,15 @@ abbrev pub checkedBy : Option Refusal → Checked
 checkedBy none = checked.Good
 checkedBy (some r) = checked.Refused r
 
+abbrev pub checkBy : List (Option Refusal) → Given → CheckExit
+checkBy all g = record { answer = checkedBy (firstOf all); scratch = cleared (g .scratch) }
+
 abbrev pub check : Given → CheckExit
-check g = record { answer = checkedBy (firstOf (stages g (lentAlone g))); scratch = cleared (g .scratch) }
+check g = checkBy (stages g (lentAlone g)) g
+
+-- the same, then 15
+abbrev pub checkInOrder : Given → CheckExit
+checkInOrder g = checkBy (stages g (lentAlone g) ++ (orderStage g ∷ [])) g
 
 -- the writers: given tables, a tail and a buffer
 pub record FileEntry : Type 0 where
