@@ -1,57 +1,96 @@
--- 5, 6, 7, 8 over the circuit that the tables hold; and the answers from the counts on.
-use Prim.Native.Nat.{ℕ, _+_, _*_, _<_, _≤_}
-use mathlib.Core.Path.{_≡_, refl, sym, ap}
-use mathlib.Core.Bool.{Bool, true, false, cond}
-use mathlib.Core.Option.{none, some}
+-- 5, 6, 7, 8 and 15 over the circuit that the tables hold; and the answers from the counts on.
+use Prim.Native.Nat.{ℕ, _+_, _*_, _<_, _≤_, min}
+use mathlib.Core.Path.{_≡_, refl, sym, ap, subst}
+use mathlib.Core.Bool.{Bool, true, false}
+use mathlib.Core.Option.{Option, none, some}
 use mathlib.Core.List.{List, [], _∷_, _++_}
 use native.Mathlib.Omega.{arith}
 use borrow.Author.Tests.{leb-true}
-use lib.Dec.{leb}
 use lib.ListN.{length, getD}
 use Rattle.plan.specs.declared.Counts.{Counts}
 use Rattle.plan.specs.declared.Checked.the-variants as checked
-use Rattle.plan.specs.declared.Refusal.the-variants.{OutOfRange, DefinedTwice}
-use Rattle.plan.specs.Refusals.{firstOf}
+use Rattle.plan.specs.declared.Refusal.the-variants.{OutOfRange, DefinedTwice, NotDefined, Cyclic, NotInOrder}
+use Rattle.plan.specs.Refusals.{stage, firstOf}
 use Rattle.plan.specs.Literals.{most}
 use Rattle.plan.specs.Circuit.{Tables, circuitOf, definedIn, against, short, wordsToWork, lengthsOf}
+use Rattle.plan.specs.Bytes.{values}
 use Rattle.plan.specs.Header.{text, listOf, over, adds}
-use Rattle.plan.specs.Given.{counted, outsideIn, twiceIn, stages, lentAlone}
+use Rattle.plan.specs.Depends.{undefinedIn, cyclicIn}
+use Rattle.plan.specs.Binary.{binaryOrder}
+use Rattle.plan.specs.Given.{Given, counted, outsideIn, twiceIn}
 use Rattle.plan.specs.Outcome.{checkedBy}
 use Rattle.theorems.proofs.Marks.{Agrees}
-use Rattle.theorems.proofs.Reading.Headers.{AllMost}
+use Rattle.theorems.proofs.Reading.Headers.{AllMost, over-none}
 use Rattle.theorems.proofs.Reading.Short.{short-none}
+use Rattle.theorems.proofs.Running.NoSixToEight.{no-six-to-eight}
+use Rattle.tables.specs.declared.Sizes.{Sizes}
+use Rattle.tables.specs.Held.{Fits, Scratch}
 use Rattle.ranges.proofs.Places.{AllInside, none-all}
 use Rattle.once.specs.Twice.{Ranged}
 use Rattle.once.proofs.Defined.{all-new}
+use Rattle.sequence.specs.Tables.{Long}
 use Rattle.closing.specs.Read.{Read, closing}
-use Rattle.given.specs.Judged.{Fits, circuitStages}
+use Rattle.given.specs.Judged.{circuitStages, allStages, lentShorter, unordered}
 
-module _ (n : Counts) (t : Tables) where
-  pub at-five : (k : ℕ) → outsideIn (circuitOf n t) ≡ some k → checked.Refused (OutOfRange k) ≡ checkedBy (firstOf (circuitStages n t))
+-- what 15 is asked of
+pub long-tables : (n : Counts) (inputs latches outputs gates : List ℕ) → Fits n inputs latches outputs gates → Long n inputs latches gates
+long-tables n inputs latches outputs gates f = record {
+  most-M = f .most-M;
+  most-I = omega (arith, f .sum, f .most-M);
+  most-L = omega (arith, f .sum, f .most-M);
+  most-O = f .most-O;
+  most-A = omega (arith, f .sum, f .most-M);
+  inputs-long = f .inputs-long;
+  latches-long = f .latches-long;
+  gates-long = f .gates-long;
+}
+
+module _ (ordered : Bool) (n : Counts) (t : Tables) where
+  pub at-five : (k : ℕ) → outsideIn (circuitOf n t) ≡ some k → checked.Refused (OutOfRange k) ≡ checkedBy (firstOf (circuitStages ordered n t))
   at-five k e = sym (rw e)
 
   module _ (e5 : outsideIn (circuitOf n t) ≡ none) where
-    pub at-six : (k : ℕ) → twiceIn (circuitOf n t) ≡ some k → checked.Refused (DefinedTwice k) ≡ checkedBy (firstOf (circuitStages n t))
+    inside : AllInside (circuitOf n t)
+    inside = none-all (circuitOf n t) e5
+
+    pub in-order : binaryOrder (circuitOf n t) ≡ true → checked.Good ≡ checkedBy (firstOf (circuitStages ordered n t))
+    in-order b =
+        let never = no-six-to-eight (circuitOf n t) b (inside .latches) (inside .outputs) in
+        go ordered (never .0) (never .1) (never .2)
+      where
+        go : (ordered : Bool) → twiceIn (circuitOf n t) ≡ none → undefinedIn (circuitOf n t) ≡ none → cyclicIn (circuitOf n t) ≡ none
+            → checked.Good ≡ checkedBy (firstOf (circuitStages ordered n t))
+        go true e6 e7 e8 = sym (rw (e5, e6, e7, e8, b))
+        go false e6 e7 e8 = sym (rw (e5, e6, e7, e8))
+
+    pub at-six : (k : ℕ) → twiceIn (circuitOf n t) ≡ some k → checked.Refused (DefinedTwice k) ≡ checkedBy (firstOf (circuitStages ordered n t))
     at-six k e = sym (rw (e5, e))
 
-    pub past-six : twiceIn (circuitOf n t) ≡ none → checkedBy (closing (circuitOf n t)) ≡ checkedBy (firstOf (circuitStages n t))
-    past-six e = sym (rw (e5, e))
+    pub past-six : twiceIn (circuitOf n t) ≡ none → binaryOrder (circuitOf n t) ≡ false
+        → unordered (checkedBy (closing (circuitOf n t))) ordered ≡ checkedBy (firstOf (circuitStages ordered n t))
+    past-six e6 b = go ordered (undefinedIn (circuitOf n t)) refl (cyclicIn (circuitOf n t)) refl
+      where
+        go : (ordered : Bool) (o7 : Option ℕ) → undefinedIn (circuitOf n t) ≡ o7 → (o8 : Option ℕ) → cyclicIn (circuitOf n t) ≡ o8
+            → unordered (checkedBy (firstOf (stage NotDefined o7 ∷ stage Cyclic o8 ∷ []))) ordered ≡ checkedBy (firstOf (circuitStages ordered n t))
+        go true none e7 none e8 = sym (rw (e5, e6, e7, e8, b))
+        go false none e7 none e8 = sym (rw (e5, e6, e7, e8))
+        go true none e7 (some v) e8 = sym (rw (e5, e6, e7, e8))
+        go false none e7 (some v) e8 = sym (rw (e5, e6, e7, e8))
+        go true (some v) e7 o8 e8 = sym (rw (e5, e6, e7))
+        go false (some v) e7 o8 e8 = sym (rw (e5, e6, e7))
 
-    module _ (scratch : List ℕ) (f : Fits n (t .inputs) (t .latches) (t .outputs) (t .gates) scratch) where
-      inside : AllInside (circuitOf n t)
-      inside = none-all (circuitOf n t) e5
-
-      pub ranged : Ranged n (t .inputs) (t .latches) (t .gates) scratch
-      ranged = record {
+    module _ (scratch : List ℕ) (f : Fits n (t .inputs) (t .latches) (t .outputs) (t .gates)) (s : Scratch n scratch) where
+      pub ranged : ((i : ℕ) → getD scratch i 0 ≡ 0) → Ranged n (t .inputs) (t .latches) (t .gates) scratch
+      ranged blank = record {
         most-M = f .most-M;
         inputs-long = f .inputs-long;
         latches-long = f .latches-long;
         gates-long = f .gates-long;
-        marks-long = omega (arith, f .scratch-long);
+        marks-long = omega (arith, s);
         inputs-inside = inside .inputs;
         latches-inside = inside .latches;
         gates-inside = inside .gates;
-        blank = λ v h. f .blank v;
+        blank = λ v h. blank v;
       }
 
       pub judged : twiceIn (circuitOf n t) ≡ none → (scratch′ : List ℕ) → length scratch′ ≡ length scratch → Agrees (n .M) (definedIn (circuitOf n t)) scratch′
@@ -63,8 +102,8 @@ module _ (n : Counts) (t : Tables) where
         latches-long = f .latches-long;
         outputs-long = f .outputs-long;
         gates-long = f .gates-long;
-        scratch-long = omega (arith, f .scratch-long);
-        marks-long = omega (arith, f .scratch-long);
+        scratch-long = omega (arith, s);
+        marks-long = omega (arith, s);
         inputs-inside = inside .inputs;
         latches-inside = inside .latches;
         outputs-inside = inside .outputs;
@@ -74,36 +113,31 @@ module _ (n : Counts) (t : Tables) where
       }
 
 -- counts that 2 lets pass are within the limit
-counted-most : (t : ℕ) (l : List ℕ) → over (counted t l) ≡ none → AllMost l
-counted-most t [] e = tt
-counted-most t (x ∷ l) e = go (leb x most) refl (counted-most (t + 1) l) e
-  where
-    go : (b : Bool) → leb x most ≡ b → (over (counted (t + 1) l) ≡ none → AllMost l) → cond b (over (counted (t + 1) l)) (some t) ≡ none → AllMost (x ∷ l)
-    go true q ih e = (leb-true _ _ q, ih e)
-    go false q ih e = let z : _≡_ {A = ℕ} 0 1 = cc in absurd (omega arith)
+values-counted : (t : ℕ) (l : List ℕ) → values (counted t l) ≡ l
+values-counted t [] = refl
+values-counted t (x ∷ l) = ap (λ (r : List ℕ). x ∷ r) (values-counted (t + 1) l)
+
+pub counts-most : (n : Counts) → over (counted 1 (listOf n)) ≡ none → AllMost (listOf n)
+counts-most n e = subst AllMost (values-counted 1 (listOf n)) (over-none (counted 1 (listOf n)) e)
 
 pub small-counts : (n : Counts) → over (counted 1 (listOf n)) ≡ none → (n .M ≤ most) × (n .L ≤ most) × (n .O ≤ most) × (n .A ≤ most)
-small-counts n e = let m = counted-most 1 (listOf n) e in (m .0, m .1 .1 .0, m .1 .1 .1 .0, m .1 .1 .1 .1 .0)
+small-counts n e = let m = counts-most n e in (m .0, m .1 .1 .0, m .1 .1 .1 .0, m .1 .1 .1 .1 .0)
 
-pub fits : (n : Counts) (t : Tables) (scratch : List ℕ) → over (counted 1 (listOf n)) ≡ none → adds text n ≡ true
-    → short (against 1 (wordsToWork n) (lengthsOf t ++ (length scratch ∷ []))) ≡ none → ((i : ℕ) → getD scratch i 0 ≡ 0)
-    → Fits n (t .inputs) (t .latches) (t .outputs) (t .gates) scratch
-fits n t scratch e2 e3 e4 blank =
-    let l = short-none (against 1 (wordsToWork n) (lengthsOf t ++ (length scratch ∷ []))) .0 e4 in
-    record {
-      most-M = small-counts n e2 .0;
-      sum = leb-true _ _ e3;
-      inputs-long = l .0;
-      latches-long = l .1 .0;
-      outputs-long = l .1 .1 .0;
-      gates-long = l .1 .1 .1 .0;
-      scratch-long = l .1 .1 .1 .1 .0;
-      blank = blank;
-    }
+-- tables that 2, 3 and 4 let pass
+module _ (g : Given) (to : Sizes) (e2 : over (counted 1 (listOf (g .counts))) ≡ none) (e3 : adds text (g .counts) ≡ true)
+    (e4 : short (lentShorter g to) ≡ none) where
+  pub fits : Fits (g .counts) (g .tables .inputs) (g .tables .latches) (g .tables .outputs) (g .tables .gates)
+  fits =
+      let l = short-none (lentShorter g to) .0 e4 in
+      record {
+        most-M = small-counts (g .counts) e2 .0;
+        most-O = small-counts (g .counts) e2 .2;
+        sum = leb-true _ _ e3;
+        inputs-long = omega (arith, l .0);
+        latches-long = omega (arith, l .1 .0);
+        outputs-long = omega (arith, l .1 .1 .0);
+        gates-long = omega (arith, l .1 .1 .1 .0);
+      }
 
--- of the scratch the stages know the length alone
-pub same-stages : (n : Counts) (t : Tables) (s s′ : List ℕ) → length s′ ≡ length s
-    → checkedBy (firstOf (stages (record { counts = n; tables = t; scratch = s′ }) (lentAlone (record { counts = n; tables = t; scratch = s′ }))))
-    ≡ checkedBy (firstOf (stages (record { counts = n; tables = t; scratch = s }) (lentAlone (record { counts = n; tables = t; scratch = s }))))
-same-stages n t s s′ e =
-    ap (λ (k : ℕ). checkedBy (firstOf (stages (record { counts = n; tables = t; scratch = s }) (against 1 (wordsToWork n) (lengthsOf t ++ (k ∷ [])))))) e
+  pub fits-scratch : Scratch (g .counts) (g .scratch)
+  fits-scratch = short-none (lentShorter g to) .0 e4 .1 .1 .1 .1 .0

@@ -1,29 +1,68 @@
 -- The stages of the checks of given tables: the first that refuses is the answer.
-use Prim.Native.Nat.{ℕ}
-use mathlib.Core.Path.{_≡_}
-use mathlib.Core.Bool.{true, false}
-use mathlib.Core.Option.{none, some}
-use mathlib.Core.List.{List}
+use Prim.Native.Nat.{ℕ, min}
+use mathlib.Core.Path.{_≡_, ap, _∙_}
+use mathlib.Core.Bool.{Bool, true, false}
+use mathlib.Core.Option.{Option, none, some}
+use mathlib.Core.List.{List, [], _∷_, _++_}
+use lib.ListN.{length}
+use Rattle.plan.specs.declared.Counts.{Counts}
+use Rattle.plan.specs.declared.Refusal.{Refusal}
 use Rattle.plan.specs.declared.Refusal.the-variants.{LargeCount, WrongSum, ShortTable}
-use Rattle.plan.specs.Refusals.{firstOf}
-use Rattle.plan.specs.Circuit.{Lent, short}
+use Rattle.plan.specs.Refusals.{stage, firstOf}
+use Rattle.plan.specs.Circuit.{Tables, Lent, against, short, wordsToWork, lengthsOf, cleared}
 use Rattle.plan.specs.Header.{text, listOf, over, adds}
-use Rattle.plan.specs.Given.{Given, counted, stages}
-use Rattle.given.specs.Judged.{circuitStages}
+use Rattle.plan.specs.Given.{Given, counted, lentAlone, lentWith}
+use Rattle.plan.specs.Outcome.{checkedBy, checkBy}
+use Rattle.tables.specs.declared.Sizes.{Sizes}
+use Rattle.tables.specs.Lengths.{five}
+use Rattle.given.specs.Judged.{allStages, circuitStages, lentShorter, sizesOf}
+use Rattle.given.proofs.Shorter.{short-with, short-alone}
 
-module _ (g : Given) (lent : List Lent) where
-  pub at-two : (k : ℕ) → over (counted 1 (listOf (g .counts))) ≡ some k → firstOf (stages g lent) ≡ some (LargeCount k)
+module _ (ordered : Bool) (g : Given) (lent : List Lent) where
+  pub at-two : (k : ℕ) → over (counted 1 (listOf (g .counts))) ≡ some k → firstOf (allStages ordered g lent) ≡ some (LargeCount k)
   at-two k e = rw e
 
   module _ (e2 : over (counted 1 (listOf (g .counts))) ≡ none) where
-    pub at-three : adds text (g .counts) ≡ false → firstOf (stages g lent) ≡ some (WrongSum 0)
+    pub at-three : adds text (g .counts) ≡ false → firstOf (allStages ordered g lent) ≡ some (WrongSum 0)
     at-three e = rw (e2, e)
 
     module _ (e3 : adds text (g .counts) ≡ true) where
-      pub at-four : (k : ℕ) → short lent ≡ some k → firstOf (stages g lent) ≡ some (ShortTable k)
+      pub at-four : (k : ℕ) → short lent ≡ some k → firstOf (allStages ordered g lent) ≡ some (ShortTable k)
       at-four k e = rw (e2, e3, e)
 
       module _ (e4 : short lent ≡ none) where
         -- what is left is the circuit
-        pub past-four : firstOf (stages g lent) ≡ firstOf (circuitStages (g .counts) (g .tables))
-        past-four = rw (e2, e3, e4)
+        pub past-four : firstOf (allStages ordered g lent) ≡ firstOf (circuitStages ordered (g .counts) (g .tables))
+        past-four = go ordered
+          where
+            go : (ordered : Bool) → firstOf (allStages ordered g lent) ≡ firstOf (circuitStages ordered (g .counts) (g .tables))
+            go true = rw (e2, e3, e4)
+            go false = rw (e2, e3, e4)
+
+  -- of the lent tables the stages know the least short one alone
+  pub by-short : (lent′ : List Lent) → short lent ≡ short lent′ → firstOf (allStages ordered g lent) ≡ firstOf (allStages ordered g lent′)
+  by-short lent′ e = rw e
+
+module _ (n : Counts) (t : Tables) (s s′ : List ℕ) (to : Sizes) (t′ : Tables) (e : length s′ ≡ length s) (sizes : lengthsOf t′ ≡ sizesOf to) where
+  abbrev g : Given
+  g = record { counts = n; tables = t; scratch = s }
+
+  abbrev g′ : Given
+  g′ = record { counts = n; tables = t; scratch = s′ }
+
+  four : short (lentShorter g′ to) ≡ short (lentWith g t′)
+  four =
+      ap (λ (k : ℕ). short (against 1 (wordsToWork n) (five (min (length (t .inputs)) (to .inputs)) (min (length (t .latches)) (to .latches))
+      (min (length (t .outputs)) (to .outputs)) (min (length (t .gates)) (to .gates)) k))) e
+      ∙ short-with g to t′ sizes
+
+  -- of the scratch the stages know the length alone, and of written tables their sizes
+  pub same-answer : (ordered : Bool) → checkedBy (firstOf (allStages ordered g′ (lentShorter g′ to))) ≡ checkedBy (firstOf (allStages ordered g (lentWith g t′)))
+  same-answer true = ap checkedBy (by-short true g (lentShorter g′ to) (lentWith g t′) four)
+  same-answer false = ap checkedBy (by-short false g (lentShorter g′ to) (lentWith g t′) four)
+
+-- given tables alone
+pub alone-answer : (ordered : Bool) (g : Given) → checkBy (allStages ordered g (lentWith g (g .tables))) g ≡ checkBy (allStages ordered g (lentAlone g)) g
+alone-answer ordered g =
+    ap (λ (o : Option Refusal). record { answer = checkedBy o; scratch = cleared (g .scratch) })
+    (by-short ordered g (lentWith g (g .tables)) (lentAlone g) (short-alone g))

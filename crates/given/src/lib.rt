@@ -1,20 +1,24 @@
-// The checks of given tables: 2, 3, 4, 5, 6, 7, 8 over the whole circuit, in this order.
+// The checks of given tables: 2, 3, 4, 5, 6, 7, 8 over the whole circuit, in this order, and 15 for the callers that ask it.
 ghost use mathlib.Core.Path.{_≡_};
-ghost use mathlib.Core.List.{_∷_, []};
 ghost use Prim.Native.Nat.{ℕ};
-ghost use lib.ListN.{getD};
+ghost use lib.ListN.{length, getD};
 ghost use Rattle.plan.specs.Refusals.{firstOf};
+ghost use Rattle.plan.specs.Circuit.{Tables, lengthsOf};
 ghost use Rattle.plan.specs.Header.{listOf, over, text, adds};
-ghost use Rattle.plan.specs.Given.{counted, lentAlone, stages};
-ghost use Rattle.plan.specs.Outcome.{Says, check, checkedBy};
+ghost use Rattle.plan.specs.Given.{counted, lentWith};
+ghost use Rattle.plan.specs.Outcome.{Says, check, checkInOrder, checkBy, checkedBy, CheckExit};
 ghost use Rattle.tables.specs.Lengths.{tableOf};
-ghost use Rattle.given.specs.Judged.{Fits, circuitStages};
+ghost use Rattle.tables.specs.Held.{Fits, Scratch};
+ghost use Rattle.given.specs.Judged.{allStages, circuitStages, lentShorter, sizesOf, unordered};
 use once::defined_twice;
 use plan::Checked;
 use plan::Counts;
 use plan::Refusal;
 use ranges::out_of_range;
+use sequence::in_binary_order;
+use tables::Sizes;
 use tables::clear;
+use tables::shorter;
 use tables::too_short;
 
 // The limit of M, I, L, O and A.
@@ -56,7 +60,23 @@ pub fn adds_up(n: Counts) -> bool
     n.A <= left - n.L
 }
 
-// 5, then 6, then 7, then 8. Marks of variables stand in the scratch.
+// What is left to answer for tables that are not in binary order, where the other checks answered.
+fn unordered(answer: Checked, ordered: bool) -> Checked
+    ensures { λ r. ⌜ r ≡ unordered answer ordered ⌝ }
+{
+    match answer {
+        Checked::Refused(r) => Checked::Refused(r),
+        Checked::Good => {
+            if ordered {
+                return Checked::Refused(Refusal::NotInOrder(0));
+            }
+            Checked::Good
+        }
+    }
+}
+
+// 5, then 6, then 7, then 8, then 15. Tables in binary order whose literals are in range can't meet 6, 7 or 8 (AIGER report,
+// section 7), so that they need no marks. Marks of variables stand in the scratch.
 fn judge_circuit(
     n: Counts,
     inputs: &[u32],
@@ -64,22 +84,31 @@ fn judge_circuit(
     outputs: &[u32],
     gates: &[u32],
     scratch: &mut [u32],
+    ordered: bool,
 ) -> Checked
-    requires { ⌜ Fits n (now inputs) (now latches) (now outputs) (now gates) (now scratch) ⌝ }
-    ensures { λ r. ⌜ r ≡ checkedBy (firstOf (circuitStages n (record { inputs = now (inputs .entry); latches = now (latches .entry); outputs = now (outputs .entry); gates = now (gates .entry) }))) ⌝ }
+    requires { ⌜ Fits n (now inputs) (now latches) (now outputs) (now gates) ⌝ }
+    requires { ⌜ Scratch n (now scratch) ⌝ }
+    requires { ⌜ ((i : ℕ) → getD (now scratch) i 0 ≡ 0) ⌝ }
+    ensures { λ r. ⌜ r ≡ checkedBy (firstOf (circuitStages ordered n (record { inputs = now (inputs .entry); latches = now (latches .entry); outputs = now (outputs .entry); gates = now (gates .entry) }))) ⌝ }
 {
     let out = out_of_range(n, inputs, latches, outputs, gates);
     if out != 0 {
         return Checked::Refused(Refusal::OutOfRange(out));
     }
+    if in_binary_order(n, inputs, latches, gates) {
+        return Checked::Good;
+    }
     let twice = defined_twice(n, inputs, latches, gates, scratch);
     if twice != 0 {
         return Checked::Refused(Refusal::DefinedTwice(twice));
     }
-    closing::check(n, inputs, latches, outputs, gates, scratch, 0)
+    unordered(
+        closing::check(n, inputs, latches, outputs, gates, scratch, 0),
+        ordered,
+    )
 }
 
-// 2, 3, 4, then the circuit.
+// 2, 3, 4, then the circuit. The written tables, which bear the same numbers, count for 4.
 fn judge(
     n: Counts,
     inputs: &[u32],
@@ -87,9 +116,11 @@ fn judge(
     outputs: &[u32],
     gates: &[u32],
     scratch: &mut [u32],
+    to: Sizes,
+    ordered: bool,
 ) -> Checked
     requires { ⌜ ((i : ℕ) → getD (now scratch) i 0 ≡ 0) ⌝ }
-    ensures { λ r. ⌜ r ≡ checkedBy (firstOf (stages (record { counts = n; tables = (record { inputs = now (inputs .entry); latches = now (latches .entry); outputs = now (outputs .entry); gates = now (gates .entry) }); scratch = now (scratch .entry) }) (lentAlone (record { counts = n; tables = (record { inputs = now (inputs .entry); latches = now (latches .entry); outputs = now (outputs .entry); gates = now (gates .entry) }); scratch = now (scratch .entry) })))) ⌝ }
+    ensures { λ r. ⌜ r ≡ checkedBy (firstOf (allStages ordered (record { counts = n; tables = (record { inputs = now (inputs .entry); latches = now (latches .entry); outputs = now (outputs .entry); gates = now (gates .entry) }); scratch = now (scratch .entry) }) (lentShorter (record { counts = n; tables = (record { inputs = now (inputs .entry); latches = now (latches .entry); outputs = now (outputs .entry); gates = now (gates .entry) }); scratch = now (scratch .entry) }) to))) ⌝ }
 {
     let large = large_count(n);
     if large != 0 {
@@ -100,16 +131,49 @@ fn judge(
     }
     let short = too_short(
         n,
-        inputs.len(),
-        latches.len(),
-        outputs.len(),
-        gates.len(),
+        shorter(inputs.len(), to.inputs),
+        shorter(latches.len(), to.latches),
+        shorter(outputs.len(), to.outputs),
+        shorter(gates.len(), to.gates),
         scratch.len(),
     );
     if short != 0 {
         return Checked::Refused(Refusal::ShortTable(short));
     }
-    judge_circuit(n, inputs, latches, outputs, gates, scratch)
+    judge_circuit(n, inputs, latches, outputs, gates, scratch, ordered)
+}
+
+// The first refusal of given tables where tables of the sizes `to` are lent for writing, with 15 or without. Scratch is zero afterwards.
+pub fn check_to_make(
+    n: Counts,
+    inputs: &[u32],
+    latches: &[u32],
+    outputs: &[u32],
+    gates: &[u32],
+    scratch: &mut [u32],
+    to: Sizes,
+    ordered: bool,
+) -> Checked
+    ensures { λ r. ⌜ ((t : Tables) → lengthsOf t ≡ sizesOf to
+        → _≡_ {A = CheckExit} (record { answer = r; scratch = now (scratch .exit) })
+        (checkBy (allStages ordered (record { counts = n; tables = (record { inputs = now (inputs .entry); latches = now (latches .entry); outputs = now (outputs .entry); gates = now (gates .entry) }); scratch = now (scratch .entry) }) (lentWith (record { counts = n; tables = (record { inputs = now (inputs .entry); latches = now (latches .entry); outputs = now (outputs .entry); gates = now (gates .entry) }); scratch = now (scratch .entry) }) t)) (record { counts = n; tables = (record { inputs = now (inputs .entry); latches = now (latches .entry); outputs = now (outputs .entry); gates = now (gates .entry) }); scratch = now (scratch .entry) }))) ⌝ }
+{
+    clear(scratch);
+    let answer = judge(n, inputs, latches, outputs, gates, scratch, to, ordered);
+    clear(scratch);
+    answer
+}
+
+// The sizes of the given tables alone.
+fn sizes(inputs: &[u32], latches: &[u32], outputs: &[u32], gates: &[u32]) -> Sizes
+    ensures { λ r. ⌜ r ≡ (record { inputs = length (now (inputs .entry)); latches = length (now (latches .entry)); outputs = length (now (outputs .entry)); gates = length (now (gates .entry)) }) ⌝ }
+{
+    Sizes {
+        inputs: inputs.len(),
+        latches: latches.len(),
+        outputs: outputs.len(),
+        gates: gates.len(),
+    }
 }
 
 // Whether given tables hold a circuit that a reader could have accepted, or the first refusal. Scratch is zero afterwards.
@@ -125,8 +189,23 @@ pub fn check(
         (record { counts = n; tables = (record { inputs = now (inputs .entry); latches = now (latches .entry); outputs = now (outputs .entry); gates = now (gates .entry) }); scratch = now (scratch .entry) })
         (record { answer = r; scratch = now (scratch .exit) }) ⌝ }
 {
-    clear(scratch);
-    let answer = judge(n, inputs, latches, outputs, gates, scratch);
-    clear(scratch);
-    answer
+    let own = sizes(inputs, latches, outputs, gates);
+    check_to_make(n, inputs, latches, outputs, gates, scratch, own, false)
+}
+
+// The same, then 15.
+pub fn check_in_order(
+    n: Counts,
+    inputs: &[u32],
+    latches: &[u32],
+    outputs: &[u32],
+    gates: &[u32],
+    scratch: &mut [u32],
+) -> Checked
+    ensures { λ r. ⌜ Says checkInOrder
+        (record { counts = n; tables = (record { inputs = now (inputs .entry); latches = now (latches .entry); outputs = now (outputs .entry); gates = now (gates .entry) }); scratch = now (scratch .entry) })
+        (record { answer = r; scratch = now (scratch .exit) }) ⌝ }
+{
+    let own = sizes(inputs, latches, outputs, gates);
+    check_to_make(n, inputs, latches, outputs, gates, scratch, own, true)
 }

@@ -1,10 +1,18 @@
 // Lent tables of words.
 ghost use mathlib.Core.Path.{_≡_};
-ghost use Prim.Native.Nat.{_≤_};
+ghost use Prim.Native.Nat.{_≤_, min};
 ghost use Rattle.plan.specs.Literals.{most};
 ghost use Rattle.plan.specs.Circuit.{cleared, wordsToRead, against, short};
 ghost use Rattle.tables.specs.Lengths.{five, tableOf};
 use plan::Counts;
+
+// The words of tables 1 to 4.
+pub struct Sizes {
+    pub inputs: usize,
+    pub latches: usize,
+    pub outputs: usize,
+    pub gates: usize,
+}
 
 // Zero throughout.
 pub fn clear(table: &mut [u32])
@@ -45,4 +53,14 @@ pub fn too_short(
         return 5;
     }
     0
+}
+
+// The shorter of two tables that bear one number.
+pub fn shorter(a: usize, b: usize) -> usize
+    ensures { λ r. ⌜ r ≡ min a b ⌝ }
+{
+    if a < b {
+        return a;
+    }
+    b
 }

@@ -21,7 +21,7 @@ abbrev pub AllMost : List ℕ → Type 0
 AllMost [] = Unit {0}
 AllMost (x ∷ l) = (x ≤ most) × AllMost l
 
-over-none : (xs : List Placed) → over xs ≡ none → AllMost (values xs)
+pub over-none : (xs : List Placed) → over xs ≡ none → AllMost (values xs)
 over-none [] e = tt
 over-none (x ∷ xs) e = go (leb (x .value) most) refl (over-none xs) e
   where

@@ -68,3 +68,13 @@ short-named xs t = (λ e. subst (ShortSays xs) e (short-says xs), λ h. go h (sh
     go : ShortSays xs (some t) → (r : Option ℕ) → ShortSays xs r → r ≡ some t
     go h none k = absurd (none-short xs k t (h .0))
     go h (some u) k = let e : u ≡ t = omega (arith, h .1 u (k .0), k .1 t (h .0)) in ap some e
+
+-- tables of which the same numbers are too short
+pub same-short : (xs ys : List Lent) → ((t : ℕ) → ShortIn t xs → ShortIn t ys) → ((t : ℕ) → ShortIn t ys → ShortIn t xs) → short xs ≡ short ys
+same-short xs ys f g = go (short xs) (short-says xs) (short ys) (short-says ys)
+  where
+    go : (r : Option ℕ) → ShortSays xs r → (s : Option ℕ) → ShortSays ys s → r ≡ s
+    go none h none k = refl
+    go none h (some t) k = absurd (none-short xs h t (g t (k .0)))
+    go (some t) h none k = absurd (none-short ys k t (f t (h .0)))
+    go (some t) h (some u) k = let e : t ≡ u = omega (arith, h .1 u (g u (k .0)), k .1 t (f t (h .0))) in ap some e
