@@ -1,8 +1,9 @@
 // What C calls: numbers and slices only. The header for C is desk/golvanzo.h.
 ghost use mathlib.Core.Path.{_≡_};
 ghost use lib.ListN.{drop};
-ghost use Rattle.plan.specs.Header.{wordsFor};
+ghost use Rattle.plan.specs.Header.{wordsFor, countsFrom};
 ghost use Rattle.plan.specs.Outcome.{Says, read};
+ghost use Rattle.desk.specs.Told.{check};
 
 // How many words table 1 to 5 needs for the file's header, or 2^64 - 1.
 #[no_mangle]
@@ -29,4 +30,24 @@ pub extern "C" fn golvanzo_read(
 {
     let tail = read::read(file, inputs, latches, outputs, gates, scratch, answer);
     (file.len() - tail.len()) as u64
+}
+
+// Whether given tables hold a circuit that a reader could have accepted: number (0: they do) and place.
+#[no_mangle]
+pub extern "C" fn golvanzo_check(
+    counts: &[u64; 5],
+    inputs: &[u32],
+    latches: &[u32],
+    outputs: &[u32],
+    gates: &[u32],
+    scratch: &mut [u32],
+    answer: &mut [u64; 2],
+)
+    ensures { λ _. ⌜ Says check
+        (record { counts = countsFrom (now (counts .entry)); tables = (record { inputs = now (inputs .entry); latches = now (latches .entry); outputs = now (outputs .entry); gates = now (gates .entry) }); scratch = now (scratch .entry) })
+        (record { answer = now (answer .exit); scratch = now (scratch .exit) }) ⌝ }
+{
+    let n = told::counts(counts);
+    let r = given::check(n, inputs, latches, outputs, gates, scratch);
+    told::checked(r, answer);
 }

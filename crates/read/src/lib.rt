@@ -1,10 +1,9 @@
 // Reading a file of either form.
 ghost use mathlib.Core.Path.{_≡_};
 ghost use mathlib.Core.Bool.{true};
-ghost use mathlib.Core.List.{_∷_};
 ghost use Prim.Native.Nat.{ℕ, _+_, _≤_};
 ghost use lib.ListN.{getD};
-ghost use Rattle.plan.specs.Header.{text, binary, adds, listOf};
+ghost use Rattle.plan.specs.Header.{text, binary, adds};
 ghost use Rattle.plan.specs.Circuit.{Tables, allCleared};
 ghost use Rattle.plan.specs.Reading.{readFile};
 ghost use Rattle.plan.specs.Outcome.{Says, load, read};
@@ -22,6 +21,8 @@ use plan::Refusal;
 use tables::clear;
 use tables::too_short;
 use text::read_text;
+use told::no_counts;
+use told::tell;
 
 // What follows the header of a text file: the body, the tail, then 7 and 8. Marks of symbols stand at the start of the scratch, marks of
 // variables after them.
@@ -209,21 +210,6 @@ pub fn load(
     read
 }
 
-// Number, place, M, I, L, O, A.
-fn tell(answer: &mut [u64; 7], number: u64, place: u64, n: Counts)
-    ensures { λ _. ⌜ now (answer .exit) ≡ number ∷ place ∷ listOf n ⌝ }
-{
-    *answer = [
-        number,
-        place,
-        n.M as u64,
-        n.I as u64,
-        n.L as u64,
-        n.O as u64,
-        n.A as u64,
-    ];
-}
-
 // Reads a file into tables 1 to 4 and hands back its tail, which is empty after a refusal. The answer is the number, 0 if the file is
 // accepted, the place and the counts.
 pub fn read<'a>(
@@ -245,14 +231,7 @@ pub fn read<'a>(
             &file[start..]
         }
         Loaded::Refused(r) => {
-            let none = Counts {
-                M: 0,
-                I: 0,
-                L: 0,
-                O: 0,
-                A: 0,
-            };
-            tell(answer, r.told_number(), r.told_place() as u64, none);
+            tell(answer, r.told_number(), r.told_place() as u64, no_counts());
             let end = file.len();
             &file[end..]
         }

@@ -1,11 +1,11 @@
 use borrow.Author.Needs.{needs}
 use Prim.Native.Nat.{ℕ, _≤_}
-use mathlib.Core.Path.{_≡_, sym, ap, ap₂, _∙_}
+use mathlib.Core.Path.{_≡_, sym, ap, _∙_}
 use mathlib.Core.List.{List, _∷_}
 use native.Mathlib.Omega.{arith}
 use lib.ListN.{length}
-use Rattle.plan.specs.Header.{listOf}
 use Rattle.plan.specs.Outcome.{ReadEntry, LoadExit, loadedValues, tailOf}
+use Rattle.told.proofs.Refused.{refusal-told}
 use Rattle.read.proofs.Answers.{part-from, part-none, starts-within, read-by}
 use Rattle.read.proofs.read.Statement.{statement}
 use Rattle.read.proofs.read.Tie as tie
@@ -62,6 +62,9 @@ told-number-requires c κs = search needs
 
 told-place-requires : tie.Need-told-place-requires
 told-place-requires c κs = search needs
+
+no-counts-requires : tie.Need-no-counts-requires
+no-counts-requires c κs = search needs
 
 tell-requires-2 : tie.Need-tell-requires-2
 tell-requires-2 c κs = search needs
@@ -123,21 +126,23 @@ same-length-10 c = search needs
 
 returns-2 : tie.Need-returns-2
 returns-2 c =
-    let a = c .before .before .before .before .before .before .before .before .before .before .before .before .before .before .before .before .before .before .before .before .before .before .before .before .before .before .before .before .before .before .args in
+    let a = c .before .before .before .before .before .before .before .before .before .before .before .before .before .before .before .before .before .before .before .before .before .before .before .before .before .before .before .before .before .before .before .args in
+    let loaded = c .before .before .before .before .before .before .before .before .before .before .before .before .before .before .before .before .before .before .before .load in
     let e : ReadEntry = record {
       file = a .file .now;
       tables = record { inputs = a .inputs .now; latches = a .latches .now; outputs = a .outputs .now; gates = a .gates .now };
       scratch = a .scratch .now;
     } in
     let x : LoadExit = record {
-      answer = c .before .before .before .before .before .before .before .before .before .before .before .before .before .before .before .before .before .before .load .result;
-      tables = record { inputs = c .before .before .before .before .before .before .before .before .before .before .before .before .before .before .before .before .before .before .load .last .1 .0; latches = c .before .before .before .before .before .before .before .before .before .before .before .before .before .before .before .before .before .before .load .last .1 .1 .0; outputs = c .before .before .before .before .before .before .before .before .before .before .before .before .before .before .before .before .before .before .load .last .1 .1 .1 .0; gates = c .before .before .before .before .before .before .before .before .before .before .before .before .before .before .before .before .before .before .load .last .1 .1 .1 .1 .0 };
-      scratch = c .before .before .before .before .before .before .before .before .before .before .before .before .before .before .before .before .before .before .load .last .1 .1 .1 .1 .1 .0;
+      answer = loaded .result;
+      tables = record { inputs = loaded .last .1 .0; latches = loaded .last .1 .1 .0; outputs = loaded .last .1 .1 .1 .0; gates = loaded .last .1 .1 .1 .1 .0 };
+      scratch = loaded .last .1 .1 .1 .1 .1 .0;
     } in
-    let said = c .before .before .before .before .before .before .before .before .before .before .before .before .before .before .before .before .before .before .load .ensures in
-    read-by e x said _ _
-    (c .before .tell2 .ensures ∙ (ap₂ (λ (m k : ℕ). m ∷ k ∷ listOf (record { M = 0; I = 0; L = 0; O = 0; A = 0 })) (c .before .before .before .told-number .ensures) (c .before .before .told-place .ensures) ∙ ap loadedValues (sym (c .before .before .before .before .before .before .r .given .1))))
-    (part-none (a .file .now) ∙ ap (tailOf (a .file .now)) (sym (c .before .before .before .before .before .before .r .given .1)))
+    let refused = c .before .before .before .before .before .before .before .r .given .1 in
+    read-by e x (loaded .ensures) _ _
+    (c .before .tell2 .ensures
+    ∙ (refusal-told (c .before .before .before .before .told-number .ensures) (c .before .before .before .told-place .ensures) (c .before .before .no-counts .ensures) ∙ ap loadedValues (sym refused)))
+    (part-none (a .file .now) ∙ ap (tailOf (a .file .now)) (sym refused))
 
 pub read-spec : {M : Type 1} → statement M
 read-spec =
@@ -152,6 +157,7 @@ read-spec =
     enum-known-r
     told-number-requires
     told-place-requires
+    no-counts-requires
     tell-requires-2
     sub-result-2
     part-result-start-2
