@@ -7,4 +7,5 @@ pub mod Ranges
 pub mod Reading
 pub mod Running
 pub mod Tables
+pub mod Writing
 pub mod Wrong

@@ -30,7 +30,7 @@ over-none (x ∷ xs) e = go (leb (x .value) most) refl (over-none xs) e
     go true q ih e = (leb-true _ _ q, ih e)
     go false q ih e = let z : _≡_ {A = ℕ} 0 1 = cc in absurd (omega arith)
 
-most-none : (xs : List Placed) → AllMost (values xs) → over xs ≡ none
+pub most-none : (xs : List Placed) → AllMost (values xs) → over xs ≡ none
 most-none [] h = refl
 most-none (x ∷ xs) h = rw (le-leb _ _ (h .0)) (most-none xs (h .1))
 

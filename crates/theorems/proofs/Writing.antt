@@ -1,0 +1,3 @@
+-- Writing: what is written is read back, and what one call leaves every later call accepts.
+pub mod Nothing
+pub mod Fine

@@ -1,0 +1,105 @@
+-- A check of given tables finds nothing exactly if the counts are within the limits and add up, the tables are long enough and the
+-- circuit is well formed.
+use Prim.Native.Nat.{ℕ, zero, suc, _+_, _≤_}
+use mathlib.Core.Path.{_≡_, refl, sym, ap, _∙_, subst}
+use mathlib.Core.Bool.{true}
+use mathlib.Core.Option.{none}
+use mathlib.Core.Logic.{_↔_}
+use mathlib.Core.List.{List, [], _∷_, map}
+use native.Mathlib.Omega.{arith}
+use borrow.Author.Tests.{leb-true, le-leb}
+use lib.ListN.{length, take, length-take, length-map}
+use Rattle.plan.specs.declared.Counts.{Counts}
+use Rattle.plan.specs.declared.Refusal.the-variants.{LargeCount, WrongSum, ShortTable, OutOfRange, DefinedTwice, NotDefined, Cyclic}
+use Rattle.plan.specs.Refusals.{firstOf}
+use Rattle.plan.specs.Literals.{most}
+use Rattle.plan.specs.Circuit.{Circuit, Lent, short, latchOf, gateOf, rowsOf, definedIn, usedIn}
+use Rattle.plan.specs.Bytes.{values}
+use Rattle.plan.specs.Header.{text, listOf, over, adds}
+use Rattle.plan.specs.Depends.{undefinedIn, cyclicIn}
+use Rattle.plan.specs.Reading.{WellFormed}
+use Rattle.plan.specs.Given.{Given, given, counted, failing, outsideIn, twiceIn, stages}
+use Rattle.theorems.proofs.Reading.Headers.{AllMost, over-none, most-none}
+use Rattle.theorems.proofs.Reading.Undefined.{all-defined, defined-none}
+use Rattle.theorems.proofs.Reading.Cycles.{no-cycle, cycle-none}
+use Rattle.theorems.proofs.Running.Different.{different-once}
+use Rattle.theorems.proofs.Writing.Nothing.{stage-none, failing-none, first-all, none-inside, inside-none, once-different}
+
+pub record Fine (g : Given) (lent : List Lent) : Type 0 where
+  pub small : AllMost (listOf (g .counts))
+  pub sum : g .counts .I + g .counts .L + g .counts .A ≤ g .counts .M
+  pub room : short lent ≡ none
+  pub formed : WellFormed (given g)
+
+counted-values : (t : ℕ) (l : List ℕ) → values (counted t l) ≡ l
+counted-values t [] = refl
+counted-values t (n ∷ l) = ap (λ (x : List ℕ). n ∷ x) (counted-values (t + 1) l)
+
+pub length-rows : (k n : ℕ) (t : List ℕ) → length (rowsOf k n t) ≡ n
+length-rows k zero t = refl
+length-rows k (suc n) t = ap suc (length-rows k n _)
+
+module _ (g : Given) (lent : List Lent) where
+  abbrev n : Counts
+  n = g .counts
+
+  abbrev c : Circuit
+  c = given g
+
+  inputs-least : length (c .inputs) ≤ n .I
+  inputs-least = omega (arith, length-take (n .I) (g .tables .inputs))
+
+  outputs-least : length (c .outputs) ≤ n .O
+  outputs-least = omega (arith, length-take (n .O) (g .tables .outputs))
+
+  latches-are : length (c .latches) ≡ n .L
+  latches-are = length-map (rowsOf 2 (n .L) (g .tables .latches)) latchOf ∙ length-rows 2 (n .L) (g .tables .latches)
+
+  gates-are : length (c .gates) ≡ n .A
+  gates-are = length-map (rowsOf 3 (n .A) (g .tables .gates)) gateOf ∙ length-rows 3 (n .A) (g .tables .gates)
+
+  pub nothing-fine : firstOf (stages g lent) ≡ none → Fine g lent
+  nothing-fine e =
+      let s = first-all (stages g lent) e in
+      let small : AllMost (listOf n)
+      = subst AllMost (counted-values 1 (listOf n))
+      (over-none (counted 1 (listOf n)) (stage-none LargeCount (over (counted 1 (listOf n))) (s .0))) in
+      let sum : n .I + n .L + n .A ≤ n .M
+      = leb-true _ _ (failing-none (adds text n) (stage-none WrongSum (failing (adds text n)) (s .1 .0))) in
+      let i = none-inside c (stage-none OutOfRange (outsideIn c) (s .1 .1 .1 .0)) in
+      record {
+        small = small;
+        sum = sum;
+        room = stage-none ShortTable (short lent) (s .1 .1 .0);
+        formed = record {
+          most-M = small .0;
+          most-I = omega (arith, small .1 .0, inputs-least);
+          most-L = omega (arith, small .1 .1 .0, latches-are);
+          most-O = omega (arith, small .1 .1 .1 .0, outputs-least);
+          most-A = omega (arith, small .1 .1 .1 .1 .0, gates-are);
+          sum = omega (arith, inputs-least, latches-are, gates-are);
+          inputs = i .inputs;
+          latches = i .latches;
+          outputs = i .outputs;
+          gates = i .gates;
+          different = once-different c (stage-none DefinedTwice (twiceIn c) (s .1 .1 .1 .1 .0));
+          defined = all-defined (zero ∷ definedIn c) (usedIn c) (stage-none NotDefined (undefinedIn c) (s .1 .1 .1 .1 .1 .0));
+          acyclic = no-cycle (c .gates) (stage-none Cyclic (cyclicIn c) (s .1 .1 .1 .1 .1 .1 .0));
+        };
+      }
+
+  pub fine-nothing : Fine g lent → firstOf (stages g lent) ≡ none
+  fine-nothing f =
+      let w = f .formed in
+      let e2 : over (counted 1 (listOf n)) ≡ none
+      = most-none (counted 1 (listOf n)) (subst AllMost (sym (counted-values 1 (listOf n))) (f .small)) in
+      let e3 : adds text n ≡ true = le-leb _ _ (f .sum) in
+      let e5 : outsideIn c ≡ none
+      = inside-none c (record { inputs = w .inputs; latches = w .latches; outputs = w .outputs; gates = w .gates }) in
+      let e6 : twiceIn c ≡ none = different-once c (w .different) in
+      let e7 : undefinedIn c ≡ none = defined-none (zero ∷ definedIn c) (usedIn c) (w .defined) in
+      let e8 : cyclicIn c ≡ none = cycle-none (c .gates) (c .gates) (w .acyclic) in
+      rw (e2, e3, f .room, e5, e6, e7, e8)
+
+  pub fine-exactly : (firstOf (stages g lent) ≡ none) ↔ Fine g lent
+  fine-exactly = (nothing-fine, fine-nothing)
