@@ -31,30 +31,41 @@ rows-flat k (row ∷ rows) more h =
     (ap (take k) whole ∙ take-at row (flat rows ++ more) k (h .0))
     (ap (λ (x : List ℕ). rowsOf k (length rows) x) (ap (drop k) whole ∙ drop-at row (flat rows ++ more) k (h .0)) ∙ rows-flat k rows more (h .1))
 
+-- tables that start with a circuit's words
+pub record Starts (c : Circuit) (t : Tables) : Type 0 where
+  pub inputs : (more : List ℕ) × (t .inputs ≡ c .inputs ++ more)
+  pub latches : (more : List ℕ) × (t .latches ≡ flat (map latchLine (c .latches)) ++ more)
+  pub outputs : (more : List ℕ) × (t .outputs ≡ c .outputs ++ more)
+  pub gates : (more : List ℕ) × (t .gates ≡ flat (map gateLine (c .gates)) ++ more)
+
+-- the circuit that tables hold is the circuit that they start with
+pub starts-circuit : (t : Tables) (c : Circuit) → Starts c t → circuitOf (countsOf c) t ≡ c
+starts-circuit t c h = λ i. record { M = c .M; inputs = ins i; latches = lats i; outputs = outs i; gates = gs i }
+  where
+    one : (words table : List ℕ) → ((more : List ℕ) × (table ≡ words ++ more)) → take (length words) table ≡ words
+    one words table q = ap (take (length words)) (q .1) ∙ take-at words (q .0) (length words) refl
+
+    rows : {A : Type 0} (k : ℕ) (f : List ℕ → A) (g : A → List ℕ) (l : List A) (table : List ℕ) → ((a : A) → f (g a) ≡ a) → ((a : A) → length (g a) ≡ k)
+        → ((more : List ℕ) × (table ≡ flat (map g l) ++ more)) → map f (rowsOf k (length l) table) ≡ l
+    rows k f g l table back long q =
+        ap (λ (x : List ℕ). map f (rowsOf k (length l) x)) (q .1)
+        ∙ (ap (λ (x : ℕ). map f (rowsOf k x (flat (map g l) ++ q .0))) (sym (length-map l g))
+        ∙ (ap (map f) (rows-flat k (map g l) (q .0) (map-long k g long l)) ∙ map-forth f g back l))
+
+    ins : take (length (c .inputs)) (t .inputs) ≡ c .inputs
+    ins = one (c .inputs) (t .inputs) (h .inputs)
+
+    outs : take (length (c .outputs)) (t .outputs) ≡ c .outputs
+    outs = one (c .outputs) (t .outputs) (h .outputs)
+
+    lats : map latchOf (rowsOf 2 (length (c .latches)) (t .latches)) ≡ c .latches
+    lats = rows 2 latchOf latchLine (c .latches) (t .latches) (λ a. refl) (λ a. refl) (h .latches)
+
+    gs : map gateOf (rowsOf 3 (length (c .gates)) (t .gates)) ≡ c .gates
+    gs = rows 3 gateOf gateLine (c .gates) (t .gates) (λ a. refl) (λ a. refl) (h .gates)
+
 -- the circuit that the tables hold is the circuit that they were filled with
 pub holds-circuit : (n : Counts) (t t′ : Tables) (c : Circuit) → Holds t c t′ → countsOf c ≡ n → circuitOf n t′ ≡ c
 holds-circuit n t t′ c h e =
     ap (λ (m : Counts). circuitOf m t′) (sym e)
-    ∙ λ i. record { M = c .M; inputs = ins i; latches = lats i; outputs = outs i; gates = gs i }
-  where
-    one : (words table table′ : List ℕ) → table′ ≡ put table 0 words → take (length words) table′ ≡ words
-    one words table table′ q = ap (take (length words)) q ∙ take-at words (drop (0 + length words) table) (length words) refl
-
-    rows : {A : Type 0} (k : ℕ) (f : List ℕ → A) (g : A → List ℕ) (l : List A) (table table′ : List ℕ) → ((a : A) → f (g a) ≡ a) → ((a : A) → length (g a) ≡ k)
-        → table′ ≡ put table 0 (flat (map g l)) → map f (rowsOf k (length l) table′) ≡ l
-    rows k f g l table table′ back long q =
-        ap (λ (x : List ℕ). map f (rowsOf k (length l) x)) q
-        ∙ (ap (λ (x : ℕ). map f (rowsOf k x (flat (map g l) ++ drop (0 + length (flat (map g l))) table))) (sym (length-map l g))
-        ∙ (ap (map f) (rows-flat k (map g l) (drop (0 + length (flat (map g l))) table) (map-long k g long l)) ∙ map-forth f g back l))
-
-    ins : take (length (c .inputs)) (t′ .inputs) ≡ c .inputs
-    ins = one (c .inputs) (t .inputs) (t′ .inputs) (h .inputs)
-
-    outs : take (length (c .outputs)) (t′ .outputs) ≡ c .outputs
-    outs = one (c .outputs) (t .outputs) (t′ .outputs) (h .outputs)
-
-    lats : map latchOf (rowsOf 2 (length (c .latches)) (t′ .latches)) ≡ c .latches
-    lats = rows 2 latchOf latchLine (c .latches) (t .latches) (t′ .latches) (λ a. refl) (λ a. refl) (h .latches)
-
-    gs : map gateOf (rowsOf 3 (length (c .gates)) (t′ .gates)) ≡ c .gates
-    gs = rows 3 gateOf gateLine (c .gates) (t .gates) (t′ .gates) (λ a. refl) (λ a. refl) (h .gates)
+    ∙ starts-circuit t′ c (record { inputs = (_, h .inputs); latches = (_, h .latches); outputs = (_, h .outputs); gates = (_, h .gates) })

@@ -1,3 +1,4 @@
 -- Writing: what is written is read back, and what one call leaves every later call accepts.
 pub mod Nothing
 pub mod Fine
+pub mod Holding

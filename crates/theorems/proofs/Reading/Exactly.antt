@@ -79,6 +79,9 @@ module _ (file : List ℕ) (c : Circuit) where
 abbrev pub Accepts : List ℕ → List ℕ → Circuit → List ℕ → Type 0
 Accepts file lengths c tail = (start : ℕ) × (readFile file lengths ≡ got c start) × (drop start file ≡ tail)
 
+pub all-most : (c : Circuit) → WellFormed c → AllMost (listOf (countsOf c))
+all-most c w = (w .most-M, (w .most-I, (w .most-L, (w .most-O, (w .most-A, tt)))))
+
 module _ (file lengths : List ℕ) where
   -- what is accepted is stated
   pub sound : Bytes file → (c : Circuit) (start : ℕ) → readFile file lengths ≡ got c start
@@ -99,9 +102,6 @@ module _ (file lengths : List ℕ) where
         subst₂ (λ (x : Circuit) (y : ℕ). States file x (drop y file)) c-is s-is (b .0),
         ap (λ (x : Counts). short (against 1 (wordsToRead x) lengths)) (ap countsOf (sym c-is) ∙ b .1) ∙ u .0,
       )
-
-  all-most : (c : Circuit) → WellFormed c → AllMost (listOf (countsOf c))
-  all-most c w = (w .most-M, (w .most-I, (w .most-L, (w .most-O, (w .most-A, tt)))))
 
   finish : (f : Form) (c : Circuit) (at start : ℕ) (tail : List ℕ) → WellFormed c → TailOk (countsOf c) tail → Room c lengths
       → header file 0 ≡ got (record { form = f; counts = countsOf c }) at → body file f (countsOf c) at ≡ got c start
