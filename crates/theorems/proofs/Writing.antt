@@ -2,3 +2,5 @@
 pub mod Nothing
 pub mod Fine
 pub mod Holding
+pub mod Back
+pub mod Written

@@ -8,18 +8,20 @@ use mathlib.Core.Logic.{_↔_}
 use mathlib.Core.List.{List, [], _∷_, map}
 use native.Mathlib.Omega.{arith}
 use borrow.Author.Tests.{leb-true, le-leb}
-use lib.ListN.{length, take, length-take, length-map}
+use lib.ListN.{length, length-take, length-map}
+use lib.Seq.{length-take-le}
 use Rattle.plan.specs.declared.Counts.{Counts}
 use Rattle.plan.specs.declared.Refusal.the-variants.{LargeCount, WrongSum, ShortTable, OutOfRange, DefinedTwice, NotDefined, Cyclic}
 use Rattle.plan.specs.Refusals.{firstOf}
 use Rattle.plan.specs.Literals.{most}
-use Rattle.plan.specs.Circuit.{Circuit, Lent, short, latchOf, gateOf, rowsOf, definedIn, usedIn}
+use Rattle.plan.specs.Circuit.{Circuit, Lent, countsOf, short, latchOf, gateOf, rowsOf, definedIn, usedIn}
 use Rattle.plan.specs.Bytes.{values}
 use Rattle.plan.specs.Header.{text, listOf, over, adds}
 use Rattle.plan.specs.Depends.{undefinedIn, cyclicIn}
 use Rattle.plan.specs.Reading.{WellFormed}
-use Rattle.plan.specs.Given.{Given, given, counted, failing, outsideIn, twiceIn, stages}
+use Rattle.plan.specs.Given.{Given, given, counted, failing, outsideIn, twiceIn, lentAlone, stages}
 use Rattle.theorems.proofs.Reading.Headers.{AllMost, over-none, most-none}
+use Rattle.theorems.proofs.Reading.Short.{short-none}
 use Rattle.theorems.proofs.Reading.Undefined.{all-defined, defined-none}
 use Rattle.theorems.proofs.Reading.Cycles.{no-cycle, cycle-none}
 use Rattle.theorems.proofs.Running.Different.{different-once}
@@ -39,7 +41,7 @@ pub length-rows : (k n : ℕ) (t : List ℕ) → length (rowsOf k n t) ≡ n
 length-rows k zero t = refl
 length-rows k (suc n) t = ap suc (length-rows k n _)
 
-module _ (g : Given) (lent : List Lent) where
+module _ (g : Given) where
   abbrev n : Counts
   n = g .counts
 
@@ -58,47 +60,56 @@ module _ (g : Given) (lent : List Lent) where
   gates-are : length (c .gates) ≡ n .A
   gates-are = length-map (rowsOf 3 (n .A) (g .tables .gates)) gateOf ∙ length-rows 3 (n .A) (g .tables .gates)
 
+  -- tables that are long enough hold as many entries as the counts say
+  pub counts-given : short (lentAlone g) ≡ none → countsOf (given g) ≡ g .counts
+  counts-given e =
+      let l = short-none (lentAlone g) .0 e in
+      let i : length (c .inputs) ≡ n .I = length-take-le (n .I) (g .tables .inputs) (l .0) in
+      let o : length (c .outputs) ≡ n .O = length-take-le (n .O) (g .tables .outputs) (l .1 .1 .0) in
+      λ j. record { M = n .M; I = i j; L = latches-are j; O = o j; A = gates-are j }
+
+module _ (g : Given) (lent : List Lent) where
   pub nothing-fine : firstOf (stages g lent) ≡ none → Fine g lent
   nothing-fine e =
       let s = first-all (stages g lent) e in
-      let small : AllMost (listOf n)
-      = subst AllMost (counted-values 1 (listOf n))
-      (over-none (counted 1 (listOf n)) (stage-none LargeCount (over (counted 1 (listOf n))) (s .0))) in
-      let sum : n .I + n .L + n .A ≤ n .M
-      = leb-true _ _ (failing-none (adds text n) (stage-none WrongSum (failing (adds text n)) (s .1 .0))) in
-      let i = none-inside c (stage-none OutOfRange (outsideIn c) (s .1 .1 .1 .0)) in
+      let small : AllMost (listOf (g .counts))
+      = subst AllMost (counted-values 1 (listOf (g .counts)))
+      (over-none (counted 1 (listOf (g .counts))) (stage-none LargeCount (over (counted 1 (listOf (g .counts)))) (s .0))) in
+      let sum : g .counts .I + g .counts .L + g .counts .A ≤ g .counts .M
+      = leb-true _ _ (failing-none (adds text (g .counts)) (stage-none WrongSum (failing (adds text (g .counts))) (s .1 .0))) in
+      let i = none-inside (given g) (stage-none OutOfRange (outsideIn (given g)) (s .1 .1 .1 .0)) in
       record {
         small = small;
         sum = sum;
         room = stage-none ShortTable (short lent) (s .1 .1 .0);
         formed = record {
           most-M = small .0;
-          most-I = omega (arith, small .1 .0, inputs-least);
-          most-L = omega (arith, small .1 .1 .0, latches-are);
-          most-O = omega (arith, small .1 .1 .1 .0, outputs-least);
-          most-A = omega (arith, small .1 .1 .1 .1 .0, gates-are);
-          sum = omega (arith, inputs-least, latches-are, gates-are);
+          most-I = omega (arith, small .1 .0, inputs-least g);
+          most-L = omega (arith, small .1 .1 .0, latches-are g);
+          most-O = omega (arith, small .1 .1 .1 .0, outputs-least g);
+          most-A = omega (arith, small .1 .1 .1 .1 .0, gates-are g);
+          sum = omega (arith, inputs-least g, latches-are g, gates-are g);
           inputs = i .inputs;
           latches = i .latches;
           outputs = i .outputs;
           gates = i .gates;
-          different = once-different c (stage-none DefinedTwice (twiceIn c) (s .1 .1 .1 .1 .0));
-          defined = all-defined (zero ∷ definedIn c) (usedIn c) (stage-none NotDefined (undefinedIn c) (s .1 .1 .1 .1 .1 .0));
-          acyclic = no-cycle (c .gates) (stage-none Cyclic (cyclicIn c) (s .1 .1 .1 .1 .1 .1 .0));
+          different = once-different (given g) (stage-none DefinedTwice (twiceIn (given g)) (s .1 .1 .1 .1 .0));
+          defined = all-defined (zero ∷ definedIn (given g)) (usedIn (given g)) (stage-none NotDefined (undefinedIn (given g)) (s .1 .1 .1 .1 .1 .0));
+          acyclic = no-cycle (given g .gates) (stage-none Cyclic (cyclicIn (given g)) (s .1 .1 .1 .1 .1 .1 .0));
         };
       }
 
   pub fine-nothing : Fine g lent → firstOf (stages g lent) ≡ none
   fine-nothing f =
       let w = f .formed in
-      let e2 : over (counted 1 (listOf n)) ≡ none
-      = most-none (counted 1 (listOf n)) (subst AllMost (sym (counted-values 1 (listOf n))) (f .small)) in
-      let e3 : adds text n ≡ true = le-leb _ _ (f .sum) in
-      let e5 : outsideIn c ≡ none
-      = inside-none c (record { inputs = w .inputs; latches = w .latches; outputs = w .outputs; gates = w .gates }) in
-      let e6 : twiceIn c ≡ none = different-once c (w .different) in
-      let e7 : undefinedIn c ≡ none = defined-none (zero ∷ definedIn c) (usedIn c) (w .defined) in
-      let e8 : cyclicIn c ≡ none = cycle-none (c .gates) (c .gates) (w .acyclic) in
+      let e2 : over (counted 1 (listOf (g .counts))) ≡ none
+      = most-none (counted 1 (listOf (g .counts))) (subst AllMost (sym (counted-values 1 (listOf (g .counts)))) (f .small)) in
+      let e3 : adds text (g .counts) ≡ true = le-leb _ _ (f .sum) in
+      let e5 : outsideIn (given g) ≡ none
+      = inside-none (given g) (record { inputs = w .inputs; latches = w .latches; outputs = w .outputs; gates = w .gates }) in
+      let e6 : twiceIn (given g) ≡ none = different-once (given g) (w .different) in
+      let e7 : undefinedIn (given g) ≡ none = defined-none (zero ∷ definedIn (given g)) (usedIn (given g)) (w .defined) in
+      let e8 : cyclicIn (given g) ≡ none = cycle-none (given g .gates) (given g .gates) (w .acyclic) in
       rw (e2, e3, f .room, e5, e6, e7, e8)
 
   pub fine-exactly : (firstOf (stages g lent) ≡ none) ↔ Fine g lent

@@ -1,0 +1,31 @@
+-- What is written is read back: a well-formed circuit and its tail, in text form and, in binary order, in binary form.
+use Prim.Native.Nat.{ℕ, _+_, _≤_}
+use mathlib.Core.Path.{_≡_, refl, sym, ap, _∙_}
+use mathlib.Core.Bool.{true}
+use mathlib.Core.List.{List, _++_}
+use native.Mathlib.Omega.{arith}
+use lib.ListN.{length, drop, length-append, length-drop}
+use Rattle.plan.specs.Refusals.{got}
+use Rattle.plan.specs.Circuit.{Circuit, countsOf}
+use Rattle.plan.specs.Text.{textOf}
+use Rattle.plan.specs.Binary.{binaryOf, binaryOrder}
+use Rattle.plan.specs.Tail.{TailOk}
+use Rattle.plan.specs.Reading.{readFile, WellFormed, States, asText, asBinary, Room}
+use Rattle.theorems.proofs.Reading.Places.{start-within}
+use Rattle.theorems.proofs.Reading.Exactly.{Accepts, complete}
+
+-- a tail that is handed back starts after the circuit's bytes
+tail-starts : (bytes tail lengths : List ℕ) (c : Circuit) → Accepts (bytes ++ tail) lengths c tail
+    → readFile (bytes ++ tail) lengths ≡ got c (length bytes)
+tail-starts bytes tail lengths c a =
+    let within : a .0 ≤ length (bytes ++ tail) = start-within (bytes ++ tail) lengths c (a .0) (a .1) in
+    let at : a .0 ≡ length bytes
+    = omega (arith, length-append bytes tail, length-drop (a .0) (bytes ++ tail), ap length (a .2)) in
+    a .1 ∙ ap (got c) at
+
+module _ (c : Circuit) (tail lengths : List ℕ) (w : WellFormed c) (t : TailOk (countsOf c) tail) (room : Room c lengths) where
+  pub text-back : readFile (textOf c ++ tail) lengths ≡ got c (length (textOf c))
+  text-back = tail-starts (textOf c) tail lengths c (complete (textOf c ++ tail) lengths c tail (asText refl w t) room)
+
+  pub binary-back : binaryOrder c ≡ true → readFile (binaryOf c ++ tail) lengths ≡ got c (length (binaryOf c))
+  binary-back o = tail-starts (binaryOf c) tail lengths c (complete (binaryOf c ++ tail) lengths c tail (asBinary refl o w t) room)

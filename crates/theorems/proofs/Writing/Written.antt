@@ -1,0 +1,113 @@
+-- A writer that answers with a number of bytes wrote a file whose reading accepts the given circuit and the given tail.
+use Prim.Native.Nat.{ℕ, _+_}
+use mathlib.Core.Path.{_≡_, refl, sym, ap, _∙_, subst}
+use mathlib.Core.Bool.{true}
+use mathlib.Core.Option.{Option, none, some}
+use mathlib.Core.List.{List, [], _∷_, _++_}
+use native.Mathlib.Omega.{arith}
+use lib.ListN.{length, take, drop}
+use Rattle.plan.specs.declared.Counts.{Counts}
+use Rattle.plan.specs.declared.Refusal.{Refusal}
+use Rattle.plan.specs.declared.Refusal.the-variants.{NotInOrder}
+use Rattle.plan.specs.declared.Written.the-variants as written
+use Rattle.plan.specs.declared.Loaded.the-variants as loaded
+use Rattle.plan.specs.Refusals.{Parse, got, refused, firstOf}
+use Rattle.plan.specs.Circuit.{Circuit, Tables, countsOf, lengthsOf, holding, cleared}
+use Rattle.plan.specs.Header.{listOf}
+use Rattle.plan.specs.Text.{textOf}
+use Rattle.plan.specs.Binary.{binaryOf, binaryOrder}
+use Rattle.plan.specs.Tail.{Symbol, tailAt, TailOk}
+use Rattle.plan.specs.Reading.{WellFormed, States, asText, asBinary, Room}
+use Rattle.plan.specs.Given.{Given, given, lentAlone, failing, stages, orderStage, refusalOf, tailStage, roomStage}
+use Rattle.plan.specs.Outcome.{ReadEntry, ReadExit, read, FileEntry, FileExit, writtenBy, writeText, writeBinary}
+use Rattle.theorems.proofs.Put.{put-first}
+use Rattle.theorems.proofs.Reading.Exactly.{Accepts, complete}
+use Rattle.theorems.proofs.Reading.Tails.{tail-exactly}
+use Rattle.theorems.proofs.Writing.Nothing.{some-none, stage-none, failing-none, AllNone, first-all, first-both}
+use Rattle.theorems.proofs.Writing.Fine.{Fine, counts-given, nothing-fine}
+
+-- a tail that its stage lets pass
+pub passed-tail : (n : Counts) (tail : List ℕ) → refusalOf (tailAt tail n 0) ≡ none → TailOk n tail
+passed-tail n tail e = go (tailAt tail n 0) refl e
+  where
+    go : (p : Parse (List Symbol)) → tailAt tail n 0 ≡ p → refusalOf p ≡ none → TailOk n tail
+    go (got ss end) q e = tail-exactly tail n 0 .0 (ss, end, q)
+    go (refused r) q e = some-none r e
+
+-- an answer in bytes: no stage refused, and the first bytes of the buffer are the file
+pub wrote : (e : FileEntry) (bytes : List ℕ) (k : ℕ) (o : Option Refusal) → writtenBy o e bytes .answer ≡ written.Bytes k
+    → (o ≡ none) × (k ≡ length bytes) × (take k (writtenBy o e bytes .out) ≡ bytes)
+wrote e bytes k none a =
+    let k-is : k ≡ length bytes = cc in
+    (refl, k-is, ap (λ (x : ℕ). take x (writtenBy none e bytes .out)) k-is ∙ put-first (e .out) bytes)
+wrote e bytes k (some r) a = let z : _≡_ {A = ℕ} 0 1 = cc in absurd (omega arith)
+
+module _ (e : FileEntry) (k : ℕ) where
+  abbrev g : Given
+  g = e .circuit
+
+  -- the stages of the circuit and of the tail
+  passed : firstOf (stages g (lentAlone g)) ≡ none → tailStage g (e .tail) ≡ none → WellFormed (given g) × TailOk (countsOf (given g)) (e .tail)
+  passed s t =
+      let f = nothing-fine g (lentAlone g) s in
+      (f .formed, subst (λ (n : Counts). TailOk n (e .tail)) (sym (counts-given g (f .room))) (passed-tail (g .counts) (e .tail) t))
+
+  -- what the writer of text wrote states the circuit and the tail
+  pub text-states : writeText e .answer ≡ written.Bytes k → States (take k (writeText e .out)) (given (e .circuit)) (e .tail)
+  text-states a =
+      let bytes = textOf (given g) ++ e .tail in
+      let more = tailStage g (e .tail) ∷ roomStage (e .out) bytes ∷ [] in
+      let w = wrote e bytes k (firstOf (stages g (lentAlone g) ++ more)) a in
+      let s = first-both (stages g (lentAlone g)) more (w .0) in
+      let p = passed (s .0) (first-all more (s .1) .0) in
+      asText (w .2) (p .0) (p .1)
+
+  pub binary-states : writeBinary e .answer ≡ written.Bytes k → States (take k (writeBinary e .out)) (given (e .circuit)) (e .tail)
+  binary-states a =
+      let bytes = binaryOf (given g) ++ e .tail in
+      let more = orderStage g ∷ tailStage g (e .tail) ∷ roomStage (e .out) bytes ∷ [] in
+      let w = wrote e bytes k (firstOf (stages g (lentAlone g) ++ more)) a in
+      let s = first-both (stages g (lentAlone g)) more (w .0) in
+      let all = first-all more (s .1) in
+      let p = passed (s .0) (all .1 .0) in
+      let o = failing-none (binaryOrder (given g)) (stage-none NotInOrder (failing (binaryOrder (given g))) (all .0)) in
+      asBinary (w .2) o (p .0) (p .1)
+
+-- read with tables that have room, it is the circuit and the tail again
+module _ (e : FileEntry) (k : ℕ) (lengths : List ℕ) (room : Room (given (e .circuit)) lengths) where
+  pub text-read-back : writeText e .answer ≡ written.Bytes k → Accepts (take k (writeText e .out)) lengths (given (e .circuit)) (e .tail)
+  text-read-back a = complete (take k (writeText e .out)) lengths (given (e .circuit)) (e .tail) (text-states e k a) room
+
+  pub binary-read-back : writeBinary e .answer ≡ written.Bytes k → Accepts (take k (writeBinary e .out)) lengths (given (e .circuit)) (e .tail)
+  binary-read-back a = complete (take k (writeBinary e .out)) lengths (given (e .circuit)) (e .tail) (binary-states e k a) room
+
+-- what `read` answers and leaves where the reader accepts
+pub read-accepts : (r : ReadEntry) (c : Circuit) (tail : List ℕ)
+    → Accepts (r .file) (lengthsOf (r .tables) ++ (length (r .scratch) ∷ [])) c tail
+    → read r ≡ record { answer = 0 ∷ 0 ∷ listOf (countsOf c); tail = tail; tables = holding (r .tables) c; scratch = cleared (r .scratch) }
+read-accepts r c tail a = rw (a .1) (λ i. record {
+  answer = 0 ∷ 0 ∷ listOf (countsOf c);
+  tail = a .2 i;
+  tables = holding (r .tables) c;
+  scratch = cleared (r .scratch);
+})
+
+-- written and read: the same counts, the same tail, tables that hold the circuit
+module _ (e : FileEntry) (k : ℕ) (t : Tables) (scratch : List ℕ) (room : Room (given (e .circuit)) (lengthsOf t ++ (length scratch ∷ []))) where
+  abbrev again : ReadExit
+  again = record {
+    answer = 0 ∷ 0 ∷ listOf (countsOf (given (e .circuit)));
+    tail = e .tail;
+    tables = holding t (given (e .circuit));
+    scratch = cleared scratch;
+  }
+
+  pub written-text-is-read : writeText e .answer ≡ written.Bytes k → read (record { file = take k (writeText e .out); tables = t; scratch = scratch }) ≡ again
+  written-text-is-read a =
+      read-accepts (record { file = take k (writeText e .out); tables = t; scratch = scratch }) (given (e .circuit)) (e .tail)
+      (text-read-back e k (lengthsOf t ++ (length scratch ∷ [])) room a)
+
+  pub written-binary-is-read : writeBinary e .answer ≡ written.Bytes k → read (record { file = take k (writeBinary e .out); tables = t; scratch = scratch }) ≡ again
+  written-binary-is-read a =
+      read-accepts (record { file = take k (writeBinary e .out); tables = t; scratch = scratch }) (given (e .circuit)) (e .tail)
+      (binary-read-back e k (lengthsOf t ++ (length scratch ∷ [])) room a)
