@@ -4,3 +4,5 @@ pub mod Fine
 pub mod Holding
 pub mod Back
 pub mod Written
+pub mod Eleven
+pub mod Needed
