@@ -6,3 +6,4 @@ pub mod Back
 pub mod Written
 pub mod Eleven
 pub mod Needed
+pub mod ThereAndBack

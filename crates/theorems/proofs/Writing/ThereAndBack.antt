@@ -1,0 +1,116 @@
+-- The same bytes there and back: an accepted file whose circuit is in binary order, as every binary file's is, written in the other
+-- form and from there in its own again, is the same bytes with its tail.
+use Prim.Native.Nat.{ℕ, _≤_}
+use mathlib.Core.Path.{_≡_, refl, sym, ap, ap₂, _∙_, subst}
+use mathlib.Core.Bool.{true}
+use mathlib.Core.Option.{Option, some}
+use mathlib.Core.List.{List, _++_, append-assoc}
+use native.Mathlib.Omega.{arith}
+use borrow.Author.Tests.{eq-eqb, le-leb}
+use lib.ListN.{length, getD, drop}
+use lib.Seq.{drop-append-seam}
+use Rattle.plan.specs.Refusals.{Parse, got, refused, _then_}
+use Rattle.plan.specs.Circuit.{Circuit, countsOf}
+use Rattle.plan.specs.Header.{Form, text, binary, Head, header, headerOf}
+use Rattle.plan.specs.Text.{textLines, textOf}
+use Rattle.plan.specs.Binary.{binaryLines, binaryOf, binaryOrder}
+use Rattle.plan.specs.Tail.{TailOk}
+use Rattle.plan.specs.Reading.{readFile, WellFormed, States, asText, asBinary, Room}
+use Rattle.plan.specs.Convert.{convert}
+use Rattle.plan.specs.Programs.{lentWords, otherForm, fitting, printed, converter}
+use Rattle.theorems.proofs.Reading.Common.{not-got, got-value}
+use Rattle.theorems.proofs.Reading.Differences.{Bytes}
+use Rattle.theorems.proofs.Reading.Headers.{header-took, header-reads}
+use Rattle.theorems.proofs.Reading.Runs.{order-exactly}
+use Rattle.theorems.proofs.Reading.Exactly.{all-most, sound}
+use Rattle.theorems.proofs.Running.Unchanged.{convert-same}
+use Rattle.theorems.proofs.Writing.Back.{text-back, binary-back}
+
+-- a file in the other form: what the converter writes
+abbrev pub inOtherForm : List ℕ → List ℕ → Parse (List ℕ)
+inOtherForm file lengths = readFile file lengths then λ c start. header file 0 then λ h _. got (otherForm (h .form) c ++ drop start file) start
+
+module _ (c : Circuit) (tail lengths : List ℕ) (w : WellFormed c) (t : TailOk (countsOf c) tail) (room : Room c lengths) where
+  text-header : (at : ℕ) × (header (textOf c ++ tail) 0 ≡ got (record { form = text; counts = countsOf c }) at)
+  text-header =
+      let r = header-reads (textOf c ++ tail) 0 text (countsOf c) (textLines c ++ tail) (all-most c w) (le-leb _ _ (w .sum))
+      (append-assoc (headerOf text (countsOf c)) (textLines c) tail) in
+      (r .0, r .1)
+
+  pub text-converted : inOtherForm (textOf c ++ tail) lengths ≡ got (binaryOf (convert c) ++ tail) (length (textOf c))
+  text-converted =
+      rw (text-back c tail lengths w t room, text-header .1)
+      (ap (λ (x : List ℕ). got (binaryOf (convert c) ++ x) (length (textOf c))) (drop-append-seam (textOf c) tail))
+
+  module _ (o : binaryOrder c ≡ true) where
+    binary-header : (at : ℕ) × (header (binaryOf c ++ tail) 0 ≡ got (record { form = binary; counts = countsOf c }) at)
+    binary-header =
+        let r = header-reads (binaryOf c ++ tail) 0 binary (countsOf c) (binaryLines c ++ tail) (all-most c w)
+        (eq-eqb _ _ (order-exactly c .0 o .sum)) (append-assoc (headerOf binary (countsOf c)) (binaryLines c) tail) in
+        (r .0, r .1)
+
+    pub binary-converted : inOtherForm (binaryOf c ++ tail) lengths ≡ got (textOf c ++ tail) (length (binaryOf c))
+    binary-converted =
+        rw (binary-back c tail lengths w t room o, binary-header .1)
+        (ap (λ (x : List ℕ). got (textOf c ++ x) (length (binaryOf c))) (drop-append-seam (binaryOf c) tail))
+
+    -- in binary order nothing is changed on the way
+    pub text-in-order : inOtherForm (textOf c ++ tail) lengths ≡ got (binaryOf c ++ tail) (length (textOf c))
+    text-in-order = text-converted ∙ ap (λ (x : Circuit). got (binaryOf x ++ tail) (length (textOf c))) (convert-same c w o)
+
+-- the other form, and from there the same file
+pub record BackAgain (file lengths : List ℕ) : Type 0 where
+  pub other : List ℕ
+  pub there : (n : ℕ) × (inOtherForm file lengths ≡ got other n)
+  pub back : (n : ℕ) × (inOtherForm other lengths ≡ got file n)
+
+module _ (file lengths : List ℕ) (c : Circuit) where
+  from-states : (tail : List ℕ) → States file c tail → Room c lengths → binaryOrder c ≡ true → BackAgain file lengths
+  from-states tail (asText e w t) room o = record {
+    other = binaryOf c ++ tail;
+    there = (length (textOf c), ap (λ (x : List ℕ). inOtherForm x lengths) e ∙ text-in-order c tail lengths w t room o);
+    back = (length (binaryOf c), binary-converted c tail lengths w t room o ∙ ap (λ (x : List ℕ). got x (length (binaryOf c))) (sym e));
+  }
+  from-states tail (asBinary e _ w t) room o = record {
+    other = textOf c ++ tail;
+    there = (length (binaryOf c), ap (λ (x : List ℕ). inOtherForm x lengths) e ∙ binary-converted c tail lengths w t room o);
+    back = (length (textOf c), text-in-order c tail lengths w t room o ∙ ap (λ (x : List ℕ). got x (length (textOf c))) (sym e));
+  }
+
+  pub back-again : Bytes file → (start : ℕ) → readFile file lengths ≡ got c start → binaryOrder c ≡ true → BackAgain file lengths
+  back-again bytes start q o = let s = sound file lengths bytes c start q in from-states (drop start file) (s .0) (s .1) o
+
+  -- a binary file that is accepted is in binary order
+  module _ (bytes : Bytes file) (h : Head) (at : ℕ) (head : header file 0 ≡ got h at) (form : h .form ≡ binary) (start : ℕ)
+      (accepted : readFile file lengths ≡ got c start) where
+    by-form : (tail : List ℕ) → States file c tail → binaryOrder c ≡ true
+    by-form tail (asText e w t) =
+        let starts : file ≡ headerOf binary (h .counts) ++ drop at file
+        = header-took file 0 h at head .0 ∙ ap (λ (f : Form). headerOf f (h .counts) ++ drop at file) form in
+        let z : _≡_ {A = ℕ} 97 105 = ap (λ (l : List ℕ). getD l 1 0) (sym e ∙ starts) in
+        absurd (omega arith)
+    by-form tail (asBinary e o w t) = o
+
+    pub binary-in-order : binaryOrder c ≡ true
+    binary-in-order = by-form (drop start file) (sound file lengths bytes c start accepted .0)
+
+    pub binary-back-again : BackAgain file lengths
+    binary-back-again = back-again bytes start accepted binary-in-order
+
+-- the converter, run on what it wrote, where both files are as long as an input may be
+converts : (file other : List ℕ) → ((n : ℕ) × (inOtherForm file lentWords ≡ got other n)) → length file ≤ 65536 → length other ≤ 65536
+    → converter (some file) ≡ other
+converts file other q h k = rw (le-leb (length file) 65536 h) (go (readFile file lentWords) (header file 0) (q .1))
+  where
+    go : (p : Parse Circuit) (r : Parse Head) → (p then λ c start. r then λ h _. got (otherForm (h .form) c ++ drop start file) start) ≡ got other (q .0)
+        → printed (p then λ c start. r then λ h _. fitting (otherForm (h .form) c ++ drop start file)) ≡ other
+    go (got c start) (got h n) e =
+        let bytes : otherForm (h .form) c ++ drop start file ≡ other = got-value _ other start (q .0) e in
+        ap (λ (x : List ℕ). printed (fitting x)) bytes ∙ rw (le-leb (length other) 65536 k)
+    go (got c start) (refused r) e = absurd (not-got r other (q .0) e)
+    go (refused r) p e = absurd (not-got r other (q .0) e)
+
+pub converter-back : (file : List ℕ) → (b : BackAgain file lentWords) → length file ≤ 65536 → length (b .other) ≤ 65536
+    → converter (some (converter (some file))) ≡ file
+converter-back file b h k =
+    ap (λ (x : List ℕ). converter (some x)) (converts file (b .other) (b .there) h k) ∙ converts (b .other) file (b .back) k h
