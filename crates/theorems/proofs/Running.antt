@@ -27,6 +27,7 @@ pub mod Scan
 pub mod FirstOut
 pub mod Unchanged
 pub mod Results
+pub mod Counts
 pub mod WithoutX
 pub mod Runs
 pub mod DemandThree

@@ -1,0 +1,77 @@
+-- Conversion keeps the counts but M, which is then I + L + A; reduction keeps I, L and O. So a tail suits them as it suited the circuit.
+use Prim.Native.Nat.{ℕ, _+_}
+use mathlib.Core.Path.{_≡_, refl, sym, ap, ap₂, _∙_}
+use mathlib.Core.Bool.{Bool, cond, not, _&&_}
+use mathlib.Core.List.{List, [], _∷_}
+use lib.Dec.{eqb, ltb}
+use lib.ListN.{length, length-map}
+use Rattle.plan.specs.declared.Counts.{Counts}
+use Rattle.plan.specs.Circuit.{Circuit, countsOf}
+use Rattle.plan.specs.Tail.{Symbol, isKind, countOf, named, fits, isName, symbolsOk, TailOk}
+use Rattle.plan.specs.Reading.{WellFormed}
+use Rattle.plan.specs.Convert.{numbered, renumber, convert}
+use Rattle.plan.specs.Reduce.{becomes, reduced, latchBecomes, reduce}
+use Rattle.theorems.proofs.Reading.Runs.{length-lits}
+use Rattle.theorems.proofs.Running.Converted.{latches-convert}
+use Rattle.theorems.proofs.Running.Results.{gates-convert}
+
+pub counts-convert : (c : Circuit) → WellFormed c → countsOf (convert c) ≡ record {
+  M = length (c .inputs) + length (c .latches) + length (c .gates);
+  I = length (c .inputs);
+  L = length (c .latches);
+  O = length (c .outputs);
+  A = length (c .gates);
+}
+counts-convert c w = λ i. record {
+  M = length (c .inputs) + length (c .latches) + length (c .gates);
+  I = length-lits 1 (length (c .inputs)) i;
+  L = latches-convert c i;
+  O = length-map (c .outputs) (renumber (numbered c)) i;
+  A = gates-convert c w i;
+}
+
+pub counts-reduce : (c : Circuit) → countsOf (reduce c) ≡ record {
+  M = length (c .inputs) + length (c .latches) + length (reduce c .gates);
+  I = length (c .inputs);
+  L = length (c .latches);
+  O = length (c .outputs);
+  A = length (reduce c .gates);
+}
+counts-reduce c = λ i. record {
+  M = length (c .inputs) + length (c .latches) + length (reduce c .gates);
+  I = length (c .inputs);
+  L = length-map (c .latches) (latchBecomes (reduced c .became)) i;
+  O = length-map (c .outputs) (becomes (reduced c .became)) i;
+  A = length (reduce c .gates);
+}
+
+-- a tail knows I, L and O alone
+module _ (n m : Counts) (i : n .I ≡ m .I) (l : n .L ≡ m .L) (o : n .O ≡ m .O) where
+  same-fits : (seen : List Symbol) (s : Symbol) → fits n seen s ≡ fits m seen s
+  same-fits seen s =
+      λ j. ltb (s .entry) (cond (eqb (s .kind) 105) (i j) (cond (eqb (s .kind) 108) (l j) (o j))) && not (named s seen)
+
+  same-symbols : (seen ss : List Symbol) → symbolsOk n seen ss ≡ symbolsOk m seen ss
+  same-symbols seen [] = refl
+  same-symbols seen (s ∷ ss) =
+      ap₂ (λ (x y : Bool). isKind (s .kind) && (isName (s .name) && (x && y))) (same-fits seen s) (same-symbols (s ∷ seen) ss)
+
+  pub same-tail : (tail : List ℕ) → TailOk n tail → TailOk m tail
+  same-tail tail t = record {
+    symbols = t .symbols;
+    rest = t .rest;
+    parts = t .parts;
+    good = sym (same-symbols [] (t .symbols)) ∙ t .good;
+    remark = t .remark;
+  }
+
+module _ (c : Circuit) (tail : List ℕ) where
+  pub tail-convert : TailOk (countsOf c) tail → TailOk (countsOf (convert c)) tail
+  tail-convert =
+      same-tail (countsOf c) (countsOf (convert c)) (sym (length-lits 1 (length (c .inputs)))) (sym (latches-convert c))
+      (sym (length-map (c .outputs) (renumber (numbered c)))) tail
+
+  pub tail-reduce : TailOk (countsOf c) tail → TailOk (countsOf (reduce c)) tail
+  tail-reduce =
+      same-tail (countsOf c) (countsOf (reduce c)) refl (sym (length-map (c .latches) (latchBecomes (reduced c .became))))
+      (sym (length-map (c .outputs) (becomes (reduced c .became)))) tail
