@@ -7,3 +7,4 @@ pub mod Written
 pub mod Eleven
 pub mod Needed
 pub mod ThereAndBack
+pub mod Later

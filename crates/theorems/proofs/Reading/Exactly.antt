@@ -145,7 +145,7 @@ exactly file lengths bytes c tail room =
 abbrev huge : List ℕ
 huge = 6000000 ∷ 6000000 ∷ 6000000 ∷ 6000000 ∷ 6000000 ∷ []
 
-formed : (file : List ℕ) (c : Circuit) (tail : List ℕ) → States file c tail → WellFormed c
+pub formed : (file : List ℕ) (c : Circuit) (tail : List ℕ) → States file c tail → WellFormed c
 formed file c tail (asText e w t) = w
 formed file c tail (asBinary e o w t) = w
 
