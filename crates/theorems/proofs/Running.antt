@@ -28,6 +28,7 @@ pub mod FirstOut
 pub mod Unchanged
 pub mod Results
 pub mod Counts
+pub mod Irreducible
 pub mod WithoutX
 pub mod Runs
 pub mod DemandThree

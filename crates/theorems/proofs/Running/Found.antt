@@ -60,7 +60,7 @@ sides-in ds (g ∷ gs) h =
     )
 
 -- every gate is found by its own left side
-or-none : (a b : Bool) → (a || b) ≡ false → (a ≡ false) × (b ≡ false)
+pub or-none : (a b : Bool) → (a || b) ≡ false → (a ≡ false) × (b ≡ false)
 or-none true b h = absurd (false≢true (sym h))
 or-none false b h = (refl, h)
 
