@@ -29,6 +29,7 @@ pub mod Unchanged
 pub mod Results
 pub mod Counts
 pub mod Irreducible
+pub mod ReduceAgain
 pub mod WithoutX
 pub mod Runs
 pub mod DemandThree
