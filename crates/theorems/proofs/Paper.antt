@@ -1,6 +1,7 @@
 -- "Plans on both sides of the line": the examples marked P, from the paper's bytes to the paper's bytes.
 use Prim.Native.Nat.{ℕ}
 use mathlib.Core.Path.{_≡_, refl}
+use mathlib.Core.Option.{some}
 use mathlib.Core.List.{List, [], _∷_, _++_, map}
 use Rattle.plan.specs.Refusals.{Parse, got, refused, _then_}
 use Rattle.plan.specs.Circuit.{Circuit}
@@ -11,7 +12,7 @@ use Rattle.plan.specs.Reading.{readFile}
 use Rattle.plan.specs.Convert.{convert}
 use Rattle.plan.specs.Reduce.{reduce}
 use Rattle.plan.specs.Step.{codeOf, valueOf, outputsOf, first}
-use Rattle.plan.specs.Programs.{bytesOf, lentWords, printed}
+use Rattle.plan.specs.Programs.{bytesOf, lentWords, printed, tracer}
 
 -- what is asked of some bytes: the number of a difference; whether a file is accepted; its conversion; its reduction; the outputs
 -- of the first step on an input vector, of the file's circuit and of the reduced one
@@ -46,6 +47,10 @@ a of bytes is said = record { asked = a; bytes = bytes; answered = said }
 abbrev halves : List ℕ
 halves = bytesOf "aag 2 1 0 1 1\n2\n5\n4 2 3\n"
 
+-- the toggle circuit T of the AIGER report
+abbrev pub toggle : List ℕ
+toggle = bytesOf "aag 7 2 1 2 4\n2\n4\n6 8\n6\n7\n8 4 10\n10 13 15\n12 2 6\n14 3 7\n"
+
 abbrev pub examples : List Example
 examples =
     (value of 0x81 ∷ 0x02 ∷ [] is bytesOf "257")
@@ -58,8 +63,7 @@ examples =
     ∷ (accepted of bytesOf "aag 2 1 0 1 0\n2\n4\n" is bytesOf "refused 7 at 2\n")
     ∷ (accepted of bytesOf "aag 2 0 0 0 2\n2 4 1\n4 2 1\n" is bytesOf "refused 8 at 1\n")
     ∷ (accepted of bytesOf "aig 1 0 0 0 1\n" ++ (0x02 ∷ 0x00 ∷ []) is bytesOf "accepted")
-    ∷ (converted of bytesOf "aag 7 2 1 2 4\n2\n4\n6 8\n6\n7\n8 4 10\n10 13 15\n12 2 6\n14 3 7\n"
-    is bytesOf "aig 7 2 1 2 4\n14\n6\n7\n" ++ (0x02 ∷ 0x04 ∷ 0x03 ∷ 0x04 ∷ 0x01 ∷ 0x02 ∷ 0x02 ∷ 0x08 ∷ []))
+    ∷ (converted of toggle is bytesOf "aig 7 2 1 2 4\n14\n6\n7\n" ++ (0x02 ∷ 0x04 ∷ 0x03 ∷ 0x04 ∷ 0x01 ∷ 0x02 ∷ 0x02 ∷ 0x08 ∷ []))
     ∷ (reduced of halves is bytesOf "aig 1 1 0 1 0\n1\n")
     ∷ (outputs-on (bytesOf "x") of halves is bytesOf "x")
     ∷ (reduced-outputs-on (bytesOf "x") of halves is bytesOf "1")
@@ -67,3 +71,7 @@ examples =
 
 pub examples-hold : map (λ (x : Example). answer (x .asked) (x .bytes)) examples ≡ map (λ (x : Example). x .answered) examples
 examples-hold = refl
+
+-- the tracer on the toggle circuit: its whole output
+pub tracer-lines : tracer (some toggle) (some (bytesOf "11\n11\nx1\n10\n")) ≡ bytesOf "0 11 01 1\n1 11 10 0\n0 x1 01 x\nx 10 xx 0\n"
+tracer-lines = refl
