@@ -31,5 +31,6 @@ pub mod Counts
 pub mod Irreducible
 pub mod ReduceAgain
 pub mod WithoutX
+pub mod EachStep
 pub mod Runs
 pub mod DemandThree
