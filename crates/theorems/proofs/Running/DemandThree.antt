@@ -2,12 +2,15 @@
 use Prim.Native.Nat.{ℕ}
 use mathlib.Core.Path.{_≡_, refl, sym, ap, ap₂, _∙_, subst}
 use mathlib.Core.List.{List, [], _∷_}
-use lib.ListN.{length, replicate, length-replicate, length-map}
+use lib.ListN.{length, drop, replicate, length-replicate, length-map}
+use Rattle.plan.specs.Refusals.{got}
 use Rattle.plan.specs.Circuit.{Circuit, nexts}
-use Rattle.plan.specs.Reading.{WellFormed}
+use Rattle.plan.specs.Reading.{readFile, WellFormed}
 use Rattle.plan.specs.Convert.{convert}
 use Rattle.plan.specs.Reduce.{reduced, latchBecomes, reduce}
 use Rattle.plan.specs.Step.{Value, v0, outputsOf, nextOf, Step, run, first}
+use Rattle.theorems.proofs.Reading.Differences.{Bytes}
+use Rattle.theorems.proofs.Reading.Exactly.{sound, formed}
 use Rattle.theorems.proofs.Running.Refinement.{Les, les-refl}
 use Rattle.theorems.proofs.Running.Monotone.{Replaced, Kept}
 use Rattle.theorems.proofs.Running.Accepted.{Accepted, accepted}
@@ -70,3 +73,11 @@ demand-three c w is js z r = (kept js r, same)
         run-same c ok is z x (first c) (first (after c)) sized (nox-first (length (c .latches))) (same-first c)
         (kept is (subst (λ (t : List (List Value)). Replaced is t) (sym e) r))
         ∙ ap (run (after c) (first (after c))) e
+
+-- the same of every file that the reader accepts
+pub demand-three-file : (file lengths : List ℕ) → Bytes file → (c : Circuit) (start : ℕ) → readFile file lengths ≡ got c start
+    → (is js : List (List Value)) → Sized (length (c .inputs)) is → Replaced is js
+    → Kept (run c (first c) is) (run (reduce (convert c)) (first (reduce (convert c))) js)
+    × (NoXs is → run c (first c) is ≡ run (reduce (convert c)) (first (reduce (convert c))) js)
+demand-three-file file lengths bytes c start q =
+    demand-three c (formed file c (drop start file) (sound file lengths bytes c start q .0))

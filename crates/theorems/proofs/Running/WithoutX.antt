@@ -3,6 +3,7 @@ use Prim.Native.Nat.{ℕ, zero, suc, _<_}
 use mathlib.Core.Path.{_≡_, refl, ap₂, subst}
 use mathlib.Core.Bool.{true, false≢true}
 use mathlib.Core.Option.{Option, none, some}
+use mathlib.Core.Logic.{_↔_}
 use mathlib.Core.List.{List, [], _∷_, _++_, map, append-nil}
 use native.Mathlib.Omega.{arith}
 use native.Mathlib.Nat.{not-suc-le-zero}
@@ -13,7 +14,7 @@ use Rattle.plan.specs.Depends.{find, isNone, both, settled}
 use Rattle.plan.specs.Convert.{leaves, index}
 use Rattle.plan.specs.Step.{Value, v0, v1, vx, and, inv, signedValue, lit, gateValue, valueIn, leafValue, valuesOf}
 use Rattle.theorems.proofs.Reading.Common.{and-left, and-right}
-use Rattle.theorems.proofs.Running.Refinement.{Le, Les}
+use Rattle.theorems.proofs.Running.Refinement.{Le, Les, le-of}
 use Rattle.theorems.proofs.Running.Lists.{has-but, index-front, allIn, in-head, in-tail}
 use Rattle.theorems.proofs.Running.Found.{AllG, FindSays, find-says, Sides, sides-in}
 use Rattle.theorems.proofs.Running.Accepted.{Accepted}
@@ -68,6 +69,15 @@ le-eq v1 v0 h k = absurd h
 le-eq v1 v1 h k = refl
 le-eq v1 vx h k = absurd h
 le-eq vx b h k = absurd k
+
+-- refinement in the paper's words: what was 0 or 1 is the same
+pub le-exactly : (a b : Value) → Le a b ↔ (NotX a → a ≡ b)
+le-exactly a b = (le-eq a b, λ f. back a f)
+  where
+    back : (x : Value) → (NotX x → x ≡ b) → Le x b
+    back v0 f = le-of (f tt)
+    back v1 f = le-of (f tt)
+    back vx f = tt
 
 pub les-eq : (xs ys : List Value) → Les xs ys → NoX xs → xs ≡ ys
 les-eq [] [] h k = refl
