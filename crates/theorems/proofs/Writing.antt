@@ -8,3 +8,4 @@ pub mod Eleven
 pub mod Needed
 pub mod ThereAndBack
 pub mod Later
+pub mod Calls

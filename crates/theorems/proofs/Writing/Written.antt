@@ -52,26 +52,47 @@ module _ (e : FileEntry) (k : ℕ) where
       let f = nothing-fine g (lentAlone g) s in
       (f .formed, subst (λ (n : Counts). TailOk n (e .tail)) (sym (counts-given g (f .room))) (passed-tail (g .counts) (e .tail) t))
 
-  -- what the writer of text wrote states the circuit and the tail
-  pub text-states : writeText e .answer ≡ written.Bytes k → States (take k (writeText e .out)) (given (e .circuit)) (e .tail)
-  text-states a =
-      let bytes = textOf (given g) ++ e .tail in
-      let more = tailStage g (e .tail) ∷ roomStage (e .out) bytes ∷ [] in
-      let w = wrote e bytes k (firstOf (stages g (lentAlone g) ++ more)) a in
-      let s = first-both (stages g (lentAlone g)) more (w .0) in
-      let p = passed (s .0) (first-all more (s .1) .0) in
-      asText (w .2) (p .0) (p .1)
+  abbrev text-file : List ℕ
+  text-file = textOf (given g) ++ e .tail
 
-  pub binary-states : writeBinary e .answer ≡ written.Bytes k → States (take k (writeBinary e .out)) (given (e .circuit)) (e .tail)
-  binary-states a =
-      let bytes = binaryOf (given g) ++ e .tail in
-      let more = orderStage g ∷ tailStage g (e .tail) ∷ roomStage (e .out) bytes ∷ [] in
-      let w = wrote e bytes k (firstOf (stages g (lentAlone g) ++ more)) a in
-      let s = first-both (stages g (lentAlone g)) more (w .0) in
-      let all = first-all more (s .1) in
-      let p = passed (s .0) (all .1 .0) in
-      let o = failing-none (binaryOrder (given g)) (stage-none NotInOrder (failing (binaryOrder (given g))) (all .0)) in
-      asBinary (w .2) o (p .0) (p .1)
+  abbrev text-last : List (Option Refusal)
+  text-last = tailStage g (e .tail) ∷ roomStage (e .out) text-file ∷ []
+
+  module _ (a : writeText e .answer ≡ written.Bytes k) where
+    text-wrote : (firstOf (stages g (lentAlone g) ++ text-last) ≡ none) × (k ≡ length text-file) × (take k (writeText e .out) ≡ text-file)
+    text-wrote = wrote e text-file k (firstOf (stages g (lentAlone g) ++ text-last)) a
+
+    -- the file that the writer of text wrote, which states the circuit and the tail
+    pub text-bytes : take k (writeText e .out) ≡ textOf (given (e .circuit)) ++ e .tail
+    text-bytes = text-wrote .2
+
+    pub text-states : States (take k (writeText e .out)) (given (e .circuit)) (e .tail)
+    text-states =
+        let s = first-both (stages g (lentAlone g)) text-last (text-wrote .0) in
+        let p = passed (s .0) (first-all text-last (s .1) .0) in
+        asText text-bytes (p .0) (p .1)
+
+  abbrev binary-file : List ℕ
+  binary-file = binaryOf (given g) ++ e .tail
+
+  abbrev binary-last : List (Option Refusal)
+  binary-last = orderStage g ∷ tailStage g (e .tail) ∷ roomStage (e .out) binary-file ∷ []
+
+  module _ (a : writeBinary e .answer ≡ written.Bytes k) where
+    binary-wrote : (firstOf (stages g (lentAlone g) ++ binary-last) ≡ none) × (k ≡ length binary-file) × (take k (writeBinary e .out) ≡ binary-file)
+    binary-wrote = wrote e binary-file k (firstOf (stages g (lentAlone g) ++ binary-last)) a
+
+    -- the same of binary
+    pub binary-bytes : take k (writeBinary e .out) ≡ binaryOf (given (e .circuit)) ++ e .tail
+    binary-bytes = binary-wrote .2
+
+    pub binary-states : States (take k (writeBinary e .out)) (given (e .circuit)) (e .tail)
+    binary-states =
+        let s = first-both (stages g (lentAlone g)) binary-last (binary-wrote .0) in
+        let all = first-all binary-last (s .1) in
+        let p = passed (s .0) (all .1 .0) in
+        let o = failing-none (binaryOrder (given g)) (stage-none NotInOrder (failing (binaryOrder (given g))) (all .0)) in
+        asBinary binary-bytes o (p .0) (p .1)
 
 -- read with tables that have room, it is the circuit and the tail again
 module _ (e : FileEntry) (k : ℕ) (lengths : List ℕ) (room : Room (given (e .circuit)) lengths) where
