@@ -1,6 +1,6 @@
 -- Calls in a row, each handed what the one before left: a file there and back, and demand 3, of the calls themselves.
 use Prim.Native.Nat.{ℕ}
-use mathlib.Core.Path.{_≡_, refl, sym, ap, ap₂, _∙_, subst}
+use mathlib.Core.Path.{_≡_, sym, ap, ap₂, _∙_, subst}
 use mathlib.Core.Bool.{true}
 use mathlib.Core.List.{List, [], _∷_, _++_}
 use lib.ListN.{length, take, drop}
@@ -10,43 +10,144 @@ use Rattle.plan.specs.declared.Made.the-variants as made
 use Rattle.plan.specs.declared.Written.the-variants as written
 use Rattle.plan.specs.Refusals.{got}
 use Rattle.plan.specs.Circuit.{Circuit, Tables, circuitOf, lengthsOf}
-use Rattle.plan.specs.Header.{Head, binary, header}
+use Rattle.plan.specs.Header.{Head, text, binary, header}
 use Rattle.plan.specs.Text.{textOf}
 use Rattle.plan.specs.Binary.{binaryOf, binaryOrder}
-use Rattle.plan.specs.Reading.{readFile, WellFormed, States}
+use Rattle.plan.specs.Reading.{WellFormed, States}
 use Rattle.plan.specs.Given.{Given, given}
 use Rattle.plan.specs.Convert.{convert}
 use Rattle.plan.specs.Reduce.{reduce}
-use Rattle.plan.specs.Outcome.{ReadEntry, load, FileEntry, writeText, writeBinary, MakeEntry, conversion, reduction}
+use Rattle.plan.specs.Step.{Value, run, first}
+use Rattle.plan.specs.Outcome.{ReadEntry, load, FileEntry, FileExit, writeText, writeBinary, MakeEntry, MakeExit, conversion, reduction}
 use Rattle.theorems.proofs.Reading.Differences.{Bytes}
 use Rattle.theorems.proofs.Reading.Exactly.{sound, formed, unique}
+use Rattle.theorems.proofs.Running.Monotone.{Replaced, Kept}
+use Rattle.theorems.proofs.Running.Runs.{Sized}
+use Rattle.theorems.proofs.Running.WithoutX.{NoXs}
 use Rattle.theorems.proofs.Running.Unchanged.{convert-same}
+use Rattle.theorems.proofs.Running.DemandThree.{demand-three}
 use Rattle.theorems.proofs.Writing.Written.{text-bytes, text-states, binary-bytes, binary-states}
-use Rattle.theorems.proofs.Writing.Later.{Left, load-left, conversion-left, reduction-left}
+use Rattle.theorems.proofs.Writing.ThereAndBack.{binary-stated, text-stated}
+use Rattle.theorems.proofs.Writing.Later.{load-left, conversion-left, reduction-left}
 
--- a call is handed the counts and tables that another left
-pub record Handed (g : Given) (n : Counts) (t : Tables) : Type 0 where
-  pub counts : g .counts ≡ n
-  pub tables : g .tables ≡ t
+-- an accepted read, of bytes; an accepted conversion or reduction; an accepted write
+pub record ReadCall : Type 0 where
+  pub entry : ReadEntry
+  pub counts : Counts
+  pub start : ℕ
+  pub bytes : Bytes (entry .file)
+  pub accepted : load entry .answer ≡ loaded.Accepted counts start
 
-handed : (g : Given) (n : Counts) (t : Tables) → Handed g n t → given g ≡ circuitOf n t
-handed g n t h = ap₂ circuitOf (h .counts) (h .tables)
+pub record MakeCall (f : MakeEntry → MakeExit) : Type 0 where
+  pub entry : MakeEntry
+  pub counts : Counts
+  pub accepted : f entry .answer ≡ made.Accepted counts
 
--- what a read, a conversion and a reduction leave, as circuits
-module _ (e : ReadEntry) (bytes : Bytes (e .file)) (n : Counts) (start : ℕ) (accepted : load e .answer ≡ loaded.Accepted n start) where
-  abbrev held : Circuit
-  held = circuitOf n (load e .tables)
+pub record WriteCall (f : FileEntry → FileExit) : Type 0 where
+  pub entry : FileEntry
+  pub size : ℕ
+  pub accepted : f entry .answer ≡ written.Bytes size
 
-  pub load-states : States (e .file) held (drop start (e .file))
-  load-states =
-      let l = load-left e bytes n start accepted in
-      let s = sound (e .file) (lengthsOf (e .tables) ++ (length (e .scratch) ∷ [])) bytes (l .0) start (l .1) in
-      subst (λ (c : Circuit). States (e .file) c (drop start (e .file))) (sym (l .2 .holds)) (s .0)
+-- the circuit and the tail that a read leaves, the circuit that a conversion or a reduction leaves, the file that a writer leaves
+abbrev pub readCircuit : ReadCall → Circuit
+readCircuit r = circuitOf (r .counts) (load (r .entry) .tables)
 
-pub conversion-holds : (m : MakeEntry) (n : Counts) → conversion m .answer ≡ made.Accepted n
-    → circuitOf n (conversion m .written) ≡ convert (given (m .circuit))
-conversion-holds m n a = conversion-left m n a .0 .holds
+abbrev pub readTail : ReadCall → List ℕ
+readTail r = drop (r .start) (r .entry .file)
 
-pub reduction-holds : (m : MakeEntry) (n : Counts) → reduction m .answer ≡ made.Accepted n
-    → circuitOf n (reduction m .written) ≡ reduce (given (m .circuit))
-reduction-holds m n a = reduction-left m n a .0 .holds
+abbrev pub madeCircuit : (f : MakeEntry → MakeExit) → MakeCall f → Circuit
+madeCircuit f m = circuitOf (m .counts) (f (m .entry) .written)
+
+abbrev pub fileOf : (f : FileEntry → FileExit) → WriteCall f → List ℕ
+fileOf f w = take (w .size) (f (w .entry) .out)
+
+-- a call is handed the counts and the tables that a read, or a conversion or reduction, left
+abbrev pub FromRead : Given → ReadCall → Type 0
+FromRead g r = (g .counts ≡ r .counts) × (g .tables ≡ load (r .entry) .tables)
+
+abbrev pub FromMade : (f : MakeEntry → MakeExit) → Given → MakeCall f → Type 0
+FromMade f g m = (g .counts ≡ m .counts) × (g .tables ≡ f (m .entry) .written)
+
+from-read : (g : Given) (r : ReadCall) → FromRead g r → given g ≡ readCircuit r
+from-read g r h = ap₂ circuitOf (h .0) (h .1)
+
+from-made : (f : MakeEntry → MakeExit) (g : Given) (m : MakeCall f) → FromMade f g m → given g ≡ madeCircuit f m
+from-made f g m h = ap₂ circuitOf (h .0) (h .1)
+
+-- what each leaves
+pub read-states : (r : ReadCall) → States (r .entry .file) (readCircuit r) (readTail r)
+read-states r =
+    let e = r .entry in
+    let l = load-left e (r .bytes) (r .counts) (r .start) (r .accepted) in
+    let s = sound (e .file) (lengthsOf (e .tables) ++ (length (e .scratch) ∷ [])) (r .bytes) (l .0) (r .start) (l .1) in
+    subst (λ (c : Circuit). States (e .file) c (readTail r)) (sym (l .2 .holds)) (s .0)
+
+pub read-formed : (r : ReadCall) → WellFormed (readCircuit r)
+read-formed r = formed (r .entry .file) (readCircuit r) (readTail r) (read-states r)
+
+pub converted-is : (m : MakeCall conversion) → madeCircuit conversion m ≡ convert (given (m .entry .circuit))
+converted-is m = conversion-left (m .entry) (m .counts) (m .accepted) .0 .holds
+
+pub reduced-is : (m : MakeCall reduction) → madeCircuit reduction m ≡ reduce (given (m .entry .circuit))
+reduced-is m = reduction-left (m .entry) (m .counts) (m .accepted) .0 .holds
+
+-- a file that states a circuit and a tail, read: the same circuit and tail
+read-same : (file : List ℕ) (c : Circuit) (tail : List ℕ) → States file c tail → (r : ReadCall) → r .entry .file ≡ file
+    → (readCircuit r ≡ c) × (readTail r ≡ tail)
+read-same file c tail s r e =
+    let u = unique file c (readCircuit r) tail (readTail r) s
+    (subst (λ (x : List ℕ). States x (readCircuit r) (readTail r)) e (read-states r)) in
+    (sym (u .0), sym (u .1))
+
+-- the same bytes there and back
+module _ (r : ReadCall) (h : Head) (at : ℕ) (head : header (r .entry .file) 0 ≡ got h at) where
+  -- a binary file, read, written as text, read, converted and written as binary
+  pub binary-through-text : h .form ≡ binary
+      → (t : WriteCall writeText) → FromRead (t .entry .circuit) r → t .entry .tail ≡ readTail r
+      → (r′ : ReadCall) → r′ .entry .file ≡ fileOf writeText t
+      → (m : MakeCall conversion) → FromRead (m .entry .circuit) r′
+      → (b : WriteCall writeBinary) → FromMade conversion (b .entry .circuit) m → b .entry .tail ≡ readTail r′
+      → fileOf writeBinary b ≡ r .entry .file
+  binary-through-text form t t-given t-tail r′ r′-file m m-given b b-given b-tail =
+      let f = binary-stated (r .entry .file) (readCircuit r) (readTail r) h at head form (read-states r) in
+      let same = read-same (fileOf writeText t) (given (t .entry .circuit)) (t .entry .tail)
+      (text-states (t .entry) (t .size) (t .accepted)) r′ r′-file in
+      let c-is : readCircuit r′ ≡ readCircuit r = same .0 ∙ from-read (t .entry .circuit) r t-given in
+      let converted : given (b .entry .circuit) ≡ readCircuit r
+      = from-made conversion (b .entry .circuit) m b-given ∙ (converted-is m
+      ∙ (ap convert (from-read (m .entry .circuit) r′ m-given ∙ c-is) ∙ convert-same (readCircuit r) (read-formed r) (f .1))) in
+      binary-bytes (b .entry) (b .size) (b .accepted)
+      ∙ (ap₂ (λ (x : Circuit) (y : List ℕ). binaryOf x ++ y) converted (b-tail ∙ (same .1 ∙ t-tail)) ∙ sym (f .0))
+
+  -- a text file in binary order, read, converted, written as binary, read and written as text
+  pub text-through-binary : h .form ≡ text → binaryOrder (readCircuit r) ≡ true
+      → (m : MakeCall conversion) → FromRead (m .entry .circuit) r
+      → (b : WriteCall writeBinary) → FromMade conversion (b .entry .circuit) m → b .entry .tail ≡ readTail r
+      → (r′ : ReadCall) → r′ .entry .file ≡ fileOf writeBinary b
+      → (t : WriteCall writeText) → FromRead (t .entry .circuit) r′ → t .entry .tail ≡ readTail r′
+      → fileOf writeText t ≡ r .entry .file
+  text-through-binary form order m m-given b b-given b-tail r′ r′-file t t-given t-tail =
+      let f = text-stated (r .entry .file) (readCircuit r) (readTail r) h at head form (read-states r) in
+      let converted : given (b .entry .circuit) ≡ readCircuit r
+      = from-made conversion (b .entry .circuit) m b-given ∙ (converted-is m
+      ∙ (ap convert (from-read (m .entry .circuit) r m-given) ∙ convert-same (readCircuit r) (read-formed r) order)) in
+      let same = read-same (fileOf writeBinary b) (given (b .entry .circuit)) (b .entry .tail)
+      (binary-states (b .entry) (b .size) (b .accepted)) r′ r′-file in
+      text-bytes (t .entry) (t .size) (t .accepted)
+      ∙ (ap₂ (λ (x : Circuit) (y : List ℕ). textOf x ++ y) (from-read (t .entry .circuit) r′ t-given ∙ (same .0 ∙ converted))
+      (t-tail ∙ (same .1 ∙ b-tail)) ∙ sym f)
+
+-- demand 3 of a read, a conversion and a reduction: whatever replaces x, at every step each output and each latch, before and after, that was
+-- 0 or 1 is the same; without x so is every step
+pub demand-three-calls : (r : ReadCall) (m : MakeCall conversion) → FromRead (m .entry .circuit) r
+    → (s : MakeCall reduction) → FromMade conversion (s .entry .circuit) m
+    → (is js : List (List Value)) → Sized (length (readCircuit r .inputs)) is → Replaced is js
+    → Kept (run (readCircuit r) (first (readCircuit r)) is) (run (madeCircuit reduction s) (first (madeCircuit reduction s)) js)
+    × (NoXs is → run (readCircuit r) (first (readCircuit r)) is ≡ run (madeCircuit reduction s) (first (madeCircuit reduction s)) js)
+demand-three-calls r m m-given s s-given is js sized replaced =
+    let c = readCircuit r in
+    let d-is : reduce (convert c) ≡ madeCircuit reduction s
+    = sym (reduced-is s ∙ ap reduce (from-made conversion (s .entry .circuit) m s-given
+    ∙ (converted-is m ∙ ap convert (from-read (m .entry .circuit) r m-given)))) in
+    subst (λ (d : Circuit). Kept (run c (first c) is) (run d (first d) js) × (NoXs is → run c (first c) is ≡ run d (first d) js)) d-is
+    (demand-three c (read-formed r) is js sized replaced)

@@ -58,6 +58,21 @@ module _ (c : Circuit) (tail lengths : List ℕ) (w : WellFormed c) (t : TailOk 
     pub text-in-order : inOtherForm (textOf c ++ tail) lengths ≡ got (binaryOf c ++ tail) (length (textOf c))
     text-in-order = text-converted ∙ ap (λ (x : Circuit). got (binaryOf x ++ tail) (length (textOf c))) (convert-same c w o)
 
+-- what a file with a header of one form states, it states in this form
+module _ (file : List ℕ) (c : Circuit) (tail : List ℕ) (h : Head) (at : ℕ) (head : header file 0 ≡ got h at) where
+  starts : (f : Form) → h .form ≡ f → file ≡ headerOf f (h .counts) ++ drop at file
+  starts f e = header-took file 0 h at head .0 ∙ ap (λ (x : Form). headerOf x (h .counts) ++ drop at file) e
+
+  pub binary-stated : h .form ≡ binary → States file c tail → (file ≡ binaryOf c ++ tail) × (binaryOrder c ≡ true)
+  binary-stated f (asText e w t) =
+      let z : _≡_ {A = ℕ} 97 105 = ap (λ (l : List ℕ). getD l 1 0) (sym e ∙ starts binary f) in absurd (omega arith)
+  binary-stated f (asBinary e o w t) = (e, o)
+
+  pub text-stated : h .form ≡ text → States file c tail → file ≡ textOf c ++ tail
+  text-stated f (asText e w t) = e
+  text-stated f (asBinary e o w t) =
+      let z : _≡_ {A = ℕ} 105 97 = ap (λ (l : List ℕ). getD l 1 0) (sym e ∙ starts text f) in absurd (omega arith)
+
 -- the other form, and from there the same file
 pub record BackAgain (file lengths : List ℕ) : Type 0 where
   pub other : List ℕ
@@ -83,16 +98,8 @@ module _ (file lengths : List ℕ) (c : Circuit) where
   -- a binary file that is accepted is in binary order
   module _ (bytes : Bytes file) (h : Head) (at : ℕ) (head : header file 0 ≡ got h at) (form : h .form ≡ binary) (start : ℕ)
       (accepted : readFile file lengths ≡ got c start) where
-    by-form : (tail : List ℕ) → States file c tail → binaryOrder c ≡ true
-    by-form tail (asText e w t) =
-        let starts : file ≡ headerOf binary (h .counts) ++ drop at file
-        = header-took file 0 h at head .0 ∙ ap (λ (f : Form). headerOf f (h .counts) ++ drop at file) form in
-        let z : _≡_ {A = ℕ} 97 105 = ap (λ (l : List ℕ). getD l 1 0) (sym e ∙ starts) in
-        absurd (omega arith)
-    by-form tail (asBinary e o w t) = o
-
     pub binary-in-order : binaryOrder c ≡ true
-    binary-in-order = by-form (drop start file) (sound file lengths bytes c start accepted .0)
+    binary-in-order = binary-stated file c (drop start file) h at head form (sound file lengths bytes c start accepted .0) .1
 
     pub binary-back-again : BackAgain file lengths
     binary-back-again = back-again bytes start accepted binary-in-order
