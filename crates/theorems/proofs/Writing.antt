@@ -8,4 +8,5 @@ pub mod Eleven
 pub mod Needed
 pub mod ThereAndBack
 pub mod Later
+pub mod Accepting
 pub mod Calls
