@@ -9,4 +9,5 @@ pub mod Needed
 pub mod ThereAndBack
 pub mod Later
 pub mod Accepting
+pub mod Stepping
 pub mod Calls
