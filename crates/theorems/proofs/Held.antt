@@ -1,5 +1,5 @@
 -- What a reader leaves in tables 1 to 4: the circuit's words from the start of each; after a refusal only the refusal counts.
-use Prim.Native.Nat.{ℕ, _+_}
+use Prim.Native.Nat.{ℕ}
 use mathlib.Core.Path.{_≡_, refl, sym, ap, ap₂, _∙_}
 use mathlib.Core.List.{List, [], _∷_, _++_, append-assoc, map}
 use lib.ListN.{length, take, drop, length-map}
@@ -45,7 +45,8 @@ starts-circuit t c h = λ i. record { M = c .M; inputs = ins i; latches = lats i
     one : (words table : List ℕ) → ((more : List ℕ) × (table ≡ words ++ more)) → take (length words) table ≡ words
     one words table q = ap (take (length words)) (q .1) ∙ take-at words (q .0) (length words) refl
 
-    rows : {A : Type 0} (k : ℕ) (f : List ℕ → A) (g : A → List ℕ) (l : List A) (table : List ℕ) → ((a : A) → f (g a) ≡ a) → ((a : A) → length (g a) ≡ k)
+    rows : {A : Type 0} (k : ℕ) (f : List ℕ → A) (g : A → List ℕ) (l : List A) (table : List ℕ)
+        → ((a : A) → f (g a) ≡ a) → ((a : A) → length (g a) ≡ k)
         → ((more : List ℕ) × (table ≡ flat (map g l) ++ more)) → map f (rowsOf k (length l) table) ≡ l
     rows k f g l table back long q =
         ap (λ (x : List ℕ). map f (rowsOf k (length l) x)) (q .1)

@@ -1,13 +1,13 @@
 -- Conversion keeps the counts but M, which is then I + L + A; reduction keeps I, L and O. So a tail suits them as it suited the circuit.
 use Prim.Native.Nat.{ℕ, _+_}
-use mathlib.Core.Path.{_≡_, refl, sym, ap, ap₂, _∙_}
+use mathlib.Core.Path.{_≡_, refl, sym, ap₂, _∙_}
 use mathlib.Core.Bool.{Bool, cond, not, _&&_}
 use mathlib.Core.List.{List, [], _∷_}
 use lib.Dec.{eqb, ltb}
 use lib.ListN.{length, length-map}
 use Rattle.plan.specs.declared.Counts.{Counts}
 use Rattle.plan.specs.Circuit.{Circuit, countsOf}
-use Rattle.plan.specs.Tail.{Symbol, isKind, countOf, named, fits, isName, symbolsOk, TailOk}
+use Rattle.plan.specs.Tail.{Symbol, isKind, named, fits, isName, symbolsOk, TailOk}
 use Rattle.plan.specs.Reading.{WellFormed}
 use Rattle.plan.specs.Convert.{numbered, renumber, convert}
 use Rattle.plan.specs.Reduce.{becomes, reduced, latchBecomes, reduce}

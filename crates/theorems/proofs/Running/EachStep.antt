@@ -1,7 +1,6 @@
 -- One step: after conversion the outputs and next states have exactly the values before, in three values; after reduction they are the same
 -- wherever they were 0 or 1, and everywhere with no x.
-use Prim.Native.Nat.{ℕ}
-use mathlib.Core.Path.{_≡_, sym}
+use mathlib.Core.Path.{_≡_}
 use mathlib.Core.Bool.{true}
 use mathlib.Core.List.{List}
 use lib.ListN.{length}
@@ -10,10 +9,10 @@ use Rattle.plan.specs.Reading.{WellFormed}
 use Rattle.plan.specs.Binary.{binaryOrder}
 use Rattle.plan.specs.Convert.{convert}
 use Rattle.plan.specs.Reduce.{reduce}
-use Rattle.plan.specs.Step.{Value, outputsOf, nextOf, Step, stepOf}
+use Rattle.plan.specs.Step.{Value, outputsOf, nextOf, stepOf}
 use Rattle.theorems.proofs.Reading.Runs.{order-exactly}
 use Rattle.theorems.proofs.Running.Refinement.{Les, les-refl}
-use Rattle.theorems.proofs.Running.Accepted.{Accepted, accepted}
+use Rattle.theorems.proofs.Running.Accepted.{accepted}
 use Rattle.theorems.proofs.Running.InOrder.{well-ordered}
 use Rattle.theorems.proofs.Running.ConvertStep.{convert-outputs, convert-next}
 use Rattle.theorems.proofs.Running.ReduceStep.{reduce-outputs, reduce-next}

@@ -1,6 +1,6 @@
 -- A reduced circuit has no gate of equal sides, of a side and its negation or of a constant side, and no two gates of the same pair.
 use Prim.Native.Nat.{ℕ, _≤_, min, max}
-use mathlib.Core.Path.{_≡_, refl, sym, ap, ap₂, _∙_, subst}
+use mathlib.Core.Path.{_≡_, refl, sym, ap, _∙_, subst}
 use mathlib.Core.Bool.{Bool, true, false, cond, _&&_, _||_}
 use mathlib.Core.Option.{Option, none, some}
 use mathlib.Core.List.{List, [], _∷_, _++_, append-nil, append-assoc}
@@ -13,7 +13,7 @@ use Rattle.plan.specs.Literals.{negOf}
 use Rattle.plan.specs.Circuit.{Gate, Circuit}
 use Rattle.plan.specs.Binary.{litsFrom}
 use Rattle.plan.specs.Convert.{gateFor}
-use Rattle.plan.specs.Reduce.{Reduced, becomes, twin, standIn, retain, reduceGate, reduceGates, reduced, reduce}
+use Rattle.plan.specs.Reduce.{Reduced, becomes, twin, standIn, retain, reduceGate, reduceGates, reduce}
 use Rattle.theorems.proofs.Running.Found.{AllG, or-none}
 use Rattle.theorems.proofs.Running.Binary.{inner}
 
@@ -128,7 +128,8 @@ twin-seam a b [] g ys e s =
     let t = pick-none (eqb (g .rhs0) a && eqb (g .rhs1) b) (g .lhs) (twin a b ys) e .0 in
     let z : _≡_ {A = Bool} true false = sym (rw (eq-eqb (g .rhs0) a (s .0), eq-eqb (g .rhs1) b (s .1))) ∙ t in
     let y : _≡_ {A = ℕ} 0 1 = cc in omega arith
-twin-seam a b (x ∷ xs) g ys e s = twin-seam a b xs g ys (pick-none (eqb (x .rhs0) a && eqb (x .rhs1) b) (x .lhs) (twin a b (xs ++ (g ∷ ys))) e .1) s
+twin-seam a b (x ∷ xs) g ys e s =
+    twin-seam a b xs g ys (pick-none (eqb (x .rhs0) a && eqb (x .rhs1) b) (x .lhs) (twin a b (xs ++ (g ∷ ys))) e .1) s
 
 later-differ : (xs : List Gate) (g : Gate) (ys gs : List Gate) → Free (xs ++ (g ∷ ys)) gs → AllG (λ h. ¬ SamePair g h) gs
 later-differ xs g ys [] f = tt

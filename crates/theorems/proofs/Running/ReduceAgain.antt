@@ -1,18 +1,17 @@
 -- Reduction changes nothing where no gate can be replaced; so reducing again changes nothing.
-use Prim.Native.Nat.{ℕ, zero, suc, _+_, _*_, _/_, _%_, _≤_, _<_, min, max}
-use mathlib.Core.Path.{_≡_, refl, sym, ap, ap₂, _∙_, subst}
+use Prim.Native.Nat.{ℕ, zero, suc, _+_, _≤_, _<_, min, max}
+use mathlib.Core.Path.{_≡_, refl, sym, ap, ap₂, _∙_}
 use mathlib.Core.Bool.{true}
-use mathlib.Core.Option.{Option, none}
+use mathlib.Core.Option.{none}
 use mathlib.Core.List.{List, [], _∷_, _++_, map, append-nil}
 use native.Mathlib.Omega.{arith}
-use lib.ListN.{length, getD}
+use lib.ListN.{length}
 use lib.Seq.{append-snoc}
 use Rattle.plan.specs.Literals.{litOf, varOf, signOf, signed}
 use Rattle.plan.specs.Circuit.{Gate, Latch, Circuit, nexts}
 use Rattle.plan.specs.Reading.{WellFormed}
 use Rattle.plan.specs.Binary.{litsFrom, binaryOrder}
-use Rattle.plan.specs.Convert.{gateFor}
-use Rattle.plan.specs.Reduce.{Reduced, becomes, twin, standIn, retain, reduceGate, reduceGates, reduced, latchBecomes, reduce}
+use Rattle.plan.specs.Reduce.{Reduced, becomes, twin, standIn, retain, reduceGate, reduceGates, latchBecomes, reduce}
 use Rattle.theorems.proofs.Reading.Order.{InOrder}
 use Rattle.theorems.proofs.Reading.Runs.{BinaryOrder, order-exactly}
 use Rattle.theorems.proofs.Running.Binary.{inner, Bounded, Ordered}
@@ -44,7 +43,8 @@ become-selves k (l ∷ ls) b = ap₂ (λ (x : ℕ) (y : List ℕ). x ∷ y) (bec
 latches-stay : (k : ℕ) (ls : List Latch) → Bounded k (nexts ls) → map (latchBecomes (litsFrom 0 k)) ls ≡ ls
 latches-stay k [] b = refl
 latches-stay k (l ∷ ls) b =
-    ap₂ (λ (x : ℕ) (y : List Latch). record { current = l .current; next = x } ∷ y) (becomes-self k (l .next) (b .0)) (latches-stay k ls (b .1))
+    ap₂ (λ (x : ℕ) (y : List Latch). record { current = l .current; next = x } ∷ y) (becomes-self k (l .next) (b .0))
+    (latches-stay k ls (b .1))
 
 -- the state after gates that were all retained as they were: of k variables
 abbrev kept : ℕ → List Gate → Reduced

@@ -1,9 +1,9 @@
 -- Tables that a read, a conversion or a reduction left are refused by no later call: the writers with a buffer of the length needed, the
 -- conversion and the reduction with tables as long as the counts ask, the stepper and the witness question with vectors of the right form.
 use Prim.Native.Nat.{ℕ, _+_, _*_, _≤_}
-use mathlib.Core.Path.{_≡_, refl, sym, ap, ap₂, _∙_, subst}
-use mathlib.Core.Bool.{Bool, true, _&&_}
-use mathlib.Core.Option.{Option, none, some}
+use mathlib.Core.Path.{_≡_, sym, ap, ap₂, _∙_, subst}
+use mathlib.Core.Bool.{true}
+use mathlib.Core.Option.{Option, none}
 use mathlib.Core.List.{List, [], _∷_, _++_, map}
 use native.Mathlib.Omega.{arith}
 use borrow.Author.Tests.{le-leb, eq-eqb}
@@ -18,17 +18,17 @@ use Rattle.plan.specs.Refusals.{firstOf}
 use Rattle.plan.specs.Circuit.{Circuit, Tables, Lent, countsOf, wordsToWork, against, short, lengthsOf, cleared}
 use Rattle.plan.specs.Text.{textOf}
 use Rattle.plan.specs.Binary.{binaryOf, binaryOrder}
-use Rattle.plan.specs.Tail.{tailAt, TailOk}
+use Rattle.plan.specs.Tail.{TailOk}
 use Rattle.plan.specs.Reading.{WellFormed}
 use Rattle.plan.specs.Given.{Given, given, lentAlone, lentWith, stages, orderStage, refusalOf, tailStage, roomStage}
 use Rattle.plan.specs.Convert.{convert}
 use Rattle.plan.specs.Reduce.{reduce}
 use Rattle.plan.specs.Step.{codeOf, valueOf, outputsOf, nextOf, witnessed}
-use Rattle.plan.specs.Outcome.{FileEntry, writtenBy, writeText, writeBinary, MakeEntry, madeBy, conversion, reduction, allCodes, StepEntry, StepExit, stepStage, steppedBy, step, WitnessEntry, verdictBy, listStage, witness}
+use Rattle.plan.specs.Outcome.{FileEntry, writtenBy, writeText, writeBinary, madeBy, conversion, reduction, allCodes, StepEntry, stepStage, steppedBy, step, WitnessEntry, verdictBy, listStage, witness}
 use Rattle.theorems.proofs.Reading.Short.{AllLong, short-none}
 use Rattle.theorems.proofs.Reading.Tails.{tail-exactly}
 use Rattle.theorems.proofs.Writing.Nothing.{both-first}
-use Rattle.theorems.proofs.Writing.Fine.{Fine, nothing-fine, fine-nothing}
+use Rattle.theorems.proofs.Writing.Fine.{nothing-fine, fine-nothing}
 use Rattle.theorems.proofs.Writing.Holding.{formed-fine}
 use Rattle.theorems.proofs.Writing.Later.{Left}
 
@@ -62,7 +62,8 @@ module _ (g : Given) (c : Circuit) (l : Left g c) where
         let bytes = textOf (given g) ++ tail in
         let same : textOf (given g) ++ tail ≡ textOf c ++ tail = ap (λ (x : Circuit). textOf x ++ tail) (l .holds) in
         let rest : firstOf (tailStage g tail ∷ roomStage out bytes ∷ []) ≡ none
-        = rw (tail-passes tail t) (ap (λ (x : Option Refusal). firstOf (x ∷ [])) (room-passes out bytes (subst (λ (x : List ℕ). length x ≤ length out) (sym same) h))) in
+        = rw (tail-passes tail t) (ap (λ (x : Option Refusal). firstOf (x ∷ []))
+        (room-passes out bytes (subst (λ (x : List ℕ). length x ≤ length out) (sym same) h))) in
         ap (λ (o : Option Refusal). writtenBy o entry bytes .answer)
         (both-first (stages g (lentAlone g)) (tailStage g tail ∷ roomStage out bytes ∷ []) (l .fine) ∙ rest)
         ∙ ap (λ (x : List ℕ). written.Bytes (length x)) same
@@ -73,7 +74,8 @@ module _ (g : Given) (c : Circuit) (l : Left g c) where
         let bytes = binaryOf (given g) ++ tail in
         let same : binaryOf (given g) ++ tail ≡ binaryOf c ++ tail = ap (λ (x : Circuit). binaryOf x ++ tail) (l .holds) in
         let rest : firstOf (orderStage g ∷ tailStage g tail ∷ roomStage out bytes ∷ []) ≡ none
-        = rw (order-passes o, tail-passes tail t) (ap (λ (x : Option Refusal). firstOf (x ∷ [])) (room-passes out bytes (subst (λ (x : List ℕ). length x ≤ length out) (sym same) h))) in
+        = rw (order-passes o, tail-passes tail t) (ap (λ (x : Option Refusal). firstOf (x ∷ []))
+        (room-passes out bytes (subst (λ (x : List ℕ). length x ≤ length out) (sym same) h))) in
         ap (λ (x : Option Refusal). writtenBy x entry bytes .answer)
         (both-first (stages g (lentAlone g)) (orderStage g ∷ tailStage g tail ∷ roomStage out bytes ∷ []) (l .fine) ∙ rest)
         ∙ ap (λ (x : List ℕ). written.Bytes (length x)) same
@@ -93,7 +95,8 @@ module _ (g : Given) (c : Circuit) (l : Left g c) where
         ap (λ (o : Option Refusal). madeBy o (record { circuit = g; written = t }) (convert (given g)) .answer) both-long
         ∙ ap (λ (x : Circuit). made.Accepted (countsOf (convert x))) (l .holds)
 
-    pub reduction-accepted : binaryOrder c ≡ true → reduction (record { circuit = g; written = t }) .answer ≡ made.Accepted (countsOf (reduce c))
+    pub reduction-accepted : binaryOrder c ≡ true
+        → reduction (record { circuit = g; written = t }) .answer ≡ made.Accepted (countsOf (reduce c))
     reduction-accepted o =
         let last : firstOf (orderStage g ∷ []) ≡ none = rw (order-passes o) in
         ap (λ (x : Option Refusal). madeBy x (record { circuit = g; written = t }) (reduce (given g)) .answer)

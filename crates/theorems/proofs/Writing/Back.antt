@@ -1,16 +1,16 @@
 -- What is written is read back: a well-formed circuit and its tail, in text form and, in binary order, in binary form.
-use Prim.Native.Nat.{ℕ, _+_, _≤_}
-use mathlib.Core.Path.{_≡_, refl, sym, ap, _∙_}
+use Prim.Native.Nat.{ℕ, _≤_}
+use mathlib.Core.Path.{_≡_, refl, ap, _∙_}
 use mathlib.Core.Bool.{true}
 use mathlib.Core.List.{List, _++_}
 use native.Mathlib.Omega.{arith}
-use lib.ListN.{length, drop, length-append, length-drop}
+use lib.ListN.{length, length-append, length-drop}
 use Rattle.plan.specs.Refusals.{got}
 use Rattle.plan.specs.Circuit.{Circuit, countsOf}
 use Rattle.plan.specs.Text.{textOf}
 use Rattle.plan.specs.Binary.{binaryOf, binaryOrder}
 use Rattle.plan.specs.Tail.{TailOk}
-use Rattle.plan.specs.Reading.{readFile, WellFormed, States, asText, asBinary, Room}
+use Rattle.plan.specs.Reading.{readFile, WellFormed, asText, asBinary, Room}
 use Rattle.theorems.proofs.Reading.Places.{start-within}
 use Rattle.theorems.proofs.Reading.Exactly.{Accepts, complete}
 

@@ -9,7 +9,7 @@ use Rattle.plan.specs.declared.Loaded.the-variants as loaded
 use Rattle.plan.specs.declared.Made.the-variants as made
 use Rattle.plan.specs.declared.Written.the-variants as written
 use Rattle.plan.specs.Refusals.{got}
-use Rattle.plan.specs.Circuit.{Circuit, Tables, circuitOf, lengthsOf}
+use Rattle.plan.specs.Circuit.{Circuit, circuitOf, lengthsOf}
 use Rattle.plan.specs.Header.{Head, text, binary, header}
 use Rattle.plan.specs.Text.{textOf}
 use Rattle.plan.specs.Binary.{binaryOf, binaryOrder}
@@ -137,8 +137,8 @@ module _ (r : ReadCall) (h : Head) (at : ℕ) (head : header (r .entry .file) 0 
       ∙ (ap₂ (λ (x : Circuit) (y : List ℕ). textOf x ++ y) (from-read (t .entry .circuit) r′ t-given ∙ (same .0 ∙ converted))
       (t-tail ∙ (same .1 ∙ b-tail)) ∙ sym f)
 
--- demand 3 of a read, a conversion and a reduction: whatever replaces x, at every step each output and each latch, before and after, that was
--- 0 or 1 is the same; without x so is every step
+-- demand 3 of a read, a conversion and a reduction: whatever replaces x, at every step each output and each latch, before and after,
+-- that was 0 or 1 is the same; without x so is every step
 pub demand-three-calls : (r : ReadCall) (m : MakeCall conversion) → FromRead (m .entry .circuit) r
     → (s : MakeCall reduction) → FromMade conversion (s .entry .circuit) m
     → (is js : List (List Value)) → Sized (length (readCircuit r .inputs)) is → Replaced is js

@@ -5,7 +5,7 @@ use mathlib.Core.Path.{_≡_, refl, sym, ap, _∙_, subst}
 use mathlib.Core.Bool.{true}
 use mathlib.Core.Option.{none}
 use mathlib.Core.Logic.{_↔_}
-use mathlib.Core.List.{List, [], _∷_, map}
+use mathlib.Core.List.{List, [], _∷_}
 use native.Mathlib.Omega.{arith}
 use borrow.Author.Tests.{leb-true, le-leb}
 use lib.ListN.{length, length-take, length-map}
@@ -13,7 +13,6 @@ use lib.Seq.{length-take-le}
 use Rattle.plan.specs.declared.Counts.{Counts}
 use Rattle.plan.specs.declared.Refusal.the-variants.{LargeCount, WrongSum, ShortTable, OutOfRange, DefinedTwice, NotDefined, Cyclic}
 use Rattle.plan.specs.Refusals.{firstOf}
-use Rattle.plan.specs.Literals.{most}
 use Rattle.plan.specs.Circuit.{Circuit, Lent, countsOf, short, latchOf, gateOf, rowsOf, definedIn, usedIn}
 use Rattle.plan.specs.Bytes.{values}
 use Rattle.plan.specs.Header.{text, listOf, over, adds}
@@ -94,7 +93,8 @@ module _ (g : Given) (lent : List Lent) where
           outputs = i .outputs;
           gates = i .gates;
           different = once-different (given g) (stage-none DefinedTwice (twiceIn (given g)) (s .1 .1 .1 .1 .0));
-          defined = all-defined (zero ∷ definedIn (given g)) (usedIn (given g)) (stage-none NotDefined (undefinedIn (given g)) (s .1 .1 .1 .1 .1 .0));
+          defined = all-defined (zero ∷ definedIn (given g)) (usedIn (given g))
+              (stage-none NotDefined (undefinedIn (given g)) (s .1 .1 .1 .1 .1 .0));
           acyclic = no-cycle (given g .gates) (stage-none Cyclic (cyclicIn (given g)) (s .1 .1 .1 .1 .1 .1 .0));
         };
       }

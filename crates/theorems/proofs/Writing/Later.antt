@@ -1,8 +1,8 @@
 -- What an accepted read, conversion or reduction leaves, every later call accepts: the tables hold the circuit and pass the checks of given
 -- tables; after a conversion or a reduction they are in binary order too.
 use Prim.Native.Nat.{ℕ, _+_, _*_, _≤_}
-use mathlib.Core.Path.{_≡_, refl, sym, ap, ap₂, _∙_, subst}
-use mathlib.Core.Bool.{Bool, true}
+use mathlib.Core.Path.{_≡_, refl, ap, ap₂, _∙_, subst}
+use mathlib.Core.Bool.{true}
 use mathlib.Core.Option.{Option, none, some}
 use mathlib.Core.List.{List, [], _∷_, _++_}
 use native.Mathlib.Omega.{arith}
@@ -20,13 +20,13 @@ use Rattle.plan.specs.Binary.{binaryOrder}
 use Rattle.plan.specs.Given.{Given, given, lentAlone, lentWith, failing, stages, orderStage}
 use Rattle.plan.specs.Convert.{convert}
 use Rattle.plan.specs.Reduce.{reduce}
-use Rattle.plan.specs.Outcome.{ReadEntry, LoadExit, loadBy, load, checkedBy, check, checkInOrder, MakeEntry, madeBy, conversion, reduction}
+use Rattle.plan.specs.Outcome.{ReadEntry, loadBy, load, checkedBy, check, checkInOrder, MakeEntry, madeBy, conversion, reduction}
 use Rattle.theorems.proofs.Reading.Differences.{Bytes}
 use Rattle.theorems.proofs.Reading.Exactly.{sound, formed}
 use Rattle.theorems.proofs.Reading.Short.{short-none}
 use Rattle.theorems.proofs.Running.Counts.{counts-convert, counts-reduce}
 use Rattle.theorems.proofs.Running.Results.{convert-well-formed, convert-in-order, reduce-well-formed, reduce-in-order, reduce-fewer}
-use Rattle.theorems.proofs.Writing.Nothing.{some-none, stage-none, failing-none, first-all, first-both, both-first}
+use Rattle.theorems.proofs.Writing.Nothing.{stage-none, failing-none, first-all, first-both, both-first}
 use Rattle.theorems.proofs.Writing.Fine.{Fine, counts-given, nothing-fine, fine-nothing}
 use Rattle.theorems.proofs.Writing.Holding.{Enough, holding-circuit, holding-lengths, formed-fine}
 
@@ -71,7 +71,8 @@ pub load-left : (e : ReadEntry) → Bytes (e .file) → (n : Counts) (start : �
     × Left (record { counts = n; tables = load e .tables; scratch = load e .scratch }) c
 load-left e bytes n start a = go (readFile (e .file) (lengthsOf (e .tables) ++ (length (e .scratch) ∷ []))) refl a
   where
-    go : (p : Parse Circuit) → readFile (e .file) (lengthsOf (e .tables) ++ (length (e .scratch) ∷ [])) ≡ p → loadBy e p .answer ≡ loaded.Accepted n start
+    go : (p : Parse Circuit) → readFile (e .file) (lengthsOf (e .tables) ++ (length (e .scratch) ∷ [])) ≡ p
+        → loadBy e p .answer ≡ loaded.Accepted n start
         → (c : Circuit) × (p ≡ got c start) × Left (record { counts = n; tables = loadBy e p .tables; scratch = loadBy e p .scratch }) c
     go (got c s) q a =
         let n-is : countsOf c ≡ n = cc in
@@ -118,7 +119,8 @@ made-left : (o : Option Refusal) (e : MakeEntry) (c : Circuit) (n : Counts) → 
 made-left none e c n a l =
     let n-is : countsOf c ≡ n = cc in (
       refl,
-      subst (λ (x : Counts). Left (record { counts = x; tables = holding (e .written) c; scratch = cleared (e .circuit .scratch) }) c) n-is (l refl),
+      subst (λ (x : Counts). Left (record { counts = x; tables = holding (e .written) c; scratch = cleared (e .circuit .scratch) }) c) n-is
+          (l refl),
     )
 made-left (some r) e c n a l = let z : _≡_ {A = ℕ} 0 1 = cc in absurd (omega arith)
 
@@ -138,7 +140,8 @@ pub conversion-left : (e : MakeEntry) (n : Counts) → conversion e .answer ≡ 
     → Left (record { counts = n; tables = conversion e .written; scratch = conversion e .scratch }) (convert (given (e .circuit)))
     × (binaryOrder (convert (given (e .circuit))) ≡ true)
 conversion-left e n a =
-    let m = made-left (firstOf (stages (e .circuit) (lentWith (e .circuit) (e .written)))) e (convert (given (e .circuit))) n a (λ f. of f) in
+    let all = stages (e .circuit) (lentWith (e .circuit) (e .written)) in
+    let m = made-left (firstOf all) e (convert (given (e .circuit))) n a (λ f. of f) in
     (m .1, convert-in-order (given (e .circuit)) (fine e (m .0) .formed))
   where
     of : firstOf (stages (e .circuit) (lentWith (e .circuit) (e .written))) ≡ none

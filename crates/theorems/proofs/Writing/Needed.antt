@@ -94,13 +94,15 @@ module _ (g : Given) (tail : List ℕ) where
 
   pub text-needed : length text-bytes < 2 ^ 64 → (out : List ℕ) (p : ℕ) → writeText (buffer out) .answer ≡ written.Refused (ShortBuffer p)
       → (length out < p) × ((more : List ℕ) → p ≤ length more → writeText (buffer more) .answer ≡ written.Bytes p)
-  text-needed fits = needed g tail text-bytes text-stages fits (others-circuit g (tailStage g tail ∷ []) (other-tail-stage (g .counts) tail, tt))
+  text-needed fits =
+      needed g tail text-bytes text-stages fits (others-circuit g (tailStage g tail ∷ []) (other-tail-stage (g .counts) tail, tt))
 
   pub text-reported : length text-bytes < 2 ^ 64 → (out : List ℕ) (k : ℕ) → writeText (buffer out) .answer ≡ written.Bytes k
       → (less : List ℕ) → length less < k → writeText (buffer less) .answer ≡ written.Refused (ShortBuffer k)
   text-reported = reported g tail text-bytes text-stages
 
-  pub binary-needed : length binary-bytes < 2 ^ 64 → (out : List ℕ) (p : ℕ) → writeBinary (buffer out) .answer ≡ written.Refused (ShortBuffer p)
+  pub binary-needed : length binary-bytes < 2 ^ 64 → (out : List ℕ) (p : ℕ)
+      → writeBinary (buffer out) .answer ≡ written.Refused (ShortBuffer p)
       → (length out < p) × ((more : List ℕ) → p ≤ length more → writeBinary (buffer more) .answer ≡ written.Bytes p)
   binary-needed fits =
       needed g tail binary-bytes binary-stages fits

@@ -9,7 +9,7 @@ use native.Mathlib.Omega.{arith}
 use Rattle.plan.specs.declared.Refusal.{Refusal}
 use Rattle.plan.specs.Refusals.{stage, firstOf}
 use Rattle.plan.specs.Literals.{varOf, inRange}
-use Rattle.plan.specs.Circuit.{Circuit, oneLine, latchLine, gateLine, literalOf, heads, vars, currents, lefts, definedIn, has, allNew, inside, allInside}
+use Rattle.plan.specs.Circuit.{Circuit, oneLine, latchLine, gateLine, heads, vars, currents, lefts, definedIn, has, allNew, inside, allInside}
 use Rattle.plan.specs.Bytes.{outside}
 use Rattle.plan.specs.Given.{placed, orElse, failing, outsideOf, outsideIn, twiceOf, twiceIn}
 use Rattle.theorems.proofs.Reading.Rows.{Long, map-long, new-both}
@@ -106,7 +106,8 @@ inside-none c h =
     ∙ rw (h .inputs, h .latches, h .outputs, h .gates)
 
 -- 6: lines that define a variable each
-none-new : (k t : ℕ) (seen : List ℕ) (rows : List (List ℕ)) → Long (1 + k) rows → twiceOf t seen rows ≡ none → allNew seen (heads rows) ≡ true
+none-new : (k t : ℕ) (seen : List ℕ) (rows : List (List ℕ)) → Long (1 + k) rows → twiceOf t seen rows ≡ none
+    → allNew seen (heads rows) ≡ true
 none-new k t seen [] l e = refl
 none-new k t seen ([] ∷ rows) l e = absurd (omega (arith, l .0))
 none-new k t seen ((x ∷ row) ∷ rows) l e = go (has (varOf x) seen) (none-new k t (seen ++ (varOf x ∷ [])) rows (l .1)) e
@@ -123,7 +124,8 @@ once-different c e =
     let lats = currents (c .latches) in
     let h1 = or-none _ _ e in
     let h2 = or-none _ _ (h1 .1) in
-    new-both [] ins (lats ++ lefts (c .gates)) (none-new 0 1 [] (map oneLine (c .inputs)) (map-long 1 oneLine (λ a. refl) (c .inputs)) (h1 .0))
+    new-both [] ins (lats ++ lefts (c .gates))
+    (none-new 0 1 [] (map oneLine (c .inputs)) (map-long 1 oneLine (λ a. refl) (c .inputs)) (h1 .0))
     (new-both ins lats (lefts (c .gates))
     (none-new 1 2 ins (map latchLine (c .latches)) (map-long 2 latchLine (λ a. refl) (c .latches)) (h2 .0))
     (none-new 2 4 (ins ++ lats) (map gateLine (c .gates)) (map-long 3 gateLine (λ a. refl) (c .gates)) (h2 .1)))

@@ -1,14 +1,14 @@
 -- Steps in a row are the run of the definition: each call of the stepper starts from the state that the one before wrote.
 use Prim.Native.Nat.{ℕ}
-use mathlib.Core.Path.{_≡_, refl, sym, ap, ap₂, _∙_}
-use mathlib.Core.Bool.{Bool, true}
+use mathlib.Core.Path.{_≡_, refl, ap, ap₂, _∙_}
+use mathlib.Core.Bool.{true}
 use mathlib.Core.List.{List, [], _∷_, map}
 use lib.ListN.{length, length-map}
 use Rattle.plan.specs.declared.Stepped.the-variants as stepped
 use Rattle.plan.specs.Circuit.{Circuit, cleared}
 use Rattle.plan.specs.Binary.{binaryOrder}
 use Rattle.plan.specs.Given.{Given}
-use Rattle.plan.specs.Step.{Value, v0, v1, vx, codeOf, valueOf, outputsOf, nextOf, Step, run}
+use Rattle.plan.specs.Step.{Value, v0, v1, vx, codeOf, valueOf, outputsOf, nextOf, Step, stepOf, run}
 use Rattle.plan.specs.Outcome.{allCodes, StepExit, step}
 use Rattle.theorems.proofs.Running.Runs.{Sized, next-length}
 use Rattle.theorems.proofs.Writing.Later.{Left}
@@ -45,10 +45,11 @@ all-codes (v0 ∷ l) = all-codes l
 all-codes (v1 ∷ l) = all-codes l
 all-codes (vx ∷ l) = all-codes l
 
-module _ (g : Given) (c : Circuit) (left : Left g c) (order : binaryOrder c ≡ true) (outs : List ℕ) (room : length outs ≡ length (c .outputs)) where
+module _ (g : Given) (c : Circuit) (left : Left g c) (order : binaryOrder c ≡ true) (outs : List ℕ)
+    (room : length outs ≡ length (c .outputs)) where
   one-step : (state ins : List Value) → length state ≡ length (c .latches) → length ins ≡ length (c .inputs)
       → step (record { circuit = g; state = map codeOf state; inputs = map codeOf ins; outputs = outs })
-      ≡ exitOf g (record { state = state; inputs = ins; outputs = outputsOf c state ins; next = nextOf c state ins })
+      ≡ exitOf g (stepOf c state ins)
   one-step state ins ls li =
       step-done g c left order (map codeOf state) (map codeOf ins) outs (length-map state codeOf ∙ ls) (all-codes state)
       (length-map ins codeOf ∙ li) (all-codes ins) room
@@ -61,5 +62,5 @@ module _ (g : Given) (c : Circuit) (left : Left g c) (order : binaryOrder c ≡ 
   steps-run (ins ∷ list) z state h =
       let e = one-step state ins h (z .0) in
       ap₂ (λ (x : StepExit) (y : List ℕ). x ∷ steps g outs y (map (map codeOf) list)) e (ap (λ (x : StepExit). x .state) e)
-      ∙ ap (λ (x : List StepExit). exitOf g (record { state = state; inputs = ins; outputs = outputsOf c state ins; next = nextOf c state ins }) ∷ x)
+      ∙ ap (λ (x : List StepExit). exitOf g (stepOf c state ins) ∷ x)
       (steps-run list (z .1) (nextOf c state ins) (next-length c state ins))

@@ -1,9 +1,9 @@
 -- The same bytes there and back: an accepted file whose circuit is in binary order, as every binary file's is, written in the other
 -- form and from there in its own again, is the same bytes with its tail.
 use Prim.Native.Nat.{ℕ, _≤_}
-use mathlib.Core.Path.{_≡_, refl, sym, ap, ap₂, _∙_, subst}
+use mathlib.Core.Path.{_≡_, sym, ap, _∙_}
 use mathlib.Core.Bool.{true}
-use mathlib.Core.Option.{Option, some}
+use mathlib.Core.Option.{some}
 use mathlib.Core.List.{List, _++_, append-assoc}
 use native.Mathlib.Omega.{arith}
 use borrow.Author.Tests.{eq-eqb, le-leb}
@@ -28,7 +28,8 @@ use Rattle.theorems.proofs.Writing.Back.{text-back, binary-back}
 
 -- a file in the other form: what the converter writes
 abbrev pub inOtherForm : List ℕ → List ℕ → Parse (List ℕ)
-inOtherForm file lengths = readFile file lengths then λ c start. header file 0 then λ h _. got (otherForm (h .form) c ++ drop start file) start
+inOtherForm file lengths =
+    readFile file lengths then λ c start. header file 0 then λ h _. got (otherForm (h .form) c ++ drop start file) start
 
 module _ (c : Circuit) (tail lengths : List ℕ) (w : WellFormed c) (t : TailOk (countsOf c) tail) (room : Room c lengths) where
   text-header : (at : ℕ) × (header (textOf c ++ tail) 0 ≡ got (record { form = text; counts = countsOf c }) at)
@@ -109,7 +110,8 @@ converts : (file other : List ℕ) → ((n : ℕ) × (inOtherForm file lentWords
     → converter (some file) ≡ other
 converts file other q h k = rw (le-leb (length file) 65536 h) (go (readFile file lentWords) (header file 0) (q .1))
   where
-    go : (p : Parse Circuit) (r : Parse Head) → (p then λ c start. r then λ h _. got (otherForm (h .form) c ++ drop start file) start) ≡ got other (q .0)
+    go : (p : Parse Circuit) (r : Parse Head)
+        → (p then λ c start. r then λ h _. got (otherForm (h .form) c ++ drop start file) start) ≡ got other (q .0)
         → printed (p then λ c start. r then λ h _. fitting (otherForm (h .form) c ++ drop start file)) ≡ other
     go (got c start) (got h n) e =
         let bytes : otherForm (h .form) c ++ drop start file ≡ other = got-value _ other start (q .0) e in

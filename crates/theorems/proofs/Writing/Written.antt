@@ -1,16 +1,14 @@
 -- A writer that answers with a number of bytes wrote a file whose reading accepts the given circuit and the given tail.
-use Prim.Native.Nat.{ℕ, _+_}
+use Prim.Native.Nat.{ℕ}
 use mathlib.Core.Path.{_≡_, refl, sym, ap, _∙_, subst}
-use mathlib.Core.Bool.{true}
 use mathlib.Core.Option.{Option, none, some}
 use mathlib.Core.List.{List, [], _∷_, _++_}
 use native.Mathlib.Omega.{arith}
-use lib.ListN.{length, take, drop}
+use lib.ListN.{length, take}
 use Rattle.plan.specs.declared.Counts.{Counts}
 use Rattle.plan.specs.declared.Refusal.{Refusal}
 use Rattle.plan.specs.declared.Refusal.the-variants.{NotInOrder}
 use Rattle.plan.specs.declared.Written.the-variants as written
-use Rattle.plan.specs.declared.Loaded.the-variants as loaded
 use Rattle.plan.specs.Refusals.{Parse, got, refused, firstOf}
 use Rattle.plan.specs.Circuit.{Circuit, Tables, countsOf, lengthsOf, holding, cleared}
 use Rattle.plan.specs.Header.{listOf}
@@ -19,12 +17,12 @@ use Rattle.plan.specs.Binary.{binaryOf, binaryOrder}
 use Rattle.plan.specs.Tail.{Symbol, tailAt, TailOk}
 use Rattle.plan.specs.Reading.{WellFormed, States, asText, asBinary, Room}
 use Rattle.plan.specs.Given.{Given, given, lentAlone, failing, stages, orderStage, refusalOf, tailStage, roomStage}
-use Rattle.plan.specs.Outcome.{ReadEntry, ReadExit, read, FileEntry, FileExit, writtenBy, writeText, writeBinary}
+use Rattle.plan.specs.Outcome.{ReadEntry, ReadExit, read, FileEntry, writtenBy, writeText, writeBinary}
 use Rattle.theorems.proofs.Put.{put-first}
 use Rattle.theorems.proofs.Reading.Exactly.{Accepts, complete}
 use Rattle.theorems.proofs.Reading.Tails.{tail-exactly}
-use Rattle.theorems.proofs.Writing.Nothing.{some-none, stage-none, failing-none, AllNone, first-all, first-both}
-use Rattle.theorems.proofs.Writing.Fine.{Fine, counts-given, nothing-fine}
+use Rattle.theorems.proofs.Writing.Nothing.{some-none, stage-none, failing-none, first-all, first-both}
+use Rattle.theorems.proofs.Writing.Fine.{counts-given, nothing-fine}
 
 -- a tail that its stage lets pass
 pub passed-tail : (n : Counts) (tail : List ℕ) → refusalOf (tailAt tail n 0) ≡ none → TailOk n tail
@@ -47,7 +45,8 @@ module _ (e : FileEntry) (k : ℕ) where
   g = e .circuit
 
   -- the stages of the circuit and of the tail
-  passed : firstOf (stages g (lentAlone g)) ≡ none → tailStage g (e .tail) ≡ none → WellFormed (given g) × TailOk (countsOf (given g)) (e .tail)
+  passed : firstOf (stages g (lentAlone g)) ≡ none → tailStage g (e .tail) ≡ none
+      → WellFormed (given g) × TailOk (countsOf (given g)) (e .tail)
   passed s t =
       let f = nothing-fine g (lentAlone g) s in
       (f .formed, subst (λ (n : Counts). TailOk n (e .tail)) (sym (counts-given g (f .room))) (passed-tail (g .counts) (e .tail) t))
@@ -79,7 +78,8 @@ module _ (e : FileEntry) (k : ℕ) where
   binary-last = orderStage g ∷ tailStage g (e .tail) ∷ roomStage (e .out) binary-file ∷ []
 
   module _ (a : writeBinary e .answer ≡ written.Bytes k) where
-    binary-wrote : (firstOf (stages g (lentAlone g) ++ binary-last) ≡ none) × (k ≡ length binary-file) × (take k (writeBinary e .out) ≡ binary-file)
+    binary-wrote : (firstOf (stages g (lentAlone g) ++ binary-last) ≡ none) × (k ≡ length binary-file)
+        × (take k (writeBinary e .out) ≡ binary-file)
     binary-wrote = wrote e binary-file k (firstOf (stages g (lentAlone g) ++ binary-last)) a
 
     -- the same of binary
@@ -99,7 +99,8 @@ module _ (e : FileEntry) (k : ℕ) (lengths : List ℕ) (room : Room (given (e .
   pub text-read-back : writeText e .answer ≡ written.Bytes k → Accepts (take k (writeText e .out)) lengths (given (e .circuit)) (e .tail)
   text-read-back a = complete (take k (writeText e .out)) lengths (given (e .circuit)) (e .tail) (text-states e k a) room
 
-  pub binary-read-back : writeBinary e .answer ≡ written.Bytes k → Accepts (take k (writeBinary e .out)) lengths (given (e .circuit)) (e .tail)
+  pub binary-read-back : writeBinary e .answer ≡ written.Bytes k
+      → Accepts (take k (writeBinary e .out)) lengths (given (e .circuit)) (e .tail)
   binary-read-back a = complete (take k (writeBinary e .out)) lengths (given (e .circuit)) (e .tail) (binary-states e k a) room
 
 -- what `read` answers and leaves where the reader accepts
@@ -114,7 +115,8 @@ read-accepts r c tail a = rw (a .1) (λ i. record {
 })
 
 -- written and read: the same counts, the same tail, tables that hold the circuit
-module _ (e : FileEntry) (k : ℕ) (t : Tables) (scratch : List ℕ) (room : Room (given (e .circuit)) (lengthsOf t ++ (length scratch ∷ []))) where
+module _ (e : FileEntry) (k : ℕ) (t : Tables) (scratch : List ℕ)
+    (room : Room (given (e .circuit)) (lengthsOf t ++ (length scratch ∷ []))) where
   abbrev again : ReadExit
   again = record {
     answer = 0 ∷ 0 ∷ listOf (countsOf (given (e .circuit)));
@@ -123,12 +125,14 @@ module _ (e : FileEntry) (k : ℕ) (t : Tables) (scratch : List ℕ) (room : Roo
     scratch = cleared scratch;
   }
 
-  pub written-text-is-read : writeText e .answer ≡ written.Bytes k → read (record { file = take k (writeText e .out); tables = t; scratch = scratch }) ≡ again
+  pub written-text-is-read : writeText e .answer ≡ written.Bytes k
+      → read (record { file = take k (writeText e .out); tables = t; scratch = scratch }) ≡ again
   written-text-is-read a =
       read-accepts (record { file = take k (writeText e .out); tables = t; scratch = scratch }) (given (e .circuit)) (e .tail)
       (text-read-back e k (lengthsOf t ++ (length scratch ∷ [])) room a)
 
-  pub written-binary-is-read : writeBinary e .answer ≡ written.Bytes k → read (record { file = take k (writeBinary e .out); tables = t; scratch = scratch }) ≡ again
+  pub written-binary-is-read : writeBinary e .answer ≡ written.Bytes k
+      → read (record { file = take k (writeBinary e .out); tables = t; scratch = scratch }) ≡ again
   written-binary-is-read a =
       read-accepts (record { file = take k (writeBinary e .out); tables = t; scratch = scratch }) (given (e .circuit)) (e .tail)
       (binary-read-back e k (lengthsOf t ++ (length scratch ∷ [])) room a)
