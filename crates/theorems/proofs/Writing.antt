@@ -11,3 +11,4 @@ pub mod Later
 pub mod Accepting
 pub mod Stepping
 pub mod Calls
+pub mod Programs

@@ -1,0 +1,95 @@
+-- What the converter and the reducer write, the reader accepts: the converted or the reduced circuit with the same tail. The reducer,
+-- run on what it wrote, writes the same; the converter, run on what it wrote from what it wrote, too.
+use Prim.Native.Nat.{ℕ, _+_, _*_, _≤_}
+use mathlib.Core.Path.{_≡_, refl, sym, ap, _∙_}
+use mathlib.Core.Bool.{true}
+use mathlib.Core.Option.{none, some}
+use mathlib.Core.List.{List, [], _∷_, _++_}
+use native.Mathlib.Omega.{arith}
+use borrow.Author.Tests.{le-leb}
+use lib.ListN.{length, drop}
+use lib.Seq.{drop-append-seam}
+use Rattle.plan.specs.declared.Counts.{Counts}
+use Rattle.plan.specs.Refusals.{Parse, got, refused, _then_}
+use Rattle.plan.specs.Circuit.{Circuit, countsOf, wordsToRead, against, short}
+use Rattle.plan.specs.Text.{textOf}
+use Rattle.plan.specs.Binary.{binaryOf, binaryOrder}
+use Rattle.plan.specs.Tail.{TailOk}
+use Rattle.plan.specs.Reading.{readFile, WellFormed, States, asText, asBinary, Room}
+use Rattle.plan.specs.Convert.{convert}
+use Rattle.plan.specs.Reduce.{reduce}
+use Rattle.plan.specs.Programs.{lentWords, fitting, printed, converter, reducer}
+use Rattle.theorems.proofs.Reading.Differences.{Bytes}
+use Rattle.theorems.proofs.Reading.Short.{AllLong, short-none}
+use Rattle.theorems.proofs.Reading.Exactly.{sound, formed}
+use Rattle.theorems.proofs.Running.Unchanged.{convert-same}
+use Rattle.theorems.proofs.Running.Results.{convert-well-formed, convert-in-order, reduce-well-formed, reduce-in-order, reduce-fewer}
+use Rattle.theorems.proofs.Running.Counts.{counts-convert, counts-reduce, tail-convert, tail-reduce}
+use Rattle.theorems.proofs.Running.ReduceAgain.{reduce-again}
+use Rattle.theorems.proofs.Writing.Back.{binary-back}
+
+-- a circuit with the same I, L and O, and M and A no larger, has room where the first has
+room-less : (n m : Counts) (lengths : List ℕ) → m .M ≤ n .M → m .I ≡ n .I → m .L ≡ n .L → m .O ≡ n .O → m .A ≤ n .A
+    → short (against 1 (wordsToRead n) lengths) ≡ none → short (against 1 (wordsToRead m) lengths) ≡ none
+room-less n m lengths hm hi hl ho ha r =
+    let l = short-none (against 1 (wordsToRead n) lengths) .0 r in
+    short-none (against 1 (wordsToRead m) lengths) .1
+    (omega (arith, l .0), (omega (arith, l .1 .0), (omega (arith, l .1 .1 .0), (omega (arith, l .1 .1 .1 .0), (omega (arith, l .1 .1 .1 .1 .0), tt)))))
+
+module _ (c : Circuit) (w : WellFormed c) (lengths : List ℕ) (room : Room c lengths) where
+  pub room-convert : Room (convert c) lengths
+  room-convert =
+      let k = counts-convert c w in
+      room-less (countsOf c) (countsOf (convert c)) lengths (w .sum) (ap (λ (n : Counts). n .I) k) (ap (λ (n : Counts). n .L) k)
+      (ap (λ (n : Counts). n .O) k) (omega (arith, ap (λ (n : Counts). n .A) k)) room
+
+  pub room-reduce : binaryOrder c ≡ true → Room (reduce c) lengths
+  room-reduce t =
+      let k = counts-reduce c in
+      let fewer = reduce-fewer c w t in
+      room-less (countsOf c) (countsOf (reduce c)) lengths (omega (arith, w .sum, fewer)) (ap (λ (n : Counts). n .I) k)
+      (ap (λ (n : Counts). n .L) k) (ap (λ (n : Counts). n .O) k) fewer room
+
+stated-tail : (file : List ℕ) (c : Circuit) (tail : List ℕ) → States file c tail → TailOk (countsOf c) tail
+stated-tail file c tail (asText e w t) = t
+stated-tail file c tail (asBinary e o w t) = t
+
+-- of an accepted file
+module _ (file lengths : List ℕ) (bytes : Bytes file) (c : Circuit) (start : ℕ) (accepted : readFile file lengths ≡ got c start) where
+  abbrev tail : List ℕ
+  tail = drop start file
+
+  abbrev less : Circuit
+  less = reduce (convert c)
+
+  stated : States file c tail × Room c lengths
+  stated = sound file lengths bytes c start accepted
+
+  well : WellFormed c
+  well = formed file c tail (stated .0)
+
+  tail-ok : TailOk (countsOf (convert c)) tail
+  tail-ok = tail-convert c tail (stated-tail file c tail (stated .0))
+
+  room : Room (convert c) lengths
+  room = room-convert c well lengths (stated .1)
+
+  pub converted-accepted : readFile (binaryOf (convert c) ++ tail) lengths ≡ got (convert c) (length (binaryOf (convert c)))
+  converted-accepted = binary-back (convert c) tail lengths (convert-well-formed c well) tail-ok room (convert-in-order c well)
+
+  pub reduced-well-formed : WellFormed (reduce (convert c))
+  reduced-well-formed = reduce-well-formed (convert c) (convert-well-formed c well) (convert-in-order c well)
+
+  pub reduced-in-order : binaryOrder (reduce (convert c)) ≡ true
+  reduced-in-order = reduce-in-order (convert c) (convert-well-formed c well) (convert-in-order c well)
+
+  pub reduced-accepted : readFile (binaryOf (reduce (convert c)) ++ tail) lengths ≡ got (reduce (convert c)) (length (binaryOf (reduce (convert c))))
+  reduced-accepted =
+      binary-back less tail lengths reduced-well-formed (tail-reduce (convert c) tail tail-ok)
+      (room-reduce (convert c) (convert-well-formed c well) lengths room (convert-in-order c well)) reduced-in-order
+
+  -- converted and reduced again it is the same
+  pub reduced-again : reduce (convert (reduce (convert c))) ≡ reduce (convert c)
+  reduced-again =
+      ap reduce (convert-same less reduced-well-formed reduced-in-order)
+      ∙ reduce-again (convert c) (convert-well-formed c well) (convert-in-order c well)
