@@ -1,40 +1,50 @@
--- What the converter and the reducer write, the reader accepts: the converted or the reduced circuit with the same tail. The reducer,
--- run on what it wrote, writes the same; the converter, run on what it wrote from what it wrote, too.
-use Prim.Native.Nat.{ℕ, _+_, _*_, _≤_}
-use mathlib.Core.Path.{_≡_, refl, sym, ap, _∙_}
+-- What the converter and the reducer write, the reader accepts: the converted or the reduced circuit with the same tail. The reducer, run
+-- on what it wrote, writes the same; what the converter wrote in binary comes back through text, and the tracer's lines stay.
+use Prim.Native.Nat.{ℕ, _≤_}
+use mathlib.Core.Path.{_≡_, refl, sym, ap, ap₂, _∙_}
 use mathlib.Core.Bool.{true}
-use mathlib.Core.Option.{none, some}
-use mathlib.Core.List.{List, [], _∷_, _++_}
+use mathlib.Core.Option.{Option, none, some}
+use mathlib.Core.List.{List, _++_, map}
 use native.Mathlib.Omega.{arith}
 use borrow.Author.Tests.{le-leb}
 use lib.ListN.{length, drop}
 use lib.Seq.{drop-append-seam}
 use Rattle.plan.specs.declared.Counts.{Counts}
-use Rattle.plan.specs.Refusals.{Parse, got, refused, _then_}
+use Rattle.plan.specs.Refusals.{got, _then_}
 use Rattle.plan.specs.Circuit.{Circuit, countsOf, wordsToRead, against, short}
-use Rattle.plan.specs.Text.{textOf}
 use Rattle.plan.specs.Binary.{binaryOf, binaryOrder}
 use Rattle.plan.specs.Tail.{TailOk}
 use Rattle.plan.specs.Reading.{readFile, WellFormed, States, asText, asBinary, Room}
 use Rattle.plan.specs.Convert.{convert}
 use Rattle.plan.specs.Reduce.{reduce}
-use Rattle.plan.specs.Programs.{lentWords, fitting, printed, converter, reducer}
+use Rattle.plan.specs.Programs.{lentWords, input, fitting, printed, reducer, stimulus, stepLines, tracer}
+use Rattle.plan.specs.Step.{valueOf, run, first}
 use Rattle.theorems.proofs.Reading.Differences.{Bytes}
-use Rattle.theorems.proofs.Reading.Short.{AllLong, short-none}
+use Rattle.theorems.proofs.Reading.Runs.{length-lits}
+use Rattle.theorems.proofs.Reading.Short.{short-none}
 use Rattle.theorems.proofs.Reading.Exactly.{sound, formed}
 use Rattle.theorems.proofs.Running.Unchanged.{convert-same}
-use Rattle.theorems.proofs.Running.Results.{convert-well-formed, convert-in-order, reduce-well-formed, reduce-in-order, reduce-fewer}
+use Rattle.theorems.proofs.Running.Results.{convert-well-formed, convert-in-order, convert-again, reduce-well-formed, reduce-in-order, reduce-fewer}
 use Rattle.theorems.proofs.Running.Counts.{counts-convert, counts-reduce, tail-convert, tail-reduce}
 use Rattle.theorems.proofs.Running.ReduceAgain.{reduce-again}
 use Rattle.theorems.proofs.Writing.Back.{binary-back}
+use Rattle.theorems.proofs.Writing.ThereAndBack.{BackAgain, states-back}
 
 -- a circuit with the same I, L and O, and M and A no larger, has room where the first has
 room-less : (n m : Counts) (lengths : List ℕ) → m .M ≤ n .M → m .I ≡ n .I → m .L ≡ n .L → m .O ≡ n .O → m .A ≤ n .A
     → short (against 1 (wordsToRead n) lengths) ≡ none → short (against 1 (wordsToRead m) lengths) ≡ none
 room-less n m lengths hm hi hl ho ha r =
     let l = short-none (against 1 (wordsToRead n) lengths) .0 r in
-    short-none (against 1 (wordsToRead m) lengths) .1
-    (omega (arith, l .0), (omega (arith, l .1 .0), (omega (arith, l .1 .1 .0), (omega (arith, l .1 .1 .1 .0), (omega (arith, l .1 .1 .1 .1 .0), tt)))))
+    short-none (against 1 (wordsToRead m) lengths) .1 (
+      omega (arith, l .0),
+      (
+        omega (arith, l .1 .0),
+        (
+          omega (arith, l .1 .1 .0),
+          (omega (arith, l .1 .1 .1 .0), (omega (arith, l .1 .1 .1 .1 .0), tt)),
+        ),
+      ),
+    )
 
 module _ (c : Circuit) (w : WellFormed c) (lengths : List ℕ) (room : Room c lengths) where
   pub room-convert : Room (convert c) lengths
@@ -83,7 +93,8 @@ module _ (file lengths : List ℕ) (bytes : Bytes file) (c : Circuit) (start : �
   pub reduced-in-order : binaryOrder (reduce (convert c)) ≡ true
   reduced-in-order = reduce-in-order (convert c) (convert-well-formed c well) (convert-in-order c well)
 
-  pub reduced-accepted : readFile (binaryOf (reduce (convert c)) ++ tail) lengths ≡ got (reduce (convert c)) (length (binaryOf (reduce (convert c))))
+  pub reduced-accepted : readFile (binaryOf (reduce (convert c)) ++ tail) lengths
+      ≡ got (reduce (convert c)) (length (binaryOf (reduce (convert c))))
   reduced-accepted =
       binary-back less tail lengths reduced-well-formed (tail-reduce (convert c) tail tail-ok)
       (room-reduce (convert c) (convert-well-formed c well) lengths room (convert-in-order c well)) reduced-in-order
@@ -93,3 +104,54 @@ module _ (file lengths : List ℕ) (bytes : Bytes file) (c : Circuit) (start : �
   reduced-again =
       ap reduce (convert-same less reduced-well-formed reduced-in-order)
       ∙ reduce-again (convert c) (convert-well-formed c well) (convert-in-order c well)
+
+-- the programs on an accepted file, where files are as long as an input may be
+module _ (file : List ℕ) (bytes : Bytes file) (c : Circuit) (start : ℕ) (accepted : readFile file lentWords ≡ got c start)
+    (short-enough : length file ≤ 65536) where
+  abbrev converted : List ℕ
+  converted = binaryOf (convert c) ++ drop start file
+
+  abbrev lessened : List ℕ
+  lessened = binaryOf (reduce (convert c)) ++ drop start file
+
+  pub reducer-writes : length lessened ≤ 65536 → reducer (some file) ≡ lessened
+  reducer-writes h = rw (le-leb (length file) 65536 short-enough, accepted) (rw (le-leb (length lessened) 65536 h))
+
+  -- the reducer writes what it wrote
+  pub reducer-again : length lessened ≤ 65536 → reducer (some (reducer (some file))) ≡ reducer (some file)
+  reducer-again h = ap (λ (x : List ℕ). reducer (some x)) (reducer-writes h) ∙ (on-lessened ∙ sym (reducer-writes h))
+    where
+      on-lessened : reducer (some lessened) ≡ lessened
+      on-lessened =
+          let less = reduce (convert c) in
+          let same : binaryOf (reduce (convert less)) ++ drop (length (binaryOf less)) lessened ≡ lessened
+          = ap₂ (λ (x : Circuit) (y : List ℕ). binaryOf x ++ y) (reduced-again file lentWords bytes c start accepted)
+          (drop-append-seam (binaryOf less) (drop start file)) in
+          rw (le-leb (length lessened) 65536 h, reduced-accepted file lentWords bytes c start accepted)
+          (ap (λ (x : List ℕ). printed (fitting x)) same ∙ rw (le-leb (length lessened) 65536 h))
+
+  -- what the converter wrote in binary comes back through text
+  pub converted-back : BackAgain converted lentWords
+  converted-back =
+      let w = well file lentWords bytes c start accepted in
+      let t = tail-ok file lentWords bytes c start accepted in
+      states-back converted lentWords (convert c) (drop start file)
+      (asBinary refl (convert-in-order c w) (convert-well-formed c w) t)
+      (room file lentWords bytes c start accepted) (convert-in-order c w)
+
+  -- the tracer gives the same lines for the converted file
+  pub tracer-same : length converted ≤ 65536 → (list : Option (List ℕ)) → tracer (some converted) list ≡ tracer (some file) list
+  tracer-same h list =
+      rw (
+        le-leb (length converted) 65536 h,
+        converted-accepted file lentWords bytes c start accepted,
+        le-leb (length file) 65536 short-enough,
+        accepted,
+      )
+      (ap₂ lines (length-lits 1 (length (c .inputs))) (convert-again c (well file lentWords bytes c start accepted)))
+    where
+      lines : ℕ → Circuit → List ℕ
+      lines n d =
+          printed (input list λ bytes.
+          stimulus n bytes then λ rows end.
+          got (stepLines (run d (first d) (map (map valueOf) rows))) end)

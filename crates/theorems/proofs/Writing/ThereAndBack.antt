@@ -81,20 +81,20 @@ pub record BackAgain (file lengths : List ℕ) : Type 0 where
   pub back : (n : ℕ) × (inOtherForm other lengths ≡ got file n)
 
 module _ (file lengths : List ℕ) (c : Circuit) where
-  from-states : (tail : List ℕ) → States file c tail → Room c lengths → binaryOrder c ≡ true → BackAgain file lengths
-  from-states tail (asText e w t) room o = record {
+  pub states-back : (tail : List ℕ) → States file c tail → Room c lengths → binaryOrder c ≡ true → BackAgain file lengths
+  states-back tail (asText e w t) room o = record {
     other = binaryOf c ++ tail;
     there = (length (textOf c), ap (λ (x : List ℕ). inOtherForm x lengths) e ∙ text-in-order c tail lengths w t room o);
     back = (length (binaryOf c), binary-converted c tail lengths w t room o ∙ ap (λ (x : List ℕ). got x (length (binaryOf c))) (sym e));
   }
-  from-states tail (asBinary e _ w t) room o = record {
+  states-back tail (asBinary e _ w t) room o = record {
     other = textOf c ++ tail;
     there = (length (binaryOf c), ap (λ (x : List ℕ). inOtherForm x lengths) e ∙ binary-converted c tail lengths w t room o);
     back = (length (textOf c), text-in-order c tail lengths w t room o ∙ ap (λ (x : List ℕ). got x (length (textOf c))) (sym e));
   }
 
   pub back-again : Bytes file → (start : ℕ) → readFile file lengths ≡ got c start → binaryOrder c ≡ true → BackAgain file lengths
-  back-again bytes start q o = let s = sound file lengths bytes c start q in from-states (drop start file) (s .0) (s .1) o
+  back-again bytes start q o = let s = sound file lengths bytes c start q in states-back (drop start file) (s .0) (s .1) o
 
   -- a binary file that is accepted is in binary order
   module _ (bytes : Bytes file) (h : Head) (at : ℕ) (head : header file 0 ≡ got h at) (form : h .form ≡ binary) (start : ℕ)
