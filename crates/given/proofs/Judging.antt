@@ -1,6 +1,6 @@
 -- 5, 6, 7, 8 and 15 over the circuit that the tables hold; and the answers from the counts on.
 use Prim.Native.Nat.{ℕ, _+_, _*_, _<_, _≤_, min}
-use mathlib.Core.Path.{_≡_, refl, sym, ap, subst}
+use mathlib.Core.Path.{_≡_, refl, sym}
 use mathlib.Core.Bool.{Bool, true, false}
 use mathlib.Core.Option.{Option, none, some}
 use mathlib.Core.List.{List, [], _∷_, _++_}
@@ -13,21 +13,19 @@ use Rattle.plan.specs.declared.Refusal.the-variants.{OutOfRange, DefinedTwice, 
 use Rattle.plan.specs.Refusals.{stage, firstOf}
 use Rattle.plan.specs.Literals.{most}
 use Rattle.plan.specs.Circuit.{Tables, circuitOf, definedIn, against, short, wordsToWork, lengthsOf}
-use Rattle.plan.specs.Bytes.{values}
 use Rattle.plan.specs.Header.{text, listOf, over, adds}
 use Rattle.plan.specs.Depends.{undefinedIn, cyclicIn}
 use Rattle.plan.specs.Binary.{binaryOrder}
 use Rattle.plan.specs.Given.{Given, counted, outsideIn, twiceIn}
 use Rattle.plan.specs.Outcome.{checkedBy}
 use Rattle.theorems.proofs.Marks.{Agrees}
-use Rattle.theorems.proofs.Reading.Headers.{AllMost, over-none}
 use Rattle.theorems.proofs.Reading.Short.{short-none}
 use Rattle.theorems.proofs.Running.NoSixToEight.{no-six-to-eight}
+use Rattle.theorems.proofs.Writing.Nothing.{Inside, none-inside, once-different}
+use Rattle.theorems.proofs.Writing.Fine.{counts-most}
 use Rattle.tables.specs.declared.Sizes.{Sizes}
 use Rattle.tables.specs.Held.{Fits, Scratch}
-use Rattle.ranges.proofs.Places.{AllInside, none-all}
 use Rattle.once.specs.Twice.{Ranged}
-use Rattle.once.proofs.Defined.{all-new}
 use Rattle.sequence.specs.Tables.{Long}
 use Rattle.closing.specs.Read.{Read, closing}
 use Rattle.given.specs.Judged.{circuitStages, allStages, lentShorter, unordered}
@@ -50,8 +48,8 @@ module _ (ordered : Bool) (n : Counts) (t : Tables) where
   at-five k e = sym (rw e)
 
   module _ (e5 : outsideIn (circuitOf n t) ≡ none) where
-    inside : AllInside (circuitOf n t)
-    inside = none-all (circuitOf n t) e5
+    inside : Inside (circuitOf n t)
+    inside = none-inside (circuitOf n t) e5
 
     pub in-order : binaryOrder (circuitOf n t) ≡ true → checked.Good ≡ checkedBy (firstOf (circuitStages ordered n t))
     in-order b =
@@ -108,18 +106,11 @@ module _ (ordered : Bool) (n : Counts) (t : Tables) where
         latches-inside = inside .latches;
         outputs-inside = inside .outputs;
         gates-inside = inside .gates;
-        different = all-new (circuitOf n t) e;
+        different = once-different (circuitOf n t) e;
         marked = a;
       }
 
 -- counts that 2 lets pass are within the limit
-values-counted : (t : ℕ) (l : List ℕ) → values (counted t l) ≡ l
-values-counted t [] = refl
-values-counted t (x ∷ l) = ap (λ (r : List ℕ). x ∷ r) (values-counted (t + 1) l)
-
-pub counts-most : (n : Counts) → over (counted 1 (listOf n)) ≡ none → AllMost (listOf n)
-counts-most n e = subst AllMost (values-counted 1 (listOf n)) (over-none (counted 1 (listOf n)) e)
-
 pub small-counts : (n : Counts) → over (counted 1 (listOf n)) ≡ none → (n .M ≤ most) × (n .L ≤ most) × (n .O ≤ most) × (n .A ≤ most)
 small-counts n e = let m = counts-most n e in (m .0, m .1 .1 .0, m .1 .1 .1 .0, m .1 .1 .1 .1 .0)
 

@@ -1,15 +1,13 @@
--- 6 by the new variables of each table; without 6 all variables that are defined are new.
+-- 6 by the new variables of each table.
 use Prim.Native.Nat.{ℕ}
 use mathlib.Core.Path.{_≡_, refl, sym, ap, ap₂, _∙_}
 use mathlib.Core.Bool.{Bool, true, false, not, cond, _&&_}
 use mathlib.Core.Option.{Option, none, some}
 use mathlib.Core.List.{List, [], _∷_, _++_, map}
-use native.Mathlib.Omega.{arith}
 use Rattle.plan.specs.Literals.{varOf}
-use Rattle.plan.specs.Circuit.{Circuit, oneLine, latchLine, gateLine, literalOf, heads, vars, currents, lefts, has, allNew, definedIn}
+use Rattle.plan.specs.Circuit.{Circuit, oneLine, latchLine, gateLine, literalOf, heads, vars, currents, lefts, has, allNew}
 use Rattle.plan.specs.Bytes.{twice}
 use Rattle.plan.specs.Given.{placed, orElse, twiceOf, twiceIn}
-use Rattle.theorems.proofs.Reading.Rows.{new-both}
 
 -- rows that define a variable each: 6 exactly if one is not new
 module _ {A : Type 0} (line : A → List ℕ) (t : ℕ)
@@ -31,12 +29,6 @@ module _ {A : Type 0} (line : A → List ℕ) (t : ℕ)
 -- the first of tables 1, 2 and 4 whose variables are not all new
 abbrev firstTable : Bool → Bool → Bool → Option ℕ
 firstTable a b g = orElse (cond a none (some 1)) (orElse (cond b none (some 2)) (cond g none (some 4)))
-
-none-all : (a b g : Bool) → firstTable a b g ≡ none → (a ≡ true) × (b ≡ true) × (g ≡ true)
-none-all true true true e = (refl, refl, refl)
-none-all true true false e = let z : _≡_ {A = ℕ} 0 1 = cc in absurd (omega arith)
-none-all true false g e = let z : _≡_ {A = ℕ} 0 1 = cc in absurd (omega arith)
-none-all false b g e = let z : _≡_ {A = ℕ} 0 1 = cc in absurd (omega arith)
 
 module _ (c : Circuit) where
   twice-tables : twiceIn c
@@ -60,10 +52,3 @@ module _ (c : Circuit) where
   pub nowhere : allNew [] (vars (c .inputs)) ≡ true → allNew (vars (c .inputs)) (currents (c .latches)) ≡ true
       → allNew (vars (c .inputs) ++ currents (c .latches)) (lefts (c .gates)) ≡ true → none ≡ twiceIn c
   nowhere a b g = sym (twice-tables ∙ rw (a, b, g))
-
-  pub all-new : twiceIn c ≡ none → allNew [] (definedIn c) ≡ true
-  all-new e =
-      let all = none-all (allNew [] (vars (c .inputs))) (allNew (vars (c .inputs)) (currents (c .latches)))
-      (allNew (vars (c .inputs) ++ currents (c .latches)) (lefts (c .gates))) (sym twice-tables ∙ e) in
-      new-both [] (vars (c .inputs)) (currents (c .latches) ++ lefts (c .gates)) (all .0)
-      (new-both (vars (c .inputs)) (currents (c .latches)) (lefts (c .gates)) (all .1) (all .2))

@@ -36,6 +36,10 @@ counted-values : (t : ℕ) (l : List ℕ) → values (counted t l) ≡ l
 counted-values t [] = refl
 counted-values t (n ∷ l) = ap (λ (x : List ℕ). n ∷ x) (counted-values (t + 1) l)
 
+-- counts that 2 lets pass are within the limit
+pub counts-most : (n : Counts) → over (counted 1 (listOf n)) ≡ none → AllMost (listOf n)
+counts-most n e = subst AllMost (counted-values 1 (listOf n)) (over-none (counted 1 (listOf n)) e)
+
 pub length-rows : (k n : ℕ) (t : List ℕ) → length (rowsOf k n t) ≡ n
 length-rows k zero t = refl
 length-rows k (suc n) t = ap suc (length-rows k n _)
@@ -60,20 +64,21 @@ module _ (g : Given) where
   gates-are = length-map (rowsOf 3 (n .A) (g .tables .gates)) gateOf ∙ length-rows 3 (n .A) (g .tables .gates)
 
   -- tables that are long enough hold as many entries as the counts say
+  pub counts-held : n .I ≤ length (g .tables .inputs) → n .O ≤ length (g .tables .outputs) → countsOf (given g) ≡ g .counts
+  counts-held i o =
+      let few : length (c .inputs) ≡ n .I = length-take-le (n .I) (g .tables .inputs) i in
+      let outs : length (c .outputs) ≡ n .O = length-take-le (n .O) (g .tables .outputs) o in
+      λ j. record { M = n .M; I = few j; L = latches-are j; O = outs j; A = gates-are j }
+
   pub counts-given : short (lentAlone g) ≡ none → countsOf (given g) ≡ g .counts
-  counts-given e =
-      let l = short-none (lentAlone g) .0 e in
-      let i : length (c .inputs) ≡ n .I = length-take-le (n .I) (g .tables .inputs) (l .0) in
-      let o : length (c .outputs) ≡ n .O = length-take-le (n .O) (g .tables .outputs) (l .1 .1 .0) in
-      λ j. record { M = n .M; I = i j; L = latches-are j; O = o j; A = gates-are j }
+  counts-given e = let l = short-none (lentAlone g) .0 e in counts-held (l .0) (l .1 .1 .0)
 
 module _ (g : Given) (lent : List Lent) where
   pub nothing-fine : firstOf (stages g lent) ≡ none → Fine g lent
   nothing-fine e =
       let s = first-all (stages g lent) e in
       let small : AllMost (listOf (g .counts))
-      = subst AllMost (counted-values 1 (listOf (g .counts)))
-      (over-none (counted 1 (listOf (g .counts))) (stage-none LargeCount (over (counted 1 (listOf (g .counts)))) (s .0))) in
+      = counts-most (g .counts) (stage-none LargeCount (over (counted 1 (listOf (g .counts)))) (s .0)) in
       let sum : g .counts .I + g .counts .L + g .counts .A ≤ g .counts .M
       = leb-true _ _ (failing-none (adds text (g .counts)) (stage-none WrongSum (failing (adds text (g .counts))) (s .1 .0))) in
       let i = none-inside (given g) (stage-none OutOfRange (outsideIn (given g)) (s .1 .1 .1 .0)) in

@@ -50,7 +50,7 @@ or-none none b e = (refl, e)
 or-none (some k) b e = some-none k e
 
 -- 5: a table's place stands for every literal in it
-abbrev unlessAll : Bool → ℕ → Option ℕ
+abbrev pub unlessAll : Bool → ℕ → Option ℕ
 unlessAll b t = cond b none (some t)
 
 row-place : (t : ℕ) (d : Bool) (m : ℕ) (row : List ℕ) → outside d m (placed t row) ≡ unlessAll (inside d m row) t
