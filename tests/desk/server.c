@@ -5,10 +5,10 @@
    u32 call     what follows                                              the reply
    0 send       nothing                                                   nothing: all replies are sent now
    1 words      file, u64 n, n times u64 table                            n times u64
-   2 read       file, five tables, seven u64 to fill the answer with      five tables, the seven u64, u64 tail
+   2 read       file, five tables, answer                                 five tables, answer, u64 tail
 
-   A file is u64 length and its bytes. A table is u64 margin, u64 length and (margin + length + margin) times u32, of
-   which the middle is lent; its reply is all of those words. */
+   A file is u64 length and its bytes. A table (of u32) and an answer (of u64) are u64 margin, u64 length and
+   (margin + length + margin) elements, of which the middle is lent; their reply is all of those elements. */
 #include <stdint.h>
 #include <stdio.h>
 #include <stdlib.h>
@@ -16,17 +16,19 @@
 #include "golvanzo.h"
 
 #define TABLES 5
-#define ANSWER 7
 
 struct file {
     uint8_t *bytes;
     size_t length;
 };
 
-struct table {
-    uint32_t *words, *lent;
-    size_t all, length;
+struct memory {
+    void *all, *lent;
+    size_t bytes, length;
 };
+
+/* Two arguments: where the memory starts and how many elements it has. */
+#define LENT(memory) (memory).lent, (memory).length
 
 static void give_up(const char *why) {
     fprintf(stderr, "server: %s\n", why);
@@ -54,23 +56,36 @@ static void put_number(uint64_t number) {
 }
 
 /* Memory of exactly this length, so that a checker of addresses sees what lies outside; filled from the request. */
-static void *get_memory(size_t length) {
-    void *memory = malloc(length);
-    if (memory == NULL && length > 0)
+static void *get_bytes(size_t length) {
+    void *bytes = malloc(length);
+    if (bytes == NULL && length > 0)
         give_up("no memory");
-    get(memory, length);
-    return memory;
+    get(bytes, length);
+    return bytes;
 }
 
 static struct file get_file(void) {
     size_t length = get_number();
-    return (struct file){get_memory(length), length};
+    return (struct file){get_bytes(length), length};
 }
 
-static struct table get_table(void) {
-    size_t margin = get_number(), length = get_number(), all = margin + length + margin;
-    uint32_t *words = get_memory(all * sizeof *words);
-    return (struct table){words, words + margin, all, length};
+static struct memory get_memory(size_t element) {
+    size_t margin = get_number(), length = get_number(), bytes = (margin + length + margin) * element;
+    uint8_t *all = get_bytes(bytes);
+    return (struct memory){all, all + margin * element, bytes, length};
+}
+
+static void put_memory(struct memory memory) {
+    put(memory.all, memory.bytes);
+    free(memory.all);
+}
+
+static struct memory get_table(void) {
+    return get_memory(sizeof(uint32_t));
+}
+
+static struct memory get_answer(void) {
+    return get_memory(sizeof(uint64_t));
 }
 
 static void call_words(void) {
@@ -82,19 +97,16 @@ static void call_words(void) {
 
 static void call_read(void) {
     struct file file = get_file();
-    struct table t[TABLES];
+    struct memory t[TABLES];
     for (int k = 0; k < TABLES; k++)
         t[k] = get_table();
-    uint64_t *answer = get_memory(ANSWER * sizeof *answer);
-    uint64_t tail = golvanzo_read(file.bytes, file.length, t[0].lent, t[0].length, t[1].lent, t[1].length, t[2].lent,
-                                  t[2].length, t[3].lent, t[3].length, t[4].lent, t[4].length, answer);
-    for (int k = 0; k < TABLES; k++) {
-        put(t[k].words, t[k].all * sizeof *t[k].words);
-        free(t[k].words);
-    }
-    put(answer, ANSWER * sizeof *answer);
+    struct memory answer = get_answer();
+    uint64_t tail = golvanzo_read(file.bytes, file.length, LENT(t[0]), LENT(t[1]), LENT(t[2]), LENT(t[3]), LENT(t[4]),
+                                  answer.lent);
+    for (int k = 0; k < TABLES; k++)
+        put_memory(t[k]);
+    put_memory(answer);
     put_number(tail);
-    free(answer);
     free(file.bytes);
 }
 

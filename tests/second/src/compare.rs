@@ -3,28 +3,13 @@
 use crate::aiger::read;
 use crate::ensure;
 use crate::generate::Answer;
-use crate::library::{Library, Memory, Question, ReadAnswer};
-
-/// A table as it is lent: full of junk. Half of the cases have margins, which show a word written beside it; in
-/// the others it is all the memory there is, so that a checker of addresses sees what lies outside.
-fn memory(length: u64, junk: u64) -> Memory {
-    let margin = if junk.is_multiple_of(2) { 0 } else { 4 };
-    let words = (0..length as usize + 2 * margin).map(|k| filling(junk, k)).collect();
-    Memory { words, margin }
-}
-
-/// Never zero, so that a word left as it was shows.
-fn filling(junk: u64, k: usize) -> u32 {
-    (junk.wrapping_mul(2 * k as u64 + 1) >> 32) as u32 | 1
-}
+use crate::library::{Library, Question, ReadAnswer};
+use crate::memory::Memory;
 
 /// Whether the table holds `start`, then zeros, and its margins are as they were.
-fn holds(memory: &Memory, start: &[u32], junk: u64) -> bool {
-    let Memory { words, margin } = memory;
-    let margins = (0..*margin).chain(words.len() - margin..words.len());
-    let rest = memory.lent().strip_prefix(start);
-    rest.is_some_and(|rest| rest.iter().all(|&word| word == 0))
-        && margins.into_iter().all(|k| words[k] == filling(junk, k))
+fn holds(table: &Memory<u32>, start: &[u32], junk: u64) -> bool {
+    let rest = table.lent().strip_prefix(start);
+    rest.is_some_and(|rest| rest.iter().all(|&word| word == 0)) && table.margins_stand(junk)
 }
 
 /// The table numbers asked of the desk question: all that exist, their neighbours, and some that wrap.
@@ -46,7 +31,7 @@ pub fn ask(library: &dyn Library, file: &[u8], lengths: &[u64; 5], junk: u64) {
     library.ask(Question {
         file: file.to_vec(),
         words: ASKED.to_vec(),
-        tables: lengths.map(|length| memory(length, junk)),
+        tables: lengths.map(|length| Memory::junk(length, junk)),
     });
 }
 
@@ -71,7 +56,7 @@ pub fn judge(library: &dyn Library, file: &[u8], junk: u64, answer: &Answer) -> 
             holds(memory, start, junk),
             "table {}: expected {start:?} and zeros, given {:?} with margins of {}",
             k + 1,
-            &memory.words[..memory.words.len().min(start.len() + 20)],
+            &memory.all[..memory.all.len().min(start.len() + 20)],
             memory.margin
         );
     }

@@ -3,7 +3,8 @@
 use crate::aiger::read;
 use crate::compare::compare;
 use crate::generate;
-use crate::library::{Library, Memory, Question, ReadAnswer, Reply};
+use crate::library::{Library, Question, ReadAnswer, Reply};
+use crate::memory::Memory;
 use crate::tally::Tally;
 use std::cell::RefCell;
 use std::collections::VecDeque;
@@ -58,8 +59,8 @@ impl Library for Slipping {
         let words = words.into_iter().map(|table| self.words(&file, table)).collect();
         let read = self.read(&file, tables.each_mut().map(Memory::lent_mut));
         if self.slip == Slip::WritesBeside {
-            let Memory { words, margin } = &mut tables[0];
-            words.iter_mut().rev().take(*margin).for_each(|word| *word = 0);
+            let Memory { all, margin } = &mut tables[0];
+            all.iter_mut().rev().take(*margin).for_each(|word| *word = 0);
         }
         Ok(Reply { words, read, tables })
     }

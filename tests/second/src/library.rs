@@ -1,6 +1,8 @@
 //! What is compared, seen from the caller's side. The writers, conversion, reduction, the stepper and the
 //! witness question join here when the library offers them.
 
+use crate::memory::Memory;
+
 /// What a read answers beside the tables.
 #[derive(Clone, Debug, PartialEq, Eq)]
 pub struct ReadAnswer {
@@ -13,38 +15,20 @@ pub struct ReadAnswer {
     pub tail: u64,
 }
 
-/// The memory of a table, of which the middle is lent and nobody may touch the margins.
-pub struct Memory {
-    pub words: Vec<u32>,
-    /// Words on each side.
-    pub margin: usize,
-}
-
-impl Memory {
-    pub fn lent(&self) -> &[u32] {
-        &self.words[self.margin..self.words.len() - self.margin]
-    }
-
-    pub fn lent_mut(&mut self) -> &mut [u32] {
-        let end = self.words.len() - self.margin;
-        &mut self.words[self.margin..end]
-    }
-}
-
 /// All that is asked about one file: how many words tables need, and to read it.
 pub struct Question {
     pub file: Vec<u8>,
     /// The numbers of the tables.
     pub words: Vec<u64>,
     /// Tables 1 to 5 as they are lent to the read.
-    pub tables: [Memory; 5],
+    pub tables: [Memory<u32>; 5],
 }
 
 pub struct Reply {
     pub words: Vec<u64>,
     pub read: ReadAnswer,
     /// As the read left them.
-    pub tables: [Memory; 5],
+    pub tables: [Memory<u32>; 5],
 }
 
 /// Questions may run ahead of replies.

@@ -11,12 +11,14 @@ mod faults;
 mod generate;
 mod large;
 mod library;
+mod memory;
 mod naive;
 mod options;
 mod properties;
 mod random;
 mod remote;
 mod tally;
+mod wire;
 
 use aiger::read;
 use coverage::Coverage;

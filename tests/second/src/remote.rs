@@ -1,9 +1,10 @@
 //! The library in a process of its own, `tests/desk/server.c`, whose machine may be another and emulated.
 
-use crate::library::{Library, Memory, Question, ReadAnswer, Reply};
+use crate::library::{Library, Question, Reply};
+use crate::wire;
 use std::cell::RefCell;
 use std::collections::VecDeque;
-use std::io::{self, BufReader, Read, Write};
+use std::io::{BufReader, Write};
 use std::process::{Child, ChildStdout, Command, Stdio};
 use std::sync::mpsc::{channel, Sender};
 use std::thread;
@@ -13,9 +14,6 @@ const COMMAND: &str = "GOLVANZO_SERVER";
 
 /// A server that dies more often is not started again.
 const DEATHS: u64 = 20;
-
-/// Not zeros, so that an answer that isn't filled in shows.
-const UNANSWERED: u64 = 0xAAAA_AAAA_AAAA_AAAA;
 
 pub struct Remote(RefCell<State>);
 
@@ -54,7 +52,7 @@ impl Library for Remote {
         if state.deaths > DEATHS {
             return Err("not asked, since the server died too often".to_string());
         }
-        reply(&mut state.server.replies, question).map_err(|_| state.mourn())
+        wire::reply(&mut state.server.replies, question).map_err(|_| state.mourn())
     }
 }
 
@@ -115,7 +113,7 @@ impl Server {
 
     fn send(&self, question: &Question) {
         // If the server is dead, that is told when its reply is missed.
-        let _ = self.requests.send(request(question));
+        let _ = self.requests.send(wire::request(question));
     }
 
     fn status(&mut self) -> String {
@@ -136,60 +134,4 @@ impl Server {
             Err(error) => Err(error.to_string()),
         }
     }
-}
-
-/// The calls of `tests/desk/server.c`: words, read, send.
-fn request(question: &Question) -> Vec<u8> {
-    let Question { file, words, tables } = question;
-    let mut bytes = Vec::new();
-    let number = |bytes: &mut Vec<u8>, number: usize| bytes.extend((number as u64).to_le_bytes());
-    bytes.extend(1u32.to_le_bytes());
-    number(&mut bytes, file.len());
-    bytes.extend(file);
-    number(&mut bytes, words.len());
-    bytes.extend(words.iter().flat_map(|table| table.to_le_bytes()));
-    bytes.extend(2u32.to_le_bytes());
-    number(&mut bytes, file.len());
-    bytes.extend(file);
-    for table in tables {
-        number(&mut bytes, table.margin);
-        number(&mut bytes, table.lent().len());
-        bytes.extend(table.words.iter().flat_map(|word| word.to_le_bytes()));
-    }
-    bytes.extend([UNANSWERED; 7].map(u64::to_le_bytes).as_flattened());
-    bytes.extend(0u32.to_le_bytes());
-    bytes
-}
-
-fn reply(from: &mut impl Read, question: Question) -> io::Result<Reply> {
-    let words = question.words.iter().map(|_| number(from)).collect::<io::Result<_>>()?;
-    let mut tables = question.tables;
-    for Memory { words, .. } in &mut tables {
-        let mut bytes = vec![0; 4 * words.len()];
-        from.read_exact(&mut bytes)?;
-        *words = bytes
-            .as_chunks()
-            .0
-            .iter()
-            .map(|&word| u32::from_le_bytes(word))
-            .collect();
-    }
-    let mut answer = [0; 8];
-    for word in &mut answer {
-        *word = number(from)?;
-    }
-    let [number, place, m, i, l, o, a, tail] = answer;
-    let read = ReadAnswer {
-        number,
-        place,
-        counts: [m, i, l, o, a],
-        tail,
-    };
-    Ok(Reply { words, read, tables })
-}
-
-fn number(from: &mut impl Read) -> io::Result<u64> {
-    let mut bytes = [0; 8];
-    from.read_exact(&mut bytes)?;
-    Ok(u64::from_le_bytes(bytes))
 }
