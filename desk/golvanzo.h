@@ -15,4 +15,12 @@ uint64_t golvanzo_read(const uint8_t *file, size_t file_len, uint32_t *inputs, s
                        uint32_t *outputs, size_t n3, uint32_t *gates, size_t n4, uint32_t *scratch, size_t n5,
                        uint64_t *answer /* 7 words */);
 
+/* The calls on tables: `counts` are M, I, L, O, A, of any size. Tables that are only read may hold more words than the
+   counts ask for. */
+
+/* Whether the tables hold a circuit, `answer` being number (0: accepted) and place. */
+void golvanzo_check(const uint64_t *counts /* 5 words */, const uint32_t *inputs, size_t n1, const uint32_t *latches,
+                    size_t n2, const uint32_t *outputs, size_t n3, const uint32_t *gates, size_t n4, uint32_t *scratch,
+                    size_t n5, uint64_t *answer /* 2 words */);
+
 #endif

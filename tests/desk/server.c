@@ -6,8 +6,9 @@
    0 send       nothing                                                   nothing: all replies are sent now
    1 words      file, u64 n, n times u64 table                            n times u64
    2 read       file, five tables, answer                                 five tables, answer, u64 tail
+   3 check      counts, five tables, answer                               all of these
 
-   A file is u64 length and its bytes. A table (of u32) and an answer (of u64) are u64 margin, u64 length and
+   A file is u64 length and its bytes. Counts and an answer (of u64) and a table (of u32) are u64 margin, u64 length and
    (margin + length + margin) elements, of which the middle is lent; their reply is all of those elements. */
 #include <stdint.h>
 #include <stdio.h>
@@ -16,6 +17,7 @@
 #include "golvanzo.h"
 
 #define TABLES 5
+#define CIRCUIT 4
 
 struct file {
     uint8_t *bytes;
@@ -29,6 +31,15 @@ struct memory {
 
 /* Two arguments: where the memory starts and how many elements it has. */
 #define LENT(memory) (memory).lent, (memory).length
+
+/* What every call on tables is lent. */
+struct given {
+    struct memory counts, table[CIRCUIT], scratch;
+};
+
+/* The first nine arguments of such a call. */
+#define CIRCUIT_OF(given)                                                                                              \
+    (given).counts.lent, LENT((given).table[0]), LENT((given).table[1]), LENT((given).table[2]), LENT((given).table[3])
 
 static void give_up(const char *why) {
     fprintf(stderr, "server: %s\n", why);
@@ -84,8 +95,24 @@ static struct memory get_table(void) {
     return get_memory(sizeof(uint32_t));
 }
 
-static struct memory get_answer(void) {
+static struct memory get_numbers(void) {
     return get_memory(sizeof(uint64_t));
+}
+
+static struct given get_given(void) {
+    struct given given;
+    given.counts = get_numbers();
+    for (int k = 0; k < CIRCUIT; k++)
+        given.table[k] = get_table();
+    given.scratch = get_table();
+    return given;
+}
+
+static void put_given(struct given given) {
+    put_memory(given.counts);
+    for (int k = 0; k < CIRCUIT; k++)
+        put_memory(given.table[k]);
+    put_memory(given.scratch);
 }
 
 static void call_words(void) {
@@ -100,7 +127,7 @@ static void call_read(void) {
     struct memory t[TABLES];
     for (int k = 0; k < TABLES; k++)
         t[k] = get_table();
-    struct memory answer = get_answer();
+    struct memory answer = get_numbers();
     uint64_t tail = golvanzo_read(file.bytes, file.length, LENT(t[0]), LENT(t[1]), LENT(t[2]), LENT(t[3]), LENT(t[4]),
                                   answer.lent);
     for (int k = 0; k < TABLES; k++)
@@ -108,6 +135,14 @@ static void call_read(void) {
     put_memory(answer);
     put_number(tail);
     free(file.bytes);
+}
+
+static void call_check(void) {
+    struct given given = get_given();
+    struct memory answer = get_numbers();
+    golvanzo_check(CIRCUIT_OF(given), LENT(given.scratch), answer.lent);
+    put_given(given);
+    put_memory(answer);
 }
 
 int main(void) {
@@ -123,6 +158,9 @@ int main(void) {
             break;
         case 2:
             call_read();
+            break;
+        case 3:
+            call_check();
             break;
         default:
             give_up("no such call");

@@ -1,9 +1,11 @@
 //! Holds a library to this program's answers: number, place, counts, every word of every table, the tail.
 
+pub mod tables;
+
 use crate::aiger::read;
 use crate::ensure;
 use crate::generate::Answer;
-use crate::library::{Library, Question, ReadAnswer};
+use crate::library::{FileQuestion, Library, Question, ReadAnswer, Reply};
 use crate::memory::Memory;
 
 /// Whether the table holds `start`, then zeros, and its margins are as they were.
@@ -28,15 +30,17 @@ pub fn compare(
 
 /// The first half of a comparison. Others may come between it and the second, in the same order.
 pub fn ask(library: &dyn Library, file: &[u8], lengths: &[u64; 5], junk: u64) {
-    library.ask(Question {
+    library.ask(Question::File(FileQuestion {
         file: file.to_vec(),
         words: ASKED.to_vec(),
         tables: lengths.map(|length| Memory::junk(length, junk)),
-    });
+    }));
 }
 
 pub fn judge(library: &dyn Library, file: &[u8], junk: u64, answer: &Answer) -> Result<(), String> {
-    let given = library.reply()?;
+    let Reply::File(given) = library.reply()? else {
+        return Err("the reply to another question".to_string());
+    };
     for (table, given) in ASKED.into_iter().zip(given.words) {
         let expected = read::words(file, table);
         ensure!(

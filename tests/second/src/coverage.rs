@@ -1,10 +1,12 @@
 //! Which answers the cases had, so that a generator that misses one counts as failed.
 
+pub mod calls;
+
 use crate::aiger::{Circuit, Form, MOST};
 use crate::generate::{Answer, Case};
 use crate::tally::Tally;
 
-/// Cases that each refusal of a reader must have at least.
+/// Cases that each refusal of a call must have at least.
 const PER_REFUSAL: u64 = 200;
 
 #[derive(Default)]

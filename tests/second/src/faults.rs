@@ -1,9 +1,11 @@
 //! Libraries with a slip each, to show that the comparison would notice it.
 
+mod tables;
+
 use crate::aiger::read;
 use crate::compare::compare;
 use crate::generate;
-use crate::library::{Library, Question, ReadAnswer, Reply};
+use crate::library::{FileQuestion, FileReply, Library, Question, ReadAnswer, Reply};
 use crate::memory::Memory;
 use crate::tally::Tally;
 use std::cell::RefCell;
@@ -51,18 +53,21 @@ impl Library for Slipping {
 
     fn reply(&self) -> Result<Reply, String> {
         let question = self.asked.borrow_mut().pop_front().expect("a question was asked");
-        let Question {
+        let Question::File(FileQuestion {
             file,
             words,
             mut tables,
-        } = question;
+        }) = question
+        else {
+            return Err("only files are read here".to_string());
+        };
         let words = words.into_iter().map(|table| self.words(&file, table)).collect();
         let read = self.read(&file, tables.each_mut().map(Memory::lent_mut));
         if self.slip == Slip::WritesBeside {
             let Memory { all, margin } = &mut tables[0];
             all.iter_mut().rev().take(*margin).for_each(|word| *word = 0);
         }
-        Ok(Reply { words, read, tables })
+        Ok(Reply::File(FileReply { words, read, tables }))
     }
 }
 
@@ -149,6 +154,7 @@ pub fn run(tally: &mut Tally, seed: u64) {
         let noticed = notices(slip, seed).map(drop).ok_or_else(|| "not noticed".to_string());
         tally.check(&format!("the slip {slip:?}"), noticed);
     }
+    tables::run(tally, seed);
 }
 
 /// The first difference that a slip makes.

@@ -5,6 +5,7 @@ pub mod circuit;
 pub mod damage;
 pub mod draft;
 mod edit;
+pub mod given;
 mod lend;
 
 use crate::aiger::read::header;

@@ -1,11 +1,16 @@
 //! A long chain of gates, last gate first: quick only if no step looks at all gates again.
 
 use crate::aiger::convert::convert;
+use crate::aiger::tables::Given;
 use crate::aiger::{literal, meaning, read, step, write, Circuit, Form};
-use crate::compare::compare;
+use crate::compare::{compare, tables};
 use crate::ensure;
-use crate::library::Library;
+use crate::generate::given;
+use crate::library::{Call, Library};
 use crate::tally::Tally;
+
+/// Fills what is lent.
+const JUNK: u64 = 1 << 33;
 
 /// The chain in binary order: each gate is the And of the one below it and the input.
 fn chain(a: usize) -> Circuit {
@@ -54,5 +59,13 @@ fn compared(library: &dyn Library, a: usize) -> Result<(), String> {
     let circuit = upside_down(a);
     let text = write::file(&circuit, Form::Text, b"");
     let lengths = circuit.counts().words();
-    compare(library, &text, &lengths, 1 << 33, &Ok((circuit, text.len())))
+    compare(library, &text, &lengths, JUNK, &Ok((circuit.clone(), text.len())))?;
+    called(library, Call::Check, &circuit)
+}
+
+/// A call on exactly the circuit's tables.
+fn called(library: &dyn Library, call: Call, circuit: &Circuit) -> Result<(), String> {
+    let lent = given::lend(&Given::exactly(circuit), JUNK);
+    tables::ask(library, call, &lent);
+    tables::judge(library, &tables::after(call, &lent))
 }

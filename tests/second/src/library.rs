@@ -1,5 +1,5 @@
 //! What is compared, seen from the caller's side. The writers, conversion, reduction, the stepper and the
-//! witness question join here when the library offers them.
+//! witness question join `Call` when the library offers them.
 
 use crate::memory::Memory;
 
@@ -16,7 +16,7 @@ pub struct ReadAnswer {
 }
 
 /// All that is asked about one file: how many words tables need, and to read it.
-pub struct Question {
+pub struct FileQuestion {
     pub file: Vec<u8>,
     /// The numbers of the tables.
     pub words: Vec<u64>,
@@ -24,11 +24,59 @@ pub struct Question {
     pub tables: [Memory<u32>; 5],
 }
 
-pub struct Reply {
+pub struct FileReply {
     pub words: Vec<u64>,
     pub read: ReadAnswer,
     /// As the read left them.
     pub tables: [Memory<u32>; 5],
+}
+
+/// The calls that are given tables.
+#[derive(Clone, Copy, Debug, PartialEq, Eq)]
+pub enum Call {
+    Check,
+}
+
+impl Call {
+    pub const ALL: [Call; 1] = [Call::Check];
+
+    pub fn named(name: &str) -> Option<Call> {
+        Call::ALL.into_iter().find(|call| call.name() == name)
+    }
+
+    pub fn name(self) -> &'static str {
+        match self {
+            Call::Check => "check",
+        }
+    }
+
+    /// The refusals that it can give.
+    pub fn refusals(self) -> &'static [u64] {
+        match self {
+            Call::Check => &[2, 3, 4, 5, 6, 7, 8],
+        }
+    }
+}
+
+/// What such a call is lent, in the order of its arguments.
+#[derive(Clone, Debug, PartialEq, Eq)]
+pub struct Lent {
+    pub counts: Memory<u64>,
+    /// Tables 1 to 4.
+    pub tables: [Memory<u32>; 4],
+    pub scratch: Memory<u32>,
+    pub answer: Memory<u64>,
+}
+
+pub enum Question {
+    File(FileQuestion),
+    Tables(Call, Lent),
+}
+
+pub enum Reply {
+    File(FileReply),
+    /// What was lent, as the call left it.
+    Tables(Lent),
 }
 
 /// Questions may run ahead of replies.

@@ -6,6 +6,7 @@
 mod aiger;
 mod compare;
 mod coverage;
+mod desk;
 mod examples;
 mod faults;
 mod generate;
@@ -57,9 +58,10 @@ fn main() -> ExitCode {
         }
     );
     let mut tally = Tally::default();
-    match options.only {
-        Some(number) => begin(&options, number, library).finish(&mut tally, &options, library),
-        None => all(&mut tally, &options, library),
+    match (options.only, options.call) {
+        (Some(number), Some(call)) => desk::only(&mut tally, &options, library, call, number),
+        (Some(number), None) => begin(&options, number, library).finish(&mut tally, &options, library),
+        (None, _) => all(&mut tally, &options, library),
     }
     if let Some(remote) = remote {
         tally.check("the server's end", remote.end());
@@ -72,28 +74,35 @@ fn main() -> ExitCode {
     }
 }
 
-/// So many cases are made while the library answers for the first of them.
-const AHEAD: usize = 100;
-
 fn all(tally: &mut Tally, options: &Options, library: Option<&dyn Library>) {
     options::forget_failures();
     examples::run(tally, library);
     faults::run(tally, options.seed);
     large::run(tally, library);
     let mut coverage = Coverage::default();
-    let mut begun = VecDeque::new();
-    for number in 0..options.cases {
+    let begun = (0..options.cases).map(|number| {
         let next = begin(options, number, library);
         coverage.add(&next.case, &next.answer);
-        begun.push_back(next);
+        next
+    });
+    run_ahead(begun, |begun| begun.finish(tally, options, library));
+    coverage.report(tally);
+    desk::run(tally, options, library);
+}
+
+/// So many cases are made while the library answers for the first of them.
+const AHEAD: usize = 100;
+
+/// Finishes each case when so many others have begun.
+fn run_ahead<T>(cases: impl Iterator<Item = T>, mut finish: impl FnMut(T)) {
+    let mut begun = VecDeque::new();
+    for case in cases {
+        begun.push_back(case);
         if begun.len() > AHEAD {
-            begun.pop_front().expect("just pushed").finish(tally, options, library);
+            finish(begun.pop_front().expect("just pushed"));
         }
     }
-    for begun in begun {
-        begun.finish(tally, options, library);
-    }
-    coverage.report(tally);
+    begun.into_iter().for_each(finish);
 }
 
 /// A case that the library is asked about, unless it failed already.
@@ -135,7 +144,14 @@ impl Begun {
             outcome = compare::judge(library, &case.file, case.junk, &answer);
         }
         if let (Err(why), true) = (&outcome, tally.tells()) {
-            options.keep(number, &case, why);
+            let told = format!(
+                "lent {:?}, filled from {}\nforetold {:?}\n{why}\n",
+                case.lengths, case.junk, case.promise
+            );
+            options.keep(
+                &format!("case-{number}"),
+                &[("file", &case.file), ("txt", told.as_bytes())],
+            );
         }
         tally.check(&format!("seed {} case {number}", options.seed), outcome);
     }

@@ -55,6 +55,13 @@ impl<T: Element> Memory<T> {
         Memory { all, margin }
     }
 
+    /// Holds what is given, with margins of junk.
+    pub fn around(lent: &[T], junk: u64) -> Memory<T> {
+        let mut memory = Memory::junk(lent.len() as u64, junk);
+        memory.lent_mut().copy_from_slice(lent);
+        memory
+    }
+
     pub fn lent(&self) -> &[T] {
         &self.all[self.margin..self.all.len() - self.margin]
     }

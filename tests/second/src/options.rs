@@ -1,6 +1,6 @@
 //! The program's arguments, and where failing cases are kept.
 
-use crate::generate::Case;
+use crate::library::Call;
 use std::fs;
 use std::path::{Path, PathBuf};
 
@@ -9,9 +9,11 @@ pub struct Options {
     pub cases: u64,
     /// Runs this case alone.
     pub only: Option<u64>,
+    /// The case is one of this call on tables.
+    pub call: Option<Call>,
 }
 
-const USAGE: &str = "second [--seed S] [--cases N] [--only CASE]";
+const USAGE: &str = "second [--seed S] [--cases N] [--only CASE [--call CALL]]";
 
 fn failures() -> PathBuf {
     Path::new(env!("CARGO_MANIFEST_DIR")).join("../../target/second-failures")
@@ -29,33 +31,33 @@ impl Options {
             seed: 20071012,
             cases: 80_000,
             only: None,
+            call: None,
         };
         let mut arguments = std::env::args().skip(1);
         while let Some(argument) = arguments.next() {
-            let value = arguments.next().and_then(|value| value.parse().ok()).ok_or(USAGE)?;
+            let value = arguments.next().ok_or(USAGE)?;
+            let number = || value.parse().map_err(|_| USAGE);
             match argument.as_str() {
-                "--seed" => options.seed = value,
-                "--cases" => options.cases = value,
-                "--only" => options.only = Some(value),
+                "--seed" => options.seed = number()?,
+                "--cases" => options.cases = number()?,
+                "--only" => options.only = Some(number()?),
+                "--call" => options.call = Some(Call::named(&value).ok_or(USAGE)?),
                 _ => return Err(USAGE.to_string()),
             }
         }
         Ok(options)
     }
 
-    /// Writes a failing case out with what was expected and given.
-    pub fn keep(&self, number: u64, case: &Case, why: &str) {
+    /// Writes a failing case out: files of one name, each with its end and its bytes.
+    pub fn keep(&self, name: &str, files: &[(&str, &[u8])]) {
         let folder = failures();
-        let path = folder.join(format!("seed-{}-case-{number}", self.seed));
-        let told = format!(
-            "lent {:?}, filled from {}\nforetold {:?}\n{why}\n",
-            case.lengths, case.junk, case.promise
-        );
-        let kept = fs::create_dir_all(&folder)
-            .and_then(|()| fs::write(path.with_extension("file"), &case.file))
-            .and_then(|()| fs::write(path.with_extension("txt"), told));
+        let path = folder.join(format!("seed-{}-{name}", self.seed));
+        let kept = fs::create_dir_all(&folder).and_then(|()| {
+            let mut files = files.iter();
+            files.try_for_each(|(end, bytes)| fs::write(path.with_extension(end), bytes))
+        });
         match kept {
-            Ok(()) => println!("kept as {}", path.with_extension("file").display()),
+            Ok(()) => println!("kept as {}", path.display()),
             Err(error) => println!("not kept: {error}"),
         }
     }

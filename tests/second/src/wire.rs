@@ -1,30 +1,54 @@
 //! Questions and replies as the bytes that `tests/desk/server.c` reads and writes.
 
-use crate::library::{Question, ReadAnswer, Reply};
+use crate::library::{Call, FileQuestion, FileReply, Lent, Question, ReadAnswer, Reply};
 use crate::memory::{Element, Memory};
 use std::io::{self, Read};
 
 /// Not zeros, so that an answer that isn't filled in shows.
 const UNANSWERED: u64 = 0xAAAA_AAAA_AAAA_AAAA;
 
-/// The calls words, read, send.
+/// The calls of a question, and send.
 pub fn request(question: &Question) -> Vec<u8> {
-    let Question { file, words, tables } = question;
     let mut bytes = Vec::new();
-    put_call(&mut bytes, 1);
-    put_file(&mut bytes, file);
-    put_number(&mut bytes, words.len());
-    words.iter().for_each(|table| table.put(&mut bytes));
-    put_call(&mut bytes, 2);
-    put_file(&mut bytes, file);
-    tables.iter().for_each(|table| put_memory(&mut bytes, table));
+    match question {
+        Question::File(question) => put_file_question(&mut bytes, question),
+        Question::Tables(call, lent) => {
+            put_call(&mut bytes, number(*call));
+            put_lent(&mut bytes, lent);
+        }
+    }
+    put_call(&mut bytes, 0);
+    bytes
+}
+
+fn number(call: Call) -> u32 {
+    match call {
+        Call::Check => 3,
+    }
+}
+
+/// The calls words and read.
+fn put_file_question(bytes: &mut Vec<u8>, question: &FileQuestion) {
+    let FileQuestion { file, words, tables } = question;
+    put_call(bytes, 1);
+    put_file(bytes, file);
+    put_number(bytes, words.len());
+    words.iter().for_each(|table| table.put(bytes));
+    put_call(bytes, 2);
+    put_file(bytes, file);
+    tables.iter().for_each(|table| put_memory(bytes, table));
     let answer = Memory {
         all: vec![UNANSWERED; 7],
         margin: 0,
     };
-    put_memory(&mut bytes, &answer);
-    put_call(&mut bytes, 0);
-    bytes
+    put_memory(bytes, &answer);
+}
+
+fn put_lent(bytes: &mut Vec<u8>, lent: &Lent) {
+    put_memory(bytes, &lent.counts);
+    lent.tables.iter().for_each(|table| put_memory(bytes, table));
+    put_memory(bytes, &lent.scratch);
+    put_memory(bytes, &lent.answer);
 }
 
 fn put_call(bytes: &mut Vec<u8>, call: u32) {
@@ -48,6 +72,21 @@ fn put_memory<T: Element>(bytes: &mut Vec<u8>, memory: &Memory<T>) {
 }
 
 pub fn reply(from: &mut impl Read, question: Question) -> io::Result<Reply> {
+    match question {
+        Question::File(question) => Ok(Reply::File(get_file_reply(from, question)?)),
+        Question::Tables(_, lent) => Ok(Reply::Tables(get_lent(from, lent)?)),
+    }
+}
+
+fn get_lent(from: &mut impl Read, mut lent: Lent) -> io::Result<Lent> {
+    get_memory(from, &mut lent.counts)?;
+    lent.tables.iter_mut().try_for_each(|table| get_memory(from, table))?;
+    get_memory(from, &mut lent.scratch)?;
+    get_memory(from, &mut lent.answer)?;
+    Ok(lent)
+}
+
+fn get_file_reply(from: &mut impl Read, question: FileQuestion) -> io::Result<FileReply> {
     let words = get(from, question.words.len())?;
     let mut tables = question.tables;
     tables.iter_mut().try_for_each(|table| get_memory(from, table))?;
@@ -59,7 +98,7 @@ pub fn reply(from: &mut impl Read, question: Question) -> io::Result<Reply> {
         counts: [2, 3, 4, 5, 6].map(|k| answer[k]),
         tail: tail[0],
     };
-    Ok(Reply { words, read, tables })
+    Ok(FileReply { words, read, tables })
 }
 
 fn get<T: Element>(from: &mut impl Read, length: usize) -> io::Result<Vec<T>> {

@@ -2,11 +2,15 @@
 //! by 1 and 10, 12, 11.
 
 use super::step::{self, Step};
-use super::tables::{binary_order, check, Given};
+use super::tables::{self, binary_order, Given};
 use super::{convert, reduce, refuse, tail, write, Circuit, Form, Refusal};
 
+pub fn check(given: &Given) -> Result<(), Refusal> {
+    tables::check(given).map(drop)
+}
+
 pub fn write_text(given: &Given, tail: &[u8], buffer: u64) -> Result<Vec<u8>, Refusal> {
-    let circuit = check(given)?;
+    let circuit = tables::check(given)?;
     tail::check(tail, &given.counts)?;
     write::fits(write::file(&circuit, Form::Text, tail), buffer)
 }
@@ -18,7 +22,7 @@ pub fn write_binary(given: &Given, tail: &[u8], buffer: u64) -> Result<Vec<u8>, 
 }
 
 pub fn convert(given: &Given) -> Result<Circuit, Refusal> {
-    Ok(convert::convert(&check(given)?).circuit)
+    Ok(convert::convert(&tables::check(given)?).circuit)
 }
 
 pub fn reduce(given: &Given) -> Result<Circuit, Refusal> {
@@ -54,7 +58,7 @@ pub fn witness(given: &Given, number: u64, list: &[u8]) -> Result<bool, Refusal>
 }
 
 fn in_order(given: &Given) -> Result<Circuit, Refusal> {
-    let circuit = check(given)?;
+    let circuit = tables::check(given)?;
     binary_order(&circuit)?;
     Ok(circuit)
 }

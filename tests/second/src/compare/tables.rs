@@ -1,0 +1,81 @@
+//! Holds a library to this program's outcome of a call on tables: the answer, and every element of all that was lent.
+
+use crate::aiger::tables::Given;
+use crate::aiger::{calls, Counts, Refusal};
+use crate::library::{Call, Lent, Library, Question, Reply};
+use crate::memory::{Element, Memory};
+
+/// The first half of a comparison, as for a file.
+pub fn ask(library: &dyn Library, call: Call, lent: &Lent) {
+    library.ask(Question::Tables(call, lent.clone()));
+}
+
+pub fn judge(library: &dyn Library, expected: &Lent) -> Result<(), String> {
+    let Reply::Tables(given) = library.reply()? else {
+        return Err("the reply to another question".to_string());
+    };
+    same("answer", &expected.answer, &given.answer)?;
+    same("counts", &expected.counts, &given.counts)?;
+    for (k, (expected, given)) in expected.tables.iter().zip(&given.tables).enumerate() {
+        same(&format!("table {}", k + 1), expected, given)?;
+    }
+    same("scratch", &expected.scratch, &given.scratch)
+}
+
+fn same<T: Element>(name: &str, expected: &Memory<T>, given: &Memory<T>) -> Result<(), String> {
+    let differ = expected
+        .all
+        .iter()
+        .zip(&given.all)
+        .position(|(one, other)| one != other);
+    let Some(at) = differ else {
+        return Ok(());
+    };
+    let end = expected.all.len().min(at + 12);
+    Err(format!(
+        "{name} differs from element {at} on, margins being {}: expected {:?}, given {:?}",
+        expected.margin,
+        &expected.all[at..end],
+        &given.all[at..end]
+    ))
+}
+
+/// What a call must leave of all that it was lent.
+pub fn after(call: Call, before: &Lent) -> Lent {
+    let mut after = before.clone();
+    after.scratch.lent_mut().fill(0);
+    let given = given(before);
+    match call {
+        Call::Check => answer(&mut after, calls::check(&given), &[]),
+    }
+    after
+}
+
+fn given(lent: &Lent) -> Given {
+    let counts = lent.counts.lent().try_into().expect("five counts");
+    Given {
+        counts: Counts::new(counts),
+        tables: lent.tables.each_ref().map(|table| table.lent().to_vec()),
+        scratch: lent.scratch.lent().len() as u64,
+        written: None,
+    }
+}
+
+/// Number and place, then the values of an accepted call or zeros.
+fn answer<T>(after: &mut Lent, outcome: Result<T, Refusal>, values: &[u64]) {
+    let answer = after.answer.lent_mut();
+    answer.fill(0);
+    match outcome {
+        Ok(_) => answer[2..].copy_from_slice(values),
+        Err(refusal) => answer[..2].copy_from_slice(&[refusal.number, refusal.place]),
+    }
+}
+
+/// How the call went, taken from what it left.
+pub fn outcome(after: &Lent) -> Result<(), Refusal> {
+    match *after.answer.lent() {
+        [0, ..] => Ok(()),
+        [number, place, ..] => Err(Refusal { number, place }),
+        _ => unreachable!("an answer starts with number and place"),
+    }
+}

@@ -1,0 +1,68 @@
+//! The answers of one call on tables.
+
+use super::{at_least, PER_REFUSAL};
+use crate::compare::tables::outcome;
+use crate::generate::given::TablesCase;
+use crate::library::{Call, Lent};
+use crate::tally::Tally;
+
+pub struct CallCoverage {
+    call: Call,
+    cases: u64,
+    /// At the refusal's number; at 0 accepted.
+    answered: [u64; 16],
+    /// Those of them whose answer the generator knew.
+    promised: [u64; 16],
+    /// Accepted with A > 0.
+    with_gates: u64,
+}
+
+impl CallCoverage {
+    pub fn new(call: Call) -> CallCoverage {
+        CallCoverage {
+            call,
+            cases: 0,
+            answered: [0; 16],
+            promised: [0; 16],
+            with_gates: 0,
+        }
+    }
+
+    pub fn add(&mut self, case: &TablesCase, after: &Lent) {
+        let number = outcome(after).map_or_else(|refusal| refusal.number as usize, |()| 0);
+        self.cases += 1;
+        self.answered[number] += 1;
+        self.promised[number] += u64::from(case.promise.is_some());
+        self.with_gates += u64::from(number == 0 && case.lent.counts.lent()[4] > 0);
+    }
+
+    /// Prints the summary and counts what was missed.
+    pub fn report(&self, tally: &mut Tally) {
+        let name = self.call.name();
+        let refused: Vec<String> = self
+            .call
+            .refusals()
+            .iter()
+            .map(|&number| format!("{number}: {}", self.answered[number as usize]))
+            .collect();
+        println!(
+            "{name}: {} cases, accepted {} ({} with A > 0), refused by {}",
+            self.cases,
+            self.answered[0],
+            self.with_gates,
+            refused.join(", ")
+        );
+        for &number in self.call.refusals() {
+            let [answered, promised] = [self.answered, self.promised].map(|counts| counts[number as usize]);
+            tally.check(&format!("{name}, refusal {number}"), at_least(answered, PER_REFUSAL));
+            tally.check(
+                &format!("{name}, refusal {number} foretold"),
+                at_least(promised, PER_REFUSAL / 4),
+            );
+        }
+        tally.check(
+            &format!("{name}, accepted with A > 0"),
+            at_least(self.with_gates, self.cases.div_ceil(4)),
+        );
+    }
+}

@@ -1,0 +1,111 @@
+//! Slips in the calls on tables.
+
+use crate::compare::tables::{after, ask, judge, outcome};
+use crate::generate::given;
+use crate::library::{Call, Lent, Library, Question, Reply};
+use crate::memory::{Element, Memory};
+use crate::tally::Tally;
+use std::cell::RefCell;
+use std::collections::VecDeque;
+
+/// Spoils what a call leaves, given what it was lent.
+type Slip = fn(&Lent, &mut Lent);
+
+const CHECK: &[(&str, Slip)] = &[
+    ("accepts all", |_, after| after.answer.lent_mut().fill(0)),
+    ("refuses all", |_, after| after.answer.lent_mut()[0] = 5),
+    ("place off", |_, after| {
+        if outcome(after).is_err() {
+            after.answer.lent_mut()[1] ^= 1;
+        }
+    }),
+    ("scratch left", |before, after| {
+        if let Some(last) = after.scratch.lent_mut().last_mut() {
+            *last = before.scratch.lent()[before.scratch.lent().len() - 1];
+        }
+    }),
+    ("scratch left after a refusal", |before, after| {
+        if outcome(after).is_err() {
+            after.scratch = before.scratch.clone();
+        }
+    }),
+    ("counts changed", |_, after| after.counts.lent_mut()[4] = 0),
+    ("gates sorted", |_, after| {
+        after.tables[3].lent_mut().as_chunks_mut::<3>().0.sort()
+    }),
+    ("spare words cleared", |before, after| {
+        let inputs = before.counts.lent()[1] as usize;
+        after.tables[0]
+            .lent_mut()
+            .iter_mut()
+            .skip(inputs)
+            .for_each(|word| *word = 0);
+    }),
+    ("writes before", |_, after| margin(&mut after.scratch, false)),
+    ("writes behind", |_, after| margin(&mut after.scratch, true)),
+    ("answers too much", |_, after| margin(&mut after.answer, true)),
+];
+
+/// A zero just outside of the memory.
+fn margin<T: Element + Default>(memory: &mut Memory<T>, behind: bool) {
+    let end = memory.all.len() - memory.margin;
+    match memory.margin {
+        0 => {}
+        _ if behind => memory.all[end] = T::default(),
+        margin => memory.all[margin - 1] = T::default(),
+    }
+}
+
+fn slips(call: Call) -> &'static [(&'static str, Slip)] {
+    match call {
+        Call::Check => CHECK,
+    }
+}
+
+struct Slipping {
+    slip: Slip,
+    asked: RefCell<VecDeque<Question>>,
+}
+
+impl Library for Slipping {
+    fn ask(&self, question: Question) {
+        self.asked.borrow_mut().push_back(question);
+    }
+
+    fn reply(&self) -> Result<Reply, String> {
+        let Some(Question::Tables(call, before)) = self.asked.borrow_mut().pop_front() else {
+            return Err("only calls on tables are answered here".to_string());
+        };
+        let mut lent = after(call, &before);
+        (self.slip)(&before, &mut lent);
+        Ok(Reply::Tables(lent))
+    }
+}
+
+/// How many of the first cases must do to notice a slip.
+const CASES: u64 = 500;
+
+pub fn run(tally: &mut Tally, seed: u64) {
+    for call in Call::ALL {
+        let name = call.name();
+        let none = notices(call, |_, _| {}, seed).map_or(Ok(()), Err);
+        tally.check(&format!("{name} without a slip"), none);
+        for (told, slip) in slips(call) {
+            let noticed = notices(call, *slip, seed).map(drop).ok_or("not noticed".to_string());
+            tally.check(&format!("{name} with the slip {told:?}"), noticed);
+        }
+    }
+}
+
+/// The first difference that a slip makes.
+fn notices(call: Call, slip: Slip, seed: u64) -> Option<String> {
+    let library = Slipping {
+        slip,
+        asked: RefCell::default(),
+    };
+    (0..CASES).find_map(|number| {
+        let lent = given::case(call, seed, number).lent;
+        ask(&library, call, &lent);
+        judge(&library, &after(call, &lent)).err()
+    })
+}

@@ -1,0 +1,117 @@
+//! Cases for the calls on tables, each made from a seed, a call and a number.
+
+mod counts;
+mod words;
+
+use super::circuit;
+use super::lend::enough;
+use crate::aiger::tables::Given;
+use crate::aiger::{Circuit, Counts, Form, Refusal};
+use crate::library::{Call, Lent};
+use crate::memory::Memory;
+use crate::random::Random;
+
+pub struct TablesCase {
+    pub lent: Lent,
+    /// Known from the way the case was made.
+    pub promise: Option<Result<(), Refusal>>,
+}
+
+/// Damages given tables; the refusal that the paper gives for it, or none if there was no place for it.
+type Damage = fn(&mut Random, &Circuit, &mut Given) -> Option<Refusal>;
+
+fn damages(number: u64) -> &'static [Damage] {
+    match number {
+        2 => &[counts::too_large, counts::too_large, counts::wrapping],
+        3 => &[counts::disagree],
+        4 => &[counts::short, counts::short, counts::more],
+        5 => &[words::out_of_range, words::out_of_range, words::out_of_range_and_second],
+        6 => words::SECOND,
+        7 => &[words::undefined, words::undefined, words::undefined_and_cycle],
+        8 => &[words::cycle],
+        _ => &[words::edit],
+    }
+}
+
+/// What damage aims at: a refusal; 0 is for none in particular.
+const AIMS: &[u64] = &[0, 2, 3, 4, 5, 6, 7, 8];
+
+pub fn case(call: Call, seed: u64, number: u64) -> TablesCase {
+    // The calls' cases are apart from each other and from those of files.
+    let mut random = Random::new(seed, (call as u64 + 1) << 40 | number);
+    let form = *random.pick(&[Form::Text, Form::Text, Form::Binary]);
+    let size = circuit::size(&mut random, form);
+    let circuit = circuit::circuit(&mut random, form, &size);
+    let mut given = Given::exactly(&circuit);
+    let promise = treat(&mut random, &circuit, &mut given);
+    TablesCase {
+        lent: lend(&given, random.word()),
+        promise,
+    }
+}
+
+/// Leaves half of the tables whole; spare words are put where they can't matter.
+fn treat(random: &mut Random, circuit: &Circuit, given: &mut Given) -> Option<Result<(), Refusal>> {
+    let aim = *random.pick(AIMS);
+    let once = |random: &mut Random, aim: u64, given: &mut Given| random.pick(damages(aim))(random, circuit, given);
+    let promise = match random.below(100) {
+        0..=47 => Some(Ok(())),
+        48..=89 => once(random, aim, given).map(Err),
+        90..=95 => {
+            let second = *random.pick(AIMS);
+            once(random, aim, given);
+            once(random, second, given);
+            None
+        }
+        _ => {
+            *given = unrelated(random);
+            None
+        }
+    };
+    if !matches!(promise, Some(Err(Refusal { number: 4, .. }))) {
+        spare(random, given);
+    }
+    promise
+}
+
+/// Words past the counts are not looked at, whatever they are.
+fn spare(random: &mut Random, given: &mut Given) {
+    let lengths = given.tables.each_ref().map(|table| table.len() as u64);
+    let needed = [lengths[0], lengths[1], lengths[2], lengths[3], given.scratch];
+    let lengths = enough(random, &needed);
+    for (table, length) in given.tables.iter_mut().zip(lengths) {
+        let word = *random.pick(&[0, 2, u32::MAX, table.first().copied().unwrap_or(3)]);
+        table.resize(length as usize, word);
+    }
+    given.scratch = lengths[4];
+}
+
+/// Counts and tables that have nothing to do with each other.
+fn unrelated(random: &mut Random) -> Given {
+    let counts = Counts::new([9, 3, 3, 3, 3].map(|most| random.below(most + 1) as u64));
+    let most = *random.pick(&[3, 12, 30]);
+    let lengths = [0; 4].map(|_| random.below(most + 1));
+    Given {
+        counts,
+        tables: lengths.map(|length| (0..length).map(|_| random.below(22) as u32).collect()),
+        scratch: random.between(30, 60) as u64,
+        written: None,
+    }
+}
+
+/// All that a call on these tables is lent.
+pub fn lend(given: &Given, junk: u64) -> Lent {
+    Lent {
+        counts: Memory::around(&given.counts.list(), junk),
+        tables: given.tables.each_ref().map(|table| Memory::around(table, junk)),
+        scratch: Memory::junk(given.scratch, junk),
+        answer: Memory::junk(2, junk),
+    }
+}
+
+fn refusal(number: u64, place: usize) -> Option<Refusal> {
+    Some(Refusal {
+        number,
+        place: place as u64,
+    })
+}

@@ -1,0 +1,119 @@
+//! Counts too large or against each other, and tables too short for them: 2, 3, 4.
+
+use super::refusal;
+use crate::aiger::tables::Given;
+use crate::aiger::{Circuit, Counts, Refusal, MOST};
+use crate::random::Random;
+
+/// Numbers that 64-bit arithmetic or a cut to 32 bits would take for small ones.
+fn large(random: &mut Random, small: u64) -> u64 {
+    let small = small % MOST;
+    let any = random.word() | 1 << 20;
+    *random.pick(&[
+        MOST + 1,
+        MOST + 2 + small,
+        1 << 32,
+        (1 << 32) + small,
+        (1 << 62) - 1,
+        // Three times this wraps to 2.
+        u64::MAX / 3 + 1,
+        1 << 63,
+        (1 << 63) + small,
+        u64::MAX,
+        u64::MAX - small,
+        any,
+    ])
+}
+
+/// One or two counts; the first in the order M I L O A is named.
+pub fn too_large(random: &mut Random, _: &Circuit, given: &mut Given) -> Option<Refusal> {
+    let mut list = given.counts.list();
+    let first = random.below(5);
+    list[first] = large(random, list[first]);
+    if random.once_in(3) {
+        let later = random.between(first, 4);
+        list[later] = large(random, list[later]);
+    }
+    given.counts = Counts::new(list);
+    refusal(2, first + 1)
+}
+
+/// Counts whose sum wraps to what it was.
+pub fn wrapping(random: &mut Random, _: &Circuit, given: &mut Given) -> Option<Refusal> {
+    let mut list = given.counts.list();
+    let [one, other] = *random.pick(&[[1, 2], [1, 4], [2, 4]]);
+    let much = *random.pick(&[1 << 63, u64::MAX - MOST, 1 << 40]);
+    list[one] = list[one].wrapping_add(much);
+    list[other] = list[other].wrapping_sub(much);
+    given.counts = Counts::new(list);
+    let first = list.iter().position(|&count| count > MOST)?;
+    refusal(2, first + 1)
+}
+
+pub fn disagree(random: &mut Random, circuit: &Circuit, given: &mut Given) -> Option<Refusal> {
+    let counts = circuit.counts();
+    let defined = counts.i + counts.l + counts.a;
+    let more = 1 + counts.m - defined + random.below(3) as u64;
+    let (count, value) = match random.below(5) {
+        0 | 1 if defined > 0 => (&mut given.counts.m, random.below(defined as usize) as u64),
+        2 => (&mut given.counts.i, counts.i + more),
+        3 => (&mut given.counts.l, counts.l + more),
+        _ => (&mut given.counts.a, counts.a + more),
+    };
+    if value > MOST {
+        return None;
+    }
+    *count = value;
+    refusal(3, 0)
+}
+
+/// The least table that is too short, unless a count is too large already.
+fn least(given: &Given) -> Option<Refusal> {
+    if given.counts.list().iter().any(|&count| count > MOST) {
+        return None;
+    }
+    let needed = given.counts.words();
+    let short = (0..4).find(|&k| (given.tables[k].len() as u64) < needed[k]);
+    match short {
+        Some(k) => refusal(4, k + 1),
+        None if given.scratch < needed[4] => refusal(4, 5),
+        None => None,
+    }
+}
+
+/// A length below `needed`, unless that is 0.
+fn below(random: &mut Random, needed: usize) -> usize {
+    match random.below(4) {
+        0 => 0,
+        1 | 2 => needed.saturating_sub(1),
+        _ => random.below(needed.max(1)),
+    }
+}
+
+/// One or two tables cut.
+pub fn short(random: &mut Random, _: &Circuit, given: &mut Given) -> Option<Refusal> {
+    for _ in 0..random.between(1, 2) {
+        match random.below(5) {
+            4 => given.scratch = below(random, given.scratch as usize) as u64,
+            k => {
+                let length = below(random, given.tables[k].len());
+                given.tables[k].truncate(length);
+            }
+        }
+    }
+    least(given)
+}
+
+/// Counts that ask for more than the tables hold.
+pub fn more(random: &mut Random, _: &Circuit, given: &mut Given) -> Option<Refusal> {
+    let mut list = given.counts.list();
+    let k = random.below(5);
+    let more = random.between(1, 3) as u64;
+    list[k] = list[k].saturating_add(more);
+    // I + L + A stays within M; O has no part in that.
+    if k != 0 && k != 3 {
+        list[0] = list[0].saturating_add(more);
+    }
+    given.counts = Counts::new(list);
+    least(given)
+}

@@ -1,0 +1,150 @@
+//! Words of the tables that are wrong: 5, 6, 7, 8.
+
+use super::{refusal, Damage};
+use crate::aiger::tables::Given;
+use crate::aiger::{literal, variable, Circuit, Refusal, MOST};
+use crate::naive;
+use crate::random::Random;
+use std::collections::HashSet;
+
+pub const SECOND: &[Damage] = &[second, second, second_and_undefined];
+
+/// A word of a table: the table at its number - 1, and the position in it.
+type Word = (usize, usize);
+
+/// Words of an entry of each table.
+const ENTRY: [usize; 4] = [1, 2, 1, 3];
+
+fn defines((table, k): Word) -> bool {
+    table != 2 && k % ENTRY[table] == 0
+}
+
+/// All words, tables in order.
+fn all(given: &Given) -> impl Iterator<Item = Word> + '_ {
+    let tables = given.tables.iter().enumerate();
+    tables.flat_map(|(table, words)| (0..words.len()).map(move |k| (table, k)))
+}
+
+fn defining(given: &Given) -> Vec<Word> {
+    all(given).filter(|&word| defines(word)).collect()
+}
+
+fn using(given: &Given) -> Vec<Word> {
+    all(given).filter(|&word| !defines(word)).collect()
+}
+
+fn set(given: &mut Given, (table, k): Word, word: u32) {
+    given.tables[table][k] = word;
+}
+
+/// One or two words; the least table is named.
+pub fn out_of_range(random: &mut Random, circuit: &Circuit, given: &mut Given) -> Option<Refusal> {
+    let places: Vec<Word> = all(given).collect();
+    if places.is_empty() {
+        return None;
+    }
+    let most = 2 * circuit.m as u32 + 1;
+    let mut least = usize::MAX;
+    for _ in 0..random.between(1, 2) {
+        let place = *random.pick(&places);
+        let above = most + 1 + random.below(9) as u32;
+        let large = *random.pick(&[most + 1, most + 2, above, 1 << 31, u32::MAX]);
+        let odd = 2 * random.below(circuit.m as usize + 1) as u32 + 1;
+        let none = *random.pick(&[0, 1, odd, odd, most, large]);
+        set(given, place, if defines(place) { none } else { large });
+        least = least.min(place.0 + 1);
+    }
+    refusal(5, least)
+}
+
+/// 5 over all tables comes before 6.
+pub fn out_of_range_and_second(random: &mut Random, circuit: &Circuit, given: &mut Given) -> Option<Refusal> {
+    second(random, circuit, given);
+    out_of_range(random, circuit, given)
+}
+
+/// A variable defined twice; the table of the second is named.
+pub fn second(random: &mut Random, _: &Circuit, given: &mut Given) -> Option<Refusal> {
+    let places = defining(given);
+    if places.len() < 2 {
+        return None;
+    }
+    let second = random.between(1, places.len() - 1);
+    let (table, k) = places[random.below(second)];
+    let word = given.tables[table][k];
+    set(given, places[second], word);
+    refusal(6, places[second].0 + 1)
+}
+
+/// 6 comes before 7.
+fn second_and_undefined(random: &mut Random, circuit: &Circuit, given: &mut Given) -> Option<Refusal> {
+    undefined(random, circuit, given);
+    second(random, circuit, given)
+}
+
+/// One to three uses of variables without a definition; the least is named.
+pub fn undefined(random: &mut Random, circuit: &Circuit, given: &mut Given) -> Option<Refusal> {
+    if circuit.m + 3 > MOST {
+        return None;
+    }
+    let more = random.between(1, 3) as u64;
+    given.counts.m = circuit.m + more;
+    given.scratch += 4 * more;
+    let defined: HashSet<usize> = circuit.defining().map(|(literal, _)| variable(literal)).collect();
+    let all = (1..=given.counts.m as usize).rev();
+    let free: Vec<usize> = all.filter(|v| !defined.contains(v)).take(50).collect();
+    let mut places = using(given);
+    random.shuffle(&mut places);
+    let mut least = None;
+    for place in places.into_iter().take(random.between(1, 3)) {
+        let v = *random.pick(&free);
+        least = Some(least.unwrap_or(v).min(v));
+        set(given, place, literal(v) + random.below(2) as u32);
+    }
+    refusal(7, least?)
+}
+
+/// 7 comes before 8.
+pub fn undefined_and_cycle(random: &mut Random, circuit: &Circuit, given: &mut Given) -> Option<Refusal> {
+    cycle(random, circuit, given)?;
+    undefined(random, circuit, given)
+}
+
+/// A gate is made to depend on itself, at once or through those that depend on it.
+pub fn cycle(random: &mut Random, circuit: &Circuit, given: &mut Given) -> Option<Refusal> {
+    let a = circuit.gates.len();
+    // The closure is slow, and many gates show nothing more.
+    if a == 0 || a > 300 {
+        return None;
+    }
+    let depends = naive::depends(circuit);
+    let gate = random.below(a);
+    let mut ends: Vec<usize> = (0..a).filter(|&k| depends[k][gate]).collect();
+    if ends.is_empty() || random.once_in(4) {
+        ends.push(gate);
+    }
+    let end = *random.pick(&ends);
+    let side = random.between(1, 2);
+    let mut cyclic = circuit.clone();
+    cyclic.gates[gate][side] = circuit.gates[end][0] + random.below(2) as u32;
+    set(given, (3, 3 * gate + side), cyclic.gates[gate][side]);
+    refusal(8, naive::first_on_cycle(&cyclic)?)
+}
+
+/// One to three words become others of about the right size; what that is, only a check can tell.
+pub fn edit(random: &mut Random, circuit: &Circuit, given: &mut Given) -> Option<Refusal> {
+    for _ in 0..random.between(1, 3) {
+        let table = random.below(4);
+        let words = &mut given.tables[table];
+        if words.is_empty() {
+            continue;
+        }
+        let at = random.below(words.len());
+        match random.below(3) {
+            0 => words.swap(at, 0),
+            1 => words[at] ^= 1,
+            _ => words[at] = random.below(2 * circuit.m as usize + 4) as u32,
+        }
+    }
+    None
+}
