@@ -16,3 +16,4 @@ pub mod Reduce
 pub mod Step
 pub mod Outcome
 pub mod Programs
+pub mod Whole

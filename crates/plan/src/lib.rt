@@ -274,3 +274,9 @@ pub enum Verdict {
     No,
     Refused(Refusal),
 }
+
+// What a part of a run answers: how many lines of it.
+pub enum Traced {
+    Lines(usize),
+    Refused(Refusal),
+}
