@@ -50,6 +50,7 @@ pub fn lines_length(table: &[u32], k: usize, n: usize) -> usize
     requires { ⌜ k * n ≤ length (now table) ⌝ }
     requires { ⌜ k * n ≤ 16777216 ⌝ }
     ensures { λ r. ⌜ r ≡ length (linesOf (rowsOf k n (now (table .entry)))) ⌝ }
+    ensures { λ r. ⌜ r ≤ 11 * (k * n) ⌝ }
 {
     let words = k * n;
     let mut sum: usize = 0;
@@ -114,6 +115,7 @@ pub fn gates_length(gates: &[u32], n: usize) -> usize
     requires { ⌜ 3 * n ≤ length (now gates) ⌝ }
     requires { ⌜ 3 * n ≤ 16777216 ⌝ }
     ensures { λ r. ⌜ r ≡ length (gateBytes (map gateOf (rowsOf 3 n (now (gates .entry))))) ⌝ }
+    ensures { λ r. ⌜ r ≤ 10 * n ⌝ }
 {
     let mut sum: usize = 0;
     let mut i = 0;

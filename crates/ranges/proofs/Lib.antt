@@ -1,4 +1,3 @@
-pub mod Given
 pub mod Named
 pub mod Places
 pub mod Steps

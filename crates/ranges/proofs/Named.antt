@@ -8,7 +8,7 @@ use Rattle.plan.specs.declared.Counts.{Counts}
 use Rattle.plan.specs.Circuit.{Tables, circuitOf, rowsOf, allInside}
 use Rattle.plan.specs.Given.{outsideIn}
 use Rattle.ranges.proofs.Places.{firstTable, outside-first}
-use Rattle.ranges.proofs.Given.{one-rows, latch-rows, gate-rows}
+use Rattle.theorems.proofs.Tables.{one-rows, latch-rows, gate-rows}
 
 -- tables 1 to 4 have the words that the counts ask
 pub record Room (n : Counts) (t : Tables) : Type 0 where

@@ -5,10 +5,11 @@ use mathlib.Core.List.{List, [], _∷_, _++_, map, map-append}
 use native.Mathlib.Nat.{mul-zero, mul-suc, mul-le-mul-left}
 use native.Mathlib.Numerals.{add-one}
 use native.Mathlib.Omega.{arith}
-use lib.ListN.{length, getD, take, drop, length-append}
-use lib.Seq.{getD-take, getD-drop, drop-drop, take-suc}
+use lib.ListN.{length, getD, take, drop, length-append, length-drop}
+use lib.Seq.{getD-take, getD-drop, drop-drop, take-suc, length-take-le}
 use Rattle.plan.specs.Literals.{varOf}
 use Rattle.plan.specs.Circuit.{Gate, Latch, oneLine, latchLine, gateLine, literalOf, latchOf, gateOf, rowsOf, heads, vars, currents, lefts}
+use Rattle.theorems.proofs.Reading.Rows.{Long, one-back, latch-back, gate-back}
 
 -- row i of k words
 abbrev pub rowAt : ℕ → List ℕ → ℕ → List ℕ
@@ -135,3 +136,19 @@ row-ends stride n i table room h =
 
 pub next-row : (stride i at : ℕ) → at ≡ stride * i → at + stride ≡ stride * (i + 1)
 next-row stride i at e = rw (add-one, mul-suc) (omega arith)
+
+-- the lines of a circuit that tables hold are the tables' rows
+rows-of-long : (k n : ℕ) (t : List ℕ) → k * n ≤ length t → Long k (rowsOf k n t)
+rows-of-long k zero t h = tt
+rows-of-long k (suc n) t h =
+    (length-take-le k t (omega (arith, mul-suc k n)), rows-of-long k n (drop k t) (omega (arith, mul-suc k n, length-drop k t)))
+
+pub one-rows : (n : ℕ) (t : List ℕ) → n ≤ length t → map oneLine (take n t) ≡ rowsOf 1 n t
+one-rows n t h =
+    ap (map oneLine) (words-take t n h ∙ sym (words-rows t n)) ∙ one-back (rowsOf 1 n t) (rows-of-long 1 n t (omega arith))
+
+pub latch-rows : (n : ℕ) (t : List ℕ) → 2 * n ≤ length t → map latchLine (map latchOf (rowsOf 2 n t)) ≡ rowsOf 2 n t
+latch-rows n t h = latch-back (rowsOf 2 n t) (rows-of-long 2 n t h)
+
+pub gate-rows : (n : ℕ) (t : List ℕ) → 3 * n ≤ length t → map gateLine (map gateOf (rowsOf 3 n t)) ≡ rowsOf 3 n t
+gate-rows n t h = gate-back (rowsOf 3 n t) (rows-of-long 3 n t h)

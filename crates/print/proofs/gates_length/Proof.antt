@@ -69,7 +69,7 @@ returns : tie.Need-returns Inv-loop μ-loop
 returns c =
     let s = c .before .loop in
     let a = c .before .before .before .args in
-    all-counted (a .gates .now) (a .n) (s .sum) (s .i) (s .inv) (c .loop-test .left)
+    (all-counted (a .gates .now) (a .n) (s .sum) (s .i) (s .inv) (c .loop-test .left), omega (arith, s .inv .few, s .inv .bound))
 
 pub gates-length-spec : {M : Type 1} → statement M
 gates-length-spec =

@@ -63,7 +63,7 @@ returns : tie.Need-returns Inv-loop μ-loop
 returns c =
     let s = c .before .loop in
     let a = c .before .before .before .args in
-    all-counted (a .table .now) (a .k) (a .n) (s .sum) (s .i) (s .inv) (c .loop-test .left)
+    (all-counted (a .table .now) (a .k) (a .n) (s .sum) (s .i) (s .inv) (c .loop-test .left), omega (arith, s .inv .few, s .inv .bound))
 
 pub lines-length-spec : {M : Type 1} → statement M
 lines-length-spec =
