@@ -1,0 +1,2 @@
+-- What the proofs of the writers use.
+pub mod Headers

@@ -1,0 +1,2 @@
+-- What the writers are stated with.
+pub mod Forms
