@@ -1,2 +1,3 @@
 -- What the proofs of the writers use.
 pub mod Headers
+pub mod Filled

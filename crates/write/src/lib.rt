@@ -5,7 +5,8 @@ ghost use lib.ListN.{length};
 ghost use Rattle.plan.specs.Header.{listOf};
 ghost use Rattle.plan.specs.Outcome.{put};
 ghost use Rattle.theorems.proofs.Reading.Headers.{AllMost};
-ghost use Rattle.write.specs.Forms.{headBytes};
+ghost use Rattle.tables.specs.Held.{Fits};
+ghost use Rattle.write.specs.Forms.{headBytes, textBytes};
 use plan::Counts;
 use print::lines_length;
 use print::write_lines;
@@ -41,4 +42,37 @@ fn write_header(out: &mut [u8], letter: u8, n: Counts) -> usize
     out[3] = 32;
     let words = five(n);
     write_lines(out, 4, &words, 5, 1)
+}
+
+// The bytes of the text form.
+fn text_length(n: Counts, inputs: &[u32], latches: &[u32], outputs: &[u32], gates: &[u32]) -> usize
+    requires { ⌜ Fits n (now inputs) (now latches) (now outputs) (now gates) ⌝ }
+    ensures { λ r. ⌜ r ≡ length (textBytes n (now (inputs .entry)) (now (latches .entry)) (now (outputs .entry)) (now (gates .entry))) ⌝ }
+{
+    header_length(n)
+        + lines_length(inputs, 1, n.I)
+        + lines_length(latches, 2, n.L)
+        + lines_length(outputs, 1, n.O)
+        + lines_length(gates, 3, n.A)
+}
+
+// The text form from the start of a buffer that has room: I lines of one literal, L of two, O of one, A of three. The position after it.
+fn fill_text(
+    out: &mut [u8],
+    n: Counts,
+    inputs: &[u32],
+    latches: &[u32],
+    outputs: &[u32],
+    gates: &[u32],
+) -> usize
+    requires { ⌜ Fits n (now inputs) (now latches) (now outputs) (now gates) ⌝ }
+    requires { ⌜ length (textBytes n (now inputs) (now latches) (now outputs) (now gates)) ≤ length (now out) ⌝ }
+    ensures { λ r. ⌜ r ≡ length (textBytes n (now (inputs .entry)) (now (latches .entry)) (now (outputs .entry)) (now (gates .entry))) ⌝ }
+    ensures { λ _. ⌜ now (out .exit) ≡ put (now (out .entry)) 0 (textBytes n (now (inputs .entry)) (now (latches .entry)) (now (outputs .entry)) (now (gates .entry))) ⌝ }
+{
+    let first_input = write_header(out, 97, n);
+    let first_latch = write_lines(out, first_input, inputs, 1, n.I);
+    let first_output = write_lines(out, first_latch, latches, 2, n.L);
+    let first_gate = write_lines(out, first_output, outputs, 1, n.O);
+    write_lines(out, first_gate, gates, 3, n.A)
 }
