@@ -1,3 +1,6 @@
 -- What the proofs of the writers use.
 pub mod Headers
 pub mod Filled
+pub mod Copies
+pub mod Parts
+pub mod Answers

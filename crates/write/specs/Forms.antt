@@ -1,11 +1,13 @@
 -- The bytes of both forms, part by part, from the words of the tables.
-use Prim.Native.Nat.{ℕ}
+use Prim.Native.Nat.{ℕ, _*_, _≤_}
 use mathlib.Core.List.{List, _∷_, _++_, map}
+use lib.ListN.{length}
 use Rattle.plan.specs.declared.Counts.{Counts}
 use Rattle.plan.specs.Circuit.{rowsOf, gateOf}
 use Rattle.plan.specs.Bytes.{lineOf, linesOf}
 use Rattle.plan.specs.Header.{listOf}
 use Rattle.plan.specs.Binary.{gateBytes}
+use Rattle.theorems.proofs.Reading.Headers.{AllMost}
 
 -- "a", the letter, "g", a space, and the line of the counts
 abbrev pub headBytes : ℕ → Counts → List ℕ
@@ -33,3 +35,10 @@ binaryNexts n nexts outputs gates = linesOf (rowsOf 1 (n .L) nexts) ++ binaryOut
 
 abbrev pub binaryBytes : Counts → List ℕ → List ℕ → List ℕ → List ℕ
 binaryBytes n nexts outputs gates = headBytes 105 n ++ binaryNexts n nexts outputs gates
+
+-- counts within the limits, and tables that are long enough for them
+pub record Printable (n : Counts) (nexts outputs gates : List ℕ) : Type 0 where
+  pub counts-most : AllMost (listOf n)
+  pub nexts-long : n .L ≤ length nexts
+  pub outputs-long : n .O ≤ length outputs
+  pub gates-long : 3 * n .A ≤ length gates

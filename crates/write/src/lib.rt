@@ -1,14 +1,22 @@
 // Writing a circuit in either form, and its tail (the paper, writing).
 ghost use mathlib.Core.Path.{_≡_};
-ghost use Prim.Native.Nat.{_+_, _≤_};
+ghost use mathlib.Core.List.{map, _++_};
+ghost use Prim.Native.Nat.{_+_, _*_, _≤_};
 ghost use lib.ListN.{length};
+ghost use Rattle.plan.specs.Literals.{most};
+ghost use Rattle.plan.specs.Circuit.{latchOf, rowsOf, nexts};
 ghost use Rattle.plan.specs.Header.{listOf};
-ghost use Rattle.plan.specs.Outcome.{put};
+ghost use Rattle.plan.specs.Outcome.{put, putBytes};
 ghost use Rattle.theorems.proofs.Reading.Headers.{AllMost};
 ghost use Rattle.tables.specs.Held.{Fits};
-ghost use Rattle.write.specs.Forms.{headBytes, textBytes};
+ghost use Rattle.write.specs.Forms.{headBytes, textBytes, binaryBytes, Printable};
+use codec::room;
 use plan::Counts;
+use plan::Refusal;
+use plan::Written;
+use print::gates_length;
 use print::lines_length;
+use print::write_gates;
 use print::write_lines;
 
 // The counts in the order of the header.
@@ -75,4 +83,99 @@ fn fill_text(
     let first_output = write_lines(out, first_latch, latches, 2, n.L);
     let first_gate = write_lines(out, first_output, outputs, 1, n.O);
     write_lines(out, first_gate, gates, 3, n.A)
+}
+
+// The next states of n latches, at the start of a table.
+fn gather(latches: &[u32], n: usize, into: &mut [u32])
+    requires { ⌜ (n ≤ most) × (2 * n ≤ length (now latches)) × (n ≤ length (now into)) ⌝ }
+    ensures { λ _. ⌜ now (into .exit) ≡ put (now (into .entry)) 0 (nexts (map latchOf (rowsOf 2 n (now (latches .entry))))) ⌝ }
+{
+    let mut i = 0;
+    while i < n {
+        into[i] = latches[2 * i + 1];
+        i += 1;
+    }
+}
+
+// The bytes of the binary form of a circuit in binary order, from the next states of its latches.
+fn binary_length(n: Counts, nexts: &[u32], outputs: &[u32], gates: &[u32]) -> usize
+    requires { ⌜ Printable n (now nexts) (now outputs) (now gates) ⌝ }
+    ensures { λ r. ⌜ r ≡ length (binaryBytes n (now (nexts .entry)) (now (outputs .entry)) (now (gates .entry))) ⌝ }
+{
+    header_length(n)
+        + lines_length(nexts, 1, n.L)
+        + lines_length(outputs, 1, n.O)
+        + gates_length(gates, n.A)
+}
+
+// The binary form from the start of a buffer that has room: L lines of a next state, O lines of an output, A gates. The position
+// after it.
+fn fill_binary(out: &mut [u8], n: Counts, nexts: &[u32], outputs: &[u32], gates: &[u32]) -> usize
+    requires { ⌜ Printable n (now nexts) (now outputs) (now gates) ⌝ }
+    requires { ⌜ length (binaryBytes n (now nexts) (now outputs) (now gates)) ≤ length (now out) ⌝ }
+    ensures { λ r. ⌜ r ≡ length (binaryBytes n (now (nexts .entry)) (now (outputs .entry)) (now (gates .entry))) ⌝ }
+    ensures { λ _. ⌜ now (out .exit) ≡ put (now (out .entry)) 0 (binaryBytes n (now (nexts .entry)) (now (outputs .entry)) (now (gates .entry))) ⌝ }
+{
+    let first_next = write_header(out, 105, n);
+    let first_output = write_lines(out, first_next, nexts, 1, n.L);
+    let first_gate = write_lines(out, first_output, outputs, 1, n.O);
+    write_gates(out, first_gate, gates, n.A)
+}
+
+// The tail from a position on; the position after it.
+fn append(out: &mut [u8], at: usize, tail: &[u8]) -> usize
+    requires { ⌜ at + length (now tail) ≤ length (now out) ⌝ }
+    ensures { λ r. ⌜ r ≡ at + length (now (tail .entry)) ⌝ }
+    ensures { λ _. ⌜ now (out .exit) ≡ put (now (out .entry)) at (now (tail .entry)) ⌝ }
+{
+    let mut i = 0;
+    while i < tail.len() {
+        out[at + i] = tail[i];
+        i += 1;
+    }
+    at + i
+}
+
+// The text form and then the tail, or 11 with the length needed. Nothing is written before the length is known.
+fn put_text(
+    n: Counts,
+    inputs: &[u32],
+    latches: &[u32],
+    outputs: &[u32],
+    gates: &[u32],
+    tail: &[u8],
+    out: &mut [u8],
+) -> Written
+    requires { ⌜ Fits n (now inputs) (now latches) (now outputs) (now gates) ⌝ }
+    ensures { λ r. ⌜ record { answer = r; out = now (out .exit) } ≡ putBytes (now (out .entry)) 0 (textBytes n (now (inputs .entry)) (now (latches .entry)) (now (outputs .entry)) (now (gates .entry)) ++ now (tail .entry)) ⌝ }
+{
+    let length = text_length(n, inputs, latches, outputs, gates);
+    if !room::holds(out.len(), length, tail.len()) {
+        return Written::Refused(Refusal::ShortBuffer(room::needed(length, tail.len())));
+    }
+    let end = fill_text(out, n, inputs, latches, outputs, gates);
+    Written::Bytes(append(out, end, tail))
+}
+
+// The same for the binary form. The next states of the latches stand in the scratch.
+fn put_binary(
+    n: Counts,
+    latches: &[u32],
+    outputs: &[u32],
+    gates: &[u32],
+    scratch: &mut [u32],
+    tail: &[u8],
+    out: &mut [u8],
+) -> Written
+    requires { ⌜ Printable n (now scratch) (now outputs) (now gates) ⌝ }
+    requires { ⌜ 2 * n .L ≤ length (now latches) ⌝ }
+    ensures { λ r. ⌜ record { answer = r; out = now (out .exit) } ≡ putBytes (now (out .entry)) 0 (binaryBytes n (nexts (map latchOf (rowsOf 2 (n .L) (now (latches .entry))))) (now (outputs .entry)) (now (gates .entry)) ++ now (tail .entry)) ⌝ }
+{
+    gather(latches, n.L, scratch);
+    let length = binary_length(n, scratch, outputs, gates);
+    if !room::holds(out.len(), length, tail.len()) {
+        return Written::Refused(Refusal::ShortBuffer(room::needed(length, tail.len())));
+    }
+    let end = fill_binary(out, n, scratch, outputs, gates);
+    Written::Bytes(append(out, end, tail))
 }

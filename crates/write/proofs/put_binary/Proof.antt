@@ -1,0 +1,89 @@
+use Prim.Native.Nat.{ℕ}
+use mathlib.Core.Path.{ap, _∙_}
+use mathlib.Core.List.{List, _++_}
+use native.Mathlib.Omega.{arith}
+use borrow.Author.Needs.{needs}
+use borrow.Author.Tests.{not-true, not-false}
+use Rattle.plan.specs.Outcome.{putBytes}
+use Rattle.write.specs.Forms.{binaryBytes}
+use Rattle.write.proofs.Parts.{gathered}
+use Rattle.write.proofs.Answers.{no-room, form-fits, tail-fits, all-put}
+use Rattle.write.proofs.put_binary.Statement.{statement}
+use Rattle.write.proofs.put_binary.Tie as tie
+
+gather-requires : tie.Need-gather-requires
+gather-requires c κs = search needs
+
+binary-length-requires : tie.Need-binary-length-requires
+binary-length-requires c κs = search needs
+
+holds-requires : tie.Need-holds-requires
+holds-requires c κs = search needs
+
+needed-requires : tie.Need-needed-requires
+needed-requires c κs = search needs
+
+same-length : tie.Need-same-length
+same-length c = search needs
+
+returns : tie.Need-returns
+returns c =
+    let start = c .before .before .before .before .before .before .before .before .before .before .before .before .before .before .before in
+    let a = start .args in
+    let table = c .before .before .before .before .before .before .before .gather .last .1 .1 .0 in
+    let bytes = binaryBytes (a .n) table (a .outputs .now) (a .gates .now) in
+    no-room bytes (a .tail .now) (a .out .now) (c .before .before .before .binary-length .ensures) (c .before .before .holds .ensures) (not-true _ (c .before .if1 .taken)) (c .needed .ensures)
+    ∙ ap (λ (form : List ℕ). putBytes (a .out .now) 0 (form ++ a .tail .now))
+    (gathered (a .n) (a .latches .now) (a .outputs .now) (a .gates .now) (a .scratch .now) table
+    (omega (arith, start .pre .0 .nexts-long, c .before .before .before .before .before .before .scratch .given)) (c .before .before .before .before .before .before .before .gather .ensures))
+
+fill-binary-requires : tie.Need-fill-binary-requires
+fill-binary-requires c κs =
+    let start = c .before .before .before .before .before .before .before .before .before .before .before .before .before .before .before .before in
+    let a = start .args in
+    let table = c .before .before .before .before .before .before .before .before .gather .last .1 .1 .0 in
+    let bytes = binaryBytes (a .n) table (a .outputs .now) (a .gates .now) in
+    (search needs, form-fits bytes (a .tail .now) (a .out .now) (c .before .before .before .before .binary-length .ensures) (c .before .before .before .holds .ensures) (not-false _ (c .before .before .if1 .left)))
+
+append-requires : tie.Need-append-requires
+append-requires c κs =
+    let start = c .before .before .before .before .before .before .before .before .before .before .before .before .before .before .before .before .before .before .before .before in
+    let a = start .args in
+    let table = c .before .before .before .before .before .before .before .before .before .before .before .before .gather .last .1 .1 .0 in
+    let bytes = binaryBytes (a .n) table (a .outputs .now) (a .gates .now) in
+    tail-fits bytes (a .tail .now) (a .out .now) (c .before .before .before .before .before .before .before .before .binary-length .ensures) (c .before .before .before .before .before .before .before .holds .ensures) (not-false _ (c .before .before .before .before .before .before .if1 .left))
+    (c .before .before .before .fill-binary .ensures)
+
+same-length-2 : tie.Need-same-length-2
+same-length-2 c = search needs
+
+same-length-3 : tie.Need-same-length-3
+same-length-3 c = search needs
+
+returns-2 : tie.Need-returns-2
+returns-2 c =
+    let start = c .before .before .before .before .before .before .before .before .before .before .before .before .before .before .before .before .before .before .before .before .before .before .before in
+    let a = start .args in
+    let table = c .before .before .before .before .before .before .before .before .before .before .before .before .before .before .before .gather .last .1 .1 .0 in
+    let bytes = binaryBytes (a .n) table (a .outputs .now) (a .gates .now) in
+    all-put bytes (a .tail .now) (a .out .now) (c .before .before .before .before .before .before .before .before .before .before .before .binary-length .ensures) (c .before .before .before .before .before .before .before .before .before .before .holds .ensures) (not-false _ (c .before .before .before .before .before .before .before .before .before .if1 .left))
+    (c .before .before .before .before .before .before .fill-binary .ensures) (c .before .before .append .ensures)
+    ∙ ap (λ (form : List ℕ). putBytes (a .out .now) 0 (form ++ a .tail .now))
+    (gathered (a .n) (a .latches .now) (a .outputs .now) (a .gates .now) (a .scratch .now) table
+    (omega (arith, start .pre .0 .nexts-long, c .before .before .before .before .before .before .before .before .before .before .before .before .before .before .scratch .given)) (c .before .before .before .before .before .before .before .before .before .before .before .before .before .before .before .gather .ensures))
+
+pub put-binary-spec : {M : Type 1} → statement M
+put-binary-spec =
+    tie.close
+    (tie.spec
+    gather-requires
+    binary-length-requires
+    holds-requires
+    needed-requires
+    same-length
+    returns
+    fill-binary-requires
+    append-requires
+    same-length-2
+    same-length-3
+    returns-2)
