@@ -4,3 +4,5 @@ pub mod Filled
 pub mod Copies
 pub mod Parts
 pub mod Answers
+pub mod Judging
+pub mod Writing

@@ -1,10 +1,10 @@
 -- The forms of the circuit that tables hold are written from the words of the tables.
-use Prim.Native.Nat.{ℕ, suc, zero, _+_, _*_, _≤_}
-use mathlib.Core.Path.{_≡_, refl, sym, ap, ap₂, _∙_}
-use mathlib.Core.List.{List, [], _∷_, _++_, map}
+use Prim.Native.Nat.{ℕ, _≤_}
+use mathlib.Core.Path.{_≡_, sym, ap, ap₂, _∙_}
+use mathlib.Core.List.{List, _++_, map}
 use native.Mathlib.Omega.{arith}
-use lib.ListN.{length, take, drop, length-map}
-use lib.Seq.{length-take-le, take-length}
+use lib.ListN.{length, take}
+use lib.Seq.{take-length}
 use Rattle.plan.specs.declared.Counts.{Counts}
 use Rattle.plan.specs.Circuit.{countsOf, latchOf, gateOf, oneLine, latchLine, gateLine, rowsOf, nexts}
 use Rattle.plan.specs.Bytes.{linesOf}
@@ -16,12 +16,9 @@ use Rattle.theorems.proofs.Put.{put-first}
 use Rattle.theorems.proofs.Reading.Headers.{AllMost}
 use Rattle.theorems.proofs.Tables.{length-firsts, one-rows, latch-rows, gate-rows}
 use Rattle.tables.specs.Held.{circuitIn, Fits}
-use Rattle.write.specs.Forms.{headBytes, textBytes, binaryBytes, binaryOutputs}
+use Rattle.given.proofs.Sound.{held-counts}
+use Rattle.write.specs.Forms.{headBytes, textBytes, binaryBytes, binaryOutputs, Printable}
 use Rattle.write.proofs.Copies.{nextAt, nexts-words}
-
-rows-count : (k n : ℕ) (t : List ℕ) → length (rowsOf k n t) ≡ n
-rows-count k zero t = refl
-rows-count k (suc n) t = ap suc (rows-count k n (drop k t))
 
 nexts-count : (latches : List ℕ) (n : ℕ) → length (nexts (map latchOf (rowsOf 2 n latches))) ≡ n
 nexts-count latches n = ap length (sym (nexts-words latches n)) ∙ length-firsts (nextAt latches) n
@@ -47,17 +44,14 @@ gathered n latches outputs gates table table' long e =
     (sym (one-rows (n .L) table' long) ∙ (ap (map oneLine) first ∙ next-rows latches (n .L)))
 
 module _ (n : Counts) (inputs latches outputs gates : List ℕ) (f : Fits n inputs latches outputs gates) where
-  pub counts-most : AllMost (listOf n)
+  counts-most : AllMost (listOf n)
   counts-most = (f .most-M, (omega arith, (omega arith, (f .most-O, (omega arith, tt)))))
 
+  pub printable : (table : List ℕ) → n .L ≤ length table → Printable n table outputs gates
+  printable table h = record { counts-most = counts-most; nexts-long = h; outputs-long = f .outputs-long; gates-long = f .gates-long }
+
   counts-are : n ≡ countsOf (circuitIn n inputs latches outputs gates)
-  counts-are = sym λ i. record {
-    M = n .M;
-    I = length-take-le (n .I) inputs (f .inputs-long) i;
-    L = (length-map (rowsOf 2 (n .L) latches) latchOf ∙ rows-count 2 (n .L) latches) i;
-    O = length-take-le (n .O) outputs (f .outputs-long) i;
-    A = (length-map (rowsOf 3 (n .A) gates) gateOf ∙ rows-count 3 (n .A) gates) i;
-  }
+  counts-are = sym (held-counts n (record { inputs = inputs; latches = latches; outputs = outputs; gates = gates }) f)
 
   input-lines : linesOf (rowsOf 1 (n .I) inputs) ≡ linesOf (map oneLine (take (n .I) inputs))
   input-lines = ap linesOf (sym (one-rows (n .I) inputs (f .inputs-long)))

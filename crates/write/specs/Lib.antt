@@ -1,2 +1,3 @@
 -- What the writers are stated with.
 pub mod Forms
+pub mod Judged

@@ -4,13 +4,16 @@ ghost use mathlib.Core.List.{map, _++_};
 ghost use Prim.Native.Nat.{_+_, _*_, _≤_};
 ghost use lib.ListN.{length};
 ghost use Rattle.plan.specs.Literals.{most};
-ghost use Rattle.plan.specs.Circuit.{latchOf, rowsOf, nexts};
+ghost use Rattle.plan.specs.Refusals.{firstOf};
+ghost use Rattle.plan.specs.Circuit.{latchOf, rowsOf, nexts, cleared};
 ghost use Rattle.plan.specs.Header.{listOf};
-ghost use Rattle.plan.specs.Outcome.{put, putBytes};
+ghost use Rattle.plan.specs.Outcome.{Says, put, putBytes, checkedBy, checkBy, writeText, writeBinary};
 ghost use Rattle.theorems.proofs.Reading.Headers.{AllMost};
 ghost use Rattle.tables.specs.Held.{Fits};
 ghost use Rattle.write.specs.Forms.{headBytes, textBytes, binaryBytes, Printable};
+ghost use Rattle.write.specs.Judged.{givenIn, tableStages, writerStages};
 use codec::room;
+use plan::Checked;
 use plan::Counts;
 use plan::Refusal;
 use plan::Written;
@@ -18,6 +21,7 @@ use print::gates_length;
 use print::lines_length;
 use print::write_gates;
 use print::write_lines;
+use tables::clear;
 
 // The counts in the order of the header.
 fn five(n: Counts) -> [u32; 5]
@@ -178,4 +182,94 @@ fn put_binary(
     }
     let end = fill_binary(out, n, scratch, outputs, gates);
     Written::Bytes(append(out, end, tail))
+}
+
+// Given tables by 2 to 8, and by 15 where it is asked. Scratch is zero afterwards.
+fn check_tables(
+    n: Counts,
+    inputs: &[u32],
+    latches: &[u32],
+    outputs: &[u32],
+    gates: &[u32],
+    scratch: &mut [u32],
+    ordered: bool,
+) -> Checked
+    ensures { λ r. ⌜ record { answer = r; scratch = now (scratch .exit) } ≡ checkBy (tableStages ordered (givenIn n (now (inputs .entry)) (now (latches .entry)) (now (outputs .entry)) (now (gates .entry)) (now (scratch .entry)))) (givenIn n (now (inputs .entry)) (now (latches .entry)) (now (outputs .entry)) (now (gates .entry)) (now (scratch .entry))) ⌝ }
+{
+    if ordered {
+        return given::check_in_order(n, inputs, latches, outputs, gates, scratch);
+    }
+    given::check(n, inputs, latches, outputs, gates, scratch)
+}
+
+// The same, then the tail by 1 and 10, whose offsets count from the tail's start. Scratch holds its marks and is zero afterwards.
+fn judge(
+    n: Counts,
+    inputs: &[u32],
+    latches: &[u32],
+    outputs: &[u32],
+    gates: &[u32],
+    scratch: &mut [u32],
+    tail: &[u8],
+    ordered: bool,
+) -> Checked
+    ensures { λ r. ⌜ r ≡ checkedBy (firstOf (writerStages ordered (givenIn n (now (inputs .entry)) (now (latches .entry)) (now (outputs .entry)) (now (gates .entry)) (now (scratch .entry))) (now (tail .entry)))) ⌝ }
+    ensures { λ _. ⌜ now (scratch .exit) ≡ cleared (now (scratch .entry)) ⌝ }
+{
+    match check_tables(n, inputs, latches, outputs, gates, scratch, ordered) {
+        Checked::Refused(r) => Checked::Refused(r),
+        Checked::Good => {
+            let answer = tail::check(tail, 0, n, scratch);
+            clear(scratch);
+            answer
+        }
+    }
+}
+
+// Writes the text form of given tables and the tail: the number of bytes written, or a refusal, which changes no byte of `out`. Scratch
+// is zero afterwards.
+pub fn write_text(
+    n: Counts,
+    inputs: &[u32],
+    latches: &[u32],
+    outputs: &[u32],
+    gates: &[u32],
+    scratch: &mut [u32],
+    tail: &[u8],
+    out: &mut [u8],
+) -> Written
+    ensures { λ r. ⌜ Says writeText
+        (record { circuit = (record { counts = n; tables = (record { inputs = now (inputs .entry); latches = now (latches .entry); outputs = now (outputs .entry); gates = now (gates .entry) }); scratch = now (scratch .entry) }); tail = now (tail .entry); out = now (out .entry) })
+        (record { answer = r; scratch = now (scratch .exit); out = now (out .exit) }) ⌝ }
+{
+    match judge(n, inputs, latches, outputs, gates, scratch, tail, false) {
+        Checked::Refused(r) => Written::Refused(r),
+        Checked::Good => put_text(n, inputs, latches, outputs, gates, tail, out),
+    }
+}
+
+// Writes the binary form of given tables in binary order and the tail: the number of bytes written, or a refusal, which changes no byte
+// of `out`. Scratch is zero afterwards.
+pub fn write_binary(
+    n: Counts,
+    inputs: &[u32],
+    latches: &[u32],
+    outputs: &[u32],
+    gates: &[u32],
+    scratch: &mut [u32],
+    tail: &[u8],
+    out: &mut [u8],
+) -> Written
+    ensures { λ r. ⌜ Says writeBinary
+        (record { circuit = (record { counts = n; tables = (record { inputs = now (inputs .entry); latches = now (latches .entry); outputs = now (outputs .entry); gates = now (gates .entry) }); scratch = now (scratch .entry) }); tail = now (tail .entry); out = now (out .entry) })
+        (record { answer = r; scratch = now (scratch .exit); out = now (out .exit) }) ⌝ }
+{
+    match judge(n, inputs, latches, outputs, gates, scratch, tail, true) {
+        Checked::Refused(r) => Written::Refused(r),
+        Checked::Good => {
+            let answer = put_binary(n, latches, outputs, gates, scratch, tail, out);
+            clear(scratch);
+            answer
+        }
+    }
 }

@@ -1,0 +1,69 @@
+use Prim.Native.Nat.{ℕ}
+use mathlib.Core.Path.{sym, ap, _∙_}
+use lib.ListN.{replicate}
+use Rattle.plan.specs.Given.{tailStage}
+use Rattle.plan.specs.Outcome.{CheckExit, checkedBy}
+use Rattle.write.specs.Judged.{givenIn, tableStages}
+use Rattle.write.proofs.Judging.{refused-before, good-before, good-tables, marks-hold, marks-blank}
+use borrow.Author.Needs.{needs}
+use Rattle.write.proofs.judge.Statement.{statement}
+use Rattle.write.proofs.judge.Tie as tie
+
+check-tables-requires : tie.Need-check-tables-requires
+check-tables-requires c κs = search needs
+
+enum-known-r : tie.Need-enum-known-r
+enum-known-r c = search needs
+
+enum-told : tie.Need-enum-told
+enum-told c = search needs
+
+check-requires : tie.Need-check-requires
+check-requires c κs =
+    let a = c .before .before .before .before .before .before .before .before .before .before .before .before .before .args in
+    let g = givenIn (a .n) (a .inputs .now) (a .latches .now) (a .outputs .now) (a .gates .now) (a .scratch .now) in
+    let says = ap (λ (x : CheckExit). x .answer) (c .before .before .before .before .before .check-tables .ensures) in
+    let blank = ap (λ (x : CheckExit). x .scratch) (c .before .before .before .before .before .check-tables .ensures) in
+    let good = good-tables (a .ordered) g says (c .before .enum-told .given .1) in
+    (marks-hold (a .ordered) g good _ blank, marks-blank (a .ordered) g good _ blank)
+
+clear-requires : tie.Need-clear-requires
+clear-requires c κs = search needs
+
+same-length : tie.Need-same-length
+same-length c = search needs
+
+returns : tie.Need-returns
+returns c =
+    let a = c .before .before .before .before .before .before .before .before .before .before .before .before .before .args in
+    let g = givenIn (a .n) (a .inputs .now) (a .latches .now) (a .outputs .now) (a .gates .now) (a .scratch .now) in
+    let says = ap (λ (x : CheckExit). x .answer) (c .before .before .before .before .before .check-tables .ensures) in
+    let blank = ap (λ (x : CheckExit). x .scratch) (c .before .before .before .before .before .check-tables .ensures) in
+    (sym (ap checkedBy (refused-before (tableStages (a .ordered) g) (tailStage g (a .tail .now)) says _ (c .before .r .given .1))), blank)
+
+same-length-2 : tie.Need-same-length-2
+same-length-2 c = search needs
+
+returns-2 : tie.Need-returns-2
+returns-2 c =
+    let a = c .before .before .before .before .before .before .before .before .before .before .before .before .before .before .before .before .before .before .before .before .args in
+    let g = givenIn (a .n) (a .inputs .now) (a .latches .now) (a .outputs .now) (a .gates .now) (a .scratch .now) in
+    let says = ap (λ (x : CheckExit). x .answer) (c .before .before .before .before .before .before .before .before .before .before .before .before .check-tables .ensures) in
+    let blank = ap (λ (x : CheckExit). x .scratch) (c .before .before .before .before .before .before .before .before .before .before .before .before .check-tables .ensures) in (
+      c .before .before .before .before .before .before .check .ensures ∙ sym (ap checkedBy (good-before (tableStages (a .ordered) g) (tailStage g (a .tail .now)) says (c .before .before .before .before .before .before .before .before .enum-told .given .1))),
+      c .before .before .clear .ensures ∙ ap (λ (k : ℕ). replicate k 0) (c .before .before .before .before .before .scratch2 .given ∙ c .before .before .before .before .before .before .before .before .before .before .before .scratch .given),
+    )
+
+pub judge-spec : {M : Type 1} → statement M
+judge-spec =
+    tie.close
+    (tie.spec
+    check-tables-requires
+    enum-known-r
+    enum-told
+    check-requires
+    clear-requires
+    same-length
+    returns
+    same-length-2
+    returns-2)
