@@ -1,4 +1,5 @@
-// Writing a circuit in either form, and its tail (the paper, writing).
+// Writing given tables in text form or binary form, and their tail (the paper, text form, binary form, and the order of checks; AIGER
+// report, sections 7, 11 and 12).
 ghost use mathlib.Core.Path.{_≡_};
 ghost use mathlib.Core.List.{map, _++_};
 ghost use Prim.Native.Nat.{_+_, _*_, _≤_};
@@ -23,7 +24,7 @@ use print::write_gates;
 use print::write_lines;
 use tables::clear;
 
-// The counts in the order of the header.
+// The counts as the header's line has them.
 fn five(n: Counts) -> [u32; 5]
     requires { ⌜ AllMost (listOf n) ⌝ }
     ensures { λ r. ⌜ r ≡ listOf n ⌝ }
@@ -48,10 +49,10 @@ fn write_header(out: &mut [u8], letter: u8, n: Counts) -> usize
     ensures { λ r. ⌜ r ≡ length (headBytes letter n) ⌝ }
     ensures { λ _. ⌜ now (out .exit) ≡ put (now (out .entry)) 0 (headBytes letter n) ⌝ }
 {
-    out[0] = 97;
+    out[0] = b'a';
     out[1] = letter;
-    out[2] = 103;
-    out[3] = 32;
+    out[2] = b'g';
+    out[3] = b' ';
     let words = five(n);
     write_lines(out, 4, &words, 5, 1)
 }
@@ -82,14 +83,14 @@ fn fill_text(
     ensures { λ r. ⌜ r ≡ length (textBytes n (now (inputs .entry)) (now (latches .entry)) (now (outputs .entry)) (now (gates .entry))) ⌝ }
     ensures { λ _. ⌜ now (out .exit) ≡ put (now (out .entry)) 0 (textBytes n (now (inputs .entry)) (now (latches .entry)) (now (outputs .entry)) (now (gates .entry))) ⌝ }
 {
-    let first_input = write_header(out, 97, n);
+    let first_input = write_header(out, b'a', n);
     let first_latch = write_lines(out, first_input, inputs, 1, n.I);
     let first_output = write_lines(out, first_latch, latches, 2, n.L);
     let first_gate = write_lines(out, first_output, outputs, 1, n.O);
     write_lines(out, first_gate, gates, 3, n.A)
 }
 
-// The next states of n latches, at the start of a table.
+// The next states of n latches, at the start of a table: binary form leaves the current states out.
 fn gather(latches: &[u32], n: usize, into: &mut [u32])
     requires { ⌜ (n ≤ most) × (2 * n ≤ length (now latches)) × (n ≤ length (now into)) ⌝ }
     ensures { λ _. ⌜ now (into .exit) ≡ put (now (into .entry)) 0 (nexts (map latchOf (rowsOf 2 n (now (latches .entry))))) ⌝ }
@@ -120,7 +121,7 @@ fn fill_binary(out: &mut [u8], n: Counts, nexts: &[u32], outputs: &[u32], gates:
     ensures { λ r. ⌜ r ≡ length (binaryBytes n (now (nexts .entry)) (now (outputs .entry)) (now (gates .entry))) ⌝ }
     ensures { λ _. ⌜ now (out .exit) ≡ put (now (out .entry)) 0 (binaryBytes n (now (nexts .entry)) (now (outputs .entry)) (now (gates .entry))) ⌝ }
 {
-    let first_next = write_header(out, 105, n);
+    let first_next = write_header(out, b'i', n);
     let first_output = write_lines(out, first_next, nexts, 1, n.L);
     let first_gate = write_lines(out, first_output, outputs, 1, n.O);
     write_gates(out, first_gate, gates, n.A)
@@ -153,9 +154,9 @@ fn put_text(
     requires { ⌜ Fits n (now inputs) (now latches) (now outputs) (now gates) ⌝ }
     ensures { λ r. ⌜ record { answer = r; out = now (out .exit) } ≡ putBytes (now (out .entry)) 0 (textBytes n (now (inputs .entry)) (now (latches .entry)) (now (outputs .entry)) (now (gates .entry)) ++ now (tail .entry)) ⌝ }
 {
-    let length = text_length(n, inputs, latches, outputs, gates);
-    if !room::holds(out.len(), length, tail.len()) {
-        return Written::Refused(Refusal::ShortBuffer(room::needed(length, tail.len())));
+    let text = text_length(n, inputs, latches, outputs, gates);
+    if !room::holds(out.len(), text, tail.len()) {
+        return Written::Refused(Refusal::ShortBuffer(room::needed(text, tail.len())));
     }
     let end = fill_text(out, n, inputs, latches, outputs, gates);
     Written::Bytes(append(out, end, tail))
@@ -176,9 +177,9 @@ fn put_binary(
     ensures { λ r. ⌜ record { answer = r; out = now (out .exit) } ≡ putBytes (now (out .entry)) 0 (binaryBytes n (nexts (map latchOf (rowsOf 2 (n .L) (now (latches .entry))))) (now (outputs .entry)) (now (gates .entry)) ++ now (tail .entry)) ⌝ }
 {
     gather(latches, n.L, scratch);
-    let length = binary_length(n, scratch, outputs, gates);
-    if !room::holds(out.len(), length, tail.len()) {
-        return Written::Refused(Refusal::ShortBuffer(room::needed(length, tail.len())));
+    let binary = binary_length(n, scratch, outputs, gates);
+    if !room::holds(out.len(), binary, tail.len()) {
+        return Written::Refused(Refusal::ShortBuffer(room::needed(binary, tail.len())));
     }
     let end = fill_binary(out, n, scratch, outputs, gates);
     Written::Bytes(append(out, end, tail))
