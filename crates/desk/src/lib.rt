@@ -3,7 +3,7 @@ ghost use mathlib.Core.Path.{_≡_};
 ghost use lib.ListN.{drop};
 ghost use Rattle.plan.specs.Header.{wordsFor, countsFrom};
 ghost use Rattle.plan.specs.Outcome.{Says, read};
-ghost use Rattle.desk.specs.Told.{check};
+ghost use Rattle.desk.specs.Told.{check, writeText, writeBinary};
 
 // How many words table 1 to 5 needs for the file's header, or 2^64 - 1.
 #[no_mangle]
@@ -50,4 +50,48 @@ pub extern "C" fn golvanzo_check(
     let n = told::counts(counts);
     let r = given::check(n, inputs, latches, outputs, gates, scratch);
     told::checked(r, answer);
+}
+
+// Writes the text form of given tables and the tail: number (0: written), place and the number of bytes.
+#[no_mangle]
+pub extern "C" fn golvanzo_write_text(
+    counts: &[u64; 5],
+    inputs: &[u32],
+    latches: &[u32],
+    outputs: &[u32],
+    gates: &[u32],
+    scratch: &mut [u32],
+    tail: &[u8],
+    out: &mut [u8],
+    answer: &mut [u64; 3],
+)
+    ensures { λ _. ⌜ Says writeText
+        (record { circuit = (record { counts = countsFrom (now (counts .entry)); tables = (record { inputs = now (inputs .entry); latches = now (latches .entry); outputs = now (outputs .entry); gates = now (gates .entry) }); scratch = now (scratch .entry) }); tail = now (tail .entry); out = now (out .entry) })
+        (record { answer = now (answer .exit); scratch = now (scratch .exit); out = now (out .exit) }) ⌝ }
+{
+    let n = told::counts(counts);
+    let r = write::write_text(n, inputs, latches, outputs, gates, scratch, tail, out);
+    told::written(r, answer);
+}
+
+// The same in binary form.
+#[no_mangle]
+pub extern "C" fn golvanzo_write_binary(
+    counts: &[u64; 5],
+    inputs: &[u32],
+    latches: &[u32],
+    outputs: &[u32],
+    gates: &[u32],
+    scratch: &mut [u32],
+    tail: &[u8],
+    out: &mut [u8],
+    answer: &mut [u64; 3],
+)
+    ensures { λ _. ⌜ Says writeBinary
+        (record { circuit = (record { counts = countsFrom (now (counts .entry)); tables = (record { inputs = now (inputs .entry); latches = now (latches .entry); outputs = now (outputs .entry); gates = now (gates .entry) }); scratch = now (scratch .entry) }); tail = now (tail .entry); out = now (out .entry) })
+        (record { answer = now (answer .exit); scratch = now (scratch .exit); out = now (out .exit) }) ⌝ }
+{
+    let n = told::counts(counts);
+    let r = write::write_binary(n, inputs, latches, outputs, gates, scratch, tail, out);
+    told::written(r, answer);
 }
