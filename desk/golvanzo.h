@@ -23,4 +23,15 @@ void golvanzo_check(const uint64_t *counts /* 5 words */, const uint32_t *inputs
                     size_t n2, const uint32_t *outputs, size_t n3, const uint32_t *gates, size_t n4, uint32_t *scratch,
                     size_t n5, uint64_t *answer /* 2 words */);
 
+/* Write the tables and the tail as a file into `out`, `answer` being number (0: accepted), place and how many bytes of
+   `out` are written (0 after a refusal, which changes none). Binary needs tables in binary order. */
+void golvanzo_write_text(const uint64_t *counts /* 5 words */, const uint32_t *inputs, size_t n1,
+                         const uint32_t *latches, size_t n2, const uint32_t *outputs, size_t n3, const uint32_t *gates,
+                         size_t n4, uint32_t *scratch, size_t n5, const uint8_t *tail, size_t tail_len, uint8_t *out,
+                         size_t out_len, uint64_t *answer /* 3 words */);
+void golvanzo_write_binary(const uint64_t *counts /* 5 words */, const uint32_t *inputs, size_t n1,
+                           const uint32_t *latches, size_t n2, const uint32_t *outputs, size_t n3,
+                           const uint32_t *gates, size_t n4, uint32_t *scratch, size_t n5, const uint8_t *tail,
+                           size_t tail_len, uint8_t *out, size_t out_len, uint64_t *answer /* 3 words */);
+
 #endif

@@ -7,113 +7,15 @@
    1 words      file, u64 n, n times u64 table                            n times u64
    2 read       file, five tables, answer                                 five tables, answer, u64 tail
    3 check      counts, five tables, answer                               all of these
+   4 text       counts, five tables, tail, buffer, answer                 all of these
+   5 binary     the same                                                  all of these
 
-   A file is u64 length and its bytes. Counts and an answer (of u64) and a table (of u32) are u64 margin, u64 length and
-   (margin + length + margin) elements, of which the middle is lent; their reply is all of those elements. */
+   What these are is said in wire.h. */
 #include <stdint.h>
 #include <stdio.h>
-#include <stdlib.h>
 
 #include "golvanzo.h"
-
-#define TABLES 5
-#define CIRCUIT 4
-
-struct file {
-    uint8_t *bytes;
-    size_t length;
-};
-
-struct memory {
-    void *all, *lent;
-    size_t bytes, length;
-};
-
-/* Two arguments: where the memory starts and how many elements it has. */
-#define LENT(memory) (memory).lent, (memory).length
-
-/* What every call on tables is lent. */
-struct given {
-    struct memory counts, table[CIRCUIT], scratch;
-};
-
-/* The first nine arguments of such a call. */
-#define CIRCUIT_OF(given)                                                                                              \
-    (given).counts.lent, LENT((given).table[0]), LENT((given).table[1]), LENT((given).table[2]), LENT((given).table[3])
-
-static void give_up(const char *why) {
-    fprintf(stderr, "server: %s\n", why);
-    exit(1);
-}
-
-static void get(void *to, size_t length) {
-    if (length > 0 && fread(to, length, 1, stdin) != 1)
-        give_up("a request ends early");
-}
-
-static void put(const void *from, size_t length) {
-    if (length > 0 && fwrite(from, length, 1, stdout) != 1)
-        give_up("a reply can't be written");
-}
-
-static uint64_t get_number(void) {
-    uint64_t number;
-    get(&number, sizeof number);
-    return number;
-}
-
-static void put_number(uint64_t number) {
-    put(&number, sizeof number);
-}
-
-/* Memory of exactly this length, so that a checker of addresses sees what lies outside; filled from the request. */
-static void *get_bytes(size_t length) {
-    void *bytes = malloc(length);
-    if (bytes == NULL && length > 0)
-        give_up("no memory");
-    get(bytes, length);
-    return bytes;
-}
-
-static struct file get_file(void) {
-    size_t length = get_number();
-    return (struct file){get_bytes(length), length};
-}
-
-static struct memory get_memory(size_t element) {
-    size_t margin = get_number(), length = get_number(), bytes = (margin + length + margin) * element;
-    uint8_t *all = get_bytes(bytes);
-    return (struct memory){all, all + margin * element, bytes, length};
-}
-
-static void put_memory(struct memory memory) {
-    put(memory.all, memory.bytes);
-    free(memory.all);
-}
-
-static struct memory get_table(void) {
-    return get_memory(sizeof(uint32_t));
-}
-
-static struct memory get_numbers(void) {
-    return get_memory(sizeof(uint64_t));
-}
-
-static struct given get_given(void) {
-    struct given given;
-    given.counts = get_numbers();
-    for (int k = 0; k < CIRCUIT; k++)
-        given.table[k] = get_table();
-    given.scratch = get_table();
-    return given;
-}
-
-static void put_given(struct given given) {
-    put_memory(given.counts);
-    for (int k = 0; k < CIRCUIT; k++)
-        put_memory(given.table[k]);
-    put_memory(given.scratch);
-}
+#include "wire.h"
 
 static void call_words(void) {
     struct file file = get_file();
@@ -145,6 +47,19 @@ static void call_check(void) {
     put_memory(answer);
 }
 
+static void call_write(int binary) {
+    struct given given = get_given();
+    struct memory tail = get_vector(), out = get_vector(), answer = get_numbers();
+    if (binary)
+        golvanzo_write_binary(CIRCUIT_OF(given), LENT(given.scratch), LENT(tail), LENT(out), answer.lent);
+    else
+        golvanzo_write_text(CIRCUIT_OF(given), LENT(given.scratch), LENT(tail), LENT(out), answer.lent);
+    put_given(given);
+    put_memory(tail);
+    put_memory(out);
+    put_memory(answer);
+}
+
 int main(void) {
     uint32_t call;
     while (fread(&call, sizeof call, 1, stdin) == 1) {
@@ -161,6 +76,10 @@ int main(void) {
             break;
         case 3:
             call_check();
+            break;
+        case 4:
+        case 5:
+            call_write(call == 5);
             break;
         default:
             give_up("no such call");

@@ -94,7 +94,7 @@ fn far(circuit: &Circuit) -> bool {
         .any(|[lhs, rhs0, rhs1]| lhs - rhs0 >= 1 << 14 || rhs0 - rhs1 >= 1 << 14)
 }
 
-fn at_least(count: u64, needed: u64) -> Result<(), String> {
+pub fn at_least(count: u64, needed: u64) -> Result<(), String> {
     if count >= needed {
         Ok(())
     } else {

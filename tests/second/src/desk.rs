@@ -72,6 +72,11 @@ impl Begun {
         if let Some(promise) = &self.case.promise {
             ensure!(*promise == given, "foretold {promise:?}, given {given:?}");
         }
+        if let (Ok(()), Some(file)) = (given, &self.case.file) {
+            let written = self.expected.answer.lent()[2] as usize;
+            let given = &self.expected.bytes[1].lent()[..written];
+            ensure!(given == file, "foretold {file:02x?}, written {given:02x?}");
+        }
         Ok(())
     }
 }

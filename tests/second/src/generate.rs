@@ -51,6 +51,15 @@ pub fn case(seed: u64, number: u64) -> Case {
     lend(&mut random, treatment, file, promise)
 }
 
+/// A well-formed file, apart from those of the cases.
+pub fn whole(seed: u64, number: u64) -> Vec<u8> {
+    let mut random = Random::new(seed, 1 << 63 | number);
+    let form = *random.pick(&[Form::Text, Form::Binary]);
+    let size = circuit::size(&mut random, form);
+    let circuit = circuit::circuit(&mut random, form, &size);
+    Draft::new(&mut random, form, &circuit).layout().file
+}
+
 fn treatment(random: &mut Random) -> Treatment {
     let aim = *random.pick(AIMS);
     match random.below(100) {

@@ -7,6 +7,7 @@ use crate::compare::{compare, tables};
 use crate::ensure;
 use crate::generate::given;
 use crate::library::{Call, Library};
+use crate::memory::Memory;
 use crate::tally::Tally;
 
 /// Fills what is lent.
@@ -60,12 +61,18 @@ fn compared(library: &dyn Library, a: usize) -> Result<(), String> {
     let text = write::file(&circuit, Form::Text, b"");
     let lengths = circuit.counts().words();
     compare(library, &text, &lengths, JUNK, &Ok((circuit.clone(), text.len())))?;
-    called(library, Call::Check, &circuit)
+    called(library, Call::Check, &circuit, &[])?;
+    called(library, Call::WriteText, &circuit, &[0, text.len() as u64])?;
+    let binary = write::file(&chain(a), Form::Binary, b"");
+    called(library, Call::WriteBinary, &chain(a), &[0, binary.len() as u64])
 }
 
-/// A call on exactly the circuit's tables.
-fn called(library: &dyn Library, call: Call, circuit: &Circuit) -> Result<(), String> {
-    let lent = given::lend(&Given::exactly(circuit), JUNK);
+/// A call on exactly the circuit's tables, with byte buffers of these lengths.
+fn called(library: &dyn Library, call: Call, circuit: &Circuit, lengths: &[u64]) -> Result<(), String> {
+    let mut lent = given::lend(call, &Given::exactly(circuit), JUNK);
+    lent.bytes = lengths.iter().map(|&length| Memory::junk(length, JUNK)).collect();
+    let expected = tables::after(call, &lent);
+    ensure!(tables::outcome(&expected).is_ok(), "{} refuses", call.name());
     tables::ask(library, call, &lent);
-    tables::judge(library, &tables::after(call, &lent))
+    tables::judge(library, &expected)
 }

@@ -1,5 +1,5 @@
-//! What is compared, seen from the caller's side. The writers, conversion, reduction, the stepper and the
-//! witness question join `Call` when the library offers them.
+//! What is compared, seen from the caller's side. Conversion, reduction, the stepper and the witness question join
+//! `Call` when the library offers them.
 
 use crate::memory::Memory;
 
@@ -35,10 +35,12 @@ pub struct FileReply {
 #[derive(Clone, Copy, Debug, PartialEq, Eq)]
 pub enum Call {
     Check,
+    WriteText,
+    WriteBinary,
 }
 
 impl Call {
-    pub const ALL: [Call; 1] = [Call::Check];
+    pub const ALL: [Call; 3] = [Call::Check, Call::WriteText, Call::WriteBinary];
 
     pub fn named(name: &str) -> Option<Call> {
         Call::ALL.into_iter().find(|call| call.name() == name)
@@ -47,6 +49,8 @@ impl Call {
     pub fn name(self) -> &'static str {
         match self {
             Call::Check => "check",
+            Call::WriteText => "write-text",
+            Call::WriteBinary => "write-binary",
         }
     }
 
@@ -54,6 +58,21 @@ impl Call {
     pub fn refusals(self) -> &'static [u64] {
         match self {
             Call::Check => &[2, 3, 4, 5, 6, 7, 8],
+            Call::WriteText => &[1, 2, 3, 4, 5, 6, 7, 8, 10, 11],
+            Call::WriteBinary => &[1, 2, 3, 4, 5, 6, 7, 8, 10, 11, 15],
+        }
+    }
+
+    /// Whether it refuses tables not in binary order.
+    pub fn asks_order(self) -> bool {
+        self.refusals().contains(&15)
+    }
+
+    /// The length of its answer: number, place, values.
+    pub fn answers(self) -> u64 {
+        match self {
+            Call::Check => 2,
+            Call::WriteText | Call::WriteBinary => 3,
         }
     }
 }
@@ -65,6 +84,8 @@ pub struct Lent {
     /// Tables 1 to 4.
     pub tables: [Memory<u32>; 4],
     pub scratch: Memory<u32>,
+    /// Of a writer the tail and the buffer.
+    pub bytes: Vec<Memory<u8>>,
     pub answer: Memory<u64>,
 }
 

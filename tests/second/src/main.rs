@@ -19,6 +19,7 @@ mod properties;
 mod random;
 mod remote;
 mod tally;
+mod trips;
 mod wire;
 
 use aiger::read;
@@ -88,6 +89,9 @@ fn all(tally: &mut Tally, options: &Options, library: Option<&dyn Library>) {
     run_ahead(begun, |begun| begun.finish(tally, options, library));
     coverage.report(tally);
     desk::run(tally, options, library);
+    if let Some(library) = library {
+        trips::run(tally, options, library);
+    }
 }
 
 /// So many cases are made while the library answers for the first of them.

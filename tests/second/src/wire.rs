@@ -24,6 +24,8 @@ pub fn request(question: &Question) -> Vec<u8> {
 fn number(call: Call) -> u32 {
     match call {
         Call::Check => 3,
+        Call::WriteText => 4,
+        Call::WriteBinary => 5,
     }
 }
 
@@ -48,6 +50,7 @@ fn put_lent(bytes: &mut Vec<u8>, lent: &Lent) {
     put_memory(bytes, &lent.counts);
     lent.tables.iter().for_each(|table| put_memory(bytes, table));
     put_memory(bytes, &lent.scratch);
+    lent.bytes.iter().for_each(|memory| put_memory(bytes, memory));
     put_memory(bytes, &lent.answer);
 }
 
@@ -82,6 +85,7 @@ fn get_lent(from: &mut impl Read, mut lent: Lent) -> io::Result<Lent> {
     get_memory(from, &mut lent.counts)?;
     lent.tables.iter_mut().try_for_each(|table| get_memory(from, table))?;
     get_memory(from, &mut lent.scratch)?;
+    lent.bytes.iter_mut().try_for_each(|memory| get_memory(from, memory))?;
     get_memory(from, &mut lent.answer)?;
     Ok(lent)
 }

@@ -19,6 +19,9 @@ pub fn judge(library: &dyn Library, expected: &Lent) -> Result<(), String> {
     for (k, (expected, given)) in expected.tables.iter().zip(&given.tables).enumerate() {
         same(&format!("table {}", k + 1), expected, given)?;
     }
+    for (k, (expected, given)) in expected.bytes.iter().zip(&given.bytes).enumerate() {
+        same(&format!("byte buffer {}", k + 1), expected, given)?;
+    }
     same("scratch", &expected.scratch, &given.scratch)
 }
 
@@ -46,9 +49,23 @@ pub fn after(call: Call, before: &Lent) -> Lent {
     after.scratch.lent_mut().fill(0);
     let given = given(before);
     match call {
-        Call::Check => answer(&mut after, calls::check(&given), &[]),
+        Call::Check => answer(&mut after, calls::check(&given), |()| Vec::new()),
+        Call::WriteText => written(&mut after, |tail, room| calls::write_text(&given, tail, room)),
+        Call::WriteBinary => written(&mut after, |tail, room| calls::write_binary(&given, tail, room)),
     }
     after
+}
+
+/// An accepted write changes the bytes that it reports, a refusal none.
+fn written(after: &mut Lent, write: impl Fn(&[u8], u64) -> Result<Vec<u8>, Refusal>) {
+    let [tail, buffer] = after.bytes.as_mut_slice() else {
+        unreachable!("a writer has a tail and a buffer");
+    };
+    let file = write(tail.lent(), buffer.lent().len() as u64);
+    if let Ok(file) = &file {
+        buffer.lent_mut()[..file.len()].copy_from_slice(file);
+    }
+    answer(after, file, |file| vec![file.len() as u64]);
 }
 
 fn given(lent: &Lent) -> Given {
@@ -62,11 +79,11 @@ fn given(lent: &Lent) -> Given {
 }
 
 /// Number and place, then the values of an accepted call or zeros.
-fn answer<T>(after: &mut Lent, outcome: Result<T, Refusal>, values: &[u64]) {
+fn answer<T>(after: &mut Lent, outcome: Result<T, Refusal>, values: impl Fn(T) -> Vec<u64>) {
     let answer = after.answer.lent_mut();
     answer.fill(0);
     match outcome {
-        Ok(_) => answer[2..].copy_from_slice(values),
+        Ok(accepted) => answer[2..].copy_from_slice(&values(accepted)),
         Err(refusal) => answer[..2].copy_from_slice(&[refusal.number, refusal.place]),
     }
 }

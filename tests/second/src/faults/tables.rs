@@ -11,7 +11,8 @@ use std::collections::VecDeque;
 /// Spoils what a call leaves, given what it was lent.
 type Slip = fn(&Lent, &mut Lent);
 
-const CHECK: &[(&str, Slip)] = &[
+/// Slips that any call can make.
+const ANY: &[(&str, Slip)] = &[
     ("accepts all", |_, after| after.answer.lent_mut().fill(0)),
     ("refuses all", |_, after| after.answer.lent_mut()[0] = 5),
     ("place off", |_, after| {
@@ -56,9 +57,41 @@ fn margin<T: Element + Default>(memory: &mut Memory<T>, behind: bool) {
     }
 }
 
-fn slips(call: Call) -> &'static [(&'static str, Slip)] {
+const WRITERS: &[(&str, Slip)] = &[
+    ("buffer changed after a refusal", |_, after| {
+        if let (Err(_), Some(first)) = (outcome(after), after.bytes[1].lent_mut().first_mut()) {
+            *first = 0;
+        }
+    }),
+    ("bytes changed past those reported", |_, after| {
+        let written = after.answer.lent()[2] as usize;
+        if let (Ok(()), Some(spare)) = (outcome(after), after.bytes[1].lent_mut().get_mut(written)) {
+            *spare = 0;
+        }
+    }),
+    ("length invented", |_, after| {
+        if outcome(after).is_ok() {
+            after.answer.lent_mut()[2] += 1;
+        }
+    }),
+    ("bytes reported after a refusal", |_, after| {
+        if outcome(after).is_err() {
+            after.answer.lent_mut()[2] = after.bytes[1].lent().len() as u64;
+        }
+    }),
+    ("tail left out", |_, after| {
+        if outcome(after).is_ok() {
+            after.answer.lent_mut()[2] -= after.bytes[0].lent().len() as u64;
+        }
+    }),
+    ("tail changed", |_, after| after.bytes[0].lent_mut().fill(b'c')),
+    ("a byte too many", |_, after| margin(&mut after.bytes[1], true)),
+];
+
+fn slips(call: Call) -> Vec<(&'static str, Slip)> {
     match call {
-        Call::Check => CHECK,
+        Call::Check => ANY.to_vec(),
+        Call::WriteText | Call::WriteBinary => [ANY, WRITERS].concat(),
     }
 }
 
@@ -91,7 +124,7 @@ pub fn run(tally: &mut Tally, seed: u64) {
         let none = notices(call, |_, _| {}, seed).map_or(Ok(()), Err);
         tally.check(&format!("{name} without a slip"), none);
         for (told, slip) in slips(call) {
-            let noticed = notices(call, *slip, seed).map(drop).ok_or("not noticed".to_string());
+            let noticed = notices(call, slip, seed).map(drop).ok_or("not noticed".to_string());
             tally.check(&format!("{name} with the slip {told:?}"), noticed);
         }
     }

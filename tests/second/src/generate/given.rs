@@ -1,7 +1,9 @@
 //! Cases for the calls on tables, each made from a seed, a call and a number.
 
 mod counts;
+mod order;
 mod words;
+mod writing;
 
 use super::circuit;
 use super::lend::enough;
@@ -15,6 +17,8 @@ pub struct TablesCase {
     pub lent: Lent,
     /// Known from the way the case was made.
     pub promise: Option<Result<(), Refusal>>,
+    /// What a writer gives if it accepts, laid out otherwise than a writer does it.
+    pub file: Option<Vec<u8>>,
 }
 
 /// Damages given tables; the refusal that the paper gives for it, or none if there was no place for it.
@@ -29,38 +33,70 @@ fn damages(number: u64) -> &'static [Damage] {
         6 => words::SECOND,
         7 => &[words::undefined, words::undefined, words::undefined_and_cycle],
         8 => &[words::cycle],
+        15 => order::ALL,
         _ => &[words::edit],
     }
 }
 
 /// What damage aims at: a refusal; 0 is for none in particular.
-const AIMS: &[u64] = &[0, 2, 3, 4, 5, 6, 7, 8];
+fn aims(call: Call) -> &'static [u64] {
+    if call.asks_order() {
+        &[0, 2, 3, 4, 5, 6, 7, 8, 15]
+    } else {
+        &[0, 2, 3, 4, 5, 6, 7, 8]
+    }
+}
 
 pub fn case(call: Call, seed: u64, number: u64) -> TablesCase {
     // The calls' cases are apart from each other and from those of files.
     let mut random = Random::new(seed, (call as u64 + 1) << 40 | number);
-    let form = *random.pick(&[Form::Text, Form::Text, Form::Binary]);
+    let form = form(&mut random, call);
     let size = circuit::size(&mut random, form);
     let circuit = circuit::circuit(&mut random, form, &size);
     let mut given = Given::exactly(&circuit);
-    let promise = treat(&mut random, &circuit, &mut given);
-    TablesCase {
-        lent: lend(&given, random.word()),
-        promise,
+    let promise = treat(&mut random, call, &circuit, &mut given);
+    let mut case = TablesCase {
+        lent: lend(call, &given, random.word()),
+        promise: promise.filter(|promise| form == Form::Binary || !by_order(call, promise)),
+        file: None,
+    };
+    match call {
+        Call::Check => {}
+        Call::WriteText => writing::add(&mut random, Form::Text, &circuit, &mut case),
+        Call::WriteBinary => writing::add(&mut random, Form::Binary, &circuit, &mut case),
+    }
+    case
+}
+
+/// Whether the promise holds only for a circuit that was made in binary order.
+fn by_order(call: Call, promise: &Result<(), Refusal>) -> bool {
+    call.asks_order() && matches!(promise, Ok(()) | Err(Refusal { number: 15, .. }))
+}
+
+/// A circuit in text form may have any order.
+fn form(random: &mut Random, call: Call) -> Form {
+    let binary = if call.asks_order() { 12 } else { 4 };
+    if random.below(13) < binary {
+        Form::Binary
+    } else {
+        Form::Text
     }
 }
 
 /// Leaves half of the tables whole; spare words are put where they can't matter.
-fn treat(random: &mut Random, circuit: &Circuit, given: &mut Given) -> Option<Result<(), Refusal>> {
-    let aim = *random.pick(AIMS);
+fn treat(random: &mut Random, call: Call, circuit: &Circuit, given: &mut Given) -> Option<Result<(), Refusal>> {
+    let aim = *random.pick(aims(call));
     let once = |random: &mut Random, aim: u64, given: &mut Given| random.pick(damages(aim))(random, circuit, given);
     let promise = match random.below(100) {
-        0..=47 => Some(Ok(())),
-        48..=89 => once(random, aim, given).map(Err),
-        90..=95 => {
-            let second = *random.pick(AIMS);
-            once(random, aim, given);
-            once(random, second, given);
+        0..=54 => Some(Ok(())),
+        55..=91 => once(random, aim, given).map(Err),
+        92..=96 => {
+            // A table is cut last, since the other damage looks for words of it.
+            let mut both = [aim, *random.pick(aims(call))];
+            both.sort_by_key(|&aim| aim == 4);
+            for aim in both {
+                once(random, aim, given);
+            }
             None
         }
         _ => {
@@ -100,12 +136,13 @@ fn unrelated(random: &mut Random) -> Given {
 }
 
 /// All that a call on these tables is lent.
-pub fn lend(given: &Given, junk: u64) -> Lent {
+pub fn lend(call: Call, given: &Given, junk: u64) -> Lent {
     Lent {
         counts: Memory::around(&given.counts.list(), junk),
         tables: given.tables.each_ref().map(|table| Memory::around(table, junk)),
         scratch: Memory::junk(given.scratch, junk),
-        answer: Memory::junk(2, junk),
+        bytes: Vec::new(),
+        answer: Memory::junk(call.answers(), junk),
     }
 }
 
