@@ -1,0 +1,39 @@
+-- A literal under its variable's number, as the code makes it: the number doubled, with the literal's sign.
+use Prim.Native.Nat.{ℕ, zero, suc, _+_, _<_, _^_, _%_, min, max}
+use mathlib.Core.Path.{_≡_, refl, ap, _∙_}
+use mathlib.Core.Bool.{Bool, true, false}
+use mathlib.Core.List.{List}
+use native.Mathlib.Omega.{arith}
+use borrow.Author.Tests.{ltb-true, ltb-false}
+use lib.Dec.{ltb}
+use Rattle.plan.specs.declared.Lit.{Lit}
+use Rattle.plan.specs.Literals.{litOf, signOf, signed, litAt, wordOf, varAt, doubled, signedAs}
+use Rattle.convert.specs.Renumbered.{numberOf, literalBy, Known}
+
+-- no bit of a number's literal is cut
+pub double-word : (k : ℕ) → k < 2147483648 → wordOf (doubled (varAt k)) ≡ litOf k
+double-word k h = omega arith
+
+sign-on : (k s : ℕ) → s < 2 → signed s (litOf k) ≡ litOf k + s
+sign-on k zero h = omega arith
+sign-on k (suc zero) h = omega arith
+sign-on k (suc (suc s)) h = absurd (omega arith)
+
+pub by-number : (t : List ℕ) (l : Lit) → Known t (wordOf l) → signedAs (doubled (varAt (numberOf t (wordOf l)))) l ≡ litAt (literalBy t (wordOf l))
+unfolding literalBy
+by-number t l h =
+    let k = numberOf t (wordOf l) in
+    ap litAt (ap (signed (signOf (wordOf l))) (double-word k (h .1)) ∙ sign-on k (signOf (wordOf l)) (omega arith))
+
+-- the larger and the smaller of two literals
+pub below-larger : (a b : Lit) → ltb (wordOf a) (wordOf b) ≡ true → b ≡ litAt (max (wordOf a) (wordOf b))
+below-larger a b e = let m : wordOf b ≡ max (wordOf a) (wordOf b) = omega (arith, ltb-true (wordOf a) (wordOf b) e) in ap litAt m
+
+pub not-below-larger : (a b : Lit) → ltb (wordOf a) (wordOf b) ≡ false → a ≡ litAt (max (wordOf a) (wordOf b))
+not-below-larger a b e = let m : wordOf a ≡ max (wordOf a) (wordOf b) = omega (arith, ltb-false (wordOf a) (wordOf b) e) in ap litAt m
+
+pub below-smaller : (a b : Lit) → ltb (wordOf a) (wordOf b) ≡ true → a ≡ litAt (min (wordOf a) (wordOf b))
+below-smaller a b e = let m : wordOf a ≡ min (wordOf a) (wordOf b) = omega (arith, ltb-true (wordOf a) (wordOf b) e) in ap litAt m
+
+pub not-below-smaller : (a b : Lit) → ltb (wordOf a) (wordOf b) ≡ false → b ≡ litAt (min (wordOf a) (wordOf b))
+not-below-smaller a b e = let m : wordOf b ≡ min (wordOf a) (wordOf b) = omega (arith, ltb-false (wordOf a) (wordOf b) e) in ap litAt m
