@@ -1,9 +1,8 @@
 -- The body of the binary form: the first part that is refused, or all three and what the tables then hold.
-use Prim.Native.Nat.{ℕ, suc, _+_, _≤_}
-use mathlib.Core.Path.{_≡_, refl, sym, ap, ap₂, _∙_, subst}
+use Prim.Native.Nat.{ℕ, _+_}
+use mathlib.Core.Path.{_≡_, refl, sym, ap, _∙_, subst}
 use mathlib.Core.Bool.{false}
-use mathlib.Core.List.{List, [], _∷_, map}
-use native.Mathlib.Omega.{arith}
+use mathlib.Core.List.{List, [], map}
 use lib.ListN.{length, take, length-map}
 use Rattle.plan.specs.declared.Counts.{Counts}
 use Rattle.plan.specs.declared.Refusal.{Refusal}
@@ -14,26 +13,17 @@ use Rattle.plan.specs.Bytes.{lines}
 use Rattle.plan.specs.Binary.{gatesFrom, litsFrom, latchesFrom, binaryBody}
 use Rattle.plan.specs.Outcome.{put}
 use Rattle.theorems.proofs.Held.{Holds, BodySays}
-use Rattle.theorems.proofs.Put.{put-first, put-over}
 use Rattle.theorems.proofs.Reading.Lines.{lines-took}
 use Rattle.theorems.proofs.Reading.Rows.{Long, rows-long, flat-one}
+use Rattle.gates.proofs.Spreading.{spread-held}
 use Rattle.binary.proofs.Answers.{RowsHeld, GatesHeld, Read}
-
-longer : (v : ℕ) (ls : List ℕ) → length ls ≤ length (flat (map latchLine (latchesFrom v ls)))
-longer v [] = omega arith
-longer v (l ∷ ls) = omega (arith, longer (suc v) ls)
 
 -- next states that were read and then spread are the latches
 latches-held : (v k : ℕ) (rows : List (List ℕ)) (t t₁ t₂ : List ℕ) → Long 1 rows → length rows ≡ k → RowsHeld t t₁ rows
     → t₂ ≡ put t₁ 0 (flat (map latchLine (latchesFrom v (take k t₁))))
     → t₂ ≡ put t 0 (flat (map latchLine (latchesFrom v (map literalOf rows))))
-latches-held v k rows t t₁ t₂ long size read spread =
-    let ls : List ℕ = map literalOf rows in
-    let n : length ls ≡ k = length-map rows literalOf ∙ size in
-    let there : t₁ ≡ put t 0 ls = read ∙ ap (put t 0) (flat-one rows long) in
-    let first : take k t₁ ≡ ls = ap₂ (λ (j : ℕ) (l : List ℕ). take j l) (sym n) there ∙ put-first t ls in
-    spread ∙ (ap₂ (λ (x y : List ℕ). put x 0 (flat (map latchLine (latchesFrom v y)))) there first
-    ∙ put-over t 0 ls (flat (map latchLine (latchesFrom v ls))) (omega arith) (longer v ls))
+latches-held v k rows t t₁ t₂ long size read =
+    spread-held v k (map literalOf rows) t t₁ t₂ (length-map rows literalOf ∙ size) (read ∙ ap (put t 0) (flat-one rows long))
 
 module _ (file : List ℕ) (n : Counts) (at : ℕ) (t t′ : Tables) where
   says-refused : (r : Refusal) → binaryBody file n at ≡ refused r → BodySays t (binaryBody file n at) (Refused r) t′

@@ -9,7 +9,7 @@ use Rattle.plan.specs.Literals.{litOf}
 use Rattle.plan.specs.Circuit.{flat, latchLine}
 use Rattle.plan.specs.Binary.{latchesFrom}
 use Rattle.plan.specs.Outcome.{put}
-use Rattle.theorems.proofs.Put.{put-none, put-before}
+use Rattle.theorems.proofs.Put.{put-none, put-before, put-first, put-over}
 
 -- the words of latches of variables from v on
 abbrev pub wordsFrom : ℕ → List ℕ → List ℕ
@@ -88,3 +88,11 @@ module _ (first n : ℕ) (table₀ : List ℕ) (room : 2 * n ≤ length table₀
       s .table-is
       ∙ (ap (λ (k : ℕ). put table₀ (2 * k) (wordsFrom (first + k) (drop k (take n table₀)))) i-is
       ∙ ap (λ (v : ℕ). put table₀ 0 (wordsFrom v (take n table₀))) v-is)
+
+-- next states that were put there and then spread are the latches
+pub spread-held : (v k : ℕ) (ls t t₁ t₂ : List ℕ) → length ls ≡ k → t₁ ≡ put t 0 ls → t₂ ≡ put t₁ 0 (wordsFrom v (take k t₁))
+    → t₂ ≡ put t 0 (wordsFrom v ls)
+spread-held v k ls t t₁ t₂ n there spread =
+    let first : take k t₁ ≡ ls = ap₂ (λ (j : ℕ) (l : List ℕ). take j l) (sym n) there ∙ put-first t ls in
+    spread ∙ (ap₂ (λ (x y : List ℕ). put x 0 (wordsFrom v y)) there first
+    ∙ put-over t 0 ls (wordsFrom v ls) (omega arith) (omega (arith, words-length v ls)))

@@ -1,37 +1,19 @@
 -- What a reader leaves of tables that were cleared before it filled them.
-use Prim.Native.Nat.{ℕ, suc, zero, _+_, _-_}
-use mathlib.Core.Path.{_≡_, refl, sym, ap, ap₂, _∙_, subst₂}
-use mathlib.Core.List.{List, [], _∷_, _++_, map}
-use native.Mathlib.Nat.{zero-add, zero-sub, sub-zero}
+use Prim.Native.Nat.{ℕ}
+use mathlib.Core.Path.{_≡_, sym, ap, ap₂, _∙_, subst₂}
+use mathlib.Core.List.{List}
 use native.Mathlib.Omega.{arith}
-use lib.ListN.{length, drop, replicate, length-replicate}
+use lib.ListN.{length, replicate, length-replicate}
 use Rattle.plan.specs.declared.Counts.{Counts}
 use Rattle.plan.specs.declared.Refusal.{Refusal}
 use Rattle.plan.specs.declared.Loaded.{Loaded}
 use Rattle.plan.specs.declared.Loaded.the-variants.{Accepted, Refused}
 use Rattle.plan.specs.Refusals.{Parse, got, refused}
-use Rattle.plan.specs.Circuit.{Circuit, Tables, countsOf, lengthsOf, filled, cleared, holding, allCleared, latchLine, gateLine, flat}
+use Rattle.plan.specs.Circuit.{Circuit, Tables, filled, cleared, allCleared}
 use Rattle.plan.specs.Reading.{readFile}
-use Rattle.plan.specs.Outcome.{put, ReadEntry, LoadExit, load, loadBy}
-use Rattle.theorems.proofs.Held.{Holds}
+use Rattle.plan.specs.Outcome.{ReadEntry, load, loadBy}
+use Rattle.theorems.proofs.Held.{holds-filled}
 use Rattle.read.specs.Rest.{LoadedSays, lengths}
-
-drop-zeros : (k n : ℕ) → drop {A = ℕ} k (replicate n 0) ≡ replicate (n - k) 0
-drop-zeros zero n = ap (λ (m : ℕ). replicate m 0) (sym (sub-zero n))
-drop-zeros (suc k) zero = ap (λ (m : ℕ). replicate m 0) (sym (zero-sub (suc k)))
-drop-zeros (suc k) (suc n) = let e : n - k ≡ suc n - suc k = omega arith in drop-zeros k n ∙ ap (λ (m : ℕ). replicate m 0) e
-
--- words put into a table of zeros, and zeros past them
-put-cleared : (table ws : List ℕ) → put (cleared table) 0 ws ≡ filled table ws
-put-cleared table ws = ap (λ (x : List ℕ). ws ++ x) (ap (λ (k : ℕ). drop k (cleared table)) (zero-add (length ws)) ∙ drop-zeros (length ws) (length table))
-
-pub holds-filled : (t t′ : Tables) (c : Circuit) → Holds (allCleared t) c t′ → t′ ≡ holding t c
-holds-filled t t′ c h = λ i. record {
-  inputs = (h .inputs ∙ put-cleared (t .inputs) (c .inputs)) i;
-  latches = (h .latches ∙ put-cleared (t .latches) (flat (map latchLine (c .latches)))) i;
-  outputs = (h .outputs ∙ put-cleared (t .outputs) (c .outputs)) i;
-  gates = (h .gates ∙ put-cleared (t .gates) (flat (map gateLine (c .gates)))) i;
-}
 
 -- clearing keeps the lengths
 pub lengths-cleared : (t : Tables) (scratch : List ℕ) → lengths (allCleared t) (cleared scratch) ≡ lengths t scratch

@@ -1,14 +1,16 @@
 -- What a reader leaves in tables 1 to 4: the circuit's words from the start of each; after a refusal only the refusal counts.
-use Prim.Native.Nat.{ℕ}
+use Prim.Native.Nat.{ℕ, zero, suc, _-_}
 use mathlib.Core.Path.{_≡_, refl, sym, ap, ap₂, _∙_}
 use mathlib.Core.List.{List, [], _∷_, _++_, append-assoc, map}
-use lib.ListN.{length, take, drop, length-map}
+use native.Mathlib.Nat.{zero-add, zero-sub, sub-zero}
+use native.Mathlib.Omega.{arith}
+use lib.ListN.{length, take, drop, replicate, length-map}
 use lib.Seq.{take-at, drop-at}
 use Rattle.plan.specs.declared.Counts.{Counts}
 use Rattle.plan.specs.declared.Passed.{Passed}
 use Rattle.plan.specs.declared.Passed.the-variants.{To, Refused}
 use Rattle.plan.specs.Refusals.{Parse, got, refused}
-use Rattle.plan.specs.Circuit.{Circuit, Tables, countsOf, circuitOf, latchLine, gateLine, latchOf, gateOf, rowsOf, flat}
+use Rattle.plan.specs.Circuit.{Circuit, Tables, countsOf, circuitOf, filled, cleared, holding, allCleared, latchLine, gateLine, latchOf, gateOf, rowsOf, flat}
 use Rattle.plan.specs.Outcome.{put}
 use Rattle.theorems.proofs.Reading.Rows.{Long, map-long, map-forth}
 
@@ -70,3 +72,22 @@ pub holds-circuit : (n : Counts) (t t′ : Tables) (c : Circuit) → Holds t c t
 holds-circuit n t t′ c h e =
     ap (λ (m : Counts). circuitOf m t′) (sym e)
     ∙ starts-circuit t′ c (record { inputs = (_, h .inputs); latches = (_, h .latches); outputs = (_, h .outputs); gates = (_, h .gates) })
+
+drop-zeros : (k n : ℕ) → drop {A = ℕ} k (replicate n 0) ≡ replicate (n - k) 0
+drop-zeros zero n = ap (λ (m : ℕ). replicate m 0) (sym (sub-zero n))
+drop-zeros (suc k) zero = ap (λ (m : ℕ). replicate m 0) (sym (zero-sub (suc k)))
+drop-zeros (suc k) (suc n) = let e : n - k ≡ suc n - suc k = omega arith in drop-zeros k n ∙ ap (λ (m : ℕ). replicate m 0) e
+
+-- words put into a table of zeros, and zeros past them; tables that were cleared before they were filled
+put-cleared : (table ws : List ℕ) → put (cleared table) 0 ws ≡ filled table ws
+put-cleared table ws =
+    ap (λ (x : List ℕ). ws ++ x)
+    (ap (λ (k : ℕ). drop k (cleared table)) (zero-add (length ws)) ∙ drop-zeros (length ws) (length table))
+
+pub holds-filled : (t t′ : Tables) (c : Circuit) → Holds (allCleared t) c t′ → t′ ≡ holding t c
+holds-filled t t′ c h = λ i. record {
+  inputs = (h .inputs ∙ put-cleared (t .inputs) (c .inputs)) i;
+  latches = (h .latches ∙ put-cleared (t .latches) (flat (map latchLine (c .latches)))) i;
+  outputs = (h .outputs ∙ put-cleared (t .outputs) (c .outputs)) i;
+  gates = (h .gates ∙ put-cleared (t .gates) (flat (map gateLine (c .gates)))) i;
+}
