@@ -1,5 +1,9 @@
 pub mod Literals
+pub mod Columns
+pub mod Rows
 pub mod Different
 pub mod Places
 pub mod Placing
-pub mod Columns
+pub mod Known
+pub mod Made
+pub mod Whole

@@ -86,13 +86,13 @@ module _ (c : Circuit) (ok : Accepted c) (at : ℕ → Gate) (a : ℕ) (its : c 
   pub sorted-count : length (sorted c) ≡ a
   sorted-count = every-gate c ok ∙ gates-count
 
-  at-each : (P : Gate → Type 0) → AllG P (c .gates) → (i : ℕ) → i < a → P (at i)
+  pub at-each : (P : Gate → Type 0) → AllG P (c .gates) → (i : ℕ) → i < a → P (at i)
   at-each P all = all-places P at a (subst (AllG P) its all)
 
   own : AllG (λ g. find (varOf (g .lhs)) (c .gates) ≡ some g) (c .gates)
   own = found-own (c .gates) (distinct-right (leaves c) (lefts (c .gates)) (ok .once))
 
-  left-has : (i : ℕ) → i < a → has (varOf (at i .lhs)) (lefts (c .gates)) ≡ true
+  pub left-has : (i : ℕ) → i < a → has (varOf (at i .lhs)) (lefts (c .gates)) ≡ true
   left-has = at-each (λ g. has (varOf (g .lhs)) (lefts (c .gates)) ≡ true) (own-left (c .gates))
 
   left-new : (i : ℕ) → i < a → has (varOf (at i .lhs)) (leaves c) ≡ false
