@@ -7,3 +7,4 @@ pub mod Placing
 pub mod Known
 pub mod Made
 pub mod Whole
+pub mod Filling

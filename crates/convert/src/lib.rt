@@ -4,9 +4,16 @@ ghost use mathlib.Core.List.{List};
 ghost use Prim.Native.Nat.{ℕ, _+_, _*_, _<_, _≤_, min, max};
 ghost use lib.ListN.{length};
 ghost use Rattle.plan.specs.Literals.{litAt, wordOf};
+ghost use Rattle.plan.specs.Convert.{convert};
 ghost use Rattle.plan.specs.Outcome.{put};
+ghost use Rattle.theorems.proofs.Held.{Holds};
 ghost use Rattle.theorems.proofs.Tables.{firsts, gateAt};
+ghost use Rattle.tables.specs.Held.{circuitIn};
 ghost use Rattle.convert.specs.Renumbered.{numberOf, literalBy, Known, wordAt, columnBy, gateBy, rowOf, withGate, Placeable, Whole};
+ghost use Rattle.convert.specs.Ready.{Ready};
+use gates::run_on;
+use gates::spread;
+use plan::Counts;
 use plan::Lit;
 use plan::Var;
 
@@ -88,4 +95,35 @@ fn place_gates(gates: &[u32], first: usize, a: usize, t: &[u32], to: &mut [u32])
         place_gate(gates, i, first, a, t, to);
         i += 1;
     }
+}
+
+// Writes the converted circuit. Numbers of variables stand in the scratch.
+fn fill(
+    n: Counts,
+    inputs: &[u32],
+    latches: &[u32],
+    outputs: &[u32],
+    gates: &[u32],
+    to_inputs: &mut [u32],
+    to_latches: &mut [u32],
+    to_outputs: &mut [u32],
+    to_gates: &mut [u32],
+    scratch: &mut [u32],
+)
+    requires { ⌜ Ready n (now inputs) (now latches) (now outputs) (now gates) (now scratch)
+        (record { inputs = now «to_inputs»; latches = now «to_latches»; outputs = now «to_outputs»; gates = now «to_gates» }) ⌝ }
+    ensures { λ _. ⌜ Holds
+        (record { inputs = now («to_inputs» .entry); latches = now («to_latches» .entry); outputs = now («to_outputs» .entry); gates = now («to_gates» .entry) })
+        (convert (circuitIn n (now (inputs .entry)) (now (latches .entry)) (now (outputs .entry)) (now (gates .entry))))
+        (record { inputs = now («to_inputs» .exit); latches = now («to_latches» .exit); outputs = now («to_outputs» .exit); gates = now («to_gates» .exit) }) ⌝ }
+{
+    let first_latch = 1 + n.I;
+    let first_gate = first_latch + n.L;
+    closing::number_leaves(n, inputs, latches, scratch);
+    order::number(gates, scratch, first_gate as u32, n.M + 1, n.A);
+    run_on(to_inputs, 1, n.I);
+    renumber_column(latches, 2, 1, n.L, scratch, to_latches);
+    spread(to_latches, first_latch as u32, n.L);
+    renumber_column(outputs, 1, 0, n.O, scratch, to_outputs);
+    place_gates(gates, first_gate, n.A, scratch, to_gates);
 }
