@@ -39,7 +39,7 @@ words-last : (gs : List Gate) (g : Gate) → wordsOf (gs ++ (g ∷ [])) ≡ word
 words-last [] g = refl
 words-last (h ∷ gs) g = ap (λ (l : List ℕ). h .lhs ∷ h .rhs0 ∷ h .rhs1 ∷ l) (words-last gs g)
 
-pub words-length : (gs : List Gate) → length (wordsOf gs) ≡ 3 * length gs
+words-length : (gs : List Gate) → length (wordsOf gs) ≡ 3 * length gs
 words-length [] = refl
 words-length (g ∷ gs) = let h = words-length gs in omega arith
 

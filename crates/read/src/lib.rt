@@ -4,7 +4,6 @@ ghost use mathlib.Core.Bool.{true};
 ghost use Prim.Native.Nat.{ℕ, _+_, _≤_};
 ghost use lib.ListN.{getD};
 ghost use Rattle.plan.specs.Header.{text, binary, adds};
-ghost use Rattle.plan.specs.Circuit.{Tables, allCleared};
 ghost use Rattle.plan.specs.Reading.{readFile};
 ghost use Rattle.plan.specs.Outcome.{Says, load, read};
 ghost use Rattle.theorems.proofs.Held.{BodySays};
@@ -19,6 +18,7 @@ use plan::Loaded;
 use plan::Passed;
 use plan::Refusal;
 use tables::clear;
+use tables::clear_four;
 use tables::too_short;
 use text::read_text;
 use told::no_counts;
@@ -174,16 +174,6 @@ fn fill(
             }
         }
     }
-}
-
-// Tables 1 to 4, zero throughout.
-fn clear_four(inputs: &mut [u32], latches: &mut [u32], outputs: &mut [u32], gates: &mut [u32])
-    ensures { λ _. ⌜ record { inputs = now (inputs .exit); latches = now (latches .exit); outputs = now (outputs .exit); gates = now (gates .exit) } ≡ allCleared (record { inputs = now (inputs .entry); latches = now (latches .entry); outputs = now (outputs .entry); gates = now (gates .entry) }) ⌝ }
-{
-    clear(inputs);
-    clear(latches);
-    clear(outputs);
-    clear(gates);
 }
 
 // Reads a file into tables 1 to 4, whatever they hold on entry: the counts and where the tail starts, or a refusal.

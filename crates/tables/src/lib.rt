@@ -2,7 +2,7 @@
 ghost use mathlib.Core.Path.{_≡_};
 ghost use Prim.Native.Nat.{_≤_, min};
 ghost use Rattle.plan.specs.Literals.{most};
-ghost use Rattle.plan.specs.Circuit.{cleared, wordsToRead, against, short};
+ghost use Rattle.plan.specs.Circuit.{cleared, allCleared, wordsToRead, against, short};
 ghost use Rattle.tables.specs.Lengths.{five, tableOf};
 use plan::Counts;
 
@@ -23,6 +23,16 @@ pub fn clear(table: &mut [u32])
         table[i] = 0;
         i += 1;
     }
+}
+
+// Tables 1 to 4, zero throughout.
+pub fn clear_four(inputs: &mut [u32], latches: &mut [u32], outputs: &mut [u32], gates: &mut [u32])
+    ensures { λ _. ⌜ record { inputs = now (inputs .exit); latches = now (latches .exit); outputs = now (outputs .exit); gates = now (gates .exit) } ≡ allCleared (record { inputs = now (inputs .entry); latches = now (latches .entry); outputs = now (outputs .entry); gates = now (gates .entry) }) ⌝ }
+{
+    clear(inputs);
+    clear(latches);
+    clear(outputs);
+    clear(gates);
 }
 
 // Refusal 4: the least of tables 1 to 5 that is shorter than the counts ask, or 0. Tables are looked at in the order of their numbers.

@@ -1,6 +1,6 @@
 use borrow.Author.Needs.{needs}
-use Rattle.read.proofs.clear_four.Statement.{statement}
-use Rattle.read.proofs.clear_four.Tie as tie
+use Rattle.tables.proofs.clear_four.Statement.{statement}
+use Rattle.tables.proofs.clear_four.Tie as tie
 
 clear-requires : tie.Need-clear-requires
 clear-requires c κs = search needs
