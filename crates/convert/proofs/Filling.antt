@@ -8,7 +8,7 @@ use lib.ListN.{length, getD, take}
 use lib.Seq.{length-take-le}
 use Rattle.plan.specs.declared.Counts.{Counts}
 use Rattle.plan.specs.Literals.{varOf}
-use Rattle.plan.specs.Circuit.{Circuit, Tables, latchLine, gateLine, oneLine, latchOf, gateOf, rowsOf, flat, lefts, nexts, allInside}
+use Rattle.plan.specs.Circuit.{Circuit, Tables, latchLine, gateLine, oneLine, gateOf, rowsOf, flat, lefts, nexts, allInside}
 use Rattle.plan.specs.Binary.{litsFrom, latchesFrom}
 use Rattle.plan.specs.Convert.{leaves, numbered, renumber, convert}
 use Rattle.plan.specs.Outcome.{put}
@@ -30,7 +30,7 @@ use Rattle.order.proofs.Settling.{small-words}
 use Rattle.order.proofs.Spaces.{all-places, words-enough, gates-inside}
 use Rattle.closing.specs.Leaves.{leavesOf, Leaves, Numbered}
 use Rattle.closing.proofs.Leaving.{leaves-count}
-use Rattle.convert.specs.Renumbered.{literalBy, Known, wordAt, columnBy, Placeable, Whole}
+use Rattle.convert.specs.Renumbered.{Known, wordAt, columnBy, Placeable, Whole}
 use Rattle.convert.specs.Ready.{Ready}
 use Rattle.convert.proofs.Known.{known, literals-by}
 use Rattle.convert.proofs.Rows.{nexts-column, outputs-column}

@@ -8,3 +8,4 @@ pub mod Known
 pub mod Made
 pub mod Whole
 pub mod Filling
+pub mod Answers

@@ -1,7 +1,7 @@
 -- A literal under its variable's number, as the code makes it: the number doubled, with the literal's sign.
-use Prim.Native.Nat.{ℕ, zero, suc, _+_, _<_, _^_, _%_, min, max}
-use mathlib.Core.Path.{_≡_, refl, ap, _∙_}
-use mathlib.Core.Bool.{Bool, true, false}
+use Prim.Native.Nat.{ℕ, zero, suc, _+_, _<_, min, max}
+use mathlib.Core.Path.{_≡_, ap, _∙_}
+use mathlib.Core.Bool.{true, false}
 use mathlib.Core.List.{List}
 use native.Mathlib.Omega.{arith}
 use borrow.Author.Tests.{ltb-true, ltb-false}

@@ -1,23 +1,17 @@
 -- The table of a converted circuit's gates has each gate in the row of its number.
-use Prim.Native.Nat.{ℕ, zero, suc, _+_, _-_, _*_, _<_, _≤_}
-use mathlib.Core.Path.{_≡_, refl, sym, ap, ap₂, _∙_}
-use mathlib.Core.Bool.{true}
+use Prim.Native.Nat.{ℕ, zero, suc, _+_, _-_, _<_, _≤_}
+use mathlib.Core.Path.{_≡_, refl, sym, ap, _∙_}
 use mathlib.Core.List.{List, [], _∷_, _++_, map}
 use native.Mathlib.Nat.{not-suc-le-zero}
 use native.Mathlib.Omega.{arith}
-use lib.ListN.{length, getD, take, drop, length-map}
+use lib.ListN.{length, getD, drop, length-map}
 use lib.Seq.{getD-append-add, getD-drop}
-use Rattle.plan.specs.Literals.{varOf}
-use Rattle.plan.specs.Circuit.{Gate, Circuit, gateLine, gateOf, rowsOf, flat, lefts, has}
-use Rattle.plan.specs.Convert.{leaves, sorted, numbered, index, renumber, gateFor, renumberGates, convert}
+use Rattle.plan.specs.Circuit.{Gate, gateLine, gateOf, rowsOf, flat}
+use Rattle.plan.specs.Convert.{renumber, gateFor, renumberGates}
 use Rattle.plan.specs.Outcome.{put}
 use Rattle.theorems.proofs.Held.{rows-flat}
-use Rattle.theorems.proofs.Put.{put-length}
 use Rattle.theorems.proofs.Tables.{gateAt, gatesAt, gates-rows}
 use Rattle.theorems.proofs.Reading.Rows.{map-long, map-forth}
-use Rattle.theorems.proofs.Running.Accepted.{Accepted}
-use Rattle.gates.proofs.Gathered.{words-length}
-use Rattle.convert.specs.Renumbered.{numberOf, literalBy, gateBy, rowOf, Placeable, Whole}
 use Rattle.convert.proofs.Rows.{getD-firsts}
 
 -- a gate of a table that starts with gates

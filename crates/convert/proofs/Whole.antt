@@ -1,13 +1,12 @@
 -- Gates of a well-formed circuit can be placed by their new numbers, and the converted circuit's gates are the table that results.
-use Prim.Native.Nat.{ℕ, suc, _+_, _-_, _*_, _<_, _≤_}
-use mathlib.Core.Path.{_≡_, refl, sym, ap, ap₂, _∙_, subst}
-use mathlib.Core.Bool.{true}
+use Prim.Native.Nat.{ℕ, _+_, _*_, _<_, _≤_}
+use mathlib.Core.Path.{_≡_, sym, ap, _∙_}
 use mathlib.Core.List.{List, _++_, map}
 use native.Mathlib.Omega.{arith}
 use lib.ListN.{length, getD, take, drop}
 use Rattle.plan.specs.Literals.{varOf}
 use Rattle.plan.specs.Circuit.{Gate, Circuit, gateLine, flat, lefts}
-use Rattle.plan.specs.Convert.{leaves, sorted, numbered, renumber, gateFor, renumberGates, convert}
+use Rattle.plan.specs.Convert.{leaves, sorted, numbered, renumber, gateFor, convert}
 use Rattle.plan.specs.Outcome.{put}
 use Rattle.theorems.proofs.Put.{put-length}
 use Rattle.theorems.proofs.Tables.{gateAt, gatesAt}
@@ -17,7 +16,7 @@ use Rattle.theorems.proofs.Running.Accepted.{Accepted}
 use Rattle.theorems.proofs.Running.Binary.{inner}
 use Rattle.theorems.proofs.Running.Converted.{length-leaves, length-renumberGates}
 use Rattle.theorems.proofs.Running.Found.{Sides, sides-in}
-use Rattle.gates.proofs.Gathered.{words-length}
+use Rattle.theorems.proofs.Writing.Holding.{length-gate-words}
 use Rattle.order.specs.Numbers.{NumTable, InRange}
 use Rattle.convert.specs.Renumbered.{numberOf, literalBy, gateBy, rowOf, Placeable, Whole}
 use Rattle.convert.proofs.Known.{known, number-by, literal-by}
@@ -86,7 +85,7 @@ module _ (c : Circuit) (ok : Accepted c) (m : ℕ) (few : inner c + length (c .g
         ∙ (length-lefts (sorted c) ∙ sorted-count c ok (gateAt gates) a its)
 
     size : length words ≡ 3 * a
-    size = words-length (convert c .gates) ∙ ap (λ (k : ℕ). 3 * k) count
+    size = length-gate-words (convert c .gates) ∙ ap (λ (k : ℕ). 3 * k) count
 
     pub whole : Whole gates t (inner c) a to (put to 0 words)
     whole = record {

@@ -5,7 +5,7 @@ ghost use Prim.Native.Nat.{ℕ, _+_, _*_, _<_, _≤_, min, max};
 ghost use lib.ListN.{length};
 ghost use Rattle.plan.specs.Literals.{litAt, wordOf};
 ghost use Rattle.plan.specs.Convert.{convert};
-ghost use Rattle.plan.specs.Outcome.{put};
+ghost use Rattle.plan.specs.Outcome.{put, Says, conversion};
 ghost use Rattle.theorems.proofs.Held.{Holds};
 ghost use Rattle.theorems.proofs.Tables.{firsts, gateAt};
 ghost use Rattle.tables.specs.Held.{circuitIn};
@@ -13,9 +13,15 @@ ghost use Rattle.convert.specs.Renumbered.{numberOf, literalBy, Known, w
 ghost use Rattle.convert.specs.Ready.{Ready};
 use gates::run_on;
 use gates::spread;
+use given::check_to_make;
+use plan::Checked;
 use plan::Counts;
 use plan::Lit;
+use plan::Made;
 use plan::Var;
+use tables::Sizes;
+use tables::clear;
+use tables::clear_four;
 
 fn larger(a: Lit, b: Lit) -> Lit
     ensures { λ r. ⌜ r ≡ litAt (max (wordOf a) (wordOf b)) ⌝ }
@@ -126,4 +132,56 @@ fn fill(
     spread(to_latches, first_latch as u32, n.L);
     renumber_column(outputs, 1, 0, n.O, scratch, to_outputs);
     place_gates(gates, first_gate, n.A, scratch, to_gates);
+}
+
+// The same circuit in binary order, or the first refusal of the given tables, after which the written tables are zero throughout.
+// Scratch is zero afterwards.
+pub fn convert(
+    n: Counts,
+    inputs: &[u32],
+    latches: &[u32],
+    outputs: &[u32],
+    gates: &[u32],
+    to_inputs: &mut [u32],
+    to_latches: &mut [u32],
+    to_outputs: &mut [u32],
+    to_gates: &mut [u32],
+    scratch: &mut [u32],
+) -> Made
+    ensures { λ r. ⌜ Says conversion
+        (record { circuit = (record { counts = n; tables = (record { inputs = now (inputs .entry); latches = now (latches .entry); outputs = now (outputs .entry); gates = now (gates .entry) }); scratch = now (scratch .entry) }); written = (record { inputs = now («to_inputs» .entry); latches = now («to_latches» .entry); outputs = now («to_outputs» .entry); gates = now («to_gates» .entry) }) })
+        (record { answer = r; written = (record { inputs = now («to_inputs» .exit); latches = now («to_latches» .exit); outputs = now («to_outputs» .exit); gates = now («to_gates» .exit) }); scratch = now (scratch .exit) }) ⌝ }
+{
+    clear_four(to_inputs, to_latches, to_outputs, to_gates);
+    let to = Sizes {
+        inputs: to_inputs.len(),
+        latches: to_latches.len(),
+        outputs: to_outputs.len(),
+        gates: to_gates.len(),
+    };
+    match check_to_make(n, inputs, latches, outputs, gates, scratch, to, false) {
+        Checked::Refused(r) => Made::Refused(r),
+        Checked::Good => {
+            fill(
+                n,
+                inputs,
+                latches,
+                outputs,
+                gates,
+                to_inputs,
+                to_latches,
+                to_outputs,
+                to_gates,
+                scratch,
+            );
+            clear(scratch);
+            Made::Accepted(Counts {
+                M: n.I + n.L + n.A,
+                I: n.I,
+                L: n.L,
+                O: n.O,
+                A: n.A,
+            })
+        }
+    }
 }

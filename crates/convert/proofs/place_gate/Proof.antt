@@ -6,7 +6,7 @@ use lib.ListN.{length, length-set}
 use Rattle.plan.specs.Circuit.{Gate}
 use Rattle.plan.specs.Literals.{litOf, litAt, wordOf, varAt, doubled}
 use Rattle.theorems.proofs.Tables.{gateAt}
-use Rattle.convert.specs.Renumbered.{numberOf, literalBy, Known, gateBy, rowOf, withGate, Placeable}
+use Rattle.convert.specs.Renumbered.{numberOf, literalBy, Known, gateBy, rowOf, withGate}
 use Rattle.convert.proofs.Literals.{double-word}
 use Rattle.convert.proofs.place_gate.Statement.{statement}
 use Rattle.convert.proofs.place_gate.Tie as tie

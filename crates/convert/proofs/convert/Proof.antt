@@ -1,0 +1,149 @@
+-- The given tables are checked; the converted circuit is written into tables that are zero throughout.
+use Prim.Native.Nat.{ℕ}
+use mathlib.Core.Path.{_≡_, sym, ap, _∙_}
+use mathlib.Core.Bool.{false}
+use native.Mathlib.Omega.{arith}
+use borrow.Author.Needs.{needs}
+use lib.ListN.{replicate}
+use Rattle.plan.specs.declared.Checked.the-variants.{Good}
+use Rattle.plan.specs.Refusals.{firstOf}
+use Rattle.plan.specs.Circuit.{Tables, allCleared}
+use Rattle.plan.specs.Given.{lentWith}
+use Rattle.plan.specs.Outcome.{MakeEntry, CheckExit, checkBy, checkedBy}
+use Rattle.given.specs.Judged.{allStages}
+use Rattle.convert.proofs.Answers.{lengths-cleared, refused, ready, few, accepted}
+use Rattle.convert.proofs.convert.Statement.{statement}
+use Rattle.convert.proofs.convert.Tie as tie
+
+-- what is handed in, and the tables that are zero throughout
+abbrev start : tie.After-check-to-make → tie.Start
+start c = c .before .before .before .before .before .before .before .before .before .before .before .before .before .before .before .before .before .before .before .before .before .before .before .before
+
+abbrev entry : tie.After-check-to-make → MakeEntry
+entry c =
+    let a = start c .args in
+    record {
+      circuit = record {
+        counts = a .n;
+        tables = record { inputs = a .inputs .now; latches = a .latches .now; outputs = a .outputs .now; gates = a .gates .now };
+        scratch = a .scratch .now;
+      };
+      written = record { inputs = a .to-inputs .now; latches = a .to-latches .now; outputs = a .to-outputs .now; gates = a .to-gates .now };
+    }
+
+abbrev wiped : tie.After-check-to-make → Tables
+wiped c =
+    let l = c .before .before .before .before .before .before .before .before .before .before .clear-four .last in
+    record { inputs = l .0; latches = l .1 .0; outputs = l .1 .1 .0; gates = l .1 .1 .1 .0 }
+
+all-wiped : (c : tie.After-check-to-make) → wiped c ≡ allCleared (entry c .written)
+all-wiped c = c .before .before .before .before .before .before .before .before .before .before .clear-four .ensures
+
+-- what the check answers and leaves
+checked : (c : tie.After-check-to-make) → let g = entry c .circuit in
+    _≡_ {A = CheckExit} (record { answer = c .check-to-make .result; scratch = c .check-to-make .last .1 .1 .1 .1 .1 .0 })
+    (checkBy (allStages false g (lentWith g (entry c .written))) g)
+checked c = c .check-to-make .ensures (entry c .written) (lengths-cleared (entry c .written) (wiped c) (all-wiped c))
+
+-- nothing was found
+abbrev back : tie.After-enum-told → tie.After-check-to-make
+back c = c .before .before .before .before
+
+passed : (c : tie.After-enum-told)
+    → let g = entry (back c) .circuit in Good ≡ checkedBy (firstOf (allStages false g (lentWith g (entry (back c) .written))))
+passed c = sym (c .enum-told .given .1) ∙ ap (λ (x : CheckExit). x .answer) (checked (back c))
+
+clear-four-requires : tie.Need-clear-four-requires
+clear-four-requires c κs = search needs
+
+check-to-make-requires : tie.Need-check-to-make-requires
+check-to-make-requires c κs = search needs
+
+enum-known-r : tie.Need-enum-known-r
+enum-known-r c = search needs
+
+enum-told : tie.Need-enum-told
+enum-told c = search needs
+
+fill-requires : tie.Need-fill-requires
+fill-requires c κs =
+    let d = c .before .before .before .before .before in
+    let k = back d in
+    ready (entry k) (passed d) (wiped k) _ (all-wiped k) (ap (λ (x : CheckExit). x .scratch) (checked k))
+
+clear-requires : tie.Need-clear-requires
+clear-requires c κs = search needs
+
+add-t43 : tie.Need-add-t43
+add-t43 c = let d = c .before .before .before .before .before .before .before .before .before .before .before .before .before .before .before .before .before .before .before .before .before in record { fits = omega (arith, few (entry (back d)) (passed d)) }
+
+add-t44 : tie.Need-add-t44
+add-t44 c = let d = c .before .before .before .before .before .before .before .before .before .before .before .before .before .before .before .before .before .before .before .before .before .before in record { fits = omega (arith, few (entry (back d)) (passed d)) }
+
+same-length : tie.Need-same-length
+same-length c = search needs
+
+same-length-2 : tie.Need-same-length-2
+same-length-2 c = search needs
+
+same-length-3 : tie.Need-same-length-3
+same-length-3 c = search needs
+
+same-length-4 : tie.Need-same-length-4
+same-length-4 c = search needs
+
+same-length-5 : tie.Need-same-length-5
+same-length-5 c = search needs
+
+returns : tie.Need-returns
+returns c =
+    let k = c .before .before .before .before .before in
+    refused (entry k) _ (wiped k) _ (all-wiped k) (ap (λ (x : CheckExit). x .scratch) (checked k))
+    (sym (c .before .r .given .1) ∙ ap (λ (x : CheckExit). x .answer) (checked k))
+
+same-length-6 : tie.Need-same-length-6
+same-length-6 c = c .before .before .before .before .before .before .before .before .before .before .before .before .before .before .before .to-inputs2 .given ∙ c .before .before .before .before .before .before .before .before .before .before .before .before .before .before .before .before .before .before .before .before .before .before .before .before .before .before .before .before .before .before .before .before .before .before .before .to-inputs .given
+
+same-length-7 : tie.Need-same-length-7
+same-length-7 c = c .before .before .before .before .before .before .before .before .before .before .before .before .before .to-latches2 .given ∙ c .before .before .before .before .before .before .before .before .before .before .before .before .before .before .before .before .before .before .before .before .before .before .before .before .before .before .before .before .before .before .before .before .before .to-latches .given
+
+same-length-8 : tie.Need-same-length-8
+same-length-8 c = c .before .before .before .before .before .before .before .before .before .before .before .to-outputs2 .given ∙ c .before .before .before .before .before .before .before .before .before .before .before .before .before .before .before .before .before .before .before .before .before .before .before .before .before .before .before .before .before .before .before .to-outputs .given
+
+same-length-9 : tie.Need-same-length-9
+same-length-9 c = search needs
+
+same-length-10 : tie.Need-same-length-10
+same-length-10 c = search needs
+
+returns-2 : tie.Need-returns-2
+returns-2 c =
+    let d = c .before .before .before .before .before .before .before .before .before .before .before .before .before .before .before .before .before .before .before .before .before .before in
+    let k = back d in
+    accepted (entry k) (passed d) (wiped k) _ _ (all-wiped k) (c .before .before .before .before .before .before .before .before .before .before .before .before .before .before .before .before .fill .ensures)
+    (c .before .before .before .before .clear .ensures ∙ ap (λ (n : ℕ). replicate n 0) (c .before .before .before .before .before .before .before .scratch2 .given ∙ c .before .before .before .before .before .before .before .before .before .before .before .before .before .before .before .before .before .before .before .before .before .before .before .before .before .scratch .given))
+
+pub convert-spec : {M : Type 1} → statement M
+convert-spec =
+    tie.close
+    (tie.spec
+    clear-four-requires
+    check-to-make-requires
+    enum-known-r
+    enum-told
+    fill-requires
+    clear-requires
+    add-t43
+    add-t44
+    same-length
+    same-length-2
+    same-length-3
+    same-length-4
+    same-length-5
+    returns
+    same-length-6
+    same-length-7
+    same-length-8
+    same-length-9
+    same-length-10
+    returns-2)
