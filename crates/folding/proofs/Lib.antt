@@ -1,0 +1,5 @@
+pub mod Rules
+pub mod Sides
+pub mod Step
+pub mod Loop
+pub mod Lookup

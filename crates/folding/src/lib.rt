@@ -1,0 +1,152 @@
+// One-level folding of gates in binary order (the paper, reduction).
+ghost use mathlib.Core.Path.{_≡_};
+ghost use mathlib.Core.List.{_++_};
+ghost use Prim.Native.Nat.{ℕ, _+_, _<_, _≤_, min, max};
+ghost use lib.ListN.{length, drop};
+ghost use Rattle.plan.specs.Literals.{most, litAt, wordOf, varOf};
+ghost use Rattle.plan.specs.Binary.{litsFrom};
+ghost use Rattle.plan.specs.Reduce.{becomes};
+ghost use Rattle.twins.specs.Pairs.{Tree, Room, Rooted};
+ghost use Rattle.folding.specs.Rules.{Ruled, StandsIn};
+ghost use Rattle.folding.specs.Folded.{Held, Roomy, Stepped, Foldable, Done};
+use plan::Lit;
+use plan::Var;
+use twins::Place;
+
+// What two sides give with no look at the retained gates.
+enum Rule {
+    Gives(u32),
+    Open,
+}
+
+fn larger(a: Lit, b: Lit) -> Lit
+    ensures { λ r. ⌜ r ≡ litAt (max (wordOf a) (wordOf b)) ⌝ }
+{
+    if a.below(b) {
+        return b;
+    }
+    a
+}
+
+fn smaller(a: Lit, b: Lit) -> Lit
+    ensures { λ r. ⌜ r ≡ litAt (min (wordOf a) (wordOf b)) ⌝ }
+{
+    if a.below(b) {
+        return a;
+    }
+    b
+}
+
+// What a literal became, where the table's words are what the variables became.
+pub fn becomes(became: &[u32], l: Lit) -> Lit
+    requires { ⌜ varOf (wordOf l) < length (now became) ⌝ }
+    ensures { λ r. ⌜ r ≡ litAt (becomes (now (became .entry)) (wordOf l)) ⌝ }
+{
+    let v = l.var().index() as usize;
+    Lit::at(became[v]).signed_as(l)
+}
+
+// Equal sides give that side; a side and its negation give 0; a side 0 gives 0; a side 1 gives the other.
+fn by_sides(a: Lit, b: Lit) -> Rule
+    ensures { λ r. ⌜ Ruled (wordOf a) (wordOf b) r ⌝ }
+{
+    let x = a.word();
+    let y = b.word();
+    if x == y {
+        return Rule::Gives(x);
+    }
+    if x == b.negated().word() {
+        return Rule::Gives(0); // a side and its negation
+    }
+    if x == 0 {
+        return Rule::Gives(0);
+    }
+    if y == 0 {
+        return Rule::Gives(0);
+    }
+    if x == 1 {
+        return Rule::Gives(y);
+    }
+    if y == 1 {
+        return Rule::Gives(x);
+    }
+    Rule::Open
+}
+
+// The literal that stands in for a gate with the sides a and b, or where the gate is to hang, larger side first.
+fn stand_in(a: Lit, b: Lit, gates: &[u32], scratch: &[u32], w: usize, n: usize) -> Place
+    requires { ⌜ Room (now gates) (now scratch) w n ⌝ }
+    requires { ⌜ Rooted w (wordOf a) (wordOf b) ⌝ }
+    requires { ⌜ Tree (now gates) (now scratch) w n ⌝ }
+    ensures { λ r. ⌜ StandsIn (now (gates .entry)) (now (scratch .entry)) w n (wordOf a) (wordOf b) r ⌝ }
+{
+    match by_sides(a, b) {
+        Rule::Gives(l) => Place::Taken(l),
+        Rule::Open => twins::find(gates, scratch, w, n, larger(a, b), smaller(a, b)),
+    }
+}
+
+// Gate k: what its variable becomes, and how many gates are retained then.
+fn fold_gate(
+    gates: &[u32],
+    base: usize,
+    w: usize,
+    k: usize,
+    n: usize,
+    to: &mut [u32],
+    scratch: &mut [u32],
+) -> usize
+    requires { ⌜ Roomy (now gates) (now to) (now scratch) base w k ⌝ }
+    requires { ⌜ Held (now gates) (now to) (now scratch) base w k n ⌝ }
+    ensures { λ r. ⌜ Stepped (now (gates .entry)) (now (to .entry)) (now (to .exit)) (now (scratch .exit)) base w k n r ⌝ }
+{
+    let a = becomes(scratch, Lit::at(gates[3 * k + 1]));
+    let b = becomes(scratch, Lit::at(gates[3 * k + 2]));
+    match stand_in(a, b, to, scratch, w, n) {
+        Place::Taken(l) => {
+            scratch[base + k] = l;
+            return n;
+        }
+        Place::Free(slot) => {
+            let l = Var::at((base + n) as u32).lit();
+            twins::hang(to, scratch, slot, n, l, larger(a, b), smaller(a, b));
+            scratch[base + k] = l.word();
+            return n + 1;
+        }
+    }
+}
+
+// Each variable below n became itself.
+fn begin(scratch: &mut [u32], n: usize)
+    requires { ⌜ (n ≤ length (now scratch)) × (n ≤ most + 1) ⌝ }
+    ensures { λ _. ⌜ now (scratch .exit) ≡ litsFrom 0 n ++ drop n (now (scratch .entry)) ⌝ }
+{
+    let mut v = 0;
+    while v < n {
+        scratch[v] = Var::at(v as u32).lit().word();
+        v += 1;
+    }
+}
+
+// Folds a gates over the variables below base: the retained gates and their number, and, first in the scratch, what each variable
+// became.
+pub fn fold_gates(
+    gates: &[u32],
+    base: usize,
+    a: usize,
+    to: &mut [u32],
+    scratch: &mut [u32],
+) -> usize
+    requires { ⌜ Foldable (now gates) (now to) (now scratch) base a ⌝ }
+    ensures { λ r. ⌜ Done (now (gates .entry)) (now (to .entry)) (now (to .exit)) (now (scratch .exit)) base a r ⌝ }
+{
+    begin(scratch, base);
+    let w = base + a;
+    let mut n = 0;
+    let mut k = 0;
+    while k < a {
+        n = fold_gate(gates, base, w, k, n, to, scratch);
+        k += 1;
+    }
+    n
+}

@@ -1,0 +1,7 @@
+pub mod Agree
+pub mod Depth
+pub mod Slots
+pub mod Growing
+pub mod Earliest
+pub mod Way
+pub mod Hung

@@ -1,0 +1,114 @@
+-- The way of a search along a pair's path.
+use mathlib.Core.Path.{_≡_, refl, sym, ap, ap₂, _∙_}
+use mathlib.Core.Bool.{Bool, true, false, cond, false≢true}
+use mathlib.Core.List.{List}
+use Prim.Native.Nat.{ℕ, zero, suc, _+_, _-_, _*_, _/_, _%_, _<_, _≤_}
+use native.Mathlib.Omega.{arith}
+use borrow.Author.Tests.{eqb-true}
+use lib.Dec.{eqb}
+use lib.ListN.{length, getD}
+use Rattle.plan.specs.Literals.{varOf}
+use Rattle.plan.specs.Reduce.{twin}
+use Rattle.theorems.proofs.Reading.Common.{and-left, and-right}
+use Rattle.theorems.proofs.Tables.{gateAt, gatesAt}
+use Rattle.twins.specs.declared.Place.the-variants.{Taken, Free}
+use Rattle.twins.specs.Tree.{depth, on, orFirst, firstOn, node, symbol, slotOf, Good}
+use Rattle.twins.specs.Pairs.{keyOf, halves, pathOf, paths, word, Tree, Sought}
+use Rattle.twins.proofs.Agree.{agreed}
+use Rattle.twins.proofs.Depth.{depth-pos, First, first-some, node-next, none-on}
+use Rattle.twins.proofs.Slots.{symbol-bit, slot-low}
+use Rattle.twins.proofs.Earliest.{same, earliest, leftOf, twin-earliest, earliest-none, earliest-stays}
+
+pub good-path : (w x y : ℕ) → varOf x < w → Good w (pathOf x y)
+good-path w x y h = record { root = h; bits = λ d. omega arith }
+
+path-bit : (x y d : ℕ) → 0 < d → pathOf x y d ≡ halves (keyOf x y) (d - 1) % 2
+path-bit x y zero h = absurd (omega arith)
+path-bit x y (suc d) h = let e : d ≡ suc d - 1 = omega arith in ap (λ (j : ℕ). halves (keyOf x y) j % 2) e
+
+half-more : (key d : ℕ) → 0 < d → halves key (d - 1) / 2 ≡ halves key d
+half-more key zero h = absurd (omega arith)
+half-more key (suc d) h = let e : suc d - 1 ≡ d = omega arith in ap (λ (j : ℕ). halves key j / 2) e
+
+-- the search stands at node k, no gate before which has the pair, with what is left of the key
+pub record Way (gates : List ℕ) (w n x y slot key : ℕ) : Type 0 where
+  pub k : ℕ
+  pub below : k ≤ n
+  pub stands : node (paths gates) (pathOf x y) k ≡ true
+  pub at : slot ≡ slotOf w k (symbol (paths gates) (pathOf x y) k)
+  pub key-is : key ≡ halves (keyOf x y) (depth (paths gates) (pathOf x y) k - 1)
+  pub absent : earliest gates x y k ≡ 0
+
+module _ (gates scratch : List ℕ) (w n x y : ℕ) (root : varOf x < w) (tree : Tree gates scratch w n) where
+  abbrev q : ℕ → ℕ
+  q = pathOf x y
+
+  abbrev S : ℕ → ℕ → ℕ
+  S = paths gates
+
+  good : Good w q
+  good = good-path w x y root
+
+  -- a gate with the pair stands on its path
+  off-path : (i : ℕ) → on S q i ≡ false → same gates x y i ≡ false
+  off-path i h = go (same gates x y i) refl
+    where
+      go : (c : Bool) → same gates x y i ≡ c → same gates x y i ≡ false
+      go false e = e
+      go true e =
+          let here : S i ≡ q
+          = ap₂ (λ (a b : ℕ). pathOf a b) (eqb-true (gateAt gates i .rhs0) x (and-left (eqb (gateAt gates i .rhs0) x) (eqb (gateAt gates i .rhs1) y) e))
+          (eqb-true (gateAt gates i .rhs1) y (and-right (eqb (gateAt gates i .rhs0) x) (eqb (gateAt gates i .rhs1) y) e)) in
+          absurd (false≢true (sym h ∙ agreed (depth S q i) q (S i) (λ d l. sym (ap (λ (s : ℕ → ℕ). s d) here))))
+
+  pub way-start : (slot key : ℕ) → slot ≡ w + varOf x → key ≡ keyOf x y → Way gates w n x y slot key
+  way-start slot key e f = record { k = 0; below = omega arith; stands = refl; at = e; key-is = f; absent = refl }
+
+  module _ (slot key : ℕ) (v : Way gates w n x y slot key) where
+    leads : getD scratch slot 0 ≡ firstOn S q (v .k) n
+    leads = ap (word scratch) (v .at) ∙ tree .grown q good (v .k) (v .below) (v .stands)
+
+    pub way-slot : slot < 2 * w + 2 * n
+    way-slot = rw (v .at) (slot-low S w q (v .k) n good (v .below) (v .stands))
+
+    -- no gate is left on the path
+    pub way-out : getD scratch slot 0 ≡ 0 → Sought gates scratch w n x y (Free slot)
+    way-out e =
+        let z : firstOn S q (v .k) n ≡ 0 = sym leads ∙ e in
+        let no-gate : earliest gates x y n ≡ 0
+        = earliest-none gates x y (v .k) n (v .below) (v .absent) (λ j a b. off-path j (none-on S q (v .k) n j z a b)) in (
+          twin-earliest gates x y n ∙ ap (leftOf gates) no-gate,
+          record { k = v .k; below = v .below; stands = v .stands; at = v .at; free = e },
+        )
+
+    -- gate i is the next on the path
+    module _ (i : ℕ) (e : getD scratch slot 0 ≡ suc i) where
+      first : First S q (v .k) n i
+      first = first-some S q (v .k) n i (sym leads ∙ e)
+
+      absent-before : earliest gates x y i ≡ 0
+      absent-before = earliest-none gates x y (v .k) i (first .after) (v .absent) (λ j a b. off-path j (first .before j a b))
+
+      deep : depth S q (suc i) - 1 ≡ depth S q (v .k)
+      deep = omega (arith, node-next S q (v .k) n i first)
+
+      pub way-low : i < n
+      way-low = first .below
+
+      pub way-rises : (b : ℕ) → slot < 2 * w + (2 * i + b)
+      way-rises b = rw (v .at) (omega (arith, slot-low S w q (v .k) i good (first .after) (v .stands)))
+
+      pub way-found : same gates x y i ≡ true → Sought gates scratch w n x y (Taken (getD gates (3 * i) 0))
+      way-found s = twin-earliest gates x y n ∙ ap (leftOf gates) (earliest-stays gates x y i n (first .below) absent-before s)
+
+      pub way-next : same gates x y i ≡ false → Way gates w n x y (2 * w + (2 * i + key % 2)) (key / 2)
+      way-next s = record {
+        k = suc i;
+        below = first .below;
+        stands = first .stands;
+        at = ap (λ (c : ℕ). 2 * w + (2 * i + c))
+            (ap (λ (j : ℕ). j % 2) (v .key-is) ∙ sym (path-bit x y (depth S q (v .k)) (depth-pos S q (v .k))) ∙ ap q (sym deep));
+        key-is = ap (λ (j : ℕ). j / 2) (v .key-is) ∙ half-more (keyOf x y) (depth S q (v .k)) (depth-pos S q (v .k))
+            ∙ ap (halves (keyOf x y)) (sym deep);
+        absent = ap₂ (λ (a : ℕ) (c : Bool). orFirst a (cond c (suc i) 0)) absent-before s;
+      }

@@ -1,0 +1,214 @@
+use Prim.Native.Nat.{ℕ, suc, _+_, _-_, _*_, _/_, _%_, _<_, _≤_}
+use mathlib.Core.Path.{_≡_, sym, ap, ap₂, _∙_}
+use native.Mathlib.Omega.{arith}
+use borrow.Author.Needs.{needs}
+use lib.ListN.{length, getD}
+use Rattle.plan.specs.Literals.{indexOf, wordOf}
+use Rattle.twins.proofs.Way.{Way, way-start, way-slot, way-out, way-low, way-rises, way-found, way-next}
+use Rattle.twins.proofs.find.Statement.{statement}
+use Rattle.twins.proofs.find.Tie as tie
+
+abbrev Inv-loop : tie.InvT-loop
+Inv-loop gates scratch w n x y slot₀ key₀ slot key = (key < 8388608) × Way gates w n (wordOf x) (wordOf y) slot key
+
+abbrev μ-loop : tie.MeasureT-loop
+μ-loop gates scratch w n x y slot₀ key₀ slot key = 2 * w + 2 * n - slot
+
+-- what the search stands at: a word within the scratch
+low : (c : tie.At-loop Inv-loop μ-loop)
+    → let a = c .before .before .before .before .before .before .before .args in c .loop .slot < 2 * a .w + 2 * a .n
+low c =
+    let s = c .before .before .before .before .before .before .before in
+    let a = s .args in
+    way-slot (a .gates .now) (a .scratch .now) (a .w) (a .n) (wordOf (a .x)) (wordOf (a .y)) (s .pre .1 .0 .larger) (s .pre .1 .1) (c .loop .slot)
+    (c .loop .key) (c .loop .inv .1)
+
+-- at the word stands a gate of the n, counted from 1
+there : (c : tie.Else1 Inv-loop μ-loop)
+    → let t = c .before .before .before .before .before .before .before .before .before .args .scratch .now in
+    getD t (c .before .before .loop .slot) 0 ≡ suc (getD t (c .before .before .loop .slot) 0 - 1)
+there c = omega (arith, c .if1 .left)
+
+known : (c : tie.Else1 Inv-loop μ-loop)
+    → let a = c .before .before .before .before .before .before .before .before .before .args in
+    getD (a .scratch .now) (c .before .before .loop .slot) 0 - 1 < a .n
+known c =
+    let s = c .before .before .before .before .before .before .before .before .before in
+    let a = s .args in
+    let l = c .before .before .loop in
+    way-low (a .gates .now) (a .scratch .now) (a .w) (a .n) (wordOf (a .x)) (wordOf (a .y)) (s .pre .1 .0 .larger) (s .pre .1 .1) (l .slot) (l .key)
+    (l .inv .1) _ (there c)
+
+var-requires : tie.Need-var-requires Inv-loop μ-loop
+var-requires c κs = search needs
+
+index-requires : tie.Need-index-requires Inv-loop μ-loop
+index-requires c κs = search needs
+
+cast-slot : tie.Need-cast-slot Inv-loop μ-loop
+cast-slot c = search needs
+
+add-slot : tie.Need-add-slot Inv-loop μ-loop
+add-slot c = search needs
+
+word-requires : tie.Need-word-requires Inv-loop μ-loop
+word-requires c κs = search needs
+
+mul-key : tie.Need-mul-key Inv-loop μ-loop
+mul-key c = search needs
+
+sign-requires : tie.Need-sign-requires Inv-loop μ-loop
+sign-requires c κs = search needs
+
+add-key : tie.Need-add-key Inv-loop μ-loop
+add-key c = search needs
+
+loop-holds : tie.Need-loop-holds Inv-loop μ-loop
+loop-holds c =
+    let s = c .before .before .before .before .before .before in
+    let a = s .args in
+    let word = c .before .word .ensures in
+    let sign = c .sign .ensures in (
+      omega (arith, word, sign, s .pre .1 .0 .smaller, s .pre .0 .few),
+      way-start (a .gates .now) (a .scratch .now) (a .w) (a .n) (wordOf (a .x)) (wordOf (a .y)) (s .pre .1 .0 .larger) (s .pre .1 .1) _ _
+          (ap (λ (v : ℕ). a .w + v) (c .before .before .index .ensures ∙ ap indexOf (c .before .before .before .var .ensures)))
+          (ap₂ (λ (k b : ℕ). 2 * k + b) word sign),
+    )
+
+mul-at : tie.Need-mul-at Inv-loop μ-loop
+mul-at c = omega (arith, low c, c .before .before .before .before .before .before .before .pre .0 .few)
+
+shared-slice-read-at : tie.Need-shared-slice-read-at Inv-loop μ-loop
+shared-slice-read-at c = let s = c .before .before .before .before .before .before .before .before in omega (arith, low (c .before), s .pre .0 .scratch-long)
+
+returns : tie.Need-returns Inv-loop μ-loop
+returns c =
+    let s = c .before .before .before .before .before .before .before .before .before in
+    let a = s .args in
+    let l = c .before .before .loop in
+    way-out (a .gates .now) (a .scratch .now) (a .w) (a .n) (wordOf (a .x)) (wordOf (a .y)) (s .pre .1 .0 .larger) (s .pre .1 .1) (l .slot) (l .key)
+    (l .inv .1) (c .if1 .taken)
+
+sub-i : tie.Need-sub-i Inv-loop μ-loop
+sub-i c = search needs
+
+cast-i : tie.Need-cast-i Inv-loop μ-loop
+cast-i c =
+    let e = c in
+    let s = e .before .before .before .before .before .before .before .before .before in
+    record { fits = omega (arith, known e, s .pre .0 .few, s .pre .0 .fewer) }
+
+has-sides-requires : tie.Need-has-sides-requires Inv-loop μ-loop
+has-sides-requires c κs =
+    let e = c in
+    let s = e .before .before .before .before .before .before .before .before .before in
+    omega (arith, known e, s .pre .0 .gates-long)
+
+mul-t21 : tie.Need-mul-t21 Inv-loop μ-loop
+mul-t21 c =
+    let e = c .before .before in
+    let s = e .before .before .before .before .before .before .before .before .before in
+    record { fits = omega (arith, known e, s .pre .0 .few, s .pre .0 .fewer) }
+
+mul-t22 : tie.Need-mul-t22 Inv-loop μ-loop
+mul-t22 c =
+    let e = c .before .before in
+    let s = e .before .before .before .before .before .before .before .before .before in
+    record { fits = omega (arith, known e, s .pre .0 .few, s .pre .0 .fewer) }
+
+shared-slice-read-t24 : tie.Need-shared-slice-read-t24 Inv-loop μ-loop
+shared-slice-read-t24 c =
+    let e = c .before .before .before in
+    let s = e .before .before .before .before .before .before .before .before .before in
+    omega (arith, known e, s .pre .0 .gates-long)
+
+returns-2 : tie.Need-returns-2 Inv-loop μ-loop
+returns-2 c =
+    let e = c .before .before .before in
+    let s = e .before .before .before .before .before .before .before .before .before in
+    let a = s .args in
+    let l = e .before .before .loop in
+    way-found (a .gates .now) (a .scratch .now) (a .w) (a .n) (wordOf (a .x)) (wordOf (a .y)) (s .pre .1 .0 .larger) (s .pre .1 .1) (l .slot) (l .key)
+    (l .inv .1) _ (there e) (sym (c .before .before .has-sides .ensures) ∙ c .before .if2 .taken)
+
+mul-slot : tie.Need-mul-slot Inv-loop μ-loop
+mul-slot c = search needs
+
+mul-slot-2 : tie.Need-mul-slot-2 Inv-loop μ-loop
+mul-slot-2 c =
+    let e = c .before .before in
+    let s = e .before .before .before .before .before .before .before .before .before in
+    record { fits = omega (arith, known e, s .pre .0 .few, s .pre .0 .fewer) }
+
+cast-slot-2 : tie.Need-cast-slot-2 Inv-loop μ-loop
+cast-slot-2 c = search needs
+
+add-slot-2 : tie.Need-add-slot-2 Inv-loop μ-loop
+add-slot-2 c =
+    let e = c .before .before in
+    let s = e .before .before .before .before .before .before .before .before .before in
+    record { fits = omega (arith, known e, s .pre .0 .few, s .pre .0 .fewer) }
+
+add-slot-3 : tie.Need-add-slot-3 Inv-loop μ-loop
+add-slot-3 c =
+    let e = c .before .before in
+    let s = e .before .before .before .before .before .before .before .before .before in
+    record { fits = omega (arith, known e, s .pre .0 .few, s .pre .0 .fewer) }
+
+loop-less : tie.Need-loop-less Inv-loop μ-loop
+loop-less c =
+    let e = c .before .before in
+    let s = e .before .before .before .before .before .before .before .before .before in
+    let a = s .args in
+    let l = e .before .before .loop in
+    omega (
+      arith,
+      known e,
+      low (e .before .before),
+      way-rises (a .gates .now) (a .scratch .now) (a .w) (a .n) (wordOf (a .x)) (wordOf (a .y)) (s .pre .1 .0 .larger) (s .pre .1 .1) (l .slot)
+          (l .key) (l .inv .1) _ (there e) (l .key % 2),
+    )
+
+loop-again : tie.Need-loop-again Inv-loop μ-loop
+loop-again c =
+    let e = c .before .before in
+    let s = e .before .before .before .before .before .before .before .before .before in
+    let a = s .args in
+    let l = e .before .before .loop in (
+      omega (arith, l .inv .0),
+      way-next (a .gates .now) (a .scratch .now) (a .w) (a .n) (wordOf (a .x)) (wordOf (a .y)) (s .pre .1 .0 .larger) (s .pre .1 .1) (l .slot)
+          (l .key) (l .inv .1) _ (there e) (sym (c .before .has-sides .ensures) ∙ c .if2 .left),
+    )
+
+pub find-spec : {M : Type 1} → statement M
+find-spec =
+    tie.close
+    (tie.spec
+    Inv-loop
+    μ-loop
+    var-requires
+    index-requires
+    cast-slot
+    add-slot
+    word-requires
+    mul-key
+    sign-requires
+    add-key
+    loop-holds
+    mul-at
+    shared-slice-read-at
+    returns
+    sub-i
+    cast-i
+    has-sides-requires
+    mul-t21
+    mul-t22
+    shared-slice-read-t24
+    returns-2
+    mul-slot
+    mul-slot-2
+    cast-slot-2
+    add-slot-2
+    add-slot-3
+    loop-less
+    loop-again)
