@@ -1,0 +1,124 @@
+-- The reducer's outcome: a refusal of the checks, or the reduced circuit in tables that were cleared before.
+use Prim.Native.Nat.{ℕ, _+_, _≤_}
+use mathlib.Core.Path.{_≡_, refl, sym, ap, ap₂, _∙_, subst}
+use mathlib.Core.Bool.{true}
+use mathlib.Core.Option.{Option, none, some}
+use mathlib.Core.List.{List}
+use native.Mathlib.Omega.{arith}
+use lib.ListN.{length, getD, replicate, length-replicate, length-map}
+use Rattle.plan.specs.declared.Counts.{Counts}
+use Rattle.plan.specs.declared.Refusal.{Refusal}
+use Rattle.plan.specs.declared.Checked.{Checked}
+use Rattle.plan.specs.declared.Checked.the-variants as checked
+use Rattle.plan.specs.declared.Made.{Made}
+use Rattle.plan.specs.declared.Made.the-variants as made
+use Rattle.plan.specs.Literals.{most}
+use Rattle.plan.specs.Refusals.{firstOf}
+use Rattle.plan.specs.Circuit.{Circuit, Tables, countsOf, cleared, allCleared, holding}
+use Rattle.plan.specs.Given.{Given, given, lentWith}
+use Rattle.plan.specs.Reduce.{becomes, reduced, latchBecomes, reduce}
+use Rattle.plan.specs.Outcome.{CheckExit, MakeEntry, MakeExit, checkedBy, checkBy, madeBy, reduction}
+use Rattle.theorems.proofs.Held.{Holds, holds-filled}
+use Rattle.theorems.proofs.Marks.{zeros}
+use Rattle.theorems.proofs.Running.Results.{reduce-fewer}
+use Rattle.given.specs.Judged.{allStages}
+use Rattle.given.proofs.Sound.{Good, Wide, good-none, refused-some, good-with}
+use Rattle.reduce.specs.Ready.{Ready, Written}
+
+module _ (g : Given) (t : Tables) where
+  abbrev first : Option Refusal
+  first = firstOf (allStages true g (lentWith g t))
+
+  -- what the check says of tables as long as those lent for writing
+  abbrev pub Judged : Checked → List ℕ → Type 0
+  Judged r s = _≡_ {A = CheckExit} (record { answer = r; scratch = s }) (checkBy (allStages true g (lentWith g t)) g)
+
+  module _ (r : Checked) (s : List ℕ) (judged : Judged r s) where
+    answer-is : r ≡ checkedBy first
+    answer-is = ap (λ (x : CheckExit). x .answer) judged
+
+    scratch-is : s ≡ cleared (g .scratch)
+    scratch-is = ap (λ (x : CheckExit). x .scratch) judged
+
+    -- a refusal leaves the tables cleared
+    pub refused : (x : Refusal) → r ≡ checked.Refused x → (to : Tables) → to ≡ allCleared t
+        → _≡_ {A = MakeExit} (record { answer = made.Refused x; written = to; scratch = s }) (reduction (record { circuit = g; written = t }))
+    refused x e to cleared-is =
+        let found : first ≡ some x = refused-some x first (sym e ∙ answer-is) in
+        ap₂ (λ (w : Tables) (z : List ℕ). record { answer = made.Refused x; written = w; scratch = z }) cleared-is scratch-is
+        ∙ sym (ap (λ (o : Option Refusal). madeBy o (record { circuit = g; written = t }) (reduce (given g))) found)
+
+    module _ (e : r ≡ checked.Good) where
+      no-refusal : first ≡ none
+      no-refusal = good-none first (sym e ∙ answer-is)
+
+      pub passed : Good true g
+      passed = good-with true g t no-refusal .0
+
+      wide : Wide (g .counts) t
+      wide = good-with true g t no-refusal .1
+
+      size : length s ≡ length (g .scratch)
+      size = ap length scratch-is ∙ length-replicate (length (g .scratch)) 0
+
+      -- the core is ready
+      pub ready : (to : Tables) → to ≡ allCleared t → Ready (record { counts = g .counts; tables = g .tables; scratch = s }) to
+      ready to cleared-is = record {
+        good = record {
+          fits = passed .fits;
+          scratch = omega (arith, passed .scratch, size);
+          counts = passed .counts;
+          formed = passed .formed;
+          order = passed .order;
+        };
+        wide = subst (λ (x : Tables). Wide (g .counts) x) (sym cleared-is) (record {
+          inputs = omega (arith, wide .inputs, length-replicate {A = ℕ} (length (t .inputs)) 0);
+          latches = omega (arith, wide .latches, length-replicate {A = ℕ} (length (t .latches)) 0);
+          outputs = omega (arith, wide .outputs, length-replicate {A = ℕ} (length (t .outputs)) 0);
+          gates = omega (arith, wide .gates, length-replicate {A = ℕ} (length (t .gates)) 0);
+        });
+        blank = λ i. ap (λ (l : List ℕ). getD l i 0) scratch-is ∙ zeros (length (g .scratch)) i;
+      }
+
+      module _ (to₀ to : Tables) (k : ℕ) (cleared-is : to₀ ≡ allCleared t) (written : Written (given g) to₀ to k) where
+        pub few : g .counts .I + g .counts .L + k ≤ most
+        few =
+            omega (
+              arith,
+              written .count,
+              reduce-fewer (given g) (passed .formed) (passed .order refl),
+              passed .fits .sum,
+              passed .fits .most-M,
+              ap (λ (m : Counts). m .A) (passed .counts),
+            )
+
+        counts-are : _≡_ {A = Counts}
+            (record { M = g .counts .I + g .counts .L + k; I = g .counts .I; L = g .counts .L; O = g .counts .O; A = k }) (countsOf (reduce (given g)))
+        counts-are =
+            let c = given g in
+            let i : g .counts .I ≡ length (c .inputs) = sym (ap (λ (m : Counts). m .I) (passed .counts)) in
+            let l : g .counts .L ≡ length (c .latches) = sym (ap (λ (m : Counts). m .L) (passed .counts)) in
+            let o : g .counts .O ≡ length (c .outputs) = sym (ap (λ (m : Counts). m .O) (passed .counts)) in
+            λ j. record {
+              M = i j + l j + written .count j;
+              I = i j;
+              L = (l ∙ sym (length-map (c .latches) (latchBecomes (reduced c .became)))) j;
+              O = (o ∙ sym (length-map (c .outputs) (becomes (reduced c .became)))) j;
+              A = written .count j;
+            }
+
+        tables-are : to ≡ holding t (reduce (given g))
+        tables-are = holds-filled t to (reduce (given g)) (subst (λ (x : Tables). Holds x (reduce (given g)) to) cleared-is (written .holds))
+
+        pub accepted : (m : ℕ) (s′ : List ℕ) → m ≡ length s → s′ ≡ replicate m 0
+            → _≡_ {A = MakeExit}
+            (record {
+              answer = made.Accepted (record { M = g .counts .I + g .counts .L + k; I = g .counts .I; L = g .counts .L; O = g .counts .O; A = k });
+              written = to;
+              scratch = s′;
+            })
+            (reduction (record { circuit = g; written = t }))
+        accepted m s′ same blank =
+            let clean : s′ ≡ cleared (g .scratch) = blank ∙ ap (λ (j : ℕ). replicate j 0) (same ∙ size) in
+            (λ j. record { answer = made.Accepted (counts-are j); written = tables-are j; scratch = clean j })
+            ∙ sym (ap (λ (o : Option Refusal). madeBy o (record { circuit = g; written = t }) (reduce (given g))) no-refusal)

@@ -1,0 +1,5 @@
+pub mod Leaves
+pub mod Replaced
+pub mod Gates
+pub mod Reducing
+pub mod Answers
