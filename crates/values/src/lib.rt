@@ -1,0 +1,85 @@
+// Values 0, 1 and x as words of scratch, 0, 1 and 2, and as codes "0", "1" and "x" of vectors (the paper, stepping).
+ghost use mathlib.Core.Path.{_≡_};
+ghost use mathlib.Core.List.{map};
+ghost use Prim.Native.Nat.{ℕ, _+_, _≤_};
+ghost use lib.ListN.{length, take, drop};
+ghost use Rattle.plan.specs.Step.{codeOf, valueOf, is1, any1};
+ghost use Rattle.plan.specs.Outcome.{put};
+ghost use Rattle.values.specs.Words.{word, told, words, valuesAt};
+
+// The word of a code's value.
+fn word_of(code: u8) -> u32
+    ensures { λ r. ⌜ r ≡ word (valueOf code) ⌝ }
+{
+    if code == b'0' {
+        return 0;
+    }
+    if code == b'1' {
+        return 1;
+    }
+    2
+}
+
+fn code_of(word: u32) -> u8
+    ensures { λ r. ⌜ r ≡ codeOf (told word) ⌝ }
+{
+    if word == 0 {
+        return b'0';
+    }
+    if word == 1 {
+        return b'1';
+    }
+    b'x'
+}
+
+// A vector's values go into words from `first` on.
+pub fn load(codes: &[u8], first: usize, t: &mut [u32])
+    requires { ⌜ first + length (now codes) ≤ length (now t) ⌝ }
+    ensures { λ _. ⌜ now (t .exit) ≡ put (now (t .entry)) first (words (map valueOf (now (codes .entry)))) ⌝ }
+{
+    let mut i = 0;
+    while i < codes.len() {
+        t[first + i] = word_of(codes[i]);
+        i += 1;
+    }
+}
+
+// The values of words from `first` on fill a vector.
+pub fn store(t: &[u32], first: usize, codes: &mut [u8])
+    requires { ⌜ first + length (now codes) ≤ length (now t) ⌝ }
+    ensures { λ _. ⌜ now (codes .exit) ≡ map codeOf (valuesAt (now (t .entry)) first (length (now (codes .entry)))) ⌝ }
+{
+    let mut i = 0;
+    while i < codes.len() {
+        codes[i] = code_of(t[first + i]);
+        i += 1;
+    }
+}
+
+// n words from `from` on go over those from `to` on, of which none is among them.
+pub fn copy(t: &mut [u32], from: usize, n: usize, to: usize)
+    requires { ⌜ to + n ≤ from ⌝ }
+    requires { ⌜ from + n ≤ length (now t) ⌝ }
+    ensures { λ _. ⌜ now (t .exit) ≡ put (now (t .entry)) to (take n (drop from (now (t .entry)))) ⌝ }
+{
+    let mut i = 0;
+    while i < n {
+        t[to + i] = t[from + i];
+        i += 1;
+    }
+}
+
+// Whether one of n words from `first` on is 1.
+pub fn any_one(t: &[u32], first: usize, n: usize) -> bool
+    requires { ⌜ first + n ≤ length (now t) ⌝ }
+    ensures { λ r. ⌜ r ≡ any1 (valuesAt (now (t .entry)) first n) ⌝ }
+{
+    let mut i = 0;
+    while i < n {
+        if t[first + i] == 1 {
+            return true;
+        }
+        i += 1;
+    }
+    false
+}
