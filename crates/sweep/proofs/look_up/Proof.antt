@@ -1,0 +1,105 @@
+use Prim.Native.Nat.{_+_, _*_, _-_, _≤_}
+use mathlib.Core.Path.{_≡_, refl, sym, ap, _∙_, subst}
+use native.Mathlib.Nat.{mul-zero}
+use native.Mathlib.Omega.{arith}
+use Rattle.plan.specs.declared.Lit.{Lit}
+use Rattle.plan.specs.Literals.{wordOf}
+use Rattle.values.proofs.Filling.{Filled, filled-none}
+use Rattle.sweep.specs.Lookup.{Valued, literalWord}
+use Rattle.sweep.proofs.Lookups.{wordAt, next-at, row-in, valued, next-looked, all-looked}
+use borrow.Author.Needs.{needs}
+use Rattle.sweep.proofs.look_up.Statement.{statement}
+use Rattle.sweep.proofs.look_up.Tie as tie
+
+abbrev Inv-loop : tie.InvT-loop
+Inv-loop table start stride n first t₀ not at₀ i₀ t at i = (i ≤ n) × (at ≡ stride * i + start) × Filled t₀ first (wordAt table start stride t₀) i t
+
+abbrev μ-loop : tie.MeasureT-loop
+μ-loop table start stride n first t₀ not at₀ i₀ t at i = n - i
+
+loop-holds : tie.Need-loop-holds Inv-loop μ-loop
+loop-holds c = (omega arith, omega (arith, mul-zero (c .before .before .args .stride)), filled-none _ _ _)
+
+mul-at : tie.Need-mul-at Inv-loop μ-loop
+mul-at c =
+    let w = c .before .before .before .loop in
+    let s = c .before .before .before .before .before .before in
+    omega (arith, row-in (s .pre) (w .i) (w .at) (w .t) (c .before .before .loop-test .taken) (w .inv .1) (w .inv .2), s .pre .start-in)
+
+shared-slice-read-at : tie.Need-shared-slice-read-at Inv-loop μ-loop
+shared-slice-read-at c =
+    let w = c .before .before .before .before .loop in
+    let s = c .before .before .before .before .before .before .before in
+    omega (arith, row-in (s .pre) (w .i) (w .at) (w .t) (c .before .before .before .loop-test .taken) (w .inv .1) (w .inv .2), s .pre .start-in)
+
+at-requires : tie.Need-at-requires Inv-loop μ-loop
+at-requires c κs = search needs
+
+value-of-requires : tie.Need-value-of-requires Inv-loop μ-loop
+value-of-requires c κs =
+    let w = c .before .before .before .before .before .loop in
+    let s = c .before .before .before .before .before .before .before .before in (
+      refl,
+      subst (λ (l : Lit). Valued (w .t) (wordOf l)) (sym (c .at .ensures))
+          (valued (s .pre) (w .i) (w .at) (w .t) (c .before .before .before .before .loop-test .taken) (w .inv .1) (w .inv .2)),
+    )
+
+add-t : tie.Need-add-t Inv-loop μ-loop
+add-t c = search needs
+
+mul-t : tie.Need-mul-t Inv-loop μ-loop
+mul-t c = search needs
+
+slice-write-t : tie.Need-slice-write-t Inv-loop μ-loop
+slice-write-t c = search needs
+
+add-at : tie.Need-add-at Inv-loop μ-loop
+add-at c =
+    let w = c .before .before .before .before .before .before .loop in
+    let s = c .before .before .before .before .before .before .before .before .before in
+    omega (arith, row-in (s .pre) (w .i) (w .at) (w .t) (c .before .before .before .before .before .loop-test .taken) (w .inv .1) (w .inv .2), s .pre .start-in)
+
+add-i : tie.Need-add-i Inv-loop μ-loop
+add-i c = search needs
+
+loop-less : tie.Need-loop-less Inv-loop μ-loop
+loop-less c = search needs
+
+loop-again : tie.Need-loop-again Inv-loop μ-loop
+loop-again c =
+    let w = c .before .before .before .before .before .before .loop in
+    let s = c .before .before .before .before .before .before .before .before .before in (
+      omega arith,
+      next-at (s .args .stride) (s .args .start) (w .i) (w .at) (w .inv .1),
+      next-looked (s .pre) (w .i) (w .at) (w .t) (c .before .before .before .before .before .loop-test .taken) (w .inv .1) (w .inv .2) _
+          (c .value-of .ensures ∙ ap (λ (l : Lit). literalWord (w .t) (wordOf l)) (c .before .at .ensures)),
+    )
+
+same-length : tie.Need-same-length Inv-loop μ-loop
+same-length c = c .before .loop .inv .2 .same
+
+returns : tie.Need-returns Inv-loop μ-loop
+returns c =
+    let w = c .before .loop in
+    all-looked (c .before .before .before .before .pre) (w .i) (w .t) (w .inv .2) (omega arith)
+
+pub look-up-spec : {M : Type 1} → statement M
+look-up-spec =
+    tie.close
+    (tie.spec
+    Inv-loop
+    μ-loop
+    loop-holds
+    mul-at
+    shared-slice-read-at
+    at-requires
+    value-of-requires
+    add-t
+    mul-t
+    slice-write-t
+    add-at
+    add-i
+    loop-less
+    loop-again
+    same-length
+    returns)
