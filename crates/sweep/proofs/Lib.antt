@@ -1,2 +1,5 @@
 pub mod Lookups
 pub mod Sweeping
+pub mod Literals
+pub mod Settling
+pub mod Stepping

@@ -72,6 +72,9 @@ module _ {table : List ℕ} {start stride n first : ℕ} {t₀ : List ℕ} (p : 
     literal-before : varOf (getD table q 0) < first
     literal-before = subst (λ (k : ℕ). varOf (getD table k 0) < first) (sym here) (p .before i h)
 
+    small-before : getD t₀ (varOf (getD table q 0)) 0 < 3
+    small-before = subst (λ (k : ℕ). getD t₀ (varOf (getD table k 0)) 0 < 3) (sym here) (p .small i h)
+
     same-word : getD t (varOf (getD table q 0)) 0 ≡ getD t₀ (varOf (getD table q 0)) 0
     same-word =
         ap (λ (x : List ℕ). getD x (varOf (getD table q 0)) 0) (f .put-there)
@@ -83,7 +86,7 @@ module _ {table : List ℕ} {start stride n first : ℕ} {t₀ : List ℕ} (p : 
     pub valued : Valued t (getD table q 0)
     valued = record {
       inside = omega (arith, literal-before, p .table-long, f .same);
-      small = omega (arith, same-word, p .small (varOf (getD table q 0)) literal-before);
+      small = omega (arith, same-word, small-before);
     }
 
     pub next-looked : (x : ℕ) → x ≡ literalWord t (getD table q 0) → Filled t₀ first at (i + 1) (set t (first + i) x)

@@ -49,7 +49,7 @@ pub record Looks (table : List ℕ) (start stride n first : ℕ) (t : List ℕ) 
   pub literals-long : stride * n ≤ length table
   pub table-long : first + n ≤ length t
   pub before : (i : ℕ) → i < n → varOf (getD table (stride * i + start) 0) < first
-  pub small : (v : ℕ) → v < first → getD t v 0 < 3
+  pub small : (i : ℕ) → i < n → getD t (varOf (getD table (stride * i + start) 0)) 0 < 3
 
 abbrev pub looked : List ℕ → ℕ → ℕ → ℕ → List ℕ → List ℕ
 looked table start stride n t = words (map (lit (valueAt t)) (every table start stride n))

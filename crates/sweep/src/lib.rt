@@ -1,10 +1,16 @@
 // A step in three values over tables in binary order: one sweep over the gates gives each variable's value (the paper, stepping).
 ghost use mathlib.Core.Path.{_≡_};
-ghost use Prim.Native.Nat.{_<_};
+ghost use mathlib.Core.List.{List};
+ghost use Prim.Native.Nat.{ℕ, _<_};
 ghost use Rattle.plan.specs.Literals.{wordOf};
+ghost use Rattle.plan.specs.Step.{Value};
 ghost use Rattle.plan.specs.Outcome.{put};
+ghost use Rattle.tables.specs.Held.{circuitIn};
 ghost use Rattle.sweep.specs.Lookup.{notTable, andTable, literalWord, andWord, Valued, Sweeps, swept, Looks, looked};
+ghost use Rattle.sweep.specs.Running.{Runs, Stands, Stepped, Ready};
+use plan::Counts;
 use plan::Lit;
+use values::copy;
 
 // At 3 × sign + value: 0 and 1 exchange where the sign is 1, x stays.
 const NOT: [u32; 6] = [0, 1, 2, 1, 0, 2];
@@ -65,4 +71,20 @@ fn look_up(table: &[u32], start: usize, stride: usize, n: usize, first: usize, t
         at += stride;
         i += 1;
     }
+}
+
+// One step, from the state and the inputs that stand in the leaves' words. Outputs and next state are both looked up before the next
+// state goes over the state, so that all latches take their next values at once.
+pub fn step_values(n: Counts, latches: &[u32], outputs: &[u32], gates: &[u32], t: &mut [u32])
+    requires { ⌜ Ready n (now latches) (now outputs) (now gates) (now t) ⌝ }
+    ensures { λ _. ⌜ ((inputs : List ℕ) (s i : List Value) → Runs n inputs (now (latches .entry)) (now (outputs .entry)) (now (gates .entry))
+        → Stands n s i (now (t .entry))
+        → Stepped n (circuitIn n inputs (now (latches .entry)) (now (outputs .entry)) (now (gates .entry))) s i (now (t .exit))) ⌝ }
+{
+    let out = n.M + 1;
+    let next = out + n.O;
+    sweep_gates(gates, n.A, 1 + n.I + n.L, t);
+    look_up(outputs, 0, 1, n.O, out, t);
+    look_up(latches, 1, 2, n.L, next, t);
+    copy(t, next, n.L, 1 + n.I);
 }
