@@ -3,3 +3,4 @@ pub mod Sweeping
 pub mod Literals
 pub mod Settling
 pub mod Stepping
+pub mod Loading

@@ -1,0 +1,92 @@
+-- Words of vectors before a step: a state in a blank table, and inputs beside a state.
+use Prim.Native.Nat.{ℕ, zero, suc, _+_, _-_, _≤_}
+use mathlib.Core.Path.{_≡_, refl, sym, ap, ap₂, _∙_}
+use mathlib.Core.List.{List, [], _∷_, _++_, append-assoc, map-append}
+use native.Mathlib.Omega.{arith}
+use lib.ListN.{length, getD, take, drop, replicate, length-map, length-replicate, replicate-append-replicate}
+use lib.Seq.{take-add, take-at, drop-at}
+use Rattle.plan.specs.declared.Counts.{Counts}
+use Rattle.plan.specs.Step.{Value, v0}
+use Rattle.plan.specs.Outcome.{put}
+use Rattle.theorems.proofs.Running.Upward.{given}
+use Rattle.tables.specs.Held.{Scratch}
+use Rattle.values.specs.Words.{word, words}
+use Rattle.values.proofs.Parts.{front-stays, back-stays, part-put}
+use Rattle.sweep.specs.Running.{Rests, Stands}
+
+abbrev pub blank : ℕ → List ℕ
+blank n = replicate n 0
+
+blank-length : (n : ℕ) → length (blank n) ≡ n
+blank-length n = length-replicate {A = ℕ} n 0
+
+blank-more : (n m : ℕ) → blank n ++ blank m ≡ blank (n + m)
+blank-more n m = replicate-append-replicate {A = ℕ} n m 0
+
+part-blank : (p n k : ℕ) → p + n ≤ k → take n (drop p (blank k)) ≡ blank n
+part-blank p n k h =
+    let rest = k - (p + n) in
+    let all : k ≡ p + (n + rest) = omega arith in
+    ap (λ (m : ℕ). take n (drop p (blank m))) all
+    ∙ (ap (λ (l : List ℕ). take n (drop p l)) (sym (blank-more p (n + rest)))
+    ∙ (ap (take n) (drop-at (blank p) (blank (n + rest)) p (blank-length p))
+    ∙ (ap (take n) (sym (blank-more n rest)) ∙ take-at (blank n) (blank rest) n (blank-length n))))
+
+zeros-words : (n : ℕ) → blank n ≡ words (replicate n v0)
+zeros-words zero = refl
+zeros-words (suc n) = ap (λ (l : List ℕ). 0 ∷ l) (zeros-words n)
+
+-- a blank table holds the state that is all "0"
+pub rests-first : (n : Counts) (k : ℕ) → 1 + n .I + n .L ≤ k → Rests n (replicate (n .L) v0) (blank k)
+rests-first n k h = record {
+  zero = part-blank 0 1 k (omega arith);
+  state = part-blank (1 + n .I) (n .L) k h ∙ zeros-words (n .L);
+}
+
+-- a state that is loaded into it
+pub rests-loaded : (n : Counts) (k : ℕ) (s : List Value) (t : List ℕ) → 1 + n .I + n .L ≤ k → length s ≡ n .L
+    → t ≡ put (blank k) (1 + n .I) (words s)
+    → Rests n s t
+rests-loaded n k s t h l e = record { zero = zero; state = state }
+  where
+    fits : 1 + n .I ≤ length (blank k)
+    fits = omega (arith, blank-length k, h)
+
+    zero : take 1 t ≡ 0 ∷ []
+    zero = ap (take 1) e ∙ (front-stays (blank k) (1 + n .I) (words s) fits 1 (omega arith) ∙ part-blank 0 1 k (omega arith))
+
+    count : length (words s) ≡ n .L
+    count = length-map s word ∙ l
+
+    state : take (n .L) (drop (1 + n .I) t) ≡ words s
+    state =
+        ap₂ (λ (m : ℕ) (x : List ℕ). take m (drop (1 + n .I) x)) (sym count) e ∙ part-put (blank k) (1 + n .I) (words s) fits
+
+-- inputs that are loaded beside a state
+pub stands-loaded : (n : Counts) (s i : List Value) (t t′ : List ℕ) → Rests n s t → length s ≡ n .L → length i ≡ n .I
+    → 1 + n .I + n .L ≤ length t
+    → t′ ≡ put t 1 (words i)
+    → Stands n s i t′
+stands-loaded n s i t t′ r ls li h e = record { state-length = ls; inputs-length = li; leaves = leaves }
+  where
+    w : List ℕ
+    w = words i
+
+    count : length w ≡ n .I
+    count = length-map i word ∙ li
+
+    front : take 1 (put t 1 w) ≡ 0 ∷ []
+    front = front-stays t 1 w (omega arith) 1 (omega arith) ∙ r .zero
+
+    middle : take (n .I) (drop 1 (put t 1 w)) ≡ w
+    middle = ap (λ (m : ℕ). take m (drop 1 (put t 1 w))) (sym count) ∙ part-put t 1 w (omega arith)
+
+    back : take (n .L) (drop (1 + n .I) (put t 1 w)) ≡ words s
+    back = ap (take (n .L)) (back-stays t 1 w (omega arith) (1 + n .I) (omega (arith, count))) ∙ r .state
+
+    leaves : take (1 + n .I + n .L) t′ ≡ words (given s i)
+    leaves =
+        ap (take (1 + n .I + n .L)) e
+        ∙ (take-add (1 + n .I) (n .L) (put t 1 w)
+        ∙ (ap₂ (λ (x y : List ℕ). x ++ y) (take-add 1 (n .I) (put t 1 w) ∙ ap₂ (λ (x y : List ℕ). x ++ y) front middle) back
+        ∙ ap (λ (l : List ℕ). 0 ∷ l) (sym (map-append word i s))))
