@@ -1,0 +1,3 @@
+pub mod Codes
+pub mod Products
+pub mod Places

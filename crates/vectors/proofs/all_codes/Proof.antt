@@ -1,0 +1,63 @@
+use Prim.Native.Nat.{_-_, _≤_}
+use mathlib.Core.Path.{_≡_, refl}
+use native.Mathlib.Omega.{arith}
+use lib.ListN.{length, drop}
+use Rattle.plan.specs.Outcome.{allCodes}
+use Rattle.sequence.proofs.Steps.{test-fails, test-passes}
+use Rattle.vectors.proofs.Codes.{codes-turn, codes-end}
+use borrow.Author.Needs.{needs}
+use Rattle.vectors.proofs.all_codes.Statement.{statement}
+use Rattle.vectors.proofs.all_codes.Tie as tie
+
+abbrev Inv-loop : tie.InvT-loop
+Inv-loop bytes i₀ i = (i ≤ length bytes) × (allCodes bytes ≡ allCodes (drop i bytes))
+
+abbrev μ-loop : tie.MeasureT-loop
+μ-loop bytes i₀ i = length bytes - i
+
+loop-holds : tie.Need-loop-holds Inv-loop μ-loop
+loop-holds c = search needs
+
+shared-slice-read-is-code : tie.Need-shared-slice-read-is-code Inv-loop μ-loop
+shared-slice-read-is-code c = search needs
+
+is-code-requires : tie.Need-is-code-requires Inv-loop μ-loop
+is-code-requires c κs = search needs
+
+returns : tie.Need-returns Inv-loop μ-loop
+returns c =
+    let w = c .before .before .before .before .loop in
+    let bytes = c .before .before .before .before .before .before .args .bytes .now in
+    test-fails _ _ _ _ (codes-turn bytes (w .i) (c .before .before .before .loop-test .taken) (w .inv .1)) (c .before .is-code .ensures) (c .if1 .taken)
+
+add-i : tie.Need-add-i Inv-loop μ-loop
+add-i c = search needs
+
+loop-less : tie.Need-loop-less Inv-loop μ-loop
+loop-less c = search needs
+
+loop-again : tie.Need-loop-again Inv-loop μ-loop
+loop-again c =
+    let w = c .before .before .before .before .loop in
+    let bytes = c .before .before .before .before .before .before .args .bytes .now in (
+      omega arith,
+      test-passes _ _ _ _ (codes-turn bytes (w .i) (c .before .before .before .loop-test .taken) (w .inv .1)) (c .before .is-code .ensures) (c .if1 .left),
+    )
+
+returns-2 : tie.Need-returns-2 Inv-loop μ-loop
+returns-2 c = codes-end (c .before .before .before .args .bytes .now) (c .before .loop .i) (c .loop-test .left) (c .before .loop .inv .1)
+
+pub all-codes-spec : {M : Type 1} → statement M
+all-codes-spec =
+    tie.close
+    (tie.spec
+    Inv-loop
+    μ-loop
+    loop-holds
+    shared-slice-read-is-code
+    is-code-requires
+    returns
+    add-i
+    loop-less
+    loop-again
+    returns-2)
