@@ -1,0 +1,67 @@
+-- What the check of given tables tells: the refusal that is answered, or tables that a step can run on.
+use Prim.Native.Nat.{ℕ}
+use mathlib.Core.Path.{_≡_, refl, sym, ap, _∙_}
+use mathlib.Core.Bool.{true}
+use mathlib.Core.Option.{Option, none, some}
+use mathlib.Core.List.{List, [], _∷_, _++_}
+use native.Mathlib.Omega.{arith}
+use lib.ListN.{length, replicate, length-replicate}
+use Rattle.plan.specs.declared.Refusal.{Refusal}
+use Rattle.plan.specs.declared.Checked.{Checked}
+use Rattle.plan.specs.declared.Checked.the-variants as checked
+use Rattle.plan.specs.Refusals.{firstOf}
+use Rattle.plan.specs.Circuit.{cleared}
+use Rattle.plan.specs.Given.{Given, given, lentAlone, stages, orderStage}
+use Rattle.plan.specs.Outcome.{CheckExit, checkInOrder, checkedBy}
+use Rattle.given.specs.Judged.{allStages}
+use Rattle.given.proofs.Sound.{Good, good-none, refused-some, good-alone}
+use Rattle.sweep.specs.Running.{Runs}
+use Rattle.step.specs.Asked.{Blank}
+
+first-some : (r : Refusal) (xs ys : List (Option Refusal)) → firstOf xs ≡ some r → firstOf (xs ++ ys) ≡ some r
+first-some r [] ys e = let z : _≡_ {A = ℕ} 0 1 = cc in absurd (omega arith)
+first-some r (none ∷ xs) ys e = first-some r xs ys e
+first-some r (some q ∷ xs) ys e = e
+
+first-none : (xs ys : List (Option Refusal)) → firstOf xs ≡ none → firstOf (xs ++ ys) ≡ firstOf ys
+first-none [] ys e = refl
+first-none (none ∷ xs) ys e = first-none xs ys e
+first-none (some q ∷ xs) ys e = let z : _≡_ {A = ℕ} 0 1 = cc in absurd (omega arith)
+
+-- the answer where one stage more comes after 15
+module _ (g : Given) (last : Option Refusal) where
+  abbrev pub answer : Option Refusal
+  answer = firstOf (stages g (lentAlone g) ++ (orderStage g ∷ last ∷ []))
+
+  module _ {a : Checked} {t : List ℕ} (e : _≡_ {A = CheckExit} (record { answer = a; scratch = t }) (checkInOrder g)) where
+    told : a ≡ checkedBy (firstOf (allStages true g (lentAlone g)))
+    told = ap (λ (x : CheckExit). x .answer) e
+
+    pub blank-is : t ≡ cleared (g .scratch)
+    blank-is = ap (λ (x : CheckExit). x .scratch) e
+
+    pub refused-by : (r : Refusal) → a ≡ checked.Refused r → answer ≡ some r
+    refused-by r q = first-some r (allStages true g (lentAlone g)) (last ∷ []) (refused-some r _ (sym q ∙ told))
+
+    module _ (q : a ≡ checked.Good) where
+      all-none : firstOf (allStages true g (lentAlone g)) ≡ none
+      all-none = good-none (firstOf (allStages true g (lentAlone g))) (sym q ∙ told)
+
+      pub past-check : answer ≡ firstOf (last ∷ [])
+      past-check = first-none (allStages true g (lentAlone g)) (last ∷ []) all-none
+
+      pub runs : Runs (g .counts) (g .tables .inputs) (g .tables .latches) (g .tables .outputs) (g .tables .gates)
+      runs =
+          let p = good-alone true g all-none in
+          record { fits = p .fits; counts = p .counts; formed = p .formed; order = p .order refl }
+
+      pub blank : Blank (g .counts) (g .tables .latches) (g .tables .outputs) (g .tables .gates) t
+      blank =
+          let p = good-alone true g all-none in
+          let count : length t ≡ length (g .scratch) = ap length blank-is ∙ length-replicate {A = ℕ} (length (g .scratch)) 0 in
+          record {
+            inputs = g .tables .inputs;
+            runs = runs;
+            scratch-long = omega (arith, p .scratch, count);
+            zero = blank-is ∙ ap (λ (k : ℕ). replicate k 0) (sym count);
+          }

@@ -1,0 +1,122 @@
+use Prim.Native.Nat.{ℕ}
+use mathlib.Core.Path.{_≡_, ap, _∙_}
+use lib.ListN.{replicate}
+use Rattle.plan.specs.declared.Checked.the-variants.{Good}
+use Rattle.plan.specs.Outcome.{CheckExit, StepEntry, checkInOrder, stepStage}
+use Rattle.tables.proofs.Told.{some-table, no-table}
+use Rattle.step.proofs.Checks.{blank-is, refused-by, past-check, runs, blank}
+use Rattle.step.proofs.Answers.{good-vectors, refused-step, refused-vector, done-step}
+use borrow.Author.Needs.{needs}
+use Rattle.step.proofs.step.Statement.{statement}
+use Rattle.step.proofs.step.Tie as tie
+
+-- what is handed over
+abbrev entry : tie.Start → StepEntry
+entry s =
+    let a = s .args in
+    record {
+      circuit = record {
+        counts = a .n;
+        tables = record { inputs = a .inputs .now; latches = a .latches .now; outputs = a .outputs .now; gates = a .gates .now };
+        scratch = a .scratch .now;
+      };
+      state = a .state .now;
+      inputs = a .ins .now;
+      outputs = a .outs .now;
+    }
+
+-- back to the start, where the tables are good, and what the check said there
+abbrev start : tie.After-enum-told → tie.Start
+start d = d .before .before .before .before .before .before .before .before .before .before .before .before .before .before
+
+told : (d : tie.After-enum-told) → d .before .before .before .before .check-in-order .result ≡ Good
+told d = d .enum-told .given .1
+
+says : (d : tie.After-enum-told)
+    → _≡_ {A = CheckExit} (record { answer = d .before .before .before .before .check-in-order .result; scratch = d .before .before .before .before .check-in-order .last .1 .1 .1 .1 .1 .0 })
+    (checkInOrder (entry (start d) .circuit))
+says d = d .before .before .before .before .check-in-order .ensures
+
+check-in-order-requires : tie.Need-check-in-order-requires
+check-in-order-requires c κs = search needs
+
+enum-known-refusal : tie.Need-enum-known-refusal
+enum-known-refusal c = search needs
+
+enum-told : tie.Need-enum-told
+enum-told c = search needs
+
+bad-vector-requires : tie.Need-bad-vector-requires
+bad-vector-requires c κs = search needs
+
+same-length : tie.Need-same-length
+same-length c = search needs
+
+same-length-2 : tie.Need-same-length-2
+same-length-2 c = search needs
+
+returns : tie.Need-returns
+returns c =
+    let d = c .before .before .before in
+    let e = entry (start d) in
+    refused-vector e _ (blank-is (e .circuit) (stepStage e) (says d)) (past-check (e .circuit) (stepStage e) (says d) (told d)) _
+    (some-table _ _ (c .if1 .taken) (c .before .bad-vector .ensures))
+
+step-vectors-requires : tie.Need-step-vectors-requires
+step-vectors-requires c κs =
+    let d = c .before .before .before .before .before .before in
+    let e = entry (start d) in (
+      blank (e .circuit) (stepStage e) (says d) (told d),
+      good-vectors e (no-table _ _ (c .before .before .before .if1 .left) (c .before .before .before .before .bad-vector .ensures)),
+    )
+
+clear-requires : tie.Need-clear-requires
+clear-requires c κs = search needs
+
+same-length-3 : tie.Need-same-length-3
+same-length-3 c = search needs
+
+returns-2 : tie.Need-returns-2
+returns-2 c =
+    let e = entry (c .before .before .before .before .before .before .before .before .before .before .before .before .before .before .before) in
+    let check = c .before .before .before .before .before .check-in-order .ensures in
+    refused-step e _ (blank-is (e .circuit) (stepStage e) check) _ (refused-by (e .circuit) (stepStage e) check _ (c .before .refusal .given .1))
+
+same-length-4 : tie.Need-same-length-4
+same-length-4 c = search needs
+
+same-length-5 : tie.Need-same-length-5
+same-length-5 c = search needs
+
+same-length-6 : tie.Need-same-length-6
+same-length-6 c = search needs
+
+returns-3 : tie.Need-returns-3
+returns-3 c =
+    let d = c .before .before .before .before .before .before .before .before .before .before .before .before .before .before .before .before .before in
+    let e = entry (start d) in
+    let length-is = c .before .before .before .before .before .before .before .before .before .scratch2 .given ∙ d .before .before .before .scratch .given in
+    let zero = c .before .before .clear .ensures ∙ ap (λ (k : ℕ). replicate k 0) length-is in
+    done-step e _ zero (past-check (e .circuit) (stepStage e) (says d) (told d))
+    (no-table _ _ (c .before .before .before .before .before .before .before .before .before .before .before .before .before .before .if1 .left) (c .before .before .before .before .before .before .before .before .before .before .before .before .before .before .before .bad-vector .ensures)) _ _
+    (c .before .before .before .before .before .before .before .before .before .before .step-vectors .ensures (e .circuit .tables .inputs) (runs (e .circuit) (stepStage e) (says d) (told d)))
+
+pub step-spec : {M : Type 1} → statement M
+step-spec =
+    tie.close
+    (tie.spec
+    check-in-order-requires
+    enum-known-refusal
+    enum-told
+    bad-vector-requires
+    same-length
+    same-length-2
+    returns
+    step-vectors-requires
+    clear-requires
+    same-length-3
+    returns-2
+    same-length-4
+    same-length-5
+    same-length-6
+    returns-3)

@@ -1,0 +1,28 @@
+-- What is asked where nothing is refused: tables that hold an accepted circuit in binary order, scratch that is zero, and vectors of
+-- the right length.
+use Prim.Native.Nat.{ℕ}
+use mathlib.Core.Path.{_≡_}
+use mathlib.Core.List.{List, map}
+use lib.ListN.{length}
+use Rattle.plan.specs.declared.Counts.{Counts}
+use Rattle.plan.specs.Circuit.{Circuit, cleared}
+use Rattle.plan.specs.Step.{codeOf, valueOf, outputsOf, nextOf}
+use Rattle.tables.specs.Held.{Scratch}
+use Rattle.sweep.specs.Running.{Runs}
+
+pub record Blank (n : Counts) (latches outputs gates scratch : List ℕ) : Type 0 where
+  pub inputs : List ℕ
+  pub runs : Runs n inputs latches outputs gates
+  pub scratch-long : Scratch n scratch
+  pub zero : scratch ≡ cleared scratch
+
+-- a state, inputs and outputs
+pub record Vectors (n : Counts) (state ins outs : List ℕ) : Type 0 where
+  pub state-length : length state ≡ n .L
+  pub inputs-length : length ins ≡ n .I
+  pub outputs-length : length outs ≡ n .O
+
+-- what a step leaves in the buffers
+pub record Leaves (c : Circuit) (state ins state′ outs′ : List ℕ) : Type 0 where
+  pub next : state′ ≡ map codeOf (nextOf c (map valueOf state) (map valueOf ins))
+  pub outputs : outs′ ≡ map codeOf (outputsOf c (map valueOf state) (map valueOf ins))

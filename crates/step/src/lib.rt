@@ -1,0 +1,79 @@
+// Stepping in three values, and the witness question (the paper, stepping).
+ghost use mathlib.Core.Path.{_≡_};
+ghost use mathlib.Core.List.{List};
+ghost use Prim.Native.Nat.{ℕ, _*_};
+ghost use lib.ListN.{length};
+ghost use Rattle.plan.specs.Circuit.{cleared};
+ghost use Rattle.plan.specs.Step.{codeOf, valueOf, outputsOf, nextOf, witnessed};
+ghost use Rattle.plan.specs.Outcome.{Says, step, witness};
+ghost use Rattle.tables.specs.Held.{circuitIn};
+ghost use Rattle.sweep.specs.Running.{Runs};
+ghost use Rattle.step.specs.Asked.{Blank, Vectors, Leaves};
+use given::check_in_order;
+use plan::Checked;
+use plan::Counts;
+use plan::Refusal;
+use plan::Stepped;
+use plan::Verdict;
+use sweep::step_values;
+use tables::clear;
+use values::any_one;
+use values::load;
+use values::store;
+use vectors::bad_vector;
+use vectors::whole_list;
+
+// A step whose tables and vectors are good.
+fn step_vectors(
+    n: Counts,
+    latches: &[u32],
+    outputs: &[u32],
+    gates: &[u32],
+    scratch: &mut [u32],
+    state: &mut [u8],
+    ins: &[u8],
+    outs: &mut [u8],
+)
+    requires { ⌜ Blank n (now latches) (now outputs) (now gates) (now scratch) ⌝ }
+    requires { ⌜ Vectors n (now state) (now ins) (now outs) ⌝ }
+    ensures { λ _. ⌜ ((inputs : List ℕ) → Runs n inputs (now (latches .entry)) (now (outputs .entry)) (now (gates .entry))
+        → Leaves (circuitIn n inputs (now (latches .entry)) (now (outputs .entry)) (now (gates .entry))) (now (state .entry)) (now (ins .entry))
+        (now (state .exit)) (now (outs .exit))) ⌝ }
+{
+    load(state, 1 + n.I, scratch);
+    load(ins, 1, scratch);
+    step_values(n, latches, outputs, gates, scratch);
+    store(scratch, 1 + n.I, state);
+    store(scratch, n.M + 1, outs);
+}
+
+// One step: the outputs go into their buffer, and the next state over the state. On a refusal no vector changes; scratch is zero
+// afterwards.
+pub fn step(
+    n: Counts,
+    inputs: &[u32],
+    latches: &[u32],
+    outputs: &[u32],
+    gates: &[u32],
+    scratch: &mut [u32],
+    state: &mut [u8],
+    ins: &[u8],
+    outs: &mut [u8],
+) -> Stepped
+    ensures { λ r. ⌜ Says step
+        (record { circuit = (record { counts = n; tables = (record { inputs = now (inputs .entry); latches = now (latches .entry); outputs = now (outputs .entry); gates = now (gates .entry) }); scratch = now (scratch .entry) }); state = now (state .entry); inputs = now (ins .entry); outputs = now (outs .entry) })
+        (record { answer = r; scratch = now (scratch .exit); state = now (state .exit); outputs = now (outs .exit) }) ⌝ }
+{
+    match check_in_order(n, inputs, latches, outputs, gates, scratch) {
+        Checked::Refused(refusal) => Stepped::Refused(refusal),
+        Checked::Good => {
+            let bad = bad_vector(n, state, ins, outs.len());
+            if bad != 0 {
+                return Stepped::Refused(Refusal::BadVector(bad));
+            }
+            step_vectors(n, latches, outputs, gates, scratch, state, ins, outs);
+            clear(scratch);
+            Stepped::Done
+        }
+    }
+}
