@@ -1,3 +1,4 @@
 pub mod Buffers
 pub mod Checks
 pub mod Answers
+pub mod Listing

@@ -77,3 +77,33 @@ pub fn step(
         }
     }
 }
+
+// Whether a list, whose bytes are good, shows 1 on some output. Between two steps the state stays in scratch, and the first 1 ends it.
+fn shows_one(
+    n: Counts,
+    latches: &[u32],
+    outputs: &[u32],
+    gates: &[u32],
+    scratch: &mut [u32],
+    number: usize,
+    bytes: &[u8],
+) -> bool
+    requires { ⌜ Blank n (now latches) (now outputs) (now gates) (now scratch) ⌝ }
+    requires { ⌜ length (now bytes) ≡ number * n .I ⌝ }
+    ensures { λ r. ⌜ ((inputs : List ℕ) → Runs n inputs (now (latches .entry)) (now (outputs .entry)) (now (gates .entry))
+        → r ≡ witnessed (circuitIn n inputs (now (latches .entry)) (now (outputs .entry)) (now (gates .entry))) number (now (bytes .entry))) ⌝ }
+{
+    let mut at = 0;
+    let mut k = 0;
+    while k < number {
+        let end = at + n.I;
+        load(&bytes[at..end], 1, scratch);
+        step_values(n, latches, outputs, gates, scratch);
+        if any_one(scratch, n.M + 1, n.O) {
+            return true;
+        }
+        at = end;
+        k += 1;
+    }
+    false
+}
