@@ -2,3 +2,4 @@ pub mod Buffers
 pub mod Checks
 pub mod Answers
 pub mod Listing
+pub mod Verdicts

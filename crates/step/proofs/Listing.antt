@@ -3,12 +3,12 @@ use Prim.Native.Nat.{ℕ, suc, _+_, _-_, _*_, _≤_, _<_}
 use mathlib.Core.Path.{_≡_, refl, sym, ap, ap₂, _∙_, subst}
 use mathlib.Core.Bool.{Bool, true, false, _||_}
 use mathlib.Core.List.{List, map}
-use native.Mathlib.Nat.{mul-comm, mul-zero}
+use native.Mathlib.Nat.{mul-comm}
 use native.Mathlib.Omega.{arith}
 use lib.ListN.{length, take, drop, replicate, length-map, length-take, length-drop, length-replicate}
 use lib.Seq.{length-take-le, drop-drop}
 use Rattle.plan.specs.declared.Counts.{Counts}
-use Rattle.plan.specs.Circuit.{Circuit, rowsOf}
+use Rattle.plan.specs.Circuit.{Circuit}
 use Rattle.plan.specs.Step.{Value, v0, valueOf, outputsOf, nextOf, run, first, vectorsOf, any1, shows1, witnessed}
 use Rattle.plan.specs.Outcome.{put}
 use Rattle.theorems.proofs.Tables.{row-ends}

@@ -107,3 +107,35 @@ fn shows_one(
     }
     false
 }
+
+// The witness question: whether stepping a list of `number` vectors from the state that is all "0" gives 1 on some output at some step.
+// The circuit is checked once, and the whole list judged before the first step. Scratch is zero afterwards.
+pub fn witness(
+    n: Counts,
+    inputs: &[u32],
+    latches: &[u32],
+    outputs: &[u32],
+    gates: &[u32],
+    scratch: &mut [u32],
+    number: usize,
+    bytes: &[u8],
+) -> Verdict
+    ensures { λ r. ⌜ Says witness
+        (record { circuit = (record { counts = n; tables = (record { inputs = now (inputs .entry); latches = now (latches .entry); outputs = now (outputs .entry); gates = now (gates .entry) }); scratch = now (scratch .entry) }); number = number; bytes = now (bytes .entry) })
+        (record { answer = r; scratch = now (scratch .exit) }) ⌝ }
+{
+    match check_in_order(n, inputs, latches, outputs, gates, scratch) {
+        Checked::Refused(refusal) => Verdict::Refused(refusal),
+        Checked::Good => {
+            if !whole_list(bytes, number, n.I) {
+                return Verdict::Refused(Refusal::BadVector(2));
+            }
+            let shown = shows_one(n, latches, outputs, gates, scratch, number, bytes);
+            clear(scratch);
+            if shown {
+                return Verdict::Yes;
+            }
+            Verdict::No
+        }
+    }
+}

@@ -1,15 +1,14 @@
 -- Words of vectors before a step: a state in a blank table, and inputs beside a state.
 use Prim.Native.Nat.{ℕ, zero, suc, _+_, _-_, _≤_}
 use mathlib.Core.Path.{_≡_, refl, sym, ap, ap₂, _∙_}
-use mathlib.Core.List.{List, [], _∷_, _++_, append-assoc, map-append}
+use mathlib.Core.List.{List, [], _∷_, _++_, map-append}
 use native.Mathlib.Omega.{arith}
-use lib.ListN.{length, getD, take, drop, replicate, length-map, length-replicate, replicate-append-replicate}
+use lib.ListN.{length, take, drop, replicate, length-map, length-replicate, replicate-append-replicate}
 use lib.Seq.{take-add, take-at, drop-at}
 use Rattle.plan.specs.declared.Counts.{Counts}
 use Rattle.plan.specs.Step.{Value, v0}
 use Rattle.plan.specs.Outcome.{put}
 use Rattle.theorems.proofs.Running.Upward.{given}
-use Rattle.tables.specs.Held.{Scratch}
 use Rattle.values.specs.Words.{word, words}
 use Rattle.values.proofs.Parts.{front-stays, back-stays, part-put}
 use Rattle.sweep.specs.Running.{Rests, Stands}

@@ -13,7 +13,7 @@ use Rattle.step.proofs.shows_one.Statement.{statement}
 use Rattle.step.proofs.shows_one.Tie as tie
 
 abbrev Inv-loop : tie.InvT-loop
-Inv-loop n latches outputs gates scratch₀ number bytes at₀ k₀ scratch at k = 
+Inv-loop n latches outputs gates scratch₀ number bytes at₀ k₀ scratch at k =
     (k ≤ number) × (at ≡ n .I * k) × (length scratch ≡ length scratch₀)
     × ((inputs : List ℕ) → Runs n inputs latches outputs gates → Going n (circuitIn n inputs latches outputs gates) number bytes scratch k at)
 
@@ -37,7 +37,7 @@ only : (at each : ℕ) → at + each - at ≡ each
 only at each = omega arith
 
 loop-holds : tie.Need-loop-holds Inv-loop μ-loop
-loop-holds c = 
+loop-holds c =
     let s = c .before .before .before .before .before in
     (omega arith, sym (mul-zero (s .args .n .I)), refl, λ inputs r. going-first r (s .args .number) (s .args .bytes .now) (s .args .scratch .now) (s .pre .0))
 
@@ -54,7 +54,7 @@ part-load-end : tie.Need-part-load-end Inv-loop μ-loop
 part-load-end c = omega (arith, ends (c .before))
 
 load-requires : tie.Need-load-requires Inv-loop μ-loop
-load-requires c κs = 
+load-requires c κs =
     let i = c .before .before .before in
     let w = i .before .loop in
     let s = start i in
@@ -66,7 +66,7 @@ load-requires c κs =
     )
 
 step-values-requires : tie.Need-step-values-requires Inv-loop μ-loop
-step-values-requires c κs = 
+step-values-requires c κs =
     let i = c .before .before .before .before .before .before .before in
     let b = start i .pre .0 in
     let w = i .before .loop in
@@ -100,7 +100,7 @@ loop-less : tie.Need-loop-less Inv-loop μ-loop
 loop-less c = search needs
 
 loop-again : tie.Need-loop-again Inv-loop μ-loop
-loop-again c = 
+loop-again c =
     let i = c .before .before .before .before .before .before .before .before .before .before .before .before .before .before in
     let s = start i in
     let w = i .before .loop in (

@@ -1,5 +1,4 @@
 use borrow.Author.Tests.{eq-eqb, ne-eqb}
-use borrow.Author.Needs.{needs}
 use Rattle.vectors.proofs.is_code.Statement.{statement}
 use Rattle.vectors.proofs.is_code.Tie as tie
 
