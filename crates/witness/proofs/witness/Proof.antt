@@ -7,11 +7,11 @@ use Rattle.plan.specs.declared.Checked.the-variants.{Good}
 use Rattle.plan.specs.Circuit.{cleared}
 use Rattle.plan.specs.Outcome.{CheckExit, WitnessEntry, checkInOrder, listStage}
 use Rattle.vectors.proofs.Places.{codesIn}
 use Rattle.step.proofs.Checks.{blank-is, refused-by, past-check, runs, blank}
-use Rattle.step.proofs.Verdicts.{good-list, refused-witness, refused-list, yes-witness, no-witness}
+use Rattle.witness.proofs.Verdicts.{good-list, refused-witness, refused-list, yes-witness, no-witness}
 use borrow.Author.Needs.{needs}
-use Rattle.step.proofs.witness.Statement.{statement}
-use Rattle.step.proofs.witness.Tie as tie
+use Rattle.witness.proofs.witness.Statement.{statement}
+use Rattle.witness.proofs.witness.Tie as tie
 
 -- what is handed over
 abbrev entry : tie.Start → WitnessEntry

@@ -7,10 +7,10 @@ use lib.ListN.{length, drop}
 use Rattle.theorems.proofs.Tables.{next-row}
 use Rattle.tables.specs.Held.{circuitIn, Scratch}
 use Rattle.sweep.specs.Running.{Runs}
-use Rattle.step.proofs.Listing.{Going, part-short, going-first, vector-ends, vector-stands, vector-ready, found-one, going-on, none-shown}
+use Rattle.witness.proofs.Listing.{Going, part-short, going-first, vector-ends, vector-stands, vector-ready, found-one, going-on, none-shown}
 use borrow.Author.Needs.{needs}
-use Rattle.step.proofs.shows_one.Statement.{statement}
-use Rattle.step.proofs.shows_one.Tie as tie
+use Rattle.witness.proofs.shows_one.Statement.{statement}
+use Rattle.witness.proofs.shows_one.Tie as tie
 
 abbrev Inv-loop : tie.InvT-loop
 Inv-loop n latches outputs gates scratch₀ number bytes at₀ k₀ scratch at k =
