@@ -1,11 +1,6 @@
 use native.Mathlib.Omega.{arith}
 use borrow.Author.Needs.{needs}
-use mathlib.Core.List.{map}
-use Rattle.plan.specs.Circuit.{rowsOf, gateOf}
-use Rattle.plan.specs.Bytes.{linesOf}
-use Rattle.plan.specs.Binary.{gateBytes}
-use Rattle.write.specs.Forms.{headBytes, binaryOutputs, binaryNexts}
-use Rattle.write.proofs.Filled.{first-fits, first-filled, next-fits, next-filled, last-filled}
+use Rattle.write.proofs.Forms.{binary-header-fits, nexts-fit, binary-outputs-fit, binary-gates-fit, binary-filled}
 use Rattle.write.proofs.fill_binary.Statement.{statement}
 use Rattle.write.proofs.fill_binary.Tie as tie
 
@@ -13,48 +8,69 @@ write-header-requires : tie.Need-write-header-requires
 write-header-requires c κs =
     let start = c .before .before .before .before .before in
     let a = start .args in
-    let n = a .n in
-    (search needs, omega (arith, first-fits (headBytes 105 n) (binaryNexts n (a .nexts .now) (a .outputs .now) (a .gates .now)) (a .out .now) (start .pre .1)))
+    (search needs, binary-header-fits (a .n) (a .nexts .now) (a .outputs .now) (a .gates .now) (a .out .now) (start .pre .1))
 
 write-lines-requires : tie.Need-write-lines-requires
 write-lines-requires c κs =
-    let start = c .before .before .before .before .before .before .before .before .before in
-    let a = start .args in
-    let n = a .n in
-    let f1 = first-filled (headBytes 105 n) (binaryNexts n (a .nexts .now) (a .outputs .now) (a .gates .now)) (a .out .now) (start .pre .1) (c .before .before .before .write-header .ensures) in
-    (search needs, (search needs, (search needs, next-fits (linesOf (rowsOf 1 (n .L) (a .nexts .now))) (binaryOutputs n (a .outputs .now) (a .gates .now)) f1)))
+    let w1 = c .before .before .before in
+    let start = w1 .before .before .before .before .before .before in
+    let a = start .args in (
+      search needs,
+      (
+        search needs,
+        (
+          search needs,
+          nexts-fit (a .n) (a .nexts .now) (a .outputs .now) (a .gates .now) (a .out .now) (start .pre .1)
+              (w1 .write-header .ensures),
+        ),
+      ),
+    )
 
 write-lines-requires-2 : tie.Need-write-lines-requires-2
 write-lines-requires-2 c κs =
-    let start = c .before .before .before .before .before .before .before .before .before .before .before .before .before in
-    let a = start .args in
-    let n = a .n in
-    let f1 = first-filled (headBytes 105 n) (binaryNexts n (a .nexts .now) (a .outputs .now) (a .gates .now)) (a .out .now) (start .pre .1) (c .before .before .before .before .before .before .before .write-header .ensures) in
-    let f2 = next-filled (linesOf (rowsOf 1 (n .L) (a .nexts .now))) (binaryOutputs n (a .outputs .now) (a .gates .now)) f1 (c .before .before .before .write-lines .ensures) in
-    (search needs, (search needs, (search needs, next-fits (linesOf (rowsOf 1 (n .O) (a .outputs .now))) (gateBytes (map gateOf (rowsOf 3 (n .A) (a .gates .now)))) f2)))
+    let w2 = c .before .before .before in
+    let w1 = w2 .before .before .before .before in
+    let start = w1 .before .before .before .before .before .before in
+    let a = start .args in (
+      search needs,
+      (
+        search needs,
+        (
+          search needs,
+          binary-outputs-fit (a .n) (a .nexts .now) (a .outputs .now) (a .gates .now) (a .out .now) (start .pre .1)
+              (w1 .write-header .ensures) (w2 .write-lines .ensures),
+        ),
+      ),
+    )
 
 write-gates-requires : tie.Need-write-gates-requires
 write-gates-requires c κs =
-    let start = c .before .before .before .before .before .before .before .before .before .before .before .before .before .before .before .before .before in
-    let a = start .args in
-    let n = a .n in
-    let f1 = first-filled (headBytes 105 n) (binaryNexts n (a .nexts .now) (a .outputs .now) (a .gates .now)) (a .out .now) (start .pre .1) (c .before .before .before .before .before .before .before .before .before .before .before .write-header .ensures) in
-    let f2 = next-filled (linesOf (rowsOf 1 (n .L) (a .nexts .now))) (binaryOutputs n (a .outputs .now) (a .gates .now)) f1 (c .before .before .before .before .before .before .before .write-lines .ensures) in
-    let f3 = next-filled (linesOf (rowsOf 1 (n .O) (a .outputs .now))) (gateBytes (map gateOf (rowsOf 3 (n .A) (a .gates .now)))) f2 (c .before .before .before .write-lines2 .ensures) in
-    (search needs, (search needs, f3 .room))
+    let w3 = c .before .before .before in
+    let w2 = w3 .before .before .before .before in
+    let w1 = w2 .before .before .before .before in
+    let start = w1 .before .before .before .before .before .before in
+    let a = start .args in (
+      start .pre .0 .gates-long,
+      (
+        omega (arith, start .pre .0 .counts-most .1 .1 .1 .1 .0),
+        binary-gates-fit (a .n) (a .nexts .now) (a .outputs .now) (a .gates .now) (a .out .now) (start .pre .1)
+            (w1 .write-header .ensures) (w2 .write-lines .ensures) (w3 .write-lines2 .ensures),
+      ),
+    )
 
 same-length : tie.Need-same-length
 same-length c = search needs
 
 returns : tie.Need-returns
 returns c =
-    let start = c .before .before .before .before .before .before .before .before .before .before .before .before .before .before .before .before .before .before .before .before in
+    let w4 = c .before .before in
+    let w3 = w4 .before .before .before .before in
+    let w2 = w3 .before .before .before .before in
+    let w1 = w2 .before .before .before .before in
+    let start = w1 .before .before .before .before .before .before in
     let a = start .args in
-    let n = a .n in
-    let f1 = first-filled (headBytes 105 n) (binaryNexts n (a .nexts .now) (a .outputs .now) (a .gates .now)) (a .out .now) (start .pre .1) (c .before .before .before .before .before .before .before .before .before .before .before .before .before .before .write-header .ensures) in
-    let f2 = next-filled (linesOf (rowsOf 1 (n .L) (a .nexts .now))) (binaryOutputs n (a .outputs .now) (a .gates .now)) f1 (c .before .before .before .before .before .before .before .before .before .before .write-lines .ensures) in
-    let f3 = next-filled (linesOf (rowsOf 1 (n .O) (a .outputs .now))) (gateBytes (map gateOf (rowsOf 3 (n .A) (a .gates .now)))) f2 (c .before .before .before .before .before .before .write-lines2 .ensures) in
-    last-filled (gateBytes (map gateOf (rowsOf 3 (n .A) (a .gates .now)))) f3 (c .before .before .write-gates .ensures)
+    binary-filled (a .n) (a .nexts .now) (a .outputs .now) (a .gates .now) (a .out .now) (start .pre .1)
+    (w1 .write-header .ensures) (w2 .write-lines .ensures) (w3 .write-lines2 .ensures) (w4 .write-gates .ensures)
 
 pub fill-binary-spec : {M : Type 1} → statement M
 fill-binary-spec =

@@ -1,11 +1,5 @@
-use Prim.Native.Nat.{ℕ}
-use mathlib.Core.List.{List}
-use native.Mathlib.Omega.{arith}
 use borrow.Author.Needs.{needs}
-use Rattle.plan.specs.Circuit.{rowsOf}
-use Rattle.plan.specs.Bytes.{linesOf}
-use Rattle.write.specs.Forms.{headBytes, textOutputs, textLatches, textInputs}
-use Rattle.write.proofs.Filled.{first-fits, first-filled, next-fits, next-filled, last-filled}
+use Rattle.write.proofs.Forms.{text-header-fits, inputs-fit, latches-fit, outputs-fit, gates-fit, text-filled}
 use Rattle.write.proofs.fill_text.Statement.{statement}
 use Rattle.write.proofs.fill_text.Tie as tie
 
@@ -13,60 +7,92 @@ write-header-requires : tie.Need-write-header-requires
 write-header-requires c κs =
     let start = c .before .before .before .before .before .before in
     let a = start .args in
-    let n = a .n in
-    (search needs, omega (arith, first-fits (headBytes 97 n) (textInputs n (a .inputs .now) (a .latches .now) (a .outputs .now) (a .gates .now)) (a .out .now) (start .pre .1)))
+    (search needs, text-header-fits (a .n) (a .inputs .now) (a .latches .now) (a .outputs .now) (a .gates .now) (a .out .now) (start .pre .1))
 
 write-lines-requires : tie.Need-write-lines-requires
 write-lines-requires c κs =
-    let start = c .before .before .before .before .before .before .before .before .before .before in
-    let a = start .args in
-    let n = a .n in
-    let f1 = first-filled (headBytes 97 n) (textInputs n (a .inputs .now) (a .latches .now) (a .outputs .now) (a .gates .now)) (a .out .now) (start .pre .1) (c .before .before .before .write-header .ensures) in
-    (search needs, (search needs, (search needs, next-fits (linesOf (rowsOf 1 (n .I) (a .inputs .now))) (textLatches n (a .latches .now) (a .outputs .now) (a .gates .now)) f1)))
+    let w1 = c .before .before .before in
+    let start = w1 .before .before .before .before .before .before .before in
+    let a = start .args in (
+      search needs,
+      (
+        search needs,
+        (
+          search needs,
+          inputs-fit (a .n) (a .inputs .now) (a .latches .now) (a .outputs .now) (a .gates .now) (a .out .now) (start .pre .1)
+              (w1 .write-header .ensures),
+        ),
+      ),
+    )
 
 write-lines-requires-2 : tie.Need-write-lines-requires-2
 write-lines-requires-2 c κs =
-    let start = c .before .before .before .before .before .before .before .before .before .before .before .before .before .before in
-    let a = start .args in
-    let n = a .n in
-    let f1 = first-filled (headBytes 97 n) (textInputs n (a .inputs .now) (a .latches .now) (a .outputs .now) (a .gates .now)) (a .out .now) (start .pre .1) (c .before .before .before .before .before .before .before .write-header .ensures) in
-    let f2 = next-filled (linesOf (rowsOf 1 (n .I) (a .inputs .now))) (textLatches n (a .latches .now) (a .outputs .now) (a .gates .now)) f1 (c .before .before .before .write-lines .ensures) in
-    (search needs, (search needs, (search needs, next-fits (linesOf (rowsOf 2 (n .L) (a .latches .now))) (textOutputs n (a .outputs .now) (a .gates .now)) f2)))
+    let w2 = c .before .before .before in
+    let w1 = w2 .before .before .before .before in
+    let start = w1 .before .before .before .before .before .before .before in
+    let a = start .args in (
+      search needs,
+      (
+        search needs,
+        (
+          search needs,
+          latches-fit (a .n) (a .inputs .now) (a .latches .now) (a .outputs .now) (a .gates .now) (a .out .now) (start .pre .1)
+              (w1 .write-header .ensures) (w2 .write-lines .ensures),
+        ),
+      ),
+    )
 
 write-lines-requires-3 : tie.Need-write-lines-requires-3
 write-lines-requires-3 c κs =
-    let start = c .before .before .before .before .before .before .before .before .before .before .before .before .before .before .before .before .before .before in
-    let a = start .args in
-    let n = a .n in
-    let f1 = first-filled (headBytes 97 n) (textInputs n (a .inputs .now) (a .latches .now) (a .outputs .now) (a .gates .now)) (a .out .now) (start .pre .1) (c .before .before .before .before .before .before .before .before .before .before .before .write-header .ensures) in
-    let f2 = next-filled (linesOf (rowsOf 1 (n .I) (a .inputs .now))) (textLatches n (a .latches .now) (a .outputs .now) (a .gates .now)) f1 (c .before .before .before .before .before .before .before .write-lines .ensures) in
-    let f3 = next-filled (linesOf (rowsOf 2 (n .L) (a .latches .now))) (textOutputs n (a .outputs .now) (a .gates .now)) f2 (c .before .before .before .write-lines2 .ensures) in
-    (search needs, (search needs, (search needs, next-fits (linesOf (rowsOf 1 (n .O) (a .outputs .now))) (linesOf (rowsOf 3 (n .A) (a .gates .now))) f3)))
+    let w3 = c .before .before .before in
+    let w2 = w3 .before .before .before .before in
+    let w1 = w2 .before .before .before .before in
+    let start = w1 .before .before .before .before .before .before .before in
+    let a = start .args in (
+      search needs,
+      (
+        search needs,
+        (
+          search needs,
+          outputs-fit (a .n) (a .inputs .now) (a .latches .now) (a .outputs .now) (a .gates .now) (a .out .now) (start .pre .1)
+              (w1 .write-header .ensures) (w2 .write-lines .ensures) (w3 .write-lines2 .ensures),
+        ),
+      ),
+    )
 
 write-lines-requires-4 : tie.Need-write-lines-requires-4
 write-lines-requires-4 c κs =
-    let start = c .before .before .before .before .before .before .before .before .before .before .before .before .before .before .before .before .before .before .before .before .before .before in
-    let a = start .args in
-    let n = a .n in
-    let f1 = first-filled (headBytes 97 n) (textInputs n (a .inputs .now) (a .latches .now) (a .outputs .now) (a .gates .now)) (a .out .now) (start .pre .1) (c .before .before .before .before .before .before .before .before .before .before .before .before .before .before .before .write-header .ensures) in
-    let f2 = next-filled (linesOf (rowsOf 1 (n .I) (a .inputs .now))) (textLatches n (a .latches .now) (a .outputs .now) (a .gates .now)) f1 (c .before .before .before .before .before .before .before .before .before .before .before .write-lines .ensures) in
-    let f3 = next-filled (linesOf (rowsOf 2 (n .L) (a .latches .now))) (textOutputs n (a .outputs .now) (a .gates .now)) f2 (c .before .before .before .before .before .before .before .write-lines2 .ensures) in
-    let f4 = next-filled (linesOf (rowsOf 1 (n .O) (a .outputs .now))) (linesOf (rowsOf 3 (n .A) (a .gates .now))) f3 (c .before .before .before .write-lines3 .ensures) in
-    (search needs, (search needs, (search needs, f4 .room)))
+    let w4 = c .before .before .before in
+    let w3 = w4 .before .before .before .before in
+    let w2 = w3 .before .before .before .before in
+    let w1 = w2 .before .before .before .before in
+    let start = w1 .before .before .before .before .before .before .before in
+    let a = start .args in (
+      search needs,
+      (
+        search needs,
+        (
+          search needs,
+          gates-fit (a .n) (a .inputs .now) (a .latches .now) (a .outputs .now) (a .gates .now) (a .out .now) (start .pre .1)
+              (w1 .write-header .ensures) (w2 .write-lines .ensures) (w3 .write-lines2 .ensures) (w4 .write-lines3 .ensures),
+        ),
+      ),
+    )
 
 same-length : tie.Need-same-length
 same-length c = search needs
 
 returns : tie.Need-returns
 returns c =
-    let start = c .before .before .before .before .before .before .before .before .before .before .before .before .before .before .before .before .before .before .before .before .before .before .before .before .before in
+    let w5 = c .before .before in
+    let w4 = w5 .before .before .before .before in
+    let w3 = w4 .before .before .before .before in
+    let w2 = w3 .before .before .before .before in
+    let w1 = w2 .before .before .before .before in
+    let start = w1 .before .before .before .before .before .before .before in
     let a = start .args in
-    let n = a .n in
-    let f1 = first-filled (headBytes 97 n) (textInputs n (a .inputs .now) (a .latches .now) (a .outputs .now) (a .gates .now)) (a .out .now) (start .pre .1) (c .before .before .before .before .before .before .before .before .before .before .before .before .before .before .before .before .before .before .write-header .ensures) in
-    let f2 = next-filled (linesOf (rowsOf 1 (n .I) (a .inputs .now))) (textLatches n (a .latches .now) (a .outputs .now) (a .gates .now)) f1 (c .before .before .before .before .before .before .before .before .before .before .before .before .before .before .write-lines .ensures) in
-    let f3 = next-filled (linesOf (rowsOf 2 (n .L) (a .latches .now))) (textOutputs n (a .outputs .now) (a .gates .now)) f2 (c .before .before .before .before .before .before .before .before .before .before .write-lines2 .ensures) in
-    let f4 = next-filled (linesOf (rowsOf 1 (n .O) (a .outputs .now))) (linesOf (rowsOf 3 (n .A) (a .gates .now))) f3 (c .before .before .before .before .before .before .write-lines3 .ensures) in
-    last-filled (linesOf (rowsOf 3 (n .A) (a .gates .now))) f4 (c .before .before .write-lines4 .ensures)
+    text-filled (a .n) (a .inputs .now) (a .latches .now) (a .outputs .now) (a .gates .now) (a .out .now) (start .pre .1)
+    (w1 .write-header .ensures) (w2 .write-lines .ensures) (w3 .write-lines2 .ensures) (w4 .write-lines3 .ensures) (w5 .write-lines4 .ensures)
 
 pub fill-text-spec : {M : Type 1} → statement M
 fill-text-spec =

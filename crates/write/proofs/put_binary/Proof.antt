@@ -28,31 +28,42 @@ same-length c = search needs
 
 returns : tie.Need-returns
 returns c =
-    let start = c .before .before .before .before .before .before .before .before .before .before .before .before .before .before .before in
+    let test = c .before in
+    let counted = test .before .before in
+    let took = counted .before .before .before .before in
+    let start = took .before .before .before .before .before .before .before .before in
     let a = start .args in
-    let table = c .before .before .before .before .before .before .before .gather .last .1 .1 .0 in
+    let table = took .gather .last .1 .1 .0 in
     let bytes = binaryBytes (a .n) table (a .outputs .now) (a .gates .now) in
-    no-room bytes (a .tail .now) (a .out .now) (c .before .before .before .binary-length .ensures) (c .before .before .holds .ensures) (not-true _ (c .before .if1 .taken)) (c .needed .ensures)
-    ∙ ap (λ (form : List ℕ). putBytes (a .out .now) 0 (form ++ a .tail .now))
-    (gathered (a .n) (a .latches .now) (a .outputs .now) (a .gates .now) (a .scratch .now) table
-    (omega (arith, start .pre .0 .nexts-long, c .before .before .before .before .before .before .scratch .given)) (c .before .before .before .before .before .before .before .gather .ensures))
+    let same =
+    gathered (a .n) (a .latches .now) (a .outputs .now) (a .gates .now) (a .scratch .now) table
+    (omega (arith, start .pre .0 .nexts-long, took .gather .kept .1 .1 .0)) (took .gather .ensures) in
+    no-room bytes (a .tail .now) (a .out .now) (counted .binary-length .ensures) (test .before .holds .ensures) (not-true _ (test .if1 .taken)) (c .needed .ensures)
+    ∙ ap (λ (form : List ℕ). putBytes (a .out .now) 0 (form ++ a .tail .now)) same
 
 fill-binary-requires : tie.Need-fill-binary-requires
 fill-binary-requires c κs =
-    let start = c .before .before .before .before .before .before .before .before .before .before .before .before .before .before .before .before in
+    let test = c .before .before in
+    let counted = test .before .before in
+    let took = counted .before .before .before .before in
+    let start = took .before .before .before .before .before .before .before .before in
     let a = start .args in
-    let table = c .before .before .before .before .before .before .before .before .gather .last .1 .1 .0 in
+    let table = took .gather .last .1 .1 .0 in
     let bytes = binaryBytes (a .n) table (a .outputs .now) (a .gates .now) in
-    (search needs, form-fits bytes (a .tail .now) (a .out .now) (c .before .before .before .before .binary-length .ensures) (c .before .before .before .holds .ensures) (not-false _ (c .before .before .if1 .left)))
+    (search needs, form-fits bytes (a .tail .now) (a .out .now) (counted .binary-length .ensures) (test .before .holds .ensures) (not-false _ (test .if1 .left)))
 
 append-requires : tie.Need-append-requires
 append-requires c κs =
-    let start = c .before .before .before .before .before .before .before .before .before .before .before .before .before .before .before .before .before .before .before .before in
+    let filled = c .before .before .before in
+    let test = filled .before .before .before in
+    let counted = test .before .before in
+    let took = counted .before .before .before .before in
+    let start = took .before .before .before .before .before .before .before .before in
     let a = start .args in
-    let table = c .before .before .before .before .before .before .before .before .before .before .before .before .gather .last .1 .1 .0 in
+    let table = took .gather .last .1 .1 .0 in
     let bytes = binaryBytes (a .n) table (a .outputs .now) (a .gates .now) in
-    tail-fits bytes (a .tail .now) (a .out .now) (c .before .before .before .before .before .before .before .before .binary-length .ensures) (c .before .before .before .before .before .before .before .holds .ensures) (not-false _ (c .before .before .before .before .before .before .if1 .left))
-    (c .before .before .before .fill-binary .ensures)
+    tail-fits bytes (a .tail .now) (a .out .now) (counted .binary-length .ensures) (test .before .holds .ensures) (not-false _ (test .if1 .left))
+    (filled .fill-binary .ensures)
 
 same-length-2 : tie.Need-same-length-2
 same-length-2 c = search needs
@@ -62,15 +73,21 @@ same-length-3 c = search needs
 
 returns-2 : tie.Need-returns-2
 returns-2 c =
-    let start = c .before .before .before .before .before .before .before .before .before .before .before .before .before .before .before .before .before .before .before .before .before .before .before in
+    let appended = c .before .before in
+    let filled = appended .before .before .before .before in
+    let test = filled .before .before .before in
+    let counted = test .before .before in
+    let took = counted .before .before .before .before in
+    let start = took .before .before .before .before .before .before .before .before in
     let a = start .args in
-    let table = c .before .before .before .before .before .before .before .before .before .before .before .before .before .before .before .gather .last .1 .1 .0 in
+    let table = took .gather .last .1 .1 .0 in
     let bytes = binaryBytes (a .n) table (a .outputs .now) (a .gates .now) in
-    all-put bytes (a .tail .now) (a .out .now) (c .before .before .before .before .before .before .before .before .before .before .before .binary-length .ensures) (c .before .before .before .before .before .before .before .before .before .before .holds .ensures) (not-false _ (c .before .before .before .before .before .before .before .before .before .if1 .left))
-    (c .before .before .before .before .before .before .fill-binary .ensures) (c .before .before .append .ensures)
-    ∙ ap (λ (form : List ℕ). putBytes (a .out .now) 0 (form ++ a .tail .now))
-    (gathered (a .n) (a .latches .now) (a .outputs .now) (a .gates .now) (a .scratch .now) table
-    (omega (arith, start .pre .0 .nexts-long, c .before .before .before .before .before .before .before .before .before .before .before .before .before .before .scratch .given)) (c .before .before .before .before .before .before .before .before .before .before .before .before .before .before .before .gather .ensures))
+    let same =
+    gathered (a .n) (a .latches .now) (a .outputs .now) (a .gates .now) (a .scratch .now) table
+    (omega (arith, start .pre .0 .nexts-long, took .gather .kept .1 .1 .0)) (took .gather .ensures) in
+    all-put bytes (a .tail .now) (a .out .now) (counted .binary-length .ensures) (test .before .holds .ensures) (not-false _ (test .if1 .left))
+    (filled .fill-binary .ensures) (appended .append .ensures)
+    ∙ ap (λ (form : List ℕ). putBytes (a .out .now) 0 (form ++ a .tail .now)) same
 
 pub put-binary-spec : {M : Type 1} → statement M
 put-binary-spec =

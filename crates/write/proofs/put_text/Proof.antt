@@ -1,5 +1,3 @@
-use mathlib.Core.Path.{refl}
-use native.Mathlib.Omega.{arith}
 use borrow.Author.Needs.{needs}
 use borrow.Author.Tests.{not-true, not-false}
 use Rattle.write.specs.Forms.{textBytes}
@@ -18,34 +16,43 @@ needed-requires c κs = search needs
 
 returns : tie.Need-returns
 returns c =
-    let a = c .before .before .before .before .before .before .before .before .before .before .args in
-    no-room (textBytes (a .n) (a .inputs .now) (a .latches .now) (a .outputs .now) (a .gates .now)) (a .tail .now) (a .out .now) (c .before .before .before .text-length .ensures) (c .before .before .holds .ensures)
-    (not-true _ (c .before .if1 .taken)) (c .needed .ensures)
+    let test = c .before in
+    let counted = test .before .before in
+    let a = counted .before .before .before .before .before .before .before .args in
+    let bytes = textBytes (a .n) (a .inputs .now) (a .latches .now) (a .outputs .now) (a .gates .now) in
+    no-room bytes (a .tail .now) (a .out .now) (counted .text-length .ensures) (test .before .holds .ensures) (not-true _ (test .if1 .taken)) (c .needed .ensures)
 
 fill-text-requires : tie.Need-fill-text-requires
 fill-text-requires c κs =
-    let a = c .before .before .before .before .before .before .before .before .before .before .args in (
-      search needs,
-      form-fits (textBytes (a .n) (a .inputs .now) (a .latches .now) (a .outputs .now) (a .gates .now)) (a .tail .now) (a .out .now) (c .before .before .before .text-length .ensures) (c .before .before .holds .ensures)
-          (not-false _ (c .before .if1 .left)),
-    )
+    let test = c .before in
+    let counted = test .before .before in
+    let a = counted .before .before .before .before .before .before .before .args in
+    let bytes = textBytes (a .n) (a .inputs .now) (a .latches .now) (a .outputs .now) (a .gates .now) in
+    (search needs, form-fits bytes (a .tail .now) (a .out .now) (counted .text-length .ensures) (test .before .holds .ensures) (not-false _ (test .if1 .left)))
 
 append-requires : tie.Need-append-requires
 append-requires c κs =
-    let a = c .before .before .before .before .before .before .before .before .before .before .before .before .before .before .args in
-    tail-fits (textBytes (a .n) (a .inputs .now) (a .latches .now) (a .outputs .now) (a .gates .now)) (a .tail .now) (a .out .now) (c .before .before .before .before .before .before .before .text-length .ensures) (c .before .before .before .before .before .before .holds .ensures)
-    (not-false _ (c .before .before .before .before .before .if1 .left))
-    (c .before .before .before .fill-text .ensures)
+    let filled = c .before .before .before in
+    let test = filled .before .before in
+    let counted = test .before .before in
+    let a = counted .before .before .before .before .before .before .before .args in
+    let bytes = textBytes (a .n) (a .inputs .now) (a .latches .now) (a .outputs .now) (a .gates .now) in
+    tail-fits bytes (a .tail .now) (a .out .now) (counted .text-length .ensures) (test .before .holds .ensures) (not-false _ (test .if1 .left))
+    (filled .fill-text .ensures)
 
 same-length : tie.Need-same-length
 same-length c = search needs
 
 returns-2 : tie.Need-returns-2
 returns-2 c =
-    let a = c .before .before .before .before .before .before .before .before .before .before .before .before .before .before .before .before .before .args in
-    all-put (textBytes (a .n) (a .inputs .now) (a .latches .now) (a .outputs .now) (a .gates .now)) (a .tail .now) (a .out .now) (c .before .before .before .before .before .before .before .before .before .before .text-length .ensures) (c .before .before .before .before .before .before .before .before .before .holds .ensures)
-    (not-false _ (c .before .before .before .before .before .before .before .before .if1 .left))
-    (c .before .before .before .before .before .before .fill-text .ensures) (c .before .before .append .ensures)
+    let appended = c .before .before in
+    let filled = appended .before .before .before .before in
+    let test = filled .before .before in
+    let counted = test .before .before in
+    let a = counted .before .before .before .before .before .before .before .args in
+    let bytes = textBytes (a .n) (a .inputs .now) (a .latches .now) (a .outputs .now) (a .gates .now) in
+    all-put bytes (a .tail .now) (a .out .now) (counted .text-length .ensures) (test .before .holds .ensures) (not-false _ (test .if1 .left))
+    (filled .fill-text .ensures) (appended .append .ensures)
 
 pub put-text-spec : {M : Type 1} → statement M
 put-text-spec =
