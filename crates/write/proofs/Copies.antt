@@ -4,7 +4,7 @@ use mathlib.Core.Path.{_≡_, refl, sym, ap, ap₂, _∙_}
 use mathlib.Core.List.{List, [], _∷_, _++_, map}
 use native.Mathlib.Numerals.{add-one}
 use native.Mathlib.Omega.{arith}
-use lib.ListN.{length, getD, take, set, length-append}
+use lib.ListN.{length, getD, set, length-append}
 use lib.Seq.{take-length}
 use Rattle.plan.specs.Circuit.{Latch, latchOf, rowsOf, nexts}
 use Rattle.plan.specs.Outcome.{put}
@@ -61,7 +61,9 @@ nexts-append (l ∷ a) b = ap (λ (x : List ℕ). l .next ∷ x) (nexts-append a
 
 nexts-firsts : (t : List ℕ) (n : ℕ) → nexts (firsts (latchAt t) n) ≡ firsts (nextAt t) n
 nexts-firsts t zero = refl
-nexts-firsts t (suc n) = nexts-append (firsts (latchAt t) n) (latchAt t n ∷ []) ∙ ap (λ (x : List ℕ). x ++ (nextAt t n ∷ [])) (nexts-firsts t n)
+nexts-firsts t (suc n) =
+    nexts-append (firsts (latchAt t) n) (latchAt t n ∷ [])
+    ∙ ap (λ (x : List ℕ). x ++ (nextAt t n ∷ [])) (nexts-firsts t n)
 
 pub nexts-words : (t : List ℕ) (n : ℕ) → firsts (nextAt t) n ≡ nexts (map latchOf (rowsOf 2 n t))
 nexts-words t n = sym (ap nexts (latches-rows t n) ∙ nexts-firsts t n)

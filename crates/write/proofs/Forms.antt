@@ -14,7 +14,8 @@ use Rattle.write.specs.Forms.{headBytes, textOutputs, textLatches, textI
 use Rattle.write.proofs.Filled.{Puts, first-fits, first-filled, next-fits, next-filled, last-filled}
 
 -- the header, then the lines of inputs, latches, outputs, gates
-module _ (n : Counts) (inputs latches outputs gates out : List ℕ) (fits : length (textBytes n inputs latches outputs gates) ≤ length out) where
+module _ (n : Counts) (inputs latches outputs gates out : List ℕ)
+    (fits : length (textBytes n inputs latches outputs gates) ≤ length out) where
   abbrev rest : List ℕ
   rest = textInputs n inputs latches outputs gates
 

@@ -1,7 +1,7 @@
 -- The header line: four bytes, then the counts as one line of five words.
 use Prim.Native.Nat.{ℕ, _+_, _≤_}
-use mathlib.Core.Path.{_≡_, refl, sym, ap, _∙_}
-use mathlib.Core.List.{List, [], _∷_, _++_, append-nil}
+use mathlib.Core.Path.{_≡_, refl, ap, _∙_}
+use mathlib.Core.List.{List, [], _∷_, append-nil}
 use native.Mathlib.Omega.{arith}
 use lib.ListN.{length, set}
 use Rattle.plan.specs.declared.Counts.{Counts}
@@ -29,7 +29,8 @@ four-put (a ∷ b ∷ []) letter h = absurd (omega arith)
 four-put (a ∷ b ∷ c ∷ []) letter h = absurd (omega arith)
 four-put (a ∷ b ∷ c ∷ d ∷ out) letter h = refl
 
-module _ (out : List ℕ) (letter : ℕ) (n : Counts) (fits : length (headBytes letter n) ≤ length out) (words : List ℕ) (words-are : words ≡ listOf n) where
+module _ (out : List ℕ) (letter : ℕ) (n : Counts) (fits : length (headBytes letter n) ≤ length out)
+    (words : List ℕ) (words-are : words ≡ listOf n) where
   pub line-fits : 4 + length (linesOf (rowsOf 5 1 words)) ≤ length out
   line-fits = omega (arith, ap length (line-of-five words n words-are))
 

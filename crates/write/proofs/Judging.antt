@@ -1,12 +1,11 @@
 -- Stages one after another: the first refusal wins.
-use Prim.Native.Nat.{ℕ, _+_, _≤_}
+use Prim.Native.Nat.{ℕ}
 use mathlib.Core.Path.{_≡_, refl, sym, ap, _∙_}
-use mathlib.Core.Bool.{Bool, true, false}
+use mathlib.Core.Bool.{Bool}
 use mathlib.Core.Option.{Option, none, some}
 use mathlib.Core.List.{List, [], _∷_, _++_}
 use native.Mathlib.Omega.{arith}
-use lib.ListN.{length, getD, replicate, length-replicate}
-use Rattle.plan.specs.declared.Counts.{Counts}
+use lib.ListN.{length, getD, length-replicate}
 use Rattle.plan.specs.declared.Checked.{Checked}
 use Rattle.plan.specs.declared.Checked.the-variants as checked
 use Rattle.plan.specs.declared.Refusal.{Refusal}
@@ -45,12 +44,12 @@ module _ (xs : List (Option Refusal)) (o : Option Refusal) {answer : Checked} (s
   good-before e = goes-on xs o (good-none (firstOf xs) (sym e ∙ says))
 
 -- tables that are good, and those that are good before a tail that is
-pub good-tables : (ordered : Bool) (g : Given) {answer : Checked} → answer ≡ checkedBy (firstOf (tableStages ordered g)) → answer ≡ checked.Good
-    → Good ordered g
+pub good-tables : (ordered : Bool) (g : Given) {answer : Checked} → answer ≡ checkedBy (firstOf (tableStages ordered g))
+    → answer ≡ checked.Good → Good ordered g
 good-tables ordered g says e = good-alone ordered g (good-none (firstOf (tableStages ordered g)) (sym e ∙ says))
 
-pub good-judged : (ordered : Bool) (g : Given) (tail : List ℕ) {answer : Checked} → answer ≡ checkedBy (firstOf (writerStages ordered g tail))
-    → answer ≡ checked.Good → Good ordered g
+pub good-judged : (ordered : Bool) (g : Given) (tail : List ℕ) {answer : Checked}
+    → answer ≡ checkedBy (firstOf (writerStages ordered g tail)) → answer ≡ checked.Good → Good ordered g
 good-judged ordered g tail says e =
     good-alone ordered g
     (passed (tableStages ordered g) _ (good-none (firstOf (writerStages ordered g tail)) (sym e ∙ says)))

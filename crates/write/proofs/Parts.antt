@@ -68,7 +68,8 @@ module _ (n : Counts) (inputs latches outputs gates : List ℕ) (f : Fits n inpu
   pub text-parts : textBytes n inputs latches outputs gates ≡ textOf (circuitIn n inputs latches outputs gates)
   text-parts i = headBytes 97 (counts-are i) ++ (input-lines i ++ (latch-lines i ++ (output-lines i ++ gate-lines i)))
 
-  pub binary-parts : binaryBytes n (nexts (map latchOf (rowsOf 2 (n .L) latches))) outputs gates ≡ binaryOf (circuitIn n inputs latches outputs gates)
+  pub binary-parts : binaryBytes n (nexts (map latchOf (rowsOf 2 (n .L) latches))) outputs gates
+      ≡ binaryOf (circuitIn n inputs latches outputs gates)
   binary-parts i =
       headBytes 105 (counts-are i) ++ (linesOf (sym (next-rows latches (n .L)) i)
       ++ (output-lines i ++ gateBytes (map gateOf (rowsOf 3 (n .A) gates))))

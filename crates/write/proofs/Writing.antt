@@ -6,7 +6,7 @@ use mathlib.Core.List.{List}
 use Rattle.plan.specs.declared.Refusal.{Refusal}
 use Rattle.plan.specs.declared.Refusal.the-variants.{ShortBuffer}
 use Rattle.plan.specs.declared.Written.{Written}
-use Rattle.plan.specs.declared.Written.the-variants.{Bytes, Refused}
+use Rattle.plan.specs.declared.Written.the-variants.{Refused}
 use Rattle.plan.specs.Refusals.{stage}
 use Rattle.plan.specs.Circuit.{cleared}
 use Rattle.plan.specs.Given.{room, roomStage}
@@ -16,7 +16,8 @@ module _ (e : FileEntry) (bytes : List ℕ) (o : Option Refusal) {scratch : List
   pub refused-file : (r : Refusal) → o ≡ some r
       → _≡_ {A = FileExit} (record { answer = Refused r; scratch = scratch; out = e .out }) (writtenBy o e bytes)
   refused-file r q =
-      ap (λ (s : List ℕ). record { answer = Refused r; scratch = s; out = e .out }) blank ∙ ap (λ (p : Option Refusal). writtenBy p e bytes) (sym q)
+      ap (λ (s : List ℕ). record { answer = Refused r; scratch = s; out = e .out }) blank
+      ∙ ap (λ (p : Option Refusal). writtenBy p e bytes) (sym q)
 
   pub written-file : {answer : Written} {out : List ℕ} → o ≡ roomStage (e .out) bytes
       → _≡_ {A = WriteExit} (record { answer = answer; out = out }) (putBytes (e .out) 0 bytes)

@@ -8,7 +8,7 @@ ghost use Rattle.plan.specs.Literals.{most};
 ghost use Rattle.plan.specs.Refusals.{firstOf};
 ghost use Rattle.plan.specs.Circuit.{latchOf, rowsOf, nexts, cleared};
 ghost use Rattle.plan.specs.Header.{listOf};
-ghost use Rattle.plan.specs.Outcome.{Says, put, putBytes, checkedBy, checkBy, writeText, writeBinary};
+ghost use Rattle.plan.specs.Outcome.{Says, put, putBytes, checkedBy, writeText, writeBinary};
 ghost use Rattle.theorems.proofs.Reading.Headers.{AllMost};
 ghost use Rattle.tables.specs.Held.{Fits};
 ghost use Rattle.write.specs.Forms.{headBytes, textBytes, binaryBytes, Printable};
@@ -81,7 +81,8 @@ fn fill_text(
     requires { ⌜ Fits n (now inputs) (now latches) (now outputs) (now gates) ⌝ }
     requires { ⌜ length (textBytes n (now inputs) (now latches) (now outputs) (now gates)) ≤ length (now out) ⌝ }
     ensures { λ r. ⌜ r ≡ length (textBytes n (now (inputs .entry)) (now (latches .entry)) (now (outputs .entry)) (now (gates .entry))) ⌝ }
-    ensures { λ _. ⌜ now (out .exit) ≡ put (now (out .entry)) 0 (textBytes n (now (inputs .entry)) (now (latches .entry)) (now (outputs .entry)) (now (gates .entry))) ⌝ }
+    ensures { λ _. ⌜ now (out .exit) ≡ put (now (out .entry)) 0
+        (textBytes n (now (inputs .entry)) (now (latches .entry)) (now (outputs .entry)) (now (gates .entry))) ⌝ }
 {
     let first_input = write_header(out, b'a', n);
     let first_latch = write_lines(out, first_input, inputs, 1, n.I);
@@ -119,7 +120,8 @@ fn fill_binary(out: &mut [u8], n: Counts, nexts: &[u32], outputs: &[u32], gates:
     requires { ⌜ Printable n (now nexts) (now outputs) (now gates) ⌝ }
     requires { ⌜ length (binaryBytes n (now nexts) (now outputs) (now gates)) ≤ length (now out) ⌝ }
     ensures { λ r. ⌜ r ≡ length (binaryBytes n (now (nexts .entry)) (now (outputs .entry)) (now (gates .entry))) ⌝ }
-    ensures { λ _. ⌜ now (out .exit) ≡ put (now (out .entry)) 0 (binaryBytes n (now (nexts .entry)) (now (outputs .entry)) (now (gates .entry))) ⌝ }
+    ensures { λ _. ⌜ now (out .exit) ≡ put (now (out .entry)) 0
+        (binaryBytes n (now (nexts .entry)) (now (outputs .entry)) (now (gates .entry))) ⌝ }
 {
     let first_next = write_header(out, b'i', n);
     let first_output = write_lines(out, first_next, nexts, 1, n.L);
@@ -152,7 +154,8 @@ fn put_text(
     out: &mut [u8],
 ) -> Written
     requires { ⌜ Fits n (now inputs) (now latches) (now outputs) (now gates) ⌝ }
-    ensures { λ r. ⌜ record { answer = r; out = now (out .exit) } ≡ putBytes (now (out .entry)) 0 (textBytes n (now (inputs .entry)) (now (latches .entry)) (now (outputs .entry)) (now (gates .entry)) ++ now (tail .entry)) ⌝ }
+    ensures { λ r. ⌜ record { answer = r; out = now (out .exit) } ≡ putBytes (now (out .entry)) 0
+        (textBytes n (now (inputs .entry)) (now (latches .entry)) (now (outputs .entry)) (now (gates .entry)) ++ now (tail .entry)) ⌝ }
 {
     let text = text_length(n, inputs, latches, outputs, gates);
     if !room::holds(out.len(), text, tail.len()) {
@@ -174,7 +177,9 @@ fn put_binary(
 ) -> Written
     requires { ⌜ Printable n (now scratch) (now outputs) (now gates) ⌝ }
     requires { ⌜ 2 * n .L ≤ length (now latches) ⌝ }
-    ensures { λ r. ⌜ record { answer = r; out = now (out .exit) } ≡ putBytes (now (out .entry)) 0 (binaryBytes n (nexts (map latchOf (rowsOf 2 (n .L) (now (latches .entry))))) (now (outputs .entry)) (now (gates .entry)) ++ now (tail .entry)) ⌝ }
+    ensures { λ r. ⌜ record { answer = r; out = now (out .exit) } ≡ putBytes (now (out .entry)) 0
+        (binaryBytes n (nexts (map latchOf (rowsOf 2 (n .L) (now (latches .entry))))) (now (outputs .entry)) (now (gates .entry))
+        ++ now (tail .entry)) ⌝ }
 {
     gather(latches, n.L, scratch);
     let binary = binary_length(n, scratch, outputs, gates);
@@ -195,7 +200,9 @@ fn check_tables(
     scratch: &mut [u32],
     ordered: bool,
 ) -> Checked
-    ensures { λ r. ⌜ record { answer = r; scratch = now (scratch .exit) } ≡ checkBy (tableStages ordered (givenIn n (now (inputs .entry)) (now (latches .entry)) (now (outputs .entry)) (now (gates .entry)) (now (scratch .entry)))) (givenIn n (now (inputs .entry)) (now (latches .entry)) (now (outputs .entry)) (now (gates .entry)) (now (scratch .entry))) ⌝ }
+    ensures { λ r. ⌜ r ≡ checkedBy (firstOf (tableStages ordered
+        (givenIn n (now (inputs .entry)) (now (latches .entry)) (now (outputs .entry)) (now (gates .entry)) (now (scratch .entry))))) ⌝ }
+    ensures { λ _. ⌜ now (scratch .exit) ≡ cleared (now (scratch .entry)) ⌝ }
 {
     if ordered {
         return given::check_in_order(n, inputs, latches, outputs, gates, scratch);
@@ -214,7 +221,9 @@ fn judge(
     tail: &[u8],
     ordered: bool,
 ) -> Checked
-    ensures { λ r. ⌜ r ≡ checkedBy (firstOf (writerStages ordered (givenIn n (now (inputs .entry)) (now (latches .entry)) (now (outputs .entry)) (now (gates .entry)) (now (scratch .entry))) (now (tail .entry)))) ⌝ }
+    ensures { λ r. ⌜ r ≡ checkedBy (firstOf (writerStages ordered
+        (givenIn n (now (inputs .entry)) (now (latches .entry)) (now (outputs .entry)) (now (gates .entry)) (now (scratch .entry)))
+        (now (tail .entry)))) ⌝ }
     ensures { λ _. ⌜ now (scratch .exit) ≡ cleared (now (scratch .entry)) ⌝ }
 {
     match check_tables(n, inputs, latches, outputs, gates, scratch, ordered) {
@@ -240,7 +249,20 @@ pub fn write_text(
     out: &mut [u8],
 ) -> Written
     ensures { λ r. ⌜ Says writeText
-        (record { circuit = (record { counts = n; tables = (record { inputs = now (inputs .entry); latches = now (latches .entry); outputs = now (outputs .entry); gates = now (gates .entry) }); scratch = now (scratch .entry) }); tail = now (tail .entry); out = now (out .entry) })
+        (record {
+          circuit = (record {
+            counts = n;
+            tables = (record {
+              inputs = now (inputs .entry);
+              latches = now (latches .entry);
+              outputs = now (outputs .entry);
+              gates = now (gates .entry);
+            });
+            scratch = now (scratch .entry);
+          });
+          tail = now (tail .entry);
+          out = now (out .entry);
+        })
         (record { answer = r; scratch = now (scratch .exit); out = now (out .exit) }) ⌝ }
 {
     match judge(n, inputs, latches, outputs, gates, scratch, tail, false) {
@@ -262,7 +284,20 @@ pub fn write_binary(
     out: &mut [u8],
 ) -> Written
     ensures { λ r. ⌜ Says writeBinary
-        (record { circuit = (record { counts = n; tables = (record { inputs = now (inputs .entry); latches = now (latches .entry); outputs = now (outputs .entry); gates = now (gates .entry) }); scratch = now (scratch .entry) }); tail = now (tail .entry); out = now (out .entry) })
+        (record {
+          circuit = (record {
+            counts = n;
+            tables = (record {
+              inputs = now (inputs .entry);
+              latches = now (latches .entry);
+              outputs = now (outputs .entry);
+              gates = now (gates .entry);
+            });
+            scratch = now (scratch .entry);
+          });
+          tail = now (tail .entry);
+          out = now (out .entry);
+        })
         (record { answer = r; scratch = now (scratch .exit); out = now (out .exit) }) ⌝ }
 {
     match judge(n, inputs, latches, outputs, gates, scratch, tail, true) {

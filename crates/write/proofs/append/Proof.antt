@@ -1,6 +1,6 @@
-use Prim.Native.Nat.{_+_, _-_}
+-- Each turn copies one byte.
+use Prim.Native.Nat.{_-_}
 use mathlib.Core.Path.{refl, ap, _∙_}
-use mathlib.Core.List.{List}
 use native.Mathlib.Omega.{arith}
 use lib.ListN.{length}
 use borrow.Author.Needs.{needs}

@@ -1,3 +1,4 @@
+-- The lengths of the four parts, added.
 use mathlib.Core.List.{map}
 use Rattle.plan.specs.Circuit.{rowsOf, gateOf}
 use Rattle.plan.specs.Bytes.{linesOf}
@@ -31,12 +32,14 @@ add-result-3 c = search needs
 
 returns : tie.Need-returns
 returns c =
-    let a = c .before .before .before .before .before .before .before .args in
+    let outs = c .before in
+    let nexts = outs .before in
+    let head = nexts .before in
+    let a = head .before .before .before .before .args in
     let n = a .n in
     four-parts (headBytes 97 n) (linesOf (rowsOf 1 (n .L) (a .nexts .now))) (linesOf (rowsOf 1 (n .O) (a .outputs .now)))
     (gateBytes (map gateOf (rowsOf 3 (n .A) (a .gates .now))))
-    (c .before .before .before .header-length .ensures .0) (c .before .before .lines-length .ensures .0) (c .before .lines-length2 .ensures .0)
-    (c .gates-length .ensures .0)
+    (head .header-length .ensures .0) (nexts .lines-length .ensures .0) (outs .lines-length2 .ensures .0) (c .gates-length .ensures .0)
 
 pub binary-length-spec : {M : Type 1} → statement M
 binary-length-spec =

@@ -1,8 +1,10 @@
+-- The stages with 15, or without.
 use mathlib.Core.Path.{sym, ap, _∙_}
 use mathlib.Core.Bool.{Bool}
-use Rattle.plan.specs.Outcome.{checkBy}
-use Rattle.write.specs.Judged.{givenIn, tableStages}
 use borrow.Author.Needs.{needs}
+use Rattle.plan.specs.Refusals.{firstOf}
+use Rattle.plan.specs.Outcome.{CheckExit, checkedBy}
+use Rattle.write.specs.Judged.{givenIn, tableStages}
 use Rattle.write.proofs.check_tables.Statement.{statement}
 use Rattle.write.proofs.check_tables.Tie as tie
 
@@ -14,9 +16,15 @@ same-length c = search needs
 
 returns : tie.Need-returns
 returns c =
-    let a = c .before .before .before .before .before .before .before .before .before .before .args in
+    let checked = c .before .before in
+    let test = checked .before .before in
+    let a = test .before .before .before .before .before .before .args in
     let g = givenIn (a .n) (a .inputs .now) (a .latches .now) (a .outputs .now) (a .gates .now) (a .scratch .now) in
-    c .before .before .check-in-order .ensures ∙ ap (λ (ordered : Bool). checkBy (tableStages ordered g) g) (sym (c .before .before .before .before .if1 .taken))
+    let exit = checked .check-in-order .ensures in (
+      ap (λ (x : CheckExit). x .answer) exit
+          ∙ ap (λ (ordered : Bool). checkedBy (firstOf (tableStages ordered g))) (sym (test .if1 .taken)),
+      ap (λ (x : CheckExit). x .scratch) exit,
+    )
 
 check-requires : tie.Need-check-requires
 check-requires c κs = search needs
@@ -26,9 +34,15 @@ same-length-2 c = search needs
 
 returns-2 : tie.Need-returns-2
 returns-2 c =
-    let a = c .before .before .before .before .before .before .before .before .before .before .args in
+    let checked = c .before .before in
+    let test = checked .before .before in
+    let a = test .before .before .before .before .before .before .args in
     let g = givenIn (a .n) (a .inputs .now) (a .latches .now) (a .outputs .now) (a .gates .now) (a .scratch .now) in
-    c .before .before .check .ensures ∙ ap (λ (ordered : Bool). checkBy (tableStages ordered g) g) (sym (c .before .before .before .before .if1 .left))
+    let exit = checked .check .ensures in (
+      ap (λ (x : CheckExit). x .answer) exit
+          ∙ ap (λ (ordered : Bool). checkedBy (firstOf (tableStages ordered g))) (sym (test .if1 .left)),
+      ap (λ (x : CheckExit). x .scratch) exit,
+    )
 
 pub check-tables-spec : {M : Type 1} → statement M
 check-tables-spec =

@@ -1,3 +1,4 @@
+-- One part after another.
 use native.Mathlib.Omega.{arith}
 use borrow.Author.Needs.{needs}
 use Rattle.write.proofs.Forms.{binary-header-fits, nexts-fit, binary-outputs-fit, binary-gates-fit, binary-filled}

@@ -1,3 +1,4 @@
+-- One part after another.
 use borrow.Author.Needs.{needs}
 use Rattle.write.proofs.Forms.{text-header-fits, inputs-fit, latches-fit, outputs-fit, gates-fit, text-filled}
 use Rattle.write.proofs.fill_text.Statement.{statement}
@@ -6,8 +7,11 @@ use Rattle.write.proofs.fill_text.Tie as tie
 write-header-requires : tie.Need-write-header-requires
 write-header-requires c κs =
     let start = c .before .before .before .before .before .before in
-    let a = start .args in
-    (search needs, text-header-fits (a .n) (a .inputs .now) (a .latches .now) (a .outputs .now) (a .gates .now) (a .out .now) (start .pre .1))
+    let a = start .args in (
+      search needs,
+      text-header-fits (a .n) (a .inputs .now) (a .latches .now) (a .outputs .now) (a .gates .now) (a .out .now)
+          (start .pre .1),
+    )
 
 write-lines-requires : tie.Need-write-lines-requires
 write-lines-requires c κs =
@@ -92,7 +96,8 @@ returns c =
     let start = w1 .before .before .before .before .before .before .before in
     let a = start .args in
     text-filled (a .n) (a .inputs .now) (a .latches .now) (a .outputs .now) (a .gates .now) (a .out .now) (start .pre .1)
-    (w1 .write-header .ensures) (w2 .write-lines .ensures) (w3 .write-lines2 .ensures) (w4 .write-lines3 .ensures) (w5 .write-lines4 .ensures)
+    (w1 .write-header .ensures) (w2 .write-lines .ensures) (w3 .write-lines2 .ensures)
+    (w4 .write-lines3 .ensures) (w5 .write-lines4 .ensures)
 
 pub fill-text-spec : {M : Type 1} → statement M
 fill-text-spec =

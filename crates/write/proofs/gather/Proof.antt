@@ -1,3 +1,4 @@
+-- Each turn copies one next state.
 use Prim.Native.Nat.{_-_}
 use mathlib.Core.Path.{refl, ap, _∙_}
 use native.Mathlib.Omega.{arith}
@@ -45,7 +46,8 @@ loop-again c =
     let start = c .before .before .before in
     let a = start .args in
     let s = c .before .before .loop in
-    one-copied (nextAt (a .latches .now)) (a .n) (a .into .now) 0 (omega (arith, start .pre)) (s .into) (s .i) (s .inv) _ _ (omega arith) refl
+    one-copied (nextAt (a .latches .now)) (a .n) (a .into .now) 0 (omega (arith, start .pre)) (s .into) (s .i) (s .inv) _ _
+    (omega arith) refl
     (c .before .loop-test .taken)
 
 same-length : tie.Need-same-length Inv-loop μ-loop

@@ -1,3 +1,4 @@
+-- Four bytes and one line of five words.
 use mathlib.Core.Path.{ap}
 use native.Mathlib.Omega.{arith}
 use lib.ListN.{length}

@@ -1,11 +1,12 @@
+-- The answer of the tables, then that of the tail.
 use Prim.Native.Nat.{ℕ}
 use mathlib.Core.Path.{sym, ap, _∙_}
 use lib.ListN.{replicate}
+use borrow.Author.Needs.{needs}
 use Rattle.plan.specs.Given.{tailStage}
-use Rattle.plan.specs.Outcome.{CheckExit, checkedBy}
+use Rattle.plan.specs.Outcome.{checkedBy}
 use Rattle.write.specs.Judged.{givenIn, tableStages}
 use Rattle.write.proofs.Judging.{refused-before, good-before, good-tables, marks-hold, marks-blank}
-use borrow.Author.Needs.{needs}
 use Rattle.write.proofs.judge.Statement.{statement}
 use Rattle.write.proofs.judge.Tie as tie
 
@@ -20,10 +21,11 @@ enum-told c = search needs
 
 check-requires : tie.Need-check-requires
 check-requires c κs =
-    let a = c .before .before .before .before .before .before .before .before .before .before .before .before .before .args in
+    let checked = c .before .before .before .before .before in
+    let a = checked .before .before .before .before .before .before .before .before .args in
     let g = givenIn (a .n) (a .inputs .now) (a .latches .now) (a .outputs .now) (a .gates .now) (a .scratch .now) in
-    let says = ap (λ (x : CheckExit). x .answer) (c .before .before .before .before .before .check-tables .ensures) in
-    let blank = ap (λ (x : CheckExit). x .scratch) (c .before .before .before .before .before .check-tables .ensures) in
+    let says = checked .check-tables .ensures .0 in
+    let blank = checked .check-tables .ensures .1 in
     let good = good-tables (a .ordered) g says (c .before .enum-told .given .1) in
     (marks-hold (a .ordered) g good _ blank, marks-blank (a .ordered) g good _ blank)
 
@@ -35,10 +37,11 @@ same-length c = search needs
 
 returns : tie.Need-returns
 returns c =
-    let a = c .before .before .before .before .before .before .before .before .before .before .before .before .before .args in
+    let checked = c .before .before .before .before .before in
+    let a = checked .before .before .before .before .before .before .before .before .args in
     let g = givenIn (a .n) (a .inputs .now) (a .latches .now) (a .outputs .now) (a .gates .now) (a .scratch .now) in
-    let says = ap (λ (x : CheckExit). x .answer) (c .before .before .before .before .before .check-tables .ensures) in
-    let blank = ap (λ (x : CheckExit). x .scratch) (c .before .before .before .before .before .check-tables .ensures) in
+    let says = checked .check-tables .ensures .0 in
+    let blank = checked .check-tables .ensures .1 in
     (sym (ap checkedBy (refused-before (tableStages (a .ordered) g) (tailStage g (a .tail .now)) says _ (c .before .r .given .1))), blank)
 
 same-length-2 : tie.Need-same-length-2
@@ -46,12 +49,18 @@ same-length-2 c = search needs
 
 returns-2 : tie.Need-returns-2
 returns-2 c =
-    let a = c .before .before .before .before .before .before .before .before .before .before .before .before .before .before .before .before .before .before .before .before .args in
+    let cleared = c .before .before in
+    let tailed = cleared .before .before .before .before in
+    let good = tailed .before .before in
+    let checked = good .before .before .before .before in
+    let a = checked .before .before .before .before .before .before .before .before .args in
     let g = givenIn (a .n) (a .inputs .now) (a .latches .now) (a .outputs .now) (a .gates .now) (a .scratch .now) in
-    let says = ap (λ (x : CheckExit). x .answer) (c .before .before .before .before .before .before .before .before .before .before .before .before .check-tables .ensures) in
-    let blank = ap (λ (x : CheckExit). x .scratch) (c .before .before .before .before .before .before .before .before .before .before .before .before .check-tables .ensures) in (
-      c .before .before .before .before .before .before .check .ensures ∙ sym (ap checkedBy (good-before (tableStages (a .ordered) g) (tailStage g (a .tail .now)) says (c .before .before .before .before .before .before .before .before .enum-told .given .1))),
-      c .before .before .clear .ensures ∙ ap (λ (k : ℕ). replicate k 0) (c .before .before .before .before .before .scratch2 .given ∙ c .before .before .before .before .before .before .before .before .before .before .before .scratch .given),
+    let says = checked .check-tables .ensures .0 in
+    let blank = checked .check-tables .ensures .1 in (
+      tailed .check .ensures
+          ∙ sym (ap checkedBy (good-before (tableStages (a .ordered) g) (tailStage g (a .tail .now)) says (good .enum-told .given .1))),
+      cleared .clear .ensures ∙ ap (λ (k : ℕ). replicate k 0)
+          (tailed .check .kept .1 .1 .1 .0 ∙ checked .check-tables .kept .1 .1 .1 .1 .1 .0),
     )
 
 pub judge-spec : {M : Type 1} → statement M

@@ -1,3 +1,4 @@
+-- No room, or the binary form and then the tail.
 use Prim.Native.Nat.{ℕ}
 use mathlib.Core.Path.{ap, _∙_}
 use mathlib.Core.List.{List, _++_}
@@ -38,7 +39,8 @@ returns c =
     let same =
     gathered (a .n) (a .latches .now) (a .outputs .now) (a .gates .now) (a .scratch .now) table
     (omega (arith, start .pre .0 .nexts-long, took .gather .kept .1 .1 .0)) (took .gather .ensures) in
-    no-room bytes (a .tail .now) (a .out .now) (counted .binary-length .ensures) (test .before .holds .ensures) (not-true _ (test .if1 .taken)) (c .needed .ensures)
+    no-room bytes (a .tail .now) (a .out .now) (counted .binary-length .ensures) (test .before .holds .ensures)
+    (not-true _ (test .if1 .taken)) (c .needed .ensures)
     ∙ ap (λ (form : List ℕ). putBytes (a .out .now) 0 (form ++ a .tail .now)) same
 
 fill-binary-requires : tie.Need-fill-binary-requires
@@ -49,8 +51,11 @@ fill-binary-requires c κs =
     let start = took .before .before .before .before .before .before .before .before in
     let a = start .args in
     let table = took .gather .last .1 .1 .0 in
-    let bytes = binaryBytes (a .n) table (a .outputs .now) (a .gates .now) in
-    (search needs, form-fits bytes (a .tail .now) (a .out .now) (counted .binary-length .ensures) (test .before .holds .ensures) (not-false _ (test .if1 .left)))
+    let bytes = binaryBytes (a .n) table (a .outputs .now) (a .gates .now) in (
+      search needs,
+      form-fits bytes (a .tail .now) (a .out .now) (counted .binary-length .ensures) (test .before .holds .ensures)
+          (not-false _ (test .if1 .left)),
+    )
 
 append-requires : tie.Need-append-requires
 append-requires c κs =
@@ -62,7 +67,8 @@ append-requires c κs =
     let a = start .args in
     let table = took .gather .last .1 .1 .0 in
     let bytes = binaryBytes (a .n) table (a .outputs .now) (a .gates .now) in
-    tail-fits bytes (a .tail .now) (a .out .now) (counted .binary-length .ensures) (test .before .holds .ensures) (not-false _ (test .if1 .left))
+    tail-fits bytes (a .tail .now) (a .out .now) (counted .binary-length .ensures) (test .before .holds .ensures)
+    (not-false _ (test .if1 .left))
     (filled .fill-binary .ensures)
 
 same-length-2 : tie.Need-same-length-2
@@ -85,7 +91,8 @@ returns-2 c =
     let same =
     gathered (a .n) (a .latches .now) (a .outputs .now) (a .gates .now) (a .scratch .now) table
     (omega (arith, start .pre .0 .nexts-long, took .gather .kept .1 .1 .0)) (took .gather .ensures) in
-    all-put bytes (a .tail .now) (a .out .now) (counted .binary-length .ensures) (test .before .holds .ensures) (not-false _ (test .if1 .left))
+    all-put bytes (a .tail .now) (a .out .now) (counted .binary-length .ensures) (test .before .holds .ensures)
+    (not-false _ (test .if1 .left))
     (filled .fill-binary .ensures) (appended .append .ensures)
     ∙ ap (λ (form : List ℕ). putBytes (a .out .now) 0 (form ++ a .tail .now)) same
 

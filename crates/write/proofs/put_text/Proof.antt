@@ -1,3 +1,4 @@
+-- No room, or the text form and then the tail.
 use borrow.Author.Needs.{needs}
 use borrow.Author.Tests.{not-true, not-false}
 use Rattle.write.specs.Forms.{textBytes}
@@ -20,15 +21,19 @@ returns c =
     let counted = test .before .before in
     let a = counted .before .before .before .before .before .before .before .args in
     let bytes = textBytes (a .n) (a .inputs .now) (a .latches .now) (a .outputs .now) (a .gates .now) in
-    no-room bytes (a .tail .now) (a .out .now) (counted .text-length .ensures) (test .before .holds .ensures) (not-true _ (test .if1 .taken)) (c .needed .ensures)
+    no-room bytes (a .tail .now) (a .out .now) (counted .text-length .ensures) (test .before .holds .ensures)
+    (not-true _ (test .if1 .taken)) (c .needed .ensures)
 
 fill-text-requires : tie.Need-fill-text-requires
 fill-text-requires c κs =
     let test = c .before in
     let counted = test .before .before in
     let a = counted .before .before .before .before .before .before .before .args in
-    let bytes = textBytes (a .n) (a .inputs .now) (a .latches .now) (a .outputs .now) (a .gates .now) in
-    (search needs, form-fits bytes (a .tail .now) (a .out .now) (counted .text-length .ensures) (test .before .holds .ensures) (not-false _ (test .if1 .left)))
+    let bytes = textBytes (a .n) (a .inputs .now) (a .latches .now) (a .outputs .now) (a .gates .now) in (
+      search needs,
+      form-fits bytes (a .tail .now) (a .out .now) (counted .text-length .ensures) (test .before .holds .ensures)
+          (not-false _ (test .if1 .left)),
+    )
 
 append-requires : tie.Need-append-requires
 append-requires c κs =
@@ -37,7 +42,8 @@ append-requires c κs =
     let counted = test .before .before in
     let a = counted .before .before .before .before .before .before .before .args in
     let bytes = textBytes (a .n) (a .inputs .now) (a .latches .now) (a .outputs .now) (a .gates .now) in
-    tail-fits bytes (a .tail .now) (a .out .now) (counted .text-length .ensures) (test .before .holds .ensures) (not-false _ (test .if1 .left))
+    tail-fits bytes (a .tail .now) (a .out .now) (counted .text-length .ensures) (test .before .holds .ensures)
+    (not-false _ (test .if1 .left))
     (filled .fill-text .ensures)
 
 same-length : tie.Need-same-length
@@ -51,7 +57,8 @@ returns-2 c =
     let counted = test .before .before in
     let a = counted .before .before .before .before .before .before .before .args in
     let bytes = textBytes (a .n) (a .inputs .now) (a .latches .now) (a .outputs .now) (a .gates .now) in
-    all-put bytes (a .tail .now) (a .out .now) (counted .text-length .ensures) (test .before .holds .ensures) (not-false _ (test .if1 .left))
+    all-put bytes (a .tail .now) (a .out .now) (counted .text-length .ensures) (test .before .holds .ensures)
+    (not-false _ (test .if1 .left))
     (filled .fill-text .ensures) (appended .append .ensures)
 
 pub put-text-spec : {M : Type 1} → statement M

@@ -1,3 +1,4 @@
+-- The lengths of the five parts, added.
 use Rattle.plan.specs.Circuit.{rowsOf}
 use Rattle.plan.specs.Bytes.{linesOf}
 use borrow.Author.Needs.{needs}
@@ -35,12 +36,16 @@ add-result-4 c = search needs
 
 returns : tie.Need-returns
 returns c =
-    let a = c .before .before .before .before .before .before .before .before .before .args in
+    let outs = c .before in
+    let lats = outs .before in
+    let ins = lats .before in
+    let head = ins .before in
+    let a = head .before .before .before .before .before .args in
     let n = a .n in
     five-parts (headBytes 97 n) (linesOf (rowsOf 1 (n .I) (a .inputs .now))) (linesOf (rowsOf 2 (n .L) (a .latches .now)))
     (linesOf (rowsOf 1 (n .O) (a .outputs .now))) (linesOf (rowsOf 3 (n .A) (a .gates .now)))
-    (c .before .before .before .before .header-length .ensures .0) (c .before .before .before .lines-length .ensures .0) (c .before .before .lines-length2 .ensures .0)
-    (c .before .lines-length3 .ensures .0) (c .lines-length4 .ensures .0)
+    (head .header-length .ensures .0) (ins .lines-length .ensures .0) (lats .lines-length2 .ensures .0)
+    (outs .lines-length3 .ensures .0) (c .lines-length4 .ensures .0)
 
 pub text-length-spec : {M : Type 1} → statement M
 text-length-spec =

@@ -1,10 +1,11 @@
+-- A refusal, or the binary form and the tail; then scratch is cleared.
 use Prim.Native.Nat.{ℕ}
-use mathlib.Core.Path.{sym, ap, _∙_}
-use mathlib.Core.Bool.{true, false}
+use mathlib.Core.Path.{ap, _∙_}
+use mathlib.Core.Bool.{true}
 use mathlib.Core.List.{List, _++_}
 use native.Mathlib.Omega.{arith}
 use lib.ListN.{replicate}
-use Rattle.plan.specs.Text.{textOf}
+use borrow.Author.Needs.{needs}
 use Rattle.plan.specs.Binary.{binaryOf}
 use Rattle.plan.specs.Given.{given, roomStage}
 use Rattle.plan.specs.Outcome.{FileEntry, putBytes}
@@ -12,7 +13,6 @@ use Rattle.write.specs.Judged.{givenIn, writerStages}
 use Rattle.write.proofs.Parts.{binary-parts, printable}
 use Rattle.write.proofs.Judging.{refused-before, good-before, good-judged}
 use Rattle.write.proofs.Writing.{refused-file, written-file}
-use borrow.Author.Needs.{needs}
 use Rattle.write.proofs.write_binary.Statement.{statement}
 use Rattle.write.proofs.write_binary.Tie as tie
 
@@ -27,11 +27,12 @@ enum-told c = search needs
 
 put-binary-requires : tie.Need-put-binary-requires
 put-binary-requires c κs =
-    let a = c .before .before .before .before .before .before .before .before .before .before .before .before .before .before .before .args in
+    let judged = c .before .before .before .before .before .before in
+    let a = judged .before .before .before .before .before .before .before .before .before .args in
     let g = givenIn (a .n) (a .inputs .now) (a .latches .now) (a .outputs .now) (a .gates .now) (a .scratch .now) in
-    let good = good-judged true g (a .tail .now) (c .before .before .before .before .before .before .judge .ensures .0) (c .before .before .enum-told .given .1) in (
+    let good = good-judged true g (a .tail .now) (judged .judge .ensures .0) (c .before .before .enum-told .given .1) in (
       printable (a .n) (a .inputs .now) (a .latches .now) (a .outputs .now) (a .gates .now) (good .fits) _
-          (omega (arith, good .fits .sum, good .scratch, c .before .before .before .before .before .scratch .given)),
+          (omega (arith, good .fits .sum, good .scratch, judged .judge .kept .1 .1 .1 .1 .1 .0)),
       good .fits .latches-long,
     )
 
@@ -43,12 +44,14 @@ same-length c = search needs
 
 returns : tie.Need-returns
 returns c =
-    let a = c .before .before .before .before .before .before .before .before .before .before .before .before .before .before .args in
+    let judged = c .before .before .before .before .before in
+    let a = judged .before .before .before .before .before .before .before .before .before .args in
     let g = givenIn (a .n) (a .inputs .now) (a .latches .now) (a .outputs .now) (a .gates .now) (a .scratch .now) in
     let e : FileEntry = record { circuit = g; tail = a .tail .now; out = a .out .now } in
     let bytes = binaryOf (given g) ++ a .tail .now in
-    let says = c .before .before .before .before .before .judge .ensures in
-    refused-file e bytes _ (says .1) _ (refused-before (writerStages true g (a .tail .now)) (roomStage (a .out .now) bytes) (says .0) _ (c .before .r .given .1))
+    let says = judged .judge .ensures in
+    refused-file e bytes _ (says .1) _
+    (refused-before (writerStages true g (a .tail .now)) (roomStage (a .out .now) bytes) (says .0) _ (c .before .r .given .1))
 
 same-length-2 : tie.Need-same-length-2
 same-length-2 c = search needs
@@ -58,14 +61,20 @@ same-length-3 c = search needs
 
 returns-2 : tie.Need-returns-2
 returns-2 c =
-    let a = c .before .before .before .before .before .before .before .before .before .before .before .before .before .before .before .before .before .before .before .before .before .before .before .before .args in
+    let cleared = c .before .before in
+    let wrote = cleared .before .before .before .before .before .before in
+    let told = wrote .before .before .before in
+    let judged = told .before .before .before .before in
+    let a = judged .before .before .before .before .before .before .before .before .before .args in
     let g = givenIn (a .n) (a .inputs .now) (a .latches .now) (a .outputs .now) (a .gates .now) (a .scratch .now) in
     let e : FileEntry = record { circuit = g; tail = a .tail .now; out = a .out .now } in
     let bytes = binaryOf (given g) ++ a .tail .now in
-    let says = c .before .before .before .before .before .before .before .before .before .before .before .before .before .before .before .judge .ensures in
-    let good = good-judged true g (a .tail .now) (says .0) (c .before .before .before .before .before .before .before .before .before .before .before .enum-told .given .1) in
-    written-file e bytes _ (c .before .before .clear .ensures ∙ ap (λ (k : ℕ). replicate k 0) (c .before .before .before .before .before .before .before .scratch2 .given ∙ c .before .before .before .before .before .before .before .before .before .before .before .before .before .before .scratch .given)) (good-before (writerStages true g (a .tail .now)) (roomStage (a .out .now) bytes) (says .0) (c .before .before .before .before .before .before .before .before .before .before .before .enum-told .given .1))
-    (c .before .before .before .before .before .before .before .before .put-binary .ensures
+    let says = judged .judge .ensures in
+    let long = wrote .put-binary .kept .1 .1 .1 .1 .0 ∙ judged .judge .kept .1 .1 .1 .1 .1 .0 in
+    let good = good-judged true g (a .tail .now) (says .0) (told .enum-told .given .1) in
+    written-file e bytes _ (cleared .clear .ensures ∙ ap (λ (k : ℕ). replicate k 0) long)
+    (good-before (writerStages true g (a .tail .now)) (roomStage (a .out .now) bytes) (says .0) (told .enum-told .given .1))
+    (wrote .put-binary .ensures
     ∙ ap (λ (form : List ℕ). putBytes (a .out .now) 0 (form ++ a .tail .now))
     (binary-parts (a .n) (a .inputs .now) (a .latches .now) (a .outputs .now) (a .gates .now) (good .fits)))
 

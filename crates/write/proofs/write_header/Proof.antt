@@ -1,3 +1,4 @@
+-- The four bytes, then the line of the counts.
 use mathlib.Core.Path.{_∙_}
 use native.Mathlib.Omega.{arith}
 use lib.ListN.{length-set}

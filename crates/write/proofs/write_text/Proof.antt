@@ -1,18 +1,16 @@
+-- A refusal, or the text form and the tail.
 use Prim.Native.Nat.{ℕ}
-use mathlib.Core.Path.{sym, ap, _∙_}
-use mathlib.Core.Bool.{true, false}
+use mathlib.Core.Path.{ap, _∙_}
+use mathlib.Core.Bool.{false}
 use mathlib.Core.List.{List, _++_}
-use native.Mathlib.Omega.{arith}
-use lib.ListN.{replicate}
+use borrow.Author.Needs.{needs}
 use Rattle.plan.specs.Text.{textOf}
-use Rattle.plan.specs.Binary.{binaryOf}
 use Rattle.plan.specs.Given.{given, roomStage}
 use Rattle.plan.specs.Outcome.{FileEntry, putBytes}
 use Rattle.write.specs.Judged.{givenIn, writerStages}
 use Rattle.write.proofs.Parts.{text-parts}
 use Rattle.write.proofs.Judging.{refused-before, good-before, good-judged}
 use Rattle.write.proofs.Writing.{refused-file, written-file}
-use borrow.Author.Needs.{needs}
 use Rattle.write.proofs.write_text.Statement.{statement}
 use Rattle.write.proofs.write_text.Tie as tie
 
@@ -27,21 +25,24 @@ enum-told c = search needs
 
 put-text-requires : tie.Need-put-text-requires
 put-text-requires c κs =
-    let a = c .before .before .before .before .before .before .before .before .before .before .before .before .before .before .args in
+    let judged = c .before .before .before .before .before in
+    let a = judged .before .before .before .before .before .before .before .before .before .args in
     let g = givenIn (a .n) (a .inputs .now) (a .latches .now) (a .outputs .now) (a .gates .now) (a .scratch .now) in
-    good-judged false g (a .tail .now) (c .before .before .before .before .before .judge .ensures .0) (c .before .enum-told .given .1) .fits
+    good-judged false g (a .tail .now) (judged .judge .ensures .0) (c .before .enum-told .given .1) .fits
 
 same-length : tie.Need-same-length
 same-length c = search needs
 
 returns : tie.Need-returns
 returns c =
-    let a = c .before .before .before .before .before .before .before .before .before .before .before .before .before .before .args in
+    let judged = c .before .before .before .before .before in
+    let a = judged .before .before .before .before .before .before .before .before .before .args in
     let g = givenIn (a .n) (a .inputs .now) (a .latches .now) (a .outputs .now) (a .gates .now) (a .scratch .now) in
     let e : FileEntry = record { circuit = g; tail = a .tail .now; out = a .out .now } in
     let bytes = textOf (given g) ++ a .tail .now in
-    let says = c .before .before .before .before .before .judge .ensures in
-    refused-file e bytes _ (says .1) _ (refused-before (writerStages false g (a .tail .now)) (roomStage (a .out .now) bytes) (says .0) _ (c .before .r .given .1))
+    let says = judged .judge .ensures in
+    refused-file e bytes _ (says .1) _
+    (refused-before (writerStages false g (a .tail .now)) (roomStage (a .out .now) bytes) (says .0) _ (c .before .r .given .1))
 
 same-length-2 : tie.Need-same-length-2
 same-length-2 c = search needs
@@ -51,14 +52,18 @@ same-length-3 c = search needs
 
 returns-2 : tie.Need-returns-2
 returns-2 c =
-    let a = c .before .before .before .before .before .before .before .before .before .before .before .before .before .before .before .before .before .args in
+    let wrote = c .before .before in
+    let told = wrote .before .before in
+    let judged = told .before .before .before .before in
+    let a = judged .before .before .before .before .before .before .before .before .before .args in
     let g = givenIn (a .n) (a .inputs .now) (a .latches .now) (a .outputs .now) (a .gates .now) (a .scratch .now) in
     let e : FileEntry = record { circuit = g; tail = a .tail .now; out = a .out .now } in
     let bytes = textOf (given g) ++ a .tail .now in
-    let says = c .before .before .before .before .before .before .before .before .judge .ensures in
-    let good = good-judged false g (a .tail .now) (says .0) (c .before .before .before .before .enum-told .given .1) in
-    written-file e bytes _ (says .1) (good-before (writerStages false g (a .tail .now)) (roomStage (a .out .now) bytes) (says .0) (c .before .before .before .before .enum-told .given .1))
-    (c .before .before .put-text .ensures
+    let says = judged .judge .ensures in
+    let good = good-judged false g (a .tail .now) (says .0) (told .enum-told .given .1) in
+    written-file e bytes _ (says .1)
+    (good-before (writerStages false g (a .tail .now)) (roomStage (a .out .now) bytes) (says .0) (told .enum-told .given .1))
+    (wrote .put-text .ensures
     ∙ ap (λ (form : List ℕ). putBytes (a .out .now) 0 (form ++ a .tail .now))
     (text-parts (a .n) (a .inputs .now) (a .latches .now) (a .outputs .now) (a .gates .now) (good .fits)))
 
