@@ -7,3 +7,4 @@ pub mod Parts
 pub mod Answers
 pub mod Judging
 pub mod Writing
+pub mod Wiped

@@ -165,7 +165,7 @@ fn put_text(
     Written::Bytes(append(out, end, tail))
 }
 
-// The same for the binary form. The next states of the latches stand in the scratch.
+// The same for the binary form. The next states of the latches stand at the start of the scratch.
 fn put_binary(
     n: Counts,
     latches: &[u32],
@@ -303,8 +303,9 @@ pub fn write_binary(
     match judge(n, inputs, latches, outputs, gates, scratch, tail, true) {
         Checked::Refused(r) => Written::Refused(r),
         Checked::Good => {
-            let answer = put_binary(n, latches, outputs, gates, scratch, tail, out);
-            clear(scratch);
+            let l = n.L;
+            let answer = put_binary(n, latches, outputs, gates, &mut scratch[0..l], tail, out);
+            clear(&mut scratch[0..l]);
             answer
         }
     }
