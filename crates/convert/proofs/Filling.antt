@@ -36,7 +36,8 @@ use Rattle.convert.proofs.Known.{known, literals-by}
 use Rattle.convert.proofs.Rows.{nexts-column, outputs-column}
 use Rattle.convert.proofs.Whole.{placeable, whole}
 
-module _ {n : Counts} {inputs latches outputs gates scratch : List ℕ} {to : Tables} (p : Ready n inputs latches outputs gates scratch to) where
+module _ {n : Counts} {inputs latches outputs gates scratch : List ℕ} {to : Tables}
+    (p : Ready n inputs latches outputs gates scratch to) where
   abbrev c : Circuit
   c = circuitIn n inputs latches outputs gates
 
@@ -68,8 +69,8 @@ module _ {n : Counts} {inputs latches outputs gates scratch : List ℕ} {to : Ta
       subst (λ (k : ℕ). varOf (getD outputs k 0) ≤ n .M) at
       (first-var false (n .M) (getD outputs i 0) []
       (inside-at oneLine false (n .M) (λ k. getD outputs k 0) (n .O)
-      (subst (λ (ls : List ℕ). allInside false (n .M) (map oneLine ls) ≡ true) (words-take outputs (n .O) (p .fits .outputs-long)) (p .good .outputs))
-      i h))
+      (subst (λ (ls : List ℕ). allInside false (n .M) (map oneLine ls) ≡ true) (words-take outputs (n .O) (p .fits .outputs-long))
+      (p .good .outputs)) i h))
 
   gates-in : AllG (InTable (n .M + 1)) (c .gates)
   gates-in = gates-inside (n .M) (c .gates) (p .good .gates)
@@ -156,7 +157,8 @@ module _ {n : Counts} {inputs latches outputs gates scratch : List ℕ} {to : Ta
         latches =
             spread-held (1 + n .I) (n .L) (firsts (columnBy t latches 2 1) (n .L)) (to .latches) mid lats
             (length-firsts (columnBy t latches 2 1) (n .L)) by-column by-spread
-            ∙ ap₂ (λ (k : ℕ) (ls : List ℕ). put (to .latches) 0 (flat (map latchLine (latchesFrom (1 + k) ls)))) (sym inputs-count) nexts-are;
+            ∙ ap₂ (λ (k : ℕ) (ls : List ℕ). put (to .latches) 0 (flat (map latchLine (latchesFrom (1 + k) ls)))) (sym inputs-count)
+            nexts-are;
         outputs = by-outputs ∙ ap (put (to .outputs) 0) outputs-are;
         gates = by-gates (put (to .gates) 0 (flat (map gateLine (convert c .gates))))
             (subst (λ (f : ℕ). Whole gates t f (n .A) (to .gates) (put (to .gates) 0 (flat (map gateLine (convert c .gates))))) first-is

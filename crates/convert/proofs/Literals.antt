@@ -8,7 +8,7 @@ use borrow.Author.Tests.{ltb-true, ltb-false}
 use lib.Dec.{ltb}
 use Rattle.plan.specs.declared.Lit.{Lit}
 use Rattle.plan.specs.Literals.{litOf, signOf, signed, litAt, wordOf, varAt, doubled, signedAs}
-use Rattle.convert.specs.Renumbered.{numberOf, literalBy, Known}
+use Rattle.convert.specs.Renumbered.{numberIn, literalBy, Known}
 
 -- no bit of a number's literal is cut
 pub double-word : (k : ℕ) → k < 2147483648 → wordOf (doubled (varAt k)) ≡ litOf k
@@ -19,10 +19,11 @@ sign-on k zero h = omega arith
 sign-on k (suc zero) h = omega arith
 sign-on k (suc (suc s)) h = absurd (omega arith)
 
-pub by-number : (t : List ℕ) (l : Lit) → Known t (wordOf l) → signedAs (doubled (varAt (numberOf t (wordOf l)))) l ≡ litAt (literalBy t (wordOf l))
+pub by-number : (t : List ℕ) (l : Lit) → Known t (wordOf l)
+    → signedAs (doubled (varAt (numberIn t (wordOf l)))) l ≡ litAt (literalBy t (wordOf l))
 unfolding literalBy
 by-number t l h =
-    let k = numberOf t (wordOf l) in
+    let k = numberIn t (wordOf l) in
     ap litAt (ap (signed (signOf (wordOf l))) (double-word k (h .1)) ∙ sign-on k (signOf (wordOf l)) (omega arith))
 
 -- the larger and the smaller of two literals
@@ -32,8 +33,8 @@ below-larger a b e = let m : wordOf b ≡ max (wordOf a) (wordOf b) = omega (ari
 pub not-below-larger : (a b : Lit) → ltb (wordOf a) (wordOf b) ≡ false → a ≡ litAt (max (wordOf a) (wordOf b))
 not-below-larger a b e = let m : wordOf a ≡ max (wordOf a) (wordOf b) = omega (arith, ltb-false (wordOf a) (wordOf b) e) in ap litAt m
 
-pub below-smaller : (a b : Lit) → ltb (wordOf a) (wordOf b) ≡ true → a ≡ litAt (min (wordOf a) (wordOf b))
-below-smaller a b e = let m : wordOf a ≡ min (wordOf a) (wordOf b) = omega (arith, ltb-true (wordOf a) (wordOf b) e) in ap litAt m
+pub below-smaller : (a b : Lit) → ltb (wordOf b) (wordOf a) ≡ true → b ≡ litAt (min (wordOf a) (wordOf b))
+below-smaller a b e = let m : wordOf b ≡ min (wordOf a) (wordOf b) = omega (arith, ltb-true (wordOf b) (wordOf a) e) in ap litAt m
 
-pub not-below-smaller : (a b : Lit) → ltb (wordOf a) (wordOf b) ≡ false → b ≡ litAt (min (wordOf a) (wordOf b))
-not-below-smaller a b e = let m : wordOf b ≡ min (wordOf a) (wordOf b) = omega (arith, ltb-false (wordOf a) (wordOf b) e) in ap litAt m
+pub not-below-smaller : (a b : Lit) → ltb (wordOf b) (wordOf a) ≡ false → a ≡ litAt (min (wordOf a) (wordOf b))
+not-below-smaller a b e = let m : wordOf a ≡ min (wordOf a) (wordOf b) = omega (arith, ltb-false (wordOf b) (wordOf a) e) in ap litAt m

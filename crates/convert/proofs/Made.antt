@@ -21,7 +21,8 @@ gate-at gs more j d h =
     let whole : gatesAt t (length gs) ≡ gs
     = sym (gates-rows t (length gs))
     ∙ (ap (λ (n : ℕ). map gateOf (rowsOf 3 n t)) (sym (length-map gs gateLine))
-    ∙ (ap (map gateOf) (rows-flat 3 (map gateLine gs) more (map-long 3 gateLine (λ g. refl) gs)) ∙ map-forth gateOf gateLine (λ g. refl) gs)) in
+    ∙ (ap (map gateOf) (rows-flat 3 (map gateLine gs) more (map-long 3 gateLine (λ g. refl) gs))
+    ∙ map-forth gateOf gateLine (λ g. refl) gs)) in
     sym (getD-firsts (gateAt t) (length gs) j d h) ∙ ap (λ (l : List Gate). getD l j d) whole
 
 -- a gate under its new number

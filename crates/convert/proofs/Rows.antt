@@ -24,12 +24,14 @@ nexts-firsts : (at : ℕ → Latch) (n : ℕ) → nexts (firsts at n) ≡ firsts
 nexts-firsts at zero = refl
 nexts-firsts at (suc n) = nexts-snoc (firsts at n) (at n) ∙ ap (λ (l : List ℕ). l ++ (at n .next ∷ [])) (nexts-firsts at n)
 
-pub nexts-column : (t latches : List ℕ) (n : ℕ) → firsts (columnBy t latches 2 1) n ≡ map (literalBy t) (nexts (map latchOf (rowsOf 2 n latches)))
+pub nexts-column : (t latches : List ℕ) (n : ℕ)
+    → firsts (columnBy t latches 2 1) n ≡ map (literalBy t) (nexts (map latchOf (rowsOf 2 n latches)))
 nexts-column t latches n =
     map-firsts (literalBy t) (wordAt latches 2 1) n
     ∙ ap (map (literalBy t)) (sym (ap nexts (latches-rows latches n) ∙ nexts-firsts (latchAt latches) n))
 
-pub outputs-column : (t outputs : List ℕ) (n : ℕ) → n ≤ length outputs → firsts (columnBy t outputs 1 0) n ≡ map (literalBy t) (take n outputs)
+pub outputs-column : (t outputs : List ℕ) (n : ℕ) → n ≤ length outputs
+    → firsts (columnBy t outputs 1 0) n ≡ map (literalBy t) (take n outputs)
 outputs-column t outputs n h =
     map-firsts (literalBy t) (wordAt outputs 1 0) n
     ∙ ap (map (literalBy t)) (ap (λ (at : ℕ → ℕ). firsts at n) (λ j i. one-row i j) ∙ sym (words-take outputs n h))

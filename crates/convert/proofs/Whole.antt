@@ -18,7 +18,7 @@ use Rattle.theorems.proofs.Running.Converted.{length-leaves, length-renumberGat
 use Rattle.theorems.proofs.Running.Found.{Sides, sides-in}
 use Rattle.theorems.proofs.Writing.Holding.{length-gate-words}
 use Rattle.order.specs.Numbers.{NumTable, InRange}
-use Rattle.convert.specs.Renumbered.{numberOf, literalBy, gateBy, rowOf, Placeable, Whole}
+use Rattle.convert.specs.Renumbered.{numberIn, literalBy, gateBy, rowOf, Placeable, Whole}
 use Rattle.convert.proofs.Known.{known, number-by, literal-by}
 use Rattle.convert.proofs.Places.{placeAt, sorted-count, at-each, left-has, number-is, place-below, gate-there, every-place}
 use Rattle.convert.proofs.Made.{gate-at, gate-renumbered, past-put}
@@ -30,7 +30,7 @@ module _ (c : Circuit) (ok : Accepted c) (m : ℕ) (few : inner c + length (c .g
   place i = placeAt c ok (gateAt gates) a its i
 
   -- a gate's number and its row
-  number-at : (i : ℕ) → i < a → numberOf t (gateAt gates i .lhs) ≡ inner c + place i
+  number-at : (i : ℕ) → i < a → numberIn t (gateAt gates i .lhs) ≡ inner c + place i
   number-at i h =
       let v = varOf (gateAt gates i .lhs) in
       number-by c ok m few t long tab v (omega (arith, range i h .0))
@@ -67,7 +67,7 @@ module _ (c : Circuit) (ok : Accepted c) (m : ℕ) (few : inner c + length (c .g
       let first = literal-by c ok m few t long tab (g .rhs0) (omega (arith, within .1)) (sides .0) in
       let second = literal-by c ok m few t long tab (g .rhs1) (omega (arith, within .2)) (sides .1) in
       let number = number-at i h in
-      let given : gateFor (numberOf t (g .lhs)) (literalBy t (g .rhs0)) (literalBy t (g .rhs1))
+      let given : gateFor (numberIn t (g .lhs)) (literalBy t (g .rhs0)) (literalBy t (g .rhs1))
       ≡ gateFor (inner c + place i) (renumber (numbered c) (g .rhs0)) (renumber (numbered c) (g .rhs1))
       = λ j. gateFor (number j) (first j) (second j) in
       given

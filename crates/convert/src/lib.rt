@@ -9,7 +9,7 @@ ghost use Rattle.plan.specs.Outcome.{put, Says, conversion};
 ghost use Rattle.theorems.proofs.Held.{Holds};
 ghost use Rattle.theorems.proofs.Tables.{firsts, gateAt};
 ghost use Rattle.tables.specs.Held.{circuitIn};
-ghost use Rattle.convert.specs.Renumbered.{numberOf, literalBy, Known, wordAt, columnBy, gateBy, rowOf, withGate, Placeable, Whole};
+ghost use Rattle.convert.specs.Renumbered.{numberIn, literalBy, Known, wordAt, columnBy, placed, Placeable, Whole};
 ghost use Rattle.convert.specs.Ready.{Ready};
 use gates::run_on;
 use gates::spread;
@@ -23,6 +23,7 @@ use tables::Sizes;
 use tables::clear;
 use tables::clear_four;
 
+// The larger right side stands first (AIGER report, section 11).
 fn larger(a: Lit, b: Lit) -> Lit
     ensures { λ r. ⌜ r ≡ litAt (max (wordOf a) (wordOf b)) ⌝ }
 {
@@ -35,16 +36,16 @@ fn larger(a: Lit, b: Lit) -> Lit
 fn smaller(a: Lit, b: Lit) -> Lit
     ensures { λ r. ⌜ r ≡ litAt (min (wordOf a) (wordOf b)) ⌝ }
 {
-    if a.below(b) {
-        return a;
+    if b.below(a) {
+        return b;
     }
-    b
+    a
 }
 
 // The number of a literal's variable.
 fn number_of(t: &[u32], l: Lit) -> u32
     requires { ⌜ Known (now t) (wordOf l) ⌝ }
-    ensures { λ r. ⌜ r ≡ numberOf (now (t .entry)) (wordOf l) ⌝ }
+    ensures { λ r. ⌜ r ≡ numberIn (now (t .entry)) (wordOf l) ⌝ }
 {
     let v = l.var().index() as usize;
     t[v]
@@ -79,7 +80,7 @@ fn renumber_column(table: &[u32], stride: usize, column: usize, n: usize, t: &[u
 fn place_gate(gates: &[u32], i: usize, first: usize, a: usize, t: &[u32], to: &mut [u32])
     requires { ⌜ (3 * i + 2 < length (now gates)) × (3 * a ≤ length (now to)) ⌝ }
     requires { ⌜ Placeable (now t) first a (gateAt (now gates) i) ⌝ }
-    ensures { λ _. ⌜ now (to .exit) ≡ withGate (now (to .entry)) (rowOf (now (t .entry)) first (gateAt (now (gates .entry)) i)) (gateBy (now (t .entry)) (gateAt (now (gates .entry)) i)) ⌝ }
+    ensures { λ _. ⌜ now (to .exit) ≡ placed (now (t .entry)) first (now (to .entry)) (gateAt (now (gates .entry)) i) ⌝ }
 {
     let number = number_of(t, Lit::at(gates[3 * i]));
     let rhs0 = renumbered(t, Lit::at(gates[3 * i + 1]));
@@ -94,7 +95,8 @@ fn place_gate(gates: &[u32], i: usize, first: usize, a: usize, t: &[u32], to: &m
 fn place_gates(gates: &[u32], first: usize, a: usize, t: &[u32], to: &mut [u32])
     requires { ⌜ (3 * a ≤ length (now gates)) × (3 * a ≤ length (now to)) ⌝ }
     requires { ⌜ ((i : ℕ) → i < a → Placeable (now t) first a (gateAt (now gates) i)) ⌝ }
-    ensures { λ _. ⌜ ((made : List ℕ) → Whole (now (gates .entry)) (now (t .entry)) first a (now (to .entry)) made → now (to .exit) ≡ made) ⌝ }
+    ensures { λ _. ⌜ ((made : List ℕ) → Whole (now (gates .entry)) (now (t .entry)) first a (now (to .entry)) made
+        → now (to .exit) ≡ made) ⌝ }
 {
     let mut i = 0;
     while i < a {
@@ -119,9 +121,19 @@ fn fill(
     requires { ⌜ Ready n (now inputs) (now latches) (now outputs) (now gates) (now scratch)
         (record { inputs = now «to_inputs»; latches = now «to_latches»; outputs = now «to_outputs»; gates = now «to_gates» }) ⌝ }
     ensures { λ _. ⌜ Holds
-        (record { inputs = now («to_inputs» .entry); latches = now («to_latches» .entry); outputs = now («to_outputs» .entry); gates = now («to_gates» .entry) })
+        (record {
+          inputs = now («to_inputs» .entry);
+          latches = now («to_latches» .entry);
+          outputs = now («to_outputs» .entry);
+          gates = now («to_gates» .entry);
+        })
         (convert (circuitIn n (now (inputs .entry)) (now (latches .entry)) (now (outputs .entry)) (now (gates .entry))))
-        (record { inputs = now («to_inputs» .exit); latches = now («to_latches» .exit); outputs = now («to_outputs» .exit); gates = now («to_gates» .exit) }) ⌝ }
+        (record {
+          inputs = now («to_inputs» .exit);
+          latches = now («to_latches» .exit);
+          outputs = now («to_outputs» .exit);
+          gates = now («to_gates» .exit);
+        }) ⌝ }
 {
     let first_latch = 1 + n.I;
     let first_gate = first_latch + n.L;
@@ -149,8 +161,34 @@ pub fn convert(
     scratch: &mut [u32],
 ) -> Made
     ensures { λ r. ⌜ Says conversion
-        (record { circuit = (record { counts = n; tables = (record { inputs = now (inputs .entry); latches = now (latches .entry); outputs = now (outputs .entry); gates = now (gates .entry) }); scratch = now (scratch .entry) }); written = (record { inputs = now («to_inputs» .entry); latches = now («to_latches» .entry); outputs = now («to_outputs» .entry); gates = now («to_gates» .entry) }) })
-        (record { answer = r; written = (record { inputs = now («to_inputs» .exit); latches = now («to_latches» .exit); outputs = now («to_outputs» .exit); gates = now («to_gates» .exit) }); scratch = now (scratch .exit) }) ⌝ }
+        (record {
+          circuit = (record {
+            counts = n;
+            tables = (record {
+              inputs = now (inputs .entry);
+              latches = now (latches .entry);
+              outputs = now (outputs .entry);
+              gates = now (gates .entry);
+            });
+            scratch = now (scratch .entry);
+          });
+          written = (record {
+            inputs = now («to_inputs» .entry);
+            latches = now («to_latches» .entry);
+            outputs = now («to_outputs» .entry);
+            gates = now («to_gates» .entry);
+          });
+        })
+        (record {
+          answer = r;
+          written = (record {
+            inputs = now («to_inputs» .exit);
+            latches = now («to_latches» .exit);
+            outputs = now («to_outputs» .exit);
+            gates = now («to_gates» .exit);
+          });
+          scratch = now (scratch .exit);
+        }) ⌝ }
 {
     clear_four(to_inputs, to_latches, to_outputs, to_gates);
     let to = Sizes {

@@ -16,8 +16,11 @@ use Rattle.convert.proofs.convert.Statement.{statement}
 use Rattle.convert.proofs.convert.Tie as tie
 
 -- what is handed in, and the tables that are zero throughout
+abbrev wiping : tie.After-check-to-make → tie.After-clear-four
+wiping c = c .before .before .before .before .before .before .before .before .before .before
+
 abbrev start : tie.After-check-to-make → tie.Start
-start c = c .before .before .before .before .before .before .before .before .before .before .before .before .before .before .before .before .before .before .before .before .before .before .before .before
+start c = wiping c .before .before .before .before .before .before .before .before .before .before .before .before .before .before
 
 abbrev entry : tie.After-check-to-make → MakeEntry
 entry c =
@@ -33,11 +36,11 @@ entry c =
 
 abbrev wiped : tie.After-check-to-make → Tables
 wiped c =
-    let l = c .before .before .before .before .before .before .before .before .before .before .clear-four .last in
+    let l = wiping c .clear-four .last in
     record { inputs = l .0; latches = l .1 .0; outputs = l .1 .1 .0; gates = l .1 .1 .1 .0 }
 
 all-wiped : (c : tie.After-check-to-make) → wiped c ≡ allCleared (entry c .written)
-all-wiped c = c .before .before .before .before .before .before .before .before .before .before .clear-four .ensures
+all-wiped c = wiping c .clear-four .ensures
 
 -- what the check answers and leaves
 checked : (c : tie.After-check-to-make) → let g = entry c .circuit in
@@ -52,6 +55,13 @@ back c = c .before .before .before .before
 passed : (c : tie.After-enum-told)
     → let g = entry (back c) .circuit in Good ≡ checkedBy (firstOf (allStages false g (lentWith g (entry (back c) .written))))
 passed c = sym (c .enum-told .given .1) ∙ ap (λ (x : CheckExit). x .answer) (checked (back c))
+
+-- from the end of an accepted call: back to where the tables are written, and to where nothing was found
+abbrev writing : tie.After-struct-known → tie.After-fill
+writing c = c .before .before .before .before .before .before .before .before .before .before .before .before .before .before .before
+
+abbrev found : tie.After-fill → tie.After-enum-told
+found c = c .before .before .before .before .before .before
 
 clear-four-requires : tie.Need-clear-four-requires
 clear-four-requires c κs = search needs
@@ -75,10 +85,10 @@ clear-requires : tie.Need-clear-requires
 clear-requires c κs = search needs
 
 add-t43 : tie.Need-add-t43
-add-t43 c = let d = c .before .before .before .before .before .before .before .before .before .before .before .before .before .before .before .before .before .before .before .before .before in record { fits = omega (arith, few (entry (back d)) (passed d)) }
+add-t43 c = let d = found (writing c) in record { fits = omega (arith, few (entry (back d)) (passed d)) }
 
 add-t44 : tie.Need-add-t44
-add-t44 c = let d = c .before .before .before .before .before .before .before .before .before .before .before .before .before .before .before .before .before .before .before .before .before .before in record { fits = omega (arith, few (entry (back d)) (passed d)) }
+add-t44 c = let d = found (writing (c .before)) in record { fits = omega (arith, few (entry (back d)) (passed d)) }
 
 same-length : tie.Need-same-length
 same-length c = search needs
@@ -102,13 +112,22 @@ returns c =
     (sym (c .before .r .given .1) ∙ ap (λ (x : CheckExit). x .answer) (checked k))
 
 same-length-6 : tie.Need-same-length-6
-same-length-6 c = c .before .before .before .before .before .before .before .before .before .before .before .before .before .before .before .to-inputs2 .given ∙ c .before .before .before .before .before .before .before .before .before .before .before .before .before .before .before .before .before .before .before .before .before .before .before .before .before .before .before .before .before .before .before .before .before .before .before .to-inputs .given
+same-length-6 c =
+    let k = back (found (writing (c .before))) in
+    let d = c .before .before .before .before .before .before .before .before .before .before .before .before .before .before .before in
+    d .to-inputs2 .given ∙ k .before .before .before .before .before .before .before .before .before .to-inputs .given
 
 same-length-7 : tie.Need-same-length-7
-same-length-7 c = c .before .before .before .before .before .before .before .before .before .before .before .before .before .to-latches2 .given ∙ c .before .before .before .before .before .before .before .before .before .before .before .before .before .before .before .before .before .before .before .before .before .before .before .before .before .before .before .before .before .before .before .before .before .to-latches .given
+same-length-7 c =
+    let k = back (found (writing (c .before))) in
+    let d = c .before .before .before .before .before .before .before .before .before .before .before .before .before in
+    d .to-latches2 .given ∙ k .before .before .before .before .before .before .before .to-latches .given
 
 same-length-8 : tie.Need-same-length-8
-same-length-8 c = c .before .before .before .before .before .before .before .before .before .before .before .to-outputs2 .given ∙ c .before .before .before .before .before .before .before .before .before .before .before .before .before .before .before .before .before .before .before .before .before .before .before .before .before .before .before .before .before .before .before .to-outputs .given
+same-length-8 c =
+    let k = back (found (writing (c .before))) in
+    let d = c .before .before .before .before .before .before .before .before .before .before .before in
+    d .to-outputs2 .given ∙ k .before .before .before .before .before .to-outputs .given
 
 same-length-9 : tie.Need-same-length-9
 same-length-9 c = search needs
@@ -118,10 +137,12 @@ same-length-10 c = search needs
 
 returns-2 : tie.Need-returns-2
 returns-2 c =
-    let d = c .before .before .before .before .before .before .before .before .before .before .before .before .before .before .before .before .before .before .before .before .before .before in
+    let f = writing (c .before) in
+    let d = found f in
     let k = back d in
-    accepted (entry k) (passed d) (wiped k) _ _ (all-wiped k) (c .before .before .before .before .before .before .before .before .before .before .before .before .before .before .before .before .fill .ensures)
-    (c .before .before .before .before .clear .ensures ∙ ap (λ (n : ℕ). replicate n 0) (c .before .before .before .before .before .before .before .scratch2 .given ∙ c .before .before .before .before .before .before .before .before .before .before .before .before .before .before .before .before .before .before .before .before .before .before .before .before .before .scratch .given))
+    let same = c .before .before .before .before .before .before .before .scratch2 .given ∙ d .before .before .before .scratch .given in
+    accepted (entry k) (passed d) (wiped k) _ _ (all-wiped k) (f .fill .ensures)
+    (c .before .before .before .before .clear .ensures ∙ ap (λ (n : ℕ). replicate n 0) same)
 
 pub convert-spec : {M : Type 1} → statement M
 convert-spec =

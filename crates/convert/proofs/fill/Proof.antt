@@ -16,6 +16,13 @@ leaved c = c .before .before .before .before .before
 abbrev columned : tie.After-to-latches → tie.After-scratch2
 columned c = c .before .before .before .before .before .before .before .before .before
 
+-- from the last part: to where outputs are written, and next states
+abbrev written : tie.After-place-gates → tie.After-renumber-column2
+written c = c .before .before .before .before .before
+
+abbrev spreading : tie.After-renumber-column2 → tie.After-to-latches
+spreading c = c .before .before .before .before .before .before .before .before
+
 add-first-latch : tie.Need-add-first-latch
 add-first-latch c = search needs
 
@@ -23,7 +30,9 @@ add-first-gate : tie.Need-add-first-gate
 add-first-gate c = search needs
 
 number-leaves-requires : tie.Need-number-leaves-requires
-number-leaves-requires c κs = leaves-ask (c .before .before .before .before .before .before .before .before .before .before .before .before .pre)
+number-leaves-requires c κs =
+    let s = c .before .before .before .before .before .before .before .before .before .before .before .before in
+    leaves-ask (s .pre)
 
 cast-number : tie.Need-cast-number
 cast-number c = search needs
@@ -41,7 +50,9 @@ number-requires c κs =
     (room p u kept done, omega arith, omega (arith, p .fits .sum, p .fits .most-M), fresh p u kept done, unmarked p u kept done)
 
 run-on-requires : tie.Need-run-on-requires
-run-on-requires c κs = let p = start (leaved (c .before .before)) .pre in (p .room .inputs-long, omega (arith, p .fits .sum, p .fits .most-M))
+run-on-requires c κs =
+    let p = start (leaved (c .before .before)) .pre in
+    (p .room .inputs-long, omega (arith, p .fits .sum, p .fits .most-M))
 
 renumber-column-requires : tie.Need-renumber-column-requires
 renumber-column-requires c κs =
@@ -72,7 +83,7 @@ spread-requires c κs =
 
 renumber-column-requires-2 : tie.Need-renumber-column-requires-2
 renumber-column-requires-2 c κs =
-    let e = c .before .before .before .before .before .before .before .before .before .before .before .before .before .before .before .before in
+    let e = columned (c .before .before .before .before .before .before .before) in
     let d = leaved e in
     let p = start d .pre in (
       omega arith,
@@ -88,7 +99,7 @@ renumber-column-requires-2 c κs =
 
 place-gates-requires : tie.Need-place-gates-requires
 place-gates-requires c κs =
-    let e = c .before .before .before .before .before .before .before .before .before .before .before .before .before .before .before .before .before .before .before .before .before in
+    let e = columned (spreading (c .before .before .before .before)) in
     let d = leaved e in
     let p = start d .pre in (
       (p .fits .gates-long, p .room .gates-long),
@@ -109,17 +120,22 @@ same-length-4 : tie.Need-same-length-4
 same-length-4 c = search needs
 
 same-length-5 : tie.Need-same-length-5
-same-length-5 c = let e = columned (c .before .before .before .before .before .before .before .before .before .before .before .before .before .before .before) in e .scratch2 .given ∙ leaved e .scratch .given
+same-length-5 c =
+    let e = columned (spreading (written (c .before .before))) in
+    e .scratch2 .given ∙ leaved e .scratch .given
 
 returns : tie.Need-returns
 returns c =
-    let f = c .before .before .before .before .before .before .before .before .before .before .before .before .before .before .before in
+    let o = written (c .before .before) in
+    let s = o .before .before .before .before .before in
+    let f = spreading o in
+    let r = f .before .before .before .before .before .before in
     let e = columned f in
     let d = leaved e in
     let p = start d .pre in
     all-hold p (d .before .number-leaves .last .1 .1 .1 .0) (d .scratch .given) (d .before .number-leaves .ensures)
     (e .before .number .last .1 .0) (e .scratch2 .given) (e .before .number .ensures) _ _ _ _ _
-    (c .before .before .before .before .before .before .before .before .before .before .before .before .before .before .before .before .before .before .before .before .before .run-on .ensures) (f .before .renumber-column .ensures) (c .before .before .before .before .before .before .before .before .before .before .before .before .spread .ensures) (c .before .before .before .before .before .before .before .renumber-column2 .ensures)
+    (r .run-on .ensures) (f .before .renumber-column .ensures) (s .spread .ensures) (o .renumber-column2 .ensures)
     (c .before .before .place-gates .ensures)
 
 pub fill-spec : {M : Type 1} → statement M

@@ -6,7 +6,7 @@ use lib.ListN.{length, length-set}
 use Rattle.plan.specs.Circuit.{Gate}
 use Rattle.plan.specs.Literals.{litOf, litAt, wordOf, varAt, doubled}
 use Rattle.theorems.proofs.Tables.{gateAt}
-use Rattle.convert.specs.Renumbered.{numberOf, literalBy, Known, gateBy, rowOf, withGate}
+use Rattle.convert.specs.Renumbered.{numberIn, literalBy, Known, gateBy, rowOf, withGate}
 use Rattle.convert.proofs.Literals.{double-word}
 use Rattle.convert.proofs.place_gate.Statement.{statement}
 use Rattle.convert.proofs.place_gate.Tie as tie
@@ -19,18 +19,20 @@ abbrev gate : tie.Start → Gate
 gate s = gateAt (s .args .gates .now) (s .args .i)
 
 -- the number and the right sides
-number-is : (c : tie.After-number-of) → c .number-of .result ≡ numberOf (start c .args .t .now) (gate (start c) .lhs)
-number-is c = c .number-of .ensures ∙ ap (λ l. numberOf (start c .args .t .now) (wordOf l)) (c .before .at .ensures)
+number-is : (c : tie.After-number-of) → c .number-of .result ≡ numberIn (start c .args .t .now) (gate (start c) .lhs)
+number-is c = c .number-of .ensures ∙ ap (λ l. numberIn (start c .args .t .now) (wordOf l)) (c .before .at .ensures)
 
 abbrev numbered : tie.After-renumbered2 → tie.After-number-of
 numbered c = c .before .before .before .before .before .before
 
-first-is : (c : tie.After-renumbered2) → let s = start (numbered c) in c .before .before .before .renumbered .result ≡ litAt (literalBy (s .args .t .now) (gate s .rhs0))
+first-is : (c : tie.After-renumbered2) → let s = start (numbered c) in
+    c .before .before .before .renumbered .result ≡ litAt (literalBy (s .args .t .now) (gate s .rhs0))
 first-is c =
     let d = c .before .before .before in
     d .renumbered .ensures ∙ ap (λ l. litAt (literalBy (start (numbered c) .args .t .now) (wordOf l))) (d .before .at2 .ensures)
 
-second-is : (c : tie.After-renumbered2) → let s = start (numbered c) in c .renumbered2 .result ≡ litAt (literalBy (s .args .t .now) (gate s .rhs1))
+second-is : (c : tie.After-renumbered2) → let s = start (numbered c) in
+    c .renumbered2 .result ≡ litAt (literalBy (s .args .t .now) (gate s .rhs1))
 second-is c = c .renumbered2 .ensures ∙ ap (λ l. litAt (literalBy (start (numbered c) .args .t .now) (wordOf l))) (c .before .at3 .ensures)
 
 -- the gate's row ends in the table
@@ -166,10 +168,10 @@ returns c =
     let t = s .args .t .now in
     let g = gate s in
     let number = number-is n in
-    let row : n .number-of .result - s .args .first ≡ numberOf t (g .lhs) - s .args .first = ap (λ k. k - s .args .first) number in
+    let row : n .number-of .result - s .args .first ≡ numberIn t (g .lhs) - s .args .first = ap (λ k. k - s .args .first) number in
     let var = ap doubled (w1 .before .before .at4 .ensures ∙ ap varAt number) in
-    let lhs : w1 .word .result ≡ litOf (numberOf t (g .lhs))
-    = w1 .word .ensures ∙ (ap wordOf (w1 .before .lit .ensures ∙ var) ∙ double-word (numberOf t (g .lhs)) (s .pre .1 .lhs .1)) in
+    let lhs : w1 .word .result ≡ litOf (numberIn t (g .lhs))
+    = w1 .word .ensures ∙ (ap wordOf (w1 .before .lit .ensures ∙ var) ∙ double-word (numberIn t (g .lhs)) (s .pre .1 .lhs .1)) in
     let rhs0 : w2 .word2 .result ≡ max (literalBy t (g .rhs0)) (literalBy t (g .rhs1))
     = w2 .word2 .ensures ∙ (ap wordOf (w2 .before .larger .ensures) ∙ ap₂ (λ a b. max (wordOf a) (wordOf b)) (first-is d) (second-is d)) in
     let rhs1 : c .word3 .result ≡ min (literalBy t (g .rhs0)) (literalBy t (g .rhs1))

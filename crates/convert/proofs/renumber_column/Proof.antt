@@ -29,7 +29,8 @@ room c =
 
 -- the word of this turn
 word-is : (c : tie.In-loop Inv-loop μ-loop)
-    → let a = start c .args in getD (a .table .now) (c .before .loop .at) 0 ≡ wordAt (a .table .now) (a .stride) (a .column) (c .before .loop .i)
+    → let a = start c .args in
+    getD (a .table .now) (c .before .loop .at) 0 ≡ wordAt (a .table .now) (a .stride) (a .column) (c .before .loop .i)
 word-is c = ap (λ (k : ℕ). getD (start c .args .table .now) k 0) (c .before .loop .inv .1)
 
 loop-holds : tie.Need-loop-holds Inv-loop μ-loop
@@ -48,7 +49,8 @@ renumbered-requires : tie.Need-renumbered-requires Inv-loop μ-loop
 renumbered-requires c κs =
     let d = c .before .before in
     let s = start d in
-    subst (λ (l : ℕ). Known (s .args .t .now) l) (sym (ap wordOf (c .at .ensures) ∙ word-is d)) (s .pre .1 .1 .1 (d .before .loop .i) (d .loop-test .taken))
+    subst (λ (l : ℕ). Known (s .args .t .now) l) (sym (ap wordOf (c .at .ensures) ∙ word-is d))
+    (s .pre .1 .1 .1 (d .before .loop .i) (d .loop-test .taken))
 
 word-requires : tie.Need-word-requires Inv-loop μ-loop
 word-requires c κs = search needs
@@ -76,8 +78,10 @@ loop-again c =
     let l = d .before .loop in
     let s = start d in
     let a = s .args in
-    let lit = c .before .renumbered .ensures ∙ ap (λ (w : ℕ). litAt (literalBy (a .t .now) w)) (ap wordOf (c .before .before .at .ensures) ∙ word-is d) in (
-      one-written (columnBy (a .t .now) (a .table .now) (a .stride) (a .column)) (a .n) (a .to .now) (s .pre .1 .1 .0) (l .to) (l .i) (l .inv .0)
+    let word = ap wordOf (c .before .before .at .ensures) ∙ word-is d in
+    let lit = c .before .renumbered .ensures ∙ ap (λ (w : ℕ). litAt (literalBy (a .t .now) w)) word in
+    let at = columnBy (a .t .now) (a .table .now) (a .stride) (a .column) in (
+      one-written at (a .n) (a .to .now) (s .pre .1 .1 .0) (l .to) (l .i) (l .inv .0)
           (d .loop-test .taken) _ (c .word .ensures ∙ ap wordOf lit),
       omega (arith, l .inv .1, next-row (a .stride) (l .i) (a .stride * l .i) refl),
     )
@@ -89,7 +93,8 @@ returns : tie.Need-returns Inv-loop μ-loop
 returns c =
     let l = c .before .loop in
     let a = c .before .before .before .before .before .args in
-    all-written (columnBy (a .t .now) (a .table .now) (a .stride) (a .column)) (a .n) (a .to .now) (l .to) (l .i) (l .inv .0) (c .loop-test .left)
+    all-written (columnBy (a .t .now) (a .table .now) (a .stride) (a .column)) (a .n) (a .to .now) (l .to) (l .i) (l .inv .0)
+    (c .loop-test .left)
 
 pub renumber-column-spec : {M : Type 1} → statement M
 renumber-column-spec =

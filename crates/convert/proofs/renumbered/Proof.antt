@@ -20,7 +20,8 @@ signed-as-requires c κs = search needs
 returns : tie.Need-returns
 returns c =
     let s = c .before .before .before .before .before in
-    let lit = c .before .lit .ensures ∙ ap doubled (c .before .before .at .ensures ∙ ap varAt (c .before .before .before .number-of .ensures)) in
+    let var = c .before .before .at .ensures ∙ ap varAt (c .before .before .before .number-of .ensures) in
+    let lit = c .before .lit .ensures ∙ ap doubled var in
     c .signed-as .ensures ∙ (ap (λ l. signedAs l (s .args .l)) lit ∙ by-number (s .args .t .now) (s .args .l) (s .pre))
 
 pub renumbered-spec : {M : Type 1} → statement M
