@@ -213,8 +213,9 @@ pub fn convert(
                 scratch,
             );
             clear(scratch);
+            let m = n.I + n.L + n.A;
             Made::Accepted(Counts {
-                M: n.I + n.L + n.A,
+                M: m,
                 I: n.I,
                 L: n.L,
                 O: n.O,

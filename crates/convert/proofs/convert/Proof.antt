@@ -84,11 +84,11 @@ fill-requires c κs =
 clear-requires : tie.Need-clear-requires
 clear-requires c κs = search needs
 
-add-t43 : tie.Need-add-t43
-add-t43 c = let d = found (writing c) in record { fits = omega (arith, few (entry (back d)) (passed d)) }
+add-m : tie.Need-add-m
+add-m c = let d = found (writing c) in record { fits = omega (arith, few (entry (back d)) (passed d)) }
 
-add-t44 : tie.Need-add-t44
-add-t44 c = let d = found (writing (c .before)) in record { fits = omega (arith, few (entry (back d)) (passed d)) }
+add-m-2 : tie.Need-add-m-2
+add-m-2 c = let d = found (writing (c .before)) in record { fits = omega (arith, few (entry (back d)) (passed d)) }
 
 same-length : tie.Need-same-length
 same-length c = search needs
@@ -154,8 +154,8 @@ convert-spec =
     enum-told
     fill-requires
     clear-requires
-    add-t43
-    add-t44
+    add-m
+    add-m-2
     same-length
     same-length-2
     same-length-3
