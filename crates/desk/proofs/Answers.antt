@@ -5,9 +5,9 @@ use mathlib.Core.List.{List}
 use Rattle.plan.specs.declared.Counts.{Counts}
 use Rattle.plan.specs.Circuit.{Tables}
 use Rattle.plan.specs.Given.{Given}
-use Rattle.plan.specs.Outcome.{CheckExit, FileEntry, FileExit, checkedValues, writtenValues}
+use Rattle.plan.specs.Outcome.{CheckExit, FileEntry, FileExit, MakeEntry, MakeExit, StepEntry, StepExit, WitnessEntry, WitnessExit, checkedValues, writtenValues, madeValues, steppedValues, verdictValues}
 use Rattle.plan.specs.Outcome as outcome
-use Rattle.desk.specs.Told.{CheckTold, check, FileTold, toldFile}
+use Rattle.desk.specs.Told.{CheckTold, check, FileTold, toldFile, MakeTold, toldMade, StepTold, step, WitnessTold, witness}
 
 -- counts that C gives
 abbrev pub counted : Given → Counts → Given
@@ -28,3 +28,28 @@ pub file-told : (f : FileEntry → FileExit) (g : Given) (tail out : List ℕ) (
 file-told f g tail out n x answer e says told =
     ap (λ (a : List ℕ). record { answer = a; scratch = x .scratch; out = x .out }) told
     ∙ (ap toldFile says ∙ ap (λ (m : Counts). toldFile (f (record { circuit = counted g m; tail = tail; out = out }))) e)
+
+-- conversion or reduction
+pub made-told : (f : MakeEntry → MakeExit) (g : Given) (t : Tables) (n : Counts) (x : MakeExit) (answer : List ℕ) → n ≡ g .counts
+    → x ≡ f (record { circuit = counted g n; written = t }) → answer ≡ madeValues (x .answer)
+    → _≡_ {A = MakeTold} (record { answer = answer; written = x .written; scratch = x .scratch }) (toldMade (f (record { circuit = g; written = t })))
+made-told f g t n x answer e says told =
+    ap (λ (a : List ℕ). record { answer = a; written = x .written; scratch = x .scratch }) told
+    ∙ (ap toldMade says ∙ ap (λ (m : Counts). toldMade (f (record { circuit = counted g m; written = t }))) e)
+
+pub step-told : (g : Given) (state ins outs : List ℕ) (n : Counts) (x : StepExit) (answer : List ℕ) → n ≡ g .counts
+    → x ≡ outcome.step (record { circuit = counted g n; state = state; inputs = ins; outputs = outs }) → answer ≡ steppedValues (x .answer)
+    → _≡_ {A = StepTold} (record { answer = answer; scratch = x .scratch; state = x .state; outputs = x .outputs })
+    (step (record { circuit = g; state = state; inputs = ins; outputs = outs }))
+step-told g state ins outs n x answer e says told =
+    ap (λ (a : List ℕ). record { answer = a; scratch = x .scratch; state = x .state; outputs = x .outputs }) told
+    ∙ (ap (λ (y : StepExit). record { answer = steppedValues (y .answer); scratch = y .scratch; state = y .state; outputs = y .outputs }) says
+    ∙ ap (λ (m : Counts). step (record { circuit = counted g m; state = state; inputs = ins; outputs = outs })) e)
+
+pub witness-told : (g : Given) (number : ℕ) (bytes : List ℕ) (n : Counts) (x : WitnessExit) (answer : List ℕ) → n ≡ g .counts
+    → x ≡ outcome.witness (record { circuit = counted g n; number = number; bytes = bytes }) → answer ≡ verdictValues (x .answer)
+    → _≡_ {A = WitnessTold} (record { answer = answer; scratch = x .scratch }) (witness (record { circuit = g; number = number; bytes = bytes }))
+witness-told g number bytes n x answer e says told =
+    ap (λ (a : List ℕ). record { answer = a; scratch = x .scratch }) told
+    ∙ (ap (λ (y : WitnessExit). record { answer = verdictValues (y .answer); scratch = y .scratch }) says
+    ∙ ap (λ (m : Counts). witness (record { circuit = counted g m; number = number; bytes = bytes })) e)

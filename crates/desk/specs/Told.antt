@@ -2,7 +2,8 @@
 use Prim.Native.Nat.{ℕ}
 use mathlib.Core.List.{List}
 use Rattle.plan.specs.Given.{Given}
-use Rattle.plan.specs.Outcome.{FileEntry, FileExit, checkedValues, writtenValues}
+use Rattle.plan.specs.Circuit.{Tables}
+use Rattle.plan.specs.Outcome.{FileEntry, FileExit, MakeEntry, MakeExit, StepEntry, WitnessEntry, checkedValues, writtenValues, madeValues, steppedValues, verdictValues}
 use Rattle.plan.specs.Outcome as outcome
 
 pub record CheckTold : Type 0 where
@@ -26,3 +27,35 @@ writeText e = toldFile (outcome.writeText e)
 
 abbrev pub writeBinary : FileEntry → FileTold
 writeBinary e = toldFile (outcome.writeBinary e)
+
+-- conversion and reduction
+pub record MakeTold : Type 0 where
+  pub answer : List ℕ
+  pub written : Tables
+  pub scratch : List ℕ
+
+abbrev pub toldMade : MakeExit → MakeTold
+toldMade x = record { answer = madeValues (x .answer); written = x .written; scratch = x .scratch }
+
+abbrev pub conversion : MakeEntry → MakeTold
+conversion e = toldMade (outcome.conversion e)
+
+abbrev pub reduction : MakeEntry → MakeTold
+reduction e = toldMade (outcome.reduction e)
+
+-- the stepper and the witness question
+pub record StepTold : Type 0 where
+  pub answer : List ℕ
+  pub scratch : List ℕ
+  pub state : List ℕ
+  pub outputs : List ℕ
+
+abbrev pub step : StepEntry → StepTold
+step e = let x = outcome.step e in record { answer = steppedValues (x .answer); scratch = x .scratch; state = x .state; outputs = x .outputs }
+
+pub record WitnessTold : Type 0 where
+  pub answer : List ℕ
+  pub scratch : List ℕ
+
+abbrev pub witness : WitnessEntry → WitnessTold
+witness e = let x = outcome.witness e in record { answer = verdictValues (x .answer); scratch = x .scratch }

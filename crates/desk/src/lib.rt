@@ -3,7 +3,7 @@ ghost use mathlib.Core.Path.{_≡_};
 ghost use lib.ListN.{drop};
 ghost use Rattle.plan.specs.Header.{wordsFor, countsFrom};
 ghost use Rattle.plan.specs.Outcome.{Says, read};
-ghost use Rattle.desk.specs.Told.{check, writeText, writeBinary};
+ghost use Rattle.desk.specs.Told.{check, writeText, writeBinary, conversion, reduction, step, witness};
 
 // How many words table 1 to 5 needs for the file's header, or 2^64 - 1.
 #[no_mangle]
@@ -94,4 +94,138 @@ pub extern "C" fn golvanzo_write_binary(
     let n = told::counts(counts);
     let r = write::write_binary(n, inputs, latches, outputs, gates, scratch, tail, out);
     told::written(r, answer);
+}
+
+// Converts the circuit in given tables into written ones: number (0: converted), place and the counts M, I, L, O, A.
+#[no_mangle]
+pub extern "C" fn golvanzo_convert(
+    counts: &[u64; 5],
+    inputs: &[u32],
+    latches: &[u32],
+    outputs: &[u32],
+    gates: &[u32],
+    to_inputs: &mut [u32],
+    to_latches: &mut [u32],
+    to_outputs: &mut [u32],
+    to_gates: &mut [u32],
+    scratch: &mut [u32],
+    answer: &mut [u64; 7],
+)
+    ensures { λ _. ⌜ Says conversion
+        (record { circuit = (record { counts = countsFrom (now (counts .entry)); tables = (record { inputs = now (inputs .entry); latches = now (latches .entry); outputs = now (outputs .entry); gates = now (gates .entry) }); scratch = now (scratch .entry) }); written = (record { inputs = now («to_inputs» .entry); latches = now («to_latches» .entry); outputs = now («to_outputs» .entry); gates = now («to_gates» .entry) }) })
+        (record { answer = now (answer .exit); written = (record { inputs = now («to_inputs» .exit); latches = now («to_latches» .exit); outputs = now («to_outputs» .exit); gates = now («to_gates» .exit) }); scratch = now (scratch .exit) }) ⌝ }
+{
+    let n = told::counts(counts);
+    let r = convert::convert(
+        n,
+        inputs,
+        latches,
+        outputs,
+        gates,
+        to_inputs,
+        to_latches,
+        to_outputs,
+        to_gates,
+        scratch,
+    );
+    told::made(r, answer);
+}
+
+// Reduces the circuit in given tables, which are in binary order, into written ones: the same answer.
+#[no_mangle]
+pub extern "C" fn golvanzo_reduce(
+    counts: &[u64; 5],
+    inputs: &[u32],
+    latches: &[u32],
+    outputs: &[u32],
+    gates: &[u32],
+    to_inputs: &mut [u32],
+    to_latches: &mut [u32],
+    to_outputs: &mut [u32],
+    to_gates: &mut [u32],
+    scratch: &mut [u32],
+    answer: &mut [u64; 7],
+)
+    ensures { λ _. ⌜ Says reduction
+        (record { circuit = (record { counts = countsFrom (now (counts .entry)); tables = (record { inputs = now (inputs .entry); latches = now (latches .entry); outputs = now (outputs .entry); gates = now (gates .entry) }); scratch = now (scratch .entry) }); written = (record { inputs = now («to_inputs» .entry); latches = now («to_latches» .entry); outputs = now («to_outputs» .entry); gates = now («to_gates» .entry) }) })
+        (record { answer = now (answer .exit); written = (record { inputs = now («to_inputs» .exit); latches = now («to_latches» .exit); outputs = now («to_outputs» .exit); gates = now («to_gates» .exit) }); scratch = now (scratch .exit) }) ⌝ }
+{
+    let n = told::counts(counts);
+    let r = reduce::reduce(
+        n,
+        inputs,
+        latches,
+        outputs,
+        gates,
+        to_inputs,
+        to_latches,
+        to_outputs,
+        to_gates,
+        scratch,
+    );
+    told::made(r, answer);
+}
+
+// One step of the circuit in given tables, which are in binary order: number (0: stepped) and place.
+#[no_mangle]
+pub extern "C" fn golvanzo_step(
+    counts: &[u64; 5],
+    inputs: &[u32],
+    latches: &[u32],
+    outputs: &[u32],
+    gates: &[u32],
+    scratch: &mut [u32],
+    state: &mut [u8],
+    ins: &[u8],
+    outs: &mut [u8],
+    answer: &mut [u64; 2],
+)
+    ensures { λ _. ⌜ Says step
+        (record { circuit = (record { counts = countsFrom (now (counts .entry)); tables = (record { inputs = now (inputs .entry); latches = now (latches .entry); outputs = now (outputs .entry); gates = now (gates .entry) }); scratch = now (scratch .entry) }); state = now (state .entry); inputs = now (ins .entry); outputs = now (outs .entry) })
+        (record { answer = now (answer .exit); scratch = now (scratch .exit); state = now (state .exit); outputs = now (outs .exit) }) ⌝ }
+{
+    let n = told::counts(counts);
+    let r = step::step(
+        n,
+        inputs,
+        latches,
+        outputs,
+        gates,
+        scratch,
+        state,
+        ins,
+        outs,
+    );
+    told::stepped(r, answer);
+}
+
+// The witness question on a list of vectors: number (0: answered), place, and 1 for yes or 0 for no.
+#[no_mangle]
+pub extern "C" fn golvanzo_witness(
+    counts: &[u64; 5],
+    inputs: &[u32],
+    latches: &[u32],
+    outputs: &[u32],
+    gates: &[u32],
+    scratch: &mut [u32],
+    number: u64,
+    bytes: &[u8],
+    answer: &mut [u64; 3],
+)
+    ensures { λ _. ⌜ Says witness
+        (record { circuit = (record { counts = countsFrom (now (counts .entry)); tables = (record { inputs = now (inputs .entry); latches = now (latches .entry); outputs = now (outputs .entry); gates = now (gates .entry) }); scratch = now (scratch .entry) }); number = number; bytes = now (bytes .entry) })
+        (record { answer = now (answer .exit); scratch = now (scratch .exit) }) ⌝ }
+{
+    let n = told::counts(counts);
+    let r = witness::witness(
+        n,
+        inputs,
+        latches,
+        outputs,
+        gates,
+        scratch,
+        number as usize,
+        bytes,
+    );
+    told::verdict(r, answer);
 }

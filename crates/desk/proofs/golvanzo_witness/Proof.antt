@@ -1,0 +1,35 @@
+use borrow.Author.Needs.{needs}
+use Rattle.plan.specs.Header.{countsFrom}
+use Rattle.plan.specs.Given.{Given}
+use Rattle.plan.specs.Outcome.{WitnessExit}
+use Rattle.desk.proofs.Answers.{witness-told}
+use Rattle.desk.proofs.golvanzo_witness.Statement.{statement}
+use Rattle.desk.proofs.golvanzo_witness.Tie as tie
+
+counts-requires : tie.Need-counts-requires
+counts-requires c κs = search needs
+
+witness-requires : tie.Need-witness-requires
+witness-requires c κs = search needs
+
+verdict-requires : tie.Need-verdict-requires
+verdict-requires c κs = search needs
+
+same-length : tie.Need-same-length
+same-length c = search needs
+
+returns : tie.Need-returns
+returns c =
+    let a = c .before .before .before .before .before .before .before .before .before .before .before .before .before .args in
+    let asked = c .before .before .before .before .witness in
+    let g : Given = record {
+      counts = countsFrom (a .counts .now);
+      tables = record { inputs = a .inputs .now; latches = a .latches .now; outputs = a .outputs .now; gates = a .gates .now };
+      scratch = a .scratch .now;
+    } in
+    let x : WitnessExit = record { answer = asked .result; scratch = asked .last .1 .1 .1 .1 .1 .0 } in
+    witness-told g (a .number) (a .bytes .now) _ x _ (c .before .before .before .before .before .before .counts .ensures) (asked .ensures) (c .verdict .ensures)
+
+pub golvanzo-witness-spec : {M : Type 1} → statement M
+golvanzo-witness-spec =
+    tie.close (tie.spec counts-requires witness-requires verdict-requires same-length returns)
