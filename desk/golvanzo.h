@@ -34,4 +34,16 @@ void golvanzo_write_binary(const uint64_t *counts /* 5 words */, const uint32_t 
                            const uint32_t *gates, size_t n4, uint32_t *scratch, size_t n5, const uint8_t *tail,
                            size_t tail_len, uint8_t *out, size_t out_len, uint64_t *answer /* 3 words */);
 
+/* Write the circuit in binary order, or reduced, to the tables w1 to w4 (as long as the given counts ask), `answer` being
+   number (0: accepted), place, M, I, L, O, A of what is written (0 after a refusal). Reduction needs tables in binary
+   order. */
+void golvanzo_convert(const uint64_t *counts /* 5 words */, const uint32_t *inputs, size_t n1, const uint32_t *latches,
+                      size_t n2, const uint32_t *outputs, size_t n3, const uint32_t *gates, size_t n4, uint32_t *w1,
+                      size_t w1_len, uint32_t *w2, size_t w2_len, uint32_t *w3, size_t w3_len, uint32_t *w4,
+                      size_t w4_len, uint32_t *scratch, size_t n5, uint64_t *answer /* 7 words */);
+void golvanzo_reduce(const uint64_t *counts /* 5 words */, const uint32_t *inputs, size_t n1, const uint32_t *latches,
+                     size_t n2, const uint32_t *outputs, size_t n3, const uint32_t *gates, size_t n4, uint32_t *w1,
+                     size_t w1_len, uint32_t *w2, size_t w2_len, uint32_t *w3, size_t w3_len, uint32_t *w4,
+                     size_t w4_len, uint32_t *scratch, size_t n5, uint64_t *answer /* 7 words */);
+
 #endif

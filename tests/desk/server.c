@@ -9,6 +9,8 @@
    3 check      counts, five tables, answer                               all of these
    4 text       counts, five tables, tail, buffer, answer                 all of these
    5 binary     the same                                                  all of these
+   6 convert    counts, five tables, tables 1 to 4 to write, answer       all of these
+   7 reduce     the same                                                  all of these
 
    What these are is said in wire.h. */
 #include <stdint.h>
@@ -60,6 +62,24 @@ static void call_write(int binary) {
     put_memory(answer);
 }
 
+static void call_change(int reduce) {
+    struct given given = get_given();
+    struct memory w[CIRCUIT];
+    for (int k = 0; k < CIRCUIT; k++)
+        w[k] = get_table();
+    struct memory answer = get_numbers();
+    if (reduce)
+        golvanzo_reduce(CIRCUIT_OF(given), LENT(w[0]), LENT(w[1]), LENT(w[2]), LENT(w[3]), LENT(given.scratch),
+                        answer.lent);
+    else
+        golvanzo_convert(CIRCUIT_OF(given), LENT(w[0]), LENT(w[1]), LENT(w[2]), LENT(w[3]), LENT(given.scratch),
+                         answer.lent);
+    put_given(given);
+    for (int k = 0; k < CIRCUIT; k++)
+        put_memory(w[k]);
+    put_memory(answer);
+}
+
 int main(void) {
     uint32_t call;
     while (fread(&call, sizeof call, 1, stdin) == 1) {
@@ -80,6 +100,10 @@ int main(void) {
         case 4:
         case 5:
             call_write(call == 5);
+            break;
+        case 6:
+        case 7:
+            call_change(call == 7);
             break;
         default:
             give_up("no such call");

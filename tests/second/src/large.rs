@@ -13,6 +13,9 @@ use crate::tally::Tally;
 /// Fills what is lent.
 const JUNK: u64 = 1 << 33;
 
+/// Gates for the calls that may look at all gates again for each.
+const FEWER: usize = 3000;
+
 /// The chain in binary order: each gate is the And of the one below it and the input.
 fn chain(a: usize) -> Circuit {
     Circuit {
@@ -64,7 +67,9 @@ fn compared(library: &dyn Library, a: usize) -> Result<(), String> {
     called(library, Call::Check, &circuit, &[])?;
     called(library, Call::WriteText, &circuit, &[0, text.len() as u64])?;
     let binary = write::file(&chain(a), Form::Binary, b"");
-    called(library, Call::WriteBinary, &chain(a), &[0, binary.len() as u64])
+    called(library, Call::WriteBinary, &chain(a), &[0, binary.len() as u64])?;
+    called(library, Call::Reduce, &chain(FEWER), &[])?;
+    called(library, Call::Convert, &upside_down(FEWER), &[])
 }
 
 /// A call on exactly the circuit's tables, with byte buffers of these lengths.

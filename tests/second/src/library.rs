@@ -1,5 +1,5 @@
-//! What is compared, seen from the caller's side. Conversion, reduction, the stepper and the witness question join
-//! `Call` when the library offers them.
+//! What is compared, seen from the caller's side. The stepper and the witness question join `Call` when the library
+//! offers them.
 
 use crate::memory::Memory;
 
@@ -37,10 +37,18 @@ pub enum Call {
     Check,
     WriteText,
     WriteBinary,
+    Convert,
+    Reduce,
 }
 
 impl Call {
-    pub const ALL: [Call; 3] = [Call::Check, Call::WriteText, Call::WriteBinary];
+    pub const ALL: [Call; 5] = [
+        Call::Check,
+        Call::WriteText,
+        Call::WriteBinary,
+        Call::Convert,
+        Call::Reduce,
+    ];
 
     pub fn named(name: &str) -> Option<Call> {
         Call::ALL.into_iter().find(|call| call.name() == name)
@@ -51,13 +59,16 @@ impl Call {
             Call::Check => "check",
             Call::WriteText => "write-text",
             Call::WriteBinary => "write-binary",
+            Call::Convert => "convert",
+            Call::Reduce => "reduce",
         }
     }
 
     /// The refusals that it can give.
     pub fn refusals(self) -> &'static [u64] {
         match self {
-            Call::Check => &[2, 3, 4, 5, 6, 7, 8],
+            Call::Check | Call::Convert => &[2, 3, 4, 5, 6, 7, 8],
+            Call::Reduce => &[2, 3, 4, 5, 6, 7, 8, 15],
             Call::WriteText => &[1, 2, 3, 4, 5, 6, 7, 8, 10, 11],
             Call::WriteBinary => &[1, 2, 3, 4, 5, 6, 7, 8, 10, 11, 15],
         }
@@ -73,17 +84,25 @@ impl Call {
         match self {
             Call::Check => 2,
             Call::WriteText | Call::WriteBinary => 3,
+            Call::Convert | Call::Reduce => 7,
         }
+    }
+
+    /// Whether it is lent tables 1 to 4 for writing.
+    pub fn writes_tables(self) -> bool {
+        matches!(self, Call::Convert | Call::Reduce)
     }
 }
 
-/// What such a call is lent, in the order of its arguments.
+/// What such a call is lent.
 #[derive(Clone, Debug, PartialEq, Eq)]
 pub struct Lent {
     pub counts: Memory<u64>,
     /// Tables 1 to 4.
     pub tables: [Memory<u32>; 4],
     pub scratch: Memory<u32>,
+    /// Tables 1 to 4 again, of conversion and reduction.
+    pub written: Vec<Memory<u32>>,
     /// Of a writer the tail and the buffer.
     pub bytes: Vec<Memory<u8>>,
     pub answer: Memory<u64>,

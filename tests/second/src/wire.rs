@@ -26,6 +26,8 @@ fn number(call: Call) -> u32 {
         Call::Check => 3,
         Call::WriteText => 4,
         Call::WriteBinary => 5,
+        Call::Convert => 6,
+        Call::Reduce => 7,
     }
 }
 
@@ -50,6 +52,7 @@ fn put_lent(bytes: &mut Vec<u8>, lent: &Lent) {
     put_memory(bytes, &lent.counts);
     lent.tables.iter().for_each(|table| put_memory(bytes, table));
     put_memory(bytes, &lent.scratch);
+    lent.written.iter().for_each(|table| put_memory(bytes, table));
     lent.bytes.iter().for_each(|memory| put_memory(bytes, memory));
     put_memory(bytes, &lent.answer);
 }
@@ -85,6 +88,7 @@ fn get_lent(from: &mut impl Read, mut lent: Lent) -> io::Result<Lent> {
     get_memory(from, &mut lent.counts)?;
     lent.tables.iter_mut().try_for_each(|table| get_memory(from, table))?;
     get_memory(from, &mut lent.scratch)?;
+    lent.written.iter_mut().try_for_each(|table| get_memory(from, table))?;
     lent.bytes.iter_mut().try_for_each(|memory| get_memory(from, memory))?;
     get_memory(from, &mut lent.answer)?;
     Ok(lent)

@@ -1,7 +1,7 @@
 //! Holds a library to this program's outcome of a call on tables: the answer, and every element of all that was lent.
 
 use crate::aiger::tables::Given;
-use crate::aiger::{calls, Counts, Refusal};
+use crate::aiger::{calls, Circuit, Counts, Refusal};
 use crate::library::{Call, Lent, Library, Question, Reply};
 use crate::memory::{Element, Memory};
 
@@ -18,6 +18,9 @@ pub fn judge(library: &dyn Library, expected: &Lent) -> Result<(), String> {
     same("counts", &expected.counts, &given.counts)?;
     for (k, (expected, given)) in expected.tables.iter().zip(&given.tables).enumerate() {
         same(&format!("table {}", k + 1), expected, given)?;
+    }
+    for (k, (expected, given)) in expected.written.iter().zip(&given.written).enumerate() {
+        same(&format!("written table {}", k + 1), expected, given)?;
     }
     for (k, (expected, given)) in expected.bytes.iter().zip(&given.bytes).enumerate() {
         same(&format!("byte buffer {}", k + 1), expected, given)?;
@@ -52,6 +55,8 @@ pub fn after(call: Call, before: &Lent) -> Lent {
         Call::Check => answer(&mut after, calls::check(&given), |()| Vec::new()),
         Call::WriteText => written(&mut after, |tail, room| calls::write_text(&given, tail, room)),
         Call::WriteBinary => written(&mut after, |tail, room| calls::write_binary(&given, tail, room)),
+        Call::Convert => changed(&mut after, calls::convert(&given)),
+        Call::Reduce => changed(&mut after, calls::reduce(&given)),
     }
     after
 }
@@ -68,13 +73,25 @@ fn written(after: &mut Lent, write: impl Fn(&[u8], u64) -> Result<Vec<u8>, Refus
     answer(after, file, |file| vec![file.len() as u64]);
 }
 
+/// The tables of an accepted change, and zeros; after a refusal zeros alone.
+fn changed(after: &mut Lent, circuit: Result<Circuit, Refusal>) {
+    after.written.iter_mut().for_each(|table| table.lent_mut().fill(0));
+    if let Ok(circuit) = &circuit {
+        for (written, table) in after.written.iter_mut().zip(circuit.tables()) {
+            written.lent_mut()[..table.len()].copy_from_slice(&table);
+        }
+    }
+    answer(after, circuit, |circuit| circuit.counts().list().to_vec());
+}
+
 fn given(lent: &Lent) -> Given {
     let counts = lent.counts.lent().try_into().expect("five counts");
+    let lengths: Vec<u64> = lent.written.iter().map(|table| table.lent().len() as u64).collect();
     Given {
         counts: Counts::new(counts),
         tables: lent.tables.each_ref().map(|table| table.lent().to_vec()),
         scratch: lent.scratch.lent().len() as u64,
-        written: None,
+        written: lengths.try_into().ok(),
     }
 }
 

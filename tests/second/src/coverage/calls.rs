@@ -15,6 +15,8 @@ pub struct CallCoverage {
     promised: [u64; 16],
     /// Accepted with A > 0.
     with_gates: u64,
+    /// Accepted by conversion or reduction, and the gates became others.
+    changed: u64,
 }
 
 impl CallCoverage {
@@ -25,6 +27,7 @@ impl CallCoverage {
             answered: [0; 16],
             promised: [0; 16],
             with_gates: 0,
+            changed: 0,
         }
     }
 
@@ -34,6 +37,11 @@ impl CallCoverage {
         self.answered[number] += 1;
         self.promised[number] += u64::from(case.promise.is_some());
         self.with_gates += u64::from(number == 0 && case.lent.counts.lent()[4] > 0);
+        if let (0, Some(gates)) = (number, after.written.get(3)) {
+            let given = case.lent.tables[3].lent().iter();
+            let kept = 3 * case.lent.counts.lent()[4] as usize;
+            self.changed += u64::from(!given.take(kept).eq(gates.lent().iter().take(kept)));
+        }
     }
 
     /// Prints the summary and counts what was missed.
@@ -64,5 +72,9 @@ impl CallCoverage {
             &format!("{name}, accepted with A > 0"),
             at_least(self.with_gates, self.cases.div_ceil(4)),
         );
+        if self.call.writes_tables() {
+            println!("{name}: the gates became others in {}", self.changed);
+            tally.check(&format!("{name}, changes"), at_least(self.changed, self.cases / 10));
+        }
     }
 }

@@ -88,10 +88,44 @@ const WRITERS: &[(&str, Slip)] = &[
     ("a byte too many", |_, after| margin(&mut after.bytes[1], true)),
 ];
 
+const CHANGES: &[(&str, Slip)] = &[
+    ("copies", |before, after| {
+        if outcome(after).is_ok() {
+            let gates = 3 * before.counts.lent()[4] as usize;
+            after.written[3].lent_mut()[..gates].copy_from_slice(&before.tables[3].lent()[..gates]);
+        }
+    }),
+    ("always writes the empty circuit", |_, after| {
+        after.written.iter_mut().for_each(|table| table.lent_mut().fill(0));
+    }),
+    ("spare word left", |before, after| {
+        let length = 3 * after.answer.lent()[6] as usize;
+        if let (Ok(()), Some(spare)) = (outcome(after), after.written[3].lent_mut().get_mut(length)) {
+            *spare = before.written[3].lent()[length];
+        }
+    }),
+    ("tables left after a refusal", |before, after| {
+        if outcome(after).is_err() {
+            after.written = before.written.clone();
+        }
+    }),
+    ("counts after a refusal", |before, after| {
+        if outcome(after).is_err() {
+            after.answer.lent_mut()[2..].copy_from_slice(before.counts.lent());
+        }
+    }),
+    ("sides smaller first", |_, after| {
+        let gates = after.written[3].lent_mut().as_chunks_mut::<3>().0;
+        gates.iter_mut().for_each(|gate| gate[1..].sort());
+    }),
+    ("writes behind a table", |_, after| margin(&mut after.written[1], true)),
+];
+
 fn slips(call: Call) -> Vec<(&'static str, Slip)> {
     match call {
         Call::Check => ANY.to_vec(),
         Call::WriteText | Call::WriteBinary => [ANY, WRITERS].concat(),
+        Call::Convert | Call::Reduce => [ANY, CHANGES].concat(),
     }
 }
 

@@ -1,5 +1,7 @@
 //! Random well-formed circuits of many shapes.
 
+mod gates;
+
 use crate::aiger::{literal, negation, variable, Circuit, Form, MOST};
 use crate::random::Random;
 
@@ -11,17 +13,6 @@ pub struct Size {
     pub a: usize,
     /// Variables without a definition; only the text form has them.
     pub unused: usize,
-}
-
-/// How the right sides of gates are chosen.
-#[derive(Clone, Copy)]
-enum Sides {
-    Anywhere,
-    Near,
-    Far,
-    Chain,
-    Star,
-    Duplicates,
 }
 
 pub fn size(random: &mut Random, form: Form) -> Size {
@@ -106,7 +97,7 @@ pub fn circuit(random: &mut Random, form: Form, size: &Size) -> Circuit {
 fn in_order(random: &mut Random, size: &Size) -> Circuit {
     let sources = size.i + size.l;
     let defined = sources + size.a;
-    let gates = gates(random, sources, size.a);
+    let gates = gates::gates(random, sources, size.a);
     let latches = (size.i + 1..=sources).map(|v| [literal(v), next(random, v, defined)]);
     Circuit {
         m: defined as u64,
@@ -128,42 +119,6 @@ fn next(random: &mut Random, current: usize, defined: usize) -> u32 {
         0 => literal(current),
         1 => negation(literal(current)),
         _ => any_literal(random, defined),
-    }
-}
-
-fn gates(random: &mut Random, sources: usize, a: usize) -> Vec<[u32; 3]> {
-    use Sides::*;
-    let kind = *random.pick(&[Anywhere, Near, Far, Chain, Star, Duplicates]);
-    let mut gates: Vec<[u32; 3]> = Vec::with_capacity(a);
-    for k in 0..a {
-        let below = sources + k;
-        let [rhs0, mut rhs1] = sides(random, kind, &gates, sources, below);
-        match random.below(24) {
-            0 | 1 => rhs1 = rhs0,
-            2 => rhs1 = negation(rhs0),
-            3 => rhs1 = random.below(2) as u32,
-            _ => {}
-        }
-        gates.push([literal(below + 1), rhs0.max(rhs1), rhs0.min(rhs1)]);
-    }
-    gates
-}
-
-/// Two right sides of variables up to `below`.
-fn sides(random: &mut Random, kind: Sides, gates: &[[u32; 3]], sources: usize, below: usize) -> [u32; 2] {
-    let other = any_literal(random, below);
-    let sign = random.below(2) as u32;
-    match kind {
-        Sides::Anywhere => [other, any_literal(random, below)],
-        Sides::Near => [0, 1].map(|_| literal(below - random.below(below.min(4) + 1)) + random.below(2) as u32),
-        Sides::Far => [0, 1].map(|_| any_literal(random, below.min(5))),
-        Sides::Chain => [literal(below) + sign, other],
-        Sides::Star => [literal(below.min(sources + 1)) + sign, other],
-        Sides::Duplicates if !gates.is_empty() && !random.once_in(3) => {
-            let [_, rhs0, rhs1] = *random.pick(gates);
-            [rhs0, rhs1]
-        }
-        Sides::Duplicates => [any_literal(random, sources), any_literal(random, sources)],
     }
 }
 

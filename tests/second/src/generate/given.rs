@@ -54,6 +54,7 @@ pub fn case(call: Call, seed: u64, number: u64) -> TablesCase {
     let size = circuit::size(&mut random, form);
     let circuit = circuit::circuit(&mut random, form, &size);
     let mut given = Given::exactly(&circuit);
+    given.written = given.written.filter(|_| call.writes_tables());
     let promise = treat(&mut random, call, &circuit, &mut given);
     let mut case = TablesCase {
         lent: lend(call, &given, random.word()),
@@ -61,7 +62,7 @@ pub fn case(call: Call, seed: u64, number: u64) -> TablesCase {
         file: None,
     };
     match call {
-        Call::Check => {}
+        Call::Check | Call::Convert | Call::Reduce => {}
         Call::WriteText => writing::add(&mut random, Form::Text, &circuit, &mut case),
         Call::WriteBinary => writing::add(&mut random, Form::Binary, &circuit, &mut case),
     }
@@ -100,7 +101,7 @@ fn treat(random: &mut Random, call: Call, circuit: &Circuit, given: &mut Given) 
             None
         }
         _ => {
-            *given = unrelated(random);
+            unrelated(random, given);
             None
         }
     };
@@ -120,19 +121,21 @@ fn spare(random: &mut Random, given: &mut Given) {
         table.resize(length as usize, word);
     }
     given.scratch = lengths[4];
+    if let Some([one, two, three, four]) = given.written {
+        let [one, two, three, four, _] = enough(random, &[one, two, three, four, 0]);
+        given.written = Some([one, two, three, four]);
+    }
 }
 
 /// Counts and tables that have nothing to do with each other.
-fn unrelated(random: &mut Random) -> Given {
-    let counts = Counts::new([9, 3, 3, 3, 3].map(|most| random.below(most + 1) as u64));
+fn unrelated(random: &mut Random, given: &mut Given) {
     let most = *random.pick(&[3, 12, 30]);
-    let lengths = [0; 4].map(|_| random.below(most + 1));
-    Given {
-        counts,
-        tables: lengths.map(|length| (0..length).map(|_| random.below(22) as u32).collect()),
-        scratch: random.between(30, 60) as u64,
-        written: None,
-    }
+    let mut length = || random.below(most + 1);
+    let lengths = [0; 4].map(|_| length());
+    given.written = given.written.map(|written| written.map(|_| length() as u64));
+    given.counts = Counts::new([9, 3, 3, 3, 3].map(|most| random.below(most + 1) as u64));
+    given.tables = lengths.map(|length| (0..length).map(|_| random.below(22) as u32).collect());
+    given.scratch = random.between(30, 60) as u64;
 }
 
 /// All that a call on these tables is lent.
@@ -141,6 +144,13 @@ pub fn lend(call: Call, given: &Given, junk: u64) -> Lent {
         counts: Memory::around(&given.counts.list(), junk),
         tables: given.tables.each_ref().map(|table| Memory::around(table, junk)),
         scratch: Memory::junk(given.scratch, junk),
+        written: given
+            .written
+            .iter()
+            .filter(|_| call.writes_tables())
+            .flatten()
+            .map(|&length| Memory::junk(length, junk))
+            .collect(),
         bytes: Vec::new(),
         answer: Memory::junk(call.answers(), junk),
     }

@@ -73,7 +73,11 @@ fn least(given: &Given) -> Option<Refusal> {
         return None;
     }
     let needed = given.counts.words();
-    let short = (0..4).find(|&k| (given.tables[k].len() as u64) < needed[k]);
+    let length = |k: usize| {
+        let table = given.tables[k].len() as u64;
+        given.written.map_or(table, |written| table.min(written[k]))
+    };
+    let short = (0..4).find(|&k| length(k) < needed[k]);
     match short {
         Some(k) => refusal(4, k + 1),
         None if given.scratch < needed[4] => refusal(4, 5),
@@ -90,12 +94,13 @@ fn below(random: &mut Random, needed: usize) -> usize {
     }
 }
 
-/// One or two tables cut.
+/// One or two tables cut, given or lent for writing.
 pub fn short(random: &mut Random, _: &Circuit, given: &mut Given) -> Option<Refusal> {
     for _ in 0..random.between(1, 2) {
-        match random.below(5) {
-            4 => given.scratch = below(random, given.scratch as usize) as u64,
-            k => {
+        match (random.below(5), &mut given.written) {
+            (4, _) => given.scratch = below(random, given.scratch as usize) as u64,
+            (k, Some(written)) if random.once_in(2) => written[k] = below(random, written[k] as usize) as u64,
+            (k, _) => {
                 let length = below(random, given.tables[k].len());
                 given.tables[k].truncate(length);
             }
