@@ -46,4 +46,18 @@ void golvanzo_reduce(const uint64_t *counts /* 5 words */, const uint32_t *input
                      size_t w1_len, uint32_t *w2, size_t w2_len, uint32_t *w3, size_t w3_len, uint32_t *w4,
                      size_t w4_len, uint32_t *scratch, size_t n5, uint64_t *answer /* 7 words */);
 
+/* One step of tables in binary order: takes `state` and `ins`, bytes "0", "1", "x", writes `outs` and the next state over
+   `state`; `answer` is number (0: accepted) and place. */
+void golvanzo_step(const uint64_t *counts /* 5 words */, const uint32_t *inputs, size_t n1, const uint32_t *latches,
+                   size_t n2, const uint32_t *outputs, size_t n3, const uint32_t *gates, size_t n4, uint32_t *scratch,
+                   size_t n5, uint8_t *state, size_t state_len, const uint8_t *ins, size_t ins_len, uint8_t *outs,
+                   size_t outs_len, uint64_t *answer /* 2 words */);
+
+/* Whether `number` input vectors, one after another in `bytes`, give 1 on some output when stepped from the state of all
+   "0"; `answer` is number (0: accepted), place and 1 for yes, 0 for no. */
+void golvanzo_witness(const uint64_t *counts /* 5 words */, const uint32_t *inputs, size_t n1, const uint32_t *latches,
+                      size_t n2, const uint32_t *outputs, size_t n3, const uint32_t *gates, size_t n4,
+                      uint32_t *scratch, size_t n5, uint64_t number, const uint8_t *bytes, size_t bytes_len,
+                      uint64_t *answer /* 3 words */);
+
 #endif

@@ -11,6 +11,8 @@
    5 binary     the same                                                  all of these
    6 convert    counts, five tables, tables 1 to 4 to write, answer       all of these
    7 reduce     the same                                                  all of these
+   8 step       counts, five tables, state, inputs, outputs, answer       all of these
+   9 witness    counts, five tables, u64 number, list, answer             all of these but the number
 
    What these are is said in wire.h. */
 #include <stdint.h>
@@ -80,6 +82,27 @@ static void call_change(int reduce) {
     put_memory(answer);
 }
 
+static void call_step(void) {
+    struct given given = get_given();
+    struct memory state = get_vector(), ins = get_vector(), outs = get_vector(), answer = get_numbers();
+    golvanzo_step(CIRCUIT_OF(given), LENT(given.scratch), LENT(state), LENT(ins), LENT(outs), answer.lent);
+    put_given(given);
+    put_memory(state);
+    put_memory(ins);
+    put_memory(outs);
+    put_memory(answer);
+}
+
+static void call_witness(void) {
+    struct given given = get_given();
+    uint64_t number = get_number();
+    struct memory list = get_vector(), answer = get_numbers();
+    golvanzo_witness(CIRCUIT_OF(given), LENT(given.scratch), number, LENT(list), answer.lent);
+    put_given(given);
+    put_memory(list);
+    put_memory(answer);
+}
+
 int main(void) {
     uint32_t call;
     while (fread(&call, sizeof call, 1, stdin) == 1) {
@@ -104,6 +127,12 @@ int main(void) {
         case 6:
         case 7:
             call_change(call == 7);
+            break;
+        case 8:
+            call_step();
+            break;
+        case 9:
+            call_witness();
             break;
         default:
             give_up("no such call");

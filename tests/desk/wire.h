@@ -1,5 +1,5 @@
 /* What the server is sent and sends: a file is u64 length and its bytes. Counts and an answer (of u64), a table (of u32),
-   a tail and a buffer (of u8) are u64 margin, u64 length and (margin + length + margin) elements, of which the middle is
+   a tail, a buffer, a vector and a list (of u8) are u64 margin, u64 length and (margin + length + margin) elements, of which the middle is
    lent; their reply is all of those elements. */
 #ifndef WIRE_H
 #define WIRE_H

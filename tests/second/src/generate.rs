@@ -7,6 +7,7 @@ pub mod draft;
 mod edit;
 pub mod given;
 mod lend;
+pub mod values;
 
 use crate::aiger::read::header;
 use crate::aiger::{Circuit, Form, Refusal};

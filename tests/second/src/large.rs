@@ -76,8 +76,5 @@ fn compared(library: &dyn Library, a: usize) -> Result<(), String> {
 fn called(library: &dyn Library, call: Call, circuit: &Circuit, lengths: &[u64]) -> Result<(), String> {
     let mut lent = given::lend(call, &Given::exactly(circuit), JUNK);
     lent.bytes = lengths.iter().map(|&length| Memory::junk(length, JUNK)).collect();
-    let expected = tables::after(call, &lent);
-    ensure!(tables::outcome(&expected).is_ok(), "{} refuses", call.name());
-    tables::ask(library, call, &lent);
-    tables::judge(library, &expected)
+    tables::compare(library, call, &lent)
 }

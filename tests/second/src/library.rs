@@ -1,5 +1,4 @@
-//! What is compared, seen from the caller's side. The stepper and the witness question join `Call` when the library
-//! offers them.
+//! What is compared, seen from the caller's side.
 
 use crate::memory::Memory;
 
@@ -39,15 +38,19 @@ pub enum Call {
     WriteBinary,
     Convert,
     Reduce,
+    Step,
+    Witness,
 }
 
 impl Call {
-    pub const ALL: [Call; 5] = [
+    pub const ALL: [Call; 7] = [
         Call::Check,
         Call::WriteText,
         Call::WriteBinary,
         Call::Convert,
         Call::Reduce,
+        Call::Step,
+        Call::Witness,
     ];
 
     pub fn named(name: &str) -> Option<Call> {
@@ -61,6 +64,8 @@ impl Call {
             Call::WriteBinary => "write-binary",
             Call::Convert => "convert",
             Call::Reduce => "reduce",
+            Call::Step => "step",
+            Call::Witness => "witness",
         }
     }
 
@@ -69,6 +74,7 @@ impl Call {
         match self {
             Call::Check | Call::Convert => &[2, 3, 4, 5, 6, 7, 8],
             Call::Reduce => &[2, 3, 4, 5, 6, 7, 8, 15],
+            Call::Step | Call::Witness => &[2, 3, 4, 5, 6, 7, 8, 12, 15],
             Call::WriteText => &[1, 2, 3, 4, 5, 6, 7, 8, 10, 11],
             Call::WriteBinary => &[1, 2, 3, 4, 5, 6, 7, 8, 10, 11, 15],
         }
@@ -82,10 +88,15 @@ impl Call {
     /// The length of its answer: number, place, values.
     pub fn answers(self) -> u64 {
         match self {
-            Call::Check => 2,
-            Call::WriteText | Call::WriteBinary => 3,
+            Call::Check | Call::Step => 2,
+            Call::WriteText | Call::WriteBinary | Call::Witness => 3,
             Call::Convert | Call::Reduce => 7,
         }
+    }
+
+    /// Whether it is given values.
+    pub fn takes_vectors(self) -> bool {
+        matches!(self, Call::Step | Call::Witness)
     }
 
     /// Whether it is lent tables 1 to 4 for writing.
@@ -103,7 +114,9 @@ pub struct Lent {
     pub scratch: Memory<u32>,
     /// Tables 1 to 4 again, of conversion and reduction.
     pub written: Vec<Memory<u32>>,
-    /// Of a writer the tail and the buffer.
+    /// How many vectors, of the witness question.
+    pub number: Option<u64>,
+    /// Of a writer the tail and the buffer; of the stepper state, inputs, outputs; of the witness question the list.
     pub bytes: Vec<Memory<u8>>,
     pub answer: Memory<u64>,
 }

@@ -7,6 +7,7 @@ mod aiger;
 mod compare;
 mod coverage;
 mod desk;
+mod every_byte;
 mod examples;
 mod faults;
 mod generate;
@@ -90,6 +91,7 @@ fn all(tally: &mut Tally, options: &Options, library: Option<&dyn Library>) {
     coverage.report(tally);
     desk::run(tally, options, library);
     if let Some(library) = library {
+        every_byte::run(tally, library);
         trips::run(tally, options, library);
     }
 }

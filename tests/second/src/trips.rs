@@ -1,7 +1,9 @@
-//! Round trips: files that go through several calls of the library, each given what the one before it left. Both forms
-//! leave no choice of bytes, so a file comes back as it was.
+//! Files and circuits that go through several calls of the library, each given what the one before it left. Both forms
+//! leave no choice of bytes, so a file comes back as it was: a round trip. A walk steps a circuit and what it reduces to.
 
+mod held;
 mod trip;
+mod walk;
 
 use crate::aiger::Form;
 use crate::coverage::at_least;
@@ -9,12 +11,17 @@ use crate::library::{Call, Library};
 use crate::options::Options;
 use crate::tally::Tally;
 use trip::{Leg, Trip};
+use walk::{walk, Walk};
 
 /// There is one trip for so many cases.
 const SHARE: u64 = 4;
 
 /// There must be so many trips.
 const FEWEST: u64 = 20_000;
+
+/// There is one walk for so many cases, and there must be so many walks.
+const SHARE_OF_WALKS: u64 = 40;
+const FEWEST_WALKS: u64 = 2000;
 
 /// So many files travel together, so that the library need not wait.
 const BATCH: u64 = 50;
@@ -61,6 +68,26 @@ pub fn run(tally: &mut Tally, options: &Options, library: &dyn Library) {
     }
     println!("round trips: {trips}");
     tally.check("round trips", at_least(trips, FEWEST));
+    walks(tally, options, library);
+}
+
+fn walks(tally: &mut Tally, options: &Options, library: &dyn Library) {
+    let walks = options.cases / SHARE_OF_WALKS;
+    for start in (0..walks).step_by(BATCH as usize) {
+        let numbers = start..walks.min(start + BATCH);
+        let mut batch: Vec<Walk> = numbers.map(|number| Walk::new(options.seed, number)).collect();
+        walk(library, &mut batch);
+        for walk in batch {
+            let name = format!("walk {}", walk.number);
+            if let (Err(why), true) = (&walk.outcome, tally.tells()) {
+                let told = format!("{why}\n{}\n", walk.told());
+                options.keep(&name.replace(' ', "-"), &[("txt", told.as_bytes())]);
+            }
+            tally.check(&format!("seed {} {name}", options.seed), walk.outcome);
+        }
+    }
+    println!("walks: {walks}");
+    tally.check("walks", at_least(walks, FEWEST_WALKS));
 }
 
 /// Asks for all that are on their way, then takes the replies.

@@ -28,6 +28,8 @@ fn number(call: Call) -> u32 {
         Call::WriteBinary => 5,
         Call::Convert => 6,
         Call::Reduce => 7,
+        Call::Step => 8,
+        Call::Witness => 9,
     }
 }
 
@@ -53,6 +55,7 @@ fn put_lent(bytes: &mut Vec<u8>, lent: &Lent) {
     lent.tables.iter().for_each(|table| put_memory(bytes, table));
     put_memory(bytes, &lent.scratch);
     lent.written.iter().for_each(|table| put_memory(bytes, table));
+    lent.number.iter().for_each(|number| number.put(bytes));
     lent.bytes.iter().for_each(|memory| put_memory(bytes, memory));
     put_memory(bytes, &lent.answer);
 }

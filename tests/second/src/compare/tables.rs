@@ -1,9 +1,15 @@
 //! Holds a library to this program's outcome of a call on tables: the answer, and every element of all that was lent.
 
-use crate::aiger::tables::Given;
+use crate::aiger::tables::{self, Given};
 use crate::aiger::{calls, Circuit, Counts, Refusal};
 use crate::library::{Call, Lent, Library, Question, Reply};
 use crate::memory::{Element, Memory};
+
+/// Asks, and holds the reply to what must be left.
+pub fn compare(library: &dyn Library, call: Call, lent: &Lent) -> Result<(), String> {
+    ask(library, call, lent);
+    judge(library, &after(call, lent)).map_err(|why| format!("{}: {why}", call.name()))
+}
 
 /// The first half of a comparison, as for a file.
 pub fn ask(library: &dyn Library, call: Call, lent: &Lent) {
@@ -57,6 +63,12 @@ pub fn after(call: Call, before: &Lent) -> Lent {
         Call::WriteBinary => written(&mut after, |tail, room| calls::write_binary(&given, tail, room)),
         Call::Convert => changed(&mut after, calls::convert(&given)),
         Call::Reduce => changed(&mut after, calls::reduce(&given)),
+        Call::Step => stepped(&mut after, &given),
+        Call::Witness => {
+            let number = before.number.expect("a witness question has a number");
+            let outcome = calls::witness(&given, number, before.bytes[0].lent());
+            answer(&mut after, outcome, |yes| vec![u64::from(yes)]);
+        }
     }
     after
 }
@@ -82,6 +94,24 @@ fn changed(after: &mut Lent, circuit: Result<Circuit, Refusal>) {
         }
     }
     answer(after, circuit, |circuit| circuit.counts().list().to_vec());
+}
+
+/// The next state is written over the state; a refusal changes neither that nor the outputs.
+fn stepped(after: &mut Lent, given: &Given) {
+    let [state, input, output] = after.bytes.as_mut_slice() else {
+        unreachable!("a step has three vectors");
+    };
+    let step = calls::step(given, state.lent(), input.lent(), output.lent().len() as u64);
+    if let Ok(step) = &step {
+        state.lent_mut().copy_from_slice(&step.next);
+        output.lent_mut().copy_from_slice(&step.output);
+    }
+    answer(after, step, |_| Vec::new());
+}
+
+/// The circuit of tables that hold one.
+pub fn circuit(lent: &Lent) -> Circuit {
+    tables::check(&given(lent)).expect("accepted tables")
 }
 
 fn given(lent: &Lent) -> Given {

@@ -1,5 +1,6 @@
 //! The answers of one call on tables.
 
+use super::vectors::VectorCoverage;
 use super::{at_least, PER_REFUSAL};
 use crate::compare::tables::outcome;
 use crate::generate::given::TablesCase;
@@ -17,6 +18,7 @@ pub struct CallCoverage {
     with_gates: u64,
     /// Accepted by conversion or reduction, and the gates became others.
     changed: u64,
+    vectors: VectorCoverage,
 }
 
 impl CallCoverage {
@@ -28,6 +30,7 @@ impl CallCoverage {
             promised: [0; 16],
             with_gates: 0,
             changed: 0,
+            vectors: VectorCoverage::default(),
         }
     }
 
@@ -37,6 +40,7 @@ impl CallCoverage {
         self.answered[number] += 1;
         self.promised[number] += u64::from(case.promise.is_some());
         self.with_gates += u64::from(number == 0 && case.lent.counts.lent()[4] > 0);
+        self.vectors.add(self.call, &case.lent, after);
         if let (0, Some(gates)) = (number, after.written.get(3)) {
             let given = case.lent.tables[3].lent().iter();
             let kept = 3 * case.lent.counts.lent()[4] as usize;
@@ -75,6 +79,9 @@ impl CallCoverage {
         if self.call.writes_tables() {
             println!("{name}: the gates became others in {}", self.changed);
             tally.check(&format!("{name}, changes"), at_least(self.changed, self.cases / 10));
+        }
+        if self.call.takes_vectors() {
+            self.vectors.report(tally, self.call);
         }
     }
 }

@@ -2,6 +2,7 @@
 
 mod counts;
 mod order;
+mod vectors;
 mod words;
 mod writing;
 
@@ -65,6 +66,8 @@ pub fn case(call: Call, seed: u64, number: u64) -> TablesCase {
         Call::Check | Call::Convert | Call::Reduce => {}
         Call::WriteText => writing::add(&mut random, Form::Text, &circuit, &mut case),
         Call::WriteBinary => writing::add(&mut random, Form::Binary, &circuit, &mut case),
+        Call::Step => vectors::step(&mut random, &circuit, &mut case),
+        Call::Witness => vectors::witness(&mut random, &circuit, &mut case),
     }
     case
 }
@@ -151,6 +154,7 @@ pub fn lend(call: Call, given: &Given, junk: u64) -> Lent {
             .flatten()
             .map(|&length| Memory::junk(length, junk))
             .collect(),
+        number: None,
         bytes: Vec::new(),
         answer: Memory::junk(call.answers(), junk),
     }

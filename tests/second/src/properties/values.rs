@@ -7,6 +7,7 @@ use crate::aiger::step::{self, Step};
 use crate::aiger::tables::Given;
 use crate::aiger::{variable, Circuit};
 use crate::ensure;
+use crate::generate::values::{ground, vector};
 use crate::naive;
 use crate::random::Random;
 
@@ -38,26 +39,6 @@ pub fn check(random: &mut Random, circuit: &Circuit, converted: &Converted, redu
         slowly(random, circuit, converted, unknown)?;
     }
     Ok(())
-}
-
-/// Values with "x" in so many of four places.
-fn vector(random: &mut Random, unknown: usize, length: usize) -> Vec<u8> {
-    let mut value = || {
-        if random.below(4) < unknown {
-            b'x'
-        } else {
-            *random.pick(b"01")
-        }
-    };
-    (0..length).map(|_| value()).collect()
-}
-
-/// The same values with "0" or "1" for each "x".
-fn ground(random: &mut Random, vector: &[u8]) -> Vec<u8> {
-    vector
-        .iter()
-        .map(|&value| if value == b'x' { *random.pick(b"01") } else { value })
-        .collect()
 }
 
 fn run(circuit: &Circuit, list: &[Vec<u8>]) -> Vec<(Vec<u8>, Step)> {

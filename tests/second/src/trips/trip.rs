@@ -1,10 +1,11 @@
 //! One file on its way, and what the library left of the call before.
 
+use super::held::{accepted, Held};
 use crate::aiger::read::{header, words};
 use crate::aiger::{Counts, Form};
 use crate::ensure;
 use crate::generate;
-use crate::library::{Call, FileQuestion, FileReply, Lent, Question, Reply};
+use crate::library::{Call, FileQuestion, Lent, Question, Reply};
 use crate::memory::Memory;
 
 #[derive(Clone, Copy, Debug)]
@@ -29,8 +30,7 @@ pub struct Trip {
     home: Vec<u8>,
     /// What was written last.
     bytes: Vec<u8>,
-    counts: [u64; 5],
-    tables: [Memory<u32>; 4],
+    held: Held,
     tail: Vec<u8>,
 }
 
@@ -45,8 +45,7 @@ impl Trip {
             home: file.clone(),
             bytes: file.clone(),
             file,
-            counts: [0; 5],
-            tables: [0; 4].map(|length| Memory::junk(length, 0)),
+            held: Held::none(),
             tail: Vec::new(),
         }
     }
@@ -61,21 +60,28 @@ impl Trip {
             Leg::Read => Some(self.read()),
             Leg::Write(call) => Some(self.write(call, self.most())),
             Leg::Back(call) => Some(self.write(call, self.home.len() as u64)),
-            Leg::Change(call) => Some(Question::Tables(call, self.lent(call))),
+            Leg::Change(call) => Some(Question::Tables(call, self.held.lent(call, self.junk()))),
             Leg::Settle => None,
         }
     }
 
     pub fn take(&mut self, leg: Leg, reply: Reply) -> Result<(), String> {
         match (leg, reply) {
-            (Leg::Read, Reply::File(reply)) => self.was_read(reply),
+            (Leg::Read, Reply::File(reply)) => {
+                self.tail = self.bytes[reply.read.tail as usize..].to_vec();
+                self.held = Held::was_read(reply)?;
+                Ok(())
+            }
             (Leg::Write(_), Reply::Tables(lent)) => self.was_written(&lent),
             (Leg::Back(_), Reply::Tables(lent)) => {
                 self.was_written(&lent)?;
                 ensure!(self.bytes == self.home, "comes back as {:02x?}", self.bytes);
                 Ok(())
             }
-            (Leg::Change(_), Reply::Tables(lent)) => self.was_changed(lent),
+            (Leg::Change(_), Reply::Tables(lent)) => {
+                self.held = Held::was_changed(lent)?;
+                Ok(())
+            }
             _ => Err("the reply to another question".to_string()),
         }
     }
@@ -93,56 +99,23 @@ impl Trip {
         })
     }
 
-    fn was_read(&mut self, reply: FileReply) -> Result<(), String> {
-        let answer = reply.read;
-        ensure!((answer.number, answer.place) == (0, 0), "given {answer:?}");
-        let [inputs, latches, outputs, gates, _] = reply.tables;
-        self.counts = answer.counts;
-        self.tables = [inputs, latches, outputs, gates];
-        self.tail = self.bytes[answer.tail as usize..].to_vec();
-        Ok(())
-    }
-
-    /// Exactly what the counts ask.
-    fn lent(&self, call: Call) -> Lent {
-        let junk = self.junk();
-        let words = Counts::new(self.counts).words();
-        let written: &[u64] = if call.writes_tables() { &words[..4] } else { &[] };
-        Lent {
-            counts: Memory::around(&self.counts, junk),
-            tables: self.tables.clone(),
-            scratch: Memory::junk(words[4], junk),
-            written: written.iter().map(|&length| Memory::junk(length, junk)).collect(),
-            bytes: Vec::new(),
-            answer: Memory::junk(call.answers(), junk),
-        }
-    }
-
     /// A file of either form has at most eight bytes for each word, a header and the tail.
     fn most(&self) -> u64 {
-        let words = Counts::new(self.counts).words();
+        let words = Counts::new(self.held.counts).words();
         8 * words[..4].iter().sum::<u64>() + 50 + self.tail.len() as u64
     }
 
     fn write(&self, call: Call, room: u64) -> Question {
-        let mut lent = self.lent(call);
         let junk = self.junk();
+        let mut lent = self.held.lent(call, junk);
         lent.bytes = vec![Memory::around(&self.tail, junk), Memory::junk(room, junk)];
         Question::Tables(call, lent)
     }
 
     fn was_written(&mut self, lent: &Lent) -> Result<(), String> {
-        let answer = lent.answer.lent();
-        ensure!(answer[..2] == [0, 0], "given {answer:?}");
-        self.bytes = lent.bytes[1].lent()[..answer[2] as usize].to_vec();
-        Ok(())
-    }
-
-    fn was_changed(&mut self, lent: Lent) -> Result<(), String> {
-        let answer = lent.answer.lent();
-        ensure!(answer[..2] == [0, 0], "given {answer:?}");
-        self.counts = answer[2..].try_into().expect("five counts");
-        self.tables = lent.written.try_into().expect("four tables");
+        accepted(lent)?;
+        let written = lent.answer.lent()[2] as usize;
+        self.bytes = lent.bytes[1].lent()[..written].to_vec();
         Ok(())
     }
 }

@@ -1,0 +1,67 @@
+//! What the stepper and the witness question may get wrong.
+
+use super::slips::{margin, Slip};
+use crate::compare::tables::{circuit, outcome};
+use crate::coverage::vectors::seen;
+use crate::library::Lent;
+
+pub const STEPPER: &[(&str, Slip)] = &[
+    ("always says x", |_, after| {
+        if outcome(after).is_ok() {
+            after.bytes[2].lent_mut().fill(b'x');
+        }
+    }),
+    ("state stays", |before, after| after.bytes[0] = before.bytes[0].clone()),
+    ("state changed after a refusal", |_, after| {
+        if outcome(after).is_err() {
+            after.bytes[0].lent_mut().fill(b'0');
+        }
+    }),
+    ("outputs changed after a refusal", |_, after| {
+        if outcome(after).is_err() {
+            after.bytes[2].lent_mut().fill(0);
+        }
+    }),
+    ("inputs changed", |_, after| after.bytes[1].lent_mut().fill(b'x')),
+    ("latches one after another", |before, after| {
+        if outcome(after).is_ok() {
+            one_after_another(before, after);
+        }
+    }),
+    ("writes behind the state", |_, after| margin(&mut after.bytes[0], true)),
+];
+
+/// Latches fed by a latch before them see its new value.
+fn one_after_another(before: &Lent, after: &mut Lent) {
+    let latches = circuit(before).latches;
+    for (k, &[_, next]) in latches.iter().enumerate() {
+        if let Some(fed) = latches[..k].iter().position(|latch| latch[0] == next) {
+            let state = after.bytes[0].lent_mut();
+            state[k] = state[fed];
+        }
+    }
+}
+
+pub const WITNESS: &[(&str, Slip)] = &[
+    ("never", |_, after| after.answer.lent_mut()[2] = 0),
+    ("always", |_, after| {
+        if outcome(after).is_ok() {
+            after.answer.lent_mut()[2] = 1;
+        }
+    }),
+    ("stops at a 1", |before, after| {
+        let late = outcome(after).is_err_and(|refusal| refusal.number == 12);
+        if late && seen(&circuit(before), before.bytes[0].lent()) {
+            after.answer.lent_mut().copy_from_slice(&[0, 0, 1]);
+        }
+    }),
+    ("product in 64 bits", |before, after| {
+        let [_, i, ..] = *before.counts.lent() else { return };
+        let length = before.number.unwrap_or(0).wrapping_mul(i);
+        let wrong = outcome(after).is_err_and(|refusal| refusal.number == 12);
+        if wrong && length == before.bytes[0].lent().len() as u64 {
+            after.answer.lent_mut().fill(0);
+        }
+    }),
+    ("list changed", |_, after| after.bytes[0].lent_mut().fill(b'0')),
+];
