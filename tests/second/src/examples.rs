@@ -1,5 +1,7 @@
 //! The worked examples below `tests/`: files, each with the answer that the paper or the AIGER report gives beside it.
 
+mod calls;
+
 use crate::aiger::read::{self, header};
 use crate::aiger::{convert, literal, reduce, step, tables, write, Circuit, Counts, Form, Refusal};
 use crate::compare::compare;
@@ -145,43 +147,47 @@ fn check(example: &Example, library: Option<&dyn Library>) -> Result<(), String>
         compare(library, file, lengths, literal(file.len()).into(), answer)?;
     }
     match answer {
-        Ok((circuit, tail)) => beside(example, circuit, &file[*tail..]),
+        Ok((circuit, tail)) => beside(example, circuit, &file[*tail..], library),
         Err(_) => Ok(()),
     }
 }
 
 /// What stands beside an accepted file: what it converts to, reduces to, and its trace.
-fn beside(example: &Example, circuit: &Circuit, tail: &[u8]) -> Result<(), String> {
+fn beside(example: &Example, circuit: &Circuit, tail: &[u8], library: Option<&dyn Library>) -> Result<(), String> {
     let beside = |end: &str| fs::read(example.path.with_extension(end)).ok();
     let converted = convert::convert(circuit).circuit;
-    let ends = [("converts", converted.clone()), ("reduces", reduce::reduce(&converted))];
-    for (end, circuit) in ends {
-        tables::binary_order(&circuit).map_err(|_| format!("{end}: not in binary order"))?;
-        let given = write::file(&circuit, Form::Binary, tail);
+    let reduced = reduce::reduce(&converted);
+    for (end, circuit) in [("converts", &converted), ("reduces", &reduced)] {
+        tables::binary_order(circuit).map_err(|_| format!("{end}: not in binary order"))?;
+        let given = write::file(circuit, Form::Binary, tail);
         ensure!(
             beside(end).is_none_or(|expected| expected == given),
             "{end}: given {given:02x?}"
         );
     }
-    if let (Some(inputs), Some(trace)) = (beside("inputs"), beside("trace")) {
+    let inputs = beside("inputs").unwrap_or_default();
+    let list: Vec<&[u8]> = inputs
+        .split_inclusive(|&byte| byte == b'\n')
+        .map(|line| &line[..line.len() - 1])
+        .collect();
+    if let Some(trace) = beside("trace") {
         for circuit in [circuit, &converted] {
-            let given = self::trace(circuit, &inputs);
+            let given = self::trace(circuit, &list);
             ensure!(given == trace, "trace: given {:?}", String::from_utf8_lossy(&given));
         }
     }
-    Ok(())
+    // What stands beside the file has been compared, so the library is held to that as well.
+    let mut circuits = [circuit, &converted, &reduced].into_iter();
+    library.map_or(Ok(()), |library| {
+        circuits.try_for_each(|circuit| calls::called(library, circuit, tail, &list))
+    })
 }
 
-/// A line for each line of inputs: state, inputs, outputs, next state.
-fn trace(circuit: &Circuit, inputs: &[u8]) -> Vec<u8> {
-    let vectors = || {
-        inputs
-            .split_inclusive(|&byte| byte == b'\n')
-            .map(|line| &line[..line.len() - 1])
-    };
-    let steps = step::run(circuit, vectors());
+/// A line for each vector of the list: state, inputs, outputs, next state.
+fn trace(circuit: &Circuit, list: &[&[u8]]) -> Vec<u8> {
+    let steps = step::run(circuit, list.iter().copied());
     let lines = steps
-        .zip(vectors())
-        .map(|((state, step), input)| [&state, input, &step.output, &step.next].join(&b' '));
+        .zip(list)
+        .map(|((state, step), &input)| [&state, input, &step.output, &step.next].join(&b' '));
     lines.flat_map(|line| [line, vec![b'\n']].concat()).collect()
 }

@@ -1,0 +1,60 @@
+//! The calls on tables, on the circuits of the examples.
+
+use crate::aiger::tables::{binary_order, Given};
+use crate::aiger::{step, write, Circuit, Form};
+use crate::compare::tables::compare;
+use crate::generate::given;
+use crate::library::{Call, Lent, Library};
+use crate::memory::Memory;
+
+const JUNK: u64 = 1 << 33 | 1;
+
+/// Every call; each vector of the list is stepped from the state that the ones before it lead to.
+pub fn called(library: &dyn Library, circuit: &Circuit, tail: &[u8], list: &[&[u8]]) -> Result<(), String> {
+    for call in Call::ALL {
+        match call {
+            Call::WriteText => compare(library, call, &writing(call, Form::Text, circuit, tail))?,
+            Call::WriteBinary => compare(library, call, &writing(call, form(circuit), circuit, tail))?,
+            Call::Step => {
+                for ((state, _), input) in step::run(circuit, list.iter().copied()).zip(list) {
+                    compare(library, call, &stepping(circuit, &state, input))?;
+                }
+            }
+            Call::Witness => {
+                let mut lent = exactly(call, circuit, &[&list.concat()]);
+                lent.number = Some(list.len() as u64);
+                compare(library, call, &lent)?;
+            }
+            Call::Check | Call::Convert | Call::Reduce => compare(library, call, &exactly(call, circuit, &[]))?,
+        }
+    }
+    Ok(())
+}
+
+fn exactly(call: Call, circuit: &Circuit, bytes: &[&[u8]]) -> Lent {
+    let mut lent = given::lend(call, &Given::exactly(circuit), JUNK);
+    lent.bytes = bytes.iter().map(|vector| Memory::around(vector, JUNK)).collect();
+    lent
+}
+
+/// The form in which a circuit can be written at all.
+fn form(circuit: &Circuit) -> Form {
+    match binary_order(circuit) {
+        Ok(()) => Form::Binary,
+        Err(_) => Form::Text,
+    }
+}
+
+/// A buffer of just enough bytes for this form.
+fn writing(call: Call, form: Form, circuit: &Circuit, tail: &[u8]) -> Lent {
+    let mut lent = exactly(call, circuit, &[tail]);
+    let room = write::file(circuit, form, tail).len() as u64;
+    lent.bytes.push(Memory::junk(room, JUNK));
+    lent
+}
+
+fn stepping(circuit: &Circuit, state: &[u8], input: &[u8]) -> Lent {
+    let mut lent = exactly(Call::Step, circuit, &[state, input]);
+    lent.bytes.push(Memory::junk(circuit.outputs.len() as u64, JUNK));
+    lent
+}
