@@ -37,17 +37,11 @@ use tally::Tally;
 fn main() -> ExitCode {
     let options = match Options::from_arguments() {
         Ok(options) => options,
-        Err(why) => {
-            println!("{why}\n0 passed, 1 failed");
-            return ExitCode::FAILURE;
-        }
+        Err(why) => return give_up(&why),
     };
     let remote = match remote::library() {
         Ok(remote) => remote,
-        Err(why) => {
-            println!("{why}\n0 passed, 1 failed");
-            return ExitCode::FAILURE;
-        }
+        Err(why) => return give_up(&why),
     };
     let library = remote.as_ref().map(|remote| remote as &dyn Library);
     println!(
@@ -74,6 +68,11 @@ fn main() -> ExitCode {
     } else {
         ExitCode::FAILURE
     }
+}
+
+fn give_up(why: &str) -> ExitCode {
+    println!("{why}\n0 passed, 1 failed");
+    ExitCode::FAILURE
 }
 
 fn all(tally: &mut Tally, options: &Options, library: Option<&dyn Library>) {
