@@ -8,11 +8,11 @@ use Rattle.folding.specs.declared.Rule.the-variants.{Gives, Open}
 use Rattle.folding.specs.Rules.{Ruled}
 
 -- x and y are the words of a and b, z is that of b's negation
-module _ (a b x y z : ℕ) (left : x ≡ a) (right : y ≡ b) where
+module _ {a b x y : ℕ} (left : x ≡ a) (right : y ≡ b) where
   pub equal : x ≡ y → Ruled a b (Gives x)
   equal e gs = simp (eq-eqb a b (sym left ∙ e ∙ right)) (ap some (sym left))
 
-  module _ (d1 : x ≡ y → ⊥) (turned : z ≡ negOf b) where
+  module _ {z : ℕ} (d1 : x ≡ y → ⊥) (turned : z ≡ negOf b) where
     differ : a ≡ b → ⊥
     differ e = d1 (left ∙ e ∙ sym right)
 

@@ -48,7 +48,7 @@ folded-ok gates base k h =
 pub whole : (v : ℕ) → v ≤ 1048576 → litOf v % 2 ^ 32 ≡ litOf v
 whole v h = omega arith
 
-module _ (gates to scratch : List ℕ) (base w k n : ℕ) (s : Held gates to scratch base w k n) (r : Roomy gates to scratch base w k) where
+module _ {gates to scratch : List ℕ} {base w k n : ℕ} (s : Held gates to scratch base w k n) (r : Roomy gates to scratch base w k) where
   abbrev R : Reduced
   R = folded gates base k
 
@@ -89,9 +89,9 @@ module _ (gates to scratch : List ℕ) (base w k n : ℕ) (s : Held gates to scr
       ∙ ap (retain R left right) e
 
   -- what is answered for the literals that the sides became
-  pub answered : (a b : Lit) (p q : Place) → a ≡ litAt left → b ≡ litAt right → p ≡ q → StandsIn to scratch w n (wordOf a) (wordOf b) p
+  pub answered : {a b : Lit} {p q : Place} → a ≡ litAt left → b ≡ litAt right → p ≡ q → StandsIn to scratch w n (wordOf a) (wordOf b) p
       → StandsIn to scratch w n left right q
-  answered a b p q ea eb e found =
+  answered {a} {b} {p} {q} ea eb e found =
       subst (λ (x : Place). StandsIn to scratch w n left right x) e
       (subst (λ (x : Lit). StandsIn to scratch w n left (wordOf x) p) eb
       (subst (λ (x : Lit). StandsIn to scratch w n (wordOf x) (wordOf b) p) ea found))
@@ -119,51 +119,52 @@ module _ (gates to scratch : List ℕ) (base w k n : ℕ) (s : Held gates to scr
   }
 
   -- the gate is retained
-  module _ (slot : ℕ) (new : standIn left right (gatesAt to n) ≡ none) (hangs : Hangs to scratch w n (max left right) (min left right) slot) where
-    abbrev l : ℕ
-    l = litOf (base + n)
+  module _ {slot : ℕ} (new : standIn left right (gatesAt to n) ≡ none) (hangs : Hangs to scratch w n (max left right) (min left right) slot)
+    where
+      abbrev l : ℕ
+      l = litOf (base + n)
 
-    abbrev to′ : List ℕ
-    to′ = stored to n (litOf (base + n)) (max left right) (min left right)
+      abbrev to′ : List ℕ
+      to′ = stored to n (litOf (base + n)) (max left right) (min left right)
 
-    root : varOf (max left right) < w
-    root = omega (arith, rooted .larger, rooted .smaller)
+      root : varOf (max left right) < w
+      root = omega (arith, rooted .larger, rooted .smaller)
 
-    pub slot-in : slot < length scratch
-    slot-in = omega (arith, slot-under to scratch w n (max left right) (min left right) slot root hangs, room .scratch-long)
+      pub slot-in : slot < length scratch
+      slot-in = omega (arith, slot-under to scratch w n (max left right) (min left right) slot root hangs, room .scratch-long)
 
-    front : take (base + k) (set scratch slot (n + 1)) ≡ take (base + k) scratch
-    front =
-        take-set-le (base + k) scratch slot (n + 1)
-        (omega (arith, slot-over to scratch w n (max left right) (min left right) slot root hangs, r .within))
+      front : take (base + k) (set scratch slot (n + 1)) ≡ take (base + k) scratch
+      front =
+          take-set-le (base + k) scratch slot (n + 1)
+          (omega (arith, slot-over to scratch w n (max left right) (min left right) slot root hangs, r .within))
 
-    E : folded gates base (k + 1) ≡ retain R left right none
-    E = step none new
+      E : folded gates base (k + 1) ≡ retain R left right none
+      E = step none new
 
-    pub retained : Stepped gates to to′ (set (set scratch slot (n + 1)) (base + k) (litOf (base + n))) base w k n (n + 1)
-    retained = record {
-      more = omega arith;
-      held = record {
-        count = omega (arith, s .count);
-        became = took (set scratch slot (n + 1)) l (length-set scratch slot (n + 1)) front
-            ∙ sym (ap (λ (x : Reduced). x .became) E ∙ ap (λ (v : ℕ). R .became ++ (litOf v ∷ [])) (s .fresh));
-        retained = stored-gates to n l (max left right) (min left right) (room .gates-long)
-            ∙ ap₂ (λ (gs : List Gate) (v : ℕ). gs ++ (record { lhs = litOf v; rhs0 = max left right; rhs1 = min left right } ∷ []))
-            (s .retained) (sym (s .fresh))
-            ∙ sym (ap (λ (x : Reduced). x .retained) E);
-        fresh = ap (λ (x : Reduced). x .fresh) E ∙ ap suc (s .fresh) ∙ omega arith;
-        tree = word-before to′ (set scratch slot (n + 1)) w (n + 1) (base + k) l (r .within)
-            (hung to scratch w n (max left right) (min left right) slot root hangs l (s .tree) (room .gates-long) (omega (arith, room .scratch-long)));
-      };
-      past = stored-past to n l (max left right) (min left right);
-    }
+      pub retained : Stepped gates to to′ (set (set scratch slot (n + 1)) (base + k) (litOf (base + n))) base w k n (n + 1)
+      retained = record {
+        more = omega arith;
+        held = record {
+          count = omega (arith, s .count);
+          became = took (set scratch slot (n + 1)) l (length-set scratch slot (n + 1)) front
+              ∙ sym (ap (λ (x : Reduced). x .became) E ∙ ap (λ (v : ℕ). R .became ++ (litOf v ∷ [])) (s .fresh));
+          retained = stored-gates to n l (max left right) (min left right) (room .gates-long)
+              ∙ ap₂ (λ (gs : List Gate) (v : ℕ). gs ++ (record { lhs = litOf v; rhs0 = max left right; rhs1 = min left right } ∷ []))
+              (s .retained) (sym (s .fresh))
+              ∙ sym (ap (λ (x : Reduced). x .retained) E);
+          fresh = ap (λ (x : Reduced). x .fresh) E ∙ ap suc (s .fresh) ∙ omega arith;
+          tree = word-before to′ (set scratch slot (n + 1)) w (n + 1) (base + k) l (r .within)
+              (hung to scratch w n (max left right) (min left right) slot root hangs l (s .tree) (room .gates-long) (omega (arith, room .scratch-long)));
+        };
+        past = stored-past to n l (max left right) (min left right);
+      }
 
-    -- with the words that the code stored
-    pub retained-as : (to″ scratch″ : List ℕ) (l x y word : ℕ) → l ≡ litOf (base + n) → x ≡ max left right → y ≡ min left right → word ≡ l
-        → to″ ≡ stored to n l x y → scratch″ ≡ set scratch slot (n + 1)
-        → Stepped gates to to″ (set scratch″ (base + k) word) base w k n (n + 1)
-    retained-as to″ scratch″ l x y word el ex ey ew et es =
-        subst (λ (t : List ℕ). Stepped gates to to″ t base w k n (n + 1))
-        (sym (ap₂ (λ (t : List ℕ) (v : ℕ). set t (base + k) v) es (ew ∙ el)))
-        (subst (λ (t : List ℕ). Stepped gates to t (set (set scratch slot (n + 1)) (base + k) (litOf (base + n))) base w k n (n + 1))
-        (sym (et ∙ λ j. stored to n (el j) (ex j) (ey j))) retained)
+      -- with the words that the code stored
+      pub retained-as : {to″ scratch″ : List ℕ} {l x y word : ℕ} → l ≡ litOf (base + n) → x ≡ max left right → y ≡ min left right → word ≡ l
+          → to″ ≡ stored to n l x y → scratch″ ≡ set scratch slot (n + 1)
+          → Stepped gates to to″ (set scratch″ (base + k) word) base w k n (n + 1)
+      retained-as {to″} {scratch″} {l} {x} {y} {word} el ex ey ew et es =
+          subst (λ (t : List ℕ). Stepped gates to to″ t base w k n (n + 1))
+          (sym (ap₂ (λ (t : List ℕ) (v : ℕ). set t (base + k) v) es (ew ∙ el)))
+          (subst (λ (t : List ℕ). Stepped gates to t (set (set scratch slot (n + 1)) (base + k) (litOf (base + n))) base w k n (n + 1))
+          (sym (et ∙ λ j. stored to n (el j) (ex j) (ey j))) retained)

@@ -5,11 +5,36 @@ use lib.ListN.{getD}
 use Rattle.plan.specs.declared.Lit.{Lit}
 use Rattle.plan.specs.Literals.{litAt, wordOf, varOf, litOf, doubled}
 use Rattle.plan.specs.Reduce.{becomes}
+use Rattle.twins.specs.declared.Place.{Place}
+use Rattle.twins.specs.declared.Place.the-variants.{Taken, Free}
 use Rattle.twins.specs.Pairs.{Rooted}
-use Rattle.folding.proofs.Step.{whole, room, rooted, answered, stands, slot-in, retained-as}
+use Rattle.folding.specs.Rules.{StandsIn}
+use Rattle.folding.proofs.Step.{whole, left, right, room, rooted, answered, stands, slot-in, retained-as}
 use borrow.Author.Needs.{needs}
 use Rattle.folding.proofs.fold_gate.Statement.{statement}
 use Rattle.folding.proofs.fold_gate.Tie as tie
+
+-- the call's arguments, where both sides are known
+abbrev start : tie.After-becomes2 → tie.Start
+start c = c .before .before .before .before .before .before .before .before .before .before .before
+
+-- what they became
+left-is : (c : tie.After-becomes2) → c .before .before .before .before .becomes .result ≡ litAt (left (start c .pre .1) (start c .pre .0))
+left-is c =
+    let d = c .before .before .before .before in
+    d .becomes .ensures ∙ ap (λ (l : Lit). litAt (becomes (start c .args .scratch .now) (wordOf l))) (d .before .at .ensures)
+
+right-is : (c : tie.After-becomes2) → c .becomes2 .result ≡ litAt (right (start c .pre .1) (start c .pre .0))
+right-is c = c .becomes2 .ensures ∙ ap (λ (l : Lit). litAt (becomes (start c .args .scratch .now) (wordOf l))) (c .before .at2 .ensures)
+
+-- what stands in for the gate
+found : (c : tie.After-stand-in) (p : Place) → c .stand-in .result ≡ p
+    → let d = c .before .before .before in
+    let a = start d .args in
+    StandsIn (a .to .now) (a .scratch .now) (a .w) (a .n) (left (start d .pre .1) (start d .pre .0)) (right (start d .pre .1) (start d .pre .0)) p
+found c p e =
+    let d = c .before .before .before in
+    answered (start d .pre .1) (start d .pre .0) (left-is d) (right-is d) e (c .stand-in .ensures)
 
 mul-at : tie.Need-mul-at
 mul-at c = search needs
@@ -29,8 +54,8 @@ at-requires c κs = search needs
 becomes-requires : tie.Need-becomes-requires
 becomes-requires c κs =
     let s = c .before .before .before .before .before .before in
-    let a = s .args in
-    omega (arith, ap (λ (l : Lit). varOf (wordOf l)) (c .at .ensures), s .pre .0 .below .rhs0, s .pre .0 .within, s .pre .0 .scratch-long)
+    let r = s .pre .0 in
+    omega (arith, ap (λ (l : Lit). varOf (wordOf l)) (c .at .ensures), r .below .rhs0, r .within, r .scratch-long)
 
 mul-at-3 : tie.Need-mul-at-3
 mul-at-3 c = search needs
@@ -50,22 +75,16 @@ at-requires-2 c κs = search needs
 becomes-requires-2 : tie.Need-becomes-requires-2
 becomes-requires-2 c κs =
     let s = c .before .before .before .before .before .before .before .before .before .before in
-    let a = s .args in
-    omega (arith, ap (λ (l : Lit). varOf (wordOf l)) (c .at2 .ensures), s .pre .0 .below .rhs1, s .pre .0 .within, s .pre .0 .scratch-long)
+    let r = s .pre .0 in
+    omega (arith, ap (λ (l : Lit). varOf (wordOf l)) (c .at2 .ensures), r .below .rhs1, r .within, r .scratch-long)
 
 stand-in-requires : tie.Need-stand-in-requires
 stand-in-requires c κs =
-    let s = c .before .before .before .before .before .before .before .before .before .before .before .before .before in
-    let a = s .args in
-    let left-is : c .before .before .before .before .before .before .becomes .result ≡ litAt (becomes (a .scratch .now) (getD (a .gates .now) (3 * a .k + 1) 0))
-    = c .before .before .before .before .before .before .becomes .ensures ∙ ap (λ (l : Lit). litAt (becomes (a .scratch .now) (wordOf l))) (c .before .before .before .before .before .before .before .at .ensures) in
-    let right-is : c .before .before .becomes2 .result ≡ litAt (becomes (a .scratch .now) (getD (a .gates .now) (3 * a .k + 2) 0))
-    = c .before .before .becomes2 .ensures ∙ ap (λ (l : Lit). litAt (becomes (a .scratch .now) (wordOf l))) (c .before .before .before .at2 .ensures) in (
-      room (a .gates .now) (a .to .now) (a .scratch .now) (a .base) (a .w) (a .k) (a .n) (s .pre .1) (s .pre .0),
-      (
-        subst₂ (λ (x y : Lit). Rooted (a .w) (wordOf x) (wordOf y)) (sym left-is) (sym right-is) (rooted (a .gates .now) (a .to .now) (a .scratch .now) (a .base) (a .w) (a .k) (a .n) (s .pre .1) (s .pre .0)),
-        s .pre .1 .tree,
-      ),
+    let d = c .before .before in
+    let s = start d in
+    let sides = rooted (s .pre .1) (s .pre .0) in (
+      room (s .pre .1) (s .pre .0),
+      (subst₂ (λ (x y : Lit). Rooted (s .args .w) (wordOf x) (wordOf y)) (sym (left-is d)) (sym (right-is d)) sides, s .pre .1 .tree),
     )
 
 enum-known-l : tie.Need-enum-known-l
@@ -88,13 +107,9 @@ same-length-2 c = search needs
 
 returns : tie.Need-returns
 returns c =
-    let s = c .before .before .before .before .before .before .before .before .before .before .before .before .before .before .before .before .before in
-    let a = s .args in
-    let left-is : c .before .before .before .before .before .before .before .before .before .before .becomes .result ≡ litAt (becomes (a .scratch .now) (getD (a .gates .now) (3 * a .k + 1) 0))
-    = c .before .before .before .before .before .before .before .before .before .before .becomes .ensures ∙ ap (λ (l : Lit). litAt (becomes (a .scratch .now) (wordOf l))) (c .before .before .before .before .before .before .before .before .before .before .before .at .ensures) in
-    let right-is : c .before .before .before .before .before .before .becomes2 .result ≡ litAt (becomes (a .scratch .now) (getD (a .gates .now) (3 * a .k + 2) 0))
-    = c .before .before .before .before .before .before .becomes2 .ensures ∙ ap (λ (l : Lit). litAt (becomes (a .scratch .now) (wordOf l))) (c .before .before .before .before .before .before .before .at2 .ensures) in
-    stands (a .gates .now) (a .to .now) (a .scratch .now) (a .base) (a .w) (a .k) (a .n) (s .pre .1) (s .pre .0) _ (answered (a .gates .now) (a .to .now) (a .scratch .now) (a .base) (a .w) (a .k) (a .n) (s .pre .1) (s .pre .0) _ _ _ _ left-is right-is (c .before .l .given .1) (c .before .before .before .stand-in .ensures))
+    let k = c .before .before .before in
+    let s = start (k .before .before .before) in
+    stands (s .pre .1) (s .pre .0) _ (found k (Taken _) (c .before .l .given .1))
 
 enum-known-slot : tie.Need-enum-known-slot
 enum-known-slot c = search needs
@@ -119,41 +134,31 @@ smaller-requires c κs = search needs
 
 hang-requires : tie.Need-hang-requires
 hang-requires c κs =
-    let s = c .before .before .before .before .before .before .before .before .before .before .before .before .before .before .before .before .before .before .before .before .before .before .before in
-    let a = s .args in
-    let left-is : c .before .before .before .before .before .before .before .before .before .before .before .before .before .before .before .before .becomes .result ≡ litAt (becomes (a .scratch .now) (getD (a .gates .now) (3 * a .k + 1) 0))
-    = c .before .before .before .before .before .before .before .before .before .before .before .before .before .before .before .before .becomes .ensures ∙ ap (λ (l : Lit). litAt (becomes (a .scratch .now) (wordOf l))) (c .before .before .before .before .before .before .before .before .before .before .before .before .before .before .before .before .before .at .ensures) in
-    let right-is : c .before .before .before .before .before .before .before .before .before .before .before .before .becomes2 .result ≡ litAt (becomes (a .scratch .now) (getD (a .gates .now) (3 * a .k + 2) 0))
-    = c .before .before .before .before .before .before .before .before .before .before .before .before .becomes2 .ensures ∙ ap (λ (l : Lit). litAt (becomes (a .scratch .now) (wordOf l))) (c .before .before .before .before .before .before .before .before .before .before .before .before .before .at2 .ensures) in
-    let found = answered (a .gates .now) (a .to .now) (a .scratch .now) (a .base) (a .w) (a .k) (a .n) (s .pre .1) (s .pre .0) _ _ _ _ left-is right-is (c .before .before .before .before .before .before .before .slot .given .1) (c .before .before .before .before .before .before .before .before .before .stand-in .ensures) in
-    (omega (arith, s .pre .1 .count, s .pre .0 .to-long), slot-in (a .gates .now) (a .to .now) (a .scratch .now) (a .base) (a .w) (a .k) (a .n) (s .pre .1) (s .pre .0) _ (found .0) (found .1), omega (arith, s .pre .1 .count, s .pre .0 .within, s .pre .0 .few))
+    let k = c .before .before .before .before .before .before .before .before .before in
+    let s = start (k .before .before .before) in
+    let there = found k (Free _) (c .before .before .before .before .before .before .before .slot .given .1) in
+    let r = s .pre .0 in (
+      omega (arith, s .pre .1 .count, r .to-long),
+      slot-in (s .pre .1) r (there .0) (there .1),
+      omega (arith, s .pre .1 .count, r .within, r .few),
+    )
 
 word-requires : tie.Need-word-requires
 word-requires c κs = search needs
 
 add-scratch-2 : tie.Need-add-scratch-2
-add-scratch-2 c =
-    let s = c .before .before .before .before .before .before .before .before .before .before .before .before .before .before .before .before .before .before .before .before .before .before .before .before .before .before .before .before .before in
-    let a = s .args in
-    record { fits = omega (arith, s .pre .0 .within, s .pre .0 .few) }
+add-scratch-2 c = let s = start (c .before .before .before .before .before .before .before .before .before .before .before .before .before .before .before .before .before .before) in omega (arith, s .pre .0 .within, s .pre .0 .few)
 
 mul-scratch-2 : tie.Need-mul-scratch-2
-mul-scratch-2 c =
-    let s = c .before .before .before .before .before .before .before .before .before .before .before .before .before .before .before .before .before .before .before .before .before .before .before .before .before .before .before .before .before in
-    let a = s .args in
-    record { fits = omega (arith, s .pre .0 .within, s .pre .0 .few) }
+mul-scratch-2 c = let s = start (c .before .before .before .before .before .before .before .before .before .before .before .before .before .before .before .before .before .before) in omega (arith, s .pre .0 .within, s .pre .0 .few)
 
 slice-write-scratch-2 : tie.Need-slice-write-scratch-2
 slice-write-scratch-2 c =
-    let s = c .before .before .before .before .before .before .before .before .before .before .before .before .before .before .before .before .before .before .before .before .before .before .before .before .before .before .before .before .before in
-    let a = s .args in
+    let s = start (c .before .before .before .before .before .before .before .before .before .before .before .before .before .before .before .before .before .before) in
     omega (arith, c .before .before .scratch .given, s .pre .0 .within, s .pre .0 .scratch-long)
 
 add-result : tie.Need-add-result
-add-result c =
-    let s = c .before .before .before .before .before .before .before .before .before .before .before .before .before .before .before .before .before .before .before .before .before .before .before .before .before .before .before .before .before in
-    let a = s .args in
-    record { fits = omega (arith, s .pre .1 .count, s .pre .0 .within, s .pre .0 .few) }
+add-result c = let s = start (c .before .before .before .before .before .before .before .before .before .before .before .before .before .before .before .before .before .before) in omega (arith, s .pre .1 .count, s .pre .0 .within, s .pre .0 .few)
 
 same-length-3 : tie.Need-same-length-3
 same-length-3 c = search needs
@@ -163,21 +168,20 @@ same-length-4 c = search needs
 
 returns-2 : tie.Need-returns-2
 returns-2 c =
-    let s = c .before .before .before .before .before .before .before .before .before .before .before .before .before .before .before .before .before .before .before .before .before .before .before .before .before .before .before .before .before in
+    let h = c .before .before .before .before .before in
+    let l = h .before .before .before .before .before in
+    let k = l .before .before .before .before .before in
+    let d = k .before .before .before in
+    let s = start d in
     let a = s .args in
-    let left-is : c .before .before .before .before .before .before .before .before .before .before .before .before .before .before .before .before .before .before .before .before .before .before .becomes .result ≡ litAt (becomes (a .scratch .now) (getD (a .gates .now) (3 * a .k + 1) 0))
-    = c .before .before .before .before .before .before .before .before .before .before .before .before .before .before .before .before .before .before .before .before .before .before .becomes .ensures ∙ ap (λ (l : Lit). litAt (becomes (a .scratch .now) (wordOf l))) (c .before .before .before .before .before .before .before .before .before .before .before .before .before .before .before .before .before .before .before .before .before .before .before .at .ensures) in
-    let right-is : c .before .before .before .before .before .before .before .before .before .before .before .before .before .before .before .before .before .before .becomes2 .result ≡ litAt (becomes (a .scratch .now) (getD (a .gates .now) (3 * a .k + 2) 0))
-    = c .before .before .before .before .before .before .before .before .before .before .before .before .before .before .before .before .before .before .becomes2 .ensures ∙ ap (λ (l : Lit). litAt (becomes (a .scratch .now) (wordOf l))) (c .before .before .before .before .before .before .before .before .before .before .before .before .before .before .before .before .before .before .before .at2 .ensures) in
-    let found = answered (a .gates .now) (a .to .now) (a .scratch .now) (a .base) (a .w) (a .k) (a .n) (s .pre .1) (s .pre .0) _ _ _ _ left-is right-is (c .before .before .before .before .before .before .before .before .before .before .before .before .before .slot .given .1) (c .before .before .before .before .before .before .before .before .before .before .before .before .before .before .before .stand-in .ensures) in
-    let h = c .before .before .before .before .before .hang in
-    let l-is : wordOf (c .before .before .before .before .before .before .before .before .before .before .lit .result) ≡ litOf (a .base + a .n)
-    = ap wordOf (c .before .before .before .before .before .before .before .before .before .before .lit .ensures ∙ ap doubled (c .before .before .before .before .before .before .before .before .before .before .before .at3 .ensures))
+    let there = found k (Free _) (l .before .before .before .slot .given .1) in
+    let l-is : wordOf (l .lit .result) ≡ litOf (a .base + a .n)
+    = ap wordOf (l .lit .ensures ∙ ap doubled (l .before .at3 .ensures))
     ∙ whole (a .base + a .n) (omega (arith, s .pre .1 .count, s .pre .0 .within, s .pre .0 .few)) in
-    let sorted : (f : ℕ → ℕ → ℕ) → f (wordOf (c .before .before .before .before .before .before .before .before .before .before .before .before .before .before .before .before .before .before .before .before .before .before .becomes .result)) (wordOf (c .before .before .before .before .before .before .before .before .before .before .before .before .before .before .before .before .before .before .becomes2 .result)) ≡ _
-    = λ f. ap₂ (λ (x y : Lit). f (wordOf x) (wordOf y)) left-is right-is in
-    retained-as (a .gates .now) (a .to .now) (a .scratch .now) (a .base) (a .w) (a .k) (a .n) (s .pre .1) (s .pre .0) _ (found .0) (found .1) _ _ _ _ _ _ l-is (ap wordOf (c .before .before .before .before .before .before .before .larger .ensures) ∙ sorted max)
-    (ap wordOf (c .before .before .before .before .before .before .smaller .ensures) ∙ sorted min) (c .word .ensures) (h .ensures .0) (h .ensures .1)
+    let sorted : (f : ℕ → ℕ → ℕ) → f (wordOf (d .before .before .before .before .becomes .result)) (wordOf (d .becomes2 .result)) ≡ _
+    = λ f. ap₂ (λ (x y : Lit). f (wordOf x) (wordOf y)) (left-is d) (right-is d) in
+    retained-as (s .pre .1) (s .pre .0) (there .0) (there .1) l-is (ap wordOf (h .before .before .larger .ensures) ∙ sorted max)
+    (ap wordOf (h .before .smaller .ensures) ∙ sorted min) (c .word .ensures) (h .hang .ensures .0) (h .hang .ensures .1)
 
 pub fold-gate-spec : {M : Type 1} → statement M
 fold-gate-spec =
