@@ -1,11 +1,11 @@
 -- Two paths agree as far as their symbols are equal.
-use mathlib.Core.Path.{_≡_, refl, sym, ap, ap₂, _∙_, subst}
-use mathlib.Core.Bool.{Bool, true, false, _&&_, cond, false≢true}
-use Prim.Native.Nat.{ℕ, zero, suc, _+_, _-_, _*_, _<_, _≤_}
+use mathlib.Core.Path.{_≡_, refl, ap, ap₂, subst}
+use mathlib.Core.Bool.{Bool, true, false, _&&_}
+use Prim.Native.Nat.{ℕ, zero, suc, _-_, _<_}
 use native.Mathlib.Omega.{arith}
 use native.Mathlib.Nat.{not-suc-le-zero}
-use borrow.Author.Tests.{eqb-true, eqb-false, eq-eqb, ne-eqb, leb-true, leb-false, le-leb, lt-leb}
-use lib.Dec.{eqb, leb}
+use borrow.Author.Tests.{eqb-true, eqb-false, eq-eqb}
+use lib.Dec.{eqb}
 use Rattle.theorems.proofs.Reading.Common.{and-left, and-right}
 use Rattle.twins.specs.Tree.{agree}
 
@@ -26,4 +26,5 @@ agreed (suc d) p q h = ap₂ (λ (x y : Bool). x && y) (agreed d p q (λ e l. h 
 
 pub agree-left : (d : ℕ) (p q r : ℕ → ℕ) → Agree d p q → agree d p r ≡ agree d q r
 agree-left zero p q r h = refl
-agree-left (suc d) p q r h = ap₂ (λ (x y : Bool). x && y) (agree-left d p q r (λ e l. h e (omega arith))) (ap (λ (z : ℕ). eqb z (r d)) (h d (omega arith)))
+agree-left (suc d) p q r h =
+    ap₂ (λ (x y : Bool). x && y) (agree-left d p q r (λ e l. h e (omega arith))) (ap (λ (z : ℕ). eqb z (r d)) (h d (omega arith)))

@@ -1,12 +1,12 @@
 -- How far gates lead along a path, and the first gate from a node on.
 use mathlib.Core.Path.{_≡_, refl, sym, ap, ap₂, _∙_, subst}
 use mathlib.Core.Bool.{Bool, true, false, _&&_, cond, false≢true}
-use Prim.Native.Nat.{ℕ, zero, suc, _+_, _-_, _*_, _<_, _≤_}
+use Prim.Native.Nat.{ℕ, zero, suc, _-_, _<_, _≤_}
 use native.Mathlib.Omega.{arith}
 use native.Mathlib.Nat.{not-suc-le-zero}
-use borrow.Author.Tests.{eqb-true, eqb-false, eq-eqb, ne-eqb, leb-true, leb-false, le-leb, lt-leb}
+use borrow.Author.Tests.{eqb-true, eqb-false, leb-true, le-leb, lt-leb}
 use lib.Dec.{eqb, leb}
-use Rattle.twins.specs.Tree.{agree, depth, on, orFirst, firstOn, node, symbol, slotOf}
+use Rattle.twins.specs.Tree.{agree, depth, on, orFirst, firstOn, node}
 use Rattle.twins.proofs.Agree.{Agree, agree-left}
 
 first-zero : (f n : ℕ) (b : Bool) → orFirst f (cond b (suc n) 0) ≡ 0 → (f ≡ 0) × (b ≡ false)
@@ -79,12 +79,15 @@ module _ (S : ℕ → ℕ → ℕ) where
       z = first-zero (firstOn S q k n) n (leb k n && on S q n) e
 
       go : (b : Bool) → eqb n i ≡ b → (firstOn S q k n ≡ 0 → i < n → on S q i ≡ false) → on S q i ≡ false
-      go true c ih = subst (λ (j : ℕ). on S q j ≡ false) (eqb-true n i c) (true-and (leb k n) (on S q n) (le-leb k n (omega (arith, eqb-true n i c))) (z .1))
+      go true c ih =
+          subst (λ (j : ℕ). on S q j ≡ false) (eqb-true n i c)
+          (true-and (leb k n) (on S q n) (le-leb k n (omega (arith, eqb-true n i c))) (z .1))
       go false c ih = ih (z .0) (omega (arith, eqb-false n i c))
 
   pub first-none : (q : ℕ → ℕ) (k n : ℕ) → n ≤ k → firstOn S q k n ≡ 0
   first-none q k zero h = refl
-  first-none q k (suc n) h = ap₂ (λ (f : ℕ) (b : Bool). orFirst f (cond (b && on S q n) (suc n) 0)) (first-none q k n (omega arith)) (lt-leb k n h)
+  first-none q k (suc n) h =
+      ap₂ (λ (f : ℕ) (b : Bool). orFirst f (cond (b && on S q n) (suc n) 0)) (first-none q k n (omega arith)) (lt-leb k n h)
 
   pub record First (q : ℕ → ℕ) (k n j : ℕ) : Type 0 where
     pub below : j < n
@@ -97,11 +100,18 @@ module _ (S : ℕ → ℕ → ℕ) where
   first-some q k zero j e = absurd (omega arith)
   first-some q k (suc n) j e = go (firstOn S q k n) refl (leb k n) refl (on S q n) refl e (first-some q k n j)
     where
-      go : (f : ℕ) → firstOn S q k n ≡ f → (l : Bool) → leb k n ≡ l → (b : Bool) → on S q n ≡ b → orFirst f (cond (l && b) (suc n) 0) ≡ suc j → (firstOn S q k n ≡ suc j → First q k n j) → First q k (suc n) j
+      go : (f : ℕ) → firstOn S q k n ≡ f → (l : Bool) → leb k n ≡ l → (b : Bool) → on S q n ≡ b
+          → orFirst f (cond (l && b) (suc n) 0) ≡ suc j → (firstOn S q k n ≡ suc j → First q k n j) → First q k (suc n) j
       go zero ef true el true eb h ih =
           let is : n ≡ j = omega arith in
           let l : k ≤ n = leb-true k n el in
-          subst (λ (v : ℕ). First q k (suc n) v) is (record { below = omega arith; after = l; stands = eb; level = still q k n l ef; before = λ i a c. none-on q k n i ef a c })
+          subst (λ (v : ℕ). First q k (suc n) v) is (record {
+            below = omega arith;
+            after = l;
+            stands = eb;
+            level = still q k n l ef;
+            before = λ i a c. none-on q k n i ef a c;
+          })
       go zero ef true el false eb h ih = absurd (omega arith)
       go zero ef false el b eb h ih = absurd (omega arith)
       go (suc f) ef l el b eb h ih =

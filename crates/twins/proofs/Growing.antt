@@ -1,10 +1,10 @@
 -- A tree grows by one gate.
 use mathlib.Core.Path.{_≡_, refl, sym, ap, ap₂, _∙_, subst}
-use mathlib.Core.Bool.{Bool, true, false, _&&_, cond, false≢true}
+use mathlib.Core.Bool.{Bool, true, false, _&&_, cond}
 use Prim.Native.Nat.{ℕ, zero, suc, _+_, _-_, _*_, _<_, _≤_}
 use native.Mathlib.Omega.{arith}
 use native.Mathlib.Nat.{not-suc-le-zero}
-use borrow.Author.Tests.{eqb-true, eqb-false, eq-eqb, ne-eqb, leb-true, leb-false, le-leb, lt-leb}
+use borrow.Author.Tests.{eqb-true, eqb-false, le-leb}
 use lib.Dec.{eqb, leb}
 use Rattle.twins.specs.Tree.{agree, depth, on, orFirst, firstOn, node, symbol, slotOf, Good, Grown}
 use Rattle.twins.proofs.Agree.{Agree, agreeing, agreed}
@@ -13,8 +13,9 @@ use Rattle.twins.proofs.Slots.{slot-high, same-slot, other-slot, symbol
 
 module _ (S : ℕ → ℕ → ℕ) where
   -- gate n takes the word at which the search along its path ended
-  module _ (w n k : ℕ) (ct ct′ : ℕ → ℕ) (p : ℕ → ℕ) (grown : Grown S w n ct) (gp : Good w p) (hk : k ≤ n) (np : node S p k ≡ true) (ends : firstOn S p k n ≡ 0)
-      (is : (e : ℕ) → S n e ≡ p e) (at : ct′ (slotOf w k (symbol S p k)) ≡ suc n) (new : (c : ℕ) → c < 2 → ct′ (2 * w + (2 * n + c)) ≡ 0)
+  module _ (w n k : ℕ) (ct ct′ : ℕ → ℕ) (p : ℕ → ℕ) (grown : Grown S w n ct) (gp : Good w p) (hk : k ≤ n) (np : node S p k ≡ true)
+      (ends : firstOn S p k n ≡ 0) (is : (e : ℕ) → S n e ≡ p e) (at : ct′ (slotOf w k (symbol S p k)) ≡ suc n)
+      (new : (c : ℕ) → c < 2 → ct′ (2 * w + (2 * n + c)) ≡ 0)
       (old : (s : ℕ) → w ≤ s → s < 2 * w + 2 * n → (s ≡ slotOf w k (symbol S p k) → ⊥) → ct′ s ≡ ct s) where
     module _ (q : ℕ → ℕ) (g : Good w q) (j : ℕ) (nq : node S q j ≡ true) (le : j ≤ n) where
       value : ct (slotOf w j (symbol S q j)) ≡ firstOn S q j n
@@ -23,14 +24,16 @@ module _ (S : ℕ → ℕ → ℕ) where
       kept-word : (slotOf w j (symbol S q j) ≡ slotOf w k (symbol S p k) → ⊥) → ct′ (slotOf w j (symbol S q j)) ≡ firstOn S q j n
       kept-word d = old (slotOf w j (symbol S q j)) (slot-high w j (symbol S q j)) (slot-low S w q j n g le nq) d ∙ value
 
-      turn : (b : Bool) → on S q n ≡ b → firstOn S q j n ≡ 0 → (slotOf w j (symbol S q j) ≡ slotOf w k (symbol S p k) → ⊥) → on S q n ≡ false
+      turn : (b : Bool) → on S q n ≡ b → firstOn S q j n ≡ 0 → (slotOf w j (symbol S q j) ≡ slotOf w k (symbol S p k) → ⊥)
+          → on S q n ≡ false
       turn false e z d = e
       turn true e z d = absurd (d (ap₂ (slotOf w) (o .0) (o .1 ∙ ap (symbol S p) (o .0))))
         where
           o : (j ≡ k) × (symbol S q j ≡ symbol S p j)
           o = other-slot S q p j k n (λ i l. agreeing (depth S q n) q (S n) e i l ∙ is i) (still S q j n le z) nq (still S p k n hk ends) np
 
-      zeros : (c : Bool) → eqb (slotOf w j (symbol S q j)) (slotOf w k (symbol S p k)) ≡ c → firstOn S q j n ≡ 0 → ct′ (slotOf w j (symbol S q j)) ≡ cond (leb j n && on S q n) (suc n) 0
+      zeros : (c : Bool) → eqb (slotOf w j (symbol S q j)) (slotOf w k (symbol S p k)) ≡ c → firstOn S q j n ≡ 0
+          → ct′ (slotOf w j (symbol S q j)) ≡ cond (leb j n && on S q n) (suc n) 0
       zeros true c z = ap ct′ same ∙ at ∙ sym (ap₂ (λ (a b : Bool). cond (a && b) (suc n) 0) (le-leb j n le) stands)
         where
           same : slotOf w j (symbol S q j) ≡ slotOf w k (symbol S p k)
@@ -82,7 +85,8 @@ module _ (S S′ : ℕ → ℕ → ℕ) (n : ℕ) (alike : (i : ℕ) → i < n �
 
   first-ext : (q : ℕ → ℕ) (k j : ℕ) → j ≤ n → firstOn S′ q k j ≡ firstOn S q k j
   first-ext q k zero h = refl
-  first-ext q k (suc j) h = ap₂ (λ (f : ℕ) (b : Bool). orFirst f (cond (leb k j && b) (suc j) 0)) (first-ext q k j (omega arith)) (on-ext q j h)
+  first-ext q k (suc j) h =
+      ap₂ (λ (f : ℕ) (b : Bool). orFirst f (cond (leb k j && b) (suc j) 0)) (first-ext q k j (omega arith)) (on-ext q j h)
 
   node-ext : (q : ℕ → ℕ) (k : ℕ) → k ≤ n → node S′ q k ≡ node S q k
   node-ext q zero h = refl
@@ -90,7 +94,8 @@ module _ (S S′ : ℕ → ℕ → ℕ) (n : ℕ) (alike : (i : ℕ) → i < n �
 
   pub grown-ext : (w : ℕ) (ct : ℕ → ℕ) → Grown S w n ct → Grown S′ w n ct
   grown-ext w ct g q gd k h nd =
-      ap (λ (d : ℕ). ct (slotOf w k (q (d - 1)))) (depth-ext q k h) ∙ g q gd k h (sym (node-ext q k h) ∙ nd) ∙ sym (first-ext q k n (omega arith))
+      ap (λ (d : ℕ). ct (slotOf w k (q (d - 1)))) (depth-ext q k h) ∙ g q gd k h (sym (node-ext q k h) ∙ nd)
+      ∙ sym (first-ext q k n (omega arith))
 
   pub symbol-ext : (q : ℕ → ℕ) (k : ℕ) → k ≤ n → symbol S′ q k ≡ symbol S q k
   symbol-ext q k h = ap (λ (d : ℕ). q (d - 1)) (depth-ext q k h)

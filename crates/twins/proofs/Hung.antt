@@ -9,7 +9,7 @@ use lib.Seq.{drop-set-lt, getD-set-same, getD-set-other, take-set-le}
 use Rattle.plan.specs.Literals.{varOf}
 use Rattle.plan.specs.Circuit.{Gate}
 use Rattle.theorems.proofs.Tables.{gateAt, gatesAt}
-use Rattle.twins.specs.Tree.{node, symbol, slotOf, firstOn, Grown}
+use Rattle.twins.specs.Tree.{symbol, slotOf, firstOn, Grown}
 use Rattle.twins.specs.Pairs.{pathOf, paths, word, Tree, Hangs, stored}
 use Rattle.twins.proofs.Slots.{slot-high, slot-low}
 use Rattle.twins.proofs.Growing.{inserted, grown-ext, symbol-ext, node-ext′, first-ext′, grown-none}
@@ -51,7 +51,8 @@ module _ (t : List ℕ) (n l x y : ℕ) where
   olds zero h = refl
   olds (suc k) h = ap₂ (λ (gs : List Gate) (g : Gate). gs ++ (g ∷ [])) (olds k (omega arith)) (old k h)
 
-  pub stored-gates : 3 * n + 3 ≤ length t → gatesAt (stored t n l x y) (n + 1) ≡ gatesAt t n ++ (record { lhs = l; rhs0 = x; rhs1 = y } ∷ [])
+  pub stored-gates : 3 * n + 3 ≤ length t
+      → gatesAt (stored t n l x y) (n + 1) ≡ gatesAt t n ++ (record { lhs = l; rhs0 = x; rhs1 = y } ∷ [])
   stored-gates h =
       ap (gatesAt (stored t n l x y)) (add-one n)
       ∙ ap₂ (λ (gs : List Gate) (g : Gate). gs ++ (g ∷ [])) (olds n (omega arith)) (newest h)
@@ -88,45 +89,51 @@ module _ (gates scratch : List ℕ) (w n x y slot : ℕ) (root : varOf x < w) (h
   pub hung-front : take w (set scratch slot (n + 1)) ≡ take w scratch
   hung-front = take-set-le w scratch slot (n + 1) slot-over
 
-  module _ (l : ℕ) (tree : Tree gates scratch w n) (gates-long : 3 * n + 3 ≤ length gates) (scratch-long : 2 * w + 2 * n ≤ length scratch) where
-    abbrev gates′ : List ℕ
-    gates′ = stored gates n l x y
+  module _ (l : ℕ) (tree : Tree gates scratch w n) (gates-long : 3 * n + 3 ≤ length gates) (scratch-long : 2 * w + 2 * n ≤ length scratch)
+    where
+      abbrev gates′ : List ℕ
+      gates′ = stored gates n l x y
 
-    abbrev scratch′ : List ℕ
-    scratch′ = set scratch slot (n + 1)
+      abbrev scratch′ : List ℕ
+      scratch′ = set scratch slot (n + 1)
 
-    alike : (i : ℕ) → i < n → paths gates′ i ≡ paths gates i
-    alike i q = ap (λ (g : Gate). pathOf (g .rhs0) (g .rhs1)) (old gates n l x y i q)
+      alike : (i : ℕ) → i < n → paths gates′ i ≡ paths gates i
+      alike i q = ap (λ (g : Gate). pathOf (g .rhs0) (g .rhs1)) (old gates n l x y i q)
 
-    at-slot : slot ≡ slotOf w (hangs .k) (symbol (paths gates′) (pathOf x y) (hangs .k))
-    at-slot = hangs .at ∙ ap (slotOf w (hangs .k)) (sym (symbol-ext (paths gates) (paths gates′) n alike (pathOf x y) (hangs .k) (hangs .below)))
+      at-slot : slot ≡ slotOf w (hangs .k) (symbol (paths gates′) (pathOf x y) (hangs .k))
+      at-slot =
+          hangs .at
+          ∙ ap (slotOf w (hangs .k)) (sym (symbol-ext (paths gates) (paths gates′) n alike (pathOf x y) (hangs .k) (hangs .below)))
 
-    ends : firstOn (paths gates′) (pathOf x y) (hangs .k) n ≡ 0
-    ends =
-        first-ext′ (paths gates) (paths gates′) n alike (pathOf x y) (hangs .k)
-        ∙ sym (tree .grown (pathOf x y) (good-path w x y root) (hangs .k) (hangs .below) (hangs .stands))
-        ∙ ap (word scratch) (sym (hangs .at)) ∙ hangs .free
+      ends : firstOn (paths gates′) (pathOf x y) (hangs .k) n ≡ 0
+      ends =
+          first-ext′ (paths gates) (paths gates′) n alike (pathOf x y) (hangs .k)
+          ∙ sym (tree .grown (pathOf x y) (good-path w x y root) (hangs .k) (hangs .below) (hangs .stands))
+          ∙ ap (word scratch) (sym (hangs .at)) ∙ hangs .free
 
-    word-at : word scratch′ slot ≡ suc n
-    word-at = getD-set-same scratch slot (n + 1) 0 (omega (arith, slot-under)) ∙ add-one n
+      word-at : word scratch′ slot ≡ suc n
+      word-at = getD-set-same scratch slot (n + 1) 0 (omega (arith, slot-under)) ∙ add-one n
 
-    word-other : (s : ℕ) → (s ≡ slot → ⊥) → word scratch′ s ≡ word scratch s
-    word-other s d = getD-set-other scratch slot s (n + 1) 0 d
+      word-other : (s : ℕ) → (s ≡ slot → ⊥) → word scratch′ s ≡ word scratch s
+      word-other s d = getD-set-other scratch slot s (n + 1) 0 d
 
-    word-past : (s : ℕ) → 2 * w + 2 * n ≤ s → word scratch′ s ≡ 0
-    word-past s h = word-other s (λ e. omega (arith, slot-under)) ∙ tree .blank s h
+      word-past : (s : ℕ) → 2 * w + 2 * n ≤ s → word scratch′ s ≡ 0
+      word-past s h = word-other s (λ e. omega (arith, slot-under)) ∙ tree .blank s h
 
-    pub hung : Tree gates′ scratch′ w (n + 1)
-    hung = record { grown = subst (λ (v : ℕ). Grown (paths gates′) w v (word scratch′)) (sym (add-one n)) more; blank = λ s h. word-past s (omega arith) }
-      where
-        more : Grown (paths gates′) w (suc n) (word scratch′)
-        more =
-            inserted (paths gates′) w n (hangs .k) (word scratch) (word scratch′) (pathOf x y)
-            (grown-ext (paths gates) (paths gates′) n alike w (word scratch) (tree .grown))
-            (good-path w x y root) (hangs .below)
-            (node-ext′ (paths gates) (paths gates′) n alike (pathOf x y) (hangs .k) (hangs .below) (hangs .stands))
-            ends
-            (λ e. ap (λ (g : Gate). pathOf (g .rhs0) (g .rhs1) e) (newest gates n l x y gates-long))
-            (ap (word scratch′) (sym at-slot) ∙ word-at)
-            (λ c h. word-past (2 * w + (2 * n + c)) (omega arith))
-            (λ s h q d. word-other s (λ z. d (z ∙ at-slot)))
+      pub hung : Tree gates′ scratch′ w (n + 1)
+      hung = record {
+        grown = subst (λ (v : ℕ). Grown (paths gates′) w v (word scratch′)) (sym (add-one n)) more;
+        blank = λ s h. word-past s (omega arith);
+      }
+        where
+          more : Grown (paths gates′) w (suc n) (word scratch′)
+          more =
+              inserted (paths gates′) w n (hangs .k) (word scratch) (word scratch′) (pathOf x y)
+              (grown-ext (paths gates) (paths gates′) n alike w (word scratch) (tree .grown))
+              (good-path w x y root) (hangs .below)
+              (node-ext′ (paths gates) (paths gates′) n alike (pathOf x y) (hangs .k) (hangs .below) (hangs .stands))
+              ends
+              (λ e. ap (λ (g : Gate). pathOf (g .rhs0) (g .rhs1) e) (newest gates n l x y gates-long))
+              (ap (word scratch′) (sym at-slot) ∙ word-at)
+              (λ c h. word-past (2 * w + (2 * n + c)) (omega arith))
+              (λ s h q d. word-other s (λ z. d (z ∙ at-slot)))

@@ -1,12 +1,11 @@
 -- The words at which gates hang: no two nodes share one, and a path leaves a node by one of its own.
-use mathlib.Core.Path.{_≡_, refl, sym, ap, ap₂, _∙_, subst}
-use mathlib.Core.Bool.{Bool, true, false, _&&_, cond, false≢true}
+use mathlib.Core.Path.{_≡_, refl, sym, ap, _∙_, subst}
+use mathlib.Core.Bool.{Bool, true, false}
 use Prim.Native.Nat.{ℕ, zero, suc, _+_, _-_, _*_, _<_, _≤_}
 use native.Mathlib.Omega.{arith}
-use native.Mathlib.Nat.{not-suc-le-zero}
-use borrow.Author.Tests.{eqb-true, eqb-false, eq-eqb, ne-eqb, leb-true, leb-false, le-leb, lt-leb}
+use borrow.Author.Tests.{eqb-true, eqb-false, leb-true, leb-false}
 use lib.Dec.{eqb, leb}
-use Rattle.twins.specs.Tree.{agree, depth, on, orFirst, firstOn, node, symbol, slotOf, Good}
+use Rattle.twins.specs.Tree.{depth, node, symbol, slotOf, Good}
 use Rattle.twins.proofs.Agree.{Agree, agreeing}
 use Rattle.twins.proofs.Depth.{depth-on, depth-step, depth-pos, depth-same, on-same, node-depth}
 
@@ -43,8 +42,10 @@ module _ (S : ℕ → ℕ → ℕ) where
   node-same q p (suc i) h n = let l = depth-step S q i in sym (on-same S q p i (λ e m. h e (omega (arith, m, l)))) ∙ n
 
   -- a path that agrees with p as far as the gates lead leaves by p's slot
-  pub other-slot : (q p : ℕ → ℕ) (j k n : ℕ) → Agree (depth S q n) q p → depth S q n ≡ depth S q j → node S q j ≡ true → depth S p n ≡ depth S p k → node S p k ≡ true → (j ≡ k) × (symbol S q j ≡ symbol S p j)
-  other-slot q p j k n h dq nq dp np = (go (leb j k) refl (leb k j) refl, a (depth S q j - 1) (omega (arith, depth-pos S q j)) ∙ ap (λ (d : ℕ). p (d - 1)) same)
+  pub other-slot : (q p : ℕ → ℕ) (j k n : ℕ) → Agree (depth S q n) q p → depth S q n ≡ depth S q j → node S q j ≡ true
+      → depth S p n ≡ depth S p k → node S p k ≡ true → (j ≡ k) × (symbol S q j ≡ symbol S p j)
+  other-slot q p j k n h dq nq dp np =
+      (go (leb j k) refl (leb k j) refl, a (depth S q j - 1) (omega (arith, depth-pos S q j)) ∙ ap (λ (d : ℕ). p (d - 1)) same)
     where
       a : Agree (depth S q j) q p
       a = subst (λ (d : ℕ). Agree d q p) dq h
@@ -75,7 +76,8 @@ module _ (S : ℕ → ℕ → ℕ) where
   slot-low w q zero n g h d = omega (arith, g .root)
   slot-low w q (suc i) n g h d = omega (arith, symbol-bit w q i g d)
 
-  pub slot-inj : (w : ℕ) (q p : ℕ → ℕ) (j k : ℕ) → Good w q → Good w p → node S q j ≡ true → node S p k ≡ true → slotOf w j (symbol S q j) ≡ slotOf w k (symbol S p k) → (j ≡ k) × (symbol S q j ≡ symbol S p k)
+  pub slot-inj : (w : ℕ) (q p : ℕ → ℕ) (j k : ℕ) → Good w q → Good w p → node S q j ≡ true → node S p k ≡ true
+      → slotOf w j (symbol S q j) ≡ slotOf w k (symbol S p k) → (j ≡ k) × (symbol S q j ≡ symbol S p k)
   slot-inj w q p zero zero g h nq np e = (refl, omega arith)
   slot-inj w q p zero (suc k) g h nq np e = absurd (omega (arith, g .root))
   slot-inj w q p (suc j) zero g h nq np e = absurd (omega (arith, h .root))

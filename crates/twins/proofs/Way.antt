@@ -6,17 +6,16 @@ use Prim.Native.Nat.{ℕ, zero, suc, _+_, _-_, _*_, _/_, _%_, _<_, _≤_}
 use native.Mathlib.Omega.{arith}
 use borrow.Author.Tests.{eqb-true}
 use lib.Dec.{eqb}
-use lib.ListN.{length, getD}
+use lib.ListN.{getD}
 use Rattle.plan.specs.Literals.{varOf}
-use Rattle.plan.specs.Reduce.{twin}
 use Rattle.theorems.proofs.Reading.Common.{and-left, and-right}
-use Rattle.theorems.proofs.Tables.{gateAt, gatesAt}
+use Rattle.theorems.proofs.Tables.{gateAt}
 use Rattle.twins.specs.declared.Place.the-variants.{Taken, Free}
 use Rattle.twins.specs.Tree.{depth, on, orFirst, firstOn, node, symbol, slotOf, Good}
-use Rattle.twins.specs.Pairs.{keyOf, halves, pathOf, paths, word, Tree, Sought}
+use Rattle.twins.specs.Pairs.{keyOf, halves, pathOf, paths, word, Tree, Rooted, Sought}
 use Rattle.twins.proofs.Agree.{agreed}
 use Rattle.twins.proofs.Depth.{depth-pos, First, first-some, node-next, none-on}
-use Rattle.twins.proofs.Slots.{symbol-bit, slot-low}
+use Rattle.twins.proofs.Slots.{slot-low}
 use Rattle.twins.proofs.Earliest.{same, earliest, leftOf, twin-earliest, earliest-none, earliest-stays}
 
 pub good-path : (w x y : ℕ) → varOf x < w → Good w (pathOf x y)
@@ -39,7 +38,7 @@ pub record Way (gates : List ℕ) (w n x y slot key : ℕ) : Type 0 where
   pub key-is : key ≡ halves (keyOf x y) (depth (paths gates) (pathOf x y) k - 1)
   pub absent : earliest gates x y k ≡ 0
 
-module _ (gates scratch : List ℕ) (w n x y : ℕ) (root : varOf x < w) (tree : Tree gates scratch w n) where
+module _ {gates scratch : List ℕ} {w n x y : ℕ} (tree : Tree gates scratch w n) (rooted : Rooted w x y) where
   abbrev q : ℕ → ℕ
   q = pathOf x y
 
@@ -47,7 +46,7 @@ module _ (gates scratch : List ℕ) (w n x y : ℕ) (root : varOf x < w) (tree :
   S = paths gates
 
   good : Good w q
-  good = good-path w x y root
+  good = good-path w x y (rooted .larger)
 
   -- a gate with the pair stands on its path
   off-path : (i : ℕ) → on S q i ≡ false → same gates x y i ≡ false
@@ -56,15 +55,15 @@ module _ (gates scratch : List ℕ) (w n x y : ℕ) (root : varOf x < w) (tree :
       go : (c : Bool) → same gates x y i ≡ c → same gates x y i ≡ false
       go false e = e
       go true e =
-          let here : S i ≡ q
-          = ap₂ (λ (a b : ℕ). pathOf a b) (eqb-true (gateAt gates i .rhs0) x (and-left (eqb (gateAt gates i .rhs0) x) (eqb (gateAt gates i .rhs1) y) e))
-          (eqb-true (gateAt gates i .rhs1) y (and-right (eqb (gateAt gates i .rhs0) x) (eqb (gateAt gates i .rhs1) y) e)) in
+          let left = eqb-true (gateAt gates i .rhs0) x (and-left (eqb (gateAt gates i .rhs0) x) (eqb (gateAt gates i .rhs1) y) e) in
+          let right = eqb-true (gateAt gates i .rhs1) y (and-right (eqb (gateAt gates i .rhs0) x) (eqb (gateAt gates i .rhs1) y) e) in
+          let here : S i ≡ q = ap₂ (λ (a b : ℕ). pathOf a b) left right in
           absurd (false≢true (sym h ∙ agreed (depth S q i) q (S i) (λ d l. sym (ap (λ (s : ℕ → ℕ). s d) here))))
 
-  pub way-start : (slot key : ℕ) → slot ≡ w + varOf x → key ≡ keyOf x y → Way gates w n x y slot key
-  way-start slot key e f = record { k = 0; below = omega arith; stands = refl; at = e; key-is = f; absent = refl }
+  pub way-start : {slot key : ℕ} → slot ≡ w + varOf x → key ≡ keyOf x y → Way gates w n x y slot key
+  way-start e f = record { k = 0; below = omega arith; stands = refl; at = e; key-is = f; absent = refl }
 
-  module _ (slot key : ℕ) (v : Way gates w n x y slot key) where
+  module _ {slot key : ℕ} (v : Way gates w n x y slot key) where
     leads : getD scratch slot 0 ≡ firstOn S q (v .k) n
     leads = ap (word scratch) (v .at) ∙ tree .grown q good (v .k) (v .below) (v .stands)
 
@@ -82,7 +81,7 @@ module _ (gates scratch : List ℕ) (w n x y : ℕ) (root : varOf x < w) (tree :
         )
 
     -- gate i is the next on the path
-    module _ (i : ℕ) (e : getD scratch slot 0 ≡ suc i) where
+    module _ {i : ℕ} (e : getD scratch slot 0 ≡ suc i) where
       first : First S q (v .k) n i
       first = first-some S q (v .k) n i (sym leads ∙ e)
 

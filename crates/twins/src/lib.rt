@@ -2,9 +2,9 @@
 // the pair lead on, so that a pair is found in at most 23 steps, whatever gates were retained before.
 ghost use mathlib.Core.Path.{_≡_};
 ghost use mathlib.Core.Bool.{_&&_};
-ghost use Prim.Native.Nat.{ℕ, _+_, _*_, _<_, _≤_};
+ghost use Prim.Native.Nat.{_+_, _*_, _<_, _≤_};
 ghost use lib.Dec.{eqb};
-ghost use lib.ListN.{length, getD, set};
+ghost use lib.ListN.{length, set};
 ghost use Rattle.plan.specs.Literals.{wordOf};
 ghost use Rattle.theorems.proofs.Tables.{gateAt};
 ghost use Rattle.twins.specs.Pairs.{Tree, Room, Rooted, Sought, stored};

@@ -1,8 +1,8 @@
-use Prim.Native.Nat.{ℕ, suc, _+_, _-_, _*_, _/_, _%_, _<_, _≤_}
+use Prim.Native.Nat.{ℕ, suc, _+_, _-_, _*_, _%_, _<_}
 use mathlib.Core.Path.{_≡_, sym, ap, ap₂, _∙_}
 use native.Mathlib.Omega.{arith}
 use borrow.Author.Needs.{needs}
-use lib.ListN.{length, getD}
+use lib.ListN.{getD}
 use Rattle.plan.specs.Literals.{indexOf, wordOf}
 use Rattle.twins.proofs.Way.{Way, way-start, way-slot, way-out, way-low, way-rises, way-found, way-next}
 use Rattle.twins.proofs.find.Statement.{statement}
@@ -20,8 +20,7 @@ low : (c : tie.At-loop Inv-loop μ-loop)
 low c =
     let s = c .before .before .before .before .before .before .before in
     let a = s .args in
-    way-slot (a .gates .now) (a .scratch .now) (a .w) (a .n) (wordOf (a .x)) (wordOf (a .y)) (s .pre .1 .0 .larger) (s .pre .1 .1) (c .loop .slot)
-    (c .loop .key) (c .loop .inv .1)
+    way-slot (s .pre .1 .1) (s .pre .1 .0) (c .loop .inv .1)
 
 -- at the word stands a gate of the n, counted from 1
 there : (c : tie.Else1 Inv-loop μ-loop)
@@ -36,8 +35,7 @@ known c =
     let s = c .before .before .before .before .before .before .before .before .before in
     let a = s .args in
     let l = c .before .before .loop in
-    way-low (a .gates .now) (a .scratch .now) (a .w) (a .n) (wordOf (a .x)) (wordOf (a .y)) (s .pre .1 .0 .larger) (s .pre .1 .1) (l .slot) (l .key)
-    (l .inv .1) _ (there c)
+    way-low (s .pre .1 .1) (s .pre .1 .0) (l .inv .1) (there c)
 
 var-requires : tie.Need-var-requires Inv-loop μ-loop
 var-requires c κs = search needs
@@ -70,7 +68,7 @@ loop-holds c =
     let word = c .before .word .ensures in
     let sign = c .sign .ensures in (
       omega (arith, word, sign, s .pre .1 .0 .smaller, s .pre .0 .few),
-      way-start (a .gates .now) (a .scratch .now) (a .w) (a .n) (wordOf (a .x)) (wordOf (a .y)) (s .pre .1 .0 .larger) (s .pre .1 .1) _ _
+      way-start (s .pre .1 .1) (s .pre .1 .0)
           (ap (λ (v : ℕ). a .w + v) (c .before .before .index .ensures ∙ ap indexOf (c .before .before .before .var .ensures)))
           (ap₂ (λ (k b : ℕ). 2 * k + b) word sign),
     )
@@ -79,15 +77,16 @@ mul-at : tie.Need-mul-at Inv-loop μ-loop
 mul-at c = omega (arith, low c, c .before .before .before .before .before .before .before .pre .0 .few)
 
 shared-slice-read-at : tie.Need-shared-slice-read-at Inv-loop μ-loop
-shared-slice-read-at c = let s = c .before .before .before .before .before .before .before .before in omega (arith, low (c .before), s .pre .0 .scratch-long)
+shared-slice-read-at c =
+    let s = c .before .before .before .before .before .before .before .before in
+    omega (arith, low (c .before), s .pre .0 .scratch-long)
 
 returns : tie.Need-returns Inv-loop μ-loop
 returns c =
     let s = c .before .before .before .before .before .before .before .before .before in
     let a = s .args in
     let l = c .before .before .loop in
-    way-out (a .gates .now) (a .scratch .now) (a .w) (a .n) (wordOf (a .x)) (wordOf (a .y)) (s .pre .1 .0 .larger) (s .pre .1 .1) (l .slot) (l .key)
-    (l .inv .1) (c .if1 .taken)
+    way-out (s .pre .1 .1) (s .pre .1 .0) (l .inv .1) (c .if1 .taken)
 
 sub-i : tie.Need-sub-i Inv-loop μ-loop
 sub-i c = search needs
@@ -128,8 +127,7 @@ returns-2 c =
     let s = e .before .before .before .before .before .before .before .before .before in
     let a = s .args in
     let l = e .before .before .loop in
-    way-found (a .gates .now) (a .scratch .now) (a .w) (a .n) (wordOf (a .x)) (wordOf (a .y)) (s .pre .1 .0 .larger) (s .pre .1 .1) (l .slot) (l .key)
-    (l .inv .1) _ (there e) (sym (c .before .before .has-sides .ensures) ∙ c .before .if2 .taken)
+    way-found (s .pre .1 .1) (s .pre .1 .0) (l .inv .1) (there e) (sym (c .before .before .has-sides .ensures) ∙ c .before .if2 .taken)
 
 mul-slot : tie.Need-mul-slot Inv-loop μ-loop
 mul-slot c = search needs
@@ -165,8 +163,7 @@ loop-less c =
       arith,
       known e,
       low (e .before .before),
-      way-rises (a .gates .now) (a .scratch .now) (a .w) (a .n) (wordOf (a .x)) (wordOf (a .y)) (s .pre .1 .0 .larger) (s .pre .1 .1) (l .slot)
-          (l .key) (l .inv .1) _ (there e) (l .key % 2),
+      way-rises (s .pre .1 .1) (s .pre .1 .0) (l .inv .1) (there e) (l .key % 2),
     )
 
 loop-again : tie.Need-loop-again Inv-loop μ-loop
@@ -176,8 +173,7 @@ loop-again c =
     let a = s .args in
     let l = e .before .before .loop in (
       omega (arith, l .inv .0),
-      way-next (a .gates .now) (a .scratch .now) (a .w) (a .n) (wordOf (a .x)) (wordOf (a .y)) (s .pre .1 .0 .larger) (s .pre .1 .1) (l .slot)
-          (l .key) (l .inv .1) _ (there e) (sym (c .before .has-sides .ensures) ∙ c .if2 .left),
+      way-next (s .pre .1 .1) (s .pre .1 .0) (l .inv .1) (there e) (sym (c .before .has-sides .ensures) ∙ c .if2 .left),
     )
 
 pub find-spec : {M : Type 1} → statement M

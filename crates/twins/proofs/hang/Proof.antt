@@ -1,4 +1,4 @@
-use mathlib.Core.Path.{_≡_, refl}
+use mathlib.Core.Path.{refl}
 use Rattle.twins.specs.Pairs.{stored}
 use native.Mathlib.Omega.{arith}
 use lib.ListN.{length-set}

@@ -1,10 +1,10 @@
 use Prim.Native.Nat.{_+_, _*_}
-use mathlib.Core.Path.{_≡_, sym, ap, _∙_}
+use mathlib.Core.Path.{sym, ap, _∙_}
 use borrow.Author.Tests.{eq-eqb, ne-eqb}
 use lib.Dec.{eqb}
 use lib.ListN.{getD}
 use Rattle.plan.specs.Literals.{wordOf}
-use mathlib.Core.Path.{_≡_, _∙_}
+use mathlib.Core.Path.{_∙_}
 use borrow.Author.Needs.{needs}
 use Rattle.twins.proofs.has_sides.Statement.{statement}
 use Rattle.twins.proofs.has_sides.Tie as tie
@@ -47,7 +47,8 @@ word-requires-2 c κs = search needs
 returns-2 : tie.Need-returns-2
 returns-2 c =
     let a = c .before .before .before .before .before .before .args in
-    let first = eq-eqb (getD (a .gates .now) (3 * a .i + 1) 0) (wordOf (a .x)) (c .before .before .if1 .left ∙ c .before .before .before .word .ensures) in
+    let e = c .before .before in
+    let first = eq-eqb (getD (a .gates .now) (3 * a .i + 1) 0) (wordOf (a .x)) (e .if1 .left ∙ e .before .word .ensures) in
     rw first (ap (eqb (getD (a .gates .now) (3 * a .i + 2) 0)) (c .word2 .ensures))
 
 pub has-sides-spec : {M : Type 1} → statement M
