@@ -1,7 +1,7 @@
 -- The literal that stands in, from what the rules give and what the search for a twin answers.
 use mathlib.Core.Path.{_≡_, ap, _∙_, subst}
 use mathlib.Core.List.{List}
-use Prim.Native.Nat.{ℕ, min, max, _<_}
+use Prim.Native.Nat.{ℕ, min, max}
 use native.Mathlib.Omega.{arith}
 use Rattle.plan.specs.declared.Lit.{Lit}
 use Rattle.plan.specs.Literals.{litAt, wordOf, varOf}
@@ -14,8 +14,8 @@ use Rattle.folding.specs.declared.Rule.{Rule}
 use Rattle.folding.specs.declared.Rule.the-variants.{Gives, Open}
 use Rattle.folding.specs.Rules.{orTwin, Ruled, StandsIn}
 
-pub rooted-sorted : (w a b : ℕ) (x y : Lit) → Rooted w a b → x ≡ litAt (max a b) → y ≡ litAt (min a b) → Rooted w (wordOf x) (wordOf y)
-rooted-sorted w a b x y r p q = record {
+pub rooted-sorted : {w a b : ℕ} {x y : Lit} → Rooted w a b → x ≡ litAt (max a b) → y ≡ litAt (min a b) → Rooted w (wordOf x) (wordOf y)
+rooted-sorted {w} {a} {b} {x} {y} r p q = record {
   larger = omega (arith, ap (λ (l : Lit). varOf (wordOf l)) p, r .larger, r .smaller);
   smaller = omega (arith, ap (λ (l : Lit). varOf (wordOf l)) q, r .larger, r .smaller);
 }

@@ -1,10 +1,10 @@
 -- The loop over the gates: how it begins, one turn, and what it leaves.
 use mathlib.Core.Path.{_≡_, refl, sym, ap, ap₂, _∙_}
-use mathlib.Core.List.{List, [], _∷_, _++_, append-assoc, map, map-append}
+use mathlib.Core.List.{List, [], _∷_, _++_, append-assoc, map}
 use Prim.Native.Nat.{ℕ, zero, suc, _+_, _-_, _*_, _<_, _≤_}
 use native.Mathlib.Omega.{arith}
 use native.Mathlib.Numerals.{add-one}
-use lib.ListN.{length, getD, set, take, drop, length-append, take-append-drop, List·getD-append}
+use lib.ListN.{length, getD, set, take, drop, take-append-drop}
 use lib.Seq.{append-snoc, drop-cons, set-at, take-at, take-suc, drop-drop, length-take-le, getD-append-add, getD-drop}
 use Rattle.plan.specs.Literals.{litOf}
 use Rattle.plan.specs.Circuit.{Gate, gateLine, flat}
@@ -32,7 +32,8 @@ begin-more t v h =
     ∙ ap (λ (j : ℕ). litsFrom 0 j ++ drop j t) (sym (add-one v))
 
 -- where the loop begins
-module _ (gates to scratch begun : List ℕ) (base a : ℕ) (blank : (s : ℕ) → getD scratch s 0 ≡ 0) (b : begun ≡ litsFrom 0 base ++ drop base scratch) where
+module _ (gates to scratch begun : List ℕ) (base a : ℕ) (blank : (s : ℕ) → getD scratch s 0 ≡ 0)
+    (b : begun ≡ litsFrom 0 base ++ drop base scratch) where
   past-leaves : (s : ℕ) → base + a ≤ s → getD begun s 0 ≡ 0
   past-leaves s h =
       let e : s ≡ length (litsFrom 0 base) + (s - base) = omega (arith, length-lits 0 base) in
@@ -53,7 +54,8 @@ module _ (gates to scratch begun : List ℕ) (base a : ℕ) (blank : (s : ℕ) �
 drop-more : (t t₀ : List ℕ) (i j : ℕ) → i ≤ j → drop i t ≡ drop i t₀ → drop j t ≡ drop j t₀
 drop-more t t₀ i j h e =
     let q : i + (j - i) ≡ j = omega arith in
-    ap (λ (v : ℕ). drop v t) (sym q) ∙ sym (drop-drop (j - i) i t) ∙ ap (drop (j - i)) e ∙ drop-drop (j - i) i t₀ ∙ ap (λ (v : ℕ). drop v t₀) q
+    ap (λ (v : ℕ). drop v t) (sym q) ∙ sym (drop-drop (j - i) i t) ∙ ap (drop (j - i)) e ∙ drop-drop (j - i) i t₀
+    ∙ ap (λ (v : ℕ). drop v t₀) q
 
 -- k gates are done
 pub record Going (gates to₀ scratch₀ to scratch : List ℕ) (base w a k n : ℕ) : Type 0 where

@@ -1,5 +1,5 @@
 -- The larger and the smaller of two literals; a literal's own word.
-use Prim.Native.Nat.{ℕ, _<_, _≤_, min, max}
+use Prim.Native.Nat.{_<_, _≤_, min, max}
 use mathlib.Core.Path.{_≡_, ap}
 use mathlib.Core.Bool.{true, false}
 use native.Mathlib.Omega.{arith}

@@ -5,7 +5,7 @@ use mathlib.Core.List.{List, [], _∷_, _++_}
 use Prim.Native.Nat.{ℕ, suc, _+_, _*_, _%_, _^_, _<_, _≤_, min, max}
 use native.Mathlib.Omega.{arith}
 use native.Mathlib.Numerals.{add-one}
-use lib.ListN.{length, getD, set, take, drop, length-set}
+use lib.ListN.{length, getD, set, take, length-set}
 use lib.Seq.{take-suc-set, getD-take, take-set-le}
 use Rattle.plan.specs.declared.Lit.{Lit}
 use Rattle.plan.specs.Literals.{litOf, varOf, signOf, signed, litAt, wordOf}
@@ -31,7 +31,8 @@ reduce-snoc r (x ∷ gs) g = reduce-snoc (reduceGate r (becomes (r .became) (x .
 
 folded-more : (gates : List ℕ) (base k : ℕ)
     → let r = folded gates base k in
-    folded gates base (k + 1) ≡ reduceGate r (becomes (r .became) (getD gates (3 * k + 1) 0)) (becomes (r .became) (getD gates (3 * k + 2) 0))
+    folded gates base (k + 1)
+    ≡ reduceGate r (becomes (r .became) (getD gates (3 * k + 1) 0)) (becomes (r .became) (getD gates (3 * k + 2) 0))
 unfolding folded
 folded-more gates base k =
     let start : Reduced = record { became = litsFrom 0 base; retained = []; fresh = base } in
@@ -84,7 +85,8 @@ module _ {gates to scratch : List ℕ} {base w k n : ℕ} (s : Held gates to scr
   step : (o : Option ℕ) → standIn left right (gatesAt to n) ≡ o → folded gates base (k + 1) ≡ retain R left right o
   step o e =
       folded-more gates base k
-      ∙ ap₂ (λ (a b : ℕ). reduceGate R a b) (became-is (getD gates (3 * k + 1) 0) (r .below .rhs0)) (became-is (getD gates (3 * k + 2) 0) (r .below .rhs1))
+      ∙ ap₂ (λ (a b : ℕ). reduceGate R a b) (became-is (getD gates (3 * k + 1) 0) (r .below .rhs0))
+      (became-is (getD gates (3 * k + 2) 0) (r .below .rhs1))
       ∙ ap (λ (gs : List Gate). retain R left right (standIn left right gs)) (sym (s .retained))
       ∙ ap (retain R left right) e
 
@@ -154,7 +156,8 @@ module _ {gates to scratch : List ℕ} {base w k n : ℕ} (s : Held gates to scr
               ∙ sym (ap (λ (x : Reduced). x .retained) E);
           fresh = ap (λ (x : Reduced). x .fresh) E ∙ ap suc (s .fresh) ∙ omega arith;
           tree = word-before to′ (set scratch slot (n + 1)) w (n + 1) (base + k) l (r .within)
-              (hung to scratch w n (max left right) (min left right) slot root hangs l (s .tree) (room .gates-long) (omega (arith, room .scratch-long)));
+              (hung to scratch w n (max left right) (min left right) slot root hangs l (s .tree) (room .gates-long)
+              (omega (arith, room .scratch-long)));
         };
         past = stored-past to n l (max left right) (min left right);
       }

@@ -1,7 +1,7 @@
 // One-level folding of gates in binary order (the paper, reduction).
 ghost use mathlib.Core.Path.{_≡_};
 ghost use mathlib.Core.List.{_++_};
-ghost use Prim.Native.Nat.{ℕ, _+_, _<_, _≤_, min, max};
+ghost use Prim.Native.Nat.{_+_, _<_, _≤_, min, max};
 ghost use lib.ListN.{length, drop};
 ghost use Rattle.plan.specs.Literals.{most, litAt, wordOf, varOf};
 ghost use Rattle.plan.specs.Binary.{litsFrom};

@@ -10,20 +10,23 @@ use Rattle.plan.specs.declared.Counts.{Counts}
 use Rattle.plan.specs.declared.Refusal.{Refusal}
 use Rattle.plan.specs.declared.Checked.{Checked}
 use Rattle.plan.specs.declared.Checked.the-variants as checked
-use Rattle.plan.specs.declared.Made.{Made}
 use Rattle.plan.specs.declared.Made.the-variants as made
 use Rattle.plan.specs.Literals.{most}
 use Rattle.plan.specs.Refusals.{firstOf}
-use Rattle.plan.specs.Circuit.{Circuit, Tables, countsOf, cleared, allCleared, holding}
+use Rattle.plan.specs.Circuit.{Tables, countsOf, cleared, allCleared, holding}
 use Rattle.plan.specs.Given.{Given, given, lentWith}
 use Rattle.plan.specs.Reduce.{becomes, reduced, latchBecomes, reduce}
-use Rattle.plan.specs.Outcome.{CheckExit, MakeEntry, MakeExit, checkedBy, checkBy, madeBy, reduction}
+use Rattle.plan.specs.Outcome.{CheckExit, MakeExit, checkedBy, checkBy, madeBy, reduction}
 use Rattle.theorems.proofs.Held.{Holds, holds-filled}
 use Rattle.theorems.proofs.Marks.{zeros}
 use Rattle.theorems.proofs.Running.Results.{reduce-fewer}
 use Rattle.given.specs.Judged.{allStages}
 use Rattle.given.proofs.Sound.{Good, Wide, good-none, refused-some, good-with}
 use Rattle.reduce.specs.Ready.{Ready, Written}
+
+-- the counts of a circuit of which k gates are retained
+abbrev countsWith : Counts → ℕ → Counts
+countsWith n k = record { M = n .I + n .L + k; I = n .I; L = n .L; O = n .O; A = k }
 
 module _ (g : Given) (t : Tables) where
   abbrev first : Option Refusal
@@ -42,7 +45,8 @@ module _ (g : Given) (t : Tables) where
 
     -- a refusal leaves the tables cleared
     pub refused : (x : Refusal) → r ≡ checked.Refused x → (to : Tables) → to ≡ allCleared t
-        → _≡_ {A = MakeExit} (record { answer = made.Refused x; written = to; scratch = s }) (reduction (record { circuit = g; written = t }))
+        → _≡_ {A = MakeExit} (record { answer = made.Refused x; written = to; scratch = s })
+        (reduction (record { circuit = g; written = t }))
     refused x e to cleared-is =
         let found : first ≡ some x = refused-some x first (sym e ∙ answer-is) in
         ap₂ (λ (w : Tables) (z : List ℕ). record { answer = made.Refused x; written = w; scratch = z }) cleared-is scratch-is
@@ -92,8 +96,7 @@ module _ (g : Given) (t : Tables) where
               ap (λ (m : Counts). m .A) (passed .counts),
             )
 
-        counts-are : _≡_ {A = Counts}
-            (record { M = g .counts .I + g .counts .L + k; I = g .counts .I; L = g .counts .L; O = g .counts .O; A = k }) (countsOf (reduce (given g)))
+        counts-are : countsWith (g .counts) k ≡ countsOf (reduce (given g))
         counts-are =
             let c = given g in
             let i : g .counts .I ≡ length (c .inputs) = sym (ap (λ (m : Counts). m .I) (passed .counts)) in
@@ -108,15 +111,12 @@ module _ (g : Given) (t : Tables) where
             }
 
         tables-are : to ≡ holding t (reduce (given g))
-        tables-are = holds-filled t to (reduce (given g)) (subst (λ (x : Tables). Holds x (reduce (given g)) to) cleared-is (written .holds))
+        tables-are =
+            holds-filled t to (reduce (given g)) (subst (λ (x : Tables). Holds x (reduce (given g)) to) cleared-is (written .holds))
 
         pub accepted : (m : ℕ) (s′ : List ℕ) → m ≡ length s → s′ ≡ replicate m 0
             → _≡_ {A = MakeExit}
-            (record {
-              answer = made.Accepted (record { M = g .counts .I + g .counts .L + k; I = g .counts .I; L = g .counts .L; O = g .counts .O; A = k });
-              written = to;
-              scratch = s′;
-            })
+            (record { answer = made.Accepted (countsWith (g .counts) k); written = to; scratch = s′ })
             (reduction (record { circuit = g; written = t }))
         accepted m s′ same blank =
             let clean : s′ ≡ cleared (g .scratch) = blank ∙ ap (λ (j : ℕ). replicate j 0) (same ∙ size) in

@@ -2,12 +2,12 @@
 use Prim.Native.Nat.{ℕ, zero, suc, _+_, _*_, _%_, _/_, _<_, _≤_}
 use mathlib.Core.Path.{_≡_, refl, sym, ap, ap₂, _∙_}
 use mathlib.Core.Option.{Option, none, some}
-use mathlib.Core.List.{List, [], _∷_, _++_, map}
+use mathlib.Core.List.{List, [], _∷_, map}
 use native.Mathlib.Omega.{arith}
 use lib.ListN.{length, getD, take, length-append, List·getD-append}
 use lib.Seq.{getD-take}
 use Rattle.plan.specs.Literals.{litOf, varOf, signOf, signed}
-use Rattle.plan.specs.Circuit.{Gate, Latch, Circuit, latchLine, flat, latchOf, rowsOf}
+use Rattle.plan.specs.Circuit.{Gate, Circuit, latchLine, flat, latchOf, rowsOf}
 use Rattle.plan.specs.Binary.{litsFrom, latchesFrom}
 use Rattle.plan.specs.Reduce.{Reduced, becomes, standIn, retain, reduceGate, reduceGates, reduced, latchBecomes}
 use Rattle.theorems.proofs.Reading.Runs.{length-lits}
@@ -15,7 +15,8 @@ use Rattle.theorems.proofs.Running.Binary.{inner, Bounded}
 use Rattle.theorems.proofs.Running.Upward.{lits-at}
 
 -- what variables became stays
-retain-stays : (r : Reduced) (a b : ℕ) (o : Option ℕ) (v : ℕ) → v < length (r .became) → getD (retain r a b o .became) v 0 ≡ getD (r .became) v 0
+retain-stays : (r : Reduced) (a b : ℕ) (o : Option ℕ) (v : ℕ) → v < length (r .became)
+    → getD (retain r a b o .became) v 0 ≡ getD (r .became) v 0
 retain-stays r a b (some l) v h = List·getD-append (r .became) (l ∷ []) 0 v h
 retain-stays r a b none v h = List·getD-append (r .became) (litOf (r .fresh) ∷ []) 0 v h
 

@@ -1,11 +1,11 @@
 -- The reduced circuit, table by table, from gates that were folded and literals that were replaced.
-use Prim.Native.Nat.{ℕ, suc, _+_, _*_, _<_, _≤_}
+use Prim.Native.Nat.{ℕ, _+_, _*_, _≤_}
 use mathlib.Core.Path.{_≡_, refl, sym, ap, ap₂, _∙_, subst}
-use mathlib.Core.List.{List, [], _∷_, _++_, map}
+use mathlib.Core.List.{List, [], map}
 use native.Mathlib.Omega.{arith}
-use lib.ListN.{length, getD, take}
+use lib.ListN.{length, take}
 use Rattle.plan.specs.declared.Counts.{Counts}
-use Rattle.plan.specs.Circuit.{Gate, Latch, Circuit, Tables, countsOf, circuitOf, latchLine, gateLine, flat, latchOf, rowsOf, nexts}
+use Rattle.plan.specs.Circuit.{Gate, Latch, Circuit, Tables, latchLine, gateLine, flat, nexts}
 use Rattle.plan.specs.Binary.{litsFrom, latchesFrom}
 use Rattle.plan.specs.Given.{Given, given}
 use Rattle.plan.specs.Reduce.{Reduced, becomes, reduceGates, reduced, latchBecomes, reduce}
@@ -16,7 +16,8 @@ use Rattle.theorems.proofs.Running.Binary.{Binary, inner, Bounded, Ordered}
 use Rattle.theorems.proofs.Running.InOrder.{well-ordered}
 use Rattle.folding.specs.Folded.{folded, Foldable, Done}
 use Rattle.reduce.specs.Ready.{Ready, Written}
-use Rattle.reduce.proofs.Leaves.{leaf-stays, inputs-stay, currents-stay, lits-bounded, latches-bounded, bounded-more, becomes-front, latches-words}
+use Rattle.reduce.proofs.Leaves.{leaf-stays, inputs-stay, currents-stay, lits-bounded, latches-bounded, bounded-more}
+use Rattle.reduce.proofs.Leaves.{becomes-front, latches-words}
 use Rattle.reduce.proofs.Gates.{all-below}
 
 abbrev pub tablesOf : List ℕ → List ℕ → List ℕ → List ℕ → Tables
@@ -82,7 +83,8 @@ module _ (g : Given) (to : Tables) (ready : Ready g to) where
   -- each table's literals are of variables in use
   words-of-latches : take (2 * n .L) (g .tables .latches) ≡ flat (map latchLine (latchesFrom (1 + length (c .inputs)) (nexts (c .latches))))
   words-of-latches =
-      latches-words (n .L) (g .tables .latches) (ready .good .fits .latches-long) ∙ ap (λ (ls : List Latch). flat (map latchLine ls)) (order .latches)
+      latches-words (n .L) (g .tables .latches) (ready .good .fits .latches-long)
+      ∙ ap (λ (ls : List Latch). flat (map latchLine ls)) (order .latches)
 
   inputs-low : Bounded top (take (n .I) (g .tables .inputs))
   inputs-low =
@@ -92,7 +94,8 @@ module _ (g : Given) (to : Tables) (ready : Ready g to) where
   latches-low : Bounded top (take (2 * n .L) (g .tables .latches))
   latches-low =
       subst (λ (ls : List ℕ). Bounded top ls) (sym words-of-latches)
-      (latches-bounded top (1 + length (c .inputs)) (nexts (c .latches)) (omega (arith, some-inputs, some-latches, length-nexts (c .latches)))
+      (latches-bounded top (1 + length (c .inputs)) (nexts (c .latches))
+      (omega (arith, some-inputs, some-latches, length-nexts (c .latches)))
       (subst (λ (k : ℕ). Bounded k (nexts (c .latches))) top-is (ordered .next-in)))
 
   outputs-low : Bounded top (take (n .O) (g .tables .outputs))

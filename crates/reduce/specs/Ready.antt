@@ -1,5 +1,5 @@
--- What the reducer's core asks: tables that the checks let pass, with 15, room in the tables lent for writing, and a scratch that is zero; and
--- what it leaves.
+-- What the reducer's core asks: tables that the checks let pass, with 15, room in the tables lent for writing, and a scratch that is zero;
+-- and what it leaves.
 use Prim.Native.Nat.{ℕ}
 use mathlib.Core.Path.{_≡_}
 use mathlib.Core.Bool.{true}

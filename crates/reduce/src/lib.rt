@@ -46,12 +46,26 @@ fn write_reduced(
     scratch: &mut [u32],
 ) -> usize
     requires { ⌜ Ready
-        (record { counts = n; tables = (record { inputs = now inputs; latches = now latches; outputs = now outputs; gates = now gates }); scratch = now scratch })
+        (record {
+          counts = n;
+          tables = (record { inputs = now inputs; latches = now latches; outputs = now outputs; gates = now gates });
+          scratch = now scratch;
+        })
         (record { inputs = now «to_inputs»; latches = now «to_latches»; outputs = now «to_outputs»; gates = now «to_gates» }) ⌝ }
     ensures { λ r. ⌜ Written
         (circuitIn n (now (inputs .entry)) (now (latches .entry)) (now (outputs .entry)) (now (gates .entry)))
-        (record { inputs = now («to_inputs» .entry); latches = now («to_latches» .entry); outputs = now («to_outputs» .entry); gates = now («to_gates» .entry) })
-        (record { inputs = now («to_inputs» .exit); latches = now («to_latches» .exit); outputs = now («to_outputs» .exit); gates = now («to_gates» .exit) }) r ⌝ }
+        (record {
+          inputs = now («to_inputs» .entry);
+          latches = now («to_latches» .entry);
+          outputs = now («to_outputs» .entry);
+          gates = now («to_gates» .entry);
+        })
+        (record {
+          inputs = now («to_inputs» .exit);
+          latches = now («to_latches» .exit);
+          outputs = now («to_outputs» .exit);
+          gates = now («to_gates» .exit);
+        }) r ⌝ }
 {
     let retained = fold_gates(gates, 1 + n.I + n.L, n.A, to_gates, scratch);
     all_become(inputs, n.I, scratch, to_inputs);
@@ -76,12 +90,31 @@ pub fn reduce(
 ) -> Made
     ensures { λ r. ⌜ Says reduction
         (record {
-          circuit = (record { counts = n; tables = (record { inputs = now (inputs .entry); latches = now (latches .entry); outputs = now (outputs .entry); gates = now (gates .entry) }); scratch = now (scratch .entry) });
-          written = (record { inputs = now («to_inputs» .entry); latches = now («to_latches» .entry); outputs = now («to_outputs» .entry); gates = now («to_gates» .entry) });
+          circuit = (record {
+            counts = n;
+            tables = (record {
+              inputs = now (inputs .entry);
+              latches = now (latches .entry);
+              outputs = now (outputs .entry);
+              gates = now (gates .entry);
+            });
+            scratch = now (scratch .entry);
+          });
+          written = (record {
+            inputs = now («to_inputs» .entry);
+            latches = now («to_latches» .entry);
+            outputs = now («to_outputs» .entry);
+            gates = now («to_gates» .entry);
+          });
         })
         (record {
           answer = r;
-          written = (record { inputs = now («to_inputs» .exit); latches = now («to_latches» .exit); outputs = now («to_outputs» .exit); gates = now («to_gates» .exit) });
+          written = (record {
+            inputs = now («to_inputs» .exit);
+            latches = now («to_latches» .exit);
+            outputs = now («to_outputs» .exit);
+            gates = now («to_gates» .exit);
+          });
           scratch = now (scratch .exit);
         }) ⌝ }
 {

@@ -21,7 +21,9 @@ mul-at : tie.Need-mul-at
 mul-at c = search needs
 
 shared-slice-read-at : tie.Need-shared-slice-read-at
-shared-slice-read-at c = omega (arith, c .before .index .ensures, ap indexOf (c .before .before .var .ensures), c .before .before .before .before .pre)
+shared-slice-read-at c =
+    let d = c .before .before in
+    omega (arith, c .before .index .ensures, ap indexOf (d .var .ensures), d .before .before .pre)
 
 at-requires : tie.Need-at-requires
 at-requires c κs = search needs

@@ -57,14 +57,16 @@ returns-6 c =
     let z = c .before .before .before .before .before in
     let e = z .before .before in
     right-one (e .before .before .word .ensures) (e .before .word2 .ensures) (e .if1 .left) (turned z)
-    (c .before .before .before .before .if2 .left) (c .before .before .before .if3 .left) (c .before .before .if4 .left) (c .before .if5 .left) (c .if6 .taken)
+    (c .before .before .before .before .if2 .left) (c .before .before .before .if3 .left) (c .before .before .if4 .left)
+    (c .before .if5 .left) (c .if6 .taken)
 
 returns-7 : tie.Need-returns-7
 returns-7 c =
     let z = c .before .before .before .before .before in
     let e = z .before .before in
     no-rule (e .before .before .word .ensures) (e .before .word2 .ensures) (e .if1 .left) (turned z)
-    (c .before .before .before .before .if2 .left) (c .before .before .before .if3 .left) (c .before .before .if4 .left) (c .before .if5 .left) (c .if6 .left)
+    (c .before .before .before .before .if2 .left) (c .before .before .before .if3 .left) (c .before .before .if4 .left)
+    (c .before .if5 .left) (c .if6 .left)
 
 pub by-sides-spec : {M : Type 1} → statement M
 by-sides-spec =

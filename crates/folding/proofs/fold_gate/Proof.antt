@@ -1,7 +1,6 @@
-use Prim.Native.Nat.{ℕ, _+_, _*_, min, max}
+use Prim.Native.Nat.{ℕ, _+_, min, max}
 use mathlib.Core.Path.{_≡_, sym, ap, ap₂, _∙_, subst₂}
 use native.Mathlib.Omega.{arith}
-use lib.ListN.{getD}
 use Rattle.plan.specs.declared.Lit.{Lit}
 use Rattle.plan.specs.Literals.{litAt, wordOf, varOf, litOf, doubled}
 use Rattle.plan.specs.Reduce.{becomes}
@@ -27,11 +26,18 @@ left-is c =
 right-is : (c : tie.After-becomes2) → c .becomes2 .result ≡ litAt (right (start c .pre .1) (start c .pre .0))
 right-is c = c .becomes2 .ensures ∙ ap (λ (l : Lit). litAt (becomes (start c .args .scratch .now) (wordOf l))) (c .before .at2 .ensures)
 
+-- the call's arguments, where the gate hangs
+abbrev ready : tie.After-word → tie.Start
+ready c =
+    let h = c .before .before .before .before .before .before .before .before .before .before in
+    start (h .before .before .before .before .before .before .before .before)
+
 -- what stands in for the gate
 found : (c : tie.After-stand-in) (p : Place) → c .stand-in .result ≡ p
     → let d = c .before .before .before in
     let a = start d .args in
-    StandsIn (a .to .now) (a .scratch .now) (a .w) (a .n) (left (start d .pre .1) (start d .pre .0)) (right (start d .pre .1) (start d .pre .0)) p
+    let s = start d .pre in
+    StandsIn (a .to .now) (a .scratch .now) (a .w) (a .n) (left (s .1) (s .0)) (right (s .1) (s .0)) p
 found c p e =
     let d = c .before .before .before in
     answered (start d .pre .1) (start d .pre .0) (left-is d) (right-is d) e (c .stand-in .ensures)
@@ -147,18 +153,18 @@ word-requires : tie.Need-word-requires
 word-requires c κs = search needs
 
 add-scratch-2 : tie.Need-add-scratch-2
-add-scratch-2 c = let s = start (c .before .before .before .before .before .before .before .before .before .before .before .before .before .before .before .before .before .before) in omega (arith, s .pre .0 .within, s .pre .0 .few)
+add-scratch-2 c = let r = ready c .pre .0 in omega (arith, r .within, r .few)
 
 mul-scratch-2 : tie.Need-mul-scratch-2
-mul-scratch-2 c = let s = start (c .before .before .before .before .before .before .before .before .before .before .before .before .before .before .before .before .before .before) in omega (arith, s .pre .0 .within, s .pre .0 .few)
+mul-scratch-2 c = let r = ready c .pre .0 in omega (arith, r .within, r .few)
 
 slice-write-scratch-2 : tie.Need-slice-write-scratch-2
 slice-write-scratch-2 c =
-    let s = start (c .before .before .before .before .before .before .before .before .before .before .before .before .before .before .before .before .before .before) in
-    omega (arith, c .before .before .scratch .given, s .pre .0 .within, s .pre .0 .scratch-long)
+    let r = ready c .pre .0 in
+    omega (arith, c .before .before .scratch .given, r .within, r .scratch-long)
 
 add-result : tie.Need-add-result
-add-result c = let s = start (c .before .before .before .before .before .before .before .before .before .before .before .before .before .before .before .before .before .before) in omega (arith, s .pre .1 .count, s .pre .0 .within, s .pre .0 .few)
+add-result c = let s = ready c in omega (arith, s .pre .1 .count, s .pre .0 .within, s .pre .0 .few)
 
 same-length-3 : tie.Need-same-length-3
 same-length-3 c = search needs

@@ -1,4 +1,4 @@
-use Prim.Native.Nat.{ℕ, _+_, _-_, _<_}
+use Prim.Native.Nat.{_+_, _-_, _<_}
 use mathlib.Core.Path.{_≡_, refl, _∙_}
 use native.Mathlib.Omega.{arith}
 use borrow.Author.Needs.{needs}
@@ -63,7 +63,8 @@ loop-again : tie.Need-loop-again Inv-loop μ-loop
 loop-again c =
     let l = c .before .before .before .before .before .before .before .before .loop in
     let g = c .before .before .before .before .fold-gate in
-    (refl, going-more (c .before .before .before .before .before .before .before .loop-test .taken) (c .before .before .before .to .given) (c .before .scratch2 .given) (g .ensures) (l .inv .1))
+    let t = c .before .before .before .before .before .before .before .loop-test in
+    (refl, going-more (t .taken) (c .before .before .before .to .given) (c .before .scratch2 .given) (g .ensures) (l .inv .1))
 
 same-length : tie.Need-same-length Inv-loop μ-loop
 same-length c = c .before .loop .inv .1 .to-long
@@ -72,7 +73,9 @@ same-length-2 : tie.Need-same-length-2 Inv-loop μ-loop
 same-length-2 c = c .before .loop .inv .1 .scratch-long ∙ c .before .before .before .scratch .given
 
 returns : tie.Need-returns Inv-loop μ-loop
-returns c = going-end (c .loop-test .left) (c .before .before .before .before .before .before .before .before .before .pre .to-long) (c .before .loop .inv .1)
+returns c =
+    let s = c .before .before .before .before .before .before .before .before .before in
+    going-end (c .loop-test .left) (s .pre .to-long) (c .before .loop .inv .1)
 
 pub fold-gates-spec : {M : Type 1} → statement M
 fold-gates-spec =

@@ -1,4 +1,4 @@
-use mathlib.Core.Path.{_≡_, sym, _∙_}
+use mathlib.Core.Path.{sym, _∙_}
 use Rattle.folding.proofs.Sides.{larger-second, larger-first}
 use borrow.Author.Needs.{needs}
 use Rattle.folding.proofs.larger.Statement.{statement}

@@ -21,17 +21,17 @@ smaller-requires c κs = search needs
 
 find-requires : tie.Need-find-requires
 find-requires c κs =
-    let s = c .before .before .before .before .before .before .before in
-    let a = s .args in (
+    let s = c .before .before .before .before .before .before .before in (
       s .pre .0,
-      (rooted-sorted (a .w) (wordOf (a .a)) (wordOf (a .b)) _ _ (s .pre .1 .0) (c .before .larger .ensures) (c .smaller .ensures), s .pre .1 .1),
+      (rooted-sorted (s .pre .1 .0) (c .before .larger .ensures) (c .smaller .ensures), s .pre .1 .1),
     )
 
 returns : tie.Need-returns
 returns c =
     let a = c .before .before .before .before .before .before .args in
     let r = c .before .before .before .by-sides in
-    by-rule (a .gates .now) (a .scratch .now) (a .w) (a .n) (wordOf (a .a)) (wordOf (a .b)) (r .result) (r .ensures) _ (c .before .l .given .1)
+    by-rule (a .gates .now) (a .scratch .now) (a .w) (a .n) (wordOf (a .a)) (wordOf (a .b)) (r .result) (r .ensures) _
+    (c .before .l .given .1)
 
 returns-2 : tie.Need-returns-2
 returns-2 c =

@@ -59,7 +59,8 @@ loop-again c =
     let a = c .before .before .before .before .before .before .before .before .before .args in
     let l = c .before .before .before .before .before .loop in
     let word : c .word .result ≡ becomes (a .became .now) (getD (a .table .now) (l .i) 0)
-    = c .word .ensures ∙ ap wordOf (c .before .becomes .ensures) ∙ ap (λ (x : Lit). becomes (a .became .now) (wordOf x)) (c .before .before .at .ensures) in (
+    = c .word .ensures ∙ ap wordOf (c .before .becomes .ensures)
+    ∙ ap (λ (x : Lit). becomes (a .became .now) (wordOf x)) (c .before .before .at .ensures) in (
       omega arith,
       length-set (l .to) (l .i) (c .word .result) ∙ l .inv .1,
       ap₂ (λ (t : List ℕ) (x : ℕ). set t (l .i) x) (l .inv .2) word

@@ -80,10 +80,14 @@ clear-requires : tie.Need-clear-requires
 clear-requires c κs = search needs
 
 add-t44 : tie.Need-add-t44
-add-t44 c = omega (arith, sums (c .before .before .before .before .before .before .before .before .before .before .before .before .before .before .before))
+add-t44 c =
+    let w = c .before .before .before .before .before .before .before .before .before .before .before .before .before .before .before in
+    omega (arith, sums w)
 
 add-t45 : tie.Need-add-t45
-add-t45 c = omega (arith, sums (c .before .before .before .before .before .before .before .before .before .before .before .before .before .before .before))
+add-t45 c =
+    let w = c .before .before .before .before .before .before .before .before .before .before .before .before .before .before .before in
+    omega (arith, sums w)
 
 same-length : tie.Need-same-length
 same-length c = search needs

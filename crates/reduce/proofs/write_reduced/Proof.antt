@@ -1,4 +1,4 @@
-use mathlib.Core.Path.{_≡_, refl}
+use mathlib.Core.Path.{refl}
 use native.Mathlib.Omega.{arith}
 use Rattle.plan.specs.Circuit.{Tables}
 use Rattle.plan.specs.Given.{Given}
@@ -40,7 +40,9 @@ all-become-requires c κs =
     ((s .pre .good .fits .inputs-long, s .pre .wide .inputs), inputs-in (circuit s) (lent s) (s .pre) _ (d .scratch .given))
 
 mul-all-become : tie.Need-mul-all-become
-mul-all-become c = let s = start (c .before .before .before .before .before .before .before) in omega (arith, s .pre .good .fits .sum, s .pre .good .fits .most-M)
+mul-all-become c =
+    let fits = start (c .before .before .before .before .before .before .before) .pre .good .fits in
+    omega (arith, fits .sum, fits .most-M)
 
 all-become-requires-2 : tie.Need-all-become-requires-2
 all-become-requires-2 c κs =
@@ -75,7 +77,8 @@ returns c =
     let l = o .before .before .before .before .before in
     let i = l .before .before .before .before .before .before in
     let s = start (i .before .before .before .before) in
-    written (circuit s) (lent s) (s .pre) _ _ _ (i .before .before .before .before .before .before .before .fold-gates .ensures) _ (i .all-become .ensures) (l .all-become2 .ensures)
+    let f = i .before .before .before .before .before .before .before in
+    written (circuit s) (lent s) (s .pre) _ _ _ (f .fold-gates .ensures) _ (i .all-become .ensures) (l .all-become2 .ensures)
     (o .all-become3 .ensures) refl
 
 pub write-reduced-spec : {M : Type 1} → statement M
