@@ -38,6 +38,7 @@ pub fn find(gates: &[u32], scratch: &[u32], w: usize, n: usize, x: Lit, y: Lit) 
     ensures { λ r. ⌜ Sought (now (gates .entry)) (now (scratch .entry)) w n (wordOf x) (wordOf y) r ⌝ }
 {
     let mut slot = w + x.var().index() as usize;
+    // The key is no literal: its bits, lowest first, lead on from gate to gate.
     let mut key = 2 * y.word() + x.sign();
     loop {
         let at = scratch[slot];
