@@ -21,7 +21,8 @@ nexts-map [] = refl
 nexts-map (l ∷ ls) = ap (λ (x : List ℕ). l .next ∷ x) (nexts-map ls)
 
 -- two functions that agree at n places
-pub firsts-agree : {A B : Type 0} (f g : A → B) (at : ℕ → A) (n : ℕ) → ((i : ℕ) → i < n → f (at i) ≡ g (at i)) → map f (firsts at n) ≡ map g (firsts at n)
+pub firsts-agree : {A B : Type 0} (f g : A → B) (at : ℕ → A) (n : ℕ) → ((i : ℕ) → i < n → f (at i) ≡ g (at i))
+    → map f (firsts at n) ≡ map g (firsts at n)
 firsts-agree f g at zero h = refl
 firsts-agree f g at (suc n) h =
     map-append f (firsts at n) (at n ∷ [])
@@ -45,7 +46,8 @@ module _ {n : Counts} {inputs latches outputs gates : List ℕ} (r : Runs n inpu
       subst (λ (l : ℕ). varOf l ≤ n .M) (one-word outputs i)
       (first-var false (n .M) (getD outputs i 0) []
       (inside-at oneLine false (n .M) (λ k. getD outputs k 0) (n .O)
-      (subst (λ (ls : List ℕ). allInside false (n .M) (map oneLine ls) ≡ true) (words-take outputs (n .O) (r .fits .outputs-long)) (r .formed .outputs))
+      (subst (λ (ls : List ℕ). allInside false (n .M) (map oneLine ls) ≡ true) (words-take outputs (n .O) (r .fits .outputs-long))
+      (r .formed .outputs))
       i h))
 
   pub next-up : (i : ℕ) → i < n .L → varOf (getD latches (2 * i + 1) 0) ≤ n .M

@@ -59,7 +59,9 @@ module _ {n : Counts} {inputs latches outputs gates : List ℕ} (r : Runs n inpu
       literals-long = r .fits .latches-long;
       table-long = omega (arith, room, same, same2, r .fits .sum);
       before = λ k h. omega (arith, next-up r k h);
-      small = λ k h. let v = varOf (getD latches (2 * k + 1) 0) in omega (arith, kept v (next-up r k h), settled-small r b e v (next-up r k h));
+      small = λ k h.
+          let v = varOf (getD latches (2 * k + 1) 0) in
+          omega (arith, kept v (next-up r k h), settled-small r b e v (next-up r k h));
     }
 
     -- t3: with the next state's words past them; t4: with them over the state's

@@ -139,7 +139,8 @@ module _ {gates : List ℕ} {n first : ℕ} {t₀ : List ℕ} (p : Sweeps gates 
 
         value : x ≡ word z
         value =
-            ex ∙ ap₂ (λ (c d : Value). word (and c d)) (read (gateAt gates i .rhs0) a (sides .0) ea) (read (gateAt gates i .rhs1) b (sides .1) eb)
+            ex ∙ ap₂ (λ (c d : Value). word (and c d)) (read (gateAt gates i .rhs0) a (sides .0) ea)
+            (read (gateAt gates i .rhs1) b (sides .1) eb)
 
         rest : List ℕ
         rest = drop (suc (first + i)) t₀

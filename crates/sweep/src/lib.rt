@@ -77,14 +77,16 @@ fn look_up(table: &[u32], start: usize, stride: usize, n: usize, first: usize, t
 // state goes over the state, so that all latches take their next values at once.
 pub fn step_values(n: Counts, latches: &[u32], outputs: &[u32], gates: &[u32], t: &mut [u32])
     requires { ⌜ Ready n (now latches) (now outputs) (now gates) (now t) ⌝ }
-    ensures { λ _. ⌜ ((inputs : List ℕ) (s i : List Value) → Runs n inputs (now (latches .entry)) (now (outputs .entry)) (now (gates .entry))
+    ensures { λ _. ⌜ ((inputs : List ℕ) (s i : List Value)
+        → Runs n inputs (now (latches .entry)) (now (outputs .entry)) (now (gates .entry))
         → Stands n s i (now (t .entry))
         → Stepped n (circuitIn n inputs (now (latches .entry)) (now (outputs .entry)) (now (gates .entry))) s i (now (t .exit))) ⌝ }
 {
+    let state = 1 + n.I;
     let out = n.M + 1;
     let next = out + n.O;
-    sweep_gates(gates, n.A, 1 + n.I + n.L, t);
+    sweep_gates(gates, n.A, state + n.L, t);
     look_up(outputs, 0, 1, n.O, out, t);
     look_up(latches, 1, 2, n.L, next, t);
-    copy(t, next, n.L, 1 + n.I);
+    copy(t, next, n.L, state);
 }

@@ -2,6 +2,7 @@ use Prim.Native.Nat.{_+_, _*_, _-_, _≤_}
 use mathlib.Core.Path.{_≡_, refl, sym, ap, _∙_, subst}
 use native.Mathlib.Nat.{mul-zero}
 use native.Mathlib.Omega.{arith}
+use lib.ListN.{length}
 use Rattle.plan.specs.declared.Lit.{Lit}
 use Rattle.plan.specs.Literals.{wordOf}
 use Rattle.values.proofs.Filling.{Filled, filled-none}
@@ -12,36 +13,41 @@ use Rattle.sweep.proofs.look_up.Statement.{statement}
 use Rattle.sweep.proofs.look_up.Tie as tie
 
 abbrev Inv-loop : tie.InvT-loop
-Inv-loop table start stride n first t₀ not at₀ i₀ t at i = (i ≤ n) × (at ≡ stride * i + start) × Filled t₀ first (wordAt table start stride t₀) i t
+Inv-loop table start stride n first t₀ not at₀ i₀ t at i =
+    (i ≤ n) × (at ≡ stride * i + start) × Filled t₀ first (wordAt table start stride t₀) i t
 
 abbrev μ-loop : tie.MeasureT-loop
 μ-loop table start stride n first t₀ not at₀ i₀ t at i = n - i
+
+-- back to the start from a turn, and the room of its row
+abbrev start : tie.In-loop Inv-loop μ-loop → tie.Start Inv-loop μ-loop
+start q = q .before .before .before .before
+
+row-fits : (q : tie.In-loop Inv-loop μ-loop)
+    → let a = start q .args in q .before .loop .at + (a .stride + 0) ≤ length (a .table .now) + a .start
+row-fits q =
+    let w = q .before .loop in
+    row-in (start q .pre) (w .i) (w .at) (w .t) (q .loop-test .taken) (w .inv .1) (w .inv .2)
 
 loop-holds : tie.Need-loop-holds Inv-loop μ-loop
 loop-holds c = (omega arith, omega (arith, mul-zero (c .before .before .args .stride)), filled-none _ _ _)
 
 mul-at : tie.Need-mul-at Inv-loop μ-loop
-mul-at c =
-    let w = c .before .before .before .loop in
-    let s = c .before .before .before .before .before .before in
-    omega (arith, row-in (s .pre) (w .i) (w .at) (w .t) (c .before .before .loop-test .taken) (w .inv .1) (w .inv .2), s .pre .start-in)
+mul-at c = omega (arith, row-fits (c .before .before), start (c .before .before) .pre .start-in)
 
 shared-slice-read-at : tie.Need-shared-slice-read-at Inv-loop μ-loop
-shared-slice-read-at c =
-    let w = c .before .before .before .before .loop in
-    let s = c .before .before .before .before .before .before .before in
-    omega (arith, row-in (s .pre) (w .i) (w .at) (w .t) (c .before .before .before .loop-test .taken) (w .inv .1) (w .inv .2), s .pre .start-in)
+shared-slice-read-at c = omega (arith, row-fits (c .before .before .before), start (c .before .before .before) .pre .start-in)
 
 at-requires : tie.Need-at-requires Inv-loop μ-loop
 at-requires c κs = search needs
 
 value-of-requires : tie.Need-value-of-requires Inv-loop μ-loop
 value-of-requires c κs =
-    let w = c .before .before .before .before .before .loop in
-    let s = c .before .before .before .before .before .before .before .before in (
+    let q = c .before .before .before .before in
+    let w = q .before .loop in (
       refl,
       subst (λ (l : Lit). Valued (w .t) (wordOf l)) (sym (c .at .ensures))
-          (valued (s .pre) (w .i) (w .at) (w .t) (c .before .before .before .before .loop-test .taken) (w .inv .1) (w .inv .2)),
+          (valued (start q .pre) (w .i) (w .at) (w .t) (q .loop-test .taken) (w .inv .1) (w .inv .2)),
     )
 
 add-t : tie.Need-add-t Inv-loop μ-loop
@@ -55,9 +61,8 @@ slice-write-t c = search needs
 
 add-at : tie.Need-add-at Inv-loop μ-loop
 add-at c =
-    let w = c .before .before .before .before .before .before .loop in
-    let s = c .before .before .before .before .before .before .before .before .before in
-    omega (arith, row-in (s .pre) (w .i) (w .at) (w .t) (c .before .before .before .before .before .loop-test .taken) (w .inv .1) (w .inv .2), s .pre .start-in)
+    let q = c .before .before .before .before .before in
+    omega (arith, row-fits q, start q .pre .start-in)
 
 add-i : tie.Need-add-i Inv-loop μ-loop
 add-i c = search needs
@@ -67,11 +72,12 @@ loop-less c = search needs
 
 loop-again : tie.Need-loop-again Inv-loop μ-loop
 loop-again c =
-    let w = c .before .before .before .before .before .before .loop in
-    let s = c .before .before .before .before .before .before .before .before .before in (
+    let q = c .before .before .before .before .before in
+    let w = q .before .loop in
+    let s = start q in (
       omega arith,
       next-at (s .args .stride) (s .args .start) (w .i) (w .at) (w .inv .1),
-      next-looked (s .pre) (w .i) (w .at) (w .t) (c .before .before .before .before .before .loop-test .taken) (w .inv .1) (w .inv .2) _
+      next-looked (s .pre) (w .i) (w .at) (w .t) (q .loop-test .taken) (w .inv .1) (w .inv .2) _
           (c .value-of .ensures ∙ ap (λ (l : Lit). literalWord (w .t) (wordOf l)) (c .before .at .ensures)),
     )
 

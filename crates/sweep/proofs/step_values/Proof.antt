@@ -5,6 +5,19 @@ use borrow.Author.Needs.{needs}
 use Rattle.sweep.proofs.step_values.Statement.{statement}
 use Rattle.sweep.proofs.step_values.Tie as tie
 
+-- back from one table to the one before it: after the sweep, the first look up and the second
+abbrev start : tie.After-t → tie.Start
+start a = a .before .before .before .before .before .before .before .before .before .before .before
+
+abbrev first : tie.After-t2 → tie.After-t
+first b = b .before .before .before .before
+
+abbrev second : tie.After-t3 → tie.After-t2
+second d = d .before .before .before .before
+
+add-state : tie.Need-add-state
+add-state c = search needs
+
 add-out : tie.Need-add-out
 add-out c = search needs
 
@@ -14,52 +27,55 @@ add-next c = search needs
 add-sweep-gates : tie.Need-add-sweep-gates
 add-sweep-gates c = search needs
 
-add-sweep-gates-2 : tie.Need-add-sweep-gates-2
-add-sweep-gates-2 c = search needs
-
 sweep-gates-requires : tie.Need-sweep-gates-requires
-sweep-gates-requires c κs = let p = c .before .before .before .before .before .before .before .before .before .pre in sweeps (p .runs) (p .stands) (p .scratch)
+sweep-gates-requires c κs =
+    let p = c .before .before .before .before .before .before .before .before .before .pre in
+    sweeps (p .runs) (p .stands) (p .scratch)
 
 look-up-requires : tie.Need-look-up-requires
 look-up-requires c κs =
-    let p = c .before .before .before .before .before .before .before .before .before .before .before .before .before .pre in
-    looks-outputs (p .runs) (p .scratch) (p .stands) (c .before .before .t .given) (c .before .before .before .sweep-gates .ensures)
+    let a = c .before .before in
+    let p = start a .pre in
+    looks-outputs (p .runs) (p .scratch) (p .stands) (a .t .given) (a .before .sweep-gates .ensures)
 
 look-up-requires-2 : tie.Need-look-up-requires-2
 look-up-requires-2 c κs =
-    let p = c .before .before .before .before .before .before .before .before .before .before .before .before .before .before .before .before .before .pre in
-    looks-nexts (p .runs) (p .scratch) (p .stands) (c .before .before .before .before .before .before .t .given) (c .before .before .before .before .before .before .before .sweep-gates .ensures) (c .before .before .t2 .given)
-    (c .before .before .before .look-up .ensures)
-
-add-copy : tie.Need-add-copy
-add-copy c = let p = c .before .before .before .before .before .before .before .before .before .before .before .before .before .before .before .before .before .before .before .before .before .before .pre in omega (arith, p .runs .fits .sum, p .runs .fits .most-M)
+    let b = c .before .before in
+    let a = first b in
+    let p = start a .pre in
+    looks-nexts (p .runs) (p .scratch) (p .stands) (a .t .given) (a .before .sweep-gates .ensures) (b .t2 .given)
+    (b .before .look-up .ensures)
 
 copy-requires : tie.Need-copy-requires
 copy-requires c κs =
-    let p = c .before .before .before .before .before .before .before .before .before .before .before .before .before .before .before .before .before .before .before .before .before .before .pre in
-    let f = p .runs .fits in
-    (omega (arith, f .sum), omega (arith, f .sum, p .scratch, c .before .before .before .before .before .before .before .before .before .before .before .t .given, c .before .before .before .before .before .before .before .t2 .given, c .before .before .before .t3 .given))
+    let d = c .before .before in
+    let b = second d in
+    let a = first b in
+    let p = start a .pre in
+    (omega (arith, p .runs .fits .sum), omega (arith, p .runs .fits .sum, p .scratch, a .t .given, b .t2 .given, d .t3 .given))
 
 same-length : tie.Need-same-length
 same-length c = search needs
 
 returns : tie.Need-returns
-returns c = λ inputs s i r b.
-    stepped r (c .before .before .before .before .before .before .before .before .before .before .before .before .before .before .before .before .before .before .before .before .before .before .before .before .before .pre .scratch) b (c .before .before .before .before .before .before .before .before .before .before .before .before .before .before .t .given) (c .before .before .before .before .before .before .before .before .before .before .before .before .before .before .before .sweep-gates .ensures) (c .before .before .before .before .before .before .before .before .before .before .t2 .given)
-    (c .before .before .before .before .before .before .before .before .before .before .before .look-up .ensures) (c .before .before .before .before .before .before .before .look-up2 .ensures) (c .before .before .before .before .before .before .t3 .given) (c .before .before .copy .ensures)
+returns c = λ inputs s i r stands.
+    let d = c .before .before .before .before .before in
+    let b = second d in
+    let a = first b in
+    stepped r (start a .pre .scratch) stands (a .t .given) (a .before .sweep-gates .ensures) (b .t2 .given) (b .before .look-up .ensures)
+    (d .before .look-up2 .ensures) (d .t3 .given) (c .before .before .copy .ensures)
 
 pub step-values-spec : {M : Type 1} → statement M
 step-values-spec =
     tie.close
     (tie.spec
+    add-state
     add-out
     add-next
     add-sweep-gates
-    add-sweep-gates-2
     sweep-gates-requires
     look-up-requires
     look-up-requires-2
-    add-copy
     copy-requires
     same-length
     returns)

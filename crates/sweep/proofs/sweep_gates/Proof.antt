@@ -18,9 +18,15 @@ Inv-loop gates n first t₀ not and at₀ i₀ t at i = (i ≤ n) × (at ≡ 3 *
 abbrev μ-loop : tie.MeasureT-loop
 μ-loop gates n first t₀ not and at₀ i₀ t at i = n - i
 
--- a right side of this turn's gate
-side : (gates : List ℕ) (i at j : ℕ) (l : Lit) → at ≡ 3 * i → l ≡ litAt (getD gates (at + j) 0) → l ≡ litAt (getD gates (3 * i + j) 0)
-side gates i at j l e q = q ∙ ap (λ (k : ℕ). litAt (getD gates (k + j) 0)) e
+-- back to the start from a turn
+abbrev start : tie.In-loop Inv-loop μ-loop → tie.Start Inv-loop μ-loop
+start i = i .before .before .before .before
+
+-- a right side of the turn's gate
+side : (i : tie.In-loop Inv-loop μ-loop) (j : ℕ) (l : Lit)
+    → let gates = start i .args .gates .now in
+    l ≡ litAt (getD gates (i .before .loop .at + j) 0) → l ≡ litAt (getD gates (3 * i .before .loop .i + j) 0)
+side i j l e = e ∙ ap (λ (k : ℕ). litAt (getD (start i .args .gates .now) (k + j) 0)) (i .before .loop .inv .1)
 
 loop-holds : tie.Need-loop-holds Inv-loop μ-loop
 loop-holds c = (omega arith, omega arith, swept-none (c .before .before .pre))
@@ -39,11 +45,11 @@ at-requires c κs = search needs
 
 value-of-requires : tie.Need-value-of-requires Inv-loop μ-loop
 value-of-requires c κs =
-    let w = c .before .before .before .before .before .loop in
-    let s = c .before .before .before .before .before .before .before .before in (
+    let i = c .before .before .before .before in
+    let w = i .before .loop in (
       refl,
-      subst (λ (l : Lit). Valued (w .t) (wordOf l)) (sym (side (s .args .gates .now) (w .i) (w .at) 1 (c .at .result) (w .inv .1) (c .at .ensures)))
-          (first-valued (s .pre) (w .i) (c .before .before .before .before .loop-test .taken) (w .t) (w .inv .2)),
+      subst (λ (l : Lit). Valued (w .t) (wordOf l)) (sym (side i 1 (c .at .result) (c .at .ensures)))
+          (first-valued (start i .pre) (w .i) (i .loop-test .taken) (w .t) (w .inv .2)),
     )
 
 add-at-2 : tie.Need-add-at-2 Inv-loop μ-loop
@@ -60,19 +66,21 @@ at-requires-2 c κs = search needs
 
 value-of-requires-2 : tie.Need-value-of-requires-2 Inv-loop μ-loop
 value-of-requires-2 c κs =
-    let w = c .before .before .before .before .before .before .before .before .before .before .loop in
-    let s = c .before .before .before .before .before .before .before .before .before .before .before .before .before in (
+    let i = c .before .before .before .before .before .before .before .before .before in
+    let w = i .before .loop in (
       refl,
-      subst (λ (l : Lit). Valued (w .t) (wordOf l)) (sym (side (s .args .gates .now) (w .i) (w .at) 2 (c .at2 .result) (w .inv .1) (c .at2 .ensures)))
-          (second-valued (s .pre) (w .i) (c .before .before .before .before .before .before .before .before .before .loop-test .taken) (w .t) (w .inv .2)),
+      subst (λ (l : Lit). Valued (w .t) (wordOf l)) (sym (side i 2 (c .at2 .result) (c .at2 .ensures)))
+          (second-valued (start i .pre) (w .i) (i .loop-test .taken) (w .t) (w .inv .2)),
     )
 
 and-of-requires : tie.Need-and-of-requires Inv-loop μ-loop
 and-of-requires c κs =
-    let t = c .before .before .before .before .before .before .before .before .before .before .before .before .loop .t in
-    let first = literal-small t (wordOf (c .before .before .before .before .before .before .before .at .result)) _ (c .before .before .before .before .before .before .value-of .ensures) in
-    let second = literal-small t (wordOf (c .before .before .at2 .result)) _ (c .before .value-of2 .ensures) in
-    (refl, (first, second))
+    let b = c .before in
+    let a = b .before .before .before .before .before in
+    let t = a .before .before .before .before .before .before .loop .t in
+    let one = literal-small t (wordOf (a .before .at .result)) _ (a .value-of .ensures) in
+    let two = literal-small t (wordOf (b .before .at2 .result)) _ (b .value-of2 .ensures) in
+    (refl, (one, two))
 
 add-t : tie.Need-add-t Inv-loop μ-loop
 add-t c = search needs
@@ -94,17 +102,16 @@ loop-less c = search needs
 
 loop-again : tie.Need-loop-again Inv-loop μ-loop
 loop-again c =
-    let w = c .before .before .before .before .before .before .before .before .before .before .before .before .before .loop in
-    let s = c .before .before .before .before .before .before .before .before .before .before .before .before .before .before .before .before in
-    let first = c .before .before .before .before .before .before .before .before .at in
-    let second = c .before .before .before .at2 in
+    let b = c .before .before in
+    let a = b .before .before .before .before .before in
+    let i = a .before .before .before .before .before in
+    let w = i .before .loop in
     let looked : Lit → ℕ = λ l. literalWord (w .t) (wordOf l) in (
       omega arith,
       omega arith,
-      swept-more (s .pre) (w .i) (c .before .before .before .before .before .before .before .before .before .before .before .before .loop-test .taken) (w .t) (w .inv .2) _ _ _
-          (c .before .before .before .before .before .before .before .value-of .ensures ∙ ap looked (side (s .args .gates .now) (w .i) (w .at) 1 (first .result) (w .inv .1) (first .ensures)))
-          (c .before .before .value-of2 .ensures ∙ ap looked (side (s .args .gates .now) (w .i) (w .at) 2 (second .result) (w .inv .1) (second .ensures)))
-          (c .and-of .ensures),
+      swept-more (start i .pre) (w .i) (i .loop-test .taken) (w .t) (w .inv .2) _ _ _
+          (a .value-of .ensures ∙ ap looked (side i 1 (a .before .at .result) (a .before .at .ensures)))
+          (b .value-of2 .ensures ∙ ap looked (side i 2 (b .before .at2 .result) (b .before .at2 .ensures))) (c .and-of .ensures),
     )
 
 same-length : tie.Need-same-length Inv-loop μ-loop

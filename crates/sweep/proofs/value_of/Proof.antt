@@ -60,7 +60,8 @@ returns : tie.Need-returns
 returns c =
     let d = c .before .before .before in
     let s = start d in
-    literal-at (s .args .not .now) (s .args .t .now) (s .args .l .0) _ _ (s .pre .0) (place d) (c .before .before .sign .ensures) (s .pre .1 .small)
+    literal-at (s .args .not .now) (s .args .t .now) (s .args .l .0) _ _ (s .pre .0) (place d)
+    (c .before .before .sign .ensures) (s .pre .1 .small)
 
 pub value-of-spec : {M : Type 1} → statement M
 value-of-spec =
