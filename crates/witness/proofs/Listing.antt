@@ -24,6 +24,12 @@ use Rattle.step.proofs.Buffers.{told-part}
 abbrev pub showsLeft : Circuit → List Value → ℕ → List ℕ → ℕ → Bool
 showsLeft c s left bytes at = shows1 (run c s (vectorsOf c left (drop at bytes)))
 
+-- vector k of a whole list starts at `at`
+pub record Turn (n : Counts) (number : ℕ) (bytes : List ℕ) (k at : ℕ) : Type 0 where
+  pub whole : length bytes ≡ number * n .I
+  pub here : at ≡ n .I * k
+  pub more : k < number
+
 -- after k vectors
 pub record Going (n : Counts) (c : Circuit) (number : ℕ) (bytes t : List ℕ) (k at : ℕ) : Type 0 where
   pub state : List Value
@@ -48,72 +54,82 @@ shows-turn c s number k each bytes at e h =
 pub part-short : (m : ℕ) (l : List ℕ) → length (take m l) ≤ m
 part-short m l = omega (arith, length-take m l)
 
-module _ {n : Counts} {inputs latches outputs gates : List ℕ} (r : Runs n inputs latches outputs gates) (number : ℕ) (bytes : List ℕ) where
-  abbrev c : Circuit
-  c = circuitIn n inputs latches outputs gates
+module _ {n : Counts} {number : ℕ} {bytes : List ℕ} {k at : ℕ} (u : Turn n number bytes k at) where
+  pub vector-ends : at + n .I ≤ length bytes
+  vector-ends = omega (arith, u .here, row-ends (n .I) number k bytes (omega (arith, u .whole, mul-comm number (n .I))) (u .more))
 
-  pub going-first : (t : List ℕ) (b : Blank n latches outputs gates t) → Going n c number bytes t 0 0
+  -- the vector of this turn
+  abbrev pub vectorOf : List Value
+  vectorOf = map valueOf (take (n .I) (drop at bytes))
+
+  vector-length : length vectorOf ≡ n .I
+  vector-length =
+      length-map (take (n .I) (drop at bytes)) valueOf
+      ∙ length-take-le (n .I) (drop at bytes) (omega (arith, vector-ends, length-drop at bytes))
+
+  module _ {inputs latches outputs gates : List ℕ} (r : Runs n inputs latches outputs gates) {t : List ℕ} (room : Scratch n t)
+      (g : Going n (circuitIn n inputs latches outputs gates) number bytes t k at) where
+    abbrev c : Circuit
+    c = circuitIn n inputs latches outputs gates
+
+    module _ {t1 : List ℕ} (e1 : t1 ≡ put t 1 (words (map valueOf (take (at + n .I - at) (drop at bytes))))) where
+      only : at + n .I - at ≡ n .I
+      only = omega arith
+
+      pub vector-stands : Stands n (g .state) vectorOf t1
+      vector-stands =
+          stands-loaded n (g .state) vectorOf t t1 (g .rests) (g .state-length) vector-length (omega (arith, room, r .fits .sum))
+          (e1 ∙ ap (λ (m : ℕ). put t 1 (words (map valueOf (take m (drop at bytes))))) only)
+
+      pub vector-ready : length t1 ≡ length t → Ready n latches outputs gates t1
+      vector-ready same = record {
+        inputs = inputs;
+        state = g .state;
+        ins = vectorOf;
+        runs = r;
+        scratch = omega (arith, room);
+        stands = vector-stands;
+      }
+
+    -- after its step
+    module _ {t2 : List ℕ} (p : Stepped n c (g .state) vectorOf t2) (a : Bool) (any : a ≡ any1 (valuesAt t2 (n .M + 1) (n .O))) where
+      abbrev later : Bool
+      later = showsLeft c (nextOf c (g .state) vectorOf) (number - (k + 1)) bytes (at + n .I)
+
+      turned : witnessed c number bytes ≡ (a || later)
+      turned =
+          g .left
+          ∙ (shows-turn c (g .state) number k (n .I) bytes at (ap (λ (m : Counts). m .I) (r .counts)) (u .more)
+          ∙ ap (λ (b : Bool). b || later)
+          (sym (any ∙ ap any1 (told-part t2 (n .M + 1) (n .O) (n .O) (outputsOf c (g .state) vectorOf) refl (p .outputs)))))
+
+      pub found-one : a ≡ true → true ≡ witnessed c number bytes
+      found-one e = sym (turned ∙ ap (λ (b : Bool). b || later) e)
+
+      pub going-on : a ≡ false → Going n c number bytes t2 (k + 1) (at + n .I)
+      going-on e = record {
+        state = nextOf c (g .state) vectorOf;
+        state-length = next-length c (g .state) vectorOf ∙ ap (λ (m : Counts). m .L) (r .counts);
+        rests = p .rests;
+        left = turned ∙ ap (λ (b : Bool). b || later) e;
+      }
+
+module _ {n : Counts} {inputs latches outputs gates : List ℕ} (r : Runs n inputs latches outputs gates) (number : ℕ) (bytes : List ℕ) where
+  abbrev held : Circuit
+  held = circuitIn n inputs latches outputs gates
+
+  pub going-first : (t : List ℕ) (b : Blank n latches outputs gates t) → Going n held number bytes t 0 0
   going-first t b = record {
     state = replicate (n .L) v0;
     state-length = length-replicate (n .L) v0;
     rests = subst (Rests n (replicate (n .L) v0)) (sym (b .zero)) (rests-first n (length t) (omega (arith, b .scratch-long, r .fits .sum)));
-    left = ap₂ (λ (m l : ℕ). shows1 (run c (replicate m v0) (vectorsOf c l bytes))) (ap (λ (m : Counts). m .L) (r .counts)) all;
+    left = ap₂ (λ (m l : ℕ). shows1 (run held (replicate m v0) (vectorsOf held l bytes))) (ap (λ (m : Counts). m .L) (r .counts)) all;
   }
     where
       all : number ≡ number - 0
       all = omega arith
 
-  -- the vector of this turn
-  module _ (all : length bytes ≡ number * n .I) (k at : ℕ) (h : k < number) (here : at ≡ n .I * k) where
-    pub vector-ends : at + n .I ≤ length bytes
-    vector-ends = omega (arith, row-ends (n .I) number k bytes (omega (arith, mul-comm number (n .I))) h)
-
-    abbrev ins : List Value
-    ins = map valueOf (take (n .I) (drop at bytes))
-
-    ins-length : length ins ≡ n .I
-    ins-length =
-        length-map (take (n .I) (drop at bytes)) valueOf
-        ∙ length-take-le (n .I) (drop at bytes) (omega (arith, vector-ends, length-drop at bytes))
-
-    module _ {t : List ℕ} (room : Scratch n t) (g : Going n c number bytes t k at) where
-      module _ {t1 : List ℕ} (m : ℕ) (only : m ≡ n .I) (e1 : t1 ≡ put t 1 (words (map valueOf (take m (drop at bytes))))) where
-        pub vector-stands : Stands n (g .state) ins t1
-        vector-stands =
-            stands-loaded n (g .state) ins t t1 (g .rests) (g .state-length) ins-length (omega (arith, room, r .fits .sum))
-            (e1 ∙ ap (λ (k : ℕ). put t 1 (words (map valueOf (take k (drop at bytes))))) only)
-
-        pub vector-ready : length t1 ≡ length t → Ready n latches outputs gates t1
-        vector-ready same = record {
-          inputs = inputs;
-          state = g .state;
-          ins = ins;
-          runs = r;
-          scratch = omega (arith, room);
-          stands = vector-stands;
-        }
-
-      -- after its step
-      module _ {t2 : List ℕ} (p : Stepped n c (g .state) ins t2) (a : Bool) (any : a ≡ any1 (valuesAt t2 (n .M + 1) (n .O))) where
-        turn : witnessed c number bytes ≡ (a || showsLeft c (nextOf c (g .state) ins) (number - (k + 1)) bytes (at + n .I))
-        turn =
-            g .left
-            ∙ (shows-turn c (g .state) number k (n .I) bytes at (ap (λ (m : Counts). m .I) (r .counts)) h
-            ∙ ap (λ (b : Bool). b || showsLeft c (nextOf c (g .state) ins) (number - (k + 1)) bytes (at + n .I))
-            (sym (any ∙ ap any1 (told-part t2 (n .M + 1) (n .O) (n .O) (outputsOf c (g .state) ins) refl (p .outputs)))))
-
-        pub found-one : a ≡ true → true ≡ witnessed c number bytes
-        found-one e = sym (turn ∙ ap (λ (b : Bool). b || showsLeft c (nextOf c (g .state) ins) (number - (k + 1)) bytes (at + n .I)) e)
-
-        pub going-on : a ≡ false → Going n c number bytes t2 (k + 1) (at + n .I)
-        going-on e = record {
-          state = nextOf c (g .state) ins;
-          state-length = next-length c (g .state) ins ∙ ap (λ (m : Counts). m .L) (r .counts);
-          rests = p .rests;
-          left = turn ∙ ap (λ (b : Bool). b || showsLeft c (nextOf c (g .state) ins) (number - (k + 1)) bytes (at + n .I)) e;
-        }
-
-  pub none-shown : (t : List ℕ) (k at : ℕ) → number ≤ k → Going n c number bytes t k at → false ≡ witnessed c number bytes
+  pub none-shown : (t : List ℕ) (k at : ℕ) → number ≤ k → Going n held number bytes t k at → false ≡ witnessed held number bytes
   none-shown t k at h g =
       let nothing : number - k ≡ 0 = omega arith in
-      sym (g .left ∙ ap (λ (left : ℕ). showsLeft c (g .state) left bytes at) nothing)
+      sym (g .left ∙ ap (λ (left : ℕ). showsLeft held (g .state) left bytes at) nothing)

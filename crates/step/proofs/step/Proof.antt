@@ -29,13 +29,16 @@ entry s =
 abbrev start : tie.After-enum-told → tie.Start
 start d = d .before .before .before .before .before .before .before .before .before .before .before .before .before .before
 
-told : (d : tie.After-enum-told) → d .before .before .before .before .check-in-order .result ≡ Good
+abbrev checked : tie.After-enum-told → tie.After-check-in-order
+checked d = d .before .before .before .before
+
+told : (d : tie.After-enum-told) → checked d .check-in-order .result ≡ Good
 told d = d .enum-told .given .1
 
 says : (d : tie.After-enum-told)
-    → _≡_ {A = CheckExit} (record { answer = d .before .before .before .before .check-in-order .result; scratch = d .before .before .before .before .check-in-order .last .1 .1 .1 .1 .1 .0 })
-    (checkInOrder (entry (start d) .circuit))
-says d = d .before .before .before .before .check-in-order .ensures
+    → let x = checked d .check-in-order in
+    _≡_ {A = CheckExit} (record { answer = x .result; scratch = x .last .1 .1 .1 .1 .1 .0 }) (checkInOrder (entry (start d) .circuit))
+says d = checked d .check-in-order .ensures
 
 check-in-order-requires : tie.Need-check-in-order-requires
 check-in-order-requires c κs = search needs
@@ -64,10 +67,11 @@ returns c =
 
 step-vectors-requires : tie.Need-step-vectors-requires
 step-vectors-requires c κs =
-    let d = c .before .before .before .before .before .before in
+    let f = c .before .before .before in
+    let d = f .before .before .before in
     let e = entry (start d) in (
       blank (e .circuit) (stepStage e) (says d) (told d),
-      good-vectors e (no-table _ _ (c .before .before .before .if1 .left) (c .before .before .before .before .bad-vector .ensures)),
+      good-vectors e (no-table _ _ (f .if1 .left) (f .before .bad-vector .ensures)),
     )
 
 clear-requires : tie.Need-clear-requires
@@ -78,9 +82,10 @@ same-length-3 c = search needs
 
 returns-2 : tie.Need-returns-2
 returns-2 c =
-    let e = entry (c .before .before .before .before .before .before .before .before .before .before .before .before .before .before .before) in
-    let check = c .before .before .before .before .before .check-in-order .ensures in
-    refused-step e _ (blank-is (e .circuit) (stepStage e) check) _ (refused-by (e .circuit) (stepStage e) check _ (c .before .refusal .given .1))
+    let x = c .before .before .before .before .before in
+    let e = entry (x .before .before .before .before .before .before .before .before .before .before) in
+    refused-step e _ (blank-is (e .circuit) (stepStage e) (x .check-in-order .ensures)) _
+    (refused-by (e .circuit) (stepStage e) (x .check-in-order .ensures) _ (c .before .refusal .given .1))
 
 same-length-4 : tie.Need-same-length-4
 same-length-4 c = search needs
@@ -93,13 +98,13 @@ same-length-6 c = search needs
 
 returns-3 : tie.Need-returns-3
 returns-3 c =
-    let d = c .before .before .before .before .before .before .before .before .before .before .before .before .before .before .before .before .before in
+    let s = c .before .before .before .before .before .before .before .before .before in
+    let f = s .before .before .before .before .before in
+    let d = f .before .before .before in
     let e = entry (start d) in
-    let length-is = c .before .before .before .before .before .before .before .before .before .scratch2 .given ∙ d .before .before .before .scratch .given in
-    let zero = c .before .before .clear .ensures ∙ ap (λ (k : ℕ). replicate k 0) length-is in
-    done-step e _ zero (past-check (e .circuit) (stepStage e) (says d) (told d))
-    (no-table _ _ (c .before .before .before .before .before .before .before .before .before .before .before .before .before .before .if1 .left) (c .before .before .before .before .before .before .before .before .before .before .before .before .before .before .before .bad-vector .ensures)) _ _
-    (c .before .before .before .before .before .before .before .before .before .before .step-vectors .ensures (e .circuit .tables .inputs) (runs (e .circuit) (stepStage e) (says d) (told d)))
+    let zero = c .before .before .clear .ensures ∙ ap (λ (k : ℕ). replicate k 0) (s .scratch2 .given ∙ d .before .before .before .scratch .given) in
+    done-step e _ zero (past-check (e .circuit) (stepStage e) (says d) (told d)) (no-table _ _ (f .if1 .left) (f .before .bad-vector .ensures)) _ _
+    (s .before .step-vectors .ensures (e .circuit .tables .inputs) (runs (e .circuit) (stepStage e) (says d) (told d)))
 
 pub step-spec : {M : Type 1} → statement M
 step-spec =

@@ -1,25 +1,46 @@
 use mathlib.Core.Path.{_≡_, _∙_}
+use mathlib.Core.List.{map}
 use native.Mathlib.Omega.{arith}
 use lib.ListN.{length}
+use Rattle.plan.specs.Step.{valueOf}
 use Rattle.tables.specs.Held.{circuitIn}
-use Rattle.sweep.specs.Running.{Ready}
+use Rattle.sweep.specs.Running.{Stands, Ready}
 use Rattle.step.proofs.Buffers.{stands, ready, stored}
 use borrow.Author.Needs.{needs}
 use Rattle.step.proofs.step_vectors.Statement.{statement}
 use Rattle.step.proofs.step_vectors.Tie as tie
 
--- back to the start, from where both vectors are loaded
-abbrev start : tie.After-scratch2 → tie.Start
-start d = d .before .before .before .before .before .before .before .before .before .before .before .before .before .before .before .before
+-- back from one place to the one before it: after each load, after the step
+abbrev start : tie.After-scratch → tie.Start
+start a = a .before .before .before .before .before .before .before .before .before .before .before .before
 
-asked : (d : tie.After-scratch2)
-    → let a = start d .args in Ready (a .n) (a .latches .now) (a .outputs .now) (a .gates .now) (d .before .load2 .last .1 .1 .0)
-asked d =
-    let p = start d .pre in
-    ready (p .0) (p .1) (d .before .before .before .before .before .load .ensures) (d .before .before .before .before .scratch .given) (d .before .load2 .ensures) (d .scratch2 .given)
+abbrev first : tie.After-scratch2 → tie.After-scratch
+first b = b .before .before .before .before
 
-same : (d : tie.After-scratch2) → length (d .before .load2 .last .1 .1 .0) ≡ length (start d .args .scratch .now)
-same d = d .scratch2 .given ∙ d .before .before .before .before .scratch .given
+abbrev second : tie.After-scratch3 → tie.After-scratch2
+second d = d .before .before .before .before
+
+abbrev args : tie.After-scratch2 → tie.Start
+args b = start (first b)
+
+asked : (b : tie.After-scratch2)
+    → let a = args b .args in Ready (a .n) (a .latches .now) (a .outputs .now) (a .gates .now) (b .before .load2 .last .1 .1 .0)
+asked b =
+    let p = args b .pre in
+    let a = first b in
+    ready (p .0) (p .1) (a .before .load .ensures) (a .scratch .given) (b .before .load2 .ensures) (b .scratch2 .given)
+
+stand : (b : tie.After-scratch2)
+    → let a = args b .args in Stands (a .n) (map valueOf (a .state .now)) (map valueOf (a .ins .now)) (b .before .load2 .last .1 .1 .0)
+stand b =
+    let p = args b .pre in
+    let a = first b in
+    stands (p .0) (p .1) (a .before .load .ensures) (a .scratch .given) (b .before .load2 .ensures) (b .scratch2 .given)
+
+-- scratch stays as long as it was
+same : (d : tie.After-scratch3)
+    → length (d .before .step-values .last .1 .1 .1 .1 .0) ≡ length (args (second d) .args .scratch .now)
+same d = d .scratch3 .given ∙ second d .scratch2 .given ∙ first (second d) .scratch .given
 
 add-load : tie.Need-add-load
 add-load c = search needs
@@ -34,22 +55,26 @@ step-values-requires : tie.Need-step-values-requires
 step-values-requires c κs = asked (c .before .before)
 
 add-store : tie.Need-add-store
-add-store c = let p = start (c .before .before .before .before .before .before .before) .pre .0 in omega (arith, p .runs .fits .sum, p .runs .fits .most-M)
+add-store c =
+    let p = args (second (c .before .before .before)) .pre .0 in
+    omega (arith, p .runs .fits .sum, p .runs .fits .most-M)
 
 store-requires : tie.Need-store-requires
 store-requires c κs =
-    let d = c .before .before .before .before .before .before .before .before in
-    let p = start d .pre in
-    omega (arith, p .0 .scratch-long, p .0 .runs .fits .sum, p .1 .state-length, same d, c .before .before .before .before .scratch3 .given)
+    let d = c .before .before .before .before in
+    let p = args (second d) .pre in
+    omega (arith, p .0 .scratch-long, p .0 .runs .fits .sum, p .1 .state-length, same d)
 
 add-store-2 : tie.Need-add-store-2
-add-store-2 c = omega (arith, start (c .before .before .before .before .before .before .before .before .before .before .before .before .before) .pre .0 .runs .fits .most-M)
+add-store-2 c =
+    let d = c .before .before .before .before .before .before .before .before .before in
+    omega (arith, args (second d) .pre .0 .runs .fits .most-M)
 
 store-requires-2 : tie.Need-store-requires-2
 store-requires-2 c κs =
-    let d = c .before .before .before .before .before .before .before .before .before .before .before .before .before .before in
-    let p = start d .pre in
-    omega (arith, p .0 .scratch-long, p .1 .outputs-length, same d, c .before .before .before .before .before .before .before .before .before .before .scratch3 .given)
+    let d = c .before .before .before .before .before .before .before .before .before .before in
+    let p = args (second d) .pre in
+    omega (arith, p .0 .scratch-long, p .1 .outputs-length, same d)
 
 same-length : tie.Need-same-length
 same-length c = search needs
@@ -62,15 +87,14 @@ same-length-3 c = search needs
 
 returns : tie.Need-returns
 returns c = λ inputs r.
-    let d = c .before .before .before .before .before .before .before .before .before .before .before .before .before .before .before .before .before in
-    let a = start d .args in
-    let p = start d .pre in
-    let e1 = d .before .before .before .before .before .load .ensures in
-    let e2 = d .before .load2 .ensures in
-    let u1 = d .before .before .before .before .scratch .given in
-    let u2 = d .scratch2 .given in
-    stored (p .0) (p .1) e1 u1 e2 u2 (circuitIn (a .n) inputs (a .latches .now) (a .outputs .now) (a .gates .now)) _ _ _
-    (c .before .before .before .before .before .before .before .before .before .before .before .before .before .before .step-values .ensures inputs _ _ r (stands (p .0) (p .1) e1 u1 e2 u2)) (c .before .before .before .before .before .before .before .before .store .ensures) (c .before .before .store2 .ensures)
+    let f = c .before .before .before .before .before .before .before in
+    let d = f .before .before .before .before .before .before in
+    let b = second d in
+    let a = first b in
+    let n = start a .args in
+    stored (start a .pre .0) (start a .pre .1) (a .before .load .ensures) (a .scratch .given) (b .before .load2 .ensures) (b .scratch2 .given)
+    (circuitIn (n .n) inputs (n .latches .now) (n .outputs .now) (n .gates .now)) _ _ _
+    (d .before .step-values .ensures inputs _ _ r (stand b)) (f .before .store .ensures) (c .before .before .store2 .ensures)
 
 pub step-vectors-spec : {M : Type 1} → statement M
 step-vectors-spec =

@@ -34,7 +34,8 @@ returns : tie.Need-returns Inv-loop μ-loop
 returns c =
     let w = c .before .before .before .loop in
     let s = c .before .before .before .before in
-    any-here (s .args .t .now) (s .args .first) (s .args .n) (w .i) (s .pre) (c .before .before .loop-test .taken) (w .inv .1) (c .if1 .taken)
+    any-here (s .args .t .now) (s .args .first) (s .args .n) (w .i) (s .pre) (c .before .before .loop-test .taken)
+    (w .inv .1) (c .if1 .taken)
 
 add-i : tie.Need-add-i Inv-loop μ-loop
 add-i c = search needs
@@ -47,7 +48,8 @@ loop-again c =
     let w = c .before .before .before .loop in
     let s = c .before .before .before .before in (
       omega arith,
-      any-later (s .args .t .now) (s .args .first) (s .args .n) (w .i) (s .pre) (c .before .before .loop-test .taken) (w .inv .1) (c .if1 .left),
+      any-later (s .args .t .now) (s .args .first) (s .args .n) (w .i) (s .pre) (c .before .before .loop-test .taken)
+          (w .inv .1) (c .if1 .left),
     )
 
 returns-2 : tie.Need-returns-2 Inv-loop μ-loop

@@ -6,8 +6,8 @@ use native.Mathlib.Omega.{arith}
 use lib.ListN.{length, drop}
 use Rattle.theorems.proofs.Tables.{next-row}
 use Rattle.tables.specs.Held.{circuitIn, Scratch}
-use Rattle.sweep.specs.Running.{Runs}
-use Rattle.witness.proofs.Listing.{Going, part-short, going-first, vector-ends, vector-stands, vector-ready, found-one, going-on, none-shown}
+use Rattle.sweep.specs.Running.{Runs, Stepped}
+use Rattle.witness.proofs.Listing.{Turn, Going, part-short, vectorOf, going-first, vector-ends, vector-stands, vector-ready, found-one, going-on, none-shown}
 use borrow.Author.Needs.{needs}
 use Rattle.witness.proofs.shows_one.Statement.{statement}
 use Rattle.witness.proofs.shows_one.Tie as tie
@@ -20,29 +20,51 @@ Inv-loop n latches outputs gates scratch₀ number bytes at₀ k₀ scratch at k
 abbrev μ-loop : tie.MeasureT-loop
 μ-loop n latches outputs gates scratch₀ number bytes at₀ k₀ scratch at k = number - k
 
--- back to the start from a turn; the vector of the turn, and the room in scratch
+-- back to the start from a turn; the turn's vector, and the room in scratch
 abbrev start : tie.In-loop Inv-loop μ-loop → tie.Start Inv-loop μ-loop
-start c = c .before .before .before .before .before .before .before
+start q = q .before .before .before .before .before .before .before
 
-ends : (c : tie.In-loop Inv-loop μ-loop) → c .before .loop .at + start c .args .n .I ≤ length (start c .args .bytes .now)
-ends c =
-    let s = start c in
-    let w = c .before .loop in
-    vector-ends (s .pre .0 .runs) (s .args .number) (s .args .bytes .now) (s .pre .1) (w .k) (w .at) (c .loop-test .taken) (w .inv .1)
+turn : (q : tie.In-loop Inv-loop μ-loop)
+    → Turn (start q .args .n) (start q .args .number) (start q .args .bytes .now) (q .before .loop .k) (q .before .loop .at)
+turn q = record { whole = start q .pre .1; here = q .before .loop .inv .1; more = q .loop-test .taken }
 
-room : (c : tie.In-loop Inv-loop μ-loop) → Scratch (start c .args .n) (c .before .loop .scratch)
-room c = omega (arith, start c .pre .0 .scratch-long, c .before .loop .inv .2)
+room : (q : tie.In-loop Inv-loop μ-loop) → Scratch (start q .args .n) (q .before .loop .scratch)
+room q = omega (arith, start q .pre .0 .scratch-long, q .before .loop .inv .2)
 
-only : (at each : ℕ) → at + each - at ≡ each
-only at each = omega arith
+-- the table after the load, and after the step
+abbrev loaded : tie.After-scratch2 Inv-loop μ-loop → tie.After-scratch Inv-loop μ-loop
+loaded b = b .before .before .before .before
+
+abbrev turning : tie.After-scratch Inv-loop μ-loop → tie.In-loop Inv-loop μ-loop
+turning a = a .before .before .before .before .before
+
+same : (b : tie.After-scratch2 Inv-loop μ-loop)
+    → length (b .before .step-values .last .1 .1 .1 .1 .0) ≡ length (start (turning (loaded b)) .args .scratch .now)
+same b = b .scratch2 .given ∙ loaded b .scratch .given ∙ turning (loaded b) .before .loop .inv .2
+
+-- what the step leaves
+after : (b : tie.After-scratch2 Inv-loop μ-loop) (inputs : List ℕ)
+    → let q = turning (loaded b) in
+    let x = start q .args in
+    (r : Runs (x .n) inputs (x .latches .now) (x .outputs .now) (x .gates .now))
+    → Stepped (x .n) (circuitIn (x .n) inputs (x .latches .now) (x .outputs .now) (x .gates .now)) (q .before .loop .inv .3 inputs r .state)
+    (vectorOf (turn q)) (b .before .step-values .last .1 .1 .1 .1 .0)
+after b inputs r =
+    let q = turning (loaded b) in
+    b .before .step-values .ensures inputs _ _ r
+    (vector-stands (turn q) r (room q) (q .before .loop .inv .3 inputs r) (loaded b .before .load .ensures))
 
 loop-holds : tie.Need-loop-holds Inv-loop μ-loop
 loop-holds c =
-    let s = c .before .before .before .before .before in
-    (omega arith, sym (mul-zero (s .args .n .I)), refl, λ inputs r. going-first r (s .args .number) (s .args .bytes .now) (s .args .scratch .now) (s .pre .0))
+    let s = c .before .before .before .before .before in (
+      omega arith,
+      sym (mul-zero (s .args .n .I)),
+      refl,
+      λ inputs r. going-first r (s .args .number) (s .args .bytes .now) (s .args .scratch .now) (s .pre .0),
+    )
 
 add-end : tie.Need-add-end Inv-loop μ-loop
-add-end c = omega (arith, ends (c .before))
+add-end c = omega (arith, vector-ends (turn (c .before)))
 
 sub-load : tie.Need-sub-load Inv-loop μ-loop
 sub-load c = search needs
@@ -51,47 +73,38 @@ part-load-start : tie.Need-part-load-start Inv-loop μ-loop
 part-load-start c = search needs
 
 part-load-end : tie.Need-part-load-end Inv-loop μ-loop
-part-load-end c = omega (arith, ends (c .before))
+part-load-end c = omega (arith, vector-ends (turn (c .before)))
 
 load-requires : tie.Need-load-requires Inv-loop μ-loop
 load-requires c κs =
-    let i = c .before .before .before in
-    let w = i .before .loop in
-    let s = start i in
-    omega (
-      arith,
-      part-short (w .at + s .args .n .I - w .at) (drop (w .at) (s .args .bytes .now)),
-      room i,
-      s .pre .0 .runs .fits .sum,
-    )
+    let q = c .before .before .before in
+    let at = q .before .loop .at in
+    let s = start q in
+    omega (arith, part-short (at + s .args .n .I - at) (drop at (s .args .bytes .now)), room q, s .pre .0 .runs .fits .sum)
 
 step-values-requires : tie.Need-step-values-requires Inv-loop μ-loop
 step-values-requires c κs =
-    let i = c .before .before .before .before .before .before .before in
-    let b = start i .pre .0 in
-    let w = i .before .loop in
-    vector-ready (b .runs) (start i .args .number) (start i .args .bytes .now) (start i .pre .1) (w .k) (w .at) (i .loop-test .taken) (w .inv .1)
-    (room i) (w .inv .3 (b .inputs) (b .runs)) _ (only (w .at) (start i .args .n .I)) (c .before .before .before .load .ensures) (c .before .before .scratch .given)
+    let a = c .before .before in
+    let q = turning a in
+    let b = start q .pre .0 in
+    vector-ready (turn q) (b .runs) (room q) (q .before .loop .inv .3 (b .inputs) (b .runs)) (a .before .load .ensures) (a .scratch .given)
 
 add-any-one : tie.Need-add-any-one Inv-loop μ-loop
-add-any-one c = omega (arith, start (c .before .before .before .before .before .before .before .before .before .before .before .before) .pre .0 .runs .fits .most-M)
+add-any-one c = omega (arith, start (turning (loaded (c .before .before .before))) .pre .0 .runs .fits .most-M)
 
 any-one-requires : tie.Need-any-one-requires Inv-loop μ-loop
-any-one-requires c κs = omega (arith, room (c .before .before .before .before .before .before .before .before .before .before .before .before), c .before .before .before .scratch2 .given, c .before .before .before .before .before .before .before .scratch .given)
+any-one-requires c κs =
+    let b = c .before .before .before in
+    omega (arith, start (turning (loaded b)) .pre .0 .scratch-long, same b)
 
 same-length : tie.Need-same-length Inv-loop μ-loop
-same-length c = c .before .before .before .before .before .scratch2 .given ∙ c .before .before .before .before .before .before .before .before .before .scratch .given ∙ c .before .before .before .before .before .before .before .before .before .before .before .before .before .before .before .loop .inv .2
+same-length c = same (c .before .before .before .before .before)
 
 returns : tie.Need-returns Inv-loop μ-loop
 returns c = λ inputs r.
-    let i = c .before .before .before .before .before .before .before .before .before .before .before .before .before .before in
-    let s = start i in
-    let w = i .before .loop in
-    let g = w .inv .3 inputs r in
-    let stands = vector-stands r (s .args .number) (s .args .bytes .now) (s .pre .1) (w .k) (w .at) (i .loop-test .taken) (w .inv .1) (room i) g _
-    (only (w .at) (s .args .n .I)) (c .before .before .before .before .before .before .before .before .before .before .load .ensures) in
-    found-one r (s .args .number) (s .args .bytes .now) (s .pre .1) (w .k) (w .at) (i .loop-test .taken) (w .inv .1) (room i) g
-    (c .before .before .before .before .before .before .step-values .ensures inputs _ _ r stands) _ (c .before .any-one .ensures) (c .if1 .taken)
+    let b = c .before .before .before .before .before in
+    let q = turning (loaded b) in
+    found-one (turn q) r (room q) (q .before .loop .inv .3 inputs r) (after b inputs r) _ (c .before .any-one .ensures) (c .if1 .taken)
 
 add-k : tie.Need-add-k Inv-loop μ-loop
 add-k c = search needs
@@ -101,18 +114,13 @@ loop-less c = search needs
 
 loop-again : tie.Need-loop-again Inv-loop μ-loop
 loop-again c =
-    let i = c .before .before .before .before .before .before .before .before .before .before .before .before .before .before in
-    let s = start i in
-    let w = i .before .loop in (
+    let b = c .before .before .before .before .before in
+    let q = turning (loaded b) in
+    let w = q .before .loop in (
       omega arith,
-      next-row (s .args .n .I) (w .k) (w .at) (w .inv .1),
-      c .before .before .before .before .before .scratch2 .given ∙ c .before .before .before .before .before .before .before .before .before .scratch .given ∙ w .inv .2,
-      λ inputs r.
-          let g = w .inv .3 inputs r in
-          let stands = vector-stands r (s .args .number) (s .args .bytes .now) (s .pre .1) (w .k) (w .at) (i .loop-test .taken) (w .inv .1) (room i) g _
-          (only (w .at) (s .args .n .I)) (c .before .before .before .before .before .before .before .before .before .before .load .ensures) in
-          going-on r (s .args .number) (s .args .bytes .now) (s .pre .1) (w .k) (w .at) (i .loop-test .taken) (w .inv .1) (room i) g
-          (c .before .before .before .before .before .before .step-values .ensures inputs _ _ r stands) _ (c .before .any-one .ensures) (c .if1 .left),
+      next-row (start q .args .n .I) (w .k) (w .at) (w .inv .1),
+      same b,
+      λ inputs r. going-on (turn q) r (room q) (w .inv .3 inputs r) (after b inputs r) _ (c .before .any-one .ensures) (c .if1 .left),
     )
 
 same-length-2 : tie.Need-same-length-2 Inv-loop μ-loop
