@@ -31,8 +31,8 @@ fn step_vectors(
     requires { ⌜ Blank n (now latches) (now outputs) (now gates) (now scratch) ⌝ }
     requires { ⌜ Vectors n (now state) (now ins) (now outs) ⌝ }
     ensures { λ _. ⌜ ((inputs : List ℕ) → Runs n inputs (now (latches .entry)) (now (outputs .entry)) (now (gates .entry))
-        → Leaves (circuitIn n inputs (now (latches .entry)) (now (outputs .entry)) (now (gates .entry))) (now (state .entry)) (now (ins .entry))
-        (now (state .exit)) (now (outs .exit))) ⌝ }
+        → Leaves (circuitIn n inputs (now (latches .entry)) (now (outputs .entry)) (now (gates .entry)))
+        (now (state .entry)) (now (ins .entry)) (now (state .exit)) (now (outs .exit))) ⌝ }
 {
     load(state, 1 + n.I, scratch);
     load(ins, 1, scratch);
@@ -55,7 +55,21 @@ pub fn step(
     outs: &mut [u8],
 ) -> Stepped
     ensures { λ r. ⌜ Says step
-        (record { circuit = (record { counts = n; tables = (record { inputs = now (inputs .entry); latches = now (latches .entry); outputs = now (outputs .entry); gates = now (gates .entry) }); scratch = now (scratch .entry) }); state = now (state .entry); inputs = now (ins .entry); outputs = now (outs .entry) })
+        (record {
+          circuit = (record {
+            counts = n;
+            tables = (record {
+              inputs = now (inputs .entry);
+              latches = now (latches .entry);
+              outputs = now (outputs .entry);
+              gates = now (gates .entry);
+            });
+            scratch = now (scratch .entry);
+          });
+          state = now (state .entry);
+          inputs = now (ins .entry);
+          outputs = now (outs .entry);
+        })
         (record { answer = r; scratch = now (scratch .exit); state = now (state .exit); outputs = now (outs .exit) }) ⌝ }
 {
     match check_in_order(n, inputs, latches, outputs, gates, scratch) {

@@ -32,7 +32,8 @@ fn shows_one(
     requires { ⌜ Blank n (now latches) (now outputs) (now gates) (now scratch) ⌝ }
     requires { ⌜ length (now bytes) ≡ number * n .I ⌝ }
     ensures { λ r. ⌜ ((inputs : List ℕ) → Runs n inputs (now (latches .entry)) (now (outputs .entry)) (now (gates .entry))
-        → r ≡ witnessed (circuitIn n inputs (now (latches .entry)) (now (outputs .entry)) (now (gates .entry))) number (now (bytes .entry))) ⌝ }
+        → r ≡ witnessed (circuitIn n inputs (now (latches .entry)) (now (outputs .entry)) (now (gates .entry))) number
+        (now (bytes .entry))) ⌝ }
 {
     let mut at = 0;
     let mut k = 0;
@@ -62,7 +63,20 @@ pub fn witness(
     bytes: &[u8],
 ) -> Verdict
     ensures { λ r. ⌜ Says witness
-        (record { circuit = (record { counts = n; tables = (record { inputs = now (inputs .entry); latches = now (latches .entry); outputs = now (outputs .entry); gates = now (gates .entry) }); scratch = now (scratch .entry) }); number = number; bytes = now (bytes .entry) })
+        (record {
+          circuit = (record {
+            counts = n;
+            tables = (record {
+              inputs = now (inputs .entry);
+              latches = now (latches .entry);
+              outputs = now (outputs .entry);
+              gates = now (gates .entry);
+            });
+            scratch = now (scratch .entry);
+          });
+          number = number;
+          bytes = now (bytes .entry);
+        })
         (record { answer = r; scratch = now (scratch .exit) }) ⌝ }
 {
     match check_in_order(n, inputs, latches, outputs, gates, scratch) {

@@ -102,8 +102,10 @@ returns-3 c =
     let f = s .before .before .before .before .before in
     let d = f .before .before .before in
     let e = entry (start d) in
-    let zero = c .before .before .clear .ensures ∙ ap (λ (k : ℕ). replicate k 0) (s .scratch2 .given ∙ d .before .before .before .scratch .given) in
-    done-step e _ zero (past-check (e .circuit) (stepStage e) (says d) (told d)) (no-table _ _ (f .if1 .left) (f .before .bad-vector .ensures)) _ _
+    let same = s .scratch2 .given ∙ d .before .before .before .scratch .given in
+    let zero = c .before .before .clear .ensures ∙ ap (λ (k : ℕ). replicate k 0) same in
+    done-step e _ zero (past-check (e .circuit) (stepStage e) (says d) (told d))
+    (no-table _ _ (f .if1 .left) (f .before .bad-vector .ensures)) _ _
     (s .before .step-vectors .ensures (e .circuit .tables .inputs) (runs (e .circuit) (stepStage e) (says d) (told d)))
 
 pub step-spec : {M : Type 1} → statement M

@@ -92,8 +92,8 @@ returns c = λ inputs r.
     let b = second d in
     let a = first b in
     let n = start a .args in
-    stored (start a .pre .0) (start a .pre .1) (a .before .load .ensures) (a .scratch .given) (b .before .load2 .ensures) (b .scratch2 .given)
-    (circuitIn (n .n) inputs (n .latches .now) (n .outputs .now) (n .gates .now)) _ _ _
+    stored (start a .pre .0) (start a .pre .1) (a .before .load .ensures) (a .scratch .given) (b .before .load2 .ensures)
+    (b .scratch2 .given) (circuitIn (n .n) inputs (n .latches .now) (n .outputs .now) (n .gates .now)) _ _ _
     (d .before .step-values .ensures inputs _ _ r (stand b)) (f .before .store .ensures) (c .before .before .store2 .ensures)
 
 pub step-vectors-spec : {M : Type 1} → statement M

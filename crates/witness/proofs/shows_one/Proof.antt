@@ -15,7 +15,8 @@ use Rattle.witness.proofs.shows_one.Tie as tie
 abbrev Inv-loop : tie.InvT-loop
 Inv-loop n latches outputs gates scratch₀ number bytes at₀ k₀ scratch at k =
     (k ≤ number) × (at ≡ n .I * k) × (length scratch ≡ length scratch₀)
-    × ((inputs : List ℕ) → Runs n inputs latches outputs gates → Going n (circuitIn n inputs latches outputs gates) number bytes scratch k at)
+    × ((inputs : List ℕ) → Runs n inputs latches outputs gates
+    → Going n (circuitIn n inputs latches outputs gates) number bytes scratch k at)
 
 abbrev μ-loop : tie.MeasureT-loop
 μ-loop n latches outputs gates scratch₀ number bytes at₀ k₀ scratch at k = number - k

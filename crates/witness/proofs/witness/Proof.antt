@@ -5,6 +5,8 @@ use borrow.Author.Tests.{not-true, not-false}
 use lib.ListN.{replicate}
 use Rattle.plan.specs.declared.Checked.the-variants.{Good}
 use Rattle.plan.specs.Circuit.{cleared}
+use Rattle.plan.specs.Step.{witnessed}
+use Rattle.plan.specs.Given.{given}
 use Rattle.plan.specs.Outcome.{CheckExit, WitnessEntry, checkInOrder, listStage}
 use Rattle.vectors.proofs.Places.{codesIn}
 use Rattle.step.proofs.Checks.{blank-is, refused-by, past-check, runs, blank}
@@ -31,20 +33,42 @@ entry s =
 abbrev start : tie.After-enum-told → tie.Start
 start d = d .before .before .before .before .before .before .before .before .before .before .before .before
 
-told : (d : tie.After-enum-told) → d .before .before .before .before .check-in-order .result ≡ Good
+abbrev checked : tie.After-enum-told → tie.After-check-in-order
+checked d = d .before .before .before .before
+
+told : (d : tie.After-enum-told) → checked d .check-in-order .result ≡ Good
 told d = d .enum-told .given .1
 
 says : (d : tie.After-enum-told)
-    → _≡_ {A = CheckExit} (record { answer = d .before .before .before .before .check-in-order .result; scratch = d .before .before .before .before .check-in-order .last .1 .1 .1 .1 .1 .0 })
-    (checkInOrder (entry (start d) .circuit))
-says d = d .before .before .before .before .check-in-order .ensures
+    → let x = checked d .check-in-order in
+    _≡_ {A = CheckExit} (record { answer = x .result; scratch = x .last .1 .1 .1 .1 .1 .0 }) (checkInOrder (entry (start d) .circuit))
+says d = checked d .check-in-order .ensures
 
--- the list is good, and scratch is zero at the end
-whole-told : (c : tie.Else1) → let e = entry (start (c .before .before)) in codesIn (e .bytes) (e .number * e .circuit .counts .I) ≡ true
-whole-told c = sym (c .before .whole-list .ensures) ∙ not-false _ (c .if1 .left)
+-- the list is good
+whole-told : (f : tie.Else1) → let e = entry (start (f .before .before)) in codesIn (e .bytes) (e .number * e .circuit .counts .I) ≡ true
+whole-told f = sym (f .before .whole-list .ensures) ∙ not-false _ (f .if1 .left)
 
-zero : (c : tie.After-slice-known4) → c .before .before .clear .last .0 ≡ cleared (start (c .before .before .before .before .before .before .before .before .before .before) .args .scratch .now)
-zero c = c .before .before .clear .ensures ∙ ap (λ (k : ℕ). replicate k 0) (c .before .before .before .before .before .scratch2 .given ∙ c .before .before .before .before .before .before .before .before .before .before .before .before .before .scratch .given)
+-- back from where the list is stepped, and from where scratch is cleared
+abbrev listed : tie.After-scratch2 → tie.Else1
+listed s = s .before .before .before
+
+abbrev stepped : tie.After-scratch3 → tie.After-scratch2
+stepped z = z .before .before .before .before
+
+abbrev good : tie.After-scratch2 → tie.After-enum-told
+good s = listed s .before .before
+
+zero : (z : tie.After-scratch3) → z .before .clear .last .0 ≡ cleared (start (good (stepped z)) .args .scratch .now)
+zero z =
+    let s = stepped z in
+    z .before .clear .ensures ∙ ap (λ (k : ℕ). replicate k 0) (s .scratch2 .given ∙ good s .before .before .before .scratch .given)
+
+shown : (s : tie.After-scratch2)
+    → let e = entry (start (good s)) in s .before .shows-one .result ≡ witnessed (given (e .circuit)) (e .number) (e .bytes)
+shown s =
+    let d = good s in
+    let e = entry (start d) in
+    s .before .shows-one .ensures (e .circuit .tables .inputs) (runs (e .circuit) (listStage e) (says d) (told d))
 
 check-in-order-requires : tie.Need-check-in-order-requires
 check-in-order-requires c κs = search needs
@@ -82,31 +106,34 @@ same-length-2 c = search needs
 
 returns-2 : tie.Need-returns-2
 returns-2 c =
-    let f = c .before in
-    let d = f .before .before .before .before .before .before .before .before .before .before in
+    let z = c .before .before in
+    let s = stepped z in
+    let d = good s in
     let e = entry (start d) in
-    yes-witness e _ (zero f) (past-check (e .circuit) (listStage e) (says d) (told d)) (whole-told (f .before .before .before .before .before .before .before .before))
-    (sym (c .if2 .taken) ∙ f .before .before .before .before .before .before .shows-one .ensures (e .circuit .tables .inputs) (runs (e .circuit) (listStage e) (says d) (told d)))
+    yes-witness e _ (zero z) (past-check (e .circuit) (listStage e) (says d) (told d)) (whole-told (listed s))
+    (sym (c .if2 .taken) ∙ shown s)
 
 same-length-3 : tie.Need-same-length-3
 same-length-3 c = search needs
 
 returns-3 : tie.Need-returns-3
 returns-3 c =
-    let e = entry (c .before .before .before .before .before .before .before .before .before .before .before .before .before) in
-    let check = c .before .before .before .before .before .check-in-order .ensures in
-    refused-witness e _ (blank-is (e .circuit) (listStage e) check) _ (refused-by (e .circuit) (listStage e) check _ (c .before .refusal .given .1))
+    let x = c .before .before .before .before .before in
+    let e = entry (x .before .before .before .before .before .before .before .before) in
+    refused-witness e _ (blank-is (e .circuit) (listStage e) (x .check-in-order .ensures)) _
+    (refused-by (e .circuit) (listStage e) (x .check-in-order .ensures) _ (c .before .refusal .given .1))
 
 same-length-4 : tie.Need-same-length-4
 same-length-4 c = search needs
 
 returns-4 : tie.Need-returns-4
 returns-4 c =
-    let f = c .before in
-    let d = f .before .before .before .before .before .before .before .before .before .before in
+    let z = c .before .before in
+    let s = stepped z in
+    let d = good s in
     let e = entry (start d) in
-    no-witness e _ (zero f) (past-check (e .circuit) (listStage e) (says d) (told d)) (whole-told (f .before .before .before .before .before .before .before .before))
-    (sym (c .if2 .left) ∙ f .before .before .before .before .before .before .shows-one .ensures (e .circuit .tables .inputs) (runs (e .circuit) (listStage e) (says d) (told d)))
+    no-witness e _ (zero z) (past-check (e .circuit) (listStage e) (says d) (told d)) (whole-told (listed s))
+    (sym (c .if2 .left) ∙ shown s)
 
 pub witness-spec : {M : Type 1} → statement M
 witness-spec =
