@@ -68,13 +68,14 @@ store-requires c κs =
 add-store-2 : tie.Need-add-store-2
 add-store-2 c =
     let d = c .before .before .before .before .before .before .before .before .before in
-    omega (arith, args (second d) .pre .0 .runs .fits .most-M)
+    let f = args (second d) .pre .0 .runs .fits in
+    omega (arith, f .sum, f .most-M)
 
 store-requires-2 : tie.Need-store-requires-2
 store-requires-2 c κs =
     let d = c .before .before .before .before .before .before .before .before .before .before in
     let p = args (second d) .pre in
-    omega (arith, p .0 .scratch-long, p .1 .outputs-length, same d)
+    omega (arith, p .0 .scratch-long, p .0 .runs .fits .sum, p .1 .outputs-length, same d)
 
 same-length : tie.Need-same-length
 same-length c = search needs

@@ -91,12 +91,15 @@ step-values-requires c κs =
     vector-ready (turn q) (b .runs) (room q) (q .before .loop .inv .3 (b .inputs) (b .runs)) (a .before .load .ensures) (a .scratch .given)
 
 add-any-one : tie.Need-add-any-one Inv-loop μ-loop
-add-any-one c = omega (arith, start (turning (loaded (c .before .before .before))) .pre .0 .runs .fits .most-M)
+add-any-one c =
+    let f = start (turning (loaded (c .before .before .before))) .pre .0 .runs .fits in
+    omega (arith, f .sum, f .most-M)
 
 any-one-requires : tie.Need-any-one-requires Inv-loop μ-loop
 any-one-requires c κs =
     let b = c .before .before .before in
-    omega (arith, start (turning (loaded b)) .pre .0 .scratch-long, same b)
+    let p = start (turning (loaded b)) .pre .0 in
+    omega (arith, p .scratch-long, p .runs .fits .sum, same b)
 
 same-length : tie.Need-same-length Inv-loop μ-loop
 same-length c = same (c .before .before .before .before .before)
