@@ -1,11 +1,8 @@
 -- A literal under its variable's number, as the code makes it: the number doubled, with the literal's sign.
-use Prim.Native.Nat.{ℕ, zero, suc, _+_, _<_, min, max}
+use Prim.Native.Nat.{ℕ, zero, suc, _+_, _<_}
 use mathlib.Core.Path.{_≡_, ap, _∙_}
-use mathlib.Core.Bool.{true, false}
 use mathlib.Core.List.{List}
 use native.Mathlib.Omega.{arith}
-use borrow.Author.Tests.{ltb-true, ltb-false}
-use lib.Dec.{ltb}
 use Rattle.plan.specs.declared.Lit.{Lit}
 use Rattle.plan.specs.Literals.{litOf, signOf, signed, litAt, wordOf, varAt, doubled, signedAs}
 use Rattle.convert.specs.Renumbered.{numberIn, literalBy, Known}
@@ -25,16 +22,3 @@ unfolding literalBy
 by-number t l h =
     let k = numberIn t (wordOf l) in
     ap litAt (ap (signed (signOf (wordOf l))) (double-word k (h .1)) ∙ sign-on k (signOf (wordOf l)) (omega arith))
-
--- the larger and the smaller of two literals
-pub below-larger : (a b : Lit) → ltb (wordOf a) (wordOf b) ≡ true → b ≡ litAt (max (wordOf a) (wordOf b))
-below-larger a b e = let m : wordOf b ≡ max (wordOf a) (wordOf b) = omega (arith, ltb-true (wordOf a) (wordOf b) e) in ap litAt m
-
-pub not-below-larger : (a b : Lit) → ltb (wordOf a) (wordOf b) ≡ false → a ≡ litAt (max (wordOf a) (wordOf b))
-not-below-larger a b e = let m : wordOf a ≡ max (wordOf a) (wordOf b) = omega (arith, ltb-false (wordOf a) (wordOf b) e) in ap litAt m
-
-pub below-smaller : (a b : Lit) → ltb (wordOf b) (wordOf a) ≡ true → b ≡ litAt (min (wordOf a) (wordOf b))
-below-smaller a b e = let m : wordOf b ≡ min (wordOf a) (wordOf b) = omega (arith, ltb-true (wordOf b) (wordOf a) e) in ap litAt m
-
-pub not-below-smaller : (a b : Lit) → ltb (wordOf b) (wordOf a) ≡ false → a ≡ litAt (min (wordOf a) (wordOf b))
-not-below-smaller a b e = let m : wordOf a ≡ min (wordOf a) (wordOf b) = omega (arith, ltb-false (wordOf b) (wordOf a) e) in ap litAt m

@@ -1,7 +1,7 @@
 // Conversion: the same circuit in binary order. Inputs get the variables from 1 on, in list order, latches the next, then gates.
 ghost use mathlib.Core.Path.{_≡_};
 ghost use mathlib.Core.List.{List};
-ghost use Prim.Native.Nat.{ℕ, _+_, _*_, _<_, _≤_, min, max};
+ghost use Prim.Native.Nat.{ℕ, _+_, _*_, _<_, _≤_};
 ghost use lib.ListN.{length};
 ghost use Rattle.plan.specs.Literals.{litAt, wordOf};
 ghost use Rattle.plan.specs.Convert.{convert};
@@ -22,25 +22,6 @@ use plan::Var;
 use tables::Sizes;
 use tables::clear;
 use tables::clear_four;
-
-// The larger right side stands first (AIGER report, section 11).
-fn larger(a: Lit, b: Lit) -> Lit
-    ensures { λ r. ⌜ r ≡ litAt (max (wordOf a) (wordOf b)) ⌝ }
-{
-    if a.below(b) {
-        return b;
-    }
-    a
-}
-
-fn smaller(a: Lit, b: Lit) -> Lit
-    ensures { λ r. ⌜ r ≡ litAt (min (wordOf a) (wordOf b)) ⌝ }
-{
-    if b.below(a) {
-        return b;
-    }
-    a
-}
 
 // The number of a literal's variable.
 fn number_of(t: &[u32], l: Lit) -> u32
@@ -87,8 +68,8 @@ fn place_gate(gates: &[u32], i: usize, first: usize, a: usize, t: &[u32], to: &m
     let rhs1 = renumbered(t, Lit::at(gates[3 * i + 2]));
     let k = 3 * (number as usize - first);
     to[k] = Var::at(number).lit().word();
-    to[k + 1] = larger(rhs0, rhs1).word();
-    to[k + 2] = smaller(rhs0, rhs1).word();
+    to[k + 1] = rhs0.larger(rhs1).word();
+    to[k + 2] = rhs0.smaller(rhs1).word();
 }
 
 // Gates in file order, each to its row, so that they stand in the order of their numbers.

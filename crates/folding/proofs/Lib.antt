@@ -1,5 +1,4 @@
 pub mod Rules
-pub mod Sides
 pub mod Step
 pub mod Loop
 pub mod Lookup

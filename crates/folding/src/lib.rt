@@ -1,7 +1,7 @@
 // One-level folding of gates in binary order (the paper, reduction).
 ghost use mathlib.Core.Path.{_≡_};
 ghost use mathlib.Core.List.{_++_};
-ghost use Prim.Native.Nat.{_+_, _<_, _≤_, min, max};
+ghost use Prim.Native.Nat.{_+_, _<_, _≤_};
 ghost use lib.ListN.{length, drop};
 ghost use Rattle.plan.specs.Literals.{most, litAt, wordOf, varOf};
 ghost use Rattle.plan.specs.Binary.{litsFrom};
@@ -17,24 +17,6 @@ use twins::Place;
 enum Rule {
     Gives(u32),
     Open,
-}
-
-fn larger(a: Lit, b: Lit) -> Lit
-    ensures { λ r. ⌜ r ≡ litAt (max (wordOf a) (wordOf b)) ⌝ }
-{
-    if a.below(b) {
-        return b;
-    }
-    a
-}
-
-fn smaller(a: Lit, b: Lit) -> Lit
-    ensures { λ r. ⌜ r ≡ litAt (min (wordOf a) (wordOf b)) ⌝ }
-{
-    if a.below(b) {
-        return a;
-    }
-    b
 }
 
 // What a literal became, where the table's words are what the variables became.
@@ -82,7 +64,7 @@ fn stand_in(a: Lit, b: Lit, gates: &[u32], scratch: &[u32], w: usize, n: usize) 
 {
     match by_sides(a, b) {
         Rule::Gives(l) => Place::Taken(l),
-        Rule::Open => twins::find(gates, scratch, w, n, larger(a, b), smaller(a, b)),
+        Rule::Open => twins::find(gates, scratch, w, n, a.larger(b), a.smaller(b)),
     }
 }
 
@@ -109,7 +91,7 @@ fn fold_gate(
         }
         Place::Free(slot) => {
             let l = Var::at((base + n) as u32).lit();
-            twins::hang(to, scratch, slot, n, l, larger(a, b), smaller(a, b));
+            twins::hang(to, scratch, slot, n, l, a.larger(b), a.smaller(b));
             scratch[base + k] = l.word();
             return n + 1;
         }

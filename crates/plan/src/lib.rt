@@ -1,7 +1,7 @@
 // The vocabulary: variables and literals, counts, classes of bytes, refusals and answers.
 // What each of them means stands in specs/, in the paper's order.
 ghost use mathlib.Core.Path.{_≡_};
-ghost use Prim.Native.Nat.{_-_};
+ghost use Prim.Native.Nat.{_-_, max, min};
 ghost use lib.Dec.{ltb};
 ghost use Rattle.plan.specs.Refusals.{numberOf, placeOf};
 ghost use Rattle.plan.specs.Literals.{litAt, wordOf, halved, signOf, negated, signedAs, inRange, varAt, indexOf, doubled};
@@ -97,6 +97,29 @@ impl Lit {
         ensures { λ r. ⌜ r ≡ ltb (wordOf self) (wordOf other) ⌝ }
     {
         self.0 < other.0
+    }
+
+    // The larger right side of a gate stands first (AIGER report, section 11).
+    pub fn larger(self, other: Lit) -> Lit
+        ensures { λ r. ⌜ r ≡ litAt (max (wordOf self) (wordOf other)) ⌝ }
+    {
+        let a = self.0;
+        let b = other.0;
+        if a < b {
+            return Lit(b);
+        }
+        Lit(a)
+    }
+
+    pub fn smaller(self, other: Lit) -> Lit
+        ensures { λ r. ⌜ r ≡ litAt (min (wordOf self) (wordOf other)) ⌝ }
+    {
+        let a = self.0;
+        let b = other.0;
+        if a < b {
+            return Lit(a);
+        }
+        Lit(b)
     }
 
     // The difference of two literals, 0 where the other is larger (AIGER report, section 11).

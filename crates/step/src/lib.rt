@@ -6,6 +6,7 @@ ghost use Rattle.plan.specs.Outcome.{Says, step};
 ghost use Rattle.tables.specs.Held.{circuitIn};
 ghost use Rattle.sweep.specs.Running.{Runs};
 ghost use Rattle.step.specs.Asked.{Blank, Vectors, Leaves};
+use codes::bad_vector;
 use given::check_in_order;
 use plan::Checked;
 use plan::Counts;
@@ -15,7 +16,6 @@ use sweep::step_values;
 use tables::clear;
 use values::load;
 use values::store;
-use vectors::bad_vector;
 
 // A step whose tables and vectors are good.
 fn step_vectors(

@@ -17,7 +17,7 @@ use Rattle.plan.specs.Step.{witnessed}
 use Rattle.plan.specs.Given.{given}
 use Rattle.plan.specs.Outcome.{WitnessEntry, WitnessExit, allCodes, vector, listStage, verdictBy, witness}
 use Rattle.theorems.proofs.Reading.Common.{and-left}
-use Rattle.vectors.proofs.Places.{codesIn}
+use Rattle.codes.proofs.Places.{codesIn}
 use Rattle.step.proofs.Checks.{answer}
 
 module _ (e : WitnessEntry) where

@@ -8,6 +8,7 @@ ghost use Rattle.plan.specs.Outcome.{Says, witness};
 ghost use Rattle.tables.specs.Held.{circuitIn};
 ghost use Rattle.sweep.specs.Running.{Runs};
 ghost use Rattle.step.specs.Asked.{Blank};
+use codes::whole_list;
 use given::check_in_order;
 use plan::Checked;
 use plan::Counts;
@@ -17,7 +18,6 @@ use sweep::step_values;
 use tables::clear;
 use values::any_one;
 use values::load;
-use vectors::whole_list;
 
 // Whether a list, whose bytes are good, shows 1 on some output. Between two steps the state stays in scratch, and the first 1 ends it.
 fn shows_one(

@@ -8,7 +8,7 @@ use Rattle.plan.specs.Circuit.{cleared}
 use Rattle.plan.specs.Step.{witnessed}
 use Rattle.plan.specs.Given.{given}
 use Rattle.plan.specs.Outcome.{CheckExit, WitnessEntry, checkInOrder, listStage}
-use Rattle.vectors.proofs.Places.{codesIn}
+use Rattle.codes.proofs.Places.{codesIn}
 use Rattle.step.proofs.Checks.{blank-is, refused-by, past-check, runs, blank}
 use Rattle.witness.proofs.Verdicts.{good-list, refused-witness, refused-list, yes-witness, no-witness}
 use borrow.Author.Needs.{needs}

@@ -2,10 +2,10 @@ use lib.Dec.{eqb}
 use mathlib.Core.Path.{_≡_, sym, _∙_}
 use mathlib.Core.Bool.{true}
 use borrow.Author.Tests.{not-true, not-false, eq-eqb, ne-eqb}
-use Rattle.vectors.proofs.Places.{codesIn, bad-state, bad-inputs, bad-outputs, none-bad}
+use Rattle.codes.proofs.Places.{codesIn, bad-state, bad-inputs, bad-outputs, none-bad}
 use borrow.Author.Needs.{needs}
-use Rattle.vectors.proofs.bad_vector.Statement.{statement}
-use Rattle.vectors.proofs.bad_vector.Tie as tie
+use Rattle.codes.proofs.bad_vector.Statement.{statement}
+use Rattle.codes.proofs.bad_vector.Tie as tie
 
 -- past the first test the state is good, past the second the inputs are
 good-state : (c : tie.Else1) → let a = c .before .before .before .before .args in codesIn (a .state .now) (a .n .L) ≡ true

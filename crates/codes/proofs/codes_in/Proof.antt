@@ -1,7 +1,7 @@
 use borrow.Author.Tests.{eq-eqb, ne-eqb}
 use borrow.Author.Needs.{needs}
-use Rattle.vectors.proofs.codes_in.Statement.{statement}
-use Rattle.vectors.proofs.codes_in.Tie as tie
+use Rattle.codes.proofs.codes_in.Statement.{statement}
+use Rattle.codes.proofs.codes_in.Tie as tie
 
 returns : tie.Need-returns
 returns c = simp (ne-eqb _ _ (c .if1 .taken))

@@ -1,8 +1,8 @@
 use native.Mathlib.Omega.{arith}
-use Rattle.vectors.proofs.Products.{none-each, other-number, rest-decides}
+use Rattle.codes.proofs.Products.{none-each, other-number, rest-decides}
 use borrow.Author.Needs.{needs}
-use Rattle.vectors.proofs.product_is.Statement.{statement}
-use Rattle.vectors.proofs.product_is.Tie as tie
+use Rattle.codes.proofs.product_is.Statement.{statement}
+use Rattle.codes.proofs.product_is.Tie as tie
 
 returns : tie.Need-returns
 returns c = none-each _ (c .before .args .number) _ (c .if1 .taken)

@@ -6,10 +6,10 @@ use lib.ListN.{length, getD, drop}
 use Rattle.plan.specs.Step.{isCode}
 use Rattle.plan.specs.Outcome.{allCodes}
 use Rattle.sequence.proofs.Steps.{test-fails, test-passes}
-use Rattle.vectors.proofs.Codes.{codes-turn, codes-end}
+use Rattle.codes.proofs.Codes.{codes-turn, codes-end}
 use borrow.Author.Needs.{needs}
-use Rattle.vectors.proofs.all_codes.Statement.{statement}
-use Rattle.vectors.proofs.all_codes.Tie as tie
+use Rattle.codes.proofs.all_codes.Statement.{statement}
+use Rattle.codes.proofs.all_codes.Tie as tie
 
 abbrev Inv-loop : tie.InvT-loop
 Inv-loop bytes i₀ i = (i ≤ length bytes) × (allCodes bytes ≡ allCodes (drop i bytes))

@@ -1,6 +1,6 @@
 use borrow.Author.Tests.{eq-eqb, ne-eqb}
-use Rattle.vectors.proofs.is_code.Statement.{statement}
-use Rattle.vectors.proofs.is_code.Tie as tie
+use Rattle.codes.proofs.is_code.Statement.{statement}
+use Rattle.codes.proofs.is_code.Tie as tie
 
 returns : tie.Need-returns
 returns c = simp (eq-eqb _ _ (c .if1 .taken))

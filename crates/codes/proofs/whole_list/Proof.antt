@@ -1,8 +1,8 @@
 use mathlib.Core.Path.{refl, sym, _∙_}
 use Rattle.sequence.proofs.Steps.{test-fails, test-passes}
 use borrow.Author.Needs.{needs}
-use Rattle.vectors.proofs.whole_list.Statement.{statement}
-use Rattle.vectors.proofs.whole_list.Tie as tie
+use Rattle.codes.proofs.whole_list.Statement.{statement}
+use Rattle.codes.proofs.whole_list.Tie as tie
 
 product-is-requires : tie.Need-product-is-requires
 product-is-requires c κs = search needs

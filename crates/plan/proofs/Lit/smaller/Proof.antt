@@ -1,0 +1,23 @@
+use Prim.Native.Nat.{min}
+use mathlib.Core.Path.{_≡_, ap}
+use native.Mathlib.Omega.{arith}
+use Rattle.plan.specs.Literals.{litAt, wordOf}
+use Rattle.plan.proofs.Lit.smaller.Statement.{statement}
+use Rattle.plan.proofs.Lit.smaller.Tie as tie
+
+returns : tie.Need-returns
+returns c =
+    let a = wordOf (c .before .args .self) in
+    let b = wordOf (c .before .args .other) in
+    let m : a ≡ min a b = omega (arith, c .if1 .taken) in
+    ap litAt m
+
+returns-2 : tie.Need-returns-2
+returns-2 c =
+    let a = wordOf (c .before .args .self) in
+    let b = wordOf (c .before .args .other) in
+    let m : b ≡ min a b = omega (arith, c .if1 .left) in
+    ap litAt m
+
+pub smaller-spec : {M : Type 1} → statement M
+smaller-spec = tie.close (tie.spec returns returns-2)
