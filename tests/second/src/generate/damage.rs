@@ -2,7 +2,7 @@
 
 mod differences;
 mod marks;
-mod numbers;
+pub mod numbers;
 mod tail;
 
 use super::draft::{Draft, Layout};

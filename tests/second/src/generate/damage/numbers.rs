@@ -176,14 +176,9 @@ pub fn undefined_and_cycle(random: &mut Random, circuit: &Circuit, draft: &mut D
     undefined(random, circuit, draft)
 }
 
-/// A gate is made to depend on itself, at once or through those that depend on it.
-pub fn cycle(random: &mut Random, circuit: &Circuit, draft: &mut Draft) -> Option<Harm> {
+/// A gate and the side whose literal makes it depend on itself, at once or through those that depend on it, and the circuit with it.
+pub fn closed(random: &mut Random, circuit: &Circuit) -> (usize, usize, Circuit) {
     let a = circuit.gates.len();
-    let first_line = draft.lines.len().checked_sub(a)?;
-    // The closure is slow, and a long file shows nothing more.
-    if a == 0 || a > 300 || draft.is_binary() {
-        return None;
-    }
     let depends = naive::depends(circuit);
     let gate = random.below(a);
     let mut ends: Vec<usize> = (0..a).filter(|&k| depends[k][gate]).collect();
@@ -194,6 +189,18 @@ pub fn cycle(random: &mut Random, circuit: &Circuit, draft: &mut Draft) -> Optio
     let side = random.between(1, 2);
     let mut cyclic = circuit.clone();
     cyclic.gates[gate][side] = circuit.gates[end][0] + random.below(2) as u32;
+    (gate, side, cyclic)
+}
+
+/// A gate is made to depend on itself.
+pub fn cycle(random: &mut Random, circuit: &Circuit, draft: &mut Draft) -> Option<Harm> {
+    let a = circuit.gates.len();
+    let first_line = draft.lines.len().checked_sub(a)?;
+    // The closure is slow, and a long file shows nothing more.
+    if a == 0 || a > 300 || draft.is_binary() {
+        return None;
+    }
+    let (gate, side, cyclic) = closed(random, circuit);
     *draft.lines[first_line + gate].get_mut(side)? = digits(cyclic.gates[gate][side]);
     harm(8, Spot::Exactly(naive::first_on_cycle(&cyclic)?))
 }

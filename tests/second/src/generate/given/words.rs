@@ -3,6 +3,7 @@
 use super::{refusal, Damage};
 use crate::aiger::tables::Given;
 use crate::aiger::{literal, variable, Circuit, Refusal, MOST};
+use crate::generate::damage::numbers::closed;
 use crate::naive;
 use crate::random::Random;
 use std::collections::HashSet;
@@ -110,23 +111,14 @@ pub fn undefined_and_cycle(random: &mut Random, circuit: &Circuit, given: &mut G
     undefined(random, circuit, given)
 }
 
-/// A gate is made to depend on itself, at once or through those that depend on it.
+/// A gate is made to depend on itself.
 pub fn cycle(random: &mut Random, circuit: &Circuit, given: &mut Given) -> Option<Refusal> {
     let a = circuit.gates.len();
     // The closure is slow, and many gates show nothing more.
     if a == 0 || a > 300 {
         return None;
     }
-    let depends = naive::depends(circuit);
-    let gate = random.below(a);
-    let mut ends: Vec<usize> = (0..a).filter(|&k| depends[k][gate]).collect();
-    if ends.is_empty() || random.once_in(4) {
-        ends.push(gate);
-    }
-    let end = *random.pick(&ends);
-    let side = random.between(1, 2);
-    let mut cyclic = circuit.clone();
-    cyclic.gates[gate][side] = circuit.gates[end][0] + random.below(2) as u32;
+    let (gate, side, cyclic) = closed(random, circuit);
     set(given, (3, 3 * gate + side), cyclic.gates[gate][side]);
     refusal(8, naive::first_on_cycle(&cyclic)?)
 }
