@@ -1,0 +1,53 @@
+# shellcheck shell=bash disable=SC2034 # what is set here is used where it is sourced
+# For scripts that build C programs over the desk; sourced by bash from the project's root.
+
+give_up() {
+    echo "$0: $1"
+    echo "0 passed, 1 failed"
+    exit 1
+}
+
+# need 'PACKAGE..' COMMAND..: installs the packages unless all the commands are there.
+need() {
+    local packages=$1 missing=() name
+    shift
+    for name in "$@"; do
+        command -v "$name" >/dev/null || missing+=("$name")
+    done
+    [ ${#missing[@]} -eq 0 ] && return
+    export DEBIAN_FRONTEND=noninteractive
+    # shellcheck disable=SC2086 # a list of packages
+    apt-get install -qq -y $packages >/dev/null || {
+        apt-get update -qq && apt-get install -qq -y $packages >/dev/null
+    } || give_up "${missing[*]} missing, and '$packages' can't be installed"
+}
+
+# Sets `compiler` and `emulator` (with a space after it, or empty): the archive's code is x86-64's, so that another machine
+# needs a cross compiler and an emulator.
+choose_compiler() {
+    if [ "$(uname -m)" = x86_64 ]; then
+        need "gcc libc6-dev" gcc
+        compiler=gcc
+        emulator=
+    else
+        need "gcc-x86-64-linux-gnu libc6-dev-amd64-cross qemu-user" x86_64-linux-gnu-gcc qemu-x86_64
+        compiler=x86_64-linux-gnu-gcc
+        emulator="qemu-x86_64 "
+    fi
+}
+
+build_archive() {
+    mkdir -p target/desk
+    rt staticlib desk >target/desk/archive.log 2>&1 || {
+        cat target/desk/archive.log
+        give_up "the archive isn't built"
+    }
+}
+
+# build_over_desk NAME SOURCE FLAG..: target/desk/NAME from a C source and the archive.
+build_over_desk() {
+    local name=$1 source=$2
+    shift 2
+    "$compiler" -std=c11 -Wall -Wextra -Werror "$@" -I desk -o "target/desk/$name" "$source" target/staticlib/libdesk.a ||
+        give_up "$source isn't built"
+}
