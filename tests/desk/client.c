@@ -1,0 +1,255 @@
+/* A C program over the desk as the pattern office would write it: asks for the sizes of tables, lends exactly that much,
+   and holds the answers to the worked examples of the paper. Everything lent ends at a page that may not be touched, so
+   that a call which goes past its end is a crash. The last line is 'N passed, M failed'. */
+#define _DEFAULT_SOURCE
+#include <stdint.h>
+#include <stdio.h>
+#include <stdlib.h>
+#include <string.h>
+#include <sys/mman.h>
+
+#include "golvanzo.h"
+
+enum { TABLES = 5, ROOM = 100 };
+
+static int passed, failed;
+
+static void expect(int holds, const char *what, const char *of) {
+    if (holds)
+        passed++;
+    else
+        failed++, printf("%s: %s\n", of, what);
+}
+
+/* Memory of exactly this many bytes, after which a page stands that may not be touched. It is never given back. */
+static void *lend(size_t bytes) {
+    size_t page = 4096, pages = (bytes + page - 1) / page * page;
+    uint8_t *all = mmap(NULL, pages + page, PROT_READ | PROT_WRITE, MAP_PRIVATE | MAP_ANONYMOUS, -1, 0);
+    if (all == MAP_FAILED || mprotect(all + pages, page, PROT_NONE) != 0) {
+        printf("no memory\n0 passed, 1 failed\n");
+        exit(1);
+    }
+    return all + pages - bytes;
+}
+
+struct bytes {
+    uint8_t *at;
+    size_t length;
+};
+
+static struct bytes bytes_of(const char *text, size_t length) {
+    struct bytes b = {lend(length), length};
+    memcpy(b.at, text, length);
+    return b;
+}
+
+/* A file given as a string; sizeof counts the 0 at its end. */
+#define FILE_OF(text) bytes_of(text, sizeof(text) - 1)
+
+/* A circuit in tables, with the scratch as the fifth and the answer of the call that wrote it. */
+struct circuit {
+    uint32_t *table[TABLES];
+    size_t words[TABLES];
+    uint64_t answer[7], tail;
+};
+
+#define TABLE(c, t) (c).table[t], (c).words[t]
+#define FOUR(c) TABLE(c, 0), TABLE(c, 1), TABLE(c, 2), TABLE(c, 3)
+#define COUNTS(c) ((c).answer + 2)
+
+/* The words are not zero before a call, so that the call must make them so. */
+static struct circuit tables_like(const size_t *words) {
+    struct circuit c;
+    for (int t = 0; t < TABLES; t++) {
+        c.words[t] = words[t];
+        c.table[t] = lend(4 * words[t]);
+        memset(c.table[t], 0xA5, 4 * words[t]);
+    }
+    return c;
+}
+
+static struct circuit read_file(struct bytes file) {
+    size_t words[TABLES];
+    for (int t = 0; t < TABLES; t++) {
+        uint64_t asked = golvanzo_words(file.at, file.length, (uint64_t)t + 1);
+        words[t] = asked == UINT64_MAX ? 0 : (size_t)asked;
+    }
+    struct circuit c = tables_like(words);
+    c.tail = golvanzo_read(file.at, file.length, FOUR(c), TABLE(c, 4), c.answer);
+    return c;
+}
+
+static int all_zero(const uint32_t *words, size_t n) {
+    for (size_t k = 0; k < n; k++)
+        if (words[k] != 0)
+            return 0;
+    return 1;
+}
+
+/* What was written as a file of this form: "aag" or "aig". */
+static struct bytes written(struct circuit c, int binary, struct bytes tail) {
+    uint64_t answer[3];
+    struct bytes out = {lend(ROOM), ROOM};
+    if (binary)
+        golvanzo_write_binary(COUNTS(c), FOUR(c), TABLE(c, 4), tail.at, tail.length, out.at, out.length, answer);
+    else
+        golvanzo_write_text(COUNTS(c), FOUR(c), TABLE(c, 4), tail.at, tail.length, out.at, out.length, answer);
+    out.length = answer[0] == 0 ? (size_t)answer[2] : 0;
+    return out;
+}
+
+static int same(struct bytes a, struct bytes b) {
+    return a.length == b.length && memcmp(a.at, b.at, a.length) == 0;
+}
+
+static struct circuit changed(struct circuit c, int reduce) {
+    struct circuit to = tables_like(c.words);
+    if (reduce)
+        golvanzo_reduce(COUNTS(c), FOUR(c), FOUR(to), TABLE(to, 4), to.answer);
+    else
+        golvanzo_convert(COUNTS(c), FOUR(c), FOUR(to), TABLE(to, 4), to.answer);
+    expect(all_zero(to.table[4], to.words[4]), "scratch is zero", reduce ? "reduce" : "convert");
+    return to;
+}
+
+/* The toggle circuit of the AIGER report, as text and as binary. */
+static const char toggle_text[] = "aag 7 2 1 2 4\n2\n4\n6 8\n6\n7\n8 4 10\n10 13 15\n12 2 6\n14 3 7\n";
+static const char toggle_binary[] = "aig 7 2 1 2 4\n14\n6\n7\n\x02\x04\x03\x04\x01\x02\x02\x08";
+
+static void sizes(void) {
+    struct bytes file = FILE_OF(toggle_text);
+    static const uint64_t words[] = {2, 2, 2, 12, 4 * 8 + 2};
+    for (uint64_t t = 1; t <= TABLES; t++)
+        expect(golvanzo_words(file.at, file.length, t) == words[t - 1], "words of a table", "words");
+    expect(golvanzo_words(file.at, file.length, 0) == UINT64_MAX, "no table 0", "words");
+    expect(golvanzo_words(file.at, file.length, 6) == UINT64_MAX, "no table 6", "words");
+    expect(golvanzo_words(NULL, 0, 1) == UINT64_MAX, "an empty file has no header", "words");
+}
+
+static void toggle_both_forms(void) {
+    struct bytes text = FILE_OF(toggle_text), binary = FILE_OF(toggle_binary), none = {NULL, 0};
+    static const uint64_t counts[5] = {7, 2, 1, 2, 4};
+    struct circuit c = read_file(text);
+    expect(c.answer[0] == 0 && c.tail == text.length, "T is read to its end", "read");
+    expect(memcmp(COUNTS(c), counts, sizeof counts) == 0, "T has the counts 7 2 1 2 4", "read");
+    expect(all_zero(c.table[4], c.words[4]), "scratch is zero", "read");
+    expect(same(written(c, 0, none), text), "T is written as it was", "write_text");
+    expect(written(c, 1, none).length == 0, "T is not in binary order", "write_binary");
+    struct circuit to = changed(c, 0);
+    expect(to.answer[0] == 0, "T converts", "convert");
+    expect(same(written(to, 1, none), binary), "T converts to its binary form", "convert");
+    struct circuit again = changed(read_file(binary), 0);
+    expect(same(written(again, 1, none), binary), "binary order is left alone", "convert");
+}
+
+static void tails(void) {
+    struct bytes file = FILE_OF("aag 1 1 0 1 0\n2\n2\ni0 pedal\nc\nany bytes\n");
+    struct circuit c = read_file(file);
+    expect(c.answer[0] == 0 && c.tail == 18, "the tail starts after the outputs", "read");
+    struct bytes tail = {file.at + c.tail, file.length - (size_t)c.tail};
+    expect(same(written(c, 0, tail), file), "the tail is written as it was", "write_text");
+    expect(same(written(c, 1, tail), FILE_OF("aig 1 1 0 1 0\n2\ni0 pedal\nc\nany bytes\n")), "the tail follows", "write_binary");
+}
+
+/* Steps once on one input x; gives the output. */
+static uint8_t output_on_x(struct circuit c) {
+    struct bytes in = FILE_OF("x"), out = FILE_OF("?");
+    uint64_t answer[2];
+    golvanzo_step(COUNTS(c), FOUR(c), TABLE(c, 4), NULL, 0, in.at, 1, out.at, 1, answer);
+    return answer[0] == 0 ? out.at[0] : '?';
+}
+
+static void contradiction(void) {
+    struct bytes none = {NULL, 0};
+    struct circuit c = changed(read_file(FILE_OF("aag 2 1 0 1 1\n2\n5\n4 2 3\n")), 0), to = changed(c, 1);
+    expect(to.answer[0] == 0 && to.answer[6] == 0, "no gate is retained", "reduce");
+    expect(same(written(to, 1, none), FILE_OF("aig 1 1 0 1 0\n1\n")), "the contradiction is gone", "reduce");
+    expect(output_on_x(c) == 'x', "before it, x gives x", "step");
+    expect(output_on_x(to) == '1', "after it, x gives 1", "step");
+}
+
+/* The tracer's four lines for T. */
+static void trace(void) {
+    static const char *const lines[4] = {"0 11 01 1", "1 11 10 0", "0 x1 01 x", "x 10 xx 0"};
+    struct circuit c = read_file(FILE_OF(toggle_binary));
+    struct bytes state = FILE_OF("0"), outs = FILE_OF("??");
+    for (int k = 0; k < 4; k++) {
+        uint64_t answer[2];
+        struct bytes ins = bytes_of(lines[k] + 2, 2);
+        char line[10];
+        line[0] = (char)state.at[0];
+        golvanzo_step(COUNTS(c), FOUR(c), TABLE(c, 4), state.at, 1, ins.at, 2, outs.at, 2, answer);
+        snprintf(line + 1, sizeof line - 1, " %.2s %.2s %c", (char *)ins.at, (char *)outs.at, state.at[0]);
+        expect(answer[0] == 0 && strcmp(line, lines[k]) == 0, lines[k], "step");
+    }
+}
+
+static void witness(struct circuit c, uint64_t number, struct bytes list, uint64_t says, const char *what) {
+    uint64_t answer[3];
+    golvanzo_witness(COUNTS(c), FOUR(c), TABLE(c, 4), number, list.at, list.length, answer);
+    expect(answer[0] == 0 && answer[2] == says, what, "witness");
+}
+
+static void witnesses(void) {
+    struct circuit c = read_file(FILE_OF("aig 3 2 0 1 1\n6\n\x02\x02"));
+    uint64_t answer[3];
+    struct bytes odd = FILE_OF("011");
+    witness(c, 0, FILE_OF(""), 0, "an empty list gives no");
+    witness(c, 2, FILE_OF("011x"), 0, "0 and 1, 1 and x: no");
+    witness(c, 2, FILE_OF("0111"), 1, "0 and 1, 1 and 1: yes");
+    golvanzo_witness(COUNTS(c), FOUR(c), TABLE(c, 4), 2, odd.at, odd.length, answer);
+    expect(answer[0] == 12 && answer[1] == 2, "three bytes are no two vectors of two", "witness");
+}
+
+static void refused(struct bytes file, uint64_t number, uint64_t place, const char *what) {
+    struct circuit c = read_file(file);
+    expect(c.answer[0] == number && c.answer[1] == place, what, "read");
+    expect(c.tail == file.length, "after a refusal the tail is empty", what);
+    for (int t = 0; t < TABLES; t++)
+        expect(all_zero(c.table[t], c.words[t]), "after a refusal every table is zero", what);
+}
+
+static void refusals(void) {
+    refused(FILE_OF("aag 0 0 0 0 0"), 1, 13, "1 at 13");
+    refused(FILE_OF(""), 1, 0, "1 at 0");
+    refused(FILE_OF("aag 1048576 0 0 0 0\n"), 2, 4, "2 at 4");
+    refused(FILE_OF("aag 1 1 1 0 0\n"), 3, 0, "3 at 0");
+    refused(FILE_OF("aag 1 1 0 1 0\n2\n4\n"), 5, 16, "5 at 16");
+    refused(FILE_OF("aag 2 2 0 0 0\n2\n2\n"), 6, 16, "6 at 16");
+    refused(FILE_OF("aag 2 1 0 1 0\n2\n4\n"), 7, 2, "7 at 2");
+    refused(FILE_OF("aag 2 0 0 0 2\n2 4 1\n4 2 1\n"), 8, 1, "8 at 1");
+    refused(FILE_OF("aig 1 0 0 0 1\n\x82\x00"), 9, 14, "9 at 14");
+    refused(FILE_OF("aag 1 1 0 1 0\n2\n2\ni1 p\n"), 10, 18, "10 at 18");
+}
+
+/* Refusals of calls on tables: too short a table, buffer and vector, and no binary order. */
+static void table_refusals(void) {
+    struct circuit c = read_file(FILE_OF(toggle_text)), b = read_file(FILE_OF(toggle_binary));
+    struct bytes out = FILE_OF("unchanged"), in = FILE_OF("12"), state = FILE_OF("0"), outs = FILE_OF("??");
+    uint64_t answer[3];
+    golvanzo_check(COUNTS(c), FOUR(c), TABLE(c, 4), answer);
+    expect(answer[0] == 0, "T is a circuit", "check");
+    golvanzo_check(COUNTS(c), FOUR(c), c.table[4], c.words[4] - 1, answer);
+    expect(answer[0] == 4 && answer[1] == 5, "4 at 5", "check");
+    golvanzo_write_text(COUNTS(c), FOUR(c), TABLE(c, 4), NULL, 0, out.at, out.length, answer);
+    expect(answer[0] == 11 && answer[1] == sizeof toggle_text - 1, "11 at the length needed", "write_text");
+    expect(memcmp(out.at, "unchanged", out.length) == 0, "a refusal changes no byte", "write_text");
+    golvanzo_write_binary(COUNTS(c), FOUR(c), TABLE(c, 4), NULL, 0, out.at, out.length, answer);
+    expect(answer[0] == 15 && answer[1] == 0, "15 at 0", "write_binary");
+    golvanzo_step(COUNTS(b), FOUR(b), TABLE(b, 4), state.at, 1, in.at, 2, outs.at, 2, answer);
+    expect(answer[0] == 12 && answer[1] == 2, "12 at 2", "step");
+    expect(state.at[0] == '0' && memcmp(outs.at, "??", 2) == 0, "a refusal changes no byte", "step");
+}
+
+int main(void) {
+    sizes();
+    toggle_both_forms();
+    tails();
+    contradiction();
+    trace();
+    witnesses();
+    refusals();
+    table_refusals();
+    printf("%d passed, %d failed\n", passed, failed);
+    return failed != 0;
+}
