@@ -8,12 +8,14 @@ use lib.ListN.{length, take, drop}
 use Rattle.plan.specs.declared.Counts.{Counts}
 use Rattle.plan.specs.declared.Refusal.{Refusal}
 use Rattle.plan.specs.declared.Refusal.the-variants.{ShortTable, ShortBuffer, BadVector}
+use Rattle.plan.specs.declared.Made.{Made}
+use Rattle.plan.specs.declared.Made.the-variants as made
 use Rattle.plan.specs.declared.Written.{Written}
 use Rattle.plan.specs.declared.Written.the-variants as written
 use Rattle.plan.specs.declared.Traced.{Traced}
 use Rattle.plan.specs.declared.Traced.the-variants as traced
 use Rattle.plan.specs.Refusals.{Parse, got, refused, _then_, unless, stage, firstOf}
-use Rattle.plan.specs.Circuit.{Circuit, Tables, countsOf, lengthsOf, wordsToWork, against, short, allCleared, cleared}
+use Rattle.plan.specs.Circuit.{Circuit, Tables, countsOf, lengthsOf, wordsToWork, against, short, holding, allCleared, cleared}
 use Rattle.plan.specs.Header.{header}
 use Rattle.plan.specs.Binary.{binaryOf}
 use Rattle.plan.specs.Tail.{endsLine}
@@ -90,6 +92,30 @@ reduceWhole e =
     wholeBy e (input (e .plan) λ file.
     loaded e file then λ c start.
     fittingIn (e .out) (binaryOf (reduce (convert c)) ++ drop start file))
+
+-- the converted circuit of a file, in the tables to make one in
+pub record OpenExit : Type 0 where
+  pub answer : Made
+  pub read : Tables
+  pub made : Tables
+  pub scratch : List ℕ
+
+abbrev pub openBy : WholeEntry → Parse Circuit → OpenExit
+openBy e (got c start) = record {
+  answer = made.Accepted (countsOf (convert c));
+  read = allCleared (e .read);
+  made = holding (e .made) (convert c);
+  scratch = cleared (e .scratch);
+}
+openBy e (refused r) = record {
+  answer = made.Refused r;
+  read = allCleared (e .read);
+  made = allCleared (e .made);
+  scratch = cleared (e .scratch);
+}
+
+abbrev pub openWhole : WholeEntry → OpenExit
+openWhole e = openBy e (input (e .plan) (loaded e))
 
 -- the lines of standard input: how many, by 14, 13, 1 and 12
 abbrev pub countedBy : Parse (List (List ℕ)) → Traced
