@@ -130,7 +130,7 @@ fn fill_binary(out: &mut [u8], n: Counts, nexts: &[u32], outputs: &[u32], gates:
 }
 
 // The tail from a position on; the position after it.
-fn append(out: &mut [u8], at: usize, tail: &[u8]) -> usize
+pub fn append(out: &mut [u8], at: usize, tail: &[u8]) -> usize
     requires { ⌜ at + length (now tail) ≤ length (now out) ⌝ }
     ensures { λ r. ⌜ r ≡ at + length (now (tail .entry)) ⌝ }
     ensures { λ _. ⌜ now (out .exit) ≡ put (now (out .entry)) at (now (tail .entry)) ⌝ }

@@ -1,0 +1,3 @@
+-- What the proofs of a refusal's line use.
+pub mod Count
+pub mod Line
