@@ -1,0 +1,4 @@
+-- What the proofs of whole files use.
+pub mod Opened
+pub mod Writes
+pub mod Files

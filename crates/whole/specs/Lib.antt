@@ -1,0 +1,3 @@
+-- What whole files are stated with.
+pub mod Opening
+pub mod Parts
