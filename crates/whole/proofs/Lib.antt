@@ -2,3 +2,5 @@
 pub mod Opened
 pub mod Writes
 pub mod Files
+pub mod Bounds
+pub mod Printed

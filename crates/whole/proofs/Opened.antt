@@ -69,8 +69,7 @@ module _ (e : OpenEntry) where
           -- the circuit that the file states
           read-is : (c : Circuit) × (parse ≡ got c start) × Left g c
           read-is =
-              let l = load-left (reading e) bytes n start (ap (λ (y : LoadExit). y .answer) (sym said) ∙ a) in
-              (
+              let l = load-left (reading e) bytes n start (ap (λ (y : LoadExit). y .answer) (sym said) ∙ a) in (
                 l .0,
                 l .1,
                 subst (λ (y : LoadExit). Left (record { counts = n; tables = y .tables; scratch = y .scratch }) (l .0)) (sym said) (l .2),

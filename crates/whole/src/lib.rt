@@ -23,10 +23,10 @@ use plan::Made;
 use plan::Refusal;
 use plan::Written;
 use read::load;
+use tables::Sizes;
 use tables::clear;
 use tables::clear_four;
 use tables::too_short;
-use tables::Sizes;
 use write::write_binary;
 use write::write_text;
 
@@ -248,7 +248,16 @@ fn convert_file(
         outputs: made_outputs.len(),
         gates: made_gates.len(),
     };
-    match open_file(readable, file, inputs, latches, outputs, gates, scratch, made) {
+    match open_file(
+        readable,
+        file,
+        inputs,
+        latches,
+        outputs,
+        gates,
+        scratch,
+        made,
+    ) {
         Loaded::Refused(r) => Written::Refused(r),
         Loaded::Accepted(n, start) => {
             write_other(
@@ -352,7 +361,16 @@ fn reduce_file(
         outputs: made_outputs.len(),
         gates: made_gates.len(),
     };
-    match open_file(readable, file, inputs, latches, outputs, gates, scratch, made) {
+    match open_file(
+        readable,
+        file,
+        inputs,
+        latches,
+        outputs,
+        gates,
+        scratch,
+        made,
+    ) {
         Loaded::Refused(r) => Written::Refused(r),
         Loaded::Accepted(n, start) => {
             write_reduced(
