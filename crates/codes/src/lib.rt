@@ -10,7 +10,7 @@ ghost use Rattle.plan.specs.Outcome.{allCodes, vector};
 ghost use Rattle.tables.specs.Lengths.{tableOf};
 use plan::Counts;
 
-fn is_code(b: u8) -> bool
+pub fn is_code(b: u8) -> bool
     ensures { λ r. ⌜ r ≡ isCode b ⌝ }
 {
     if b == b'0' {
@@ -36,7 +36,7 @@ fn all_codes(bytes: &[u8]) -> bool
 }
 
 // Whether n codes stand in a vector, and no other byte.
-fn codes_in(bytes: &[u8], n: usize) -> bool
+pub fn codes_in(bytes: &[u8], n: usize) -> bool
     ensures { λ r. ⌜ r ≡ (eqb (length (now (bytes .entry))) n && allCodes (now (bytes .entry))) ⌝ }
 {
     if bytes.len() != n {

@@ -1,0 +1,3 @@
+pub mod Passing
+pub mod Scanning
+pub mod Counting
