@@ -1,3 +1,5 @@
 pub mod Passing
 pub mod Scanning
 pub mod Counting
+pub mod Parts
+pub mod Writing

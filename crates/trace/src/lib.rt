@@ -1,10 +1,26 @@
 // The run of a circuit as lines: standard input's lines counted, and a part of a run traced (the paper, programs).
 ghost use mathlib.Core.Path.{_≡_};
-ghost use Rattle.plan.specs.Programs.{stimulus};
-ghost use Rattle.plan.specs.Whole.{inputOf, countedBy, countLines};
+ghost use mathlib.Core.Bool.{_&&_};
+ghost use mathlib.Core.List.{List, map};
+ghost use Prim.Native.Nat.{ℕ, _+_, _/_, _≤_, _<_, min};
+ghost use lib.Dec.{eqb};
+ghost use lib.ListN.{length};
+ghost use Rattle.plan.specs.Literals.{most};
+ghost use Rattle.plan.specs.Step.{Value, valueOf};
+ghost use Rattle.plan.specs.Outcome.{Says, put, allCodes};
+ghost use Rattle.plan.specs.Programs.{linesIn, allVectors, stimulus};
+ghost use Rattle.plan.specs.Whole.{inputOf, countedBy, countLines, lineWidth, trace};
+ghost use Rattle.tables.specs.Held.{circuitIn};
+ghost use Rattle.sweep.specs.Running.{Runs, Rests};
+ghost use Rattle.step.specs.Asked.{Blank};
 ghost use Rattle.trace.specs.Scan.{ended, scan};
+ghost use Rattle.trace.specs.Tracing.{part, Resting, Wrote, Listed, firstOnes, Ran, Left, judged};
+use plan::Counts;
 use plan::Refusal;
 use plan::Traced;
+use sweep::step_values;
+use values::load;
+use values::store;
 use vectors::is_code;
 
 // Whether the last line has its end. No bytes are no line.
@@ -65,4 +81,46 @@ pub fn count_lines(readable: bool, bytes: &[u8], width: usize) -> Traced
         return Traced::Refused(Refusal::LongInput(65536));
     }
     whole_lines(bytes, width)
+}
+
+// The codes of `count` words from `first` on, and the byte after them; the position past it.
+fn put_part(t: &[u32], first: usize, count: usize, last: u8, out: &mut [u8], at: usize) -> usize
+    requires { ⌜ first + count ≤ length (now t) ⌝ }
+    requires { ⌜ at + count < length (now out) ⌝ }
+    ensures { λ r. ⌜ r ≡ at + count + 1 ⌝ }
+    ensures { λ _. ⌜ now (out .exit) ≡ put (now (out .entry)) at (part (now (t .entry)) first count last) ⌝ }
+{
+    let end = at + count;
+    store(t, first, &mut out[at..end]);
+    out[end] = last;
+    end + 1
+}
+
+// One line and its step: the state that scratch holds, the inputs, the outputs and the next state, which scratch holds then. The
+// position after the line.
+fn write_line(
+    n: Counts,
+    latches: &[u32],
+    outputs: &[u32],
+    gates: &[u32],
+    scratch: &mut [u32],
+    ins: &[u8],
+    out: &mut [u8],
+    at: usize,
+) -> usize
+    requires { ⌜ Resting n (now latches) (now outputs) (now gates) (now scratch) ⌝ }
+    requires { ⌜ length (now ins) ≡ n .I ⌝ }
+    requires { ⌜ at + lineWidth n ≤ length (now out) ⌝ }
+    ensures { λ r. ⌜ r ≡ at + lineWidth n ⌝ }
+    ensures { λ _. ⌜ ((inputs : List ℕ) (s : List Value) → Runs n inputs (now (latches .entry)) (now (outputs .entry)) (now (gates .entry))
+        → length s ≡ n .L → Rests n s (now (scratch .entry))
+        → Wrote n (circuitIn n inputs (now (latches .entry)) (now (outputs .entry)) (now (gates .entry))) s (map valueOf (now (ins .entry)))
+        (now (scratch .exit)) (now (out .entry)) at (now (out .exit))) ⌝ }
+{
+    let inputs_at = put_part(scratch, 1 + n.I, n.L, b' ', out, at);
+    load(ins, 1, scratch);
+    let outputs_at = put_part(scratch, 1, n.I, b' ', out, inputs_at);
+    step_values(n, latches, outputs, gates, scratch);
+    let next_at = put_part(scratch, n.M + 1, n.O, b' ', out, outputs_at);
+    put_part(scratch, 1 + n.I, n.L, b'\n', out, next_at)
 }

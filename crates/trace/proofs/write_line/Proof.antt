@@ -1,0 +1,107 @@
+use mathlib.Core.Path.{_∙_}
+use native.Mathlib.Omega.{arith}
+use Rattle.trace.proofs.Writing.{line-stands, line-ready, line-wrote}
+use borrow.Author.Needs.{needs}
+use Rattle.trace.proofs.write_line.Statement.{statement}
+use Rattle.trace.proofs.write_line.Tie as tie
+
+-- back to the start from the step, and from the call before it that loads the inputs
+abbrev loading : tie.After-step-values-arg → tie.After-load-arg
+loading c = c .before .before .before .before .before .before .before .before .before
+
+abbrev start : tie.After-load-arg → tie.Start
+start c = c .before .before .before .before .before .before .before .before .before .before .before .before .before
+
+add-put-part : tie.Need-add-put-part
+add-put-part c = search needs
+
+put-part-requires : tie.Need-put-part-requires
+put-part-requires c κs = search needs
+
+load-requires : tie.Need-load-requires
+load-requires c κs = search needs
+
+put-part-requires-2 : tie.Need-put-part-requires-2
+put-part-requires-2 c κs = search needs
+
+step-values-requires : tie.Need-step-values-requires
+step-values-requires c κs =
+    let q = start (loading c) in
+    let p = q .pre .0 in
+    line-ready (p .runs) (p .state) (q .args .ins .now) (p .state-length) (p .rests) (p .scratch-long) (q .pre .1 .0) (c .before .before .before .before .before .before .before .before .load .ensures)
+    (c .before .before .before .before .before .before .before .scratch .given)
+
+add-put-part-2 : tie.Need-add-put-part-2
+add-put-part-2 c = omega (arith, start (loading (c .before .before .before .before .before)) .pre .0 .runs .fits .most-M)
+
+put-part-requires-3 : tie.Need-put-part-requires-3
+put-part-requires-3 c κs =
+    let d = c .before .before .before .before .before .before in
+    let q = start (loading d) in (
+      omega (arith, q .pre .0 .scratch-long, c .before .before .before .before .scratch2 .given, d .before .before .before .before .before .before .before .scratch .given),
+      omega (arith, q .pre .1 .1, d .before .before .out2 .given, d .before .before .before .put-part2 .ensures .0, (loading d) .before .before .out .given, (loading d) .before .before .before .put-part .ensures .0),
+    )
+
+add-put-part-3 : tie.Need-add-put-part-3
+add-put-part-3 c = search needs
+
+put-part-requires-4 : tie.Need-put-part-requires-4
+put-part-requires-4 c κs =
+    let d = c .before .before .before .before .before .before .before .before .before .before .before .before in
+    let q = start (loading d) in (
+      omega (arith, q .pre .0 .scratch-long, q .pre .0 .runs .fits .sum, c .before .before .before .before .before .before .before .before .before .before .scratch2 .given, d .before .before .before .before .before .before .before .scratch .given),
+      omega (
+        arith,
+        q .pre .1 .1,
+        c .before .before .before .before .out3 .given,
+        c .before .before .before .before .before .put-part3 .ensures .0,
+        d .before .before .out2 .given,
+        d .before .before .before .put-part2 .ensures .0,
+        (loading d) .before .before .out .given,
+        (loading d) .before .before .before .put-part .ensures .0,
+      ),
+    )
+
+same-length : tie.Need-same-length
+same-length c = search needs
+
+same-length-2 : tie.Need-same-length-2
+same-length-2 c =
+    let d = c .before .before .before .before .before .before .before .before .before .before .before .before .before .before .before in
+    c .before .out4 .given ∙ (c .before .before .before .before .before .before .before .out3 .given ∙ (d .before .before .out2 .given ∙ (loading d) .before .before .out .given))
+
+returns : tie.Need-returns
+returns c =
+    let d = c .before .before .before .before .before .before .before .before .before .before .before .before .before .before .before in
+    let l = loading d in
+    let q = start l in
+    let a = q .args in
+    let m1 = l .before .before .before .put-part .ensures .0 in
+    let m2 = d .before .before .before .put-part2 .ensures .0 in
+    let m3 = c .before .before .before .before .before .before .before .before .put-part3 .ensures .0 in
+    let m4 = c .before .before .put-part4 .ensures .0 in (
+      omega (arith, m1, m2, m3, m4),
+      λ inputs s r ls rests.
+          let stands = line-stands r s (a .ins .now) ls rests (q .pre .0 .scratch-long) (q .pre .1 .0) (d .before .before .before .before .before .before .before .before .load .ensures) in
+          line-wrote r s (a .ins .now) ls rests (q .pre .0 .scratch-long) (q .pre .1 .0) (d .before .before .before .before .before .before .before .before .load .ensures)
+          (c .before .before .before .before .before .before .before .before .before .before .before .before .before .before .step-values .ensures inputs _ _ r stands) (a .out .now) (a .at) (q .pre .1 .1)
+          (l .before .before .before .put-part .ensures .1) m1 (d .before .before .before .put-part2 .ensures .1) m2
+          (c .before .before .before .before .before .before .before .before .put-part3 .ensures .1) m3 (c .before .before .put-part4 .ensures .1) m4,
+    )
+
+pub write-line-spec : {M : Type 1} → statement M
+write-line-spec =
+    tie.close
+    (tie.spec
+    add-put-part
+    put-part-requires
+    load-requires
+    put-part-requires-2
+    step-values-requires
+    add-put-part-2
+    put-part-requires-3
+    add-put-part-3
+    put-part-requires-4
+    same-length
+    same-length-2
+    returns)
