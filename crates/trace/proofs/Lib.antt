@@ -3,3 +3,4 @@ pub mod Scanning
 pub mod Counting
 pub mod Parts
 pub mod Writing
+pub mod Lines
