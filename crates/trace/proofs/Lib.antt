@@ -4,3 +4,4 @@ pub mod Counting
 pub mod Parts
 pub mod Writing
 pub mod Lines
+pub mod Running

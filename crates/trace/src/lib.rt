@@ -124,3 +124,42 @@ fn write_line(
     let next_at = put_part(scratch, n.M + 1, n.O, b' ', out, outputs_at);
     put_part(scratch, 1 + n.I, n.L, b'\n', out, next_at)
 }
+
+// The lines of the first `number` vectors, from the start of a buffer that has room for them. Scratch holds the state between two
+// steps, and after the last.
+fn trace_lines(
+    n: Counts,
+    latches: &[u32],
+    outputs: &[u32],
+    gates: &[u32],
+    scratch: &mut [u32],
+    number: usize,
+    vectors: &[u8],
+    out: &mut [u8],
+)
+    requires { ⌜ Resting n (now latches) (now outputs) (now gates) (now scratch) ⌝ }
+    requires { ⌜ Listed n number (now vectors) (now out) ⌝ }
+    ensures { λ _. ⌜ ((inputs : List ℕ) (s : List Value) → Runs n inputs (now (latches .entry)) (now (outputs .entry)) (now (gates .entry))
+        → length s ≡ n .L → Rests n s (now (scratch .entry))
+        → Ran n (circuitIn n inputs (now (latches .entry)) (now (outputs .entry)) (now (gates .entry))) s (firstOnes number (now (vectors .entry)))
+        (now (scratch .exit)) (now (out .entry)) (now (out .exit))) ⌝ }
+{
+    let mut at = 0;
+    let mut to = 0;
+    let mut k = 0;
+    while k < number {
+        let end = at + n.I;
+        to = write_line(
+            n,
+            latches,
+            outputs,
+            gates,
+            scratch,
+            &vectors[at..end],
+            out,
+            to,
+        );
+        at = end + 1;
+        k += 1;
+    }
+}
