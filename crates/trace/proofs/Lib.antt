@@ -5,3 +5,5 @@ pub mod Parts
 pub mod Writing
 pub mod Lines
 pub mod Running
+pub mod Buffers
+pub mod Judging

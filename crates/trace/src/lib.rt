@@ -15,12 +15,16 @@ ghost use Rattle.sweep.specs.Running.{Runs, Rests};
 ghost use Rattle.step.specs.Asked.{Blank};
 ghost use Rattle.trace.specs.Scan.{ended, scan};
 ghost use Rattle.trace.specs.Tracing.{part, Resting, Wrote, Listed, firstOnes, Ran, Left, judged};
+use given::check_in_order;
+use plan::Checked;
 use plan::Counts;
 use plan::Refusal;
 use plan::Traced;
 use sweep::step_values;
+use tables::clear;
 use values::load;
 use values::store;
+use vectors::codes_in;
 use vectors::is_code;
 
 // Whether the last line has its end. No bytes are no line.
@@ -161,5 +165,55 @@ fn trace_lines(
         );
         at = end + 1;
         k += 1;
+    }
+}
+
+// The same from the state that is given, over which the state after the last line goes.
+fn trace_from(
+    n: Counts,
+    latches: &[u32],
+    outputs: &[u32],
+    gates: &[u32],
+    scratch: &mut [u32],
+    state: &mut [u8],
+    number: usize,
+    vectors: &[u8],
+    out: &mut [u8],
+)
+    requires { ⌜ Blank n (now latches) (now outputs) (now gates) (now scratch) ⌝ }
+    requires { ⌜ length (now state) ≡ n .L ⌝ }
+    requires { ⌜ Listed n number (now vectors) (now out) ⌝ }
+    ensures { λ _. ⌜ ((inputs : List ℕ) → Runs n inputs (now (latches .entry)) (now (outputs .entry)) (now (gates .entry))
+        → Left (circuitIn n inputs (now (latches .entry)) (now (outputs .entry)) (now (gates .entry))) (now (state .entry))
+        (firstOnes number (now (vectors .entry))) (now (state .exit)) (now (out .entry)) (now (out .exit))) ⌝ }
+{
+    load(state, 1 + n.I, scratch);
+    trace_lines(n, latches, outputs, gates, scratch, number, vectors, out);
+    store(scratch, 1 + n.I, state);
+}
+
+// As many of `lines` as fit whole into `room` bytes.
+fn fitting(n: Counts, lines: usize, room: usize) -> usize
+    requires { ⌜ (n .I + n .L ≤ most) × (n .O ≤ most) ⌝ }
+    ensures { λ r. ⌜ r ≡ min lines (room / lineWidth n) ⌝ }
+{
+    let fit = room / (2 * n.L + n.I + n.O + 4);
+    if lines < fit {
+        return lines;
+    }
+    fit
+}
+
+// The lines of vectors, by 12: place 1 the state, 2 the vectors.
+fn judge(n: Counts, state: &[u8], vectors: &[u8]) -> Traced
+    ensures { λ r. ⌜ r ≡ judged (eqb (length (now (state .entry))) (n .L) && allCodes (now (state .entry)))
+        (ended (now (vectors .entry)) && allVectors (n .I) (linesIn (now (vectors .entry)))) (length (linesIn (now (vectors .entry)))) ⌝ }
+{
+    if !codes_in(state, n.L) {
+        return Traced::Refused(Refusal::BadVector(1));
+    }
+    match whole_lines(vectors, n.I) {
+        Traced::Lines(lines) => Traced::Lines(lines),
+        Traced::Refused(_) => Traced::Refused(Refusal::BadVector(2)),
     }
 }
