@@ -7,3 +7,4 @@ pub mod Lines
 pub mod Running
 pub mod Buffers
 pub mod Judging
+pub mod Answers

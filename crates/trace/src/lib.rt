@@ -217,3 +217,44 @@ fn judge(n: Counts, state: &[u8], vectors: &[u8]) -> Traced
         Traced::Refused(_) => Traced::Refused(Refusal::BadVector(2)),
     }
 }
+
+// A part of a run: as many whole lines as fit into `out`, from the state that is given; the state after them goes over it. The answer is
+// the number of lines. On a refusal neither changes; scratch is zero afterwards (the paper, programs).
+pub fn trace(
+    n: Counts,
+    inputs: &[u32],
+    latches: &[u32],
+    outputs: &[u32],
+    gates: &[u32],
+    scratch: &mut [u32],
+    state: &mut [u8],
+    vectors: &[u8],
+    out: &mut [u8],
+) -> Traced
+    ensures { λ r. ⌜ Says trace
+        (record { circuit = (record { counts = n; tables = (record { inputs = now (inputs .entry); latches = now (latches .entry); outputs = now (outputs .entry); gates = now (gates .entry) }); scratch = now (scratch .entry) }); state = now (state .entry); vectors = now (vectors .entry); out = now (out .entry) })
+        (record { answer = r; scratch = now (scratch .exit); state = now (state .exit); out = now (out .exit) }) ⌝ }
+{
+    match check_in_order(n, inputs, latches, outputs, gates, scratch) {
+        Checked::Refused(refusal) => Traced::Refused(refusal),
+        Checked::Good => match judge(n, state, vectors) {
+            Traced::Refused(refusal) => Traced::Refused(refusal),
+            Traced::Lines(lines) => {
+                let number = fitting(n, lines, out.len());
+                trace_from(
+                    n,
+                    latches,
+                    outputs,
+                    gates,
+                    scratch,
+                    state,
+                    number,
+                    vectors,
+                    out,
+                );
+                clear(scratch);
+                Traced::Lines(number)
+            }
+        },
+    }
+}
