@@ -28,7 +28,7 @@ use Rattle.trace.specs.Scan.{ended}
 use Rattle.trace.specs.Tracing.{Listed, Left, firstOnes, judged}
 
 -- what was judged
-abbrev bad : Bool → Bool → Option Refusal
+abbrev pub bad : Bool → Bool → Option Refusal
 bad s v = stage BadVector (orElse (vector 1 s) (vector 2 v))
 
 some-bad : (s v : Bool) (k : ℕ) (r : Refusal) → judged s v k ≡ Refused r → bad s v ≡ some r

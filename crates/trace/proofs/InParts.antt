@@ -1,0 +1,150 @@
+-- A call that is not refused: its buffer starts with the next lines of the run, and the state and the vectors that are left tell the rest.
+use Prim.Native.Nat.{ℕ, _+_, _*_, _/_, min}
+use mathlib.Core.Path.{_≡_, refl, sym, ap, ap₂, _∙_}
+use mathlib.Core.Bool.{Bool, true, false, _&&_}
+use mathlib.Core.Option.{Option, none, some}
+use mathlib.Core.List.{List, [], _∷_, _++_, map, map-append}
+use native.Mathlib.Nat.{min-le-left}
+use native.Mathlib.Omega.{arith}
+use borrow.Author.Tests.{eqb-true}
+use lib.Dec.{eqb}
+use lib.ListN.{length, take, drop, length-map, take-append-drop}
+use lib.Seq.{length-take-le}
+use Rattle.plan.specs.declared.Counts.{Counts}
+use Rattle.plan.specs.declared.Refusal.{Refusal}
+use Rattle.plan.specs.declared.Traced.the-variants.{Lines}
+use Rattle.plan.specs.Refusals.{firstOf}
+use Rattle.plan.specs.Circuit.{Circuit}
+use Rattle.plan.specs.Step.{Value, valueOf, run}
+use Rattle.plan.specs.Given.{Given, given, lentAlone}
+use Rattle.plan.specs.Outcome.{allCodes}
+use Rattle.plan.specs.Programs.{linesIn, allVectors, stepLines}
+use Rattle.plan.specs.Whole.{TraceEntry, TraceExit, traceStage, lineWidth, nextLines, stateAfter, tracedBy, trace}
+use Rattle.theorems.proofs.Put.{put-first}
+use Rattle.theorems.proofs.Reading.Common.{and-left, and-right}
+use Rattle.theorems.proofs.Writing.Stepping.{codes-values}
+use Rattle.vectors.proofs.Places.{codesIn}
+use Rattle.given.specs.Judged.{allStages}
+use Rattle.given.proofs.Sound.{Good, good-alone}
+use Rattle.step.proofs.Checks.{answer}
+use Rattle.trace.specs.Scan.{ended}
+use Rattle.trace.proofs.Answers.{bad}
+use Rattle.trace.proofs.Together.{traced-together, traced-length, all-sized, lines-past}
+
+-- the vectors of lines, as values
+abbrev pub values : List ℕ → List (List Value)
+values vectors = map (map valueOf) (linesIn vectors)
+
+both-none : (xs ys : List (Option Refusal)) → firstOf (xs ++ ys) ≡ none → (firstOf xs ≡ none) × (firstOf ys ≡ none)
+both-none [] ys e = (refl, e)
+both-none (none ∷ xs) ys e = both-none xs ys e
+both-none (some r ∷ xs) ys e = let z : _≡_ {A = ℕ} 0 1 = cc in absurd (omega arith)
+
+all-good : (s v : Bool) → firstOf (bad s v ∷ []) ≡ none → (s ≡ true) × (v ≡ true)
+all-good true true e = (refl, refl)
+all-good true false e = let z : _≡_ {A = ℕ} 0 1 = cc in absurd (omega arith)
+all-good false v e = let z : _≡_ {A = ℕ} 0 1 = cc in absurd (omega arith)
+
+no-refusal : (e : TraceEntry) (k : ℕ) (o : Option Refusal) → tracedBy o e .answer ≡ Lines k → o ≡ none
+no-refusal e k none q = refl
+no-refusal e k (some r) q = let z : _≡_ {A = ℕ} 0 1 = cc in absurd (omega arith)
+
+module _ (e : TraceEntry) (k : ℕ) (said : trace e .answer ≡ Lines k) where
+  abbrev n : Counts
+  n = e .circuit .counts
+
+  abbrev c : Circuit
+  c = given (e .circuit)
+
+  abbrev s : List Value
+  s = map valueOf (e .state)
+
+  nothing : answer (e .circuit) (traceStage e) ≡ none
+  nothing = no-refusal e k (answer (e .circuit) (traceStage e)) said
+
+  outcome : trace e ≡ tracedBy none e
+  outcome = ap (λ (o : Option Refusal). tracedBy o e) nothing
+
+  stages-none : (firstOf (allStages true (e .circuit) (lentAlone (e .circuit))) ≡ none) × (firstOf (traceStage e ∷ []) ≡ none)
+  stages-none = both-none (allStages true (e .circuit) (lentAlone (e .circuit))) (traceStage e ∷ []) nothing
+
+  tables-good : Good true (e .circuit)
+  tables-good = good-alone true (e .circuit) (stages-none .0)
+
+  vectors-good : (codesIn (e .state) (n .L) ≡ true) × ((ended (e .vectors) && allVectors (n .I) (linesIn (e .vectors))) ≡ true)
+  vectors-good =
+      all-good (codesIn (e .state) (n .L)) (ended (e .vectors) && allVectors (n .I) (linesIn (e .vectors))) (stages-none .1)
+
+  whole : allVectors (n .I) (linesIn (e .vectors)) ≡ true
+  whole = and-right (ended (e .vectors)) (allVectors (n .I) (linesIn (e .vectors))) (vectors-good .1)
+
+  state-long : length s ≡ n .L
+  state-long =
+      length-map (e .state) valueOf
+      ∙ eqb-true (length (e .state)) (n .L) (and-left (eqb (length (e .state)) (n .L)) (allCodes (e .state)) (vectors-good .0))
+
+  -- as many lines as there are and fit
+  abbrev few : ℕ
+  few = min (length (linesIn (e .vectors))) (length (e .out) / lineWidth n)
+
+  counted : length (nextLines e) ≡ k
+  counted =
+      let q : Lines (length (nextLines e)) ≡ Lines k = sym (ap (λ (x : TraceExit). x .answer) outcome) ∙ said in
+      cc
+
+  few-is : few ≡ k
+  few-is =
+      sym (length-map (take few (linesIn (e .vectors))) (map valueOf)
+      ∙ length-take-le few (linesIn (e .vectors)) (min-le-left (length (linesIn (e .vectors))) (length (e .out) / lineWidth n)))
+      ∙ counted
+
+  -- the vectors that are left
+  vectors-left : values (e .vectors) ≡ nextLines e ++ values (drop ((n .I + 1) * k) (e .vectors))
+  vectors-left =
+      ap (map (map valueOf)) (sym (take-append-drop few (linesIn (e .vectors))))
+      ∙ (map-append (map valueOf) (take few (linesIn (e .vectors))) (drop few (linesIn (e .vectors)))
+      ∙ ap (λ (l : List (List ℕ)). nextLines e ++ map (map valueOf) l)
+      (sym (lines-past (n .I) (e .vectors) whole few (min-le-left (length (linesIn (e .vectors))) (length (e .out) / lineWidth n)))
+      ∙ ap (λ (m : ℕ). linesIn (drop ((n .I + 1) * m) (e .vectors))) few-is))
+
+  abbrev lines : List ℕ
+  lines = stepLines (run c s (nextLines e))
+
+  lines-long : length lines ≡ lineWidth n * k
+  lines-long =
+      traced-length c n (tables-good .counts) (nextLines e) (all-sized (n .I) (linesIn (e .vectors)) whole few) s state-long
+      ∙ ap (λ (m : ℕ). lineWidth n * m) counted
+
+  lines-there : take (lineWidth n * k) (trace e .out) ≡ lines
+  lines-there =
+      ap₂ (λ (m : ℕ) (x : TraceExit). take m (x .out)) (sym lines-long) outcome ∙ put-first (e .out) lines
+
+  state-there : map valueOf (trace e .state) ≡ stateAfter c s (nextLines e)
+  state-there = ap (λ (x : TraceExit). map valueOf (x .state)) outcome ∙ codes-values (stateAfter c s (nextLines e))
+
+  pub trace-part : stepLines (run c s (values (e .vectors)))
+      ≡ take (lineWidth n * k) (trace e .out)
+      ++ stepLines (run c (map valueOf (trace e .state)) (values (drop ((n .I + 1) * k) (e .vectors))))
+  trace-part =
+      ap (λ (l : List (List Value)). stepLines (run c s l)) vectors-left
+      ∙ (traced-together c s (nextLines e) (values (drop ((n .I + 1) * k) (e .vectors)))
+      ∙ ap₂ (λ (l : List ℕ) (x : List Value). l ++ stepLines (run c x (values (drop ((n .I + 1) * k) (e .vectors)))))
+      (sym lines-there) (sym state-there))
+
+-- calls until no vector is left, each with a buffer of its own, from the state that the one before left
+abbrev pub call : Given → List ℕ → List ℕ → List ℕ → TraceEntry
+call g state vectors out = record { circuit = g; state = state; vectors = vectors; out = out }
+
+pub data Calls (g : Given) : List ℕ → List ℕ → List ℕ → Type 0 where
+  none-left : {state : List ℕ} → Calls g state [] []
+  one-more : {state vectors printed : List ℕ} (out : List ℕ) (k : ℕ) → trace (call g state vectors out) .answer ≡ Lines k
+      → Calls g (trace (call g state vectors out) .state) (drop ((g .counts .I + 1) * k) vectors) printed
+      → Calls g state vectors (take (lineWidth (g .counts) * k) (trace (call g state vectors out) .out) ++ printed)
+
+-- what they print together is the run
+pub calls-print : {g : Given} {state vectors printed : List ℕ} → Calls g state vectors printed
+    → printed ≡ stepLines (run (given g) (map valueOf state) (values vectors))
+calls-print none-left = refl
+calls-print {g} {state} {vectors} (one-more out k said rest) =
+    ap (λ (l : List ℕ). take (lineWidth (g .counts) * k) (trace (call g state vectors out) .out) ++ l) (calls-print rest)
+    ∙ sym (trace-part (call g state vectors out) k said)
