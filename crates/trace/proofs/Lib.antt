@@ -8,3 +8,6 @@ pub mod Running
 pub mod Buffers
 pub mod Judging
 pub mod Answers
+pub mod Together
+pub mod InParts
+pub mod Printed
