@@ -86,8 +86,8 @@ static int reduced_same(struct work *w) {
 }
 
 static void desk_step(struct work *w) {
-    golvanzo_step(w->given.counts, TABLES(w->given), SCRATCH(w), w->state, w->given.counts[L], w->ins, w->given.counts[I],
-                  w->outs, w->given.counts[O], w->answer);
+    golvanzo_step(w->given.counts, TABLES(w->given), SCRATCH(w), w->state, w->given.counts[L], w->ins,
+                  w->given.counts[I], w->outs, w->given.counts[O], w->answer);
 }
 
 static void as_plain_step(struct work *w) {
@@ -110,7 +110,8 @@ static int stepped_same(struct work *w) {
 }
 
 static void desk_witness(struct work *w) {
-    golvanzo_witness(w->given.counts, TABLES(w->given), SCRATCH(w), STEPS, w->ins, STEPS * w->given.counts[I], w->answer);
+    golvanzo_witness(w->given.counts, TABLES(w->given), SCRATCH(w), STEPS, w->ins, STEPS * w->given.counts[I],
+                     w->answer);
 }
 
 static void as_plain_witness(struct work *w) {
@@ -164,7 +165,8 @@ static double seconds(void (*call)(struct work *), struct work *w, int times) {
     return (double)(clock() - from) / CLOCKS_PER_SEC / times;
 }
 
-/* Measures a task, prints its row and gives the desk's time per gate; `first` is that of the group's first row, or 0. */
+/* Measures a task, prints its row and gives the desk's time per gate; `first` is that of the group's first row,
+   or 0. */
 static double row(const struct task *task, const char *kind, struct work *w, int steps, double first) {
     uint64_t gates = w->given.counts[A];
     int times = gates < 1000000 ? (int)(1000000 / gates) : 1;
@@ -196,7 +198,8 @@ static double convert_row(const char *kind, const struct circuit *c, uint32_t *o
     return time;
 }
 
-/* The orders of a circuit, each compared with the first: binary order. `hard` has those that only a chain makes slow. */
+/* The orders of a circuit, each compared with the first: binary order. `hard` adds those that only a chain makes
+   slow. */
 static void convert_orders(const char *shape, struct circuit c, int hard) {
     uint32_t n = (uint32_t)c.counts[A];
     static const char *const orders[5] = {"in order", "reversed", "shuffled", "from both ends", "two halves by turns"};
@@ -233,8 +236,8 @@ static void reduce_rows(void) {
     }
 }
 
-/* A reader reads what the plain writer before it wrote. For the witness question every output is 0, so that no step ends
-   it early. */
+/* A reader reads what the plain writer before it wrote. For the witness question every output is 0, so that no step
+   ends it early. */
 static void other_rows(void) {
     static const struct task tasks[6] = {{"write text", desk_write_text, as_plain_write_text, wrote_same},
                                          {"read text", desk_read, as_plain_read_text, made_same},

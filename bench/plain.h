@@ -1,12 +1,12 @@
-/* The same work in plain C, as a yardstick. It trusts the tables that it is given and clears none. The two readers check
-   files but for leading zeros, counts and names, and do not say what is wrong. */
+/* The same work in plain C, as a yardstick. It trusts the tables that it is given and clears none. The two readers
+   check files but for leading zeros, counts and names, and do not say what is wrong. */
 #ifndef PLAIN_H
 #define PLAIN_H
 
 #include "circuit.h"
 
 struct plain {
-    uint8_t *kind;   /* of a variable: 0 undefined, 1 input or latch, 2 gate */
+    uint8_t *kind; /* of a variable: 0 undefined, 1 input or latch, 2 gate */
     uint32_t *number, *waits, *start, *users, *queue;
     uint64_t *tree[4];
     uint32_t *slots, mask, retained;
@@ -15,8 +15,13 @@ struct plain {
 
 static struct plain plain_for(const uint64_t *counts) {
     size_t m = counts[M] + 2, a = counts[A] + 1;
-    struct plain p = {.kind = room(m),        .number = room(4 * m), .waits = room(4 * a), .start = room(4 * m),
-                      .users = room(8 * a), .queue = room(4 * a),  .value = room(m)};
+    struct plain p = {.kind = room(m),
+                      .number = room(4 * m),
+                      .waits = room(4 * a),
+                      .start = room(4 * m),
+                      .users = room(8 * a),
+                      .queue = room(4 * a),
+                      .value = room(m)};
     for (int k = 0; k < 4; k++)
         p.tree[k] = room(8 * ((a >> (6 * (k + 1))) + 1));
     for (p.mask = 16; p.mask < 2 * a; p.mask *= 2)
@@ -228,8 +233,8 @@ static const uint8_t *plain_header(const uint8_t *at, const uint8_t *end, uint64
 }
 
 /* n lines of `wide` literals, of which the first defines a variable of this kind unless that is 0. */
-static const uint8_t *plain_lines(struct plain *p, const uint8_t *at, const uint8_t *end, uint32_t n, int wide, uint8_t kind,
-                                  uint32_t top, uint32_t *to) {
+static const uint8_t *plain_lines(struct plain *p, const uint8_t *at, const uint8_t *end, uint32_t n, int wide,
+                                  uint8_t kind, uint32_t top, uint32_t *to) {
     for (; n > 0; n--, to += wide) {
         for (int k = 0; k < wide; k++) {
             at = plain_number(at, end, k + 1 < wide ? ' ' : '\n', &to[k]);

@@ -1,5 +1,5 @@
-/* The question of table sizes for the file on standard input: a line for each table, or "refused N at P". The desk refuses
-   it without a number; a read that lends no table has them, since it judges the header first. */
+/* The question of table sizes for the file on standard input: a line for each table, or "refused N at P". The desk
+   refuses it without a number; a read that lends no table has them, since it judges the header first. */
 #include <stdint.h>
 #include <stdio.h>
 #include <stdlib.h>

@@ -1,6 +1,6 @@
-/* A C program over the desk as the pattern office would write it: asks for the sizes of tables, lends exactly that much,
-   and holds the answers to the worked examples of the paper. Everything lent ends at a page that may not be touched, so
-   that a call which goes past its end is a crash. The last line is 'N passed, M failed'. */
+/* A C program over the desk as the pattern office would write it: asks for the sizes of tables, lends exactly that
+   much, and holds the answers to the worked examples of the paper. Everything lent ends at a page that may not be
+   touched, so that a call which goes past its end is a crash. The last line is 'N passed, M failed'. */
 #define _DEFAULT_SOURCE
 #include <stdint.h>
 #include <stdio.h>
@@ -148,7 +148,8 @@ static void tails(void) {
     expect(c.answer[0] == 0 && c.tail == 18, "the tail starts after the outputs", "read");
     struct bytes tail = {file.at + c.tail, file.length - (size_t)c.tail};
     expect(same(written(c, 0, tail), file), "the tail is written as it was", "write_text");
-    expect(same(written(c, 1, tail), FILE_OF("aig 1 1 0 1 0\n2\ni0 pedal\nc\nany bytes\n")), "the tail follows", "write_binary");
+    expect(same(written(c, 1, tail), FILE_OF("aig 1 1 0 1 0\n2\ni0 pedal\nc\nany bytes\n")), "the tail follows",
+           "write_binary");
 }
 
 /* Steps once on one input x; gives the output. */
