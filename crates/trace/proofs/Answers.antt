@@ -22,7 +22,7 @@ use Rattle.plan.specs.Outcome.{allCodes, vector, put}
 use Rattle.plan.specs.Programs.{linesIn, allVectors, stepLines}
 use Rattle.plan.specs.Whole.{TraceEntry, TraceExit, traceStage, lineWidth, nextLines, stateAfter, tracedBy, trace}
 use Rattle.theorems.proofs.Reading.Common.{and-left, and-right}
-use Rattle.vectors.proofs.Places.{codesIn}
+use Rattle.codes.proofs.Places.{codesIn}
 use Rattle.step.proofs.Checks.{answer}
 use Rattle.trace.specs.Scan.{ended}
 use Rattle.trace.specs.Tracing.{Listed, Left, firstOnes, judged}

@@ -23,7 +23,7 @@ use Rattle.plan.specs.Whole.{TraceEntry, TraceExit, traceStage, lineWidth, next
 use Rattle.theorems.proofs.Put.{put-first}
 use Rattle.theorems.proofs.Reading.Common.{and-left, and-right}
 use Rattle.theorems.proofs.Writing.Stepping.{codes-values}
-use Rattle.vectors.proofs.Places.{codesIn}
+use Rattle.codes.proofs.Places.{codesIn}
 use Rattle.given.specs.Judged.{allStages}
 use Rattle.given.proofs.Sound.{Good, good-alone}
 use Rattle.step.proofs.Checks.{answer}

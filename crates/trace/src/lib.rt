@@ -15,6 +15,8 @@ ghost use Rattle.sweep.specs.Running.{Runs, Rests};
 ghost use Rattle.step.specs.Asked.{Blank};
 ghost use Rattle.trace.specs.Scan.{ended, scan};
 ghost use Rattle.trace.specs.Tracing.{part, Resting, Wrote, Listed, firstOnes, Ran, Left, judged};
+use codes::codes_in;
+use codes::is_code;
 use given::check_in_order;
 use plan::Checked;
 use plan::Counts;
@@ -24,8 +26,6 @@ use sweep::step_values;
 use tables::clear;
 use values::load;
 use values::store;
-use vectors::codes_in;
-use vectors::is_code;
 
 // Whether the last line has its end. No bytes are no line.
 fn ends(bytes: &[u8]) -> bool
