@@ -90,7 +90,8 @@ module _ (e : TraceEntry) where
               room = le-trans (mul-le-mul-left w less) (mul-div-le (length (e .out)) w);
             }
 
-    module _ (t : List ℕ) (blank : t ≡ cleared (e .circuit .scratch)) (past : answer (e .circuit) (traceStage e) ≡ firstOf (traceStage e ∷ [])) where
+    module _ (t : List ℕ) (blank : t ≡ cleared (e .circuit .scratch))
+        (past : answer (e .circuit) (traceStage e) ≡ firstOf (traceStage e ∷ [])) where
       pub refused-vectors : (r : Refusal) → a ≡ Refused r
           → _≡_ {A = TraceExit} (record { answer = Refused r; scratch = t; state = e .state; out = e .out }) (trace e)
       refused-vectors r is =

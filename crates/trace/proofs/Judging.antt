@@ -42,7 +42,8 @@ module _ (s : Bool) (w : ℕ) (vectors : List ℕ) where
     state-good = sym (ap (λ (b : Bool). judged b whole (length (linesIn vectors))) good)
 
     pub good-lines : (k : ℕ) → answer ≡ Lines k → Lines k ≡ judged s whole (length (linesIn vectors))
-    good-lines k q = lines-by (linesIn vectors) (length vectors) (ended vectors) (allVectors w (linesIn vectors)) k (sym says ∙ q) ∙ state-good
+    good-lines k q =
+        lines-by (linesIn vectors) (length vectors) (ended vectors) (allVectors w (linesIn vectors)) k (sym says ∙ q) ∙ state-good
 
     pub bad-lines : (r : Refusal) → answer ≡ Refused r → Refused (BadVector 2) ≡ judged s whole (length (linesIn vectors))
     bad-lines r q =

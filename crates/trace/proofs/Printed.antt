@@ -66,7 +66,8 @@ module _ (file : List ℕ) (c : Circuit) (start : ℕ) (short : length file ≤ 
 
   accepted : tracer (some file) source ≡ of-lines c (input source (stimulus width))
   accepted =
-      ap (λ (t : Bool). printed (cond t (readFile file lentWords then after-file) (refused (LongInput 65536)))) (le-leb (length file) 65536 short)
+      ap (λ (t : Bool). printed (cond t (readFile file lentWords then after-file) (refused (LongInput 65536))))
+      (le-leb (length file) 65536 short)
       ∙ (ap (λ (p : Parse Circuit). printed (p then after-file)) reads
       ∙ ap printed (input-then (stimulus width) (tracedLines c) source))
 

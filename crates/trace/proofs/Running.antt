@@ -85,7 +85,8 @@ module _ {n : Counts} {number : ℕ} {vectors : List ℕ} {k at : ℕ} (l : Lini
       ap₂ (λ (m : ℕ) (rows : List (List ℕ)). map (map valueOf) (take m rows)) one lines-left
       ∙ ap (λ (m : ℕ). map valueOf (take m (drop at vectors)) ∷ firstOnes (number - (k + 1)) (drop (at + n .I + 1) vectors)) only
 
-  module _ {inputs latches outputs gates : List ℕ} (r : Runs n inputs latches outputs gates) {s₀ : List Value} {t out₀ out : List ℕ} {to : ℕ}
+  module _ {inputs latches outputs gates : List ℕ} (r : Runs n inputs latches outputs gates)
+      {s₀ : List Value} {t out₀ out : List ℕ} {to : ℕ}
       (g : Going n (circuitIn n inputs latches outputs gates) s₀ number vectors t out₀ out k at to)
       (fits : to + lineWidth n ≤ length out₀) {t′ out′ : List ℕ}
       (w : Wrote n (circuitIn n inputs latches outputs gates) (g .state) ins t′ out to out′) where

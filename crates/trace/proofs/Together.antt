@@ -22,7 +22,8 @@ use Rattle.trace.proofs.Writing.{line-length}
 
 lines-together : (a b : List Step) → stepLines (a ++ b) ≡ stepLines a ++ stepLines b
 lines-together [] b = refl
-lines-together (s ∷ a) b = ap (λ (l : List ℕ). stepLine s ++ l) (lines-together a b) ∙ sym (append-assoc (stepLine s) (stepLines a) (stepLines b))
+lines-together (s ∷ a) b =
+    ap (λ (l : List ℕ). stepLine s ++ l) (lines-together a b) ∙ sym (append-assoc (stepLine s) (stepLines a) (stepLines b))
 
 run-together : (c : Circuit) (s : List Value) (a b : List (List Value)) → run c s (a ++ b) ≡ run c s a ++ run c (stateAfter c s a) b
 run-together c s [] b = refl

@@ -145,8 +145,8 @@ fn trace_lines(
     requires { ⌜ Listed n number (now vectors) (now out) ⌝ }
     ensures { λ _. ⌜ ((inputs : List ℕ) (s : List Value) → Runs n inputs (now (latches .entry)) (now (outputs .entry)) (now (gates .entry))
         → length s ≡ n .L → Rests n s (now (scratch .entry))
-        → Ran n (circuitIn n inputs (now (latches .entry)) (now (outputs .entry)) (now (gates .entry))) s (firstOnes number (now (vectors .entry)))
-        (now (scratch .exit)) (now (out .entry)) (now (out .exit))) ⌝ }
+        → Ran n (circuitIn n inputs (now (latches .entry)) (now (outputs .entry)) (now (gates .entry))) s
+        (firstOnes number (now (vectors .entry))) (now (scratch .exit)) (now (out .entry)) (now (out .exit))) ⌝ }
 {
     let mut at = 0;
     let mut to = 0;

@@ -25,13 +25,15 @@ enum-told c = search needs
 returns-2 : tie.Need-returns-2
 returns-2 c =
     let a = c .before .before .before .before .before .before .before .before .args in
-    let good = sym (c .before .before .before .before .before .codes-in .ensures) ∙ not-false _ (c .before .before .before .before .if1 .left) in
+    let i = c .before .before .before .before in
+    let good = sym (i .before .codes-in .ensures) ∙ not-false _ (i .if1 .left) in
     good-lines _ (a .n .I) (a .vectors .now) good (c .before .before .before .whole-lines .ensures) _ (c .before .lines .given .1)
 
 returns-3 : tie.Need-returns-3
 returns-3 c =
     let a = c .before .before .before .before .before .before .before .args in
-    let good = sym (c .before .before .before .before .codes-in .ensures) ∙ not-false _ (c .before .before .before .if1 .left) in
+    let i = c .before .before .before in
+    let good = sym (i .before .codes-in .ensures) ∙ not-false _ (i .if1 .left) in
     bad-lines _ (a .n .I) (a .vectors .now) good (c .before .before .whole-lines .ensures) _ (c .enum-told .given .1)
 
 pub judge-spec : {M : Type 1} → statement M

@@ -27,16 +27,26 @@ entry s =
     }
 
 -- back to the start, where the tables are good, and what the check said there
-abbrev start : tie.After-judge-arg → tie.Start
-start d = d .before .before .before .before .before .before .before .before .before .before .before .before .before .before .before
+abbrev checking : tie.After-judge-arg → tie.After-check-in-order
+checking d = d .before .before .before .before .before
 
-told : (d : tie.After-judge-arg) → d .before .before .before .before .before .check-in-order .result ≡ Good
+abbrev start : tie.After-check-in-order → tie.Start
+start d = d .before .before .before .before .before .before .before .before .before .before
+
+told : (d : tie.After-judge-arg) → checking d .check-in-order .result ≡ Good
 told d = d .before .enum-told .given .1
 
-says : (d : tie.After-judge-arg)
-    → _≡_ {A = CheckExit} (record { answer = d .before .before .before .before .before .check-in-order .result; scratch = d .before .before .before .before .before .check-in-order .last .1 .1 .1 .1 .1 .0 })
-    (checkInOrder (entry (start d) .circuit))
-says d = d .before .before .before .before .before .check-in-order .ensures
+says : (d : tie.After-judge-arg) → let k = checking d .check-in-order in
+    _≡_ {A = CheckExit} (record { answer = k .result; scratch = k .last .1 .1 .1 .1 .1 .0 })
+    (checkInOrder (entry (start (checking d)) .circuit))
+says d = checking d .check-in-order .ensures
+
+-- from the end back to where the vectors were judged
+abbrev judging : tie.After-trace-from-arg3 → tie.After-judge
+judging c = c .before .before .before .before .before .before .before
+
+abbrev tracing : tie.After-slice-known8 → tie.After-trace-from-arg3
+tracing c = c .before .before .before .before .before .before .before .before .before .before .before
 
 check-in-order-requires : tie.Need-check-in-order-requires
 check-in-order-requires c κs = search needs
@@ -59,15 +69,15 @@ enum-known-lines c = search needs
 fitting-requires : tie.Need-fitting-requires
 fitting-requires c κs =
     let d = c .before .before .before .before in
-    let e = entry (start d) in
+    let e = entry (start (checking d)) in
     let f = runs (e .circuit) (traceStage e) (says d) (told d) .fits in
     (omega (arith, f .sum, f .most-M), f .most-O)
 
 trace-from-requires : tie.Need-trace-from-requires
 trace-from-requires c κs =
-    let d = c .before .before .before .before .before .before .before .before in
-    let e = entry (start d) in
-    let judged = c .before .before .before .before .before .before .before .judge .ensures in
+    let d = judging c .before in
+    let e = entry (start (checking d)) in
+    let judged = judging c .judge .ensures in
     let lines = c .before .before .before .before .before .lines .given .1 in (
       blank (e .circuit) (traceStage e) (says d) (told d),
       (state-long e _ judged _ lines, listed e _ judged _ lines _ (c .before .before .before .fitting .ensures)),
@@ -81,9 +91,11 @@ same-length c = search needs
 
 returns : tie.Need-returns
 returns c =
-    let e = entry (c .before .before .before .before .before .before .before .before .before .before .before .before .before .before .before) in
-    let check = c .before .before .before .before .before .check-in-order .ensures in
-    refused-trace e _ (blank-is (e .circuit) (traceStage e) check) _ (refused-by (e .circuit) (traceStage e) check _ (c .before .refusal .given .1))
+    let d = c .before .before .before .before .before in
+    let e = entry (start d) in
+    let check = d .check-in-order .ensures in
+    refused-trace e _ (blank-is (e .circuit) (traceStage e) check) _
+    (refused-by (e .circuit) (traceStage e) check _ (c .before .refusal .given .1))
 
 same-length-2 : tie.Need-same-length-2
 same-length-2 c = search needs
@@ -94,7 +106,7 @@ same-length-3 c = search needs
 returns-2 : tie.Need-returns-2
 returns-2 c =
     let d = c .before .before .before .before in
-    let e = entry (start d) in
+    let e = entry (start (checking d)) in
     refused-vectors e _ (c .before .before .before .judge .ensures) _ (blank-is (e .circuit) (traceStage e) (says d))
     (past-check (e .circuit) (traceStage e) (says d) (told d)) _ (c .before .refusal2 .given .1)
 
@@ -109,13 +121,15 @@ same-length-6 c = search needs
 
 returns-3 : tie.Need-returns-3
 returns-3 c =
-    let d = c .before .before .before .before .before .before .before .before .before .before .before .before .before .before .before .before .before .before .before in
-    let e = entry (start d) in
-    let length-is = c .before .before .before .before .before .before .before .before .before .scratch2 .given ∙ d .before .before .before .before .scratch .given in
+    let f = tracing c in
+    let d = judging f .before in
+    let e = entry (start (checking d)) in
+    let p = c .before .before .before .before .before .before .before .before .before in
+    let length-is = p .scratch2 .given ∙ d .before .before .before .before .scratch .given in
     let zero = c .before .before .clear .ensures ∙ ap (λ (k : ℕ). replicate k 0) length-is in
-    done-trace e _ (c .before .before .before .before .before .before .before .before .before .before .before .before .before .before .before .before .before .before .judge .ensures) _ zero (past-check (e .circuit) (traceStage e) (says d) (told d)) _
-    (c .before .before .before .before .before .before .before .before .before .before .before .before .before .before .before .before .lines .given .1) _ (c .before .before .before .before .before .before .before .before .before .before .before .before .before .before .fitting .ensures) _ _
-    (c .before .before .before .before .before .before .before .before .before .before .trace-from .ensures (e .circuit .tables .inputs) (runs (e .circuit) (traceStage e) (says d) (told d)))
+    let left = p .before .trace-from .ensures (e .circuit .tables .inputs) (runs (e .circuit) (traceStage e) (says d) (told d)) in
+    done-trace e _ (judging f .judge .ensures) _ zero (past-check (e .circuit) (traceStage e) (says d) (told d)) _
+    (f .before .before .before .before .before .lines .given .1) _ (f .before .before .before .fitting .ensures) _ _ left
 
 pub trace-spec : {M : Type 1} → statement M
 trace-spec =

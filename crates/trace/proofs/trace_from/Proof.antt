@@ -4,6 +4,17 @@ use borrow.Author.Needs.{needs}
 use Rattle.trace.proofs.trace_from.Statement.{statement}
 use Rattle.trace.proofs.trace_from.Tie as tie
 
+-- back from the lines to where the state was loaded, and to the start
+abbrev loaded : tie.After-trace-lines-arg2 → tie.After-scratch
+loaded c = c .before .before .before
+
+abbrev start : tie.After-scratch → tie.Start
+start c = c .before .before .before .before .before .before .before .before .before .before .before .before
+
+-- from where the state is stored back to the lines
+abbrev storing : tie.After-store-arg2 → tie.After-trace-lines-arg2
+storing c = c .before .before .before .before .before .before .before .before
+
 add-load : tie.Need-add-load
 add-load c = search needs
 
@@ -12,18 +23,21 @@ load-requires c κs = search needs
 
 trace-lines-requires : tie.Need-trace-lines-requires
 trace-lines-requires c κs =
-    let q = c .before .before .before .before .before .before .before .before .before .before .before .before .before .before .before in (
-      state-resting (q .pre .0) (q .args .state .now) (q .pre .1 .0) (c .before .before .before .before .load .ensures) (c .before .before .before .scratch .given),
-      q .pre .1 .1,
-    )
+    let l = loaded c in
+    let q = start l in
+    (state-resting (q .pre .0) (q .args .state .now) (q .pre .1 .0) (l .before .load .ensures) (l .scratch .given), q .pre .1 .1)
 
 add-store : tie.Need-add-store
-add-store c = omega (arith, c .before .before .before .before .before .before .before .before .before .before .before .before .before .before .before .before .before .before .before .before .before .before .pre .0 .runs .fits .sum, c .before .before .before .before .before .before .before .before .before .before .before .before .before .before .before .before .before .before .before .before .before .before .pre .0 .runs .fits .most-M)
+add-store c =
+    let f = start (c .before .before .before .before .before .before .before .before .before .before) .pre .0 .runs .fits in
+    omega (arith, f .sum, f .most-M)
 
 store-requires : tie.Need-store-requires
 store-requires c κs =
-    let p = c .before .before .before .before .before .before .before .before .before .before .before .before .before .before .before .before .before .before .before .before .before .before .before .pre in
-    omega (arith, p .0 .runs .fits .sum, p .0 .scratch-long, p .1 .0, c .before .before .before .before .before .before .scratch2 .given, c .before .before .before .before .before .before .before .before .before .before .before .scratch .given)
+    let l = loaded (storing c) in
+    let p = start l .pre in
+    let same = c .before .before .before .before .before .before .scratch2 .given in
+    omega (arith, p .0 .runs .fits .sum, p .0 .scratch-long, p .1 .0, same, l .scratch .given)
 
 same-length : tie.Need-same-length
 same-length c = search needs
@@ -36,12 +50,15 @@ same-length-3 c = search needs
 
 returns : tie.Need-returns
 returns c = λ inputs r.
-    let q = c .before .before .before .before .before .before .before .before .before .before .before .before .before .before .before .before .before .before .before .before .before .before .before .before .before .before in
+    let d = c .before .before .before in
+    let l = loaded (storing d) in
+    let q = start l in
     let b = q .pre .0 in
     let state = q .args .state .now in
-    let loaded = c .before .before .before .before .before .before .before .before .before .before .before .before .before .before .before .load .ensures in
-    state-left b state (q .pre .1 .0) loaded _ _ _ _ _ _
-    (c .before .before .before .before .before .before .before .before .before .before .trace-lines .ensures inputs _ r (state-long b state (q .pre .1 .0) loaded) (state-rests b state (q .pre .1 .0) loaded))
+    let long = q .pre .1 .0 in
+    let e1 = l .before .load .ensures in
+    let lines = d .before .before .before .before .before .before .before .trace-lines .ensures in
+    state-left b state long e1 _ _ _ _ _ _ (lines inputs _ r (state-long b state long e1) (state-rests b state long e1))
     (c .before .before .store .ensures)
 
 pub trace-from-spec : {M : Type 1} → statement M

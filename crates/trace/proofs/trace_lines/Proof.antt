@@ -10,7 +10,8 @@ use Rattle.theorems.proofs.Tables.{next-row}
 use Rattle.tables.specs.Held.{circuitIn}
 use Rattle.sweep.specs.Running.{Runs, Rests}
 use Rattle.trace.specs.Tracing.{Resting}
-use Rattle.trace.proofs.Running.{Lining, Going, lining-first, line-fits, line-inside, ins-long, lining-next, going-first, going-at, going-on, all-gone}
+use Rattle.trace.proofs.Running.{Lining, lining-first, lining-next, line-fits, line-inside, ins-long}
+use Rattle.trace.proofs.Running.{Going, going-first, going-at, going-on, all-gone}
 use borrow.Author.Needs.{needs}
 use Rattle.trace.proofs.trace_lines.Statement.{statement}
 use Rattle.trace.proofs.trace_lines.Tie as tie
@@ -34,8 +35,8 @@ inside c = line-inside (c .before .loop .inv .0) (c .loop-test .taken)
 fits : (c : tie.In-loop Inv-loop μ-loop) → c .before .loop .to + lineWidth (start c .args .n) ≤ length (start c .args .out .now)
 fits c = line-fits (start c .pre .1) (c .before .loop .k) (c .before .loop .to) (c .loop-test .taken) (c .before .loop .inv .1)
 
-resting : (c : tie.In-loop Inv-loop μ-loop)
-    → Resting (start c .args .n) (start c .args .latches .now) (start c .args .outputs .now) (start c .args .gates .now) (c .before .loop .scratch)
+resting : (c : tie.In-loop Inv-loop μ-loop) → let a = start c .args in
+    Resting (a .n) (a .latches .now) (a .outputs .now) (a .gates .now) (c .before .loop .scratch)
 resting c =
     let b = start c .pre .0 in
     let g = c .before .loop .inv .4 (b .inputs) (b .state) (b .runs) (b .state-length) (b .rests) in
@@ -79,7 +80,9 @@ write-line-requires c κs =
     )
 
 add-at : tie.Need-add-at Inv-loop μ-loop
-add-at c = omega (arith, inside (c .before .before .before .before .before .before .before .before .before), start (c .before .before .before .before .before .before .before .before .before) .good)
+add-at c =
+    let i = c .before .before .before .before .before .before .before .before .before in
+    omega (arith, inside i, start i .good)
 
 add-k : tie.Need-add-k Inv-loop μ-loop
 add-k c = search needs

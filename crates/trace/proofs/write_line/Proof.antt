@@ -5,12 +5,22 @@ use borrow.Author.Needs.{needs}
 use Rattle.trace.proofs.write_line.Statement.{statement}
 use Rattle.trace.proofs.write_line.Tie as tie
 
--- back to the start from the step, and from the call before it that loads the inputs
+-- back from the step to where the inputs were loaded, to the call before it, and to the start
+abbrev loaded : tie.After-step-values-arg → tie.After-scratch
+loaded c = c .before .before .before .before .before .before .before
+
 abbrev loading : tie.After-step-values-arg → tie.After-load-arg
-loading c = c .before .before .before .before .before .before .before .before .before
+loading c = loaded c .before .before
 
 abbrev start : tie.After-load-arg → tie.Start
 start c = c .before .before .before .before .before .before .before .before .before .before .before .before .before
+
+-- from the last two parts of the line back to the step
+abbrev third : tie.After-put-part-arg6 → tie.After-step-values-arg
+third c = c .before .before .before .before .before .before
+
+abbrev fourth : tie.After-put-part-arg8 → tie.After-put-part-arg6
+fourth c = c .before .before .before .before .before .before
 
 add-put-part : tie.Need-add-put-part
 add-put-part c = search needs
@@ -28,18 +38,25 @@ step-values-requires : tie.Need-step-values-requires
 step-values-requires c κs =
     let q = start (loading c) in
     let p = q .pre .0 in
-    line-ready (p .runs) (p .state) (q .args .ins .now) (p .state-length) (p .rests) (p .scratch-long) (q .pre .1 .0) (c .before .before .before .before .before .before .before .before .load .ensures)
-    (c .before .before .before .before .before .before .before .scratch .given)
+    line-ready (p .runs) (p .state) (q .args .ins .now) (p .state-length) (p .rests) (p .scratch-long) (q .pre .1 .0)
+    (loaded c .before .load .ensures) (loaded c .scratch .given)
 
 add-put-part-2 : tie.Need-add-put-part-2
 add-put-part-2 c = omega (arith, start (loading (c .before .before .before .before .before)) .pre .0 .runs .fits .most-M)
 
 put-part-requires-3 : tie.Need-put-part-requires-3
 put-part-requires-3 c κs =
-    let d = c .before .before .before .before .before .before in
+    let d = third c in
     let q = start (loading d) in (
-      omega (arith, q .pre .0 .scratch-long, c .before .before .before .before .scratch2 .given, d .before .before .before .before .before .before .before .scratch .given),
-      omega (arith, q .pre .1 .1, d .before .before .out2 .given, d .before .before .before .put-part2 .ensures .0, (loading d) .before .before .out .given, (loading d) .before .before .before .put-part .ensures .0),
+      omega (arith, q .pre .0 .scratch-long, c .before .before .before .before .scratch2 .given, loaded d .scratch .given),
+      omega (
+        arith,
+        q .pre .1 .1,
+        d .before .before .out2 .given,
+        d .before .before .before .put-part2 .ensures .0,
+        loading d .before .before .out .given,
+        loading d .before .before .before .put-part .ensures .0,
+      ),
     )
 
 add-put-part-3 : tie.Need-add-put-part-3
@@ -47,9 +64,16 @@ add-put-part-3 c = search needs
 
 put-part-requires-4 : tie.Need-put-part-requires-4
 put-part-requires-4 c κs =
-    let d = c .before .before .before .before .before .before .before .before .before .before .before .before in
+    let f = fourth c in
+    let d = third f in
     let q = start (loading d) in (
-      omega (arith, q .pre .0 .scratch-long, q .pre .0 .runs .fits .sum, c .before .before .before .before .before .before .before .before .before .before .scratch2 .given, d .before .before .before .before .before .before .before .scratch .given),
+      omega (
+        arith,
+        q .pre .0 .scratch-long,
+        q .pre .0 .runs .fits .sum,
+        f .before .before .before .before .scratch2 .given,
+        loaded d .scratch .given,
+      ),
       omega (
         arith,
         q .pre .1 .1,
@@ -57,8 +81,8 @@ put-part-requires-4 c κs =
         c .before .before .before .before .before .put-part3 .ensures .0,
         d .before .before .out2 .given,
         d .before .before .before .put-part2 .ensures .0,
-        (loading d) .before .before .out .given,
-        (loading d) .before .before .before .put-part .ensures .0,
+        loading d .before .before .out .given,
+        loading d .before .before .before .put-part .ensures .0,
       ),
     )
 
@@ -67,26 +91,30 @@ same-length c = search needs
 
 same-length-2 : tie.Need-same-length-2
 same-length-2 c =
-    let d = c .before .before .before .before .before .before .before .before .before .before .before .before .before .before .before in
-    c .before .out4 .given ∙ (c .before .before .before .before .before .before .before .out3 .given ∙ (d .before .before .out2 .given ∙ (loading d) .before .before .out .given))
+    let f = fourth (c .before .before .before) in
+    let d = third f in
+    let late = c .before .out4 .given ∙ c .before .before .before .before .before .before .before .out3 .given in
+    late ∙ (d .before .before .out2 .given ∙ loading d .before .before .out .given)
 
 returns : tie.Need-returns
 returns c =
-    let d = c .before .before .before .before .before .before .before .before .before .before .before .before .before .before .before in
+    let f = fourth (c .before .before .before) in
+    let d = third f in
     let l = loading d in
     let q = start l in
     let a = q .args in
-    let m1 = l .before .before .before .put-part .ensures .0 in
-    let m2 = d .before .before .before .put-part2 .ensures .0 in
-    let m3 = c .before .before .before .before .before .before .before .before .put-part3 .ensures .0 in
-    let m4 = c .before .before .put-part4 .ensures .0 in (
-      omega (arith, m1, m2, m3, m4),
+    let w1 = l .before .before .before .put-part .ensures in
+    let w2 = d .before .before .before .put-part2 .ensures in
+    let w3 = c .before .before .before .before .before .before .before .before .put-part3 .ensures in
+    let w4 = c .before .before .put-part4 .ensures in
+    let e1 = loaded d .before .load .ensures in (
+      omega (arith, w1 .0, w2 .0, w3 .0, w4 .0),
       λ inputs s r ls rests.
-          let stands = line-stands r s (a .ins .now) ls rests (q .pre .0 .scratch-long) (q .pre .1 .0) (d .before .before .before .before .before .before .before .before .load .ensures) in
-          line-wrote r s (a .ins .now) ls rests (q .pre .0 .scratch-long) (q .pre .1 .0) (d .before .before .before .before .before .before .before .before .load .ensures)
-          (c .before .before .before .before .before .before .before .before .before .before .before .before .before .before .step-values .ensures inputs _ _ r stands) (a .out .now) (a .at) (q .pre .1 .1)
-          (l .before .before .before .put-part .ensures .1) m1 (d .before .before .before .put-part2 .ensures .1) m2
-          (c .before .before .before .before .before .before .before .before .put-part3 .ensures .1) m3 (c .before .before .put-part4 .ensures .1) m4,
+          let room = q .pre .0 .scratch-long in
+          let stands = line-stands r s (a .ins .now) ls rests room (q .pre .1 .0) e1 in
+          let step = f .before .before .before .before .before .step-values .ensures inputs _ _ r stands in
+          line-wrote r s (a .ins .now) ls rests room (q .pre .1 .0) e1 step (a .out .now) (a .at) (q .pre .1 .1)
+          (w1 .1) (w1 .0) (w2 .1) (w2 .0) (w3 .1) (w3 .0) (w4 .1) (w4 .0),
     )
 
 pub write-line-spec : {M : Type 1} → statement M
