@@ -3,12 +3,11 @@ use Prim.Native.Nat.{ℕ, zero, suc, _+_, _≤_, _<_}
 use mathlib.Core.Path.{_≡_, refl, sym, ap, ap₂, _∙_}
 use mathlib.Core.Bool.{Bool, true, false, cond, _&&_}
 use mathlib.Core.List.{List, [], _∷_, _++_, map}
-use native.Mathlib.Numerals.{add-one}
 use native.Mathlib.Omega.{arith}
 use borrow.Author.Tests.{eqb-true}
 use lib.Dec.{eqb}
 use lib.ListN.{length, take, drop, length-append}
-use lib.Seq.{take-at, take-add, take-take, drop-at, drop-append-add}
+use lib.Seq.{take-at, take-take, drop-append-add}
 use Rattle.plan.specs.Circuit.{rowsOf}
 use Rattle.plan.specs.Outcome.{allCodes}
 use Rattle.plan.specs.Programs.{onFirst, linesIn, allVectors}

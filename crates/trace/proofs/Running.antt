@@ -3,11 +3,10 @@ use Prim.Native.Nat.{ℕ, suc, _+_, _-_, _*_, _≤_, _<_}
 use mathlib.Core.Path.{_≡_, refl, sym, ap, ap₂, _∙_, subst}
 use mathlib.Core.Bool.{true}
 use mathlib.Core.List.{List, [], _∷_, _++_, map, append-assoc, append-nil}
-use native.Mathlib.Nat.{zero-add}
 use native.Mathlib.Omega.{arith}
 use borrow.Rule.Slice.PartMut.{midOf, mid-len}
 use lib.ListN.{length, take, drop, length-map, length-append, length-drop}
-use lib.Seq.{length-take-le, drop-drop}
+use lib.Seq.{drop-drop}
 use Rattle.plan.specs.declared.Counts.{Counts}
 use Rattle.plan.specs.Circuit.{Circuit}
 use Rattle.plan.specs.Step.{Value, valueOf, nextOf, stepOf, run}
@@ -17,9 +16,9 @@ use Rattle.plan.specs.Whole.{lineWidth, stateAfter}
 use Rattle.theorems.proofs.Put.{put-none, put-put}
 use Rattle.theorems.proofs.Running.Runs.{next-length}
 use Rattle.theorems.proofs.Tables.{row-ends}
-use Rattle.tables.specs.Held.{circuitIn, Scratch}
+use Rattle.tables.specs.Held.{circuitIn}
 use Rattle.sweep.specs.Running.{Runs, Rests}
-use Rattle.trace.specs.Tracing.{Resting, Wrote, Listed, firstOnes, Ran}
+use Rattle.trace.specs.Tracing.{Wrote, Listed, firstOnes, Ran}
 use Rattle.trace.proofs.Lines.{NextLine, next-line}
 use Rattle.trace.proofs.Writing.{line-length}
 

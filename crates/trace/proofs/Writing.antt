@@ -1,5 +1,5 @@
 -- One line of a run: its four parts, and the step between the inputs and the outputs.
-use Prim.Native.Nat.{ℕ, _+_, _*_, _≤_}
+use Prim.Native.Nat.{ℕ, _+_, _≤_}
 use mathlib.Core.Path.{_≡_, refl, sym, ap, _∙_}
 use mathlib.Core.List.{List, [], _∷_, _++_, map, append-assoc, append-nil}
 use native.Mathlib.Omega.{arith}
@@ -13,12 +13,12 @@ use Rattle.plan.specs.Whole.{lineWidth}
 use Rattle.theorems.proofs.Running.Runs.{next-length}
 use Rattle.tables.specs.Held.{circuitIn, Scratch}
 use Rattle.print.proofs.Filling.{Filling, none-filled, part-filled, all-filled}
-use Rattle.values.specs.Words.{word, words, valuesAt}
+use Rattle.values.specs.Words.{word, words}
 use Rattle.values.proofs.Parts.{part-put}
 use Rattle.sweep.specs.Running.{Runs, Rests, Stands, Stepped, Ready}
 use Rattle.sweep.proofs.Loading.{stands-loaded}
 use Rattle.step.proofs.Buffers.{told-part}
-use Rattle.trace.specs.Tracing.{part, Resting, Wrote}
+use Rattle.trace.specs.Tracing.{part, Wrote}
 use Rattle.trace.proofs.Parts.{codes-length}
 
 -- a vector's codes and the byte after them

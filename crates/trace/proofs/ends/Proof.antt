@@ -1,8 +1,7 @@
-use mathlib.Core.Path.{sym, ap, ap₂}
-use mathlib.Core.Bool.{Bool, true, _||_}
+use mathlib.Core.Path.{sym, ap}
+use mathlib.Core.Bool.{Bool, _||_}
 use borrow.Author.Tests.{eq-eqb, ne-eqb}
-use lib.Dec.{eqb}
-use lib.ListN.{length, getD}
+use lib.ListN.{length}
 use Rattle.plan.specs.Tail.{endsLine}
 use borrow.Author.Needs.{needs}
 use Rattle.trace.proofs.ends.Statement.{statement}
