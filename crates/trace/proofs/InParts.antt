@@ -14,9 +14,9 @@ use Rattle.plan.specs.declared.Counts.{Counts}
 use Rattle.plan.specs.declared.Refusal.{Refusal}
 use Rattle.plan.specs.declared.Traced.the-variants.{Lines}
 use Rattle.plan.specs.Refusals.{firstOf}
-use Rattle.plan.specs.Circuit.{Circuit}
+use Rattle.plan.specs.Circuit.{Circuit, Tables, circuitOf}
 use Rattle.plan.specs.Step.{Value, valueOf, run}
-use Rattle.plan.specs.Given.{Given, given, lentAlone}
+use Rattle.plan.specs.Given.{given, lentAlone}
 use Rattle.plan.specs.Outcome.{allCodes}
 use Rattle.plan.specs.Programs.{linesIn, allVectors, stepLines}
 use Rattle.plan.specs.Whole.{TraceEntry, TraceExit, traceStage, lineWidth, nextLines, stateAfter, tracedBy, trace}
@@ -62,20 +62,20 @@ module _ (e : TraceEntry) (k : ℕ) (said : trace e .answer ≡ Lines k) where
   nothing : answer (e .circuit) (traceStage e) ≡ none
   nothing = no-refusal e k (answer (e .circuit) (traceStage e)) said
 
-  outcome : trace e ≡ tracedBy none e
+  pub outcome : trace e ≡ tracedBy none e
   outcome = ap (λ (o : Option Refusal). tracedBy o e) nothing
 
-  stages-none : (firstOf (allStages true (e .circuit) (lentAlone (e .circuit))) ≡ none) × (firstOf (traceStage e ∷ []) ≡ none)
+  pub stages-none : (firstOf (allStages true (e .circuit) (lentAlone (e .circuit))) ≡ none) × (firstOf (traceStage e ∷ []) ≡ none)
   stages-none = both-none (allStages true (e .circuit) (lentAlone (e .circuit))) (traceStage e ∷ []) nothing
 
-  tables-good : Good true (e .circuit)
+  pub tables-good : Good true (e .circuit)
   tables-good = good-alone true (e .circuit) (stages-none .0)
 
-  vectors-good : (codesIn (e .state) (n .L) ≡ true) × ((ended (e .vectors) && allVectors (n .I) (linesIn (e .vectors))) ≡ true)
+  pub vectors-good : (codesIn (e .state) (n .L) ≡ true) × ((ended (e .vectors) && allVectors (n .I) (linesIn (e .vectors))) ≡ true)
   vectors-good =
       all-good (codesIn (e .state) (n .L)) (ended (e .vectors) && allVectors (n .I) (linesIn (e .vectors))) (stages-none .1)
 
-  whole : allVectors (n .I) (linesIn (e .vectors)) ≡ true
+  pub whole : allVectors (n .I) (linesIn (e .vectors)) ≡ true
   whole = and-right (ended (e .vectors)) (allVectors (n .I) (linesIn (e .vectors))) (vectors-good .1)
 
   state-long : length s ≡ n .L
@@ -92,7 +92,7 @@ module _ (e : TraceEntry) (k : ℕ) (said : trace e .answer ≡ Lines k) where
       let q : Lines (length (nextLines e)) ≡ Lines k = sym (ap (λ (x : TraceExit). x .answer) outcome) ∙ said in
       cc
 
-  few-is : few ≡ k
+  pub few-is : few ≡ k
   few-is =
       sym (length-map (take few (linesIn (e .vectors))) (map valueOf)
       ∙ length-take-le few (linesIn (e .vectors)) (min-le-left (length (linesIn (e .vectors))) (length (e .out) / lineWidth n)))
@@ -131,20 +131,28 @@ module _ (e : TraceEntry) (k : ℕ) (said : trace e .answer ≡ Lines k) where
       ∙ ap₂ (λ (l : List ℕ) (x : List Value). l ++ stepLines (run c x (values (drop ((n .I + 1) * k) (e .vectors)))))
       (sym lines-there) (sym state-there))
 
--- calls until no vector is left, each with a buffer of its own, from the state that the one before left
-abbrev pub call : Given → List ℕ → List ℕ → List ℕ → TraceEntry
-call g state vectors out = record { circuit = g; state = state; vectors = vectors; out = out }
+-- a call on tables, with what is lent to it
+abbrev pub call : Counts → Tables → List ℕ → List ℕ → List ℕ → List ℕ → TraceEntry
+call n t scratch state vectors out = record {
+  circuit = record { counts = n; tables = t; scratch = scratch };
+  state = state;
+  vectors = vectors;
+  out = out;
+}
 
-pub data Calls (g : Given) : List ℕ → List ℕ → List ℕ → Type 0 where
-  none-left : {state : List ℕ} → Calls g state [] []
-  one-more : {state vectors printed : List ℕ} (out : List ℕ) (k : ℕ) → trace (call g state vectors out) .answer ≡ Lines k
-      → Calls g (trace (call g state vectors out) .state) (drop ((g .counts .I + 1) * k) vectors) printed
-      → Calls g state vectors (take (lineWidth (g .counts) * k) (trace (call g state vectors out) .out) ++ printed)
+-- calls until no vector is left, each with a buffer of its own, from the scratch and the state that the one before left
+pub data Calls (n : Counts) (t : Tables) : List ℕ → List ℕ → List ℕ → List ℕ → Type 0 where
+  none-left : {scratch state : List ℕ} → Calls n t scratch state [] []
+  one-more : {scratch state vectors printed : List ℕ} (out : List ℕ) (k : ℕ)
+      → trace (call n t scratch state vectors out) .answer ≡ Lines k
+      → Calls n t (trace (call n t scratch state vectors out) .scratch) (trace (call n t scratch state vectors out) .state)
+      (drop ((n .I + 1) * k) vectors) printed
+      → Calls n t scratch state vectors (take (lineWidth n * k) (trace (call n t scratch state vectors out) .out) ++ printed)
 
 -- what they print together is the run
-pub calls-print : {g : Given} {state vectors printed : List ℕ} → Calls g state vectors printed
-    → printed ≡ stepLines (run (given g) (map valueOf state) (values vectors))
+pub calls-print : {n : Counts} {t : Tables} {scratch state vectors printed : List ℕ} → Calls n t scratch state vectors printed
+    → printed ≡ stepLines (run (circuitOf n t) (map valueOf state) (values vectors))
 calls-print none-left = refl
-calls-print {g} {state} {vectors} (one-more out k said rest) =
-    ap (λ (l : List ℕ). take (lineWidth (g .counts) * k) (trace (call g state vectors out) .out) ++ l) (calls-print rest)
-    ∙ sym (trace-part (call g state vectors out) k said)
+calls-print {n} {t} {scratch} {state} {vectors} (one-more out k said rest) =
+    ap (λ (l : List ℕ). take (lineWidth n * k) (trace (call n t scratch state vectors out) .out) ++ l) (calls-print rest)
+    ∙ sym (trace-part (call n t scratch state vectors out) k said)

@@ -8,16 +8,16 @@ use native.Mathlib.Omega.{arith}
 use borrow.Author.Tests.{le-leb}
 use lib.Dec.{leb}
 use lib.ListN.{length, replicate}
+use Rattle.plan.specs.declared.Counts.{Counts}
 use Rattle.plan.specs.declared.Refusal.{Refusal}
 use Rattle.plan.specs.declared.Refusal.the-variants.{WrongByte, BadVector, LongInput}
 use Rattle.plan.specs.declared.Traced.{Traced}
 use Rattle.plan.specs.declared.Traced.the-variants.{Lines, Refused}
 use Rattle.plan.specs.Refusals.{Parse, got, refused, _then_}
-use Rattle.plan.specs.Circuit.{Circuit}
+use Rattle.plan.specs.Circuit.{Circuit, Tables, circuitOf}
 use Rattle.plan.specs.Reading.{readFile}
 use Rattle.plan.specs.Convert.{convert}
 use Rattle.plan.specs.Step.{Value, v0, valueOf, run, first}
-use Rattle.plan.specs.Given.{Given, given}
 use Rattle.plan.specs.Programs.{lentWords, refusalLine, printed, input, linesIn, allVectors, stimulus, stepLines, tracer}
 use Rattle.plan.specs.Whole.{countedBy, countLines}
 use Rattle.trace.specs.Scan.{ended}
@@ -93,9 +93,10 @@ zeros-first (suc n) = ap (λ (l : List Value). v0 ∷ l) (zeros-first n)
 -- calls on the converted circuit, from that state on, print what the tracer prints
 pub calls-trace : (file : List ℕ) (c : Circuit) (start : ℕ) → length file ≤ 65536 → readFile file lentWords ≡ got c start
     → (bytes : List ℕ) (k : ℕ) → countLines (some bytes) (length (c .inputs)) ≡ Lines k
-    → (g : Given) → given g ≡ convert c → (out : List ℕ) → Calls g (replicate (length (convert c .latches)) 48) bytes out
+    → (n : Counts) (t : Tables) → circuitOf n t ≡ convert c → (scratch out : List ℕ)
+    → Calls n t scratch (replicate (length (convert c .latches)) 48) bytes out
     → out ≡ tracer (some file) (some bytes)
-calls-trace file c start short reads bytes k counted g holds out calls =
+calls-trace file c start short reads bytes k counted n t holds scratch out calls =
     calls-print calls
     ∙ (ap₂ (λ (d : Circuit) (s : List Value). stepLines (run d s (values bytes))) holds (zeros-first (length (convert c .latches)))
     ∙ sym (tracer-prints file c start short reads (some bytes) bytes refl k counted))
