@@ -29,7 +29,7 @@ use Rattle.given.proofs.Sound.{Good, good-alone}
 use Rattle.step.proofs.Checks.{answer}
 use Rattle.trace.specs.Scan.{ended}
 use Rattle.trace.proofs.Answers.{bad}
-use Rattle.trace.proofs.Together.{traced-together, traced-length, all-sized, lines-past}
+use Rattle.trace.proofs.Together.{traced-together, traced-length, after-length, all-sized, lines-past}
 
 -- the vectors of lines, as values
 abbrev pub values : List ℕ → List (List Value)
@@ -121,6 +121,10 @@ module _ (e : TraceEntry) (k : ℕ) (said : trace e .answer ≡ Lines k) where
 
   state-there : map valueOf (trace e .state) ≡ stateAfter c s (nextLines e)
   state-there = ap (λ (x : TraceExit). map valueOf (x .state)) outcome ∙ codes-values (stateAfter c s (nextLines e))
+
+  -- the state keeps its length
+  pub state-sized : length (stateAfter c s (nextLines e)) ≡ n .L
+  state-sized = after-length c (nextLines e) s (ap (λ (m : Counts). m .L) (tables-good .counts)) state-long
 
   pub trace-part : stepLines (run c s (values (e .vectors)))
       ≡ take (lineWidth n * k) (trace e .out)

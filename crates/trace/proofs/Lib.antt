@@ -11,3 +11,4 @@ pub mod Answers
 pub mod Together
 pub mod InParts
 pub mod Printed
+pub mod GoingOn

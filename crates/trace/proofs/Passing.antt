@@ -30,7 +30,7 @@ ended-more b a l =
     ap₂ (λ (t : Bool) (k : ℕ). t || eqb (getD (b ∷ a ∷ l) k 0) 10) (ne-eqb (suc (suc (length l))) 0 (λ e. omega arith)) two
     ∙ sym (ap₂ (λ (t : Bool) (k : ℕ). t || eqb (getD (a ∷ l) k 0) 10) (ne-eqb (suc (length l)) 0 (λ e. omega arith)) one)
 
-ended-past : (b : ℕ) (l : List ℕ) → ended (b ∷ l) ≡ true → ended l ≡ true
+pub ended-past : (b : ℕ) (l : List ℕ) → ended (b ∷ l) ≡ true → ended l ≡ true
 ended-past b [] e = refl
 ended-past b (a ∷ l) e = sym (ended-more b a l) ∙ e
 

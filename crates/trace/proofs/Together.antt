@@ -51,6 +51,11 @@ traced-length c n e (i ∷ list) z s h =
     one-more : (w k : ℕ) → w * suc k ≡ w + w * k
     one-more w k = omega (arith, mul-suc w k)
 
+pub after-length : (c : Circuit) {l : ℕ} (list : List (List Value)) (s : List Value) → length (c .latches) ≡ l → length s ≡ l
+    → length (stateAfter c s list) ≡ l
+after-length c [] s e h = h
+after-length c (i ∷ list) s e h = after-length c list (nextOf c s i) e (next-length c s i ∙ e)
+
 -- whole vectors, and those that are left of them
 pub all-sized : (w : ℕ) (rows : List (List ℕ)) → allVectors w rows ≡ true → (k : ℕ) → Sized w (map (map valueOf) (take k rows))
 all-sized w rows good zero = tt

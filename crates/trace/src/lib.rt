@@ -1,4 +1,4 @@
-// The run of a circuit as lines: standard input's lines counted, and a part of a run traced (the paper, programs).
+// The run of a circuit as lines: standard input's lines counted, and a part of a run traced (the paper, programs and their output).
 ghost use mathlib.Core.Path.{_≡_};
 ghost use mathlib.Core.Bool.{_&&_};
 ghost use mathlib.Core.List.{List, map};
@@ -64,7 +64,7 @@ fn scan_lines(bytes: &[u8], width: usize) -> Traced
     Traced::Lines(number)
 }
 
-// The number of lines: 1 at the length where the last has no end, then 12 (the paper, programs).
+// The number of lines: 1 at the length where the last has no end, then 12 (the paper, programs and their output).
 fn whole_lines(bytes: &[u8], width: usize) -> Traced
     ensures { λ r. ⌜ r ≡ countedBy (stimulus width (now (bytes .entry))) ⌝ }
 {
@@ -219,7 +219,7 @@ fn judge(n: Counts, state: &[u8], vectors: &[u8]) -> Traced
 }
 
 // A part of a run: as many whole lines as fit into `out`, from the state that is given; the state after them goes over it. The answer is
-// the number of lines. On a refusal neither changes; scratch is zero afterwards (the paper, programs).
+// the number of lines. On a refusal neither changes; scratch is zero afterwards (the paper, programs and their output).
 pub fn trace(
     n: Counts,
     inputs: &[u32],
