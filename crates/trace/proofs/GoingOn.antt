@@ -21,7 +21,7 @@ use Rattle.plan.specs.Programs.{linesIn, allVectors}
 use Rattle.plan.specs.Whole.{TraceEntry, TraceExit, traceStage, lineWidth, nextLines, stateAfter, tracedBy, trace}
 use Rattle.theorems.proofs.Reading.Common.{and-left, and-right, and-intro}
 use Rattle.theorems.proofs.Writing.Stepping.{all-codes}
-use Rattle.vectors.proofs.Places.{codesIn}
+use Rattle.codes.proofs.Places.{codesIn}
 use Rattle.given.specs.Judged.{allStages}
 use Rattle.step.proofs.Checks.{answer}
 use Rattle.trace.specs.Scan.{ended}
