@@ -1,4 +1,4 @@
--- How many bytes a number of 32 bits has at most.
+-- How many bytes a number has at most: of so many digits, of 32 bits.
 use Prim.Native.Nat.{ℕ, suc, zero, _+_, _*_, _/_, _%_, _^_, _<_, _≤_}
 use mathlib.Core.Path.{_≡_, refl, ap, _∙_}
 use mathlib.Core.Bool.{Bool, true, false}
@@ -13,7 +13,7 @@ use Rattle.theorems.proofs.Reading.Number.{digits-small, digits-step}
 use Rattle.plan.specs.Difference.{groupsOf}
 use Rattle.theorems.proofs.Reading.Differences.{groups-small, groups-step}
 
-digits-most : (k n : ℕ) → n < 10 ^ suc k → length (digits n) ≤ suc k
+pub digits-most : (k n : ℕ) → n < 10 ^ suc k → length (digits n) ≤ suc k
 digits-most zero n h = omega (arith, ap length (digits-small n h))
 digits-most (suc k) n h = go (ltb n 10) refl (λ g. digits-most k (n / 10) g)
   where

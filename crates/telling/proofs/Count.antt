@@ -1,12 +1,11 @@
 -- How many digits a number of 64 bits has, counted by dividing by ten.
-use Prim.Native.Nat.{ℕ, suc, zero, _+_, _*_, _/_, _^_, _<_, _≤_}
+use Prim.Native.Nat.{ℕ, suc, _+_, _/_, _<_, _≤_}
 use mathlib.Core.Path.{_≡_, refl}
-use native.Mathlib.Nat.{pow-suc}
 use native.Mathlib.Omega.{arith}
-use native.Mathlib.Decide.{decLe}
 use lib.ListN.{length}
 use Rattle.plan.specs.Bytes.{digits}
 use Rattle.codec.proofs.numbers.Length.{one, more}
+use Rattle.print.proofs.Sizes.{digits-most}
 
 -- what is left has as many digits as are still to count
 pub record Counting (n count rest : ℕ) : Type 0 where
@@ -24,16 +23,5 @@ module _ {n count rest : ℕ} (s : Counting n count rest) where
   pub all-counted : rest < 10 → count ≡ length (digits n)
   all-counted h = omega (arith, s .counted, one rest h)
 
--- a number below a power of ten
-pub few : (k n : ℕ) → n < 10 ^ suc k → length (digits n) ≤ suc k
-few zero n h = omega (arith, one n h)
-few (suc k) n h = go (decLe 10 n) (λ l. few k (n / 10) l)
-  where
-    go : Dec (10 ≤ n) → (n / 10 < 10 ^ suc k → length (digits (n / 10)) ≤ suc k) → length (digits n) ≤ suc (suc k)
-    go (yes l) ih =
-        let high : n < 10 ^ suc k * 10 = rw (← pow-suc 10 (suc k)) h in
-        omega (arith, ih (omega arith), more n (length (digits (n / 10))) l refl)
-    go (no l) ih = omega (arith, one n (omega arith))
-
 pub few-64 : (n : ℕ) → n < 18446744073709551616 → length (digits n) ≤ 20
-few-64 n h = few 19 n (omega arith)
+few-64 n h = digits-most 19 n (omega arith)

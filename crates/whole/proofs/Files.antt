@@ -95,7 +95,8 @@ module _ (readable : Bool) (file : List ℕ) (read made : Tables) (scratch out :
         → x ≡ putBytes out 0 (otherForm (formOf b) c ++ midOf start (length file - start) file) → x ≡ toldBy out (convertedFile w)
     converted b b-is x said =
         let h = headed readable c start q in
-        let form : formOf b ≡ h .0 .form = ap formOf (b-is ∙ ap (λ (p : Parse Head). binaryBy (headedBy p)) (h .2)) ∙ form-back (h .0 .form) in
+        let form : formOf b ≡ h .0 .form = ap formOf (b-is ∙ ap (λ (p : Parse Head). binaryBy (headedBy p)) (h .2)) ∙ form-back (h .0
+        .form) in
         let bytes = otherForm (h .0 .form) c ++ drop start file in
         said
         ∙ (ap₂ (λ (f : Form) (tail : List ℕ). putBytes out 0 (otherForm f c ++ tail)) form (part-from start file)

@@ -96,7 +96,8 @@ module _ (e : OpenEntry) where
           -- the answer on five tables, of which scratch is long enough
           module _ (i l o a4 : ℕ) (made-is : e .made ≡ i ∷ l ∷ o ∷ a4 ∷ []) (k : ℕ)
               (told : tableOf k ≡ short (against 1 (wordsToRead n) (five i l o a4 (length (x .scratch))))) where
-            four : short (against 1 (wordsToRead n) (five i l o a4 (length (x .scratch)))) ≡ short (against 1 (take 4 (wordsToWork n)) (e .made))
+            four : short (against 1 (wordsToRead n) (five i l o a4 (length (x .scratch)))) ≡ short (against 1 (take 4 (wordsToWork n)) (e
+                .made))
             four =
                 let first : short (against 1 (wordsToRead n) (five i l o a4 (length (x .scratch))))
                 ≡ short (against 1 (take 4 (wordsToWork n)) (i ∷ l ∷ o ∷ a4 ∷ []))

@@ -82,7 +82,8 @@ module _ (e : WholeEntry) (lends : Lends e) where
     loaded-alike : (loaded e file then k) ≡ readFile file lentWords then l
     loaded-alike =
         ap (λ (words : List ℕ). (readFile file words then λ c start.
-        unless (short (against 1 (take 4 (wordsToWork (countsOf c))) (lengthsOf (e .made)))) ShortTable (got c start)) then k) (lends .words)
+        unless (short (against 1 (take 4 (wordsToWork (countsOf c))) (lengthsOf (e .made)))) ShortTable (got c start)) then k) (lends
+        .words)
         ∙ go (readFile file lentWords) refl
       where
         go : (p : Parse Circuit) → readFile file lentWords ≡ p
@@ -118,7 +119,8 @@ module _ (e : WholeEntry) (lends : Lends e) where
   input-alike f g h none q = refl
   input-alike f g h (some file) q = go (leb (length file) 65536) refl
     where
-      go : (t : Bool) → leb (length file) 65536 ≡ t → cond t (f file) (refused (LongInput 65536)) ≡ cond t (g file) (refused (LongInput 65536))
+      go : (t : Bool) → leb (length file) 65536 ≡ t → cond t (f file) (refused (LongInput 65536)) ≡ cond t (g file) (refused (LongInput
+          65536))
       go true s = h file (leb-true (length file) 65536 s) (lends .bytes file q)
       go false s = refl
 
@@ -129,7 +131,8 @@ module _ (e : WholeEntry) (lends : Lends e) where
   reducer-file : reducedFile e ≡ input (e .plan) λ file. readFile file lentWords then lessIn file
   reducer-file =
       input-alike _ _ (λ file small bytes. loaded-alike file _ (lessIn file) small bytes
-      (λ c start q. fits-alike (e .out) (binaryOf (reduce (convert c)) ++ drop start file) (lends .room) (less-small file small bytes c start q))) (e .plan) refl
+      (λ c start q. fits-alike (e .out) (binaryOf (reduce (convert c)) ++ drop start file) (lends .room) (less-small file small bytes c
+      start q))) (e .plan) refl
 
   -- the first bytes of the buffer, or the line of the refusal
   bytes-printed : (p : Parse (List ℕ)) (k : ℕ) → wholeBy e p .answer ≡ written.Bytes k → take k (wholeBy e p .out) ≡ printed p

@@ -123,7 +123,19 @@ module _ (g : Given) (tail made : List ℕ) (ready : Ready g tail made) where
   own-long : short (against 1 (take 4 (wordsToWork (g .counts))) (lengthsOf (g .tables))) ≡ none
   own-long =
       let l = short-none (lentAlone g) .0 (fine-is .room) in
-      short-none (against 1 (take 4 (wordsToWork (g .counts))) (lengthsOf (g .tables))) .1 (l .0, (l .1 .0, (l .1 .1 .0, (l .1 .1 .1 .0, tt))))
+      short-none (against 1 (take 4 (wordsToWork (g .counts))) (lengthsOf (g .tables))) .1 (
+        l .0,
+        (
+          l .1 .0,
+          (
+            l .1 .1 .0,
+            (
+              l .1 .1 .1 .0,
+              tt,
+            ),
+          ),
+        ),
+      )
 
 -- the conversion
 module _ (g : Given) (t : Tables) (tail : List ℕ) (ready : Ready g tail (lengthsOf t)) (x : MakeExit)

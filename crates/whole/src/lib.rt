@@ -2,7 +2,7 @@
 ghost use mathlib.Core.Path.{_≡_};
 ghost use mathlib.Core.Bool.{true};
 ghost use mathlib.Core.List.{_++_};
-ghost use Rattle.plan.specs.Circuit.{lengthsOf};
+ghost use Rattle.plan.specs.Circuit.{lengthsOf, cleared, allCleared};
 ghost use Rattle.plan.specs.Header.{header};
 ghost use Rattle.plan.specs.Binary.{binaryOf, binaryOrder};
 ghost use Rattle.plan.specs.Given.{given};
@@ -55,8 +55,24 @@ fn open_file(
     made: Sizes,
 ) -> Loaded
     ensures { λ r. ⌜ Opens
-        (record { readable = readable; file = now (file .entry); tables = (record { inputs = now (inputs .entry); latches = now (latches .entry); outputs = now (outputs .entry); gates = now (gates .entry) }); scratch = now (scratch .entry); made = wordsIn made })
-        r (record { inputs = now (inputs .exit); latches = now (latches .exit); outputs = now (outputs .exit); gates = now (gates .exit) }) (now (scratch .exit)) ⌝ }
+        (record {
+          readable = readable;
+          file = now (file .entry);
+          tables = (record {
+            inputs = now (inputs .entry);
+            latches = now (latches .entry);
+            outputs = now (outputs .entry);
+            gates = now (gates .entry);
+          });
+          scratch = now (scratch .entry);
+          made = wordsIn made;
+        })
+        r (record {
+          inputs = now (inputs .exit);
+          latches = now (latches .exit);
+          outputs = now (outputs .exit);
+          gates = now (gates .exit);
+        }) (now (scratch .exit)) ⌝ }
 {
     if !readable {
         return Loaded::Refused(Refusal::Unreadable(0));
@@ -99,9 +115,16 @@ fn write_other(
     tail: &[u8],
     out: &mut [u8],
 ) -> Written
-    requires { ⌜ Ready (givenIn n (now inputs) (now latches) (now outputs) (now gates) (now scratch)) (now tail) (lengthsOf (record { inputs = now «made_inputs»; latches = now «made_latches»; outputs = now «made_outputs»; gates = now «made_gates» })) ⌝ }
+    requires { ⌜ Ready (givenIn n (now inputs) (now latches) (now outputs) (now gates) (now scratch)) (now tail)
+        (lengthsOf (record {
+          inputs = now «made_inputs»;
+          latches = now «made_latches»;
+          outputs = now «made_outputs»;
+          gates = now «made_gates»;
+        })) ⌝ }
     ensures { λ r. ⌜ record { answer = r; out = now (out .exit) } ≡ putBytes (now (out .entry)) 0
-        (otherForm (formOf binary) (given (givenIn n (now (inputs .entry)) (now (latches .entry)) (now (outputs .entry)) (now (gates .entry)) (now (scratch .entry)))) ++ now (tail .entry)) ⌝ }
+        (otherForm (formOf binary) (given (givenIn n (now (inputs .entry)) (now (latches .entry)) (now (outputs .entry))
+        (now (gates .entry)) (now (scratch .entry)))) ++ now (tail .entry)) ⌝ }
 {
     if binary {
         return write_text(n, inputs, latches, outputs, gates, scratch, tail, out);
@@ -147,10 +170,13 @@ fn reduce_made(
     tail: &[u8],
     out: &mut [u8],
 ) -> Written
-    requires { ⌜ Ready (givenIn n (now «made_inputs») (now «made_latches») (now «made_outputs») (now «made_gates») (now scratch)) (now tail) (lengthsOf (record { inputs = now inputs; latches = now latches; outputs = now outputs; gates = now gates })) ⌝ }
-    requires { ⌜ binaryOrder (given (givenIn n (now «made_inputs») (now «made_latches») (now «made_outputs») (now «made_gates») (now scratch))) ≡ true ⌝ }
+    requires { ⌜ Ready (givenIn n (now «made_inputs») (now «made_latches») (now «made_outputs») (now «made_gates») (now scratch))
+        (now tail) (lengthsOf (record { inputs = now inputs; latches = now latches; outputs = now outputs; gates = now gates })) ⌝ }
+    requires { ⌜ binaryOrder (given (givenIn n (now «made_inputs») (now «made_latches») (now «made_outputs») (now «made_gates»)
+        (now scratch))) ≡ true ⌝ }
     ensures { λ r. ⌜ record { answer = r; out = now (out .exit) } ≡ putBytes (now (out .entry)) 0
-        (binaryOf (reduce (given (givenIn n (now («made_inputs» .entry)) (now («made_latches» .entry)) (now («made_outputs» .entry)) (now («made_gates» .entry)) (now (scratch .entry))))) ++ now (tail .entry)) ⌝ }
+        (binaryOf (reduce (given (givenIn n (now («made_inputs» .entry)) (now («made_latches» .entry)) (now («made_outputs» .entry))
+        (now («made_gates» .entry)) (now (scratch .entry))))) ++ now (tail .entry)) ⌝ }
 {
     match reduce::reduce(
         n,
@@ -184,9 +210,16 @@ fn write_reduced(
     tail: &[u8],
     out: &mut [u8],
 ) -> Written
-    requires { ⌜ Ready (givenIn n (now inputs) (now latches) (now outputs) (now gates) (now scratch)) (now tail) (lengthsOf (record { inputs = now «made_inputs»; latches = now «made_latches»; outputs = now «made_outputs»; gates = now «made_gates» })) ⌝ }
+    requires { ⌜ Ready (givenIn n (now inputs) (now latches) (now outputs) (now gates) (now scratch)) (now tail)
+        (lengthsOf (record {
+          inputs = now «made_inputs»;
+          latches = now «made_latches»;
+          outputs = now «made_outputs»;
+          gates = now «made_gates»;
+        })) ⌝ }
     ensures { λ r. ⌜ record { answer = r; out = now (out .exit) } ≡ putBytes (now (out .entry)) 0
-        (binaryOf (reduce (convert (given (givenIn n (now (inputs .entry)) (now (latches .entry)) (now (outputs .entry)) (now (gates .entry)) (now (scratch .entry)))))) ++ now (tail .entry)) ⌝ }
+        (binaryOf (reduce (convert (given (givenIn n (now (inputs .entry)) (now (latches .entry)) (now (outputs .entry))
+        (now (gates .entry)) (now (scratch .entry)))))) ++ now (tail .entry)) ⌝ }
 {
     match convert::convert(
         n,
@@ -218,6 +251,29 @@ fn write_reduced(
     }
 }
 
+// All tables, zero throughout.
+fn clear_all(
+    inputs: &mut [u32],
+    latches: &mut [u32],
+    outputs: &mut [u32],
+    gates: &mut [u32],
+    made_inputs: &mut [u32],
+    made_latches: &mut [u32],
+    made_outputs: &mut [u32],
+    made_gates: &mut [u32],
+    scratch: &mut [u32],
+)
+    ensures { λ _. ⌜ record { inputs = now (inputs .exit); latches = now (latches .exit); outputs = now (outputs .exit); gates = now (gates .exit) }
+        ≡ allCleared (record { inputs = now (inputs .entry); latches = now (latches .entry); outputs = now (outputs .entry); gates = now (gates .entry) }) ⌝ }
+    ensures { λ _. ⌜ record { inputs = now («made_inputs» .exit); latches = now («made_latches» .exit); outputs = now («made_outputs» .exit); gates = now («made_gates» .exit) }
+        ≡ allCleared (record { inputs = now («made_inputs» .entry); latches = now («made_latches» .entry); outputs = now («made_outputs» .entry); gates = now («made_gates» .entry) }) ⌝ }
+    ensures { λ _. ⌜ now (scratch .exit) ≡ cleared (now (scratch .entry)) ⌝ }
+{
+    clear_four(inputs, latches, outputs, gates);
+    clear_four(made_inputs, made_latches, made_outputs, made_gates);
+    clear(scratch);
+}
+
 // The file in its other form, with the same tail. The tables hold what was left in them.
 fn convert_file(
     readable: bool,
@@ -236,8 +292,18 @@ fn convert_file(
     ensures { λ r. ⌜ record { answer = r; out = now (out .exit) } ≡ toldBy (now (out .entry)) (convertedFile
         (record {
           plan = inputOf readable (now (file .entry));
-          read = (record { inputs = now (inputs .entry); latches = now (latches .entry); outputs = now (outputs .entry); gates = now (gates .entry) });
-          made = (record { inputs = now («made_inputs» .entry); latches = now («made_latches» .entry); outputs = now («made_outputs» .entry); gates = now («made_gates» .entry) });
+          read = (record {
+            inputs = now (inputs .entry);
+            latches = now (latches .entry);
+            outputs = now (outputs .entry);
+            gates = now (gates .entry);
+          });
+          made = (record {
+            inputs = now («made_inputs» .entry);
+            latches = now («made_latches» .entry);
+            outputs = now («made_outputs» .entry);
+            gates = now («made_gates» .entry);
+          });
           scratch = now (scratch .entry);
           out = now (out .entry);
         })) ⌝ }
@@ -298,15 +364,35 @@ pub fn convert_whole(
     ensures { λ r. ⌜ Says convertWhole
         (record {
           plan = inputOf readable (now (file .entry));
-          read = (record { inputs = now (inputs .entry); latches = now (latches .entry); outputs = now (outputs .entry); gates = now (gates .entry) });
-          made = (record { inputs = now («made_inputs» .entry); latches = now («made_latches» .entry); outputs = now («made_outputs» .entry); gates = now («made_gates» .entry) });
+          read = (record {
+            inputs = now (inputs .entry);
+            latches = now (latches .entry);
+            outputs = now (outputs .entry);
+            gates = now (gates .entry);
+          });
+          made = (record {
+            inputs = now («made_inputs» .entry);
+            latches = now («made_latches» .entry);
+            outputs = now («made_outputs» .entry);
+            gates = now («made_gates» .entry);
+          });
           scratch = now (scratch .entry);
           out = now (out .entry);
         })
         (record {
           answer = r;
-          read = (record { inputs = now (inputs .exit); latches = now (latches .exit); outputs = now (outputs .exit); gates = now (gates .exit) });
-          made = (record { inputs = now («made_inputs» .exit); latches = now («made_latches» .exit); outputs = now («made_outputs» .exit); gates = now («made_gates» .exit) });
+          read = (record {
+            inputs = now (inputs .exit);
+            latches = now (latches .exit);
+            outputs = now (outputs .exit);
+            gates = now (gates .exit);
+          });
+          made = (record {
+            inputs = now («made_inputs» .exit);
+            latches = now («made_latches» .exit);
+            outputs = now («made_outputs» .exit);
+            gates = now («made_gates» .exit);
+          });
           scratch = now (scratch .exit);
           out = now (out .exit);
         }) ⌝ }
@@ -325,9 +411,17 @@ pub fn convert_whole(
         scratch,
         out,
     );
-    clear_four(inputs, latches, outputs, gates);
-    clear_four(made_inputs, made_latches, made_outputs, made_gates);
-    clear(scratch);
+    clear_all(
+        inputs,
+        latches,
+        outputs,
+        gates,
+        made_inputs,
+        made_latches,
+        made_outputs,
+        made_gates,
+        scratch,
+    );
     answer
 }
 
@@ -349,8 +443,18 @@ fn reduce_file(
     ensures { λ r. ⌜ record { answer = r; out = now (out .exit) } ≡ toldBy (now (out .entry)) (reducedFile
         (record {
           plan = inputOf readable (now (file .entry));
-          read = (record { inputs = now (inputs .entry); latches = now (latches .entry); outputs = now (outputs .entry); gates = now (gates .entry) });
-          made = (record { inputs = now («made_inputs» .entry); latches = now («made_latches» .entry); outputs = now («made_outputs» .entry); gates = now («made_gates» .entry) });
+          read = (record {
+            inputs = now (inputs .entry);
+            latches = now (latches .entry);
+            outputs = now (outputs .entry);
+            gates = now (gates .entry);
+          });
+          made = (record {
+            inputs = now («made_inputs» .entry);
+            latches = now («made_latches» .entry);
+            outputs = now («made_outputs» .entry);
+            gates = now («made_gates» .entry);
+          });
           scratch = now (scratch .entry);
           out = now (out .entry);
         })) ⌝ }
@@ -372,7 +476,7 @@ fn reduce_file(
         made,
     ) {
         Loaded::Refused(r) => Written::Refused(r),
-        Loaded::Accepted(n, start) => {
+        Loaded::Accepted(n, tail_at) => {
             write_reduced(
                 n,
                 inputs,
@@ -384,7 +488,7 @@ fn reduce_file(
                 made_outputs,
                 made_gates,
                 scratch,
-                &file[start..],
+                &file[tail_at..],
                 out,
             )
         }
@@ -409,15 +513,35 @@ pub fn reduce_whole(
     ensures { λ r. ⌜ Says reduceWhole
         (record {
           plan = inputOf readable (now (file .entry));
-          read = (record { inputs = now (inputs .entry); latches = now (latches .entry); outputs = now (outputs .entry); gates = now (gates .entry) });
-          made = (record { inputs = now («made_inputs» .entry); latches = now («made_latches» .entry); outputs = now («made_outputs» .entry); gates = now («made_gates» .entry) });
+          read = (record {
+            inputs = now (inputs .entry);
+            latches = now (latches .entry);
+            outputs = now (outputs .entry);
+            gates = now (gates .entry);
+          });
+          made = (record {
+            inputs = now («made_inputs» .entry);
+            latches = now («made_latches» .entry);
+            outputs = now («made_outputs» .entry);
+            gates = now («made_gates» .entry);
+          });
           scratch = now (scratch .entry);
           out = now (out .entry);
         })
         (record {
           answer = r;
-          read = (record { inputs = now (inputs .exit); latches = now (latches .exit); outputs = now (outputs .exit); gates = now (gates .exit) });
-          made = (record { inputs = now («made_inputs» .exit); latches = now («made_latches» .exit); outputs = now («made_outputs» .exit); gates = now («made_gates» .exit) });
+          read = (record {
+            inputs = now (inputs .exit);
+            latches = now (latches .exit);
+            outputs = now (outputs .exit);
+            gates = now (gates .exit);
+          });
+          made = (record {
+            inputs = now («made_inputs» .exit);
+            latches = now («made_latches» .exit);
+            outputs = now («made_outputs» .exit);
+            gates = now («made_gates» .exit);
+          });
           scratch = now (scratch .exit);
           out = now (out .exit);
         }) ⌝ }
@@ -436,8 +560,16 @@ pub fn reduce_whole(
         scratch,
         out,
     );
-    clear_four(inputs, latches, outputs, gates);
-    clear_four(made_inputs, made_latches, made_outputs, made_gates);
-    clear(scratch);
+    clear_all(
+        inputs,
+        latches,
+        outputs,
+        gates,
+        made_inputs,
+        made_latches,
+        made_outputs,
+        made_gates,
+        scratch,
+    );
     answer
 }

@@ -13,19 +13,29 @@ use Rattle.telling.proofs.tell_refusal.Tie as tie
 
 -- what stands in the buffer before the new line
 abbrev start : tie.After-slice-known5 → tie.Start
-start c = c .before .before .before .before .before .before .before .before .before .before .before .before .before .before .before .before .before .before .before .before .before .before .before .before
+start c = c .before .before .before .before .before .before .before .before .before .before .before .before .before .before .before
+    .before .before .before .before .before .before .before .before .before
 
 told : (c : tie.After-slice-known5) → let a = start c .args in
-    Told (a .out .now) (((bytesOf "refused " ++ digits (c .before .before .before .before .before .before .before .before .before .before .before .before .before .before .before .before .before .before .before .before .before .before .told-number .result)) ++ bytesOf " at ") ++ digits (c .before .before .before .before .before .before .before .before .before .before .before .before .before .before .before .before .before .before .before .before .before .told-place .result))
+    Told (a .out .now) (((bytesOf "refused " ++ digits (c .before .before .before .before .before .before .before .before .before .before
+    .before .before .before .before .before .before .before .before .before .before .before .before .told-number .result)) ++ bytesOf
+    " at ") ++ digits (c .before .before .before .before .before .before .before .before .before .before .before .before .before
+    .before .before .before .before .before .before .before .before .told-place .result))
     (c .before .before .write-digits2 .last .0) (c .before .before .write-digits2 .result)
 told c =
     let out = start c .args .out .now in
-    let n = c .before .before .before .before .before .before .before .before .before .before .before .before .before .before .before .before .before .before .before .before .before .before .told-number .result in
-    let p = c .before .before .before .before .before .before .before .before .before .before .before .before .before .before .before .before .before .before .before .before .before .told-place .result in
-    let enough = c .before .before .before .before .before .before .before .before .before .before .before .before .before .before .before .before .before .before .if1 .left in
-    let number = c .before .before .before .before .before .before .before .before .before .before .before .before .before .before .before .before .before .before .before .before .digits-in .ensures .0 in
-    let place = c .before .before .before .before .before .before .before .before .before .before .before .before .before .before .before .before .before .before .before .digits-in2 .ensures .0 in
-    let first = c .before .before .before .before .before .before .before .before .before .before .before .before .before .before .before .append in
+    let n = c .before .before .before .before .before .before .before .before .before .before .before .before .before .before .before
+    .before .before .before .before .before .before .before .told-number .result in
+    let p = c .before .before .before .before .before .before .before .before .before .before .before .before .before .before .before
+    .before .before .before .before .before .before .told-place .result in
+    let enough = c .before .before .before .before .before .before .before .before .before .before .before .before .before .before
+    .before .before .before .before .if1 .left in
+    let number = c .before .before .before .before .before .before .before .before .before .before .before .before .before .before
+    .before .before .before .before .before .before .digits-in .ensures .0 in
+    let place = c .before .before .before .before .before .before .before .before .before .before .before .before .before .before .before
+    .before .before .before .before .digits-in2 .ensures .0 in
+    let first = c .before .before .before .before .before .before .before .before .before .before .before .before .before .before .before
+    .append in
     let second = c .before .before .before .before .before .before .before .before .before .before .before .write-digits in
     let third = c .before .before .before .before .before .before .append2 in
     let fourth = c .before .before .write-digits2 in
@@ -62,7 +72,8 @@ returns c =
     let a = c .before .before .before .before .before .before .args in
     let number = c .before .before .digits-in in
     let place = c .before .digits-in2 in
-    no-room (a .out .now) (a .r) _ _ _ (c .before .before .before .before .told-number .ensures) (c .before .before .before .told-place .ensures)
+    no-room (a .out .now) (a .r) _ _ _ (c .before .before .before .before .told-number .ensures) (c .before .before .before .told-place
+    .ensures)
     (omega (arith, number .ensures .0, place .ensures .0)) (omega (arith, number .ensures .1, place .ensures .1)) (c .if1 .taken)
 
 slice-aggregate-append : tie.Need-slice-aggregate-append
@@ -89,13 +100,17 @@ slice-write-out c = search needs
 -- the new line has room
 room : (c : tie.After-slice-known5) → c .before .before .write-digits2 .result + 1 ≤ length (start c .args .out .now)
 room c =
-    let enough = c .before .before .before .before .before .before .before .before .before .before .before .before .before .before .before .before .before .before .if1 .left in
+    let enough = c .before .before .before .before .before .before .before .before .before .before .before .before .before .before
+    .before .before .before .before .if1 .left in
     omega (
       arith,
       enough,
-      c .before .before .before .before .before .before .before .before .before .before .before .before .before .before .before .before .before .before .before .before .digits-in .ensures .0,
-      c .before .before .before .before .before .before .before .before .before .before .before .before .before .before .before .before .before .before .before .digits-in2 .ensures .0,
-      c .before .before .before .before .before .before .before .before .before .before .before .before .before .before .before .append .ensures .0,
+      c .before .before .before .before .before .before .before .before .before .before .before .before .before .before .before .before
+          .before .before .before .before .digits-in .ensures .0,
+      c .before .before .before .before .before .before .before .before .before .before .before .before .before .before .before .before
+          .before .before .before .digits-in2 .ensures .0,
+      c .before .before .before .before .before .before .before .before .before .before .before .before .before .before .before .append
+          .ensures .0,
       c .before .before .before .before .before .before .before .before .before .before .before .write-digits .ensures .0,
       c .before .before .before .before .before .before .append2 .ensures .0,
       c .before .before .write-digits2 .ensures .0,
@@ -107,11 +122,17 @@ same-length c = byte-told _ _ _ _ 10 (told c) (omega (arith, room c)) .size
 returns-2 : tie.Need-returns-2
 returns-2 c =
     let a = start c .args in
-    let number = c .before .before .before .before .before .before .before .before .before .before .before .before .before .before .before .before .before .before .before .before .digits-in in
-    let place = c .before .before .before .before .before .before .before .before .before .before .before .before .before .before .before .before .before .before .before .digits-in2 in
-    all-told (a .out .now) (a .r) _ _ _ (c .before .before .before .before .before .before .before .before .before .before .before .before .before .before .before .before .before .before .before .before .before .before .told-number .ensures) (c .before .before .before .before .before .before .before .before .before .before .before .before .before .before .before .before .before .before .before .before .before .told-place .ensures)
+    let number = c .before .before .before .before .before .before .before .before .before .before .before .before .before .before
+    .before .before .before .before .before .before .digits-in in
+    let place = c .before .before .before .before .before .before .before .before .before .before .before .before .before .before .before
+    .before .before .before .before .digits-in2 in
+    all-told (a .out .now) (a .r) _ _ _ (c .before .before .before .before .before .before .before .before .before .before .before
+    .before .before .before .before .before .before .before .before .before .before .before .told-number .ensures) (c .before .before
+    .before .before .before .before .before .before .before .before .before .before .before .before .before .before .before .before
+    .before .before .before .told-place .ensures)
     (omega (arith, number .ensures .0, place .ensures .0)) _ _ (byte-told _ _ _ _ 10 (told c) (omega (arith, room c)))
-    (c .before .before .before .before .before .before .before .before .before .before .before .before .before .before .before .before .before .before .if1 .left)
+    (c .before .before .before .before .before .before .before .before .before .before .before .before .before .before .before .before
+    .before .before .if1 .left)
 
 pub tell-refusal-spec : {M : Type 1} → statement M
 tell-refusal-spec =

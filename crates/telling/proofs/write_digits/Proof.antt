@@ -61,8 +61,11 @@ same-length c = simp length-set (wide (c .before .loop .inv))
 
 returns : tie.Need-returns Inv-loop μ-loop
 returns c =
-    let counted = c .before .before in
-    (ap (λ (k : ℕ). counted .before .before .args .at + k) (counted .digits-in .ensures .0), ends (c .before .loop .inv) (c .loop-test .left))
+    let counted = c .before .before in (
+      ap (λ (k : ℕ). counted .before .before .args .at + k) (counted .digits-in .ensures .0),
+      ends (c .before .loop .inv) (c .loop-test
+          .left),
+    )
 
 pub write-digits-spec : {M : Type 1} → statement M
 write-digits-spec =

@@ -13,13 +13,20 @@ use Rattle.whole.proofs.convert_file.Tie as tie
 
 -- what is handed in, and what stands there when the file is open
 abbrev start : tie.After-open-file → tie.Start
-start c = c .before .before .before .before .before .before .before .before .before .before .before .before .before .before .before .before .before
+start c = c .before .before .before .before .before .before .before .before .before .before .before .before .before .before .before
+    .before .before
 
 abbrev read : tie.Start → Tables
 read s = let a = s .args in record { inputs = a .inputs .now; latches = a .latches .now; outputs = a .outputs .now; gates = a .gates .now }
 
 abbrev made : tie.Start → Tables
-made s = let a = s .args in record { inputs = a .made-inputs .now; latches = a .made-latches .now; outputs = a .made-outputs .now; gates = a .made-gates .now }
+made s = let a = s .args in record {
+  inputs = a .made-inputs .now;
+  latches = a .made-latches .now;
+  outputs = a .made-outputs .now;
+  gates
+      = a .made-gates .now;
+}
 
 abbrev entry : tie.Start → OpenEntry
 entry s =
@@ -51,7 +58,8 @@ is-binary-requires c κs = search needs
 
 sub-write-other : tie.Need-sub-write-other
 sub-write-other c =
-    let o = c .before .before .before .before .before .before .before .before .before .before .before .before .before .before .before .before .before .before .before .before .before .before .before in
+    let o = c .before .before .before .before .before .before .before .before .before .before .before .before .before .before .before
+    .before .before .before .before .before .before .before .before in
     let s = start o in
     let a = s .args in
     let h = opens o _ (c .before .before .before .before .before .before .before .before .before .before .before .n .given .1) in
@@ -59,7 +67,8 @@ sub-write-other c =
 
 part-write-other-start : tie.Need-part-write-other-start
 part-write-other-start c =
-    let o = c .before .before .before .before .before .before .before .before .before .before .before .before .before .before .before .before .before .before .before .before .before .before .before in
+    let o = c .before .before .before .before .before .before .before .before .before .before .before .before .before .before .before
+    .before .before .before .before .before .before .before .before in
     let s = start o in
     let a = s .args in
     let h = opens o _ (c .before .before .before .before .before .before .before .before .before .before .before .n .given .1) in
@@ -70,10 +79,12 @@ part-write-other-end c = search needs
 
 write-other-requires : tie.Need-write-other-requires
 write-other-requires c κs =
-    let o = c .before .before .before .before .before .before .before .before .before .before .before .before .before .before .before .before .before .before .before .before .before .before .before .before .before in
+    let o = c .before .before .before .before .before .before .before .before .before .before .before .before .before .before .before
+    .before .before .before .before .before .before .before .before .before .before in
     let s = start o in
     let a = s .args in
-    let h = opens o _ (c .before .before .before .before .before .before .before .before .before .before .before .before .before .n .given .1) in
+    let h = opens o _ (c .before .before .before .before .before .before .before .before .before .before .before .before .before .n
+    .given .1) in
     rest-ready _ _ (a .file .now) (lengthsOf (made s)) (h .2)
 
 same-length : tie.Need-same-length
@@ -99,13 +110,19 @@ returns c =
     not-converted (a .readable) (a .file .now) (read s) (made s) (a .scratch .now) (a .out .now) _ (opens o _ (c .before .r .given .1))
 
 same-length-6 : tie.Need-same-length-6
-same-length-6 c = c .before .before .before .before .before .before .before .before .before .before .before .before .before .before .before .before .before .before .before .before .before .before .before .before .before .before .before .before .before .before .before .before .before .before .before .before .before .inputs .given
+same-length-6 c = c .before .before .before .before .before .before .before .before .before .before .before .before .before .before
+    .before .before .before .before .before .before .before .before .before .before .before .before .before .before .before .before
+    .before .before .before .before .before .before .before .inputs .given
 
 same-length-7 : tie.Need-same-length-7
-same-length-7 c = c .before .before .before .before .before .before .before .before .before .before .before .before .before .before .before .before .before .before .before .before .before .before .before .before .before .before .before .before .before .before .before .before .before .before .before .latches .given
+same-length-7 c = c .before .before .before .before .before .before .before .before .before .before .before .before .before .before
+    .before .before .before .before .before .before .before .before .before .before .before .before .before .before .before .before
+    .before .before .before .before .before .latches .given
 
 same-length-8 : tie.Need-same-length-8
-same-length-8 c = c .before .before .before .before .before .before .before .before .before .before .before .before .before .before .before .before .before .before .before .before .before .before .before .before .before .before .before .before .before .before .before .before .before .outputs .given
+same-length-8 c = c .before .before .before .before .before .before .before .before .before .before .before .before .before .before
+    .before .before .before .before .before .before .before .before .before .before .before .before .before .before .before .before
+    .before .before .before .outputs .given
 
 same-length-9 : tie.Need-same-length-9
 same-length-9 c = search needs
@@ -130,11 +147,15 @@ same-length-15 c = search needs
 
 returns-2 : tie.Need-returns-2
 returns-2 c =
-    let o = c .before .before .before .before .before .before .before .before .before .before .before .before .before .before .before .before .before .before .before .before .before .before .before .before .before .before .before .before .before .before .before .before .before .before .before .before .before .before in
+    let o = c .before .before .before .before .before .before .before .before .before .before .before .before .before .before .before
+    .before .before .before .before .before .before .before .before .before .before .before .before .before .before .before .before
+    .before .before .before .before .before .before .before in
     let s = start o in
     let a = s .args in
-    let h = opens o _ (c .before .before .before .before .before .before .before .before .before .before .before .before .before .before .before .before .before .before .before .before .before .before .before .before .before .before .n .given .1) in
-    let b = c .before .before .before .before .before .before .before .before .before .before .before .before .before .before .before .before .before .before .before .before .before .before .before .before .is-binary in
+    let h = opens o _ (c .before .before .before .before .before .before .before .before .before .before .before .before .before .before
+    .before .before .before .before .before .before .before .before .before .before .before .before .n .given .1) in
+    let b = c .before .before .before .before .before .before .before .before .before .before .before .before .before .before .before
+    .before .before .before .before .before .before .before .before .before .is-binary in
     converted (a .readable) (a .file .now) (read s) (made s) (a .scratch .now) (a .out .now) _ _ (h .0) (b .result) (b .ensures) _
     (c .before .before .before .before .before .before .before .before .before .before .before .before .write-other .ensures)
 

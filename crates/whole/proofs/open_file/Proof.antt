@@ -43,13 +43,15 @@ fits : (c : tie.After-load) → length (entry (start c) .file) ≤ 65536
 fits c = c .before .before .before .before .before .before .if2 .left
 
 bytes : (c : tie.After-load) → Bytes (entry (start c) .file)
-bytes c k = c .before .before .before .before .before .before .before .before .before .before .before .before .before .shared-slice-known .given k .fits
+bytes c k = c .before .before .before .before .before .before .before .before .before .before .before .before .before .shared-slice-known
+    .given k .fits
 
 returns : tie.Need-returns
 returns c = not-readable (entry (c .before .before .before .before .before .before .before)) (not-true _ (c .if1 .taken))
 
 returns-2 : tie.Need-returns-2
-returns-2 c = too-long (entry (c .before .before .before .before .before .before .before .before)) (not-false _ (c .before .if1 .left)) (c .if2 .taken)
+returns-2 c = too-long (entry (c .before .before .before .before .before .before .before .before)) (not-false _ (c .before .if1 .left))
+    (c .if2 .taken)
 
 load-requires : tie.Need-load-requires
 load-requires c κs = search needs
@@ -83,7 +85,8 @@ same-length-5 c = search needs
 returns-3 : tie.Need-returns-3
 returns-3 c =
     let l = c .before .before .before .before .before .before .before .before .before .before .before .before .before .before .before in
-    made-short (entry (start l)) (readable l) (fits l) (exit l) (l .load .ensures) (bytes l) _ _ (c .before .before .before .n .given .1) _ _ _ _ refl _
+    made-short (entry (start l)) (readable l) (fits l) (exit l) (l .load .ensures) (bytes l) _ _ (c .before .before .before .n .given .1)
+    _ _ _ _ refl _
     (c .before .too-short .ensures) (c .if3 .taken)
 
 same-length-6 : tie.Need-same-length-6
@@ -124,7 +127,8 @@ same-length-15 c = search needs
 returns-5 : tie.Need-returns-5
 returns-5 c =
     let l = c .before .before .before .before .before .before .before .before .before .before .before .before .before .before .before in
-    made-long (entry (start l)) (readable l) (fits l) (exit l) (l .load .ensures) (bytes l) _ _ (c .before .before .before .n .given .1) _ _ _ _ refl _
+    made-long (entry (start l)) (readable l) (fits l) (exit l) (l .load .ensures) (bytes l) _ _ (c .before .before .before .n .given .1)
+    _ _ _ _ refl _
     (c .before .too-short .ensures) (c .if3 .left)
 
 pub open-file-spec : {M : Type 1} → statement M

@@ -13,13 +13,20 @@ use Rattle.whole.proofs.reduce_file.Tie as tie
 
 -- what is handed in, and what stands there when the file is open
 abbrev start : tie.After-open-file → tie.Start
-start c = c .before .before .before .before .before .before .before .before .before .before .before .before .before .before .before .before .before
+start c = c .before .before .before .before .before .before .before .before .before .before .before .before .before .before .before
+    .before .before
 
 abbrev read : tie.Start → Tables
 read s = let a = s .args in record { inputs = a .inputs .now; latches = a .latches .now; outputs = a .outputs .now; gates = a .gates .now }
 
 abbrev made : tie.Start → Tables
-made s = let a = s .args in record { inputs = a .made-inputs .now; latches = a .made-latches .now; outputs = a .made-outputs .now; gates = a .made-gates .now }
+made s = let a = s .args in record {
+  inputs = a .made-inputs .now;
+  latches = a .made-latches .now;
+  outputs = a .made-outputs .now;
+  gates
+      = a .made-gates .now;
+}
 
 abbrev entry : tie.Start → OpenEntry
 entry s =
@@ -48,7 +55,8 @@ enum-known-n c = search needs
 
 sub-write-reduced : tie.Need-sub-write-reduced
 sub-write-reduced c =
-    let o = c .before .before .before .before .before .before .before .before .before .before .before .before .before .before .before .before .before .before .before .before .before .before in
+    let o = c .before .before .before .before .before .before .before .before .before .before .before .before .before .before .before
+    .before .before .before .before .before .before .before in
     let s = start o in
     let a = s .args in
     let h = opens o _ (c .before .before .before .before .before .before .before .before .before .before .n .given .1) in
@@ -56,7 +64,8 @@ sub-write-reduced c =
 
 part-write-reduced-start : tie.Need-part-write-reduced-start
 part-write-reduced-start c =
-    let o = c .before .before .before .before .before .before .before .before .before .before .before .before .before .before .before .before .before .before .before .before .before .before in
+    let o = c .before .before .before .before .before .before .before .before .before .before .before .before .before .before .before
+    .before .before .before .before .before .before .before in
     let s = start o in
     let a = s .args in
     let h = opens o _ (c .before .before .before .before .before .before .before .before .before .before .n .given .1) in
@@ -67,7 +76,8 @@ part-write-reduced-end c = search needs
 
 write-reduced-requires : tie.Need-write-reduced-requires
 write-reduced-requires c κs =
-    let o = c .before .before .before .before .before .before .before .before .before .before .before .before .before .before .before .before .before .before .before .before .before .before .before .before in
+    let o = c .before .before .before .before .before .before .before .before .before .before .before .before .before .before .before
+    .before .before .before .before .before .before .before .before .before in
     let s = start o in
     let a = s .args in
     let h = opens o _ (c .before .before .before .before .before .before .before .before .before .before .before .before .n .given .1) in
@@ -96,16 +106,30 @@ returns c =
     not-reduced (a .readable) (a .file .now) (read s) (made s) (a .scratch .now) (a .out .now) _ (opens o _ (c .before .r .given .1))
 
 same-length-6 : tie.Need-same-length-6
-same-length-6 c = c .before .before .before .before .before .before .before .before .before .before .before .before .before .before .before .before .before .before .before .inputs2 .given ∙ c .before .before .before .before .before .before .before .before .before .before .before .before .before .before .before .before .before .before .before .before .before .before .before .before .before .before .before .before .before .before .before .before .before .before .before .before .before .before .before .before .before .before .before .before .inputs .given
+same-length-6 c = c .before .before .before .before .before .before .before .before .before .before .before .before .before .before
+    .before .before .before .before .before .inputs2 .given ∙ c .before .before .before .before .before .before .before .before .before
+    .before .before .before .before .before .before .before .before .before .before .before .before .before .before .before .before
+    .before .before .before .before .before .before .before .before .before .before .before .before .before .before .before .before
+    .before .before .before .inputs .given
 
 same-length-7 : tie.Need-same-length-7
-same-length-7 c = c .before .before .before .before .before .before .before .before .before .before .before .before .before .before .before .before .before .latches2 .given ∙ c .before .before .before .before .before .before .before .before .before .before .before .before .before .before .before .before .before .before .before .before .before .before .before .before .before .before .before .before .before .before .before .before .before .before .before .before .before .before .before .before .before .before .latches .given
+same-length-7 c = c .before .before .before .before .before .before .before .before .before .before .before .before .before .before
+    .before .before .before .latches2 .given ∙ c .before .before .before .before .before .before .before .before .before .before .before
+    .before .before .before .before .before .before .before .before .before .before .before .before .before .before .before .before
+    .before .before .before .before .before .before .before .before .before .before .before .before .before .before .before .latches
+    .given
 
 same-length-8 : tie.Need-same-length-8
-same-length-8 c = c .before .before .before .before .before .before .before .before .before .before .before .before .before .before .before .outputs2 .given ∙ c .before .before .before .before .before .before .before .before .before .before .before .before .before .before .before .before .before .before .before .before .before .before .before .before .before .before .before .before .before .before .before .before .before .before .before .before .before .before .before .before .outputs .given
+same-length-8 c = c .before .before .before .before .before .before .before .before .before .before .before .before .before .before
+    .before .outputs2 .given ∙ c .before .before .before .before .before .before .before .before .before .before .before .before .before
+    .before .before .before .before .before .before .before .before .before .before .before .before .before .before .before .before
+    .before .before .before .before .before .before .before .before .before .before .before .outputs .given
 
 same-length-9 : tie.Need-same-length-9
-same-length-9 c = c .before .before .before .before .before .before .before .before .before .before .before .before .before .gates2 .given ∙ c .before .before .before .before .before .before .before .before .before .before .before .before .before .before .before .before .before .before .before .before .before .before .before .before .before .before .before .before .before .before .before .before .before .before .before .before .before .before .gates .given
+same-length-9 c = c .before .before .before .before .before .before .before .before .before .before .before .before .before .gates2
+    .given ∙ c .before .before .before .before .before .before .before .before .before .before .before .before .before .before .before
+    .before .before .before .before .before .before .before .before .before .before .before .before .before .before .before .before
+    .before .before .before .before .before .before .before .gates .given
 
 same-length-10 : tie.Need-same-length-10
 same-length-10 c = search needs
@@ -120,19 +144,26 @@ same-length-13 : tie.Need-same-length-13
 same-length-13 c = search needs
 
 same-length-14 : tie.Need-same-length-14
-same-length-14 c = c .before .before .before .scratch2 .given ∙ c .before .before .before .before .before .before .before .before .before .before .before .before .before .before .before .before .before .before .before .before .before .before .before .before .before .before .before .before .before .before .before .before .before .before .before .before .scratch .given
+same-length-14 c = c .before .before .before .scratch2 .given ∙ c .before .before .before .before .before .before .before .before .before
+    .before .before .before .before .before .before .before .before .before .before .before .before .before .before .before .before
+    .before .before .before .before .before .before .before .before .before .before .before .scratch .given
 
 same-length-15 : tie.Need-same-length-15
 same-length-15 c = search needs
 
 returns-2 : tie.Need-returns-2
 returns-2 c =
-    let o = c .before .before .before .before .before .before .before .before .before .before .before .before .before .before .before .before .before .before .before .before .before .before .before .before .before .before .before .before .before .before .before .before .before .before .before .before .before .before .before .before .before .before .before .before .before in
+    let o = c .before .before .before .before .before .before .before .before .before .before .before .before .before .before .before
+    .before .before .before .before .before .before .before .before .before .before .before .before .before .before .before .before
+    .before .before .before .before .before .before .before .before .before .before .before .before .before .before in
     let s = start o in
     let a = s .args in
-    let h = opens o _ (c .before .before .before .before .before .before .before .before .before .before .before .before .before .before .before .before .before .before .before .before .before .before .before .before .before .before .before .before .before .before .before .before .before .n .given .1) in
+    let h = opens o _ (c .before .before .before .before .before .before .before .before .before .before .before .before .before .before
+    .before .before .before .before .before .before .before .before .before .before .before .before .before .before .before .before
+    .before .before .before .n .given .1) in
     reduced (a .readable) (a .file .now) (read s) (made s) (a .scratch .now) (a .out .now) _ _ (h .0) _
-    (c .before .before .before .before .before .before .before .before .before .before .before .before .before .before .before .before .before .before .before .before .write-reduced .ensures)
+    (c .before .before .before .before .before .before .before .before .before .before .before .before .before .before .before .before
+    .before .before .before .before .write-reduced .ensures)
 
 pub reduce-file-spec : {M : Type 1} → statement M
 reduce-file-spec =

@@ -9,7 +9,8 @@ use Rattle.whole.proofs.reduce_made.Tie as tie
 
 -- what is handed in
 abbrev circuit : tie.Start → Given
-circuit s = let a = s .args in givenIn (a .n) (a .made-inputs .now) (a .made-latches .now) (a .made-outputs .now) (a .made-gates .now) (a .scratch .now)
+circuit s = let a = s .args in givenIn (a .n) (a .made-inputs .now) (a .made-latches .now) (a .made-outputs .now) (a .made-gates .now) (a
+    .scratch .now)
 
 abbrev read : tie.Start → Tables
 read s = let a = s .args in record { inputs = a .inputs .now; latches = a .latches .now; outputs = a .outputs .now; gates = a .gates .now }
@@ -43,9 +44,11 @@ same-length-5 c = search needs
 
 returns : tie.Need-returns
 returns c =
-    let s = c .before .before .before .before .before .before .before .before .before .before .before .before .before .before .before .before .before .before .before .before .before .before .before .before .before .before .before .before .before .before in
+    let s = c .before .before .before .before .before .before .before .before .before .before .before .before .before .before .before
+    .before .before .before .before .before .before .before .before .before .before .before .before .before .before .before in
     let a = s .args in
-    absurd (reduces (circuit s) (read s) (a .tail .now) (s .pre .0) (s .pre .1) _ (c .before .before .before .before .before .before .before .before .before .before .before .before .before .reduce .ensures) _
+    absurd (reduces (circuit s) (read s) (a .tail .now) (s .pre .0) (s .pre .1) _ (c .before .before .before .before .before .before
+    .before .before .before .before .before .before .before .reduce .ensures) _
     (c .before .r .given .1))
 
 same-length-6 : tie.Need-same-length-6
@@ -68,10 +71,15 @@ same-length-11 c = search needs
 
 returns-2 : tie.Need-returns-2
 returns-2 c =
-    let s = c .before .before .before .before .before .before .before .before .before .before .before .before .before .before .before .before .before .before .before .before .before .before .before .before .before .before .before .before .before .before .before .before .before .before .before .before .before .before .before .before .before in
+    let s = c .before .before .before .before .before .before .before .before .before .before .before .before .before .before .before
+    .before .before .before .before .before .before .before .before .before .before .before .before .before .before .before .before
+    .before .before .before .before .before .before .before .before .before .before in
     let a = s .args in
-    reduced-put (circuit s) (read s) (a .tail .now) (s .pre .0) (s .pre .1) _ (c .before .before .before .before .before .before .before .before .before .before .before .before .before .before .before .before .before .before .before .before .before .before .before .before .reduce .ensures) _
-    (c .before .before .before .before .before .before .before .before .before .before .before .before .m .given .1) (a .out .now) _ (c .before .before .before .before .write-binary .ensures)
+    reduced-put (circuit s) (read s) (a .tail .now) (s .pre .0) (s .pre .1) _ (c .before .before .before .before .before .before .before
+    .before .before .before .before .before .before .before .before .before .before .before .before .before .before .before .before
+    .before .reduce .ensures) _
+    (c .before .before .before .before .before .before .before .before .before .before .before .before .m .given .1) (a .out .now) _ (c
+    .before .before .before .before .write-binary .ensures)
 
 pub reduce-made-spec : {M : Type 1} → statement M
 reduce-made-spec =

@@ -19,7 +19,13 @@ abbrev circuit : tie.Start → Given
 circuit s = let a = s .args in givenIn (a .n) (a .inputs .now) (a .latches .now) (a .outputs .now) (a .gates .now) (a .scratch .now)
 
 abbrev made : tie.Start → Tables
-made s = let a = s .args in record { inputs = a .made-inputs .now; latches = a .made-latches .now; outputs = a .made-outputs .now; gates = a .made-gates .now }
+made s = let a = s .args in record {
+  inputs = a .made-inputs .now;
+  latches = a .made-latches .now;
+  outputs = a .made-outputs .now;
+  gates
+      = a .made-gates .now;
+}
 
 write-text-requires : tie.Need-write-text-requires
 write-text-requires c κs = search needs
@@ -32,10 +38,13 @@ same-length-2 c = search needs
 
 returns : tie.Need-returns
 returns c =
-    let s = c .before .before .before .before .before .before .before .before .before .before .before .before .before .before .before .before .before .before .before in
+    let s = c .before .before .before .before .before .before .before .before .before .before .before .before .before .before .before
+    .before .before .before .before in
     let a = s .args in
-    text-put (circuit s) (a .tail .now) (a .out .now) (s .pre .fine) (s .pre .tail-ok) _ (c .before .before .before .before .write-text .ensures)
-    ∙ ap (λ (b : Bool). putBytes (a .out .now) 0 (otherForm (formOf b) (given (circuit s)) ++ a .tail .now)) (sym (c .before .before .before .before .before .before .before .if1 .taken))
+    text-put (circuit s) (a .tail .now) (a .out .now) (s .pre .fine) (s .pre .tail-ok) _ (c .before .before .before .before .write-text
+    .ensures)
+    ∙ ap (λ (b : Bool). putBytes (a .out .now) 0 (otherForm (formOf b) (given (circuit s)) ++ a .tail .now)) (sym (c .before .before
+    .before .before .before .before .before .if1 .taken))
 
 convert-requires : tie.Need-convert-requires
 convert-requires c κs = search needs
@@ -66,9 +75,11 @@ same-length-7 c = search needs
 
 returns-2 : tie.Need-returns-2
 returns-2 c =
-    let s = c .before .before .before .before .before .before .before .before .before .before .before .before .before .before .before .before .before .before .before .before .before .before .before .before .before .before .before .before .before .before .before in
+    let s = c .before .before .before .before .before .before .before .before .before .before .before .before .before .before .before
+    .before .before .before .before .before .before .before .before .before .before .before .before .before .before .before .before in
     let a = s .args in
-    absurd (converts (circuit s) (made s) (a .tail .now) (s .pre) _ (c .before .before .before .before .before .before .before .before .before .before .before .before .before .convert .ensures) _ (c .before .r .given .1))
+    absurd (converts (circuit s) (made s) (a .tail .now) (s .pre) _ (c .before .before .before .before .before .before .before .before
+    .before .before .before .before .before .convert .ensures) _ (c .before .r .given .1))
 
 same-length-8 : tie.Need-same-length-8
 same-length-8 c = search needs
@@ -90,11 +101,18 @@ same-length-13 c = search needs
 
 returns-3 : tie.Need-returns-3
 returns-3 c =
-    let s = c .before .before .before .before .before .before .before .before .before .before .before .before .before .before .before .before .before .before .before .before .before .before .before .before .before .before .before .before .before .before .before .before .before .before .before .before .before .before .before .before .before .before in
+    let s = c .before .before .before .before .before .before .before .before .before .before .before .before .before .before .before
+    .before .before .before .before .before .before .before .before .before .before .before .before .before .before .before .before
+    .before .before .before .before .before .before .before .before .before .before .before in
     let a = s .args in
-    converted-put (circuit s) (made s) (a .tail .now) (s .pre) _ (c .before .before .before .before .before .before .before .before .before .before .before .before .before .before .before .before .before .before .before .before .before .before .before .before .convert .ensures) _
-    (c .before .before .before .before .before .before .before .before .before .before .before .before .m .given .1) (a .out .now) _ (c .before .before .before .before .write-binary .ensures)
-    ∙ ap (λ (b : Bool). putBytes (a .out .now) 0 (otherForm (formOf b) (given (circuit s)) ++ a .tail .now)) (sym (c .before .before .before .before .before .before .before .before .before .before .before .before .before .before .before .before .before .before .before .before .before .before .before .before .before .before .before .before .before .before .if1 .left))
+    converted-put (circuit s) (made s) (a .tail .now) (s .pre) _ (c .before .before .before .before .before .before .before .before
+    .before .before .before .before .before .before .before .before .before .before .before .before .before .before .before .before
+    .convert .ensures) _
+    (c .before .before .before .before .before .before .before .before .before .before .before .before .m .given .1) (a .out .now) _ (c
+    .before .before .before .before .write-binary .ensures)
+    ∙ ap (λ (b : Bool). putBytes (a .out .now) 0 (otherForm (formOf b) (given (circuit s)) ++ a .tail .now)) (sym (c .before .before
+    .before .before .before .before .before .before .before .before .before .before .before .before .before .before .before .before
+    .before .before .before .before .before .before .before .before .before .before .before .before .if1 .left))
 
 pub write-other-spec : {M : Type 1} → statement M
 write-other-spec =

@@ -18,7 +18,13 @@ abbrev circuit : tie.Start → Given
 circuit s = let a = s .args in givenIn (a .n) (a .inputs .now) (a .latches .now) (a .outputs .now) (a .gates .now) (a .scratch .now)
 
 abbrev made : tie.Start → Tables
-made s = let a = s .args in record { inputs = a .made-inputs .now; latches = a .made-latches .now; outputs = a .made-outputs .now; gates = a .made-gates .now }
+made s = let a = s .args in record {
+  inputs = a .made-inputs .now;
+  latches = a .made-latches .now;
+  outputs = a .made-outputs .now;
+  gates
+      = a .made-gates .now;
+}
 
 convert-requires : tie.Need-convert-requires
 convert-requires c κs = search needs
@@ -31,10 +37,16 @@ enum-known-m c = search needs
 
 reduce-made-requires : tie.Need-reduce-made-requires
 reduce-made-requires c κs =
-    let s = c .before .before .before .before .before .before .before .before .before .before .before .before .before .before .before .before .before .before .before .before .before .before .before .before .before .before .before .before .before .before .before .before .before .before .before .before .before .before .before .before .before .before .before .before in
+    let s = c .before .before .before .before .before .before .before .before .before .before .before .before .before .before .before
+    .before .before .before .before .before .before .before .before .before .before .before .before .before .before .before .before
+    .before .before .before .before .before .before .before .before .before .before .before .before .before in
     let a = s .args in (
-      converted-ready (circuit s) (made s) (a .tail .now) (s .pre) _ (c .before .before .before .before .before .before .before .before .before .before .before .before .before .before .before .before .before .before .before .before .before .before .before .convert .ensures) _ (c .before .before .before .before .before .before .before .before .before .before .before .m .given .1),
-      converted-in-order (circuit s) (made s) (a .tail .now) (s .pre) _ (c .before .before .before .before .before .before .before .before .before .before .before .before .before .before .before .before .before .before .before .before .before .before .before .convert .ensures) _ (c .before .before .before .before .before .before .before .before .before .before .before .m .given .1),
+      converted-ready (circuit s) (made s) (a .tail .now) (s .pre) _ (c .before .before .before .before .before .before .before .before
+          .before .before .before .before .before .before .before .before .before .before .before .before .before .before .before
+          .convert .ensures) _ (c .before .before .before .before .before .before .before .before .before .before .before .m .given .1),
+      converted-in-order (circuit s) (made s) (a .tail .now) (s .pre) _ (c .before .before .before .before .before .before .before
+          .before .before .before .before .before .before .before .before .before .before .before .before .before .before .before .before
+          .convert .ensures) _ (c .before .before .before .before .before .before .before .before .before .before .before .m .given .1),
     )
 
 same-length : tie.Need-same-length
@@ -66,9 +78,12 @@ same-length-9 c = search needs
 
 returns : tie.Need-returns
 returns c =
-    let s = c .before .before .before .before .before .before .before .before .before .before .before .before .before .before .before .before .before .before .before .before .before .before .before .before .before .before .before .before .before .before .before .before .before .before in
+    let s = c .before .before .before .before .before .before .before .before .before .before .before .before .before .before .before
+    .before .before .before .before .before .before .before .before .before .before .before .before .before .before .before .before
+    .before .before .before in
     let a = s .args in
-    absurd (converts (circuit s) (made s) (a .tail .now) (s .pre) _ (c .before .before .before .before .before .before .before .before .before .before .before .before .before .convert .ensures) _ (c .before .r .given .1))
+    absurd (converts (circuit s) (made s) (a .tail .now) (s .pre) _ (c .before .before .before .before .before .before .before .before
+    .before .before .before .before .before .convert .ensures) _ (c .before .r .given .1))
 
 same-length-10 : tie.Need-same-length-10
 same-length-10 c = search needs
@@ -83,7 +98,9 @@ same-length-13 : tie.Need-same-length-13
 same-length-13 c = search needs
 
 same-length-14 : tie.Need-same-length-14
-same-length-14 c = c .before .before .before .before .before .before .before .before .before .before .before .before .before .before .before .before .before .before .before .before .before .before .before .before .before .before .before .before .before .before .before .before .before .before .before .made-inputs .given
+same-length-14 c = c .before .before .before .before .before .before .before .before .before .before .before .before .before .before
+    .before .before .before .before .before .before .before .before .before .before .before .before .before .before .before .before
+    .before .before .before .before .before .made-inputs .given
 
 same-length-15 : tie.Need-same-length-15
 same-length-15 c = search needs
@@ -102,11 +119,18 @@ same-length-19 c = search needs
 
 returns-2 : tie.Need-returns-2
 returns-2 c =
-    let s = c .before .before .before .before .before .before .before .before .before .before .before .before .before .before .before .before .before .before .before .before .before .before .before .before .before .before .before .before .before .before .before .before .before .before .before .before .before .before .before .before .before .before .before .before .before .before .before .before .before .before .before .before .before .before .before .before .before in
+    let s = c .before .before .before .before .before .before .before .before .before .before .before .before .before .before .before
+    .before .before .before .before .before .before .before .before .before .before .before .before .before .before .before .before
+    .before .before .before .before .before .before .before .before .before .before .before .before .before .before .before .before
+    .before .before .before .before .before .before .before .before .before .before in
     let a = s .args in
     c .before .before .before .before .before .before .before .before .before .before .before .before .reduce-made .ensures
     ∙ ap (λ (c : Circuit). putBytes (a .out .now) 0 (binaryOf (reduce c) ++ a .tail .now))
-    (converted-is (circuit s) (made s) (a .tail .now) (s .pre) _ (c .before .before .before .before .before .before .before .before .before .before .before .before .before .before .before .before .before .before .before .before .before .before .before .before .before .before .before .before .before .before .before .before .before .before .before .before .convert .ensures) _ (c .before .before .before .before .before .before .before .before .before .before .before .before .before .before .before .before .before .before .before .before .before .before .before .before .m .given .1))
+    (converted-is (circuit s) (made s) (a .tail .now) (s .pre) _ (c .before .before .before .before .before .before .before .before
+    .before .before .before .before .before .before .before .before .before .before .before .before .before .before .before .before
+    .before .before .before .before .before .before .before .before .before .before .before .before .convert .ensures) _ (c .before
+    .before .before .before .before .before .before .before .before .before .before .before .before .before .before .before .before
+    .before .before .before .before .before .before .before .m .given .1))
 
 pub write-reduced-spec : {M : Type 1} → statement M
 write-reduced-spec =
