@@ -69,10 +69,16 @@ part-write-reduced-start c =
     let s = start o in
     let a = s .args in
     let h = opens o _ (c .before .before .before .before .before .before .before .before .before .before .n .given .1) in
-    h .1
+    omega (arith, h .1)
 
 part-write-reduced-end : tie.Need-part-write-reduced-end
-part-write-reduced-end c = search needs
+part-write-reduced-end c =
+    let o = c .before .before .before .before .before .before .before .before .before .before .before .before .before .before .before
+    .before .before .before .before .before .before .before in
+    let s = start o in
+    let a = s .args in
+    let h = opens o _ (c .before .before .before .before .before .before .before .before .before .before .n .given .1) in
+    omega (arith, h .1)
 
 write-reduced-requires : tie.Need-write-reduced-requires
 write-reduced-requires c κs =
