@@ -119,6 +119,15 @@ static struct circuit chain_circuit(uint32_t gates) {
     return c;
 }
 
+/* Each gate takes the one before it and one far before it: near in binary order, anywhere in memory in another. */
+static struct circuit braid_circuit(uint32_t gates) {
+    struct circuit c = begun(gates);
+    uint32_t base = (uint32_t)(c.counts[I] + c.counts[L]), far = 5000;
+    for (uint32_t i = 0; i < gates; i++)
+        put_gate(&c, i, 2 * (base + i) + below(2), 2 * (i < far ? 1 : base + i - far) + below(2));
+    return c;
+}
+
 /* After a chain of 3 gates in 10 the others share one larger side, and their pairs are all different. */
 static struct circuit colliding_circuit(uint32_t gates) {
     struct circuit c = chain_circuit(gates);

@@ -198,8 +198,8 @@ static double convert_row(const char *kind, const struct circuit *c, uint32_t *o
     return time;
 }
 
-/* The orders of a circuit, each compared with the first: binary order. `hard` adds those that only a chain makes
-   slow. */
+/* The orders of a circuit, each compared with the first: binary order. `hard` adds those that are slow only
+   where one gate is ready at a time. */
 static void convert_orders(const char *shape, struct circuit c, int hard) {
     uint32_t n = (uint32_t)c.counts[A];
     static const char *const orders[5] = {"in order", "reversed", "shuffled", "from both ends", "two halves by turns"};
@@ -270,6 +270,7 @@ int main(int argc, char **argv) {
         convert_orders("random", random_circuit(1000000, 12), 0);
         convert_orders("star", star_circuit(1000000), 0);
         convert_orders("chain", chain_circuit(1000000), 1);
+        convert_orders("braid", braid_circuit(1000000), 1);
     }
     if (only == NULL || strcmp(only, "reduce") == 0)
         reduce_rows();
