@@ -2,7 +2,7 @@
 ghost use mathlib.Core.Path.{_≡_};
 ghost use mathlib.Core.Bool.{true};
 ghost use mathlib.Core.List.{_++_};
-ghost use Rattle.plan.specs.Circuit.{lengthsOf, cleared, allCleared};
+ghost use Rattle.plan.specs.Circuit.{lengthsOf};
 ghost use Rattle.plan.specs.Header.{header};
 ghost use Rattle.plan.specs.Binary.{binaryOf, binaryOrder};
 ghost use Rattle.plan.specs.Given.{given};
@@ -251,29 +251,6 @@ fn write_reduced(
     }
 }
 
-// All tables, zero throughout.
-fn clear_all(
-    inputs: &mut [u32],
-    latches: &mut [u32],
-    outputs: &mut [u32],
-    gates: &mut [u32],
-    made_inputs: &mut [u32],
-    made_latches: &mut [u32],
-    made_outputs: &mut [u32],
-    made_gates: &mut [u32],
-    scratch: &mut [u32],
-)
-    ensures { λ _. ⌜ record { inputs = now (inputs .exit); latches = now (latches .exit); outputs = now (outputs .exit); gates = now (gates .exit) }
-        ≡ allCleared (record { inputs = now (inputs .entry); latches = now (latches .entry); outputs = now (outputs .entry); gates = now (gates .entry) }) ⌝ }
-    ensures { λ _. ⌜ record { inputs = now («made_inputs» .exit); latches = now («made_latches» .exit); outputs = now («made_outputs» .exit); gates = now («made_gates» .exit) }
-        ≡ allCleared (record { inputs = now («made_inputs» .entry); latches = now («made_latches» .entry); outputs = now («made_outputs» .entry); gates = now («made_gates» .entry) }) ⌝ }
-    ensures { λ _. ⌜ now (scratch .exit) ≡ cleared (now (scratch .entry)) ⌝ }
-{
-    clear_four(inputs, latches, outputs, gates);
-    clear_four(made_inputs, made_latches, made_outputs, made_gates);
-    clear(scratch);
-}
-
 // The file in its other form, with the same tail. The tables hold what was left in them.
 fn convert_file(
     readable: bool,
@@ -411,17 +388,9 @@ pub fn convert_whole(
         scratch,
         out,
     );
-    clear_all(
-        inputs,
-        latches,
-        outputs,
-        gates,
-        made_inputs,
-        made_latches,
-        made_outputs,
-        made_gates,
-        scratch,
-    );
+    clear_four(inputs, latches, outputs, gates);
+    clear_four(made_inputs, made_latches, made_outputs, made_gates);
+    tables::clear(scratch);
     answer
 }
 
@@ -560,16 +529,8 @@ pub fn reduce_whole(
         scratch,
         out,
     );
-    clear_all(
-        inputs,
-        latches,
-        outputs,
-        gates,
-        made_inputs,
-        made_latches,
-        made_outputs,
-        made_gates,
-        scratch,
-    );
+    clear_four(inputs, latches, outputs, gates);
+    clear_four(made_inputs, made_latches, made_outputs, made_gates);
+    clear(scratch);
     answer
 }
