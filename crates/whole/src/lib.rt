@@ -44,7 +44,7 @@ fn is_binary(file: &[u8]) -> bool
 }
 
 // Reads a file by 14, 13, what a reader checks and 4 for the tables to make a circuit in.
-fn open_file(
+pub fn open_file(
     readable: bool,
     file: &[u8],
     inputs: &mut [u32],

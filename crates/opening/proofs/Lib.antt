@@ -1,0 +1,2 @@
+-- What the proofs of opening a whole file use.
+pub mod Converted

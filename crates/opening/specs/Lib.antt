@@ -1,0 +1,2 @@
+-- What opening a whole file is stated with.
+pub mod Leaving
