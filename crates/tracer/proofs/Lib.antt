@@ -1,0 +1,2 @@
+-- What the proofs of the tracer use.
+pub mod Within

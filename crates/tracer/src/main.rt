@@ -1,0 +1,138 @@
+// Traces the circuit of plan.in, converted, from its first state on the vectors of standard input, or writes the line of the refusal (the
+// paper, programs). 14, 13, the reader's refusals and 4 are decided by crate opening, those of standard input by crate trace.
+ghost use Prim.Native.Nat.{_≤_};
+ghost use lib.ListN.{length};
+use plan::Counts;
+use plan::Made;
+use plan::Traced;
+
+// The position past the next `count` lines, or the end of the bytes.
+fn past(bytes: &[u8], from: usize, count: usize) -> usize
+    requires { ⌜ from ≤ length (now bytes) ⌝ }
+    ensures { λ r. ⌜ r ≤ length (now (bytes .entry)) ⌝ }
+{
+    let mut at = from;
+    let mut left = count;
+    while at < bytes.len() {
+        if left == 0 {
+            return at;
+        }
+        if bytes[at] == b'\n' {
+            left -= 1;
+        }
+        at += 1;
+    }
+    at
+}
+
+// The steps of all lines, printed in parts of as many lines as fit into `out`. A part has a line at least, so there are no more parts than
+// lines.
+fn trace_all(
+    n: Counts,
+    inputs: &[u32],
+    latches: &[u32],
+    outputs: &[u32],
+    gates: &[u32],
+    scratch: &mut [u32],
+    state: &mut [u8],
+    vectors: &[u8],
+    lines: usize,
+    out: &mut [u8],
+) {
+    let mut at = 0;
+    let mut parts = lines;
+    while 0 < parts {
+        let part = trace::trace(
+            n,
+            inputs,
+            latches,
+            outputs,
+            gates,
+            scratch,
+            state,
+            &vectors[at..],
+            out,
+        );
+        let Traced::Lines(k) = part else {
+            return;
+        };
+        office::print(out, past(out, 0, k));
+        at = past(vectors, at, k);
+        if at == vectors.len() {
+            return;
+        }
+        parts -= 1;
+    }
+}
+
+// Standard input, and all of its lines checked before the first is printed. The first state is all "0".
+fn trace_input(
+    n: Counts,
+    inputs: &[u32],
+    latches: &[u32],
+    outputs: &[u32],
+    gates: &[u32],
+    scratch: &mut [u32],
+    out: &mut [u8],
+) {
+    let mut bytes = [0u8; 65537];
+    let input = office::read_input(0, &mut bytes);
+    let size = office::size(input);
+    let mut state = [b'0'; 4096];
+    let wide = tables::shorter(n.L, 4096);
+    match trace::count_lines(office::readable(input), &bytes[0..size], n.I) {
+        Traced::Refused(r) => office::refuse(r),
+        Traced::Lines(lines) => trace_all(
+            n,
+            inputs,
+            latches,
+            outputs,
+            gates,
+            scratch,
+            &mut state[0..wide],
+            &bytes[0..size],
+            lines,
+            out,
+        ),
+    }
+}
+
+fn main() {
+    let mut file = [0u8; 65537];
+    let plan = office::read_plan(&mut file);
+    let size = office::size(plan);
+    let mut inputs = [0u32; 4096];
+    let mut latches = [0u32; 4096];
+    let mut outputs = [0u32; 4096];
+    let mut gates = [0u32; 4096];
+    let mut made_inputs = [0u32; 4096];
+    let mut made_latches = [0u32; 4096];
+    let mut made_outputs = [0u32; 4096];
+    let mut made_gates = [0u32; 4096];
+    let mut scratch = [0u32; 16384];
+    let mut out = [0u8; 65536];
+    match opening::open_whole(
+        office::readable(plan),
+        &file[0..size],
+        &mut inputs,
+        &mut latches,
+        &mut outputs,
+        &mut gates,
+        &mut made_inputs,
+        &mut made_latches,
+        &mut made_outputs,
+        &mut made_gates,
+        &mut scratch,
+    ) {
+        Made::Refused(r) => office::refuse(r),
+        Made::Accepted(n) => trace_input(
+            n,
+            &made_inputs,
+            &made_latches,
+            &made_outputs,
+            &made_gates,
+            &mut scratch,
+            &mut out,
+        ),
+    }
+}
