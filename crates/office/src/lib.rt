@@ -3,7 +3,7 @@
 ghost use mathlib.Core.Path.{_≡_};
 ghost use Prim.Native.Nat.{_≤_};
 ghost use lib.ListN.{length};
-ghost use Rattle.office.specs.Came.{came};
+ghost use Rattle.office.specs.Came.{couldBeRead, came};
 use libc::STDOUT_FILENO;
 use plan::Refusal;
 use plan::Written;
@@ -49,7 +49,9 @@ pub fn read_plan(buf: &mut [u8]) -> Input
 }
 
 // Whether an input could be read.
-pub fn readable(input: Input) -> bool {
+pub fn readable(input: Input) -> bool
+    ensures { λ r. ⌜ r ≡ couldBeRead input ⌝ }
+{
     match input {
         Input::Bytes(_) => true,
         Input::Unreadable => false,
