@@ -1,11 +1,11 @@
 -- The answers of the calls, as C sees them.
 use Prim.Native.Nat.{ℕ}
-use mathlib.Core.Path.{_≡_, sym, ap, _∙_}
+use mathlib.Core.Path.{_≡_, ap, _∙_}
 use mathlib.Core.List.{List}
 use Rattle.plan.specs.declared.Counts.{Counts}
 use Rattle.plan.specs.Circuit.{Tables}
 use Rattle.plan.specs.Given.{Given}
-use Rattle.plan.specs.Outcome.{CheckExit, FileEntry, FileExit, MakeEntry, MakeExit, StepEntry, StepExit, WitnessEntry, WitnessExit, checkedValues, writtenValues, madeValues, steppedValues, verdictValues}
+use Rattle.plan.specs.Outcome.{CheckExit, FileEntry, FileExit, MakeEntry, MakeExit, StepExit, WitnessExit, checkedValues, writtenValues, madeValues, steppedValues, verdictValues}
 use Rattle.plan.specs.Outcome as outcome
 use Rattle.desk.specs.Told.{CheckTold, check, FileTold, toldFile, MakeTold, toldMade, StepTold, step, WitnessTold, witness}
 

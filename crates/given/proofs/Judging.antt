@@ -1,18 +1,18 @@
 -- 5, 6, 7, 8 and 15 over the circuit that the tables hold; and the answers from the counts on.
-use Prim.Native.Nat.{ℕ, _+_, _*_, _<_, _≤_, min}
+use Prim.Native.Nat.{ℕ, _≤_}
 use mathlib.Core.Path.{_≡_, refl, sym}
 use mathlib.Core.Bool.{Bool, true, false}
 use mathlib.Core.Option.{Option, none, some}
-use mathlib.Core.List.{List, [], _∷_, _++_}
+use mathlib.Core.List.{List, [], _∷_}
 use native.Mathlib.Omega.{arith}
 use borrow.Author.Tests.{leb-true}
 use lib.ListN.{length, getD}
 use Rattle.plan.specs.declared.Counts.{Counts}
 use Rattle.plan.specs.declared.Checked.the-variants as checked
-use Rattle.plan.specs.declared.Refusal.the-variants.{OutOfRange, DefinedTwice, NotDefined, Cyclic, NotInOrder}
+use Rattle.plan.specs.declared.Refusal.the-variants.{OutOfRange, DefinedTwice, NotDefined, Cyclic}
 use Rattle.plan.specs.Refusals.{stage, firstOf}
 use Rattle.plan.specs.Literals.{most}
-use Rattle.plan.specs.Circuit.{Tables, circuitOf, definedIn, against, short, wordsToWork, lengthsOf}
+use Rattle.plan.specs.Circuit.{Tables, circuitOf, definedIn, short}
 use Rattle.plan.specs.Header.{text, listOf, over, adds}
 use Rattle.plan.specs.Depends.{undefinedIn, cyclicIn}
 use Rattle.plan.specs.Binary.{binaryOrder}
@@ -28,7 +28,7 @@ use Rattle.tables.specs.Held.{Fits, Scratch}
 use Rattle.once.specs.Twice.{Ranged}
 use Rattle.sequence.specs.Tables.{Long}
 use Rattle.closing.specs.Read.{Read, closing}
-use Rattle.given.specs.Judged.{circuitStages, allStages, lentShorter, unordered}
+use Rattle.given.specs.Judged.{circuitStages, lentShorter, unordered}
 
 -- what 15 is asked of
 pub long-tables : (n : Counts) (inputs latches outputs gates : List ℕ) → Fits n inputs latches outputs gates → Long n inputs latches gates

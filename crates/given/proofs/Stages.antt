@@ -3,12 +3,12 @@ use Prim.Native.Nat.{ℕ, min}
 use mathlib.Core.Path.{_≡_, ap, _∙_}
 use mathlib.Core.Bool.{Bool, true, false}
 use mathlib.Core.Option.{Option, none, some}
-use mathlib.Core.List.{List, [], _∷_, _++_}
+use mathlib.Core.List.{List}
 use lib.ListN.{length}
 use Rattle.plan.specs.declared.Counts.{Counts}
 use Rattle.plan.specs.declared.Refusal.{Refusal}
 use Rattle.plan.specs.declared.Refusal.the-variants.{LargeCount, WrongSum, ShortTable}
-use Rattle.plan.specs.Refusals.{stage, firstOf}
+use Rattle.plan.specs.Refusals.{firstOf}
 use Rattle.plan.specs.Circuit.{Tables, Lent, against, short, wordsToWork, lengthsOf, cleared}
 use Rattle.plan.specs.Header.{text, listOf, over, adds}
 use Rattle.plan.specs.Given.{Given, counted, lentAlone, lentWith}

@@ -9,7 +9,7 @@ use Rattle.plan.specs.declared.Checked.{Checked}
 use Rattle.plan.specs.declared.Checked.the-variants.{Good, Refused}
 use Rattle.plan.specs.declared.Refusal.{Refusal}
 use Rattle.plan.specs.declared.Refusal.the-variants.{NotInOrder}
-use Rattle.plan.specs.Circuit.{Tables, Lent, against, wordsToWork, lengthsOf}
+use Rattle.plan.specs.Circuit.{Tables, Lent, against, wordsToWork}
 use Rattle.plan.specs.Given.{Given, stages, orderStage}
 use Rattle.tables.specs.declared.Sizes.{Sizes}
 use Rattle.tables.specs.Lengths.{five}

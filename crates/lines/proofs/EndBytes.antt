@@ -1,9 +1,9 @@
 -- The byte that ends a number of a line, by its class.
-use Prim.Native.Nat.{ℕ, _+_, _-_, _<_, _≤_, suc, zero}
+use Prim.Native.Nat.{ℕ, _+_, suc, zero}
 use mathlib.Core.Path.{_≡_, refl, sym, ap, _∙_}
 use mathlib.Core.Bool.{Bool, true, false, not, cond, _&&_}
 use native.Mathlib.Omega.{arith}
-use borrow.Author.Tests.{eqb-true, eq-eqb, ne-eqb, eqb-false}
+use borrow.Author.Tests.{eqb-true, eq-eqb, ne-eqb}
 use lib.Dec.{eqb, leb}
 use Rattle.plan.specs.declared.Class.{Class}
 use Rattle.plan.specs.declared.Class.the-variants.{Line, Space, Zero, Digit, Print, Rest}

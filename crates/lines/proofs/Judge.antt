@@ -1,7 +1,7 @@
 -- A line, judged number by number: the whole answer is what was read before and the answer from here on.
 use Prim.Native.Nat.{ℕ, suc, zero, _+_, _*_, _≤_}
-use mathlib.Core.Path.{_≡_, refl, sym, ap, ap₂, _∙_}
-use mathlib.Core.Bool.{Bool, true, false, cond, _&&_}
+use mathlib.Core.Path.{_≡_, refl, sym, ap, ap₂}
+use mathlib.Core.Bool.{Bool, true, false, cond}
 use mathlib.Core.Option.{Option, none, some}
 use mathlib.Core.List.{List, [], _∷_, _++_, append-nil, map}
 use native.Mathlib.Omega.{arith}
@@ -14,7 +14,7 @@ use Rattle.plan.specs.declared.Refusal.the-variants.{WrongByte, OutOfRange}
 use Rattle.plan.specs.Literals.{most, inRange, signOf}
 use Rattle.plan.specs.Refusals.{Parse, got, refused, _then_, unless}
 use Rattle.plan.specs.Circuit.{inside}
-use Rattle.plan.specs.Bytes.{number, expect, endOf, Placed, numbers, values, outside}
+use Rattle.plan.specs.Bytes.{number, endOf, Placed, numbers, values, outside}
 use Rattle.plan.specs.Given.{orElse}
 use Rattle.theorems.proofs.Reading.Common.{then-got, unless-got, got-value, and-left, and-right}
 use Rattle.theorems.proofs.Reading.Cut.{cut}

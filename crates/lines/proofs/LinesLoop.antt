@@ -9,7 +9,6 @@ use lib.ListN.{length, getD, set, length-append, length-set}
 use lib.Seq.{getD-drop}
 use Rattle.plan.specs.declared.Refusal.{Refusal}
 use Rattle.plan.specs.declared.Refusal.the-variants.{DefinedTwice}
-use Rattle.plan.specs.declared.Passed.{Passed}
 use Rattle.plan.specs.declared.Passed.the-variants.{To, Refused}
 use Rattle.plan.specs.Literals.{varOf}
 use Rattle.plan.specs.Refusals.{Parse, got, refused}

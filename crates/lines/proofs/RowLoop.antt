@@ -1,22 +1,20 @@
 -- The loop over the numbers of a line.
-use Prim.Native.Nat.{ℕ, suc, zero, _+_, _*_, _≤_, _<_, min}
+use Prim.Native.Nat.{ℕ, suc, zero, _+_, _≤_, _<_}
 use mathlib.Core.Path.{_≡_, refl, sym, ap, ap₂, _∙_}
 use mathlib.Core.Bool.{Bool, true, false, cond}
 use mathlib.Core.Option.{Option, none, some}
 use mathlib.Core.List.{List, [], _∷_, _++_, map, map-append}
 use native.Mathlib.Omega.{arith}
-use native.Mathlib.Nat.{zero-add, add-zero}
+use native.Mathlib.Nat.{zero-add}
 use borrow.Author.Tests.{eqb-true, leb-false, leb-true}
 use lib.Dec.{eqb, leb}
 use lib.ListN.{length, getD, set, length-append, length-map, List·getD-eq-default}
 use Rattle.plan.specs.declared.Refusal.{Refusal}
 use Rattle.plan.specs.declared.Refusal.the-variants.{WrongByte, OutOfRange}
-use Rattle.plan.specs.declared.Number.{Number}
 use Rattle.plan.specs.declared.Number.the-variants.{Value, Wrong}
-use Rattle.plan.specs.declared.Passed.{Passed}
 use Rattle.plan.specs.declared.Passed.the-variants.{To, Refused}
 use Rattle.plan.specs.Literals.{most, inRange}
-use Rattle.plan.specs.Refusals.{Parse, got, refused, unless}
+use Rattle.plan.specs.Refusals.{Parse, got, unless}
 use Rattle.plan.specs.Bytes.{number, numbers}
 use Rattle.plan.specs.Given.{orElse}
 use Rattle.plan.specs.Outcome.{passedBy, put, numberAt}

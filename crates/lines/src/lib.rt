@@ -1,7 +1,7 @@
 // Lines of literals: the one reader of inputs, latches, outputs and gates of the text form, of next states and outputs of the binary form,
 // and of the header's counts.
 ghost use mathlib.Core.Path.{_≡_};
-ghost use mathlib.Core.Bool.{_&&_, cond};
+ghost use mathlib.Core.Bool.{cond};
 ghost use mathlib.Core.Option.{none, some};
 ghost use mathlib.Core.List.{List};
 ghost use Prim.Native.Nat.{ℕ, _+_, _*_, _≤_, _<_};

@@ -1,5 +1,4 @@
 // Refusal 6 over given tables: no variable is defined twice (the paper, order of checks).
-ghost use mathlib.Core.Path.{_≡_};
 ghost use mathlib.Core.List.{List};
 ghost use Prim.Native.Nat.{ℕ, _*_, _<_, _≤_};
 ghost use lib.ListN.{length};

@@ -1,9 +1,9 @@
 -- The lowest bit of a literal, toggled.
-use Prim.Native.Nat.{ℕ, zero, suc, _+_, _*_, _-_, _%_, _<_}
-use mathlib.Core.Path.{_≡_, refl, ap, _∙_}
+use Prim.Native.Nat.{ℕ, zero, suc, _<_}
+use mathlib.Core.Path.{_≡_}
 use native.Mathlib.Omega.{arith}
 use lib.Bits.{bitXor, and-mask, xor-add-and}
-use Rattle.plan.specs.Literals.{negOf, signed, signOf}
+use Rattle.plan.specs.Literals.{negOf, signed}
 
 -- `n ^ 1`
 pub toggled : (n : ℕ) → bitXor n 1 ≡ negOf n

@@ -3,10 +3,9 @@ use Prim.Native.Nat.{ℕ, suc, zero, _+_, _-_}
 use mathlib.Core.Bool.{Bool, true, false, _&&_}
 use mathlib.Core.List.{List, [], _∷_, _++_, map}
 use lib.Dec.{eqb, leb, ltb}
-use lib.ListN.{length}
 use Rattle.plan.specs.declared.Counts.{Counts}
 use Rattle.plan.specs.Literals.{litOf}
-use Rattle.plan.specs.Refusals.{Parse, got, refused, _then_}
+use Rattle.plan.specs.Refusals.{Parse, got, _then_}
 use Rattle.plan.specs.Circuit.{Gate, Latch, Circuit, countsOf, oneLine, latchLine, gateLine, literalOf, nexts}
 use Rattle.plan.specs.Bytes.{lines, linesOf}
 use Rattle.plan.specs.Header.{binary, headerOf, adds}

@@ -5,7 +5,6 @@ use mathlib.Core.Option.{Option, none, some}
 use mathlib.Core.List.{List, [], _∷_, _++_}
 use lib.Dec.{eqb, leb, ltb}
 use lib.ListN.{length, getD, drop}
-use Rattle.plan.specs.declared.Refusal.{Refusal}
 use Rattle.plan.specs.declared.Refusal.the-variants.{WrongByte, OutOfRange, DefinedTwice}
 use Rattle.plan.specs.declared.Class.{Class}
 use Rattle.plan.specs.declared.Class.the-variants.{Line, Space, Zero, Digit, Print, Rest}

@@ -1,12 +1,12 @@
 -- Conversion.
 use Prim.Native.Nat.{ℕ, zero, suc, _+_, max, min}
-use mathlib.Core.Bool.{Bool, true, false, cond, _&&_}
+use mathlib.Core.Bool.{Bool, cond, _&&_}
 use mathlib.Core.Option.{Option, none, some}
 use mathlib.Core.List.{List, [], _∷_, _++_, map}
 use lib.Dec.{eqb}
 use lib.ListN.{length}
 use Rattle.plan.specs.Literals.{litOf, varOf, signOf}
-use Rattle.plan.specs.Circuit.{Gate, Latch, Circuit, vars, currents, lefts, nexts, has}
+use Rattle.plan.specs.Circuit.{Gate, Circuit, vars, currents, lefts, nexts, has}
 use Rattle.plan.specs.Binary.{litsFrom, latchesFrom}
 
 -- constants, inputs and latches count as numbered, in this order

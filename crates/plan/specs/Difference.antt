@@ -4,7 +4,6 @@ use mathlib.Core.Bool.{Bool, true, false, cond, _&&_, _||_}
 use mathlib.Core.List.{List, [], _∷_}
 use lib.Dec.{eqb, leb, ltb}
 use lib.ListN.{length, getD}
-use Rattle.plan.specs.declared.Refusal.{Refusal}
 use Rattle.plan.specs.declared.Refusal.the-variants.{WrongByte, BadDifference}
 use Rattle.plan.specs.declared.Difference.{Difference}
 use Rattle.plan.specs.declared.Difference.the-variants.{Value, Ends, Bad}

@@ -1,8 +1,8 @@
 -- Programs and their output: every byte that each writes.
-use Prim.Native.Nat.{ℕ, _+_}
+use Prim.Native.Nat.{ℕ}
 use Prim.Native.Char.{code}
 use Prim.Native.String.{String, [] as nil, _∷_ as _&_}
-use mathlib.Core.Bool.{Bool, true, false, cond, _&&_, _||_}
+use mathlib.Core.Bool.{Bool, true, cond, _&&_, _||_}
 use mathlib.Core.Option.{Option, none, some}
 use mathlib.Core.List.{List, [], _∷_, _++_, map}
 use lib.Dec.{eqb, leb}
@@ -12,7 +12,7 @@ use Rattle.plan.specs.declared.Refusal.the-variants.{WrongByte, ShortBuf
 use Rattle.plan.specs.Refusals.{Parse, got, refused, _then_, numberOf, placeOf}
 use Rattle.plan.specs.Circuit.{Circuit}
 use Rattle.plan.specs.Bytes.{digits}
-use Rattle.plan.specs.Header.{Form, text, binary, Head, header}
+use Rattle.plan.specs.Header.{Form, text, binary, header}
 use Rattle.plan.specs.Text.{textOf}
 use Rattle.plan.specs.Binary.{binaryOf}
 use Rattle.plan.specs.Tail.{endsLine}

@@ -8,7 +8,7 @@ use lib.ListN.{length}
 use Rattle.plan.specs.declared.Counts.{Counts}
 use Rattle.plan.specs.declared.Refusal.the-variants.{ShortTable, NotDefined, Cyclic}
 use Rattle.plan.specs.Literals.{most}
-use Rattle.plan.specs.Refusals.{Parse, got, refused, _then_, unless}
+use Rattle.plan.specs.Refusals.{Parse, got, _then_, unless}
 use Rattle.plan.specs.Circuit.{Circuit, countsOf, wordsToRead, against, short, oneLine, latchLine, gateLine, allInside, has, allNew, definedIn, usedIn}
 use Rattle.plan.specs.Depends.{undefinedIn, cyclicIn, Depends}
 use Rattle.plan.specs.Header.{Form, text, binary, header}

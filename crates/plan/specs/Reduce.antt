@@ -1,6 +1,6 @@
 -- Reduction, on a converted circuit.
-use Prim.Native.Nat.{ℕ, zero, suc, _+_, max, min}
-use mathlib.Core.Bool.{Bool, true, false, cond, _&&_, _||_}
+use Prim.Native.Nat.{ℕ, suc, _+_, max, min}
+use mathlib.Core.Bool.{cond, _&&_, _||_}
 use mathlib.Core.Option.{Option, none, some}
 use mathlib.Core.List.{List, [], _∷_, _++_, map}
 use lib.Dec.{eqb}

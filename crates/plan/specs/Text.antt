@@ -3,7 +3,7 @@ use Prim.Native.Nat.{ℕ}
 use mathlib.Core.Bool.{true, false}
 use mathlib.Core.List.{List, [], _++_, map}
 use Rattle.plan.specs.declared.Counts.{Counts}
-use Rattle.plan.specs.Refusals.{Parse, got, refused, _then_}
+use Rattle.plan.specs.Refusals.{Parse, got, _then_}
 use Rattle.plan.specs.Circuit.{Circuit, countsOf, heads, oneLine, latchLine, gateLine, literalOf, latchOf, gateOf}
 use Rattle.plan.specs.Bytes.{lines, linesOf}
 use Rattle.plan.specs.Header.{text, headerOf}

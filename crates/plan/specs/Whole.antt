@@ -1,6 +1,6 @@
 -- Whole files: from the bytes of an input to the bytes that are written, for any tables lent.
-use Prim.Native.Nat.{ℕ, suc, zero, _+_, _*_, _/_, min}
-use mathlib.Core.Bool.{Bool, true, false, cond, _&&_, _||_}
+use Prim.Native.Nat.{ℕ, _+_, _*_, _/_, min}
+use mathlib.Core.Bool.{Bool, true, false, _&&_, _||_}
 use mathlib.Core.Option.{Option, none, some}
 use mathlib.Core.List.{List, [], _∷_, _++_, map}
 use lib.Dec.{eqb}

@@ -3,7 +3,7 @@ use Prim.Native.Nat.{ℕ}
 use mathlib.Core.Path.{_≡_, ap₂}
 use mathlib.Core.Bool.{Bool, true, false}
 use mathlib.Core.Option.{Option}
-use mathlib.Core.List.{List, map}
+use mathlib.Core.List.{map}
 use Rattle.plan.specs.Circuit.{Circuit, oneLine, latchLine, gateLine, allInside}
 use Rattle.plan.specs.Given.{orElse, outsideIn}
 use Rattle.theorems.proofs.Writing.Nothing.{unlessAll, rows-place}

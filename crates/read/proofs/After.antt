@@ -11,7 +11,7 @@ use Rattle.plan.specs.declared.Passed.{Passed}
 use Rattle.plan.specs.declared.Passed.the-variants.{To, Refused}
 use Rattle.plan.specs.declared.Checked.{Checked}
 use Rattle.plan.specs.declared.Checked.the-variants as checked
-use Rattle.plan.specs.Refusals.{Parse, got, refused, _then_, unless, stage, firstOf}
+use Rattle.plan.specs.Refusals.{Parse, got, refused, unless, stage, firstOf}
 use Rattle.plan.specs.Circuit.{Circuit, Tables}
 use Rattle.plan.specs.Depends.{undefinedIn, cyclicIn}
 use Rattle.plan.specs.Given.{refusalOf}

@@ -1,21 +1,17 @@
 -- A reader's answer and tail, by what was loaded.
-use Prim.Native.Nat.{ℕ, suc, zero, _+_, _-_, _≤_}
-use mathlib.Core.Path.{_≡_, refl, sym, ap, ap₂, _∙_, subst}
+use Prim.Native.Nat.{ℕ, _-_, _≤_}
+use mathlib.Core.Path.{_≡_, sym, ap, _∙_}
 use mathlib.Core.List.{List, [], _∷_, _++_}
-use native.Mathlib.Nat.{le-refl, sub-self}
 use native.Mathlib.Omega.{arith}
 use borrow.Rule.Slice.PartMut.{midOf}
-use lib.ListN.{length, take, drop, length-drop}
+use lib.ListN.{length, drop, length-drop}
 use lib.Seq.{drop-length, take-all}
 use Rattle.plan.specs.declared.Counts.{Counts}
-use Rattle.plan.specs.declared.Refusal.{Refusal}
-use Rattle.plan.specs.declared.Loaded.{Loaded}
-use Rattle.plan.specs.declared.Loaded.the-variants.{Accepted, Refused}
-use Rattle.plan.specs.Refusals.{Parse, got, refused, numberOf, placeOf}
-use Rattle.plan.specs.Circuit.{Circuit, Tables, lengthsOf, countsOf}
-use Rattle.plan.specs.Header.{listOf}
+use Rattle.plan.specs.declared.Loaded.the-variants.{Accepted}
+use Rattle.plan.specs.Refusals.{Parse, got, refused}
+use Rattle.plan.specs.Circuit.{Circuit, lengthsOf}
 use Rattle.plan.specs.Reading.{readFile}
-use Rattle.plan.specs.Outcome.{ReadEntry, LoadExit, ReadExit, load, loadBy, read, loadedValues, tailOf}
+use Rattle.plan.specs.Outcome.{ReadEntry, LoadExit, load, loadBy, read, loadedValues, tailOf}
 use Rattle.theorems.proofs.Reading.Places.{start-within}
 
 -- the part from a position on is the rest of the list

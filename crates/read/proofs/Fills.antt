@@ -4,7 +4,6 @@ use mathlib.Core.Path.{_≡_, refl, sym, ap, _∙_, subst}
 use mathlib.Core.Bool.{Bool, true, false}
 use mathlib.Core.Option.{none, some}
 use mathlib.Core.List.{List}
-use native.Mathlib.Omega.{arith}
 use borrow.Author.Tests.{eqb-true, leb-true}
 use lib.ListN.{getD}
 use Rattle.plan.specs.declared.Counts.{Counts}
@@ -12,7 +11,6 @@ use Rattle.plan.specs.declared.Refusal.{Refusal}
 use Rattle.plan.specs.declared.Refusal.the-variants.{ShortTable}
 use Rattle.plan.specs.declared.Passed.{Passed}
 use Rattle.plan.specs.declared.Passed.the-variants as passed
-use Rattle.plan.specs.declared.Loaded.{Loaded}
 use Rattle.plan.specs.declared.Loaded.the-variants.{Accepted, Refused}
 use Rattle.plan.specs.Refusals.{Parse, got, refused}
 use Rattle.plan.specs.Circuit.{Circuit, Tables, countsOf, wordsToRead, against, short}
@@ -20,7 +18,7 @@ use Rattle.plan.specs.Header.{Form, text, binary, header, adds, listOf}
 use Rattle.plan.specs.Depends.{undefinedIn, cyclicIn}
 use Rattle.plan.specs.Tail.{tailAt}
 use Rattle.plan.specs.Reading.{body, readFile}
-use Rattle.theorems.proofs.Held.{Holds, BodySays}
+use Rattle.theorems.proofs.Held.{BodySays}
 use Rattle.theorems.proofs.Reading.Common.{then-got, unless-got, got-value}
 use Rattle.theorems.proofs.Reading.Differences.{Bytes}
 use Rattle.theorems.proofs.Reading.Headers.{AllMost}

@@ -9,7 +9,7 @@ use Rattle.plan.specs.declared.Refusal.{Refusal}
 use Rattle.plan.specs.declared.Loaded.{Loaded}
 use Rattle.plan.specs.declared.Loaded.the-variants.{Accepted, Refused}
 use Rattle.plan.specs.Refusals.{Parse, got, refused}
-use Rattle.plan.specs.Circuit.{Circuit, Tables, filled, cleared, allCleared}
+use Rattle.plan.specs.Circuit.{Circuit, Tables, cleared, allCleared}
 use Rattle.plan.specs.Reading.{readFile}
 use Rattle.plan.specs.Outcome.{ReadEntry, load, loadBy}
 use Rattle.theorems.proofs.Held.{holds-filled}

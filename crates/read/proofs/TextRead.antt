@@ -1,13 +1,13 @@
 -- What the text form's body leaves is what 7 and 8 are asked of.
-use Prim.Native.Nat.{ℕ, _+_, _*_, _<_, _≤_}
-use mathlib.Core.Path.{_≡_, refl, sym, ap, _∙_, subst}
+use Prim.Native.Nat.{ℕ, _+_, _≤_}
+use mathlib.Core.Path.{_≡_, sym, ap, subst}
 use mathlib.Core.Bool.{true, false}
 use mathlib.Core.List.{List, [], map}
 use native.Mathlib.Omega.{arith}
 use lib.ListN.{length, drop}
 use Rattle.plan.specs.declared.Counts.{Counts}
 use Rattle.plan.specs.Refusals.{got}
-use Rattle.plan.specs.Circuit.{Circuit, Tables, circuitOf, countsOf, definedIn, allNew, allInside, oneLine, latchLine, gateLine}
+use Rattle.plan.specs.Circuit.{Circuit, Tables, circuitOf, definedIn, allNew, allInside, oneLine, latchLine, gateLine}
 use Rattle.plan.specs.Text.{textBody}
 use Rattle.theorems.proofs.Held.{Holds, holds-circuit}
 use Rattle.theorems.proofs.Marks.{Agrees}

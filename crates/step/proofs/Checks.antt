@@ -11,22 +11,13 @@ use Rattle.plan.specs.declared.Checked.{Checked}
 use Rattle.plan.specs.declared.Checked.the-variants as checked
 use Rattle.plan.specs.Refusals.{firstOf}
 use Rattle.plan.specs.Circuit.{cleared}
-use Rattle.plan.specs.Given.{Given, given, lentAlone, stages, orderStage}
+use Rattle.plan.specs.Given.{Given, lentAlone, stages, orderStage}
 use Rattle.plan.specs.Outcome.{CheckExit, checkInOrder, checkedBy}
+use Rattle.theorems.proofs.Writing.Nothing.{some-first, both-first}
 use Rattle.given.specs.Judged.{allStages}
 use Rattle.given.proofs.Sound.{Good, good-none, refused-some, good-alone}
 use Rattle.sweep.specs.Running.{Runs}
 use Rattle.step.specs.Asked.{Blank}
-
-first-some : (r : Refusal) (xs ys : List (Option Refusal)) → firstOf xs ≡ some r → firstOf (xs ++ ys) ≡ some r
-first-some r [] ys e = let z : _≡_ {A = ℕ} 0 1 = cc in absurd (omega arith)
-first-some r (none ∷ xs) ys e = first-some r xs ys e
-first-some r (some q ∷ xs) ys e = e
-
-first-none : (xs ys : List (Option Refusal)) → firstOf xs ≡ none → firstOf (xs ++ ys) ≡ firstOf ys
-first-none [] ys e = refl
-first-none (none ∷ xs) ys e = first-none xs ys e
-first-none (some q ∷ xs) ys e = let z : _≡_ {A = ℕ} 0 1 = cc in absurd (omega arith)
 
 -- the answer where one stage more comes after 15
 module _ (g : Given) (last : Option Refusal) where
@@ -41,14 +32,14 @@ module _ (g : Given) (last : Option Refusal) where
     blank-is = ap (λ (x : CheckExit). x .scratch) e
 
     pub refused-by : (r : Refusal) → a ≡ checked.Refused r → answer ≡ some r
-    refused-by r q = first-some r (allStages true g (lentAlone g)) (last ∷ []) (refused-some r _ (sym q ∙ told))
+    refused-by r q = some-first r (allStages true g (lentAlone g)) (last ∷ []) (refused-some r _ (sym q ∙ told))
 
     module _ (q : a ≡ checked.Good) where
       all-none : firstOf (allStages true g (lentAlone g)) ≡ none
       all-none = good-none (firstOf (allStages true g (lentAlone g))) (sym q ∙ told)
 
       pub past-check : answer ≡ firstOf (last ∷ [])
-      past-check = first-none (allStages true g (lentAlone g)) (last ∷ []) all-none
+      past-check = both-first (allStages true g (lentAlone g)) (last ∷ []) all-none
 
       pub runs : Runs (g .counts) (g .tables .inputs) (g .tables .latches) (g .tables .outputs) (g .tables .gates)
       runs =

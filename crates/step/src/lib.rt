@@ -1,5 +1,4 @@
 // A step in three values, from vectors of bytes into vectors of bytes (the paper, stepping).
-ghost use mathlib.Core.Path.{_≡_};
 ghost use mathlib.Core.List.{List};
 ghost use Prim.Native.Nat.{ℕ};
 ghost use Rattle.plan.specs.Outcome.{Says, step};

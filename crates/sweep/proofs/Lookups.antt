@@ -7,7 +7,7 @@ use native.Mathlib.Numerals.{add-one}
 use native.Mathlib.Omega.{arith}
 use lib.ListN.{length, getD, set}
 use Rattle.plan.specs.Literals.{varOf, signOf}
-use Rattle.plan.specs.Step.{Value, v0, v1, vx, and, signedValue, lit}
+use Rattle.plan.specs.Step.{Value, v0, v1, vx, signedValue, lit}
 use Rattle.plan.specs.Outcome.{put}
 use Rattle.theorems.proofs.Tables.{firsts, row-ends}
 use Rattle.values.specs.Words.{word, told, words}

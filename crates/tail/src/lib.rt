@@ -2,8 +2,7 @@
 // section 12).
 ghost use mathlib.Core.Path.{_≡_};
 ghost use Prim.Native.Nat.{_+_, _<_, _^_};
-ghost use lib.Dec.{eqb};
-ghost use lib.ListN.{length, getD, drop};
+ghost use lib.ListN.{length, drop};
 ghost use Rattle.plan.specs.Bytes.{nameClass, span};
 ghost use Rattle.plan.specs.Tail.{isKind, countOf, comment as commentAt, tailAt};
 ghost use Rattle.plan.specs.Given.{refusalOf};

@@ -3,7 +3,7 @@ use Prim.Native.Nat.{ℕ}
 use mathlib.Core.Path.{_≡_, refl}
 use mathlib.Core.Option.{some}
 use mathlib.Core.List.{List, [], _∷_, _++_, map}
-use Rattle.plan.specs.Refusals.{Parse, got, refused, _then_}
+use Rattle.plan.specs.Refusals.{got, _then_}
 use Rattle.plan.specs.Circuit.{Circuit}
 use Rattle.plan.specs.Bytes.{digits}
 use Rattle.plan.specs.Difference.{differenceAt, differenceSays}

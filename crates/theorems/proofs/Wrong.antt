@@ -1,8 +1,8 @@
 -- "How tight the statements are": each wrong program differs from the definition at a named input, so no contract that cites the
 -- definition lets it pass.
 use Prim.Native.Nat.{ℕ, suc, _+_}
-use mathlib.Core.Path.{_≡_, sym, ap, _∙_}
-use mathlib.Core.List.{List, [], _∷_, _++_, map}
+use mathlib.Core.Path.{_≡_, ap}
+use mathlib.Core.List.{List, [], _∷_, _++_}
 use native.Mathlib.Omega.{arith}
 use lib.ListN.{length, replicate}
 use Rattle.plan.specs.declared.Refusal.{Refusal}

@@ -2,7 +2,7 @@
 use Prim.Native.Nat.{ℕ, zero, suc, _+_, _*_, _/_, _≤_, _<_, min}
 use mathlib.Core.Path.{_≡_, refl, ap, ap₂, _∙_}
 use mathlib.Core.Bool.{Bool, true, _&&_}
-use mathlib.Core.Option.{Option, none, some}
+use mathlib.Core.Option.{Option, none}
 use mathlib.Core.List.{List, [], _∷_, _++_, map}
 use native.Mathlib.Nat.{le-div-iff-mul-le, min-le-left}
 use native.Mathlib.Omega.{arith}
@@ -20,6 +20,7 @@ use Rattle.plan.specs.Outcome.{allCodes}
 use Rattle.plan.specs.Programs.{linesIn, allVectors}
 use Rattle.plan.specs.Whole.{TraceEntry, TraceExit, traceStage, lineWidth, nextLines, stateAfter, tracedBy, trace}
 use Rattle.theorems.proofs.Reading.Common.{and-left, and-right, and-intro}
+use Rattle.theorems.proofs.Writing.Nothing.{both-first}
 use Rattle.theorems.proofs.Writing.Stepping.{all-codes}
 use Rattle.codes.proofs.Places.{codesIn}
 use Rattle.given.specs.Judged.{allStages}
@@ -40,12 +41,6 @@ good-drop : (w m : ℕ) (rows : List (List ℕ)) → allVectors w rows ≡ true 
 good-drop w zero rows e = e
 good-drop w (suc m) [] e = refl
 good-drop w (suc m) (row ∷ rows) e = good-drop w m rows (and-right (eqb (length row) w && allCodes row) (allVectors w rows) e)
-
--- nothing before, nothing here
-none-then : (xs ys : List (Option Refusal)) → firstOf xs ≡ none → firstOf ys ≡ none → firstOf (xs ++ ys) ≡ none
-none-then [] ys e f = f
-none-then (none ∷ xs) ys e f = none-then xs ys e f
-none-then (some r ∷ xs) ys e f = let z : _≡_ {A = ℕ} 0 1 = cc in absurd (omega arith)
 
 module _ (e : TraceEntry) (k : ℕ) (said : trace e .answer ≡ Lines k) (out : List ℕ) where
   abbrev n : Counts
@@ -90,8 +85,8 @@ module _ (e : TraceEntry) (k : ℕ) (said : trace e .answer ≡ Lines k) (out : 
 
   nothing-again : answer (next .circuit) (traceStage next) ≡ none
   nothing-again =
-      none-then (allStages true (next .circuit) (lentAlone (next .circuit))) (traceStage next ∷ []) stages-again
-      (ap₂ (λ (s v : Bool). firstOf (bad s v ∷ [])) state-again vectors-again)
+      both-first (allStages true (next .circuit) (lentAlone (next .circuit))) (traceStage next ∷ []) stages-again
+      ∙ (ap₂ (λ (s v : Bool). firstOf (bad s v ∷ [])) state-again vectors-again)
 
   -- the next call tells as many lines as are left and fit
   pub goes-on : trace next .answer ≡ Lines (length (nextLines next))

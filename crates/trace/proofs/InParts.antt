@@ -22,6 +22,7 @@ use Rattle.plan.specs.Programs.{linesIn, allVectors, stepLines}
 use Rattle.plan.specs.Whole.{TraceEntry, TraceExit, traceStage, lineWidth, nextLines, stateAfter, tracedBy, trace}
 use Rattle.theorems.proofs.Put.{put-first}
 use Rattle.theorems.proofs.Reading.Common.{and-left, and-right}
+use Rattle.theorems.proofs.Writing.Nothing.{first-both}
 use Rattle.theorems.proofs.Writing.Stepping.{codes-values}
 use Rattle.codes.proofs.Places.{codesIn}
 use Rattle.given.specs.Judged.{allStages}
@@ -34,11 +35,6 @@ use Rattle.trace.proofs.Together.{traced-together, traced-length, after
 -- the vectors of lines, as values
 abbrev pub values : List ℕ → List (List Value)
 values vectors = map (map valueOf) (linesIn vectors)
-
-both-none : (xs ys : List (Option Refusal)) → firstOf (xs ++ ys) ≡ none → (firstOf xs ≡ none) × (firstOf ys ≡ none)
-both-none [] ys e = (refl, e)
-both-none (none ∷ xs) ys e = both-none xs ys e
-both-none (some r ∷ xs) ys e = let z : _≡_ {A = ℕ} 0 1 = cc in absurd (omega arith)
 
 all-good : (s v : Bool) → firstOf (bad s v ∷ []) ≡ none → (s ≡ true) × (v ≡ true)
 all-good true true e = (refl, refl)
@@ -66,7 +62,7 @@ module _ (e : TraceEntry) (k : ℕ) (said : trace e .answer ≡ Lines k) where
   outcome = ap (λ (o : Option Refusal). tracedBy o e) nothing
 
   pub stages-none : (firstOf (allStages true (e .circuit) (lentAlone (e .circuit))) ≡ none) × (firstOf (traceStage e ∷ []) ≡ none)
-  stages-none = both-none (allStages true (e .circuit) (lentAlone (e .circuit))) (traceStage e ∷ []) nothing
+  stages-none = first-both (allStages true (e .circuit) (lentAlone (e .circuit))) (traceStage e ∷ []) nothing
 
   pub tables-good : Good true (e .circuit)
   tables-good = good-alone true (e .circuit) (stages-none .0)

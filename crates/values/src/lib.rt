@@ -1,9 +1,9 @@
 // Values 0, 1 and x as words of scratch, 0, 1 and 2, and as codes "0", "1" and "x" of vectors (the paper, stepping).
 ghost use mathlib.Core.Path.{_≡_};
 ghost use mathlib.Core.List.{map};
-ghost use Prim.Native.Nat.{ℕ, _+_, _≤_};
+ghost use Prim.Native.Nat.{_+_, _≤_};
 ghost use lib.ListN.{length, take, drop};
-ghost use Rattle.plan.specs.Step.{codeOf, valueOf, is1, any1};
+ghost use Rattle.plan.specs.Step.{codeOf, valueOf, any1};
 ghost use Rattle.plan.specs.Outcome.{put};
 ghost use Rattle.values.specs.Words.{word, told, words, valuesAt};
 

@@ -1,13 +1,12 @@
 -- A form of a well-formed circuit is far shorter than 2 ^ 64 bytes: at most 11 for each number of a line, 10 for each gate.
 use Prim.Native.Nat.{ℕ, suc, _+_, _-_, _*_, _^_, _<_, _≤_}
-use mathlib.Core.Path.{_≡_, refl}
+use mathlib.Core.Path.{_≡_}
 use mathlib.Core.Bool.{Bool, true, false}
 use mathlib.Core.List.{List, [], _∷_, _++_, map}
 use native.Mathlib.Omega.{arith}
 use borrow.Author.Tests.{leb-true}
 use lib.Dec.{eqb, leb}
 use lib.ListN.{length, length-append}
-use Rattle.plan.specs.declared.Counts.{Counts}
 use Rattle.plan.specs.Literals.{most, signOf, inRange}
 use Rattle.plan.specs.Circuit.{Circuit, Latch, Gate, countsOf, oneLine, latchLine, gateLine, nexts, inside, allInside}
 use Rattle.plan.specs.Bytes.{digits, endOf, lineOf, linesOf}

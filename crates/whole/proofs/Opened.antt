@@ -1,8 +1,8 @@
 -- Opening a file: 14, 13, the reader's refusals, 4; and the tables then hold the circuit.
 use Prim.Native.Nat.{ℕ, _+_, _*_, _<_, _≤_}
-use mathlib.Core.Path.{_≡_, refl, sym, ap, ap₂, _∙_, subst}
+use mathlib.Core.Path.{_≡_, sym, ap, ap₂, _∙_, subst}
 use mathlib.Core.Bool.{Bool, true, false, cond}
-use mathlib.Core.Option.{Option, none, some}
+use mathlib.Core.Option.{Option, some}
 use mathlib.Core.List.{List, [], _∷_, _++_}
 use native.Mathlib.Omega.{arith}
 use borrow.Author.Tests.{le-leb, lt-leb}
@@ -13,7 +13,7 @@ use Rattle.plan.specs.declared.Refusal.the-variants.{ShortTable, LongInput, Unr
 use Rattle.plan.specs.declared.Loaded.the-variants as loaded
 use Rattle.plan.specs.Literals.{most}
 use Rattle.plan.specs.Refusals.{Parse, got, refused, _then_, unless}
-use Rattle.plan.specs.Circuit.{Circuit, Tables, countsOf, lengthsOf, wordsToRead, wordsToWork, against, short}
+use Rattle.plan.specs.Circuit.{Circuit, countsOf, lengthsOf, wordsToRead, wordsToWork, against, short}
 use Rattle.plan.specs.Tail.{TailOk}
 use Rattle.plan.specs.Reading.{readFile, States, asText, asBinary}
 use Rattle.plan.specs.Given.{Given, given, lentAlone}
@@ -28,7 +28,7 @@ use Rattle.theorems.proofs.Writing.Fine.{Fine, nothing-fine}
 use Rattle.theorems.proofs.Writing.Later.{Left, load-left}
 use Rattle.tables.specs.Lengths.{five, tableOf}
 use Rattle.tables.proofs.Told.{some-table, no-table}
-use Rattle.whole.specs.Opening.{OpenEntry, opening, opened, Ready, Opens}
+use Rattle.whole.specs.Opening.{OpenEntry, opening, opened, Opens}
 
 abbrev reading : OpenEntry → ReadEntry
 reading e = record { file = e .file; tables = e .tables; scratch = e .scratch }

@@ -1,6 +1,6 @@
 -- With what the programs lend, the whole-file functions leave what the programs print.
-use Prim.Native.Nat.{ℕ, _+_, _-_, _*_, _^_, _<_, _≤_, min}
-use mathlib.Core.Path.{_≡_, refl, sym, ap, ap₂, _∙_, subst}
+use Prim.Native.Nat.{ℕ, _+_, _-_, _^_, _<_, _≤_, min}
+use mathlib.Core.Path.{_≡_, refl, ap, ap₂, _∙_}
 use mathlib.Core.Bool.{Bool, true, false, cond}
 use mathlib.Core.Option.{Option, none, some}
 use mathlib.Core.List.{List, [], _∷_, _++_}
@@ -16,7 +16,7 @@ use Rattle.plan.specs.Circuit.{Circuit, countsOf, lengthsOf, wordsToRead, words
 use Rattle.plan.specs.Header.{Form, text, binary, Head, header}
 use Rattle.plan.specs.Text.{textOf}
 use Rattle.plan.specs.Binary.{binaryOf}
-use Rattle.plan.specs.Reading.{readFile, WellFormed, Room}
+use Rattle.plan.specs.Reading.{readFile, WellFormed}
 use Rattle.plan.specs.Convert.{convert}
 use Rattle.plan.specs.Reduce.{reduce}
 use Rattle.plan.specs.Programs.{lentWords, lentBytes, refusalLine, printed, input, fitting, otherForm, converter, reducer}

@@ -7,7 +7,6 @@ use Rattle.plan.specs.declared.Written.the-variants as written
 use Rattle.plan.specs.declared.Headed.{Headed}
 use Rattle.plan.specs.declared.Headed.the-variants as headed
 use Rattle.plan.specs.Refusals.{Parse, got, refused, _then_}
-use Rattle.plan.specs.Circuit.{Circuit}
 use Rattle.plan.specs.Header.{header}
 use Rattle.plan.specs.Binary.{binaryOf}
 use Rattle.plan.specs.Convert.{convert}

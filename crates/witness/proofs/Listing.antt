@@ -9,7 +9,7 @@ use lib.ListN.{length, take, drop, replicate, length-map, length-take, length-dr
 use lib.Seq.{length-take-le, drop-drop}
 use Rattle.plan.specs.declared.Counts.{Counts}
 use Rattle.plan.specs.Circuit.{Circuit}
-use Rattle.plan.specs.Step.{Value, v0, valueOf, outputsOf, nextOf, run, first, vectorsOf, any1, shows1, witnessed}
+use Rattle.plan.specs.Step.{Value, v0, valueOf, outputsOf, nextOf, run, vectorsOf, any1, shows1, witnessed}
 use Rattle.plan.specs.Outcome.{put}
 use Rattle.theorems.proofs.Tables.{row-ends}
 use Rattle.theorems.proofs.Running.Runs.{next-length}

@@ -1,8 +1,8 @@
 -- Stages one after another: the first refusal wins.
 use Prim.Native.Nat.{ℕ}
-use mathlib.Core.Path.{_≡_, refl, sym, ap, _∙_}
+use mathlib.Core.Path.{_≡_, sym, ap, _∙_}
 use mathlib.Core.Bool.{Bool}
-use mathlib.Core.Option.{Option, none, some}
+use mathlib.Core.Option.{Option, some}
 use mathlib.Core.List.{List, [], _∷_, _++_}
 use native.Mathlib.Omega.{arith}
 use lib.ListN.{length, getD, length-replicate}
@@ -14,34 +14,18 @@ use Rattle.plan.specs.Circuit.{cleared}
 use Rattle.plan.specs.Given.{Given}
 use Rattle.plan.specs.Outcome.{checkedBy}
 use Rattle.theorems.proofs.Marks.{zeros}
+use Rattle.theorems.proofs.Writing.Nothing.{some-first, one-stage, first-both, both-first}
 use Rattle.tail.specs.Marks.{Holds, Blank}
 use Rattle.given.proofs.Sound.{Good, good-none, refused-some, good-alone}
 use Rattle.write.specs.Judged.{tableStages, writerStages}
 
--- one stage more
-stops : (xs : List (Option Refusal)) (o : Option Refusal) (r : Refusal) → firstOf xs ≡ some r → firstOf (xs ++ (o ∷ [])) ≡ some r
-stops [] o r e = let z : _≡_ {A = ℕ} 0 1 = cc in absurd (omega arith)
-stops (none ∷ xs) o r e = stops xs o r e
-stops (some q ∷ xs) o r e = e
-
-goes-on : (xs : List (Option Refusal)) (o : Option Refusal) → firstOf xs ≡ none → firstOf (xs ++ (o ∷ [])) ≡ o
-goes-on [] none e = refl
-goes-on [] (some r) e = refl
-goes-on (none ∷ xs) o e = goes-on xs o e
-goes-on (some q ∷ xs) o e = let z : _≡_ {A = ℕ} 0 1 = cc in absurd (omega arith)
-
-passed : (xs : List (Option Refusal)) (o : Option Refusal) → firstOf (xs ++ (o ∷ [])) ≡ none → firstOf xs ≡ none
-passed [] o e = refl
-passed (none ∷ xs) o e = passed xs o e
-passed (some q ∷ xs) o e = e
-
 -- an answer, and the stages with one more
 module _ (xs : List (Option Refusal)) (o : Option Refusal) {answer : Checked} (says : answer ≡ checkedBy (firstOf xs)) where
   pub refused-before : (r : Refusal) → answer ≡ checked.Refused r → firstOf (xs ++ (o ∷ [])) ≡ some r
-  refused-before r e = stops xs o r (refused-some r (firstOf xs) (sym e ∙ says))
+  refused-before r e = some-first r xs (o ∷ []) (refused-some r (firstOf xs) (sym e ∙ says))
 
   pub good-before : answer ≡ checked.Good → firstOf (xs ++ (o ∷ [])) ≡ o
-  good-before e = goes-on xs o (good-none (firstOf xs) (sym e ∙ says))
+  good-before e = both-first xs (o ∷ []) (good-none (firstOf xs) (sym e ∙ says)) ∙ one-stage o
 
 -- tables that are good, and those that are good before a tail that is
 pub good-tables : (ordered : Bool) (g : Given) {answer : Checked} → answer ≡ checkedBy (firstOf (tableStages ordered g))
@@ -52,7 +36,7 @@ pub good-judged : (ordered : Bool) (g : Given) (tail : List ℕ) {answer : Check
     → answer ≡ checkedBy (firstOf (writerStages ordered g tail)) → answer ≡ checked.Good → Good ordered g
 good-judged ordered g tail says e =
     good-alone ordered g
-    (passed (tableStages ordered g) _ (good-none (firstOf (writerStages ordered g tail)) (sym e ∙ says)))
+    (first-both (tableStages ordered g) _ (good-none (firstOf (writerStages ordered g tail)) (sym e ∙ says)) .0)
 
 -- marks in scratch that is zero
 module _ (ordered : Bool) (g : Given) (good : Good ordered g) (marks : List ℕ) (blank : marks ≡ cleared (g .scratch)) where

@@ -1,5 +1,5 @@
 -- 2, 3 and 4 one after the other, then the circuit.
-use mathlib.Core.Path.{_≡_, sym, ap, _∙_}
+use mathlib.Core.Path.{sym, ap, _∙_}
 use borrow.Author.Needs.{needs}
 use borrow.Author.Tests.{not-true, not-false}
 use Rattle.plan.specs.Circuit.{Tables}

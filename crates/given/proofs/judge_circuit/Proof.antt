@@ -1,7 +1,6 @@
 -- 5; tables in binary order; 6; then 7, 8 and 15.
-use mathlib.Core.Path.{_≡_, sym, ap, _∙_}
+use mathlib.Core.Path.{sym, ap, _∙_}
 use borrow.Author.Needs.{needs}
-use borrow.Author.Tests.{not-true, not-false}
 use Rattle.plan.specs.declared.Checked.{Checked}
 use Rattle.plan.specs.Circuit.{Tables}
 use Rattle.tables.proofs.Told.{some-table, no-table}

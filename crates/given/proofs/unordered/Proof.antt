@@ -1,5 +1,5 @@
 -- A refusal stays, and binary order is asked last.
-use mathlib.Core.Path.{_≡_, sym, ap, ap₂, _∙_}
+use mathlib.Core.Path.{sym, ap, ap₂}
 use borrow.Author.Needs.{needs}
 use Rattle.plan.specs.declared.Checked.{Checked}
 use Rattle.given.specs.Judged.{unordered}

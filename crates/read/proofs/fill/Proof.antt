@@ -1,7 +1,6 @@
 use borrow.Author.Needs.{needs}
 use mathlib.Core.Path.{sym, _∙_}
 use Rattle.plan.specs.Circuit.{Tables}
-use Rattle.header.specs.Parts.{formOf}
 use Rattle.header.proofs.Accepted.{accepted, not-accepted}
 use Rattle.read.proofs.Fills.{header-told, short-told, rest-refused, rest-accepted, room-for}
 use Rattle.tables.proofs.Told.{some-table, no-table}

@@ -1,9 +1,6 @@
 use borrow.Author.Needs.{needs}
-use Prim.Native.Nat.{ℕ, _≤_}
-use mathlib.Core.Path.{_≡_, sym, ap, _∙_}
-use mathlib.Core.List.{List, _∷_}
+use mathlib.Core.Path.{sym, ap, _∙_}
 use native.Mathlib.Omega.{arith}
-use lib.ListN.{length}
 use Rattle.plan.specs.Outcome.{ReadEntry, LoadExit, loadedValues, tailOf}
 use Rattle.told.proofs.Refused.{refusal-told}
 use Rattle.read.proofs.Answers.{part-from, part-none, starts-within, read-by}

@@ -1,13 +1,12 @@
 -- The line's parts one after the other, each where the one before ended.
-use Prim.Native.Nat.{ℕ, _+_, _≤_}
-use mathlib.Core.Path.{_≡_, refl, ap, ap₂, _∙_}
-use mathlib.Core.List.{List, [], _∷_, _++_}
+use Prim.Native.Nat.{_+_, _≤_}
+use mathlib.Core.List.{[], _++_}
 use native.Mathlib.Omega.{arith}
 use borrow.Author.Needs.{needs}
 use lib.ListN.{length}
 use Rattle.plan.specs.Bytes.{digits}
 use Rattle.plan.specs.Programs.{bytesOf}
-use Rattle.telling.proofs.Line.{Told, nothing-told, more-told, byte-told, row, no-room, all-told}
+use Rattle.telling.proofs.Line.{Told, nothing-told, more-told, byte-told, no-room, all-told}
 use Rattle.telling.proofs.tell_refusal.Statement.{statement}
 use Rattle.telling.proofs.tell_refusal.Tie as tie
 

@@ -45,6 +45,15 @@ both-first [] ps e = refl
 both-first (none ∷ os) ps e = both-first os ps e
 both-first (some r ∷ os) ps e = some-none r e
 
+pub some-first : (r : Refusal) (os ps : List (Option Refusal)) → firstOf os ≡ some r → firstOf (os ++ ps) ≡ some r
+some-first r [] ps e = some-none r (sym e)
+some-first r (none ∷ os) ps e = some-first r os ps e
+some-first r (some q ∷ os) ps e = e
+
+pub one-stage : (o : Option Refusal) → firstOf (o ∷ []) ≡ o
+one-stage none = refl
+one-stage (some r) = refl
+
 pub or-none : (a b : Option ℕ) → orElse a b ≡ none → (a ≡ none) × (b ≡ none)
 or-none none b e = (refl, e)
 or-none (some k) b e = some-none k e

@@ -1,4 +1,4 @@
-use mathlib.Core.Path.{_≡_, sym, ap, _∙_}
+use mathlib.Core.Path.{sym, ap, _∙_}
 use borrow.Author.Needs.{needs}
 use Rattle.plan.specs.Outcome.{madeValues}
 use Rattle.told.proofs.Refused.{refusal-told}

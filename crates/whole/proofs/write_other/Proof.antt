@@ -1,8 +1,7 @@
 -- A binary file is written as text; a text file is converted and written as binary, and nothing there is refused.
-use Prim.Native.Nat.{ℕ}
 use mathlib.Core.Path.{sym, ap, _∙_}
 use mathlib.Core.Bool.{Bool}
-use mathlib.Core.List.{List, _++_}
+use mathlib.Core.List.{_++_}
 use borrow.Author.Needs.{needs}
 use Rattle.plan.specs.Circuit.{Tables}
 use Rattle.plan.specs.Given.{Given, given}

@@ -1,7 +1,6 @@
 -- The circuit is converted, which is not refused, and then reduced.
-use Prim.Native.Nat.{ℕ}
 use mathlib.Core.Path.{ap, _∙_}
-use mathlib.Core.List.{List, _++_}
+use mathlib.Core.List.{_++_}
 use borrow.Author.Needs.{needs}
 use Rattle.plan.specs.Circuit.{Circuit, Tables}
 use Rattle.plan.specs.Binary.{binaryOf}
