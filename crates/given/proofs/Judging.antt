@@ -1,24 +1,24 @@
 -- 5, 6, 7, 8 and 15 over the circuit that the tables hold; and the answers from the counts on.
 use Prim.Native.Nat.{ℕ, _≤_}
-use mathlib.Core.Path.{_≡_, refl, sym}
+use mathlib.Core.Path.{_≡_, refl, sym, ap, _∙_}
 use mathlib.Core.Bool.{Bool, true, false}
 use mathlib.Core.Option.{Option, none, some}
 use mathlib.Core.List.{List, [], _∷_}
 use native.Mathlib.Omega.{arith}
 use borrow.Author.Tests.{leb-true}
-use lib.ListN.{length, getD}
+use lib.ListN.{length, getD, length-replicate}
 use Rattle.plan.specs.declared.Counts.{Counts}
 use Rattle.plan.specs.declared.Checked.the-variants as checked
 use Rattle.plan.specs.declared.Refusal.the-variants.{OutOfRange, DefinedTwice, NotDefined, Cyclic}
 use Rattle.plan.specs.Refusals.{stage, firstOf}
 use Rattle.plan.specs.Literals.{most}
-use Rattle.plan.specs.Circuit.{Tables, circuitOf, definedIn, short}
+use Rattle.plan.specs.Circuit.{Tables, circuitOf, definedIn, short, cleared}
 use Rattle.plan.specs.Header.{text, listOf, over, adds}
 use Rattle.plan.specs.Depends.{undefinedIn, cyclicIn}
 use Rattle.plan.specs.Binary.{binaryOrder}
 use Rattle.plan.specs.Given.{Given, counted, outsideIn, twiceIn}
 use Rattle.plan.specs.Outcome.{checkedBy}
-use Rattle.theorems.proofs.Marks.{Agrees}
+use Rattle.theorems.proofs.Marks.{Agrees, zeros}
 use Rattle.theorems.proofs.Reading.Short.{short-none}
 use Rattle.theorems.proofs.Running.NoSixToEight.{no-six-to-eight}
 use Rattle.theorems.proofs.Writing.Nothing.{Inside, none-inside, once-different}
@@ -109,6 +109,15 @@ module _ (ordered : Bool) (n : Counts) (t : Tables) where
         different = once-different (circuitOf n t) e;
         marked = a;
       }
+
+-- scratch that is cleared
+pub cleared-wide : (n : Counts) (scratch scratch′ : List ℕ) → scratch′ ≡ cleared scratch → Scratch n scratch → Scratch n scratch′
+cleared-wide n scratch scratch′ e s =
+    let long : length scratch′ ≡ length scratch = ap length e ∙ length-replicate (length scratch) 0 in
+    omega (arith, s)
+
+pub cleared-zero : (scratch scratch′ : List ℕ) → scratch′ ≡ cleared scratch → (i : ℕ) → getD scratch′ i 0 ≡ 0
+cleared-zero scratch scratch′ e i = ap (λ (l : List ℕ). getD l i 0) e ∙ zeros (length scratch) i
 
 -- counts that 2 lets pass are within the limit
 pub small-counts : (n : Counts) → over (counted 1 (listOf n)) ≡ none → (n .M ≤ most) × (n .L ≤ most) × (n .O ≤ most) × (n .A ≤ most)

@@ -1,20 +1,17 @@
 -- The stages of the checks of given tables: the first that refuses is the answer.
-use Prim.Native.Nat.{ℕ, min}
-use mathlib.Core.Path.{_≡_, ap, _∙_}
+use Prim.Native.Nat.{ℕ}
+use mathlib.Core.Path.{_≡_, ap}
 use mathlib.Core.Bool.{Bool, true, false}
 use mathlib.Core.Option.{Option, none, some}
 use mathlib.Core.List.{List}
-use lib.ListN.{length}
-use Rattle.plan.specs.declared.Counts.{Counts}
 use Rattle.plan.specs.declared.Refusal.{Refusal}
 use Rattle.plan.specs.declared.Refusal.the-variants.{LargeCount, WrongSum, ShortTable}
 use Rattle.plan.specs.Refusals.{firstOf}
-use Rattle.plan.specs.Circuit.{Tables, Lent, against, short, wordsToWork, lengthsOf, cleared}
+use Rattle.plan.specs.Circuit.{Tables, Lent, short, lengthsOf, cleared}
 use Rattle.plan.specs.Header.{text, listOf, over, adds}
 use Rattle.plan.specs.Given.{Given, counted, lentAlone, lentWith}
 use Rattle.plan.specs.Outcome.{checkedBy, checkBy}
 use Rattle.tables.specs.declared.Sizes.{Sizes}
-use Rattle.tables.specs.Lengths.{five}
 use Rattle.given.specs.Judged.{allStages, circuitStages, lentShorter, sizesOf}
 use Rattle.given.proofs.Shorter.{short-with, short-alone}
 
@@ -43,23 +40,10 @@ module _ (ordered : Bool) (g : Given) (lent : List Lent) where
   pub by-short : (lent′ : List Lent) → short lent ≡ short lent′ → firstOf (allStages ordered g lent) ≡ firstOf (allStages ordered g lent′)
   by-short lent′ e = rw e
 
-module _ (n : Counts) (t : Tables) (s s′ : List ℕ) (to : Sizes) (t′ : Tables) (e : length s′ ≡ length s) (sizes : lengthsOf t′ ≡ sizesOf to) where
-  abbrev g : Given
-  g = record { counts = n; tables = t; scratch = s }
-
-  abbrev g′ : Given
-  g′ = record { counts = n; tables = t; scratch = s′ }
-
-  four : short (lentShorter g′ to) ≡ short (lentWith g t′)
-  four =
-      ap (λ (k : ℕ). short (against 1 (wordsToWork n) (five (min (length (t .inputs)) (to .inputs)) (min (length (t .latches)) (to .latches))
-      (min (length (t .outputs)) (to .outputs)) (min (length (t .gates)) (to .gates)) k))) e
-      ∙ short-with g to t′ sizes
-
-  -- of the scratch the stages know the length alone, and of written tables their sizes
-  pub same-answer : (ordered : Bool) → checkedBy (firstOf (allStages ordered g′ (lentShorter g′ to))) ≡ checkedBy (firstOf (allStages ordered g (lentWith g t′)))
-  same-answer true = ap checkedBy (by-short true g (lentShorter g′ to) (lentWith g t′) four)
-  same-answer false = ap checkedBy (by-short false g (lentShorter g′ to) (lentWith g t′) four)
+-- of written tables the stages know the sizes alone
+pub same-answer : (g : Given) (to : Sizes) (t′ : Tables) → lengthsOf t′ ≡ sizesOf to → (ordered : Bool)
+    → checkedBy (firstOf (allStages ordered g (lentShorter g to))) ≡ checkedBy (firstOf (allStages ordered g (lentWith g t′)))
+same-answer g to t′ sizes ordered = ap checkedBy (by-short ordered g (lentShorter g to) (lentWith g t′) (short-with g to t′ sizes))
 
 -- given tables alone
 pub alone-answer : (ordered : Bool) (g : Given) → checkBy (allStages ordered g (lentWith g (g .tables))) g ≡ checkBy (allStages ordered g (lentAlone g)) g

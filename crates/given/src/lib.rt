@@ -1,7 +1,6 @@
 // The checks of given tables: 2, 3, 4, 5, 6, 7, 8 over the whole circuit, in this order, and 15 for the callers that ask it.
 ghost use mathlib.Core.Path.{_≡_};
-ghost use Prim.Native.Nat.{ℕ};
-ghost use lib.ListN.{length, getD};
+ghost use lib.ListN.{length};
 ghost use Rattle.plan.specs.Refusals.{firstOf};
 ghost use Rattle.plan.specs.Circuit.{Tables, lengthsOf};
 ghost use Rattle.plan.specs.Header.{listOf, over, text, adds};
@@ -76,7 +75,7 @@ fn unordered(answer: Checked, ordered: bool) -> Checked
 }
 
 // 5, then 6, then 7, then 8, then 15. Tables in binary order whose literals are in range can't meet 6, 7 or 8 (AIGER report,
-// section 7), so that they need no marks. Marks of variables stand in the scratch.
+// section 7), so that they need no marks: one pass over the gates is all. Marks of variables stand in the scratch.
 fn judge_circuit(
     n: Counts,
     inputs: &[u32],
@@ -88,16 +87,17 @@ fn judge_circuit(
 ) -> Checked
     requires { ⌜ Fits n (now inputs) (now latches) (now outputs) (now gates) ⌝ }
     requires { ⌜ Scratch n (now scratch) ⌝ }
-    requires { ⌜ ((i : ℕ) → getD (now scratch) i 0 ≡ 0) ⌝ }
     ensures { λ r. ⌜ r ≡ checkedBy (firstOf (circuitStages ordered n (record { inputs = now (inputs .entry); latches = now (latches .entry); outputs = now (outputs .entry); gates = now (gates .entry) }))) ⌝ }
 {
-    let out = out_of_range(n, inputs, latches, outputs, gates);
+    let in_order = in_binary_order(n, inputs, latches, gates);
+    let out = out_of_range(n, inputs, latches, outputs, gates, in_order);
     if out != 0 {
         return Checked::Refused(Refusal::OutOfRange(out));
     }
-    if in_binary_order(n, inputs, latches, gates) {
+    if in_order {
         return Checked::Good;
     }
+    clear(scratch);
     let twice = defined_twice(n, inputs, latches, gates, scratch);
     if twice != 0 {
         return Checked::Refused(Refusal::DefinedTwice(twice));
@@ -119,7 +119,6 @@ fn judge(
     to: Sizes,
     ordered: bool,
 ) -> Checked
-    requires { ⌜ ((i : ℕ) → getD (now scratch) i 0 ≡ 0) ⌝ }
     ensures { λ r. ⌜ r ≡ checkedBy (firstOf (allStages ordered (record { counts = n; tables = (record { inputs = now (inputs .entry); latches = now (latches .entry); outputs = now (outputs .entry); gates = now (gates .entry) }); scratch = now (scratch .entry) }) (lentShorter (record { counts = n; tables = (record { inputs = now (inputs .entry); latches = now (latches .entry); outputs = now (outputs .entry); gates = now (gates .entry) }); scratch = now (scratch .entry) }) to))) ⌝ }
 {
     let large = large_count(n);
@@ -158,7 +157,6 @@ pub fn check_to_make(
         → _≡_ {A = CheckExit} (record { answer = r; scratch = now (scratch .exit) })
         (checkBy (allStages ordered (record { counts = n; tables = (record { inputs = now (inputs .entry); latches = now (latches .entry); outputs = now (outputs .entry); gates = now (gates .entry) }); scratch = now (scratch .entry) }) (lentWith (record { counts = n; tables = (record { inputs = now (inputs .entry); latches = now (latches .entry); outputs = now (outputs .entry); gates = now (gates .entry) }); scratch = now (scratch .entry) }) t)) (record { counts = n; tables = (record { inputs = now (inputs .entry); latches = now (latches .entry); outputs = now (outputs .entry); gates = now (gates .entry) }); scratch = now (scratch .entry) }))) ⌝ }
 {
-    clear(scratch);
     let answer = judge(n, inputs, latches, outputs, gates, scratch, to, ordered);
     clear(scratch);
     answer

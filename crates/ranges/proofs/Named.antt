@@ -1,14 +1,18 @@
 -- What refusal 5 names, by whether the rows of each table are in their ranges.
-use Prim.Native.Nat.{_*_, _≤_}
-use mathlib.Core.Path.{_≡_, sym, _∙_}
+use Prim.Native.Nat.{ℕ, _*_, _≤_}
+use mathlib.Core.Path.{_≡_, sym, ap, _∙_}
 use mathlib.Core.Bool.{Bool, true, false}
 use mathlib.Core.Option.{none, some}
-use lib.ListN.{length}
+use mathlib.Core.List.{List, map}
+use native.Mathlib.Omega.{arith}
+use lib.ListN.{length, take}
 use Rattle.plan.specs.declared.Counts.{Counts}
-use Rattle.plan.specs.Circuit.{Tables, circuitOf, rowsOf, allInside}
+use Rattle.plan.specs.Circuit.{Tables, circuitOf, oneLine, rowsOf, allInside}
+use Rattle.plan.specs.Binary.{binaryOrder}
 use Rattle.plan.specs.Given.{outsideIn}
 use Rattle.ranges.proofs.Places.{firstTable, outside-first}
 use Rattle.theorems.proofs.Tables.{one-rows, latch-rows, gate-rows}
+use Rattle.theorems.proofs.Reading.Runs.{BinaryOrder, order-exactly, lits-inside, gates-inside}
 
 -- tables 1 to 4 have the words that the counts ask
 pub record Room (n : Counts) (t : Tables) : Type 0 where
@@ -54,3 +58,19 @@ module _ {n : Counts} {t : Tables} (room : Room n t) where
 
   pub no-table : inputs-in ≡ true → latches-in ≡ true → outputs-in ≡ true → gates-in ≡ true → none ≡ outsideIn (circuitOf n t)
   no-table a b c d = sym (by-rows ∙ rw (a, b, c, d))
+
+  -- binary order leaves no input and no gate out of range
+  module _ (b : binaryOrder (circuitOf n t) ≡ true) where
+    order : BinaryOrder (circuitOf n t)
+    order = order-exactly (circuitOf n t) .0 b
+
+    pub inputs-known : inputs-in ≡ true
+    inputs-known =
+        ap (allInside true (n .M)) (sym (one-rows (n .I) (t .inputs) (room .inputs)))
+        ∙ ap (λ (ls : List ℕ). allInside true (n .M) (map oneLine ls)) (order .inputs)
+        ∙ lits-inside (n .M) (length (take (n .I) (t .inputs))) 1 (omega arith) (omega (arith, order .sum))
+
+    pub gates-known : gates-in ≡ true
+    gates-known =
+        ap (allInside true (n .M)) (sym (gate-rows (n .A) (t .gates) (room .gates)))
+        ∙ gates-inside (n .M) _ (circuitOf n t .gates) (order .gates) (omega arith) (omega (arith, order .sum))

@@ -1,10 +1,13 @@
 // Refusal 5 over given tables: each literal must be in its range (the paper, order of checks; AIGER report, section 6).
 ghost use mathlib.Core.Path.{_≡_};
+ghost use mathlib.Core.Bool.{true};
 ghost use Prim.Native.Nat.{_+_, _*_, _≤_};
 ghost use lib.ListN.{length, take, drop};
 ghost use Rattle.plan.specs.Literals.{most, inRange};
 ghost use Rattle.plan.specs.Circuit.{circuitOf, rowsOf, inside, allInside};
+ghost use Rattle.plan.specs.Binary.{binaryOrder};
 ghost use Rattle.plan.specs.Given.{outsideIn};
+ghost use Rattle.tables.specs.Held.{circuitIn};
 ghost use Rattle.tables.specs.Lengths.{tableOf};
 use plan::Counts;
 use plan::Lit;
@@ -52,19 +55,34 @@ fn rows_within(table: &[u32], k: usize, n: usize, defines: bool, m: u32) -> bool
     true
 }
 
-// The first of tables 1 to 4 with a literal out of its range, or 0. Inputs, latches and gates define, outputs do not.
+// The same, unless it is known.
+fn known_within(known: bool, table: &[u32], k: usize, n: usize, defines: bool, m: u32) -> bool
+    requires { ⌜ k * n ≤ length (now table) ⌝ }
+    requires { ⌜ (known ≡ true → allInside defines m (rowsOf k n (now table)) ≡ true) ⌝ }
+    ensures { λ r. ⌜ r ≡ allInside defines m (rowsOf k n (now (table .entry))) ⌝ }
+{
+    if known {
+        return true;
+    }
+    rows_within(table, k, n, defines, m)
+}
+
+// The first of tables 1 to 4 with a literal out of its range, or 0. Inputs, latches and gates define, outputs do not. Binary order
+// leaves no input and no gate out of range.
 pub fn out_of_range(
     n: Counts,
     inputs: &[u32],
     latches: &[u32],
     outputs: &[u32],
     gates: &[u32],
+    in_order: bool,
 ) -> usize
     requires { ⌜ n .M ≤ most ⌝ }
     requires { ⌜ n .I ≤ length (now inputs) ⌝ }
     requires { ⌜ 2 * n .L ≤ length (now latches) ⌝ }
     requires { ⌜ n .O ≤ length (now outputs) ⌝ }
     requires { ⌜ 3 * n .A ≤ length (now gates) ⌝ }
+    requires { ⌜ («in_order» ≡ true → binaryOrder (circuitIn n (now inputs) (now latches) (now outputs) (now gates)) ≡ true) ⌝ }
     ensures { λ r. ⌜ tableOf r ≡ outsideIn (circuitOf n (record {
       inputs = now (inputs .entry);
       latches = now (latches .entry);
@@ -73,7 +91,7 @@ pub fn out_of_range(
     })) ⌝ }
 {
     let m = n.M as u32;
-    if !rows_within(inputs, 1, n.I, true, m) {
+    if !known_within(in_order, inputs, 1, n.I, true, m) {
         return 1;
     }
     if !rows_within(latches, 2, n.L, true, m) {
@@ -82,7 +100,7 @@ pub fn out_of_range(
     if !rows_within(outputs, 1, n.O, false, m) {
         return 3;
     }
-    if !rows_within(gates, 3, n.A, true, m) {
+    if !known_within(in_order, gates, 3, n.A, true, m) {
         return 4;
     }
     0

@@ -83,7 +83,7 @@ module _ (n : Counts) (inputs latches gates : List ℕ) (long : Long n inputs la
           ap₂ (λ (i l : ℕ). runs (1 + i + l) (map gateLine (map gateOf (rowsOf 3 (n .A) gates)))) count-inputs count-latches
           ∙ runs-through gateOf gateLine (λ row. refl) (1 + n .I + n .L) (rowsOf 3 (n .A) gates)
 
-  -- what is answered where the first test to fail is that of the sum, of the inputs, of the latches, of the gates; where none is
+  -- what is answered where the first test to fail is that of the sum, of the inputs, of the latches; where none is
   module _ (outputs : List ℕ) where
     abbrev answer : Bool
     answer = binaryOrder (circuitIn n inputs latches outputs gates)
@@ -106,8 +106,5 @@ module _ (n : Counts) (inputs latches gates : List ℕ) (long : Long n inputs la
           both : answer ≡ inAll true true true runGates fallGates
           both = summed ∙ ap₂ (λ (x y : Bool). inAll true x y runGates fallGates) first second
 
-          pub ends-gates : runGates ≡ false → false ≡ answer
-          ends-gates h = sym (both ∙ ap (λ (x : Bool). inAll true true true x fallGates) h)
-
-          pub ends : runGates ≡ true → fallGates ≡ answer
-          ends h = sym (both ∙ ap (λ (x : Bool). inAll true true true x fallGates) h)
+          pub ends : (runGates && fallGates) ≡ answer
+          ends = sym both

@@ -47,7 +47,7 @@ runs-turn table stride n i at v h k =
 abbrev pub fallsLeft : List ℕ → ℕ → ℕ → Bool
 fallsLeft gates left at = falls (map gateOf (rowsOf 3 left (drop at gates)))
 
-abbrev gateTest : ℕ → ℕ → ℕ → Bool
+abbrev pub gateTest : ℕ → ℕ → ℕ → Bool
 gateTest lhs rhs0 rhs1 = ltb rhs0 lhs && leb rhs1 rhs0
 
 and-assoc : (a b d : Bool) → (a && (b && d)) ≡ ((a && b) && d)
@@ -69,3 +69,22 @@ falls-turn gates n i at k =
     ∙ ap₂ (λ (x y : ℕ). gateTest x y (getD row 2 0) && rest)
     (word-at 3 gates at 0 (omega arith) ∙ ap (λ (p : ℕ). getD gates p 0) first) (word-at 3 gates at 1 (omega arith))
     ∙ ap (λ (z : ℕ). gateTest (getD gates at 0) (getD gates (at + 1) 0) z && rest) (word-at 3 gates at 2 (omega arith))
+
+-- the gates left from a position on are those of the variables from v on, and fall
+abbrev pub orderLeft : List ℕ → ℕ → ℕ → ℕ → Bool
+orderLeft gates left at v = runsLeft gates 3 left at v && fallsLeft gates left at
+
+regroup : (a b c d : Bool) → ((a && c) && (b && d)) ≡ ((a && b) && (c && d))
+regroup false b c d = refl
+regroup true true c d = refl
+regroup true false true d = refl
+regroup true false false d = refl
+
+pub order-turn : (gates : List ℕ) (n i at v : ℕ) → i < n
+    → orderLeft gates (n - i) at v
+    ≡ ((eqb (getD gates at 0) (litOf v) && gateTest (getD gates at 0) (getD gates (at + 1) 0) (getD gates (at + 2) 0))
+    && orderLeft gates (n - (i + 1)) (at + 3) (v + 1))
+order-turn gates n i at v k =
+    ap₂ (λ (x y : Bool). x && y) (runs-turn gates 3 n i at v (omega arith) k) (falls-turn gates n i at k)
+    ∙ regroup (eqb (getD gates at 0) (litOf v)) (gateTest (getD gates at 0) (getD gates (at + 1) 0) (getD gates (at + 2) 0))
+    (runsLeft gates 3 (n - (i + 1)) (at + 3) (v + 1)) (fallsLeft gates (n - (i + 1)) (at + 3))

@@ -55,17 +55,31 @@ fn falls_at(lhs: u32, rhs0: u32, rhs1: u32) -> bool
     !larger.below(Lit::at(rhs1))
 }
 
-// The same of n gates.
-fn falling(gates: &[u32], n: usize) -> bool
-    requires { ⌜ 3 * n ≤ length (now gates) ⌝ }
-    ensures { λ r. ⌜ r ≡ falls (map gateOf (rowsOf 3 n (now (gates .entry)))) ⌝ }
+// Whether a gate is that of variable v and keeps this.
+fn stands_at(lhs: u32, rhs0: u32, rhs1: u32, v: u32) -> bool
+    requires { ⌜ v < 2147483648 ⌝ }
+    ensures { λ r. ⌜ r ≡ (eqb lhs (litOf v) && (ltb rhs0 lhs && leb rhs1 rhs0)) ⌝ }
 {
+    if !stands_for(lhs, v) {
+        return false;
+    }
+    falls_at(lhs, rhs0, rhs1)
+}
+
+// The same of n gates, whose variables run from `first` on: one pass.
+fn gates_in_order(gates: &[u32], n: usize, first: u32) -> bool
+    requires { ⌜ 3 * n ≤ length (now gates) ⌝ }
+    requires { ⌜ first + n ≤ 2147483648 ⌝ }
+    ensures { λ r. ⌜ r ≡ (runs first (rowsOf 3 n (now (gates .entry))) && falls (map gateOf (rowsOf 3 n (now (gates .entry))))) ⌝ }
+{
+    let mut v = first;
     let mut at = 0;
     let mut i = 0;
     while i < n {
-        if !falls_at(gates[at], gates[at + 1], gates[at + 2]) {
+        if !stands_at(gates[at], gates[at + 1], gates[at + 2], v) {
             return false;
         }
+        v += 1;
         at += 3;
         i += 1;
     }
@@ -87,8 +101,5 @@ pub fn in_binary_order(n: Counts, inputs: &[u32], latches: &[u32], gates: &[u32]
     if !runs_on(latches, 2, n.L, (1 + n.I) as u32) {
         return false;
     }
-    if !runs_on(gates, 3, n.A, (1 + n.I + n.L) as u32) {
-        return false;
-    }
-    falling(gates, n.A)
+    gates_in_order(gates, n.A, (1 + n.I + n.L) as u32)
 }

@@ -71,7 +71,7 @@ judge-circuit-requires c κs =
     let lent = shorter-lent g (a .to) _ _ _ _ (c .before .before .before .before .before .before .shorter .ensures) (c .before .before .before .before .before .shorter2 .ensures) (c .before .before .before .before .shorter3 .ensures)
     (c .before .before .before .shorter4 .ensures) in
     let e4 = no-table _ _ (c .before .if3 .left) (c .before .before .too-short .ensures ∙ lent) in
-    (fits g (a .to) e2 e3 e4, (fits-scratch g (a .to) e2 e3 e4, c .before .before .before .before .before .before .before .before .before .before .before .before .before .before .before .before .pre))
+    (fits g (a .to) e2 e3 e4, fits-scratch g (a .to) e2 e3 e4)
 
 same-length : tie.Need-same-length
 same-length c = search needs

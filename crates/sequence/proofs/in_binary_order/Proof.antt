@@ -5,7 +5,7 @@ use borrow.Author.Needs.{needs}
 use borrow.Author.Tests.{not-true, not-false}
 use Rattle.plan.specs.Circuit.{rowsOf}
 use Rattle.plan.specs.Binary.{runs}
-use Rattle.sequence.proofs.Parts.{ends-sum, ends-inputs, ends-latches, ends-gates, ends}
+use Rattle.sequence.proofs.Parts.{ends-sum, ends-inputs, ends-latches, ends}
 use Rattle.sequence.proofs.in_binary_order.Statement.{statement}
 use Rattle.sequence.proofs.in_binary_order.Tie as tie
 
@@ -61,42 +61,27 @@ returns-3 c outputs =
     ends-latches (a .n) (a .inputs .now) (a .latches .now) (a .gates .now) (s .pre) outputs (e .if1 .left) (inputs-run f)
     (sym (c .before .runs-on2 .ensures) ∙ not-true _ (c .if3 .taken))
 
-add-runs-on-2 : tie.Need-add-runs-on-2
-add-runs-on-2 c = search needs
+add-gates-in-order : tie.Need-add-gates-in-order
+add-gates-in-order c = search needs
 
-add-runs-on-3 : tie.Need-add-runs-on-3
-add-runs-on-3 c = search needs
+add-gates-in-order-2 : tie.Need-add-gates-in-order-2
+add-gates-in-order-2 c = search needs
 
-cast-runs-on-2 : tie.Need-cast-runs-on-2
-cast-runs-on-2 c = search needs
+cast-gates-in-order : tie.Need-cast-gates-in-order
+cast-gates-in-order c = search needs
 
-runs-on-requires-3 : tie.Need-runs-on-requires-3
-runs-on-requires-3 c κs = search needs
+gates-in-order-requires : tie.Need-gates-in-order-requires
+gates-in-order-requires c κs = search needs
 
 returns-4 : tie.Need-returns-4
 returns-4 c outputs =
-    let g = c .before .before .before .before in
+    let g = c .before .before .before in
     let f = g .before .before .before in
     let e = f .before .before in
     let s = e .before .before .before .before .before .before .before in
     let a = s .args in
-    ends-gates (a .n) (a .inputs .now) (a .latches .now) (a .gates .now) (s .pre) outputs (e .if1 .left) (inputs-run f) (latches-run g)
-    (sym (c .before .runs-on3 .ensures) ∙ not-true _ (c .if4 .taken))
-
-falling-requires : tie.Need-falling-requires
-falling-requires c κs = search needs
-
-returns-5 : tie.Need-returns-5
-returns-5 c outputs =
-    let h = c .before in
-    let g = h .before .before .before .before in
-    let f = g .before .before .before in
-    let e = f .before .before in
-    let s = e .before .before .before .before .before .before .before in
-    let a = s .args in
-    c .falling .ensures
+    c .gates-in-order .ensures
     ∙ ends (a .n) (a .inputs .now) (a .latches .now) (a .gates .now) (s .pre) outputs (e .if1 .left) (inputs-run f) (latches-run g)
-    (sym (h .before .runs-on3 .ensures) ∙ not-false _ (h .if4 .left))
 
 pub in-binary-order-spec : {M : Type 1} → statement M
 in-binary-order-spec =
@@ -111,10 +96,8 @@ in-binary-order-spec =
     cast-runs-on
     runs-on-requires-2
     returns-3
-    add-runs-on-2
-    add-runs-on-3
-    cast-runs-on-2
-    runs-on-requires-3
-    returns-4
-    falling-requires
-    returns-5)
+    add-gates-in-order
+    add-gates-in-order-2
+    cast-gates-in-order
+    gates-in-order-requires
+    returns-4)
