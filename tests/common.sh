@@ -1,5 +1,5 @@
 # shellcheck shell=bash disable=SC2034 # what is set here is used where it is sourced
-# For scripts that build C programs over the desk; sourced by bash from the project's root.
+# For scripts that build C programs over the desk or run the proved programs; sourced by bash from the project's root.
 
 give_up() {
     echo "$0: $1"
@@ -50,4 +50,23 @@ build_over_desk() {
     shift 2
     "$compiler" -std=c11 -Wall -Wextra -Werror "$@" -I desk -o "target/desk/$name" "$source" target/staticlib/libdesk.a ||
         give_up "$source isn't built"
+}
+
+# build_programs NAME..: target/bin/NAME, proved unless nothing changed since it was.
+build_programs() {
+    mkdir -p target
+    rt check "$@" >target/programs.log 2>&1 || {
+        cat target/programs.log
+        give_up "$* not built"
+    }
+}
+
+# Prints the words that start a program of target/bin: its code is x86-64's, and the kit brings the loader, and the emulator
+# where the machine is another.
+starter() {
+    local tools emulator
+    tools=$(dirname "$(dirname "$(rt doc)")")/on/$(uname -m)/toolchain
+    emulator=$tools/bin/qemu-x86_64
+    [ -x "$emulator" ] || emulator=
+    echo "${emulator:+$emulator }$tools/lib/ld-linux-x86-64.so.2 --library-path $tools/lib"
 }

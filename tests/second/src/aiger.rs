@@ -4,6 +4,7 @@ pub mod bytes;
 pub mod calls;
 pub mod convert;
 pub mod meaning;
+pub mod programs;
 pub mod read;
 pub mod reduce;
 pub mod step;

@@ -3,7 +3,7 @@
 mod calls;
 
 use crate::aiger::read::{self, header};
-use crate::aiger::{convert, literal, reduce, step, tables, write, Circuit, Counts, Form, Refusal};
+use crate::aiger::{convert, literal, programs, reduce, tables, write, Circuit, Counts, Form, Refusal};
 use crate::compare::compare;
 use crate::ensure;
 use crate::generate::Answer;
@@ -166,13 +166,10 @@ fn beside(example: &Example, circuit: &Circuit, tail: &[u8], library: Option<&dy
         );
     }
     let inputs = beside("inputs").unwrap_or_default();
-    let list: Vec<&[u8]> = inputs
-        .split_inclusive(|&byte| byte == b'\n')
-        .map(|line| &line[..line.len() - 1])
-        .collect();
+    let list = programs::lines(&inputs);
     if let Some(trace) = beside("trace") {
         for circuit in [circuit, &converted] {
-            let given = self::trace(circuit, &list);
+            let given = programs::trace(circuit, &list);
             ensure!(given == trace, "trace: given {:?}", String::from_utf8_lossy(&given));
         }
     }
@@ -181,13 +178,4 @@ fn beside(example: &Example, circuit: &Circuit, tail: &[u8], library: Option<&dy
     library.map_or(Ok(()), |library| {
         circuits.try_for_each(|circuit| calls::called(library, circuit, tail, &list))
     })
-}
-
-/// A line for each vector of the list: state, inputs, outputs, next state.
-fn trace(circuit: &Circuit, list: &[&[u8]]) -> Vec<u8> {
-    let steps = step::run(circuit, list.iter().copied());
-    let lines = steps
-        .zip(list)
-        .map(|((state, step), &input)| [&state, input, &step.output, &step.next].join(&b' '));
-    lines.flat_map(|line| [line, vec![b'\n']].concat()).collect()
 }

@@ -7,6 +7,7 @@ pub mod draft;
 mod edit;
 pub mod given;
 mod lend;
+pub mod runs;
 pub mod values;
 
 use crate::aiger::read::header;

@@ -16,6 +16,7 @@ mod library;
 mod memory;
 mod naive;
 mod options;
+mod programs;
 mod properties;
 mod random;
 mod remote;
@@ -28,6 +29,7 @@ use coverage::Coverage;
 use generate::{Answer, Case};
 use library::Library;
 use options::Options;
+use programs::Programs;
 use random::Random;
 use std::collections::VecDeque;
 use std::panic::{catch_unwind, AssertUnwindSafe};
@@ -35,33 +37,13 @@ use std::process::ExitCode;
 use tally::Tally;
 
 fn main() -> ExitCode {
-    let options = match Options::from_arguments() {
-        Ok(options) => options,
-        Err(why) => return give_up(&why),
-    };
-    let remote = match remote::library() {
-        Ok(remote) => remote,
-        Err(why) => return give_up(&why),
-    };
-    let library = remote.as_ref().map(|remote| remote as &dyn Library);
-    println!(
-        "seed {}, {}",
-        options.seed,
-        if library.is_some() {
-            "compared with the library"
-        } else {
-            "self checks only"
+    let tally = match compared() {
+        Ok(tally) => tally,
+        Err(why) => {
+            println!("{why}\n0 passed, 1 failed");
+            return ExitCode::FAILURE;
         }
-    );
-    let mut tally = Tally::default();
-    match (options.only, options.call) {
-        (Some(number), Some(call)) => desk::only(&mut tally, &options, library, call, number),
-        (Some(number), None) => begin(&options, number, library).finish(&mut tally, &options, library),
-        (None, _) => all(&mut tally, &options, library),
-    }
-    if let Some(remote) = remote {
-        tally.check("the server's end", remote.end());
-    }
+    };
     println!("{} passed, {} failed", tally.passed, tally.failed);
     if tally.failed == 0 {
         ExitCode::SUCCESS
@@ -70,12 +52,31 @@ fn main() -> ExitCode {
     }
 }
 
-fn give_up(why: &str) -> ExitCode {
-    println!("{why}\n0 passed, 1 failed");
-    ExitCode::FAILURE
+fn compared() -> Result<Tally, String> {
+    let options = Options::from_arguments()?;
+    let remote = remote::library()?;
+    let programs = programs::programs()?;
+    let library = remote.as_ref().map(|remote| remote as &dyn Library);
+    println!(
+        "seed {}, {}, {}",
+        options.seed,
+        library.map_or("no library", |_| "compared with the library"),
+        programs.as_ref().map_or("no programs", |_| "and with the programs")
+    );
+    let mut tally = Tally::default();
+    match (options.run, options.only, options.call) {
+        (Some(number), _, _) => programs::only(&mut tally, &options, programs.as_ref(), number),
+        (_, Some(number), Some(call)) => desk::only(&mut tally, &options, library, call, number),
+        (_, Some(number), None) => begin(&options, number, library).finish(&mut tally, &options, library),
+        (_, None, _) => all(&mut tally, &options, library, programs.as_ref()),
+    }
+    if let Some(remote) = remote {
+        tally.check("the server's end", remote.end());
+    }
+    Ok(tally)
 }
 
-fn all(tally: &mut Tally, options: &Options, library: Option<&dyn Library>) {
+fn all(tally: &mut Tally, options: &Options, library: Option<&dyn Library>, programs: Option<&Programs>) {
     options::forget_failures();
     examples::run(tally, library);
     faults::run(tally, options.seed);
@@ -93,6 +94,7 @@ fn all(tally: &mut Tally, options: &Options, library: Option<&dyn Library>) {
         every_byte::run(tally, library);
         trips::run(tally, options, library);
     }
+    programs::run(tally, options, programs);
 }
 
 /// So many cases are made while the library answers for the first of them.

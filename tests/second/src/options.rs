@@ -11,9 +11,11 @@ pub struct Options {
     pub only: Option<u64>,
     /// The case is one of this call on tables.
     pub call: Option<Call>,
+    /// Runs this run of a program alone.
+    pub run: Option<u64>,
 }
 
-const USAGE: &str = "second [--seed S] [--cases N] [--only CASE [--call CALL]]";
+const USAGE: &str = "second [--seed S] [--cases N] [--only CASE [--call CALL] | --run RUN]";
 
 fn failures() -> PathBuf {
     Path::new(env!("CARGO_MANIFEST_DIR")).join("../../target/second-failures")
@@ -32,6 +34,7 @@ impl Options {
             cases: 80_000,
             only: None,
             call: None,
+            run: None,
         };
         let mut arguments = std::env::args().skip(1);
         while let Some(argument) = arguments.next() {
@@ -41,6 +44,7 @@ impl Options {
                 "--seed" => options.seed = number()?,
                 "--cases" => options.cases = number()?,
                 "--only" => options.only = Some(number()?),
+                "--run" => options.run = Some(number()?),
                 "--call" => options.call = Some(Call::named(&value).ok_or(USAGE)?),
                 _ => return Err(USAGE.to_string()),
             }

@@ -63,6 +63,6 @@ fn in_order(given: &Given) -> Result<Circuit, Refusal> {
     Ok(circuit)
 }
 
-fn are_values(vector: &[u8]) -> bool {
+pub fn are_values(vector: &[u8]) -> bool {
     vector.iter().all(|value| b"01x".contains(value))
 }

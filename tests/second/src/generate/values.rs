@@ -21,3 +21,11 @@ pub fn ground(random: &mut Random, vector: &[u8]) -> Vec<u8> {
         .map(|&value| if value == b'x' { *random.pick(b"01") } else { value })
         .collect()
 }
+
+/// Any byte that is no value.
+pub fn no_value(random: &mut Random) -> u8 {
+    match random.byte() {
+        b'0' | b'1' | b'x' => *random.pick(b"2X\0 \n\x01/wy\xb0"),
+        byte => byte,
+    }
+}

@@ -2,17 +2,9 @@
 
 use super::TablesCase;
 use crate::aiger::{Circuit, Refusal};
-use crate::generate::values::vector;
+use crate::generate::values::{no_value, vector};
 use crate::memory::Memory;
 use crate::random::Random;
-
-/// Any byte that is no value.
-fn no_value(random: &mut Random) -> u8 {
-    match random.byte() {
-        b'0' | b'1' | b'x' => *random.pick(b"2X\0 \n\x01/wy\xb0"),
-        byte => byte,
-    }
-}
 
 /// A wrong length or a byte that is no value.
 fn spoil(random: &mut Random, vector: &mut Vec<u8>) {

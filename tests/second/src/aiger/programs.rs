@@ -1,0 +1,104 @@
+//! The programs: from `plan.in` and standard input to every byte that they write.
+
+use super::calls::are_values;
+use super::{convert, read, reduce, refuse, step, write, Circuit, Form, Refusal};
+
+#[derive(Clone, Copy, Debug, PartialEq, Eq)]
+pub enum Program {
+    Converter,
+    Reducer,
+    Tracer,
+}
+
+impl Program {
+    pub const ALL: [Program; 3] = [Program::Converter, Program::Reducer, Program::Tracer];
+
+    pub fn name(self) -> &'static str {
+        match self {
+            Program::Converter => "converter",
+            Program::Reducer => "reducer",
+            Program::Tracer => "tracer",
+        }
+    }
+
+    /// The refusals that it can give. The tracer writes line by line, so no buffer is too short for it.
+    pub fn refusals(self) -> &'static [u64] {
+        match self {
+            Program::Converter | Program::Reducer => &[1, 2, 3, 4, 5, 6, 7, 8, 9, 10, 11, 13, 14],
+            Program::Tracer => &[1, 2, 3, 4, 5, 6, 7, 8, 9, 10, 12, 13, 14],
+        }
+    }
+}
+
+/// The words that each program lends for tables 1 to 5.
+pub const LENT: [u64; 5] = [4096, 4096, 4096, 4096, 16_384];
+
+/// The longest input, and the bytes lent for a written file.
+pub const LONGEST: usize = 65_536;
+
+/// All that a program writes. An input is none if it can't be read.
+pub fn output(program: Program, plan: Option<&[u8]>, input: Option<&[u8]>) -> Vec<u8> {
+    match answer(program, plan, input) {
+        Ok(written) => written,
+        Err(Refusal { number, place }) => format!("refused {number} at {place}\n").into_bytes(),
+    }
+}
+
+/// Everything is asked of `plan.in` before standard input is looked at.
+pub fn answer(program: Program, plan: Option<&[u8]>, input: Option<&[u8]>) -> Result<Vec<u8>, Refusal> {
+    let (file, circuit, tail) = opened(plan)?;
+    let converted = || convert::convert(&circuit).circuit;
+    let written = |circuit: &Circuit, form| write::fits(write::file(circuit, form, tail), LONGEST as u64);
+    match program {
+        Program::Converter => match read::header(file)?.form {
+            Form::Text => written(&converted(), Form::Binary),
+            Form::Binary => written(&circuit, Form::Text),
+        },
+        Program::Reducer => written(&reduce::reduce(&converted()), Form::Binary),
+        Program::Tracer => Ok(trace(&converted(), &vectors(bytes(input)?, circuit.inputs.len())?)),
+    }
+}
+
+/// `plan.in`: the file, its circuit and its tail.
+pub fn opened(plan: Option<&[u8]>) -> Result<(&[u8], Circuit, &[u8]), Refusal> {
+    let file = bytes(plan)?;
+    let (circuit, tail) = read::read(file, &LENT)?;
+    Ok((file, circuit, &file[tail..]))
+}
+
+/// An input by 14 and 13.
+fn bytes(input: Option<&[u8]>) -> Result<&[u8], Refusal> {
+    match input {
+        None => refuse(14, 0),
+        Some(bytes) if bytes.len() > LONGEST => refuse(13, LONGEST),
+        Some(bytes) => Ok(bytes),
+    }
+}
+
+/// The vectors of standard input, of `i` values each: its end by 1, then every line by 12.
+fn vectors(input: &[u8], i: usize) -> Result<Vec<&[u8]>, Refusal> {
+    if input.last().is_some_and(|&byte| byte != b'\n') {
+        return refuse(1, input.len());
+    }
+    let list = lines(input);
+    if list.iter().all(|line| line.len() == i && are_values(line)) {
+        Ok(list)
+    } else {
+        refuse(12, 2)
+    }
+}
+
+/// Lines without their ends.
+pub fn lines(bytes: &[u8]) -> Vec<&[u8]> {
+    let lines = bytes.split_inclusive(|&byte| byte == b'\n');
+    lines.map(|line| line.strip_suffix(b"\n").unwrap_or(line)).collect()
+}
+
+/// A line for each vector of the list: state, inputs, outputs, next state.
+pub fn trace(circuit: &Circuit, list: &[&[u8]]) -> Vec<u8> {
+    let steps = step::run(circuit, list.iter().copied());
+    let lines = steps
+        .zip(list)
+        .map(|((state, step), &input)| [&state, input, &step.output, &step.next].join(&b' '));
+    lines.flat_map(|line| [line, vec![b'\n']].concat()).collect()
+}

@@ -1,0 +1,133 @@
+//! The answers of the programs' runs.
+
+use super::at_least;
+use crate::aiger::programs::{answer, opened, Program, LONGEST};
+use crate::aiger::{Form, Refusal};
+use crate::generate::runs::Run;
+use crate::tally::Tally;
+
+/// There must be so many runs, and so many accepted.
+const FEWEST: u64 = 3000;
+const FEWEST_ACCEPTED: u64 = 1000;
+
+/// Each kind of run must have at least so many, each refusal of each program as well.
+const PER_KIND: u64 = 5;
+
+/// A run of so many lines has many.
+const MANY: usize = 20_000;
+
+#[derive(Default)]
+pub struct RunCoverage {
+    /// By program and the refusal's number; at 0 accepted.
+    answered: [[u64; 16]; 3],
+    /// Accepted by program, in text and in binary.
+    forms: [[u64; 2]; 3],
+    foretold: u64,
+    traces: Traces,
+}
+
+/// The tracer's runs whose plan is accepted.
+#[derive(Default)]
+struct Traces {
+    /// By the refusal of standard input.
+    refused: [u64; 16],
+    without_lines: u64,
+    without_inputs: u64,
+    many_lines: u64,
+    /// More than a buffer holds was written.
+    in_parts: u64,
+}
+
+impl RunCoverage {
+    pub fn add(&mut self, run: &Run) {
+        let program = run.program as usize;
+        let answer = answer(run.program, run.plan.bytes(), run.input.bytes());
+        let number = answer.as_ref().map_or_else(|refusal| refusal.number as usize, |_| 0);
+        self.answered[program][number] += 1;
+        self.foretold += u64::from(run.foretold.is_some());
+        if let (Ok(_), Some(file)) = (&answer, run.plan.bytes()) {
+            self.forms[program][usize::from(file.get(1) == Some(&b'i'))] += 1;
+        }
+        if run.program == Program::Tracer {
+            self.traces.add(run, &answer);
+        }
+    }
+
+    /// Prints the summary and counts what was missed.
+    pub fn report(&self, tally: &mut Tally) {
+        for (program, answered) in Program::ALL.into_iter().zip(&self.answered) {
+            self.report_program(tally, program, answered);
+        }
+        let runs = self.answered.as_flattened().iter().sum();
+        let accepted = self.answered.iter().map(|answered| answered[0]).sum();
+        println!(
+            "runs of programs: {runs}, accepted {accepted}, {} foretold",
+            self.foretold
+        );
+        tally.check("runs of programs", at_least(runs, FEWEST));
+        tally.check("runs accepted", at_least(accepted, FEWEST_ACCEPTED));
+        self.traces.report(tally);
+    }
+
+    fn report_program(&self, tally: &mut Tally, program: Program, answered: &[u64; 16]) {
+        let name = program.name();
+        let [text, binary] = self.forms[program as usize];
+        let refusals = program.refusals();
+        let refused: Vec<String> = refusals
+            .iter()
+            .map(|&number| format!("{number}: {}", answered[number as usize]))
+            .collect();
+        println!(
+            "{name}: {} runs, accepted {} ({text} text, {binary} binary), refused by {}",
+            answered.iter().sum::<u64>(),
+            answered[0],
+            refused.join(", ")
+        );
+        for &number in refusals {
+            let count = answered[number as usize];
+            tally.check(&format!("{name}, refusal {number}"), at_least(count, PER_KIND));
+        }
+        for (form, count) in [(Form::Text, text), (Form::Binary, binary)] {
+            tally.check(
+                &format!("{name}, accepted, {form:?}"),
+                at_least(count, FEWEST_ACCEPTED / 10),
+            );
+        }
+    }
+}
+
+impl Traces {
+    fn add(&mut self, run: &Run, answer: &Result<Vec<u8>, Refusal>) {
+        let (Ok((_, circuit, _)), input) = (opened(run.plan.bytes()), run.input.bytes().unwrap_or_default()) else {
+            return;
+        };
+        match answer {
+            Ok(written) => {
+                let lines = input.iter().filter(|&&byte| byte == b'\n').count();
+                self.without_lines += u64::from(lines == 0);
+                self.without_inputs += u64::from(circuit.inputs.is_empty() && lines > 0);
+                self.many_lines += u64::from(lines >= MANY);
+                self.in_parts += u64::from(written.len() > LONGEST);
+            }
+            Err(refusal) => self.refused[refusal.number as usize] += 1,
+        }
+    }
+
+    fn report(&self, tally: &mut Tally) {
+        let kinds = [
+            ("standard input refused by 1", self.refused[1]),
+            ("by 12", self.refused[12]),
+            ("by 13", self.refused[13]),
+            ("by 14", self.refused[14]),
+            ("without lines", self.without_lines),
+            ("without inputs", self.without_inputs),
+            ("many lines", self.many_lines),
+            ("written in parts", self.in_parts),
+        ];
+        let told: Vec<String> = kinds.iter().map(|(kind, count)| format!("{kind}: {count}")).collect();
+        println!("tracer: {}", told.join(", "));
+        for (kind, count) in kinds {
+            tally.check(&format!("tracer, {kind}"), at_least(count, PER_KIND));
+        }
+    }
+}

@@ -1,0 +1,138 @@
+//! What stands under the name `plan.in`.
+
+use super::Plan;
+use crate::aiger::programs::{output, Program, LENT, LONGEST};
+use crate::aiger::{literal, Circuit, Form, Refusal};
+use crate::generate;
+use crate::generate::circuit::{circuit, Size};
+use crate::generate::draft::Draft;
+use crate::random::Random;
+
+/// A plan, and its refusal if that is known from the way it was made.
+pub fn plan(random: &mut Random, program: Program) -> (Plan, Option<Refusal>) {
+    match random.below(100) {
+        0 | 1 => (Plan::Missing, Some(Refusal { number: 14, place: 0 })),
+        2 | 3 => (Plan::Folder, Some(Refusal { number: 14, place: 0 })),
+        4..=8 => long(random),
+        9..=14 => full(random, program),
+        15..=29 => (Plan::File(edge(random)), None),
+        _ => (Plan::File(generate::case(random.word(), 0).file), None),
+    }
+}
+
+fn form(random: &mut Random) -> Form {
+    *random.pick(&[Form::Text, Form::Binary])
+}
+
+/// A well-formed file, or no file at all, that is about as long as it may be.
+fn long(random: &mut Random) -> (Plan, Option<Refusal>) {
+    let length = *random.pick(&[LONGEST - 1, LONGEST, LONGEST + 1, LONGEST + 2, 2 * LONGEST]);
+    let file = if random.once_in(4) {
+        (0..length).map(|_| random.byte()).collect()
+    } else {
+        let form = form(random);
+        let mut draft = some(random, form);
+        padded(random, &mut draft, length)
+    };
+    let foretold = (length > LONGEST).then_some(Refusal {
+        number: 13,
+        place: LONGEST as u64,
+    });
+    (Plan::File(file), foretold)
+}
+
+/// The file of a draft, brought to a length by its comment. Cut off among new lines it would still be well formed.
+fn padded(random: &mut Random, draft: &mut Draft, length: usize) -> Vec<u8> {
+    draft.comment = b"c\n".to_vec();
+    let mut file = draft.layout().file;
+    file.resize(length - 1, *random.pick(b"\n~\0"));
+    file.push(b'\n');
+    file
+}
+
+/// A file that is not too long, and is about as long as it may be once it is written.
+fn full(random: &mut Random, program: Program) -> (Plan, Option<Refusal>) {
+    let mut draft = if program == Program::Converter && random.once_in(2) {
+        some(random, Form::Binary)
+    } else {
+        let growing = growing(random);
+        Draft::new(random, Form::Text, &growing)
+    };
+    draft.comment.clear();
+    let file = draft.layout().file;
+    let writer = match program {
+        Program::Tracer => Program::Converter,
+        writer => writer,
+    };
+    let written = output(writer, Some(&file), None).len();
+    let length = *random.pick(&[LONGEST - 1, LONGEST, LONGEST + 1, LONGEST + 9]);
+    let file = padded(random, &mut draft, file.len() + length - written);
+    let foretold = (length > LONGEST && program == writer).then_some(Refusal {
+        number: 11,
+        place: length as u64,
+    });
+    (Plan::File(file), foretold)
+}
+
+/// A draft with inputs. They and left sides are written in text only, so text is longer.
+fn some(random: &mut Random, form: Form) -> Draft {
+    let size = Size {
+        i: random.between(8, 200),
+        l: random.below(9),
+        o: random.below(200),
+        a: random.below(200),
+        unused: 0,
+    };
+    let circuit = circuit(random, form, &size);
+    Draft::new(random, form, &circuit)
+}
+
+/// A circuit that is longer in binary form: its outputs have one digit, and four once the inputs come before them.
+fn growing(random: &mut Random) -> Circuit {
+    let i = random.between(500, 600);
+    Circuit {
+        m: i as u64 + 2,
+        inputs: (2..=i + 1).map(literal).collect(),
+        latches: vec![[2, random.below(4) as u32]],
+        outputs: (0..random.between(3000, 4000))
+            .map(|_| random.between(2, 3) as u32)
+            .collect(),
+        gates: vec![[literal(i + 2), literal(i + 1), random.below(8) as u32]],
+    }
+}
+
+/// A file with one table on the line of what the programs lend.
+fn edge(random: &mut Random) -> Vec<u8> {
+    let form = form(random);
+    let mut size = Size {
+        i: random.below(5),
+        l: random.below(5),
+        o: random.below(5),
+        a: random.below(9),
+        unused: 0,
+    };
+    let over = random.below(2);
+    match random.below(6) {
+        0 => size.i = LENT[0] as usize + over,
+        1 => size.l = LENT[1] as usize / 2 + over,
+        2 => size.o = LENT[2] as usize + over,
+        3 => size.a = LENT[3] as usize / 3 + over,
+        4 => scratch(random, form, &mut size, over),
+        // Lines of a power of two fill buffers and inputs without a rest.
+        _ => size.i = (1 << random.between(1, 12)) - 1,
+    }
+    let circuit = circuit(random, form, &size);
+    Draft::new(random, form, &circuit).layout().file
+}
+
+/// Table 5 full, or one word too short: 4 x (M + 1) + O.
+fn scratch(random: &mut Random, form: Form, size: &mut Size, over: usize) {
+    let fours = random.below(400);
+    size.o = 4 * fours + over;
+    let m = LENT[4] as usize / 4 - 1 - fours;
+    let rest = m - size.i - size.l - size.a;
+    match form {
+        Form::Text => size.unused = rest,
+        Form::Binary => size.i += rest,
+    }
+}
