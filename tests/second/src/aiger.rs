@@ -22,6 +22,13 @@ pub struct Refusal {
     pub place: u64,
 }
 
+impl Refusal {
+    /// What a program writes of it.
+    pub fn line(&self) -> String {
+        format!("refused {} at {}\n", self.number, self.place)
+    }
+}
+
 /// Shortens the many places where a check fails.
 pub fn refuse<T>(number: u64, place: usize) -> Result<T, Refusal> {
     Err(Refusal {

@@ -23,6 +23,7 @@ mod remote;
 mod tally;
 mod trips;
 mod wire;
+mod worked;
 
 use aiger::read;
 use coverage::Coverage;
@@ -54,6 +55,10 @@ fn main() -> ExitCode {
 
 fn compared() -> Result<Tally, String> {
     let options = Options::from_arguments()?;
+    if let Some(path) = options.vectors {
+        std::fs::write(path, worked::output()?).map_err(|error| error.to_string())?;
+        return Ok(Tally::default());
+    }
     let remote = remote::library()?;
     let programs = programs::programs()?;
     let library = remote.as_ref().map(|remote| remote as &dyn Library);
@@ -79,6 +84,7 @@ fn compared() -> Result<Tally, String> {
 fn all(tally: &mut Tally, options: &Options, library: Option<&dyn Library>, programs: Option<&Programs>) {
     options::forget_failures();
     examples::run(tally, library);
+    worked::run(tally);
     faults::run(tally, options.seed);
     large::run(tally, library);
     let mut coverage = Coverage::default();

@@ -13,9 +13,11 @@ pub struct Options {
     pub call: Option<Call>,
     /// Runs this run of a program alone.
     pub run: Option<u64>,
+    /// Only writes, to this file, what the program `vectors` must write.
+    pub vectors: Option<PathBuf>,
 }
 
-const USAGE: &str = "second [--seed S] [--cases N] [--only CASE [--call CALL] | --run RUN]";
+const USAGE: &str = "second [--seed S] [--cases N] [--only CASE [--call CALL] | --run RUN | --vectors FILE]";
 
 fn failures() -> PathBuf {
     Path::new(env!("CARGO_MANIFEST_DIR")).join("../../target/second-failures")
@@ -35,6 +37,7 @@ impl Options {
             only: None,
             call: None,
             run: None,
+            vectors: None,
         };
         let mut arguments = std::env::args().skip(1);
         while let Some(argument) = arguments.next() {
@@ -45,6 +48,7 @@ impl Options {
                 "--cases" => options.cases = number()?,
                 "--only" => options.only = Some(number()?),
                 "--run" => options.run = Some(number()?),
+                "--vectors" => options.vectors = Some(PathBuf::from(&value)),
                 "--call" => options.call = Some(Call::named(&value).ok_or(USAGE)?),
                 _ => return Err(USAGE.to_string()),
             }

@@ -38,10 +38,7 @@ pub const LONGEST: usize = 65_536;
 
 /// All that a program writes. An input is none if it can't be read.
 pub fn output(program: Program, plan: Option<&[u8]>, input: Option<&[u8]>) -> Vec<u8> {
-    match answer(program, plan, input) {
-        Ok(written) => written,
-        Err(Refusal { number, place }) => format!("refused {number} at {place}\n").into_bytes(),
-    }
+    answer(program, plan, input).unwrap_or_else(|refusal| refusal.line().into_bytes())
 }
 
 /// Everything is asked of `plan.in` before standard input is looked at.

@@ -1,0 +1,55 @@
+-- Up to the table's end.
+use Prim.Native.Nat.{_-_}
+use borrow.Author.Needs.{needs}
+use lib.ListN.{length}
+use Rattle.vectors.proofs.say_table.Statement.{statement}
+use Rattle.vectors.proofs.say_table.Tie as tie
+
+abbrev Inv-loop : tie.InvT-loop
+Inv-loop t n i₀ i = Unit {0}
+
+abbrev μ-loop : tie.MeasureT-loop
+μ-loop t n i₀ i = length t - i
+
+loop-holds : tie.Need-loop-holds Inv-loop μ-loop
+loop-holds c = search needs
+
+returns : tie.Need-returns Inv-loop μ-loop
+returns c = search needs
+
+mul-say-word : tie.Need-mul-say-word Inv-loop μ-loop
+mul-say-word c = search needs
+
+shared-slice-read-say-word : tie.Need-shared-slice-read-say-word Inv-loop μ-loop
+shared-slice-read-say-word c = search needs
+
+say-word-requires : tie.Need-say-word-requires Inv-loop μ-loop
+say-word-requires c κs = search needs
+
+add-i : tie.Need-add-i Inv-loop μ-loop
+add-i c = search needs
+
+loop-less : tie.Need-loop-less Inv-loop μ-loop
+loop-less c = search needs
+
+loop-again : tie.Need-loop-again Inv-loop μ-loop
+loop-again c = search needs
+
+returns-2 : tie.Need-returns-2 Inv-loop μ-loop
+returns-2 c = search needs
+
+pub say-table-spec : {M : Type 1} → statement M
+say-table-spec =
+    tie.close
+    (tie.spec
+    Inv-loop
+    μ-loop
+    loop-holds
+    returns
+    mul-say-word
+    shared-slice-read-say-word
+    say-word-requires
+    add-i
+    loop-less
+    loop-again
+    returns-2)
