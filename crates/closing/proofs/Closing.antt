@@ -12,7 +12,7 @@ use Rattle.plan.specs.declared.Counts.{Counts}
 use Rattle.plan.specs.declared.Refusal.{Refusal}
 use Rattle.plan.specs.declared.Refusal.the-variants.{NotDefined, Cyclic}
 use Rattle.plan.specs.declared.Checked.{Checked}
-use Rattle.plan.specs.declared.Checked.the-variants.{Refused}
+use Rattle.plan.specs.declared.Checked.the-variants.{Refused, Good}
 use Rattle.plan.specs.Literals.{varOf}
 use Rattle.plan.specs.Refusals.{stage, firstOf}
 use Rattle.plan.specs.Circuit.{Circuit, oneLine, latchLine, lefts, rights, definedIn, usedIn, allInside}
@@ -124,3 +124,6 @@ by-cycle c r e q =
     last : (o : Option Refusal) → o ≡ firstOf (o ∷ [])
     last none = refl
     last (some x) = refl
+
+pub not-good : {A : Type 0} (r : Refusal) → Refused r ≡ Good → A
+not-good r e = let z : _≡_ {A = ℕ} 0 1 = cc in absurd (omega arith)

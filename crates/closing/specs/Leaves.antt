@@ -6,8 +6,9 @@ use mathlib.Core.List.{List, _∷_, _++_, map}
 use lib.ListN.{length, getD, set, take}
 use Rattle.plan.specs.declared.Counts.{Counts}
 use Rattle.plan.specs.Literals.{most}
-use Rattle.plan.specs.Circuit.{Latch, latchOf, rowsOf, oneLine, latchLine, vars, currents, allInside}
+use Rattle.plan.specs.Circuit.{Latch, latchOf, gateOf, rowsOf, oneLine, latchLine, vars, currents, lefts, allInside}
 use Rattle.theorems.proofs.Reading.Members.{distinct}
+use Rattle.theorems.proofs.Running.Scan.{scanned}
 use Rattle.theorems.proofs.Tables.{headAt}
 use Rattle.order.specs.Numbers.{NumTable}
 
@@ -43,3 +44,9 @@ pub record Leaves (n : Counts) (inputs latches t : List ℕ) : Type 0 where
 pub record Numbered (n : Counts) (inputs latches t t′ : List ℕ) : Type 0 where
   pub numbers : NumTable (leavesOf n inputs latches) (take (n .M + 1) t′)
   pub rest : (p : ℕ) → n .M < p → getD t′ p 0 ≡ getD t p 0
+
+-- the numbers of all variables: of the leaves, then of the gates in the order in which they get them
+abbrev pub AllNumbered : Counts → List ℕ → List ℕ → List ℕ → List ℕ → Type 0
+AllNumbered n inputs latches gates t =
+    let lv = leavesOf n inputs latches in
+    NumTable (lv ++ lefts (scanned (map gateOf (rowsOf 3 (n .A) gates)) (n .A) lv)) (take (n .M + 1) t)

@@ -1,11 +1,16 @@
 // Refusal 7, then 8, over the whole circuit in the tables: what is left to check when every literal is in range and no variable is
 // defined twice.
 ghost use mathlib.Core.Path.{_≡_};
+ghost use mathlib.Core.Bool.{true, false};
+ghost use mathlib.Core.List.{map};
 ghost use Prim.Native.Nat.{ℕ, _+_, _*_, _<_, _≤_};
 ghost use lib.ListN.{length};
+ghost use Rattle.plan.specs.declared.Checked.the-variants.{Good};
+ghost use Rattle.plan.specs.Circuit.{gateOf, rowsOf};
 ghost use Rattle.plan.specs.Outcome.{checkedBy};
+ghost use Rattle.theorems.proofs.Running.Ascending.{ascends};
 ghost use Rattle.theorems.proofs.Tables.{headAt};
-ghost use Rattle.closing.specs.Leaves.{withHeads, Leaves, Numbered};
+ghost use Rattle.closing.specs.Leaves.{withHeads, Leaves, Numbered, AllNumbered};
 ghost use Rattle.tables.specs.Held.{circuitIn};
 ghost use Rattle.closing.specs.Read.{closing, Read};
 use plan::Checked;
@@ -36,7 +41,7 @@ fn number_heads(table: &[u32], stride: usize, n: usize, first: u32, t: &mut [u32
 
 // Inputs get the numbers from 1 on, in list order, and latches the next; the constant has 0, and so has what is no leaf
 // (the paper, conversion).
-pub fn number_leaves(n: Counts, inputs: &[u32], latches: &[u32], t: &mut [u32])
+fn number_leaves(n: Counts, inputs: &[u32], latches: &[u32], t: &mut [u32])
     requires { ⌜ Leaves n (now inputs) (now latches) (now t) ⌝ }
     ensures { λ _. ⌜ Numbered n (now (inputs .entry)) (now (latches .entry)) (now (t .entry)) (now (t .exit)) ⌝ }
 {
@@ -44,7 +49,18 @@ pub fn number_leaves(n: Counts, inputs: &[u32], latches: &[u32], t: &mut [u32])
     number_heads(latches, 2, n.L, (1 + n.I) as u32, t);
 }
 
-// The gates' variables are ordered only where some gate uses a variable that is not below its own.
+// Whether the gates need no order: nobody asks for their numbers, and each uses variables below its own alone.
+fn needs_no_order(numbers: bool, gates: &[u32], a: usize) -> bool
+    requires { ⌜ 3 * a ≤ length (now gates) ⌝ }
+    ensures { λ r. ⌜ (r ≡ true → (numbers ≡ false) × (ascends (map gateOf (rowsOf 3 a (now (gates .entry)))) ≡ true)) ⌝ }
+{
+    if numbers {
+        return false;
+    }
+    order::ascending(gates, a)
+}
+
+// 7, then 8. Where numbers are asked, those of all variables stand in the scratch if nothing is refused.
 pub fn check(
     n: Counts,
     inputs: &[u32],
@@ -53,15 +69,17 @@ pub fn check(
     gates: &[u32],
     scratch: &mut [u32],
     base: usize,
+    numbers: bool,
 ) -> Checked
     requires { ⌜ Read n (now inputs) (now latches) (now outputs) (now gates) (now scratch) base ⌝ }
     ensures { λ r. ⌜ r ≡ checkedBy (closing (circuitIn n (now (inputs .entry)) (now (latches .entry)) (now (outputs .entry)) (now (gates .entry)))) ⌝ }
+    ensures { λ r. ⌜ (numbers ≡ true → r ≡ Good → AllNumbered n (now (inputs .entry)) (now (latches .entry)) (now (gates .entry)) (now (scratch .exit))) ⌝ }
 {
     let marks = &scratch[base..];
     match used::undefined(latches, n.L, outputs, n.O, gates, n.A, n.M as u32, marks) {
         Missing::Least(v) => Checked::Refused(Refusal::NotDefined(v)),
         Missing::Nothing => {
-            if order::ascending(gates, n.A) {
+            if needs_no_order(numbers, gates, n.A) {
                 return Checked::Good;
             }
             tables::clear(scratch);

@@ -5,7 +5,7 @@ use mathlib.Core.Bool.{false}
 use mathlib.Core.Option.{Option}
 use mathlib.Core.List.{List, [], _∷_}
 use native.Mathlib.Omega.{arith}
-use lib.ListN.{length, getD, length-replicate}
+use lib.ListN.{length, length-replicate}
 use Rattle.plan.specs.declared.Counts.{Counts}
 use Rattle.plan.specs.declared.Refusal.{Refusal}
 use Rattle.plan.specs.declared.Checked.the-variants as checked
@@ -17,8 +17,8 @@ use Rattle.plan.specs.Given.{Given, given, lentWith}
 use Rattle.plan.specs.Convert.{convert}
 use Rattle.plan.specs.Outcome.{MakeEntry, MakeExit, madeBy, conversion, checkedBy}
 use Rattle.theorems.proofs.Held.{Holds, holds-filled}
-use Rattle.theorems.proofs.Marks.{zeros}
 use Rattle.theorems.proofs.Running.Counts.{counts-convert}
+use Rattle.closing.specs.Leaves.{AllNumbered}
 use Rattle.given.specs.Judged.{allStages}
 use Rattle.given.proofs.Sound.{good-none, refused-some, good-with}
 use Rattle.convert.specs.Ready.{Ready}
@@ -51,17 +51,18 @@ module _ (e : MakeEntry) where
 
   -- nothing is found
   module _ (h : checked.Good ≡ checkedBy found) where
-    pub ready : (w : Tables) (scratch : List ℕ) → w ≡ allCleared (e .written) → scratch ≡ cleared (g .scratch)
-        → Ready n (g .tables .inputs) (g .tables .latches) (g .tables .outputs) (g .tables .gates) scratch w
-    ready w scratch p q =
+    pub ready : (w : Tables) (t : List ℕ) → w ≡ allCleared (e .written) → length t ≡ length (g .scratch)
+        → AllNumbered n (g .tables .inputs) (g .tables .latches) (g .tables .gates) t
+        → Ready n (g .tables .inputs) (g .tables .latches) (g .tables .outputs) (g .tables .gates) t w
+    ready w t p same numbers =
         let both = good-with false g (e .written) (good-none found h) in
         let fits = both .0 .fits in
         let wide = both .1 in
         record {
           fits = fits;
           good = both .0 .formed;
-          scratch-long = omega (arith, both .0 .scratch, ap length q, length-cleared (g .scratch));
-          blank = λ i. ap (λ (l : List ℕ). getD l i 0) q ∙ zeros (length (g .scratch)) i;
+          numbers-long = omega (arith, both .0 .scratch, same);
+          numbers = numbers;
           room = record {
             most-M = fits .most-M;
             most-O = fits .most-O;

@@ -13,7 +13,7 @@ ghost use Rattle.convert.specs.Renumbered.{numberIn, literalBy, Known, w
 ghost use Rattle.convert.specs.Ready.{Ready};
 use gates::run_on;
 use gates::spread;
-use given::check_to_make;
+use given::number;
 use plan::Checked;
 use plan::Counts;
 use plan::Lit;
@@ -86,7 +86,7 @@ fn place_gates(gates: &[u32], first: usize, a: usize, t: &[u32], to: &mut [u32])
     }
 }
 
-// Writes the converted circuit. Numbers of variables stand in the scratch.
+// Writes the converted circuit, from the numbers t of all variables.
 fn fill(
     n: Counts,
     inputs: &[u32],
@@ -97,9 +97,9 @@ fn fill(
     to_latches: &mut [u32],
     to_outputs: &mut [u32],
     to_gates: &mut [u32],
-    scratch: &mut [u32],
+    t: &[u32],
 )
-    requires { ⌜ Ready n (now inputs) (now latches) (now outputs) (now gates) (now scratch)
+    requires { ⌜ Ready n (now inputs) (now latches) (now outputs) (now gates) (now t)
         (record { inputs = now «to_inputs»; latches = now «to_latches»; outputs = now «to_outputs»; gates = now «to_gates» }) ⌝ }
     ensures { λ _. ⌜ Holds
         (record {
@@ -118,13 +118,11 @@ fn fill(
 {
     let first_latch = 1 + n.I;
     let first_gate = first_latch + n.L;
-    closing::number_leaves(n, inputs, latches, scratch);
-    order::number(gates, scratch, first_gate as u32, n.M + 1, n.A);
     run_on(to_inputs, 1, n.I);
-    renumber_column(latches, 2, 1, n.L, scratch, to_latches);
+    renumber_column(latches, 2, 1, n.L, t, to_latches);
     spread(to_latches, first_latch as u32, n.L);
-    renumber_column(outputs, 1, 0, n.O, scratch, to_outputs);
-    place_gates(gates, first_gate, n.A, scratch, to_gates);
+    renumber_column(outputs, 1, 0, n.O, t, to_outputs);
+    place_gates(gates, first_gate, n.A, t, to_gates);
 }
 
 // The same circuit in binary order, or the first refusal of the given tables, after which the written tables are zero throughout.
@@ -178,7 +176,7 @@ pub fn convert(
         outputs: to_outputs.len(),
         gates: to_gates.len(),
     };
-    match check_to_make(n, inputs, latches, outputs, gates, scratch, to, false) {
+    match number(n, inputs, latches, outputs, gates, scratch, to) {
         Checked::Refused(r) => Made::Refused(r),
         Checked::Good => {
             fill(

@@ -1,13 +1,14 @@
 -- 5, 6, 7, 8 and 15 over the circuit that the tables hold; and the answers from the counts on.
 use Prim.Native.Nat.{ℕ, _≤_}
 use mathlib.Core.Path.{_≡_, refl, sym, ap, _∙_}
-use mathlib.Core.Bool.{Bool, true, false}
+use mathlib.Core.Bool.{Bool, true, false, not, _&&_, false≢true}
 use mathlib.Core.Option.{Option, none, some}
 use mathlib.Core.List.{List, [], _∷_}
 use native.Mathlib.Omega.{arith}
 use borrow.Author.Tests.{leb-true}
 use lib.ListN.{length, getD, length-replicate}
 use Rattle.plan.specs.declared.Counts.{Counts}
+use Rattle.plan.specs.declared.Checked.{Checked}
 use Rattle.plan.specs.declared.Checked.the-variants as checked
 use Rattle.plan.specs.declared.Refusal.the-variants.{OutOfRange, DefinedTwice, NotDefined, Cyclic}
 use Rattle.plan.specs.Refusals.{stage, firstOf}
@@ -64,18 +65,19 @@ module _ (ordered : Bool) (n : Counts) (t : Tables) where
     pub at-six : (k : ℕ) → twiceIn (circuitOf n t) ≡ some k → checked.Refused (DefinedTwice k) ≡ checkedBy (firstOf (circuitStages ordered n t))
     at-six k e = sym (rw (e5, e))
 
-    pub past-six : twiceIn (circuitOf n t) ≡ none → binaryOrder (circuitOf n t) ≡ false
+    pub past-six : twiceIn (circuitOf n t) ≡ none → (ordered ≡ true → binaryOrder (circuitOf n t) ≡ false)
         → unordered (checkedBy (closing (circuitOf n t))) ordered ≡ checkedBy (firstOf (circuitStages ordered n t))
-    past-six e6 b = go ordered (undefinedIn (circuitOf n t)) refl (cyclicIn (circuitOf n t)) refl
+    past-six e6 b = go ordered b (undefinedIn (circuitOf n t)) refl (cyclicIn (circuitOf n t)) refl
       where
-        go : (ordered : Bool) (o7 : Option ℕ) → undefinedIn (circuitOf n t) ≡ o7 → (o8 : Option ℕ) → cyclicIn (circuitOf n t) ≡ o8
+        go : (ordered : Bool) → (ordered ≡ true → binaryOrder (circuitOf n t) ≡ false)
+            → (o7 : Option ℕ) → undefinedIn (circuitOf n t) ≡ o7 → (o8 : Option ℕ) → cyclicIn (circuitOf n t) ≡ o8
             → unordered (checkedBy (firstOf (stage NotDefined o7 ∷ stage Cyclic o8 ∷ []))) ordered ≡ checkedBy (firstOf (circuitStages ordered n t))
-        go true none e7 none e8 = sym (rw (e5, e6, e7, e8, b))
-        go false none e7 none e8 = sym (rw (e5, e6, e7, e8))
-        go true none e7 (some v) e8 = sym (rw (e5, e6, e7, e8))
-        go false none e7 (some v) e8 = sym (rw (e5, e6, e7, e8))
-        go true (some v) e7 o8 e8 = sym (rw (e5, e6, e7))
-        go false (some v) e7 o8 e8 = sym (rw (e5, e6, e7))
+        go true b none e7 none e8 = sym (rw (e5, e6, e7, e8, b refl))
+        go false b none e7 none e8 = sym (rw (e5, e6, e7, e8))
+        go true b none e7 (some v) e8 = sym (rw (e5, e6, e7, e8))
+        go false b none e7 (some v) e8 = sym (rw (e5, e6, e7, e8))
+        go true b (some v) e7 o8 e8 = sym (rw (e5, e6, e7))
+        go false b (some v) e7 o8 e8 = sym (rw (e5, e6, e7))
 
     module _ (scratch : List ℕ) (f : Fits n (t .inputs) (t .latches) (t .outputs) (t .gates)) (s : Scratch n scratch) where
       pub ranged : ((i : ℕ) → getD scratch i 0 ≡ 0) → Ranged n (t .inputs) (t .latches) (t .gates) scratch
@@ -109,6 +111,23 @@ module _ (ordered : Bool) (n : Counts) (t : Tables) where
         different = once-different (circuitOf n t) e;
         marked = a;
       }
+
+-- binary order is looked for unless numbers are asked
+pub not-looked : (numbers b : Bool) → numbers ≡ true → false ≡ (not numbers && b)
+not-looked numbers b e = sym (ap (λ (x : Bool). not x && b) e)
+
+pub looked : (numbers b : Bool) → numbers ≡ false → b ≡ (not numbers && b)
+looked numbers b e = sym (ap (λ (x : Bool). not x && b) e)
+
+-- where 15 is asked binary order was looked for; where numbers are asked 15 is not, and the answer is that of 7 and 8
+pub not-in-order : (numbers ordered b : Bool) → (numbers ≡ true → ordered ≡ false) → (not numbers && b) ≡ false → ordered ≡ true → b ≡ false
+not-in-order true ordered b p e o = absurd (false≢true (sym (p refl) ∙ o))
+not-in-order false ordered b p e o = e
+
+pub unordered-good : (answer : Checked) (ordered : Bool) → ordered ≡ false → unordered answer ordered ≡ checked.Good → answer ≡ checked.Good
+unordered-good (checked.Refused r) ordered o e = e
+unordered-good checked.Good true o e = refl
+unordered-good checked.Good false o e = refl
 
 -- scratch that is cleared
 pub cleared-wide : (n : Counts) (scratch scratch′ : List ℕ) → scratch′ ≡ cleared scratch → Scratch n scratch → Scratch n scratch′

@@ -1,13 +1,21 @@
 // The checks of given tables: 2, 3, 4, 5, 6, 7, 8 over the whole circuit, in this order, and 15 for the callers that ask it.
 ghost use mathlib.Core.Path.{_≡_};
+ghost use mathlib.Core.Bool.{true, false, not, _&&_};
+ghost use mathlib.Core.List.{List};
+ghost use Prim.Native.Nat.{ℕ};
 ghost use lib.ListN.{length};
+ghost use Rattle.plan.specs.declared.Refusal.{Refusal};
+ghost use Rattle.plan.specs.declared.Checked.the-variants.{Good, Refused};
 ghost use Rattle.plan.specs.Refusals.{firstOf};
-ghost use Rattle.plan.specs.Circuit.{Tables, lengthsOf};
+ghost use Rattle.plan.specs.Circuit.{Tables, lengthsOf, cleared};
+ghost use Rattle.plan.specs.Binary.{binaryOrder};
 ghost use Rattle.plan.specs.Header.{listOf, over, text, adds};
 ghost use Rattle.plan.specs.Given.{counted, lentWith};
 ghost use Rattle.plan.specs.Outcome.{Says, check, checkInOrder, checkBy, checkedBy, CheckExit};
 ghost use Rattle.tables.specs.Lengths.{tableOf};
-ghost use Rattle.tables.specs.Held.{Fits, Scratch};
+ghost use Rattle.tables.specs.Held.{circuitIn, Fits, Scratch};
+ghost use Rattle.sequence.specs.Tables.{Long};
+ghost use Rattle.closing.specs.Leaves.{AllNumbered};
 ghost use Rattle.given.specs.Judged.{allStages, circuitStages, lentShorter, sizesOf, unordered};
 use once::defined_twice;
 use plan::Checked;
@@ -74,8 +82,21 @@ fn unordered(answer: Checked, ordered: bool) -> Checked
     }
 }
 
+// Whether the tables are found to be in binary order. Where numbers are asked nobody looks: in any order the gates get theirs.
+fn found_in_order(numbers: bool, n: Counts, inputs: &[u32], latches: &[u32], gates: &[u32]) -> bool
+    requires { ⌜ Long n (now inputs) (now latches) (now gates) ⌝ }
+    ensures { λ r. ⌜ ((outputs : List ℕ)
+        → r ≡ (not numbers && binaryOrder (circuitIn n (now (inputs .entry)) (now (latches .entry)) outputs (now (gates .entry))))) ⌝ }
+{
+    if numbers {
+        return false;
+    }
+    in_binary_order(n, inputs, latches, gates)
+}
+
 // 5, then 6, then 7, then 8, then 15. Tables in binary order whose literals are in range can't meet 6, 7 or 8 (AIGER report,
-// section 7), so that they need no marks: one pass over the gates is all. Marks of variables stand in the scratch.
+// section 7), so that they need no marks: one pass over the gates is all. Marks of variables stand in the scratch;
+// the numbers of all variables do at the end, where they are asked and nothing is refused.
 fn judge_circuit(
     n: Counts,
     inputs: &[u32],
@@ -84,12 +105,15 @@ fn judge_circuit(
     gates: &[u32],
     scratch: &mut [u32],
     ordered: bool,
+    numbers: bool,
 ) -> Checked
     requires { ⌜ Fits n (now inputs) (now latches) (now outputs) (now gates) ⌝ }
     requires { ⌜ Scratch n (now scratch) ⌝ }
+    requires { ⌜ (numbers ≡ true → ordered ≡ false) ⌝ }
     ensures { λ r. ⌜ r ≡ checkedBy (firstOf (circuitStages ordered n (record { inputs = now (inputs .entry); latches = now (latches .entry); outputs = now (outputs .entry); gates = now (gates .entry) }))) ⌝ }
+    ensures { λ r. ⌜ (numbers ≡ true → r ≡ Good → AllNumbered n (now (inputs .entry)) (now (latches .entry)) (now (gates .entry)) (now (scratch .exit))) ⌝ }
 {
-    let in_order = in_binary_order(n, inputs, latches, gates);
+    let in_order = found_in_order(numbers, n, inputs, latches, gates);
     let out = out_of_range(n, inputs, latches, outputs, gates, in_order);
     if out != 0 {
         return Checked::Refused(Refusal::OutOfRange(out));
@@ -103,7 +127,7 @@ fn judge_circuit(
         return Checked::Refused(Refusal::DefinedTwice(twice));
     }
     unordered(
-        closing::check(n, inputs, latches, outputs, gates, scratch, 0),
+        closing::check(n, inputs, latches, outputs, gates, scratch, 0, numbers),
         ordered,
     )
 }
@@ -118,8 +142,11 @@ fn judge(
     scratch: &mut [u32],
     to: Sizes,
     ordered: bool,
+    numbers: bool,
 ) -> Checked
+    requires { ⌜ (numbers ≡ true → ordered ≡ false) ⌝ }
     ensures { λ r. ⌜ r ≡ checkedBy (firstOf (allStages ordered (record { counts = n; tables = (record { inputs = now (inputs .entry); latches = now (latches .entry); outputs = now (outputs .entry); gates = now (gates .entry) }); scratch = now (scratch .entry) }) (lentShorter (record { counts = n; tables = (record { inputs = now (inputs .entry); latches = now (latches .entry); outputs = now (outputs .entry); gates = now (gates .entry) }); scratch = now (scratch .entry) }) to))) ⌝ }
+    ensures { λ r. ⌜ (numbers ≡ true → r ≡ Good → AllNumbered n (now (inputs .entry)) (now (latches .entry)) (now (gates .entry)) (now (scratch .exit))) ⌝ }
 {
     let large = large_count(n);
     if large != 0 {
@@ -139,7 +166,16 @@ fn judge(
     if short != 0 {
         return Checked::Refused(Refusal::ShortTable(short));
     }
-    judge_circuit(n, inputs, latches, outputs, gates, scratch, ordered)
+    judge_circuit(
+        n,
+        inputs,
+        latches,
+        outputs,
+        gates,
+        scratch,
+        ordered,
+        numbers,
+    )
 }
 
 // The first refusal of given tables where tables of the sizes `to` are lent for writing, with 15 or without. Scratch is zero afterwards.
@@ -157,8 +193,41 @@ pub fn check_to_make(
         → _≡_ {A = CheckExit} (record { answer = r; scratch = now (scratch .exit) })
         (checkBy (allStages ordered (record { counts = n; tables = (record { inputs = now (inputs .entry); latches = now (latches .entry); outputs = now (outputs .entry); gates = now (gates .entry) }); scratch = now (scratch .entry) }) (lentWith (record { counts = n; tables = (record { inputs = now (inputs .entry); latches = now (latches .entry); outputs = now (outputs .entry); gates = now (gates .entry) }); scratch = now (scratch .entry) }) t)) (record { counts = n; tables = (record { inputs = now (inputs .entry); latches = now (latches .entry); outputs = now (outputs .entry); gates = now (gates .entry) }); scratch = now (scratch .entry) }))) ⌝ }
 {
-    let answer = judge(n, inputs, latches, outputs, gates, scratch, to, ordered);
+    let answer = judge(
+        n,
+        inputs,
+        latches,
+        outputs,
+        gates,
+        scratch,
+        to,
+        ordered,
+        false,
+    );
     clear(scratch);
+    answer
+}
+
+// The same without 15; where nothing is refused the numbers that conversion gives to all variables stand in the scratch.
+pub fn number(
+    n: Counts,
+    inputs: &[u32],
+    latches: &[u32],
+    outputs: &[u32],
+    gates: &[u32],
+    scratch: &mut [u32],
+    to: Sizes,
+) -> Checked
+    ensures { λ r. ⌜ ((t : Tables) → lengthsOf t ≡ sizesOf to
+        → r ≡ checkedBy (firstOf (allStages false (record { counts = n; tables = (record { inputs = now (inputs .entry); latches = now (latches .entry); outputs = now (outputs .entry); gates = now (gates .entry) }); scratch = now (scratch .entry) }) (lentWith (record { counts = n; tables = (record { inputs = now (inputs .entry); latches = now (latches .entry); outputs = now (outputs .entry); gates = now (gates .entry) }); scratch = now (scratch .entry) }) t)))) ⌝ }
+    ensures { λ r. ⌜ (r ≡ Good → AllNumbered n (now (inputs .entry)) (now (latches .entry)) (now (gates .entry)) (now (scratch .exit))) ⌝ }
+    ensures { λ r. ⌜ ((q : Refusal) → r ≡ Refused q → now (scratch .exit) ≡ cleared (now (scratch .entry))) ⌝ }
+{
+    let answer = judge(n, inputs, latches, outputs, gates, scratch, to, false, true);
+    if let Checked::Refused(r) = answer {
+        clear(scratch);
+        return Checked::Refused(r);
+    }
     answer
 }
 

@@ -6,7 +6,7 @@ use mathlib.Core.List.{List}
 use native.Mathlib.Omega.{arith}
 use borrow.Author.Tests.{eqb-true, eqb-false}
 use lib.Dec.{eqb}
-use Rattle.bitmap.specs.Bitmap.{OnAt, NextOn}
+use Rattle.bitmap.specs.Bitmap.{OnAt, NextOn, NextFar}
 use Rattle.bitmap.proofs.Places.{on-at-pos}
 use Rattle.order.specs.Waiting.{p0, p1, p2, Ups, Skipped}
 
@@ -36,9 +36,9 @@ module _ (t : List ℕ) (n a j : ℕ) (h : j < a) (g : Ups t n a) where
           go true e = s .dark c f (omega (arith, next, eqb-true (c / 32) (j / 32) e)) q
           go false e = u .dark (c / 32) (omega (arith, next, eqb-false (c / 32) (j / 32) e)) (omega arith) (over₁ c k q)
 
-  pub skip-three : (i y x : ℕ) → NextOn t (p0 n a) j i → (i / 32 ≡ j / 32 → ⊥) → NextOn t (p1 n a) (i / 32) y → (y / 32 ≡ i / 1024 → ⊥)
-      → NextOn t (p2 n a) (y / 32) x → Skipped t n a j (1024 * x)
-  skip-three i y x s d u d₂ w = record { from = from; dark = dark }
+  pub skip-three : (i y end x : ℕ) → NextOn t (p0 n a) j i → (i / 32 ≡ j / 32 → ⊥) → NextOn t (p1 n a) (i / 32) y → (y / 32 ≡ i / 1024 → ⊥)
+      → NextFar t (p2 n a) (y / 32) end x → Skipped t n a j (1024 * x)
+  skip-three i y end x s d u d₂ w = record { from = from; dark = dark }
     where
       two : Skipped t n a j (32 * y)
       two = skip-two i y s d u

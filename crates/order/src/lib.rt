@@ -30,7 +30,7 @@ mod words;
 
 // Numbers from `first` on for the gates, in the first n words of t, which hold the numbers of the leaves; the rest of t is left as
 // it comes.
-pub fn number(gates: &[u32], t: &mut [u32], first: u32, n: usize, a: usize)
+fn number(gates: &[u32], t: &mut [u32], first: u32, n: usize, a: usize)
     requires { ⌜ Room (now gates) (now t) n a × (0 < first) × (first + a < 2147483648) × Fresh (now t) n × Unmarked (now t) n a ⌝ }
     ensures { λ r. ⌜ ((lv : List ℕ) → NumTable lv (take n (now (t .entry))) → getD lv 0 1 ≡ 0 → length lv ≡ first
         → NumTable (lv ++ lefts (scanned (map gateOf (rowsOf 3 a (now (gates .entry)))) a lv)) (take n (now (t .exit)))) ⌝ }
@@ -56,13 +56,15 @@ fn first_out(gates: &[u32], t: &[u32], a: usize) -> usize
     a
 }
 
-// Refusal 8, of gates whose leaves t numbers: the left variable of the first gate in file order that gets no number.
+// Refusal 8, of gates whose leaves t numbers: the left variable of the first gate in file order that gets no number. The numbers stay.
 pub fn cycle(gates: &[u32], t: &mut [u32], first: u32, n: usize, a: usize) -> Checked
     requires { ⌜ Room (now gates) (now t) n a × (0 < first) × (first + a < 2147483648) × Fresh (now t) n × Unmarked (now t) n a ⌝ }
     ensures { λ r. ⌜ ((c : Circuit) → c .gates ≡ map gateOf (rowsOf 3 a (now (gates .entry)))
         → distinct (leaves c ++ lefts (c .gates)) ≡ true → allIn (rights (c .gates)) (leaves c ++ lefts (c .gates)) ≡ true
         → NumTable (leaves c) (take n (now (t .entry))) → length (leaves c) ≡ first
         → r ≡ checkedBy (stage Cyclic (cyclicIn c))) ⌝ }
+    ensures { λ r. ⌜ ((lv : List ℕ) → NumTable lv (take n (now (t .entry))) → getD lv 0 1 ≡ 0 → length lv ≡ first
+        → NumTable (lv ++ lefts (scanned (map gateOf (rowsOf 3 a (now (gates .entry)))) a lv)) (take n (now (t .exit)))) ⌝ }
 {
     number(gates, t, first, n, a);
     let i = first_out(gates, t, a);

@@ -73,5 +73,5 @@ pub fn skip(t: &[u32], n: usize, a: usize, j: usize) -> usize
     if a <= 32 * y {
         return 32 * y;
     }
-    1024 * bitmap::next_on(t, q + (a / 1024 + 1), y / 32)
+    1024 * bitmap::next_far(t, q + (a / 1024 + 1), y / 32, a / 32768 + 1)
 }

@@ -59,7 +59,16 @@ fn rest_of_text(
     };
     match tail::check(file, next, n, &mut scratch[0..base]) {
         Checked::Refused(r) => Passed::Refused(r),
-        Checked::Good => match closing::check(n, inputs, latches, outputs, gates, scratch, base) {
+        Checked::Good => match closing::check(
+            n,
+            inputs,
+            latches,
+            outputs,
+            gates,
+            scratch,
+            base,
+            false,
+        ) {
             Checked::Refused(r) => Passed::Refused(r),
             Checked::Good => Passed::To(next),
         },

@@ -1,6 +1,7 @@
 -- 7 from the marks; else gates that ascend, or the order of gates from the numbers of the leaves.
 use Prim.Native.Nat.{ℕ}
 use mathlib.Core.Path.{_≡_, refl, sym, ap, _∙_}
+use mathlib.Core.Bool.{false≢true}
 use mathlib.Core.Option.{Option, none}
 use mathlib.Core.List.{List}
 use native.Mathlib.Omega.{arith}
@@ -17,7 +18,7 @@ use Rattle.used.specs.Least.{missingOf}
 use Rattle.closing.specs.Leaves.{Leaves}
 use Rattle.tables.specs.Held.{circuitIn}
 use Rattle.closing.proofs.Leaving.{leaves-count}
-use Rattle.closing.proofs.Closing.{next-up, output-up, first-up, second-up, part-long, part-marked, once, used, leaves-ask, room, fresh, unmarked, by-missing, by-cycle}
+use Rattle.closing.proofs.Closing.{next-up, output-up, first-up, second-up, part-long, part-marked, once, used, leaves-ask, room, fresh, unmarked, by-missing, by-cycle, not-good}
 use Rattle.closing.proofs.check.Statement.{statement}
 use Rattle.closing.proofs.check.Tie as tie
 
@@ -70,8 +71,8 @@ enum-known-v c = search needs
 enum-told : tie.Need-enum-told
 enum-told c = search needs
 
-ascending-requires : tie.Need-ascending-requires
-ascending-requires c κs = search needs
+needs-no-order-requires : tie.Need-needs-no-order-requires
+needs-no-order-requires c κs = search needs
 
 same-length : tie.Need-same-length
 same-length c = search needs
@@ -79,9 +80,11 @@ same-length c = search needs
 returns : tie.Need-returns
 returns c =
     let n = c .before .before in
-    by-cycle (circuit (start n)) _ (all-named n)
-    (sym (ap (λ (o : Option ℕ). checkedBy (stage Cyclic o))
-    (ascends-none (circuit (start n)) (sym (c .before .ascending .ensures) ∙ c .if1 .taken))))
+    let known = c .before .needs-no-order .ensures (c .if1 .taken) in (
+      by-cycle (circuit (start n)) _ (all-named n)
+          (sym (ap (λ (o : Option ℕ). checkedBy (stage Cyclic o)) (ascends-none (circuit (start n)) (known .1)))),
+      λ asked good. absurd (false≢true (sym (known .0) ∙ asked)),
+    )
 
 clear-requires : tie.Need-clear-requires
 clear-requires c κs = search needs
@@ -93,10 +96,14 @@ add-cycle : tie.Need-add-cycle
 add-cycle c = search needs
 
 add-cycle-2 : tie.Need-add-cycle-2
-add-cycle-2 c = search needs
+add-cycle-2 c =
+    let e = c .before .before .before .before .before .before .before .before in
+    record { fits = omega (arith, start (told e) .pre .most-M, start (told e) .pre .sum) }
 
 cast-cycle : tie.Need-cast-cycle
-cast-cycle c = search needs
+cast-cycle c =
+    let e = c .before .before .before .before .before .before .before .before in
+    record { fits = omega (arith, start (told e) .pre .most-M, start (told e) .pre .sum) }
 
 add-cycle-3 : tie.Need-add-cycle-3
 add-cycle-3 c = let e = c .before .before .before .before .before .before .before .before .before in omega (arith, start (told e) .pre .most-M)
@@ -124,9 +131,12 @@ same-length-2 c = search needs
 
 returns-2 : tie.Need-returns-2
 returns-2 c =
-    let s = c .before .before .before .before .before .before .before .before .before .before .before .before in
-    by-missing (circuit s) _
-    (sym (ap missingOf (c .before .v .given .1)) ∙ c .before .before .before .undefined .ensures (circuit s) refl refl refl (part-marked (s .pre)))
+    let s = c .before .before .before .before .before .before .before .before .before .before .before .before in (
+      by-missing (circuit s) _
+          (sym (ap missingOf (c .before .v .given .1))
+          ∙ c .before .before .before .undefined .ensures (circuit s) refl refl refl (part-marked (s .pre))),
+      λ asked good. not-good _ good,
+    )
 
 same-length-3 : tie.Need-same-length-3
 same-length-3 c = search needs
@@ -137,9 +147,11 @@ returns-3 c =
     let e = d .before .before .before .before in
     let s = start (told e) in
     let named = all-named (told e) in
-    by-cycle (circuit s) _ named
-    (c .before .before .cycle .ensures (circuit s) refl (once (s .pre)) (used (s .pre) named) (d .before .number-leaves .ensures .numbers)
-    (leaves-count (asked e)))
+    let leaves = d .before .number-leaves .ensures .numbers in (
+      by-cycle (circuit s) _ named
+          (c .before .before .cycle .ensures .0 (circuit s) refl (once (s .pre)) (used (s .pre) named) leaves (leaves-count (asked e))),
+      λ wanted good. c .before .before .cycle .ensures .1 _ leaves refl (leaves-count (asked e)),
+    )
 
 pub check-spec : {M : Type 1} → statement M
 check-spec =
@@ -153,7 +165,7 @@ check-spec =
     undefined-requires
     enum-known-v
     enum-told
-    ascending-requires
+    needs-no-order-requires
     same-length
     returns
     clear-requires

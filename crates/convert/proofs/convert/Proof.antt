@@ -9,20 +9,20 @@ use Rattle.plan.specs.declared.Checked.the-variants.{Good}
 use Rattle.plan.specs.Refusals.{firstOf}
 use Rattle.plan.specs.Circuit.{Tables, allCleared}
 use Rattle.plan.specs.Given.{lentWith}
-use Rattle.plan.specs.Outcome.{MakeEntry, CheckExit, checkBy, checkedBy}
+use Rattle.plan.specs.Outcome.{MakeEntry, checkedBy}
 use Rattle.given.specs.Judged.{allStages}
 use Rattle.convert.proofs.Answers.{lengths-cleared, refused, ready, few, accepted}
 use Rattle.convert.proofs.convert.Statement.{statement}
 use Rattle.convert.proofs.convert.Tie as tie
 
 -- what is handed in, and the tables that are zero throughout
-abbrev wiping : tie.After-check-to-make → tie.After-clear-four
+abbrev wiping : tie.After-number → tie.After-clear-four
 wiping c = c .before .before .before .before .before .before .before .before .before .before
 
-abbrev start : tie.After-check-to-make → tie.Start
+abbrev start : tie.After-number → tie.Start
 start c = wiping c .before .before .before .before .before .before .before .before .before .before .before .before .before .before
 
-abbrev entry : tie.After-check-to-make → MakeEntry
+abbrev entry : tie.After-number → MakeEntry
 entry c =
     let a = start c .args in
     record {
@@ -34,31 +34,30 @@ entry c =
       written = record { inputs = a .to-inputs .now; latches = a .to-latches .now; outputs = a .to-outputs .now; gates = a .to-gates .now };
     }
 
-abbrev wiped : tie.After-check-to-make → Tables
+abbrev wiped : tie.After-number → Tables
 wiped c =
     let l = wiping c .clear-four .last in
     record { inputs = l .0; latches = l .1 .0; outputs = l .1 .1 .0; gates = l .1 .1 .1 .0 }
 
-all-wiped : (c : tie.After-check-to-make) → wiped c ≡ allCleared (entry c .written)
+all-wiped : (c : tie.After-number) → wiped c ≡ allCleared (entry c .written)
 all-wiped c = wiping c .clear-four .ensures
 
--- what the check answers and leaves
-checked : (c : tie.After-check-to-make) → let g = entry c .circuit in
-    _≡_ {A = CheckExit} (record { answer = c .check-to-make .result; scratch = c .check-to-make .last .1 .1 .1 .1 .1 .0 })
-    (checkBy (allStages false g (lentWith g (entry c .written))) g)
-checked c = c .check-to-make .ensures (entry c .written) (lengths-cleared (entry c .written) (wiped c) (all-wiped c))
+-- what the check answers
+checked : (c : tie.After-number) → let g = entry c .circuit in
+    c .number .result ≡ checkedBy (firstOf (allStages false g (lentWith g (entry c .written))))
+checked c = c .number .ensures .0 (entry c .written) (lengths-cleared (entry c .written) (wiped c) (all-wiped c))
 
 -- nothing was found
-abbrev back : tie.After-enum-told → tie.After-check-to-make
+abbrev back : tie.After-enum-told → tie.After-number
 back c = c .before .before .before .before
 
 passed : (c : tie.After-enum-told)
     → let g = entry (back c) .circuit in Good ≡ checkedBy (firstOf (allStages false g (lentWith g (entry (back c) .written))))
-passed c = sym (c .enum-told .given .1) ∙ ap (λ (x : CheckExit). x .answer) (checked (back c))
+passed c = sym (c .enum-told .given .1) ∙ checked (back c)
 
 -- from the end of an accepted call: back to where the tables are written, and to where nothing was found
 abbrev writing : tie.After-struct-known → tie.After-fill
-writing c = c .before .before .before .before .before .before .before .before .before .before .before .before .before .before .before
+writing c = c .before .before .before .before .before .before .before .before .before .before .before .before .before
 
 abbrev found : tie.After-fill → tie.After-enum-told
 found c = c .before .before .before .before .before .before
@@ -66,8 +65,8 @@ found c = c .before .before .before .before .before .before
 clear-four-requires : tie.Need-clear-four-requires
 clear-four-requires c κs = search needs
 
-check-to-make-requires : tie.Need-check-to-make-requires
-check-to-make-requires c κs = search needs
+number-requires : tie.Need-number-requires
+number-requires c κs = search needs
 
 enum-known-r : tie.Need-enum-known-r
 enum-known-r c = search needs
@@ -79,7 +78,8 @@ fill-requires : tie.Need-fill-requires
 fill-requires c κs =
     let d = c .before .before .before .before .before in
     let k = back d in
-    ready (entry k) (passed d) (wiped k) _ (all-wiped k) (ap (λ (x : CheckExit). x .scratch) (checked k))
+    ready (entry k) (passed d) (wiped k) _ (all-wiped k) (d .before .before .before .scratch .given)
+    (k .number .ensures .1 .0 (d .enum-told .given .1))
 
 clear-requires : tie.Need-clear-requires
 clear-requires c κs = search needs
@@ -108,25 +108,25 @@ same-length-5 c = search needs
 returns : tie.Need-returns
 returns c =
     let k = c .before .before .before .before .before in
-    refused (entry k) _ (wiped k) _ (all-wiped k) (ap (λ (x : CheckExit). x .scratch) (checked k))
-    (sym (c .before .r .given .1) ∙ ap (λ (x : CheckExit). x .answer) (checked k))
+    refused (entry k) _ (wiped k) _ (all-wiped k) (k .number .ensures .1 .1 _ (c .before .r .given .1))
+    (sym (c .before .r .given .1) ∙ checked k)
 
 same-length-6 : tie.Need-same-length-6
 same-length-6 c =
     let k = back (found (writing (c .before))) in
-    let d = c .before .before .before .before .before .before .before .before .before .before .before .before .before .before .before in
+    let d = c .before .before .before .before .before .before .before .before .before .before .before .before .before in
     d .to-inputs2 .given ∙ k .before .before .before .before .before .before .before .before .before .to-inputs .given
 
 same-length-7 : tie.Need-same-length-7
 same-length-7 c =
     let k = back (found (writing (c .before))) in
-    let d = c .before .before .before .before .before .before .before .before .before .before .before .before .before in
+    let d = c .before .before .before .before .before .before .before .before .before .before .before in
     d .to-latches2 .given ∙ k .before .before .before .before .before .before .before .to-latches .given
 
 same-length-8 : tie.Need-same-length-8
 same-length-8 c =
     let k = back (found (writing (c .before))) in
-    let d = c .before .before .before .before .before .before .before .before .before .before .before in
+    let d = c .before .before .before .before .before .before .before .before .before in
     d .to-outputs2 .given ∙ k .before .before .before .before .before .to-outputs .given
 
 same-length-9 : tie.Need-same-length-9
@@ -140,16 +140,15 @@ returns-2 c =
     let f = writing (c .before) in
     let d = found f in
     let k = back d in
-    let same = c .before .before .before .before .before .before .before .scratch2 .given ∙ d .before .before .before .scratch .given in
     accepted (entry k) (passed d) (wiped k) _ _ (all-wiped k) (f .fill .ensures)
-    (c .before .before .before .before .clear .ensures ∙ ap (λ (n : ℕ). replicate n 0) same)
+    (c .before .before .before .before .clear .ensures ∙ ap (λ (n : ℕ). replicate n 0) (d .before .before .before .scratch .given))
 
 pub convert-spec : {M : Type 1} → statement M
 convert-spec =
     tie.close
     (tie.spec
     clear-four-requires
-    check-to-make-requires
+    number-requires
     enum-known-r
     enum-told
     fill-requires

@@ -6,6 +6,7 @@ use Rattle.plan.specs.Circuit.{Tables}
 use Rattle.plan.specs.Given.{Given}
 use Rattle.plan.specs.Outcome.{checkedBy}
 use Rattle.tables.proofs.Told.{some-table, no-table}
+use Rattle.closing.proofs.Closing.{not-good}
 use Rattle.given.specs.Judged.{lentShorter}
 use Rattle.given.proofs.Judging.{small-counts, fits, fits-scratch}
 use Rattle.given.proofs.Shorter.{shorter-lent}
@@ -21,7 +22,7 @@ returns c =
     let a = c .before .before .before .before .before .before .before .args in
     let t : Tables = record { inputs = a .inputs .now; latches = a .latches .now; outputs = a .outputs .now; gates = a .gates .now } in
     let g : Given = record { counts = a .n; tables = t; scratch = a .scratch .now } in
-    sym (ap checkedBy (at-two (a .ordered) g (lentShorter g (a .to)) _ (some-table _ _ (c .if1 .taken) (c .before .large-count .ensures))))
+    (sym (ap checkedBy (at-two (a .ordered) g (lentShorter g (a .to)) _ (some-table _ _ (c .if1 .taken) (c .before .large-count .ensures)))), λ asked good. not-good _ good)
 
 adds-up-requires : tie.Need-adds-up-requires
 adds-up-requires c κs = search needs
@@ -32,7 +33,7 @@ returns-2 c =
     let t : Tables = record { inputs = a .inputs .now; latches = a .latches .now; outputs = a .outputs .now; gates = a .gates .now } in
     let g : Given = record { counts = a .n; tables = t; scratch = a .scratch .now } in
     let e2 = no-table _ _ (c .before .before .if1 .left) (c .before .before .before .large-count .ensures) in
-    sym (ap checkedBy (at-three (a .ordered) g (lentShorter g (a .to)) e2 (sym (c .before .adds-up .ensures) ∙ not-true _ (c .if2 .taken))))
+    (sym (ap checkedBy (at-three (a .ordered) g (lentShorter g (a .to)) e2 (sym (c .before .adds-up .ensures) ∙ not-true _ (c .if2 .taken)))), λ asked good. not-good _ good)
 
 shorter-requires : tie.Need-shorter-requires
 shorter-requires c κs = search needs
@@ -59,7 +60,7 @@ returns-3 c =
     let e3 = sym (c .before .before .before .before .before .before .before .adds-up .ensures) ∙ not-false _ (c .before .before .before .before .before .before .if2 .left) in
     let lent = shorter-lent g (a .to) _ _ _ _ (c .before .before .before .before .before .shorter .ensures) (c .before .before .before .before .shorter2 .ensures) (c .before .before .before .shorter3 .ensures)
     (c .before .before .shorter4 .ensures) in
-    sym (ap checkedBy (at-four (a .ordered) g (lentShorter g (a .to)) e2 e3 _ (some-table _ _ (c .if3 .taken) (c .before .too-short .ensures ∙ lent))))
+    (sym (ap checkedBy (at-four (a .ordered) g (lentShorter g (a .to)) e2 e3 _ (some-table _ _ (c .if3 .taken) (c .before .too-short .ensures ∙ lent)))), λ asked good. not-good _ good)
 
 judge-circuit-requires : tie.Need-judge-circuit-requires
 judge-circuit-requires c κs =
@@ -71,7 +72,7 @@ judge-circuit-requires c κs =
     let lent = shorter-lent g (a .to) _ _ _ _ (c .before .before .before .before .before .before .shorter .ensures) (c .before .before .before .before .before .shorter2 .ensures) (c .before .before .before .before .shorter3 .ensures)
     (c .before .before .before .shorter4 .ensures) in
     let e4 = no-table _ _ (c .before .if3 .left) (c .before .before .too-short .ensures ∙ lent) in
-    (fits g (a .to) e2 e3 e4, fits-scratch g (a .to) e2 e3 e4)
+    (fits g (a .to) e2 e3 e4, (fits-scratch g (a .to) e2 e3 e4, c .before .before .before .before .before .before .before .before .before .before .before .before .before .before .before .before .pre))
 
 same-length : tie.Need-same-length
 same-length c = search needs
@@ -85,8 +86,10 @@ returns-4 c =
     let e3 = sym (c .before .before .before .before .before .before .before .before .before .before .before .adds-up .ensures) ∙ not-false _ (c .before .before .before .before .before .before .before .before .before .before .if2 .left) in
     let lent = shorter-lent g (a .to) _ _ _ _ (c .before .before .before .before .before .before .before .before .before .shorter .ensures) (c .before .before .before .before .before .before .before .before .shorter2 .ensures) (c .before .before .before .before .before .before .before .shorter3 .ensures)
     (c .before .before .before .before .before .before .shorter4 .ensures) in
-    let e4 = no-table _ _ (c .before .before .before .before .if3 .left) (c .before .before .before .before .before .too-short .ensures ∙ lent) in
-    c .before .before .judge-circuit .ensures ∙ sym (ap checkedBy (past-four (a .ordered) g (lentShorter g (a .to)) e2 e3 e4))
+    let e4 = no-table _ _ (c .before .before .before .before .if3 .left) (c .before .before .before .before .before .too-short .ensures ∙ lent) in (
+      c .before .before .judge-circuit .ensures .0 ∙ sym (ap checkedBy (past-four (a .ordered) g (lentShorter g (a .to)) e2 e3 e4)),
+      c .before .before .judge-circuit .ensures .1,
+    )
 
 pub judge-spec : {M : Type 1} → statement M
 judge-spec =

@@ -33,16 +33,18 @@ returns : tie.Need-returns
 returns c =
     let c4 = c .before .before .before .before in
     let c5 = c4 .before in
-    let P = c5 .before .before .before .before in
-    λ circuit its once used tab count.
-    let A = P .args in
-    let S = space-of (A .gates .now) (A .t .now) (A .n) (A .a) (P .pre .0) in
-    let y = c5 .number .last .1 .0 in
-    let same : length y ≡ length (A .t .now) = c4 .t .given in
-    sym (ap (λ (o : Option ℕ). checkedBy (stage Cyclic o))
-    (cycle-good (A .gates .now) y (A .n) (A .a) (A .first) circuit its once used count (omega (arith, S .table-long)) (S .inside)
-    (P .pre .2) (c5 .number .ensures _ tab refl count) (c .before .first-out .result)
-    (c .before .first-out .ensures) (c .if1 .taken)))
+    let P = c5 .before .before .before .before in (
+      λ circuit its once used tab count.
+          let A = P .args in
+          let S = space-of (A .gates .now) (A .t .now) (A .n) (A .a) (P .pre .0) in
+          let y = c5 .number .last .1 .0 in
+          let same : length y ≡ length (A .t .now) = c4 .t .given in
+          sym (ap (λ (o : Option ℕ). checkedBy (stage Cyclic o))
+          (cycle-good (A .gates .now) y (A .n) (A .a) (A .first) circuit its once used count (omega (arith, S .table-long)) (S .inside)
+          (P .pre .2) (c5 .number .ensures _ tab refl count) (c .before .first-out .result)
+          (c .before .first-out .ensures) (c .if1 .taken))),
+      c5 .number .ensures,
+    )
 
 mul-var-of : tie.Need-mul-var-of
 mul-var-of c = search needs
@@ -64,17 +66,19 @@ returns-2 c =
     let c3 = c .before .before .before in
     let c6 = c3 .before .before .before in
     let c7 = c6 .before in
-    let P = c7 .before .before .before .before in
-    λ circuit its once used tab count.
-    let A = P .args in
-    let S = space-of (A .gates .now) (A .t .now) (A .n) (A .a) (P .pre .0) in
-    let y = c7 .number .last .1 .0 in
-    let same : length y ≡ length (A .t .now) = c6 .t .given in
-    ap (λ (v : ℕ). Refused (Cyclic v)) (c .var-of .ensures)
-    ∙ sym (ap (λ (o : Option ℕ). checkedBy (stage Cyclic o))
-    (cycle-here (A .gates .now) y (A .n) (A .a) (A .first) circuit its once used count (omega (arith, S .table-long)) (S .inside)
-    (P .pre .2) (c7 .number .ensures _ tab refl count)
-    (c3 .first-out .result) (c3 .first-out .ensures) (c .before .before .if1 .left)))
+    let P = c7 .before .before .before .before in (
+      λ circuit its once used tab count.
+          let A = P .args in
+          let S = space-of (A .gates .now) (A .t .now) (A .n) (A .a) (P .pre .0) in
+          let y = c7 .number .last .1 .0 in
+          let same : length y ≡ length (A .t .now) = c6 .t .given in
+          ap (λ (v : ℕ). Refused (Cyclic v)) (c .var-of .ensures)
+          ∙ sym (ap (λ (o : Option ℕ). checkedBy (stage Cyclic o))
+          (cycle-here (A .gates .now) y (A .n) (A .a) (A .first) circuit its once used count (omega (arith, S .table-long)) (S .inside)
+          (P .pre .2) (c7 .number .ensures _ tab refl count)
+          (c3 .first-out .result) (c3 .first-out .ensures) (c .before .before .if1 .left))),
+      c7 .number .ensures,
+    )
 
 pub cycle-spec : {M : Type 1} → statement M
 cycle-spec =

@@ -196,7 +196,7 @@ returns-3 c =
     let said = c .before .before .before .before .before .before .before .before .before .before .before .before .before .before .before .before .before .before .before .before .before .before .before .before .before .before .before .before .before .before .read-text .ensures in
     let p = read-as (a .file .now) (a .n) body t t′ _ (said .body) _ (c .before .before .before .before .before .before .before .before .before .before .before .before .before .before .before .before .before .before .read .given .1) in
     closing-told (a .file .now) (a .n) body t t′ _ (said .body) _ (c .before .before .before .before .before .before .before .before .before .before .before .before .before .before .before .before .before .before .read .given .1) _ (c .before .before .before .before .before .before .before .before .before .before .before .before .before .before .before .check .ensures) (c .before .before .before .before .before .before .before .before .before .before .before .enum-told2 .given .1) _
-    (sym (c .before .r2 .given .1) ∙ (c .before .before .before .before .before .check2 .ensures ∙ ap (λ (x : Circuit). checkedBy (closed x)) (same-circuit (a .file .now) (a .n) (a .at) t t′ (p .0) _ (p .1) (p .2))))
+    (sym (c .before .r2 .given .1) ∙ (c .before .before .before .before .before .check2 .ensures .0 ∙ ap (λ (x : Circuit). checkedBy (closed x)) (same-circuit (a .file .now) (a .n) (a .at) t t′ (p .0) _ (p .1) (p .2))))
 
 same-length-16 : tie.Need-same-length-16
 same-length-16 c = search needs
@@ -226,7 +226,7 @@ returns-4 c =
     } in
     let said = c .before .before .before .before .before .before .before .before .before .before .before .before .before .before .before .before .before .before .before .before .before .before .before .before .before .before .before .before .before .read-text .ensures in
     let p = read-as (a .file .now) (a .n) body t t′ _ (said .body) _ (c .before .before .before .before .before .before .before .before .before .before .before .before .before .before .before .before .before .read .given .1) in
-    let shut = closing-good (p .0) (sym (c .enum-told3 .given .1) ∙ (c .before .before .before .before .check2 .ensures ∙ ap (λ (x : Circuit). checkedBy (closed x)) (same-circuit (a .file .now) (a .n) (a .at) t t′ (p .0) _ (p .1) (p .2)))) in
+    let shut = closing-good (p .0) (sym (c .enum-told3 .given .1) ∙ (c .before .before .before .before .check2 .ensures .0 ∙ ap (λ (x : Circuit). checkedBy (closed x)) (same-circuit (a .file .now) (a .n) (a .at) t t′ (p .0) _ (p .1) (p .2)))) in
     accepted-as (a .file .now) (a .n) body t t′ _ (said .body) _ (c .before .before .before .before .before .before .before .before .before .before .before .before .before .before .before .before .before .read .given .1) _ (c .before .before .before .before .before .before .before .before .before .before .before .before .before .before .check .ensures) (c .before .before .before .before .before .before .before .before .before .before .enum-told2 .given .1) (shut .0) (shut .1)
 
 pub rest-of-text-spec : {M : Type 1} → statement M

@@ -66,17 +66,20 @@ returns-4 c =
     (c .before .before .next-on2 .result) (c5 .next-on .ensures)
     (c4 .if1 .left) (c .before .before .next-on2 .ensures)
 
-add-next-on : tie.Need-add-next-on
-add-next-on c = omega arith
+add-next-far : tie.Need-add-next-far
+add-next-far c = omega arith
 
-add-next-on-2 : tie.Need-add-next-on-2
-add-next-on-2 c = omega arith
+add-next-far-2 : tie.Need-add-next-far-2
+add-next-far-2 c = omega arith
 
-next-on-requires-3 : tie.Need-next-on-requires-3
-next-on-requires-3 c κs = search needs
+add-next-far-3 : tie.Need-add-next-far-3
+add-next-far-3 c = omega arith
+
+next-far-requires : tie.Need-next-far-requires
+next-far-requires c κs = search needs
 
 mul-result-3 : tie.Need-mul-result-3
-mul-result-3 c = omega arith
+mul-result-3 c = omega (arith, c .next-far .ensures .within)
 
 returns-5 : tie.Need-returns-5
 returns-5 c =
@@ -87,9 +90,9 @@ returns-5 c =
     let A = c8 .args in
     let P = c8 .pre in
     skip-three (A .t .now) (A .n) (A .a) (A .j) (P .2) (P .3) (c6 .next-on .result)
-    (c3 .next-on2 .result) (c .next-on3 .result)
+    (c3 .next-on2 .result) _ (c .next-far .result)
     (c6 .next-on .ensures) (c5 .if1 .left)
-    (c3 .next-on2 .ensures) (c .before .before .if3 .left) (c .next-on3 .ensures)
+    (c3 .next-on2 .ensures) (c .before .before .if3 .left) (c .next-far .ensures)
 
 pub skip-spec : {M : Type 1} → statement M
 skip-spec =
@@ -108,8 +111,9 @@ skip-spec =
     mul-if4
     mul-result-2
     returns-4
-    add-next-on
-    add-next-on-2
-    next-on-requires-3
+    add-next-far
+    add-next-far-2
+    add-next-far-3
+    next-far-requires
     mul-result-3
     returns-5)
