@@ -1,58 +1,125 @@
-/* Times the desk's calls and the same work in plain C by turns, and prints a row for each: CPU time per gate, least of
-   several rounds, its ratio to the first row of its group, and its ratio to plain C. */
+/* Times the desk's calls and the baseline's by turns, in two passes over everything, and prints three tables: CPU time
+   per gate, least of all rounds, and its ratio to the baseline's; what of a call is clearing and checking; conversion
+   in other orders. A last line says how far the two passes differ. */
+#define _GNU_SOURCE
 #include <stdint.h>
 #include <stdio.h>
+#include <stdlib.h>
+#include <string.h>
 #include <time.h>
 
-#include "circuit.h"
-#include "golvanzo.h"
-#include "plain.h"
+#include "work.h"
 
-enum { ROUNDS = 5, STEPS = 8 };
+enum { PASSES = 2, ROUNDS = 7, LEAST = 2, SIZES = 3, BASES = 3, MOST = 6, ROOM = 100 };
 
-/* All that a call is lent. */
-struct work {
-    struct circuit given, made, plain_made;
-    uint32_t *scratch;
-    size_t scratch_length, file_length, out_length;
-    uint8_t *file, *out, *state, *ins, *outs;
-    uint64_t answer[7];
-    struct plain plain;
+/* After so many seconds no further round starts, but LEAST are had always. */
+static const double enough = 0.7;
+
+struct timed {
+    const char *name;
+    call *run;
+    double best;
 };
 
-#define TABLE(c, t) (c).table[t], (c).length[t]
-#define TABLES(c) TABLE(c, INPUTS), TABLE(c, LATCHES), TABLE(c, OUTPUTS), TABLE(c, GATES)
-#define SCRATCH(w) (w)->scratch, (w)->scratch_length
-
-static struct work work_on(struct circuit given) {
-    const uint64_t *n = given.counts;
-    struct work w = {.given = given, .made = tables_for(n), .plain_made = tables_for(n), .plain = plain_for(n)};
-    w.scratch_length = 4 * (n[M] + 1) + n[O];
-    w.scratch = room(4 * w.scratch_length);
-    w.out_length = 100 + 16 * (n[I] + n[L] + n[O]) + 24 * n[A];
-    w.file = room(w.out_length);
-    w.out = room(w.out_length);
-    w.state = room(n[L]);
-    w.ins = room(STEPS * n[I]);
-    w.outs = room(n[O]);
-    memset(w.state, '0', n[L]);
-    for (uint32_t i = 0; i < STEPS * n[I]; i++)
-        w.ins[i] = (uint8_t)"01x"[below(3)];
-    return w;
-}
-
-static void free_work(struct work *w) {
-    free_circuit(&w->given), free_circuit(&w->made), free_circuit(&w->plain_made);
-    free(w->scratch), free(w->file), free(w->out), free(w->state), free(w->ins), free(w->outs);
-    free_plain(&w->plain);
-}
-
-/* A task: the desk's call, the plain one, and whether both gave the same. */
+/* A task: the desk's call, the baselines that do the same (the first has the limit), what of the call can be timed
+   alone, what stands in the buffers before it, and whether both gave the same. */
 struct task {
     const char *name;
-    void (*desk)(struct work *), (*plain)(struct work *);
+    call *desk;
+    struct timed base[BASES];
+    call *clears, *checks, *prepare;
     int (*same)(struct work *);
+    double limit;
+    int steps;
 };
+
+typedef uint32_t *ordering(uint32_t);
+
+/* A kind of circuits: a shape, and an order of its gates with or without other names for them. */
+struct kind {
+    const char *name, *of;
+    struct circuit (*make)(uint32_t gates);
+    ordering *order, *names;
+};
+
+/* What was measured of a task on one circuit, in nanoseconds per gate, 0 where there is nothing; the desk's time and
+   its ratio to the first baseline also in each pass. */
+struct result {
+    const struct task *task;
+    const struct kind *kind;
+    uint64_t gates;
+    double desk, base[BASES], clears, checks;
+    double times[PASSES], ratios[PASSES];
+};
+
+static struct result results[ROOM];
+static int result_count;
+
+static double now(void) {
+    struct timespec t;
+    clock_gettime(CLOCK_PROCESS_CPUTIME_ID, &t);
+    return (double)t.tv_sec + 1e-9 * (double)t.tv_nsec;
+}
+
+static double seconds(call *run, struct work *w, int times) {
+    double from = now();
+    for (int k = 0; k < times; k++)
+        run(w);
+    return (now() - from) / times;
+}
+
+/* All of them by turns; in `best` the least time per gate. */
+static void measure(struct timed *timed, int count, struct work *w, int steps) {
+    double gates = (double)w->given.counts[A], spent = 0;
+    int times = gates < 1e6 ? (int)(1e6 / gates) : 1;
+    for (int k = 0; k < count; k++)
+        timed[k].best = 1e9;
+    for (int round = 0; round < ROUNDS && (round < LEAST || spent < enough); round++)
+        for (int k = 0; k < count; k++) {
+            double time = seconds(timed[k].run, w, times);
+            timed[k].best = time < timed[k].best ? time : timed[k].best;
+            spent += time * times;
+            if (w->answer[0] != 0)
+                give_up("the desk refuses");
+        }
+    for (int k = 0; k < count; k++)
+        timed[k].best *= 1e9 / gates / steps;
+}
+
+static struct result *result_of(const struct task *task, const struct kind *kind, uint64_t gates) {
+    for (struct result *r = results; r < results + result_count; r++)
+        if (r->task == task && r->kind == kind && r->gates == gates)
+            return r;
+    if (result_count == ROOM)
+        give_up("too many results");
+    results[result_count] = (struct result){.task = task, .kind = kind, .gates = gates};
+    return &results[result_count++];
+}
+
+/* Measures a task on one circuit, and keeps the lesser of this pass and the one before. */
+static void run(const struct task *task, const struct kind *kind, struct work *w, int pass) {
+    struct result *r = result_of(task, kind, w->given.counts[A]);
+    struct timed timed[MOST] = {{"desk", task->desk, 0}};
+    double *to[MOST] = {&r->desk};
+    int n = 1;
+    for (int k = 0; k < BASES; k++)
+        if (task->base[k].run != NULL)
+            to[n] = &r->base[k], timed[n++] = task->base[k];
+    if (task->clears != NULL)
+        to[n] = &r->clears, timed[n++] = (struct timed){"clearing", task->clears, 0};
+    if (task->checks != NULL)
+        to[n] = &r->checks, timed[n++] = (struct timed){"check", task->checks, 0};
+    if (task->prepare != NULL)
+        task->prepare(w);
+    measure(timed, n, w, task->steps);
+    for (int k = 0; k < n; k++)
+        *to[k] = *to[k] == 0 || timed[k].best < *to[k] ? timed[k].best : *to[k];
+    r->times[pass] = timed[0].best;
+    r->ratios[pass] = timed[0].best / timed[1].best;
+    if (!task->same(w))
+        give_up("the desk and the baseline differ");
+    fprintf(stderr, "%s, %s, %llu\n", task->name, kind->name, (unsigned long long)r->gates);
+}
 
 static int same_circuit(const struct circuit *a, const struct circuit *b, uint64_t gates) {
     return memcmp(a->table[INPUTS], b->table[INPUTS], 4 * a->length[INPUTS]) == 0 &&
@@ -61,40 +128,32 @@ static int same_circuit(const struct circuit *a, const struct circuit *b, uint64
            memcmp(a->table[GATES], b->table[GATES], 12 * gates) == 0;
 }
 
-static void desk_convert(struct work *w) {
-    golvanzo_convert(w->given.counts, TABLES(w->given), TABLES(w->made), SCRATCH(w), w->answer);
+/* Each asks the desk and the baseline once more, since what was timed last may have left the buffers otherwise. */
+static int read_same(struct work *w) {
+    desk_read(w);
+    return same_circuit(&w->made, &w->base_made, w->given.counts[A]);
 }
 
-static void as_plain_convert(struct work *w) {
-    plain_convert(&w->plain, &w->given, &w->plain_made);
-}
-
-static void desk_reduce(struct work *w) {
-    golvanzo_reduce(w->given.counts, TABLES(w->given), TABLES(w->made), SCRATCH(w), w->answer);
-}
-
-static void as_plain_reduce(struct work *w) {
-    plain_reduce(&w->plain, &w->given, &w->plain_made);
-}
-
-static int made_same(struct work *w) {
-    return same_circuit(&w->made, &w->plain_made, w->answer[6]);
+static int converted_same(struct work *w) {
+    desk_convert(w);
+    return same_circuit(&w->made, &w->base_made, w->answer[6]);
 }
 
 static int reduced_same(struct work *w) {
-    return w->answer[6] == w->plain.retained && made_same(w);
+    desk_reduce(w);
+    return w->answer[6] == w->base.retained && same_circuit(&w->made, &w->base_made, w->answer[6]);
 }
 
-static void desk_step(struct work *w) {
-    golvanzo_step(w->given.counts, TABLES(w->given), SCRATCH(w), w->state, w->given.counts[L], w->ins,
-                  w->given.counts[I], w->outs, w->given.counts[O], w->answer);
+static int printed_same(struct work *w) {
+    desk_write_text(w);
+    return w->answer[2] == w->file_length && memcmp(w->out, w->file, w->file_length) == 0;
 }
 
-static void as_plain_step(struct work *w) {
-    plain_step(&w->plain, &w->given, w->state, w->ins, w->outs);
+static int encoded_same(struct work *w) {
+    desk_write_binary(w);
+    return w->answer[2] == w->file_length && memcmp(w->out, w->file, w->file_length) == 0;
 }
 
-/* From the same state the desk and plain C step to the same. */
 static int stepped_same(struct work *w) {
     size_t l = w->given.counts[L], o = w->given.counts[O];
     uint8_t *kept = room(l + o);
@@ -103,178 +162,206 @@ static int stepped_same(struct work *w) {
     memcpy(kept, w->state, l);
     memcpy(kept + l, w->outs, o);
     memset(w->state, '0', l);
-    as_plain_step(w);
+    base_step3(w);
     int same = memcmp(kept, w->state, l) == 0 && memcmp(kept + l, w->outs, o) == 0;
     free(kept);
     return same;
 }
 
-static void desk_witness(struct work *w) {
-    golvanzo_witness(w->given.counts, TABLES(w->given), SCRATCH(w), STEPS, w->ins, STEPS * w->given.counts[I],
-                     w->answer);
+/* Every output is 0, so that no step ends the question early. */
+static void never_one(struct work *w) {
+    memset(w->given.table[OUTPUTS], 0, 4 * w->given.counts[O]);
 }
 
-static void as_plain_witness(struct work *w) {
-    memset(w->state, '0', w->given.counts[L]);
-    for (int k = 0; k < STEPS; k++)
-        plain_step(&w->plain, &w->given, w->state, w->ins + k * w->given.counts[I], w->outs);
-}
-
-static int never_one(struct work *w) {
+static int was_never_one(struct work *w) {
+    desk_witness(w);
     return w->answer[2] == 0;
 }
 
-static void desk_read(struct work *w) {
-    golvanzo_read(w->file, w->file_length, TABLES(w->made), SCRATCH(w), w->answer);
+#define BASE(f) {#f, base_##f, 0}
+enum { READ_BINARY, READ_TEXT, WRITE_BINARY, WRITE_TEXT, CONVERT, REDUCE, STEP, WITNESS, ORDER, TASKS };
+static const struct task tasks[TASKS] = {
+    {"read binary", desk_read, {BASE(decodec), BASE(decode)}, clear_written, NULL, base_encode, read_same, 2.0, 1},
+    {"read text", desk_read, {BASE(textq), BASE(textc), BASE(text)}, clear_written, NULL, base_print, read_same, 2, 1},
+    {"write binary", desk_write_binary, {BASE(encode)}, clear_scratch, desk_check, NULL, encoded_same, 2.0, 1},
+    {"write text", desk_write_text, {BASE(print)}, clear_scratch, desk_check, NULL, printed_same, 0, 1},
+    {"convert", desk_convert, {BASE(convert)}, clear_written, desk_check, NULL, converted_same, 2.5, 1},
+    {"reduce", desk_reduce, {BASE(strash)}, clear_written, desk_check, NULL, reduced_same, 2.0, 1},
+    {"step", desk_step, {BASE(step3)}, clear_scratch, desk_check, NULL, stepped_same, 1.5, 1},
+    {"one of 8 steps", desk_witness, {BASE(steps)}, clear_scratch, desk_check, never_one, was_never_one, 0, STEPS},
+    {"convert", desk_convert, {BASE(convert)}, NULL, NULL, NULL, converted_same, 0, 1}};
+
+static struct circuit random_one(uint32_t gates) {
+    return random_circuit(gates, 12);
 }
 
-static void as_plain_read_text(struct work *w) {
-    if (!plain_read_text(&w->plain, w->file, w->file_length, &w->plain_made))
-        give_up("the plain text reader refuses");
+static struct circuit duplicates(uint32_t gates) {
+    return random_circuit(gates, 60);
 }
 
-static void as_plain_read_binary(struct work *w) {
-    if (!plain_read_binary(w->file, w->file_length, &w->plain_made))
-        give_up("the plain binary reader refuses");
-}
+static const uint32_t sizes[SIZES] = {10000, 100000, 1000000};
 
-static void desk_write_text(struct work *w) {
-    golvanzo_write_text(w->given.counts, TABLES(w->given), SCRATCH(w), NULL, 0, w->out, w->out_length, w->answer);
-}
+/* Kinds, and the tasks that are timed on them in all sizes, ended by TASKS. */
+static const struct {
+    struct kind kind;
+    int tasks[TASKS + 1];
+} plan[] = {
+    {{"random", "", random_one, in_order, in_order},
+     {READ_BINARY, WRITE_BINARY, WRITE_TEXT, REDUCE, STEP, WITNESS, TASKS}},
+    {{"in order", "", random_one, in_order, in_order}, {READ_TEXT, CONVERT, TASKS}},
+    {{"reversed", "", random_one, reversed, in_order}, {READ_TEXT, CONVERT, TASKS}},
+    {{"shuffled", "", random_one, shuffled, in_order}, {READ_TEXT, CONVERT, TASKS}},
+    {{"shuffled, renamed", "", random_one, shuffled, shuffled}, {READ_TEXT, CONVERT, TASKS}},
+    {{"hostile: braid", "", braid_circuit, two_halves, shuffled}, {READ_TEXT, CONVERT, TASKS}},
+    {{"duplicates", "", duplicates, in_order, in_order}, {REDUCE, TASKS}},
+    {{"one larger side", "", colliding_circuit, in_order, in_order}, {REDUCE, TASKS}},
+};
 
-static void as_plain_write_text(struct work *w) {
-    w->file_length = plain_write_text(&w->given, w->file);
-}
+/* Orders of a million gates, compared with the binary order before them. Where one gate is ready at a time, two more
+   are slow. */
+static const struct kind orders[] = {
+    {"binary order", "random", random_one, in_order, in_order},
+    {"reversed", "random", random_one, reversed, reversed},
+    {"shuffled", "random", random_one, shuffled, shuffled},
+    {"binary order", "star", star_circuit, in_order, in_order},
+    {"reversed", "star", star_circuit, reversed, reversed},
+    {"shuffled", "star", star_circuit, shuffled, shuffled},
+    {"binary order", "chain", chain_circuit, in_order, in_order},
+    {"reversed", "chain", chain_circuit, reversed, reversed},
+    {"shuffled", "chain", chain_circuit, shuffled, shuffled},
+    {"from both ends", "chain", chain_circuit, from_both_ends, reversed},
+    {"two halves by turns", "chain", chain_circuit, two_halves, shuffled},
+    {"binary order", "braid", braid_circuit, in_order, in_order},
+    {"reversed", "braid", braid_circuit, reversed, reversed},
+    {"shuffled", "braid", braid_circuit, shuffled, shuffled},
+    {"from both ends", "braid", braid_circuit, from_both_ends, reversed},
+    {"two halves by turns", "braid", braid_circuit, two_halves, shuffled},
+};
 
-static void desk_write_binary(struct work *w) {
-    golvanzo_write_binary(w->given.counts, TABLES(w->given), SCRATCH(w), NULL, 0, w->out, w->out_length, w->answer);
-}
+static const size_t plans = sizeof plan / sizeof plan[0], order_count = sizeof orders / sizeof orders[0];
 
-static void as_plain_write_binary(struct work *w) {
-    w->file_length = plain_write_binary(&w->given, w->file);
-}
-
-static int wrote_same(struct work *w) {
-    return w->answer[2] == w->file_length && memcmp(w->out, w->file, w->file_length) == 0;
-}
-
-static double seconds(void (*call)(struct work *), struct work *w, int times) {
-    clock_t from = clock();
-    for (int k = 0; k < times; k++)
-        call(w);
-    return (double)(clock() - from) / CLOCKS_PER_SEC / times;
-}
-
-/* Measures a task, prints its row and gives the desk's time per gate; `first` is that of the group's first row,
-   or 0. */
-static double row(const struct task *task, const char *kind, struct work *w, int steps, double first) {
-    uint64_t gates = w->given.counts[A];
-    int times = gates < 1000000 ? (int)(1000000 / gates) : 1;
-    double desk = 1e9, plain = 1e9;
-    for (int k = 0; k < ROUNDS; k++) {
-        double d = seconds(task->desk, w, times), p = seconds(task->plain, w, times);
-        desk = d < desk ? d : desk;
-        plain = p < plain ? p : plain;
-        if (w->answer[0] != 0)
-            give_up("the desk refuses");
-    }
-    if (!task->same(w))
-        give_up("the desk and plain C differ");
-    desk *= 1e9 / (double)gates / steps;
-    plain *= 1e9 / (double)gates / steps;
-    printf("| %s | %s | %llu | %.1f | %.2f | %.1f | %.2f |\n", task->name, kind, (unsigned long long)gates, desk,
-           first > 0 ? desk / first : 1.0, plain, desk / plain);
-    fflush(stdout);
-    return desk;
-}
-
-static double convert_row(const char *kind, const struct circuit *c, uint32_t *order, uint32_t *name, double first) {
-    static const struct task task = {"convert", desk_convert, as_plain_convert, made_same};
-    struct work w = work_on(arranged(c, order, name));
-    double time = row(&task, kind, &w, 1, first);
-    free_work(&w);
-    free(order);
-    free(name);
-    return time;
-}
-
-/* The orders of a circuit, each compared with the first: binary order. `hard` adds those that are slow only
-   where one gate is ready at a time. */
-static void convert_orders(const char *shape, struct circuit c, int hard) {
-    uint32_t n = (uint32_t)c.counts[A];
-    static const char *const orders[5] = {"in order", "reversed", "shuffled", "from both ends", "two halves by turns"};
-    char kind[5][80];
-    for (int k = 0; k < 5; k++)
-        snprintf(kind[k], sizeof kind[k], "%s, %s", shape, orders[k]);
-    double first = convert_row(kind[0], &c, in_order(n), in_order(n), 0);
-    convert_row(kind[1], &c, reversed(n), reversed(n), first);
-    convert_row(kind[2], &c, shuffled(n), shuffled(n), first);
-    if (hard) {
-        convert_row(kind[3], &c, from_both_ends(n), reversed(n), first);
-        convert_row(kind[4], &c, two_halves(n), shuffled(n), first);
-    }
+static struct work work_of(const struct kind *kind, uint32_t gates) {
+    struct circuit c = kind->make(gates);
+    uint32_t *order = kind->order(gates), *names = kind->names(gates);
+    struct work w = work_on(arranged(&c, order, names));
     free_circuit(&c);
+    free(order);
+    free(names);
+    return w;
 }
 
-static struct circuit of_kind(int kind, uint32_t gates) {
-    return kind == 0 ? random_circuit(gates, 12) : kind == 1 ? random_circuit(gates, 60) : colliding_circuit(gates);
-}
-
-static const uint32_t sizes[3] = {10000, 100000, 1000000};
-
-static void reduce_rows(void) {
-    static const struct task task = {"reduce", desk_reduce, as_plain_reduce, reduced_same};
-    static const char *const kinds[3] = {"random", "duplicates", "one larger side"};
-    for (int kind = 0; kind < 3; kind++) {
-        double first = 0;
-        for (int k = 0; k < 3; k++) {
-            struct work w = work_on(of_kind(kind, sizes[k]));
-            double time = row(&task, kinds[kind], &w, 1, first);
-            first = k == 0 ? time : first;
+static void time_all(int pass) {
+    for (size_t p = 0; p < plans; p++)
+        for (int size = 0; size < SIZES; size++) {
+            struct work w = work_of(&plan[p].kind, sizes[size]);
+            for (const int *t = plan[p].tasks; *t != TASKS; t++)
+                run(&tasks[*t], &plan[p].kind, &w, pass);
             free_work(&w);
         }
+    for (size_t k = 0; k < order_count; k++) {
+        struct work w = work_of(&orders[k], sizes[SIZES - 1]);
+        run(&tasks[ORDER], &orders[k], &w, pass);
+        free_work(&w);
     }
 }
 
-/* A reader reads what the plain writer before it wrote. For the witness question every output is 0, so that no step
-   ends it early. */
-static void other_rows(void) {
-    static const struct task tasks[6] = {{"write text", desk_write_text, as_plain_write_text, wrote_same},
-                                         {"read text", desk_read, as_plain_read_text, made_same},
-                                         {"write binary", desk_write_binary, as_plain_write_binary, wrote_same},
-                                         {"read binary", desk_read, as_plain_read_binary, made_same},
-                                         {"step", desk_step, as_plain_step, stepped_same},
-                                         {"witness, per step", desk_witness, as_plain_witness, never_one}};
-    struct work w[3];
-    for (int k = 0; k < 3; k++)
-        w[k] = work_on(random_circuit(sizes[k], 12));
-    for (int t = 0; t < 6; t++) {
-        double first = 0;
-        for (int k = 0; k < 3; k++) {
-            if (t == 5)
-                memset(w[k].given.table[OUTPUTS], 0, 4 * w[k].given.counts[O]);
-            double time = row(&tasks[t], "random", &w[k], t == 5 ? STEPS : 1, first);
-            first = k == 0 ? time : first;
-        }
-    }
-    for (int k = 0; k < 3; k++)
-        free_work(&w[k]);
+/* By task, then kind, then gates. */
+static int in_rows(const void *a, const void *b) {
+    const struct result *x = a, *y = b;
+    if (x->task != y->task)
+        return x->task < y->task ? -1 : 1;
+    if (x->kind != y->kind)
+        return x->kind < y->kind ? -1 : 1;
+    return x->gates < y->gates ? -1 : x->gates > y->gates;
 }
 
-/* An argument chooses one group of rows: convert, reduce or other. */
-int main(int argc, char **argv) {
-    const char *only = argc > 1 ? argv[1] : NULL;
-    printf("| task | kind | gates | ns per gate | to the first | plain C | to plain C |\n");
-    printf("|---|---|---|---|---|---|---|\n");
-    if (only == NULL || strcmp(only, "convert") == 0) {
-        convert_orders("random", random_circuit(1000000, 12), 0);
-        convert_orders("star", star_circuit(1000000), 0);
-        convert_orders("chain", chain_circuit(1000000), 1);
-        convert_orders("braid", braid_circuit(1000000), 1);
+static const char *marked(double x, double limit) {
+    static char text[4][40];
+    static int turn;
+    char *to = text[turn++ % 4];
+    snprintf(to, sizeof text[0], limit > 0 && x > limit ? "**%.2f**" : "%.2f", x);
+    return to;
+}
+
+/* The second and third baselines, where a task has them: name, time, ratio. */
+static void print_others(const struct result *r) {
+    for (int k = 1; k < BASES && r->base[k] > 0; k++)
+        printf("%s%s %.1f: %.2f", k == 1 ? "" : ", ", r->task->base[k].name, r->base[k], r->desk / r->base[k]);
+}
+
+static void print_results(void) {
+    double first = 0;
+    printf("| task | kind | gates | ns/gate | Mgates/s | baseline | ratio | growth | other baselines: ratio |\n");
+    printf("|---|---|--:|--:|--:|--:|--:|--:|---|\n");
+    for (const struct result *r = results; r < results + result_count; r++) {
+        const struct task *t = r->task;
+        if (t == &tasks[ORDER])
+            continue;
+        first = r->gates == sizes[0] ? r->desk : first;
+        printf("| %s | %s | %llu | %.1f | %.1f | %s %.1f | %s | %s | ", t->name, r->kind->name,
+               (unsigned long long)r->gates, r->desk, 1e3 / r->desk, t->base[0].name, r->base[0],
+               marked(r->desk / r->base[0], t->limit), marked(r->desk / first, 4));
+        print_others(r);
+        printf(" |\n");
     }
-    if (only == NULL || strcmp(only, "reduce") == 0)
-        reduce_rows();
-    if (only == NULL || strcmp(only, "other") == 0)
-        other_rows();
+}
+
+/* The parts of a call that can be timed alone, and the rest beside the baseline. */
+static void print_split(void) {
+    printf("\n| split | kind | gates | ns/gate | clearing alone | check alone | without check | its ratio |\n");
+    printf("|---|---|--:|--:|--:|--:|--:|--:|\n");
+    for (const struct result *r = results; r < results + result_count; r++) {
+        double rest = r->desk - r->checks;
+        if (r->task == &tasks[ORDER])
+            continue;
+        printf("| %s | %s | %llu | %.1f | %.1f | ", r->task->name, r->kind->name, (unsigned long long)r->gates, r->desk,
+               r->clears);
+        if (r->checks > 0)
+            printf("%.1f | %.1f | %s |\n", r->checks, rest, marked(rest / r->base[0], r->task->limit));
+        else
+            printf("| | |\n");
+    }
+}
+
+static void print_orders(void) {
+    const struct result *first = NULL;
+    printf("\n| shape | order | ns/gate | to binary order | baseline | its own to binary order | ratio |\n");
+    printf("|---|---|--:|--:|--:|--:|--:|\n");
+    for (size_t k = 0; k < order_count; k++) {
+        const struct result *r = result_of(&tasks[ORDER], &orders[k], sizes[SIZES - 1]);
+        first = orders[k].order == in_order ? r : first;
+        printf("| %s | %s | %.1f | %s | %.1f | %.2f | %.2f |\n", r->kind->of, r->kind->name, r->desk,
+               marked(r->desk / first->desk, 10), r->base[0], r->base[0] / first->base[0], r->desk / r->base[0]);
+    }
+}
+
+static int by_size(const void *a, const void *b) {
+    double x = *(const double *)a, y = *(const double *)b;
+    return (x > y) - (x < y);
+}
+
+/* By how many hundredths the larger of two figures is above the lesser: the middle one and the largest of all rows. */
+static void print_noise(void) {
+    double time[ROOM], ratio[ROOM];
+    for (int k = 0; k < result_count; k++) {
+        const double *t = results[k].times, *q = results[k].ratios;
+        time[k] = 100 * ((t[0] > t[1] ? t[0] / t[1] : t[1] / t[0]) - 1);
+        ratio[k] = 100 * ((q[0] > q[1] ? q[0] / q[1] : q[1] / q[0]) - 1);
+    }
+    qsort(time, (size_t)result_count, sizeof time[0], by_size);
+    qsort(ratio, (size_t)result_count, sizeof ratio[0], by_size);
+    printf("\nNoise, as the difference of the two passes: times of the library %.0f %% in the middle row, %.0f %% at "
+           "most; ratios %.0f %% and %.0f %%.\n",
+           time[result_count / 2], time[result_count - 1], ratio[result_count / 2], ratio[result_count - 1]);
+}
+
+int main(void) {
+    for (int pass = 0; pass < PASSES; pass++)
+        time_all(pass);
+    qsort(results, (size_t)result_count, sizeof results[0], in_rows);
+    print_results();
+    print_split();
+    print_orders();
+    print_noise();
     return 0;
 }

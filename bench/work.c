@@ -1,0 +1,124 @@
+#include "work.h"
+
+#include <stdlib.h>
+#include <string.h>
+
+struct work work_on(struct circuit given) {
+    const uint64_t *n = given.counts;
+    struct work w = {.given = given, .made = tables_for(n), .base_made = tables_for(n), .base = base_for(n)};
+    w.scratch_length = 4 * (n[M] + 1) + n[O];
+    w.scratch = room(4 * w.scratch_length);
+    w.out_length = 100 + 16 * (n[I] + n[L] + n[O]) + 24 * n[A];
+    w.file = room(w.out_length);
+    w.out = room(w.out_length);
+    w.state = room(n[L]);
+    w.ins = room(STEPS * n[I]);
+    w.outs = room(n[O]);
+    memset(w.state, '0', n[L]);
+    for (uint32_t i = 0; i < STEPS * n[I]; i++)
+        w.ins[i] = (uint8_t)"01x"[below(3)];
+    return w;
+}
+
+void free_work(struct work *w) {
+    free_circuit(&w->given), free_circuit(&w->made), free_circuit(&w->base_made);
+    free(w->scratch), free(w->file), free(w->out), free(w->state), free(w->ins), free(w->outs);
+    free_base(&w->base);
+}
+
+void desk_read(struct work *w) {
+    golvanzo_read(w->file, w->file_length, TABLES(w->made), SCRATCH(w), w->answer);
+}
+
+void base_decode(struct work *w) {
+    if (decode(w->file, &w->base_made) != w->file + w->file_length)
+        give_up("decode stops elsewhere");
+}
+
+void base_decodec(struct work *w) {
+    if (decodec(w->file, w->file + w->file_length, &w->base_made) != w->file + w->file_length)
+        give_up("decodec refuses");
+}
+
+void base_text(struct work *w) {
+    if (text(w->file, &w->base_made) != w->file + w->file_length)
+        give_up("text stops elsewhere");
+}
+
+void base_textc(struct work *w) {
+    if (textc(w->file, w->file + w->file_length, &w->base, &w->base_made, 0) != w->file + w->file_length)
+        give_up("textc refuses");
+}
+
+void base_textq(struct work *w) {
+    if (textc(w->file, w->file + w->file_length, &w->base, &w->base_made, 1) != w->file + w->file_length)
+        give_up("textq refuses");
+}
+
+void desk_check(struct work *w) {
+    golvanzo_check(w->given.counts, TABLES(w->given), SCRATCH(w), w->answer);
+}
+
+void desk_write_text(struct work *w) {
+    golvanzo_write_text(w->given.counts, TABLES(w->given), SCRATCH(w), NULL, 0, w->out, w->out_length, w->answer);
+}
+
+void base_print(struct work *w) {
+    w->file_length = print(&w->given, w->file);
+}
+
+void desk_write_binary(struct work *w) {
+    golvanzo_write_binary(w->given.counts, TABLES(w->given), SCRATCH(w), NULL, 0, w->out, w->out_length, w->answer);
+}
+
+void base_encode(struct work *w) {
+    w->file_length = encode(&w->given, w->file);
+}
+
+void desk_convert(struct work *w) {
+    golvanzo_convert(w->given.counts, TABLES(w->given), TABLES(w->made), SCRATCH(w), w->answer);
+}
+
+void base_convert(struct work *w) {
+    convert(&w->base, &w->given, &w->base_made);
+}
+
+void desk_reduce(struct work *w) {
+    golvanzo_reduce(w->given.counts, TABLES(w->given), TABLES(w->made), SCRATCH(w), w->answer);
+}
+
+void base_strash(struct work *w) {
+    strash(&w->base, &w->given, &w->base_made);
+}
+
+void desk_step(struct work *w) {
+    golvanzo_step(w->given.counts, TABLES(w->given), SCRATCH(w), w->state, w->given.counts[L], w->ins,
+                  w->given.counts[I], w->outs, w->given.counts[O], w->answer);
+}
+
+void base_step3(struct work *w) {
+    step3(&w->base, &w->given, w->state, w->ins, w->outs);
+}
+
+void desk_witness(struct work *w) {
+    golvanzo_witness(w->given.counts, TABLES(w->given), SCRATCH(w), STEPS, w->ins, STEPS * w->given.counts[I],
+                     w->answer);
+}
+
+void base_steps(struct work *w) {
+    memset(w->state, '0', w->given.counts[L]);
+    for (int k = 0; k < STEPS; k++)
+        step3(&w->base, &w->given, w->state, w->ins + k * w->given.counts[I], w->outs);
+}
+
+void clear_scratch(struct work *w) {
+    memset(w->scratch, 0, 4 * w->scratch_length);
+    __asm__ volatile("" ::: "memory");
+}
+
+void clear_written(struct work *w) {
+    clear_scratch(w);
+    for (int t = 0; t < CIRCUIT; t++)
+        memset(w->made.table[t], 0, 4 * w->made.length[t]);
+    __asm__ volatile("" ::: "memory");
+}

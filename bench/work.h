@@ -1,0 +1,39 @@
+/* What a call is lent, and the calls: each of the desk's beside the same work of the baseline. */
+#ifndef WORK_H
+#define WORK_H
+
+#include "baseline.h"
+#include "circuit.h"
+#include "golvanzo.h"
+
+enum { STEPS = 8 };
+
+struct work {
+    struct circuit given, made, base_made;
+    uint32_t *scratch;
+    size_t scratch_length, file_length, out_length;
+    uint8_t *file, *out, *state, *ins, *outs;
+    uint64_t answer[7];
+    struct base base;
+};
+
+#define TABLE(c, t) (c).table[t], (c).length[t]
+#define TABLES(c) TABLE(c, INPUTS), TABLE(c, LATCHES), TABLE(c, OUTPUTS), TABLE(c, GATES)
+#define SCRATCH(w) (w)->scratch, (w)->scratch_length
+
+struct work work_on(struct circuit given);
+void free_work(struct work *w);
+
+typedef void call(struct work *);
+
+/* The desk. */
+call desk_read, desk_check, desk_write_text, desk_write_binary, desk_convert, desk_reduce, desk_step, desk_witness;
+
+/* The baseline; a reader that refuses ends the run. */
+call base_decode, base_decodec, base_text, base_textc, base_textq, base_print, base_encode, base_convert, base_strash,
+    base_step3, base_steps;
+
+/* What the contracts ask to be cleared: the scratch, and the tables that are written. */
+call clear_scratch, clear_written;
+
+#endif
