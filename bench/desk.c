@@ -189,7 +189,7 @@ static const struct task tasks[TASKS] = {
     {"reduce", desk_reduce, {BASE(strash)}, clear_written, desk_check, NULL, reduced_same, 2.0, 1},
     {"step", desk_step, {BASE(step3)}, clear_scratch, desk_check, NULL, stepped_same, 1.5, 1},
     {"one of 8 steps", desk_witness, {BASE(steps)}, clear_scratch, desk_check, never_one, was_never_one, 0, STEPS},
-    {"convert", desk_convert, {BASE(convert)}, NULL, NULL, NULL, converted_same, 0, 1}};
+    {"convert", desk_convert, {BASE(convert)}, NULL, NULL, NULL, converted_same, 2.5, 1}};
 
 static struct circuit random_one(uint32_t gates) {
     return random_circuit(gates, 12);
@@ -330,8 +330,9 @@ static void print_orders(void) {
     for (size_t k = 0; k < order_count; k++) {
         const struct result *r = result_of(&tasks[ORDER], &orders[k], sizes[SIZES - 1]);
         first = orders[k].order == in_order ? r : first;
-        printf("| %s | %s | %.1f | %s | %.1f | %.2f | %.2f |\n", r->kind->of, r->kind->name, r->desk,
-               marked(r->desk / first->desk, 10), r->base[0], r->base[0] / first->base[0], r->desk / r->base[0]);
+        printf("| %s | %s | %.1f | %s | %.1f | %.2f | %s |\n", r->kind->of, r->kind->name, r->desk,
+               marked(r->desk / first->desk, 10), r->base[0], r->base[0] / first->base[0],
+               marked(r->desk / r->base[0], r->task->limit));
     }
 }
 

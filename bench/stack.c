@@ -1,4 +1,4 @@
-/* Runs each of the desk's calls on a painted stack of its own, on a circuit of a million gates, and prints how many
+/* Runs each of the desk's calls on a painted stack of its own, on a small and on a large circuit, and prints how many
    bytes of it the call has used: what is no longer painted, less what an empty call uses. */
 #define _GNU_SOURCE
 #include <stdint.h>
@@ -11,7 +11,7 @@
 
 enum { STACK = 1 << 20, PAINT = 0xA5 };
 
-static void (*running)(struct work *);
+static call *running;
 static struct work *worked_on;
 
 static void empty(struct work *w) {
@@ -23,7 +23,7 @@ static void start(void) {
 }
 
 /* Bytes of the stack that are no longer painted. */
-static size_t used_by(void (*call)(struct work *), struct work *w) {
+static size_t used_by(call *run, struct work *w) {
     ucontext_t here, there;
     uint8_t *stack = room(STACK), *at = stack;
     memset(stack, PAINT, STACK);
@@ -32,7 +32,7 @@ static size_t used_by(void (*call)(struct work *), struct work *w) {
     there.uc_stack.ss_sp = stack;
     there.uc_stack.ss_size = STACK;
     there.uc_link = &here;
-    running = call;
+    running = run;
     worked_on = w;
     makecontext(&there, start, 0);
     if (swapcontext(&here, &there) != 0 || w->answer[0] != 0)
@@ -44,30 +44,46 @@ static size_t used_by(void (*call)(struct work *), struct work *w) {
     return used;
 }
 
-static void row(const char *name, void (*call)(struct work *), struct work *w) {
-    printf("| `%s` | %zu |\n", name, used_by(call, w) - used_by(empty, w));
+/* A circuit in binary order, and the same shuffled and renamed, which calls that take any order are given. */
+struct pair {
+    struct work easy, hard;
+};
+
+static struct pair pair_of(uint32_t gates) {
+    struct circuit c = random_circuit(gates, 12);
+    uint32_t *order = shuffled(gates), *names = shuffled(gates);
+    struct pair p = {.hard = work_on(arranged(&c, order, names)), .easy = work_on(c)};
+    base_encode(&p.easy);
+    base_print(&p.hard);
+    free(order);
+    free(names);
+    return p;
 }
 
 int main(void) {
-    struct circuit c = random_circuit(1000000, 12);
-    uint32_t *order = shuffled(1000000), *names = shuffled(1000000);
-    struct work hard = work_on(arranged(&c, order, names)), w = work_on(c);
-    used_by(empty, &w);
-    printf("| call | bytes of stack |\n|---|--:|\n");
-    base_encode(&w);
-    row("golvanzo_read, binary", desk_read, &w);
-    base_print(&hard);
-    row("golvanzo_read, text", desk_read, &hard);
-    row("golvanzo_check", desk_check, &hard);
-    row("golvanzo_write_text", desk_write_text, &hard);
-    row("golvanzo_write_binary", desk_write_binary, &w);
-    row("golvanzo_convert", desk_convert, &hard);
-    row("golvanzo_reduce", desk_reduce, &w);
-    row("golvanzo_step", desk_step, &w);
-    row("golvanzo_witness", desk_witness, &w);
-    free_work(&w);
-    free_work(&hard);
-    free(order);
-    free(names);
+    static const struct {
+        const char *name;
+        call *run;
+        int hard;
+    } rows[] = {{"read, binary", desk_read, 0},
+                {"read, text", desk_read, 1},
+                {"check", desk_check, 1},
+                {"write_text", desk_write_text, 1},
+                {"write_binary", desk_write_binary, 0},
+                {"convert", desk_convert, 1},
+                {"reduce", desk_reduce, 0},
+                {"step", desk_step, 0},
+                {"witness", desk_witness, 0}};
+    struct pair small = pair_of(10000), large = pair_of(1000000);
+    /* The first call finds its own way through the dynamic linker. */
+    used_by(desk_read, &small.easy);
+    printf("| bytes of stack | 10000 gates | 1000000 gates |\n|---|--:|--:|\n");
+    for (size_t k = 0; k < sizeof rows / sizeof rows[0]; k++) {
+        size_t none = used_by(empty, &small.easy);
+        printf("| `golvanzo_%s` | %zu | %zu |\n", rows[k].name,
+               used_by(rows[k].run, rows[k].hard ? &small.hard : &small.easy) - none,
+               used_by(rows[k].run, rows[k].hard ? &large.hard : &large.easy) - none);
+    }
+    free_work(&small.easy), free_work(&small.hard), free_work(&large.easy), free_work(&large.hard);
     return 0;
 }
