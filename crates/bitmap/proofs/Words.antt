@@ -3,7 +3,7 @@ use mathlib.Core.Path.{_≡_, refl, sym, ap, ap₂, _∙_, subst}
 use Prim.Native.Nat.{ℕ, zero, suc, _+_, _-_, _*_, _/_, _%_, _^_, _<_}
 use native.Mathlib.Nat.{pow-suc, one-mul, div-eq-of-lt, zero-div, mul-mod-left, zero-lt-suc}
 use native.Mathlib.Omega.{arith}
-use lib.Bits.{bitOr, bitXor, or-shr, or-mod, or-comm, xor-shr, xor-mod}
+use lib.Bits.{bitOr, bitXor, or-shr, or-mod, or-comm, or-zero-r, xor-shr, xor-mod}
 use lib.Dec.{lit<}
 use lib.Pow.{shl-exact, shl-shr, pow-lt, pow-add}
 use Rattle.bitmap.specs.Bitmap.{On}
@@ -47,6 +47,12 @@ or-on w x c h =
 pub or-new : (w b : ℕ) → On (bitOr w (2 ^ b)) b
 unfolding On
 or-new w b = ap (λ (n : ℕ). n / 2 ^ b % 2) (or-comm w (2 ^ b)) ∙ or-on (2 ^ b) w b (pow-here b)
+
+-- a union with one bit leaves the others as they are
+pub or-other : (w b c : ℕ) → (c ≡ b → ⊥) → bitOr w (2 ^ b) / 2 ^ c % 2 ≡ w / 2 ^ c % 2
+or-other w b c n =
+    ap (λ (m : ℕ). m % 2) (or-shr w (2 ^ b) c) ∙ or-mod (w / 2 ^ c) (2 ^ b / 2 ^ c) 1 ∙ ap (λ (x : ℕ). bitOr (w / 2 ^ c % 2) x)
+    (pow-other b c n) ∙ or-zero-r (w / 2 ^ c % 2)
 
 pub xor-on : (w b c : ℕ) → (c ≡ b → ⊥) → On w c → On (bitXor w (2 ^ b)) c
 unfolding On

@@ -1,8 +1,10 @@
 -- Bitmaps that stand in a table of words: place i of the one that starts at p is bit i % 32 of word p + i / 32.
 use mathlib.Core.Path.{_≡_}
+use mathlib.Core.Bool.{Bool}
 use mathlib.Core.List.{List}
 use Prim.Native.Nat.{ℕ, _+_, _*_, _/_, _%_, _^_, _<_, _≤_}
 use lib.Bits.{bitOr, bitXor}
+use lib.Dec.{eqb}
 use lib.ListN.{getD, set}
 
 -- bit c of w is 1
@@ -13,6 +15,10 @@ On w c = w / 2 ^ c % 2 ≡ 1
 unfoldable pub OnAt : List ℕ → ℕ → ℕ → Type 0
 unfolding On
 OnAt t p i = On (getD t (p + i / 32) 0) (i % 32)
+
+-- whether it is
+unfoldable pub isOn : List ℕ → ℕ → ℕ → Bool
+isOn t p i = eqb (getD t (p + i / 32) 0 / 2 ^ (i % 32) % 2) 1
 
 -- place i put on; turned over
 unfoldable pub raised : List ℕ → ℕ → ℕ → List ℕ

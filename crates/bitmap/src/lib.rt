@@ -2,7 +2,15 @@
 ghost use mathlib.Core.Path.{_≡_};
 ghost use Prim.Native.Nat.{_+_, _*_, _/_, _<_, _≤_};
 ghost use lib.ListN.{length};
-ghost use Rattle.bitmap.specs.Bitmap.{raised, toggled, NextOn, NextFar};
+ghost use Rattle.bitmap.specs.Bitmap.{isOn, raised, toggled, NextOn, NextFar};
+
+// Whether place i is on.
+pub fn is_on(t: &[u32], p: usize, i: usize) -> bool
+    requires { ⌜ p + i / 32 < length (now t) ⌝ }
+    ensures { λ r. ⌜ r ≡ isOn (now (t .entry)) p i ⌝ }
+{
+    (t[p + i / 32] >> (i % 32)) % 2 == 1
+}
 
 // Place i is on from here.
 pub fn raise(t: &mut [u32], p: usize, i: usize)
