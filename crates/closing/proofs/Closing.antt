@@ -5,7 +5,6 @@ use mathlib.Core.Bool.{true, false}
 use mathlib.Core.Option.{Option, none, some}
 use mathlib.Core.List.{List, [], _∷_, _++_, map}
 use native.Mathlib.Omega.{arith}
-use lib.Dec.{eqb}
 use lib.ListN.{length, getD, take, drop, length-take, length-drop}
 use lib.Seq.{getD-take}
 use Rattle.plan.specs.declared.Counts.{Counts}
@@ -19,7 +18,7 @@ use Rattle.plan.specs.Circuit.{Circuit, oneLine, latchLine, lefts, rights, defi
 use Rattle.plan.specs.Depends.{undefinedIn, cyclicIn}
 use Rattle.plan.specs.Convert.{leaves}
 use Rattle.plan.specs.Outcome.{checkedBy}
-use Rattle.theorems.proofs.Marks.{Agrees}
+use Rattle.theorems.proofs.Marks.{Agrees, agrees-same}
 use Rattle.theorems.proofs.Ranges.{first-var, second-var, inside-at}
 use Rattle.theorems.proofs.Reading.Members.{distinct}
 use Rattle.theorems.proofs.Reading.Undefined.{all-defined}
@@ -70,8 +69,9 @@ module _ {n : Counts} {inputs latches outputs gates scratch : List ℕ} {base : 
   part-long = omega (arith, p .marks-long, length-take (length scratch - base) (drop base scratch), length-drop base scratch)
 
   pub part-marked : Agrees (n .M) (definedIn c) (take (length scratch - base) (drop base scratch))
-  part-marked v h =
-      ap (λ (w : ℕ). eqb w 0) (getD-take (length scratch - base) (drop base scratch) v 0 (omega (arith, p .marks-long))) ∙ p .marked v h
+  part-marked =
+      agrees-same (n .M) (definedIn c) (drop base scratch) (take (length scratch - base) (drop base scratch))
+      (λ v h. getD-take (length scratch - base) (drop base scratch) v 0 (omega (arith, p .marks-long))) (p .marked)
 
   -- 8: leaves and gates are all different, and what gates use is among them
   pub once : distinct (leaves c ++ lefts (c .gates)) ≡ true

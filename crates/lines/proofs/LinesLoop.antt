@@ -5,7 +5,7 @@ use mathlib.Core.Bool.{Bool, true, false, cond, _&&_}
 use mathlib.Core.List.{List, [], _∷_, _++_, append-nil, append-assoc}
 use native.Mathlib.Omega.{arith}
 use native.Mathlib.Nat.{add-zero, zero-add, zero-mul, suc-mul, mul-le-mul-right}
-use lib.ListN.{length, getD, set, length-append, length-set}
+use lib.ListN.{length, getD, length-append}
 use lib.Seq.{getD-drop}
 use Rattle.plan.specs.declared.Refusal.{Refusal}
 use Rattle.plan.specs.declared.Refusal.the-variants.{DefinedTwice}
@@ -15,10 +15,12 @@ use Rattle.plan.specs.Refusals.{Parse, got, refused}
 use Rattle.plan.specs.Circuit.{literalOf, has, heads, flat}
 use Rattle.plan.specs.Bytes.{line, lines}
 use Rattle.plan.specs.Outcome.{passedBy, put}
-use Rattle.theorems.proofs.Marks.{Agrees, agrees-tell, agrees-more}
+use Rattle.theorems.proofs.Marks.{Agrees, agrees-more}
 use Rattle.theorems.proofs.Put.{put-none, put-length, put-there, put-put}
 use Rattle.theorems.proofs.Reading.Steps.{onRows, lines-turn, lines-stop, lines-done}
 use Rattle.theorems.proofs.Tables.{heads-snoc}
+use Rattle.bitmap.specs.Bitmap.{raised}
+use Rattle.bitmap.proofs.Places.{raised-length}
 use Rattle.lines.specs.Rows.{row, marked, marking, seenAfter, LinesSay}
 use Rattle.lines.proofs.OneLine.{line-row, line-refused, row-long, row-var}
 
@@ -117,7 +119,7 @@ module _ {file : List ℕ} {k : ℕ} {d : Bool} {m n at : ℕ} {t₀ marks₀ ta
     tells seen rows a = go d a
       where
         go : (x : Bool) → Agrees m (seenAfter x seen rows) marks → marked x (varOf (literalOf ls)) marks ≡ (x && has (varOf (literalOf ls)) (seen ++ heads rows))
-        go true q = agrees-tell m (seen ++ heads rows) marks (varOf (literalOf ls)) q (row-var file k d m pos ls next positive e)
+        go true q = q (varOf (literalOf ls)) (row-var file k d m pos ls next positive e)
         go false q = refl
 
     judged-line : (seen : List ℕ) (rows : List (List ℕ)) (t : Bool) → Agrees m (seenAfter d seen rows) marks → marked d (varOf (literalOf ls)) marks ≡ t
@@ -140,11 +142,11 @@ module _ {file : List ℕ} {k : ℕ} {d : Bool} {m n at : ℕ} {t₀ marks₀ ta
         go : (x : Bool) → Agrees m (seenAfter x seen rows) marks → Agrees m (seenAfter x seen (rows ++ (ls ∷ []))) (marking x false (varOf (literalOf ls)) marks)
         go false q = q
         go true q =
-            subst (λ (z : List ℕ). Agrees m z (set marks (varOf (literalOf ls)) 1)) (append-assoc seen (heads rows) (varOf (literalOf ls) ∷ []) ∙ ap (λ (z : List ℕ). seen ++ z) (sym (heads-snoc rows ls)))
+            subst (λ (z : List ℕ). Agrees m z (raised marks 0 (varOf (literalOf ls)))) (append-assoc seen (heads rows) (varOf (literalOf ls) ∷ []) ∙ ap (λ (z : List ℕ). seen ++ z) (sym (heads-snoc rows ls)))
             (agrees-more m (seen ++ heads rows) marks (varOf (literalOf ls)) q (omega (arith, row-var file k d m pos ls next positive e)))
 
     marking-length : (x : Bool) → length (marking x false (varOf (literalOf ls)) marks) ≡ length marks
-    marking-length true = simp length-set
+    marking-length true = raised-length marks 0 (varOf (literalOf ls))
     marking-length false = refl
 
     pub turns : (t′ marks′ : List ℕ) → m < length marks₀ → marked d (varOf (literalOf ls)) marks ≡ false → t′ ≡ put table base ls

@@ -4,8 +4,6 @@ use mathlib.Core.Path.{_≡_}
 use mathlib.Core.Bool.{Bool, true, false, not, cond, _&&_}
 use mathlib.Core.Option.{Option, none, some}
 use mathlib.Core.List.{List, _++_}
-use lib.Dec.{eqb}
-use lib.ListN.{getD, set}
 use Rattle.plan.specs.declared.Refusal.the-variants.{OutOfRange}
 use Rattle.plan.specs.declared.Passed.{Passed}
 use Rattle.plan.specs.declared.Passed.the-variants.{To, Refused}
@@ -14,6 +12,7 @@ use Rattle.plan.specs.Circuit.{heads, flat}
 use Rattle.plan.specs.Bytes.{numbers, values, outside}
 use Rattle.plan.specs.Outcome.{put}
 use Rattle.theorems.proofs.Marks.{Agrees}
+use Rattle.bitmap.specs.Bitmap.{isOn, raised}
 use Rattle.lines.specs.declared.Found.{Found}
 use Rattle.lines.specs.declared.Found.the-variants.{Nothing, At}
 
@@ -31,10 +30,10 @@ abbrev pub row : List ℕ → ℕ → Bool → ℕ → ℕ → Parse (List ℕ)
 row file k d m at = numbers file k at then λ xs next. unless (outside d m xs) OutOfRange (got (values xs) next)
 
 abbrev pub marked : Bool → ℕ → List ℕ → Bool
-marked d v marks = d && not (eqb (getD marks v 0) 0)
+marked d v marks = d && isOn marks 0 v
 
 abbrev pub marking : Bool → Bool → ℕ → List ℕ → List ℕ
-marking d before v marks = cond (d && not before) (set marks v 1) marks
+marking d before v marks = cond (d && not before) (raised marks 0 v) marks
 
 -- the variables seen after lines that define or do not
 abbrev pub seenAfter : Bool → List ℕ → List (List ℕ) → List ℕ

@@ -112,10 +112,10 @@ fn defined_before(defines: bool, l: Lit, marks: &mut [u32]) -> bool
         return false;
     }
     let v = l.var().index() as usize;
-    if marks[v] != 0 {
+    if bitmap::is_on(marks, 0, v) {
         return true;
     }
-    marks[v] = 1;
+    bitmap::raise(marks, 0, v);
     false
 }
 

@@ -5,12 +5,12 @@ use mathlib.Core.Bool.{Bool, true, false}
 use mathlib.Core.Option.{none}
 use mathlib.Core.List.{List, [], _++_, append-assoc, map}
 use native.Mathlib.Omega.{arith}
-use borrow.Author.Tests.{eq-eqb, not-true, not-false}
+use borrow.Author.Tests.{not-true, not-false}
 use lib.ListN.{take}
 use Rattle.plan.specs.declared.Counts.{Counts}
 use Rattle.plan.specs.Circuit.{latchOf, gateOf, rowsOf, vars, currents, lefts, allNew}
 use Rattle.plan.specs.Given.{twiceIn}
-use Rattle.theorems.proofs.Marks.{Agrees}
+use Rattle.theorems.proofs.Marks.{Agrees, agrees-none}
 use Rattle.theorems.proofs.Ranges.{input-in, latch-in, gate-in}
 use Rattle.theorems.proofs.Tables.{headAt, headsAt, inputs-heads, latches-heads, gates-heads}
 use Rattle.tables.specs.Lengths.{tableOf}
@@ -48,7 +48,7 @@ module _ {n : Counts} {inputs latches gates marks : List ℕ} (p : Ranged n inpu
     inputs-say : RowsSay (n .M) [] xs r₁ u₁
     inputs-say =
         subst (λ (l : List ℕ). RowsSay (n .M) [] l r₁ u₁) (sym (inputs-heads inputs (n .I) (p .inputs-long)))
-        (by-inputs (n .M) [] (input-in (n .M) inputs (n .I) (p .inputs-long) (p .inputs-inside)) (λ v h. eq-eqb _ 0 (p .blank v h)))
+        (by-inputs (n .M) [] (input-in (n .M) inputs (n .I) (p .inputs-long) (p .inputs-inside)) (agrees-none (n .M) marks (p .blank)))
 
     pub told-inputs : r₁ ≡ true → TwiceSays n inputs latches gates 1 u₁
     told-inputs e =

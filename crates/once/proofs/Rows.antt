@@ -7,14 +7,14 @@ use native.Mathlib.Decide.{decLt}
 use native.Mathlib.Nat.{mul-zero}
 use native.Mathlib.Numerals.{add-one}
 use native.Mathlib.Omega.{arith}
-use borrow.Author.Tests.{eq-eqb, ne-eqb}
-use lib.Dec.{eqb}
-use lib.ListN.{length, getD, set, length-set}
+use lib.ListN.{length, getD}
 use Rattle.plan.specs.Literals.{varOf}
 use Rattle.plan.specs.Circuit.{has, allNew}
-use Rattle.theorems.proofs.Marks.{Agrees, agrees-tell, agrees-more}
+use Rattle.theorems.proofs.Marks.{Agrees, agrees-more}
 use Rattle.theorems.proofs.Reading.Rows.{new-append, new-both}
 use Rattle.theorems.proofs.Tables.{firsts, headAt, headsAt, next-row}
+use Rattle.bitmap.specs.Bitmap.{isOn, raised}
+use Rattle.bitmap.proofs.Places.{raised-length}
 use Rattle.once.specs.Twice.{RowsSay}
 
 -- what was defined twice among the first rows is defined twice among more
@@ -68,30 +68,30 @@ module _ {table : List ℕ} {stride n : ℕ} {marks₀ marks : List ℕ} {at i :
   var-at v e = e ∙ ap (λ (p : ℕ). varOf (getD table p 0)) (s .place)
 
   -- whether it was seen already
-  told : (v : ℕ) → v ≡ headAt table stride i → i < n → (t : Bool) → not (eqb (getD marks v 0) 0) ≡ t → (m : ℕ) (seen : List ℕ)
+  told : (v : ℕ) → v ≡ headAt table stride i → i < n → (t : Bool) → isOn marks 0 v ≡ t → (m : ℕ) (seen : List ℕ)
       → ((k : ℕ) → k < n → headAt table stride k ≤ m) → Agrees m seen marks₀ → has (headAt table stride i) (seen ++ headsAt table stride i) ≡ t
   told v e h t z m seen up a =
-      sym (agrees-tell m (seen ++ headsAt table stride i) marks (headAt table stride i) (s .before m seen up a .agrees) (up i h))
-      ∙ (ap (λ (u : ℕ). not (eqb (getD marks u 0) 0)) (sym e) ∙ z)
+      sym (s .before m seen up a .agrees (headAt table stride i) (up i h)) ∙ (ap (isOn marks 0) (sym e) ∙ z)
 
-  pub stops : (v : ℕ) → v ≡ headAt table stride i → i < n → (getD marks v 0 ≡ 0 → ⊥) → (marks′ : List ℕ) (m : ℕ) (seen : List ℕ)
+  pub stops : (v : ℕ) → v ≡ headAt table stride i → i < n → isOn marks 0 v ≡ true → (marks′ : List ℕ) (m : ℕ) (seen : List ℕ)
       → ((k : ℕ) → k < n → headAt table stride k ≤ m) → Agrees m seen marks₀ → RowsSay m seen (headsAt table stride n) true marks′
   stops v e h z marks′ m seen up a = record {
-    told = sym (ap not (seen-again (headAt table stride) seen n i h (told v e h true (ap not (ne-eqb (getD marks v 0) 0 z)) m seen up a)));
+    told = sym (ap not (seen-again (headAt table stride) seen n i h (told v e h true z m seen up a)));
     marked = λ p. absurd (false≢true (sym p));
   }
 
-  pub turns : (v : ℕ) → v ≡ headAt table stride i → i < n → getD marks v 0 ≡ 0 → v < length marks
-      → Loop table stride n marks₀ (set marks v 1) (at + stride) (i + 1)
-  turns v e h z l = record {
+  pub turns : (v : ℕ) → v ≡ headAt table stride i → i < n → isOn marks 0 v ≡ false → v < length marks → (marks′ : List ℕ)
+      → marks′ ≡ raised marks 0 v → Loop table stride n marks₀ marks′ (at + stride) (i + 1)
+  turns v e h z l marks′ new-is = record {
     place = next-row stride i at (s .place);
     within = omega arith;
-    wide = length-set marks v 1 ∙ s .wide;
+    wide = ap length new-is ∙ (raised-length marks 0 v ∙ s .wide);
     before = λ m seen up a. rw add-one (record {
-      new = one-more (headAt table stride) seen i (s .before m seen up a .new) (told v e h false (ap not (eq-eqb (getD marks v 0) 0 z)) m seen up a);
-      agrees = subst (λ (x : List ℕ). Agrees m x (set marks v 1)) (append-assoc seen (headsAt table stride i) (headAt table stride i ∷ []))
-          (subst (λ (u : ℕ). Agrees m ((seen ++ headsAt table stride i) ++ (u ∷ [])) (set marks v 1)) e
-          (agrees-more m (seen ++ headsAt table stride i) marks v (s .before m seen up a .agrees) l));
+      new = one-more (headAt table stride) seen i (s .before m seen up a .new) (told v e h false z m seen up a);
+      agrees = subst (λ (x : List ℕ). Agrees m (seen ++ headsAt table stride (suc i)) x) (sym new-is)
+          (subst (λ (x : List ℕ). Agrees m x (raised marks 0 v)) (append-assoc seen (headsAt table stride i) (headAt table stride i ∷ []))
+          (subst (λ (u : ℕ). Agrees m ((seen ++ headsAt table stride i) ++ (u ∷ [])) (raised marks 0 v)) e
+          (agrees-more m (seen ++ headsAt table stride i) marks v (s .before m seen up a .agrees) l)));
     });
   }
 

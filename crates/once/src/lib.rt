@@ -22,10 +22,10 @@ fn mark_rows(table: &[u32], stride: usize, n: usize, marks: &mut [u32]) -> bool
     let mut i = 0;
     while i < n {
         let v = Lit::at(table[at]).var().index() as usize;
-        if marks[v] != 0 {
+        if bitmap::is_on(marks, 0, v) {
             return true;
         }
-        marks[v] = 1;
+        bitmap::raise(marks, 0, v);
         at += stride;
         i += 1;
     }

@@ -1,11 +1,9 @@
 -- One part of the body: lines of literals, read or refused.
-use Prim.Native.Nat.{ℕ, _≤_}
+use Prim.Native.Nat.{ℕ}
 use mathlib.Core.Path.{_≡_, refl, ap, _∙_}
 use mathlib.Core.Bool.{Bool}
-use mathlib.Core.List.{List, []}
+use mathlib.Core.List.{List}
 use native.Mathlib.Omega.{arith}
-use borrow.Author.Tests.{eq-eqb}
-use lib.ListN.{getD}
 use Rattle.plan.specs.declared.Refusal.{Refusal}
 use Rattle.plan.specs.declared.Passed.{Passed}
 use Rattle.plan.specs.declared.Passed.the-variants.{To, Refused}
@@ -58,7 +56,3 @@ part-refused d m seen table {r} table′ marks (got rows end) says e =
     let z : _≡_ {A = ℕ} 0 1 = cc in
     absurd (omega arith)
 part-refused d m seen table table′ marks {x} (refused y) says e = let same : y ≡ x = cc in ap refused same
-
--- marks that are all 0 agree with no variable
-pub none-marked : (m : ℕ) (marks : List ℕ) → ((v : ℕ) → v ≤ m → getD marks v 0 ≡ 0) → Agrees m [] marks
-none-marked m marks blank v h = eq-eqb _ 0 (blank v h)

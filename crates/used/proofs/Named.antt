@@ -1,16 +1,16 @@
 -- Marks that agree with the variables defined: the least variable without one is what refusal 7 names.
 use Prim.Native.Nat.{ℕ, zero, _+_, _≤_, _<_, min}
 use mathlib.Core.Path.{_≡_, refl, ap, _∙_}
-use mathlib.Core.Bool.{Bool, true, false, not, cond, _||_}
+use mathlib.Core.Bool.{Bool, true, false, cond, _||_}
 use mathlib.Core.Option.{Option, none, some}
 use mathlib.Core.List.{List, [], _∷_}
 use native.Mathlib.Omega.{arith}
 use lib.Dec.{eqb}
-use lib.ListN.{getD}
 use Rattle.plan.specs.Literals.{varOf}
 use Rattle.plan.specs.Circuit.{vars, has, orLess}
 use Rattle.plan.specs.Depends.{leastMissing}
 use Rattle.theorems.proofs.Marks.{Agrees}
+use Rattle.bitmap.specs.Bitmap.{isOn}
 use Rattle.used.specs.Least.{lower, lowest}
 
 -- the variables of literals are at most m
@@ -24,12 +24,13 @@ lessOf k none = k
 lessOf k (some v) = min v k
 
 -- one more literal: what has no mark is not defined
-turn : (k v mark : ℕ) (t : Bool) → eqb mark 0 ≡ not t → (o : Option ℕ)
-    → lessOf (lower k v mark) o ≡ lessOf k (cond (eqb 0 v || t) o (orLess v o))
+turn : (marks : List ℕ) (k l : ℕ) (t : Bool) → isOn marks 0 (varOf l) ≡ t → (o : Option ℕ)
+    → lessOf (lower marks k l) o ≡ lessOf k (cond (eqb 0 (varOf l) || t) o (orLess (varOf l) o))
 unfolding lower
-turn k v mark t e o = rw e (go (eqb 0 v) t o)
+turn marks k l t e o = rw e (go (eqb 0 (varOf l)) t o)
   where
-    go : (s u : Bool) (p : Option ℕ) → lessOf (cond (s || not (not u)) k (min v k)) p ≡ lessOf k (cond (s || u) p (orLess v p))
+    go : (s u : Bool) (p : Option ℕ)
+        → lessOf (cond (s || u) k (min (varOf l) k)) p ≡ lessOf k (cond (s || u) p (orLess (varOf l) p))
     go true u p = refl
     go false true p = refl
     go false false none = refl
@@ -39,8 +40,8 @@ lowest-least : (m : ℕ) (ds marks : List ℕ) → Agrees m ds marks → (k : �
     → lowest marks k ls ≡ lessOf k (leastMissing (zero ∷ ds) (vars ls))
 lowest-least m ds marks h k [] up = refl
 lowest-least m ds marks h k (l ∷ ls) up =
-    lowest-least m ds marks h (lower k (varOf l) (getD marks (varOf l) 0)) ls (up .1)
-    ∙ turn k (varOf l) (getD marks (varOf l) 0) (has (varOf l) ds) (h (varOf l) (up .0)) (leastMissing (zero ∷ ds) (vars ls))
+    lowest-least m ds marks h (lower marks k l) ls (up .1)
+    ∙ turn marks k l (has (varOf l) ds) (h (varOf l) (up .0)) (leastMissing (zero ∷ ds) (vars ls))
 
 -- what is named is used, and so at most m
 abbrev Under : ℕ → Option ℕ → Type 0

@@ -11,7 +11,7 @@ use Rattle.plan.specs.Depends.{leastMissing, undefinedIn}
 use Rattle.theorems.proofs.Marks.{Agrees}
 use Rattle.theorems.proofs.Tables.{firsts, gateAt, gatesAt, latchAt, gates-rows, latches-rows, words-take}
 use Rattle.used.specs.Least.{every, lowest}
-use Rattle.used.proofs.Lowest.{lowest-append, rights-snoc, lowest-sides}
+use Rattle.used.proofs.Lowest.{lowest-append, rights-snoc}
 use Rattle.used.proofs.Named.{UpTo, none-named, one-named}
 
 up-append : (m : ℕ) (xs ys : List ℕ) → UpTo m xs → UpTo m ys → UpTo m (xs ++ ys)
@@ -49,7 +49,7 @@ one-word t i = let at : i ≡ 1 * i + 0 = omega arith in ap (λ (n : ℕ). getD 
 words-every : (t : List ℕ) (n : ℕ) → n ≤ length t → take n t ≡ every t 0 1 n
 words-every t n h = words-take t n h ∙ ap (λ (at : ℕ → ℕ). firsts at n) (λ j i. one-word t i j)
 
--- the four walks, one after the other, over tables with room for used literals in range
+-- the three walks, one after the other, over tables with room for used literals in range
 pub record Walks (lt : List ℕ) (l : ℕ) (ot : List ℕ) (o : ℕ) (gt : List ℕ) (a m : ℕ) (marks : List ℕ) (r : ℕ) : Type 0 where
   pub room : o ≤ length ot
   pub up-next : (i : ℕ) → i < l → varOf (getD lt (2 * i + 1) 0) ≤ m
@@ -58,11 +58,9 @@ pub record Walks (lt : List ℕ) (l : ℕ) (ot : List ℕ) (o : ℕ) (gt : List 
   pub up-second : (i : ℕ) → i < a → varOf (getD gt (3 * i + 2) 0) ≤ m
   pub r₁ : ℕ
   pub r₂ : ℕ
-  pub r₃ : ℕ
   pub by-latches : r₁ ≡ lowest marks (m + 1) (every lt 1 2 l)
   pub by-outputs : r₂ ≡ lowest marks r₁ (every ot 0 1 o)
-  pub by-firsts : r₃ ≡ lowest marks r₂ (every gt 1 3 a)
-  pub by-seconds : r ≡ lowest marks r₃ (every gt 2 3 a)
+  pub by-gates : r ≡ lowest marks r₂ (rights (gatesAt gt a))
 
 module _ {lt : List ℕ} {l : ℕ} {ot : List ℕ} {o : ℕ} {gt : List ℕ} {a m : ℕ} {marks : List ℕ} {r : ℕ}
     (w : Walks lt l ot o gt a m marks r) where
@@ -76,21 +74,13 @@ module _ {lt : List ℕ} {l : ℕ} {ot : List ℕ} {o : ℕ} {gt : List ℕ} {a 
       (up-firsts m _ o (λ i h. rw (← one-word ot i) (w .up-output i h))))
       (up-sides m gt a (w .up-first) (w .up-second))
 
-  literals-low : lowest marks (m + 1) literals
-      ≡ lowest marks (lowest marks (lowest marks (lowest marks (m + 1) (every lt 1 2 l)) (every ot 0 1 o)) (every gt 1 3 a)) (every gt 2 3 a)
-  literals-low =
-      lowest-append marks (m + 1) (every lt 1 2 l ++ every ot 0 1 o) (rights (gatesAt gt a))
-      ∙ (lowest-sides marks _ gt a
-      ∙ ap (λ (k : ℕ). lowest marks (lowest marks k (every gt 1 3 a)) (every gt 2 3 a))
-      (lowest-append marks (m + 1) (every lt 1 2 l) (every ot 0 1 o)))
-
   found : r ≡ lowest marks (m + 1) literals
   found =
-      w .by-seconds
-      ∙ ap (λ (k : ℕ). lowest marks k (every gt 2 3 a)) (w .by-firsts
-      ∙ ap (λ (k : ℕ). lowest marks k (every gt 1 3 a)) (w .by-outputs
-      ∙ ap (λ (k : ℕ). lowest marks k (every ot 0 1 o)) (w .by-latches)))
-      ∙ sym literals-low
+      w .by-gates
+      ∙ ap (λ (k : ℕ). lowest marks k (rights (gatesAt gt a)))
+      (w .by-outputs ∙ ap (λ (k : ℕ). lowest marks k (every ot 0 1 o)) (w .by-latches)
+      ∙ sym (lowest-append marks (m + 1) (every lt 1 2 l) (every ot 0 1 o)))
+      ∙ sym (lowest-append marks (m + 1) (every lt 1 2 l ++ every ot 0 1 o) (rights (gatesAt gt a)))
 
   module _ (c : Circuit) (latches : c .latches ≡ map latchOf (rowsOf 2 l lt)) (outputs : c .outputs ≡ take o ot)
       (gates : c .gates ≡ map gateOf (rowsOf 3 a gt)) (agrees : Agrees m (definedIn c) marks) where

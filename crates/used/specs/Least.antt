@@ -1,12 +1,13 @@
 -- The least used variable that has no mark.
 use Prim.Native.Nat.{ℕ, _+_, _*_, min}
-use mathlib.Core.Bool.{not, cond, _||_}
+use mathlib.Core.Bool.{cond, _||_}
 use mathlib.Core.Option.{Option, none, some}
 use mathlib.Core.List.{List, [], _∷_}
 use lib.Dec.{eqb}
 use lib.ListN.{getD}
 use Rattle.plan.specs.Literals.{varOf}
 use Rattle.theorems.proofs.Tables.{firsts}
+use Rattle.bitmap.specs.Bitmap.{isOn}
 use Rattle.used.specs.declared.Missing.{Missing}
 use Rattle.used.specs.declared.Missing.the-variants.{Nothing, Least}
 
@@ -18,11 +19,11 @@ missingOf (Least v) = some v
 abbrev pub every : List ℕ → ℕ → ℕ → ℕ → List ℕ
 every table start stride n = firsts (λ i. getD table (stride * i + start) 0) n
 
--- the least so far, or a used variable below it that has no mark; variable 0, of the constants, needs none
-unfoldable pub lower : ℕ → ℕ → ℕ → ℕ
-lower k v mark = cond (eqb 0 v || not (eqb mark 0)) k (min v k)
+-- the least so far, or the variable of a used literal below it that has no mark; variable 0, of the constants, needs none
+unfoldable pub lower : List ℕ → ℕ → ℕ → ℕ
+lower marks k l = cond (eqb 0 (varOf l) || isOn marks 0 (varOf l)) k (min (varOf l) k)
 
--- the same over the variables of literals
+-- the same over literals
 abbrev pub lowest : List ℕ → ℕ → List ℕ → ℕ
 lowest marks k [] = k
-lowest marks k (l ∷ ls) = lowest marks (lower k (varOf l) (getD marks (varOf l) 0)) ls
+lowest marks k (l ∷ ls) = lowest marks (lower marks k l) ls

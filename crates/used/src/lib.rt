@@ -4,9 +4,10 @@ ghost use mathlib.Core.List.{map};
 ghost use Prim.Native.Nat.{ℕ, _+_, _*_, _≤_, _<_};
 ghost use lib.ListN.{length, getD, take};
 ghost use Rattle.plan.specs.Literals.{most, varOf};
-ghost use Rattle.plan.specs.Circuit.{Circuit, latchOf, gateOf, rowsOf, definedIn};
+ghost use Rattle.plan.specs.Circuit.{Circuit, latchOf, gateOf, rowsOf, rights, definedIn};
 ghost use Rattle.plan.specs.Depends.{undefinedIn};
 ghost use Rattle.theorems.proofs.Marks.{Agrees};
+ghost use Rattle.theorems.proofs.Tables.{gatesAt};
 ghost use Rattle.used.specs.Least.{missingOf, every, lower, lowest};
 use plan::Lit;
 
@@ -23,11 +24,14 @@ fn variable(word: u32) -> u32
     Lit::at(word).var().index()
 }
 
-// The least so far, or a used variable below it that has no mark. Nearly every variable has one, so one test decides nearly always.
-fn lower(least: u32, v: u32, mark: u32) -> u32
-    ensures { λ r. ⌜ r ≡ lower least v mark ⌝ }
+// The least so far, or the variable of a used literal below it that has no mark. Nearly every variable has one, so one test
+// decides nearly always.
+fn lower(least: u32, word: u32, marks: &[u32]) -> u32
+    requires { ⌜ varOf word < length (now marks) ⌝ }
+    ensures { λ r. ⌜ r ≡ lower (now (marks .entry)) least word ⌝ }
 {
-    if mark != 0 {
+    let v = variable(word);
+    if bitmap::is_on(marks, 0, v as usize) {
         return least;
     }
     // Variable 0, of the constants, needs no definition.
@@ -51,9 +55,25 @@ fn least(table: &[u32], start: usize, stride: usize, n: usize, marks: &[u32], be
     let mut at = start;
     let mut i = 0;
     while i < n {
-        let v = variable(table[at]);
-        low = lower(low, v, marks[v as usize]);
+        low = lower(low, table[at], marks);
         at += stride;
+        i += 1;
+    }
+    low
+}
+
+// The same over both right sides of n gates.
+fn least_right(gates: &[u32], n: usize, marks: &[u32], before: u32) -> u32
+    requires { ⌜ 3 * n ≤ length (now gates) ⌝ }
+    requires { ⌜ ((i : ℕ) → i < n → varOf (getD (now gates) (3 * i + 1) 0) < length (now marks)) ⌝ }
+    requires { ⌜ ((i : ℕ) → i < n → varOf (getD (now gates) (3 * i + 2) 0) < length (now marks)) ⌝ }
+    ensures { λ r. ⌜ r ≡ lowest (now (marks .entry)) before (rights (gatesAt (now (gates .entry)) n)) ⌝ }
+{
+    let mut low = before;
+    let mut i = 0;
+    while i < n {
+        low = lower(low, gates[3 * i + 1], marks);
+        low = lower(low, gates[3 * i + 2], marks);
         i += 1;
     }
     low
@@ -90,10 +110,9 @@ pub fn undefined(
     let none = m + 1;
     let by_latches = least(latches, 1, 2, l, marks, none);
     let by_outputs = least(outputs, 0, 1, o, marks, by_latches);
-    let by_firsts = least(gates, 1, 3, a, marks, by_outputs);
-    let by_seconds = least(gates, 2, 3, a, marks, by_firsts);
-    if by_seconds > m {
+    let by_gates = least_right(gates, a, marks, by_outputs);
+    if by_gates > m {
         return Missing::Nothing;
     }
-    Missing::Least(by_seconds as usize)
+    Missing::Least(by_gates as usize)
 }

@@ -1,5 +1,5 @@
 use Prim.Native.Nat.{_+_, _-_, _<_, _≤_}
-use mathlib.Core.Path.{_≡_, ap, _∙_}
+use mathlib.Core.Path.{_≡_, sym, ap, _∙_}
 use native.Mathlib.Omega.{arith}
 use borrow.Author.Needs.{needs}
 use lib.ListN.{length}
@@ -59,28 +59,25 @@ index-requires c κs = search needs
 cast-v : tie.Need-cast-v Inv-loop μ-loop
 cast-v c = search needs
 
-mul-if1 : tie.Need-mul-if1 Inv-loop μ-loop
-mul-if1 c = search needs
-
-slice-read-if1 : tie.Need-slice-read-if1 Inv-loop μ-loop
-slice-read-if1 c = in-marks (c .before)
+is-on-requires : tie.Need-is-on-requires Inv-loop μ-loop
+is-on-requires c κs = omega (arith, in-marks (c .before))
 
 same-length : tie.Need-same-length Inv-loop μ-loop
-same-length c = c .before .before .before .before .before .before .before .loop .inv .wide
+same-length c = c .before .before .before .before .before .before .before .before .loop .inv .wide
 
 returns : tie.Need-returns Inv-loop μ-loop
 returns c =
-    let d = c .before .before in
-    stops (d .before .before .before .before .before .loop .inv) (d .index .result) (var-is d) (d .before .before .before .before .loop-test .taken) (c .if1 .taken) (d .before .before .before .before .before .loop .marks)
+    let d = c .before .before .before in
+    let w = d .before .before .before .before .before .loop in
+    stops (w .inv) (d .index .result) (var-is d) (d .before .before .before .before .loop-test .taken) (sym (c .before .is-on .ensures) ∙ c .if1 .taken) (w .marks)
 
-mul-marks : tie.Need-mul-marks Inv-loop μ-loop
-mul-marks c = search needs
-
-slice-write-marks : tie.Need-slice-write-marks Inv-loop μ-loop
-slice-write-marks c = in-marks (c .before .before)
+raise-requires : tie.Need-raise-requires Inv-loop μ-loop
+raise-requires c κs = omega (arith, in-marks (c .before .before .before .before))
 
 add-at : tie.Need-add-at Inv-loop μ-loop
-add-at c = let t = c .before .before .before .before .before .before in omega (arith, room t, t .before .before .before .before .pre .0)
+add-at c =
+    let t = c .before .before .before .before .before .before .before .before .before .before .before in
+    omega (arith, room t, t .before .before .before .before .pre .0)
 
 add-i : tie.Need-add-i Inv-loop μ-loop
 add-i c = search needs
@@ -90,8 +87,10 @@ loop-less c = search needs
 
 loop-again : tie.Need-loop-again Inv-loop μ-loop
 loop-again c =
-    let d = c .before .before in
-    turns (d .before .before .before .before .before .loop .inv) (d .index .result) (var-is d) (d .before .before .before .before .loop-test .taken) (c .if1 .left) (in-marks d)
+    let test = c .before .before .before .before in
+    let d = test .before .before .before in
+    turns (d .before .before .before .before .before .loop .inv) (d .index .result) (var-is d) (d .before .before .before .before .loop-test .taken)
+    (sym (test .before .is-on .ensures) ∙ test .if1 .left) (in-marks d) _ (c .before .before .raise .ensures)
 
 same-length-2 : tie.Need-same-length-2 Inv-loop μ-loop
 same-length-2 c = c .before .loop .inv .wide
@@ -112,12 +111,10 @@ mark-rows-spec =
     var-requires
     index-requires
     cast-v
-    mul-if1
-    slice-read-if1
+    is-on-requires
     same-length
     returns
-    mul-marks
-    slice-write-marks
+    raise-requires
     add-at
     add-i
     loop-less

@@ -4,7 +4,8 @@ use native.Mathlib.Omega.{arith}
 use mathlib.Core.Path.{_∙_}
 use mathlib.Core.List.{[]}
 use Rattle.plan.specs.Circuit.{heads}
-use Rattle.text.proofs.Parts.{part-read, none-marked}
+use Rattle.theorems.proofs.Marks.{agrees-none}
+use Rattle.text.proofs.Parts.{part-read}
 use Rattle.text.proofs.Body.{both, inputs-refused, latches-refused, outputs-refused, gates-last}
 use Rattle.text.proofs.read_text.Statement.{statement}
 use Rattle.text.proofs.read_text.Tie as tie
@@ -31,7 +32,7 @@ returns : tie.Need-returns
 returns c =
     let call₁ = c .before .before .before .before .before .before in
     let start = call₁ .before .before .before .before .before .before .before .before .before .before in
-    let unmarked = none-marked _ (start .args .marks .now) (start .pre .1 .1 .1 .1 .1 .1) in
+    let unmarked = agrees-none _ (start .args .marks .now) (start .pre .1 .1 .1 .1 .1 .1) in
     inputs-refused (call₁ .read-lines .ensures [] unmarked) (c .enum-told .given .1)
 
 read-lines-requires-2 : tie.Need-read-lines-requires-2
@@ -58,7 +59,7 @@ returns-2 c =
     let told₁ = call₂ .before .before .before in
     let call₁ = told₁ .before .before .before .before .before .before .before in
     let start = call₁ .before .before .before .before .before .before .before .before .before .before in
-    let unmarked = none-marked _ (start .args .marks .now) (start .pre .1 .1 .1 .1 .1 .1) in
+    let unmarked = agrees-none _ (start .args .marks .now) (start .pre .1 .1 .1 .1 .1 .1) in
     let a₁ = part-read (call₁ .read-lines .ensures [] unmarked) (told₁ .before .read .given .1) in
     latches-refused a₁ (call₂ .read-lines2 .ensures (heads (a₁ .rows)) (a₁ .agrees)) (c .enum-told2 .given .1)
 
@@ -98,7 +99,7 @@ returns-3 c =
     let told₁ = call₂ .before .before .before in
     let call₁ = told₁ .before .before .before .before .before .before .before in
     let start = call₁ .before .before .before .before .before .before .before .before .before .before in
-    let unmarked = none-marked _ (start .args .marks .now) (start .pre .1 .1 .1 .1 .1 .1) in
+    let unmarked = agrees-none _ (start .args .marks .now) (start .pre .1 .1 .1 .1 .1 .1) in
     let a₁ = part-read (call₁ .read-lines .ensures [] unmarked) (told₁ .before .read .given .1) in
     let a₂ = part-read (call₂ .read-lines2 .ensures (heads (a₁ .rows)) (a₁ .agrees)) (told₂ .before .read2 .given .1) in
     outputs-refused a₁ a₂ (call₃ .read-lines3 .ensures (both (a₁ .rows) (a₂ .rows)) (a₂ .agrees)) (c .enum-told3 .given .1)
@@ -151,7 +152,7 @@ returns-4 c =
     let told₁ = call₂ .before .before .before in
     let call₁ = told₁ .before .before .before .before .before .before .before in
     let start = call₁ .before .before .before .before .before .before .before .before .before .before in
-    let unmarked = none-marked _ (start .args .marks .now) (start .pre .1 .1 .1 .1 .1 .1) in
+    let unmarked = agrees-none _ (start .args .marks .now) (start .pre .1 .1 .1 .1 .1 .1) in
     let a₁ = part-read (call₁ .read-lines .ensures [] unmarked) (told₁ .before .read .given .1) in
     let a₂ = part-read (call₂ .read-lines2 .ensures (heads (a₁ .rows)) (a₁ .agrees)) (told₂ .before .read2 .given .1) in
     let a₃ = part-read (call₃ .read-lines3 .ensures (both (a₁ .rows) (a₂ .rows)) (a₂ .agrees)) (told₃ .before .read3 .given .1) in

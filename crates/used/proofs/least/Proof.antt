@@ -26,34 +26,21 @@ room c =
 loop-holds : tie.Need-loop-holds Inv-loop μ-loop
 loop-holds c = search needs
 
-mul-variable : tie.Need-mul-variable Inv-loop μ-loop
-mul-variable c = omega (arith, room c, c .before .before .before .before .pre .0)
-
-shared-slice-read-variable : tie.Need-shared-slice-read-variable Inv-loop μ-loop
-shared-slice-read-variable c = omega (arith, room (c .before), c .before .before .before .before .before .pre .0)
-
-variable-requires : tie.Need-variable-requires Inv-loop μ-loop
-variable-requires c κs = search needs
-
-cast-lower : tie.Need-cast-lower Inv-loop μ-loop
-cast-lower c = search needs
-
 mul-lower : tie.Need-mul-lower Inv-loop μ-loop
-mul-lower c = search needs
+mul-lower c = omega (arith, room c, c .before .before .before .before .pre .0)
 
 shared-slice-read-lower : tie.Need-shared-slice-read-lower Inv-loop μ-loop
-shared-slice-read-lower c =
-    let s = c .before .before .before .before .before .before .before in
-    let w = c .before .before .before .before .loop in
-    in-marks (s .args .table .now) (s .args .start) (s .args .stride) (w .at) (w .i) _ (length (s .args .marks .now))
-    (w .inv .1) (c .before .variable .ensures)
-    (s .pre .1 .1 (w .i) (c .before .before .before .loop-test .taken))
+shared-slice-read-lower c = omega (arith, room (c .before), c .before .before .before .before .before .pre .0)
 
 lower-requires : tie.Need-lower-requires Inv-loop μ-loop
-lower-requires c κs = search needs
+lower-requires c κs =
+    let s = c .before .before .before .before .before in
+    let w = c .before .before .loop in
+    in-marks (s .args .table .now) (s .args .start) (s .args .stride) (w .at) (w .i) (length (s .args .marks .now)) (w .inv .1)
+    (s .pre .1 .1 (w .i) (c .before .loop-test .taken))
 
 add-at : tie.Need-add-at Inv-loop μ-loop
-add-at c = let t = c .before .before .before .before in omega (arith, room t, t .before .before .before .before .pre .0)
+add-at c = let t = c .before .before in omega (arith, room t, t .before .before .before .before .pre .0)
 
 add-i : tie.Need-add-i Inv-loop μ-loop
 add-i c = search needs
@@ -63,12 +50,12 @@ loop-less c = search needs
 
 loop-again : tie.Need-loop-again Inv-loop μ-loop
 loop-again c =
-    let s = c .before .before .before .before .before .before .before .before in
-    let w = c .before .before .before .before .before .loop in (
+    let s = c .before .before .before .before .before .before in
+    let w = c .before .before .before .loop in (
       omega arith,
       next-word (s .args .start) (s .args .stride) (w .i) (w .at) (w .inv .1),
-      next-low (s .args .table .now) (s .args .start) (s .args .stride) (s .args .marks .now) (s .args .before) (w .low) (w .at) (w .i) _ _
-          (w .inv .1) (c .before .before .variable .ensures) (w .inv .2) (c .lower .ensures),
+      next-low (s .args .table .now) (s .args .start) (s .args .stride) (s .args .marks .now) (s .args .before) (w .low) (w .at) (w .i) _
+          (w .inv .1) (w .inv .2) (c .lower .ensures),
     )
 
 returns : tie.Need-returns Inv-loop μ-loop
@@ -86,10 +73,6 @@ least-spec =
     Inv-loop
     μ-loop
     loop-holds
-    mul-variable
-    shared-slice-read-variable
-    variable-requires
-    cast-lower
     mul-lower
     shared-slice-read-lower
     lower-requires

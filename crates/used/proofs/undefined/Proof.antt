@@ -22,25 +22,21 @@ least-requires-2 c κs =
       (omega (arith, p .1 .1 .0), λ i h. omega (arith, p .1 .1 .1 .1 .1 .0 i h, one-word (s .args .outputs .now) i, p .0)),
     )
 
-least-requires-3 : tie.Need-least-requires-3
-least-requires-3 c κs =
+least-right-requires : tie.Need-least-right-requires
+least-right-requires c κs =
     let p = c .before .before .before .before .before .before .pre .1 in (
-      omega arith,
-      (omega (arith, p .1 .1 .1 .0), λ i h. omega (arith, p .1 .1 .1 .1 .1 .1 .0 i h, p .1 .1 .1 .1 .1 .1 .1 i h, p .0)),
+      omega (arith, p .1 .1 .1 .0),
+      (
+        λ i h. omega (arith, p .1 .1 .1 .1 .1 .1 .0 i h, p .0),
+        λ i h. omega (arith, p .1 .1 .1 .1 .1 .1 .1 i h, p .0),
+      ),
     )
 
-least-requires-4 : tie.Need-least-requires-4
-least-requires-4 c κs =
-    let p = c .before .before .before .before .before .before .before .pre .1 in (
-      omega arith,
-      (omega (arith, p .1 .1 .1 .0), λ i h. omega (arith, p .1 .1 .1 .1 .1 .1 .0 i h, p .1 .1 .1 .1 .1 .1 .1 i h, p .0)),
-    )
-
-walks : (c : tie.After-least4)
-    → let a = c .before .before .before .before .before .before .before .before .args in
-    Walks (a .latches .now) (a .l) (a .outputs .now) (a .o) (a .gates .now) (a .a) (a .m) (a .marks .now) (c .least4 .result)
+walks : (c : tie.After-least-right)
+    → let a = c .before .before .before .before .before .before .before .args in
+    Walks (a .latches .now) (a .l) (a .outputs .now) (a .o) (a .gates .now) (a .a) (a .m) (a .marks .now) (c .least-right .result)
 walks c =
-    let p = c .before .before .before .before .before .before .before .before .pre .1 .1 .1 in
+    let p = c .before .before .before .before .before .before .before .pre .1 .1 .1 in
     record {
       room = p .0;
       up-next = p .1 .1 .0;
@@ -49,18 +45,16 @@ walks c =
       up-second = p .1 .1 .1 .1 .1;
       r₁ = _;
       r₂ = _;
-      r₃ = _;
-      by-latches = c .before .before .before .least .ensures;
-      by-outputs = c .before .before .least2 .ensures;
-      by-firsts = c .before .least3 .ensures;
-      by-seconds = c .least4 .ensures;
+      by-latches = c .before .before .least .ensures;
+      by-outputs = c .before .least2 .ensures;
+      by-gates = c .least-right .ensures;
     }
 
 returns : tie.Need-returns
 returns c circuit latches outputs gates agrees = nothing-missing (walks (c .before)) circuit latches outputs gates agrees (c .if1 .taken)
 
-cast-t15 : tie.Need-cast-t15
-cast-t15 c = search needs
+cast-t14 : tie.Need-cast-t14
+cast-t14 c = search needs
 
 returns-2 : tie.Need-returns-2
 returns-2 c circuit latches outputs gates agrees = one-missing (walks (c .before)) circuit latches outputs gates agrees (c .if1 .left)
@@ -72,8 +66,7 @@ undefined-spec =
     add-none
     least-requires
     least-requires-2
-    least-requires-3
-    least-requires-4
+    least-right-requires
     returns
-    cast-t15
+    cast-t14
     returns-2)
