@@ -47,28 +47,19 @@ pub fn read_difference(file: &[u8], at: usize) -> Difference
     Difference::Bad(at)
 }
 
-// How many groups a number has: up to five, of 32 bits.
+// How many groups a number has: a seventh of its bits, rounded up, which for 1 to 32 bits is 9 / 64 of them, rounded down, and one more.
+// No branch: how many it will be can't be foreseen, and a wrong guess is dear.
 pub fn groups_in(d: u32) -> usize
     ensures { λ r. ⌜ r ≡ length (groupsOf d) ⌝ }
 {
-    if d < 128 {
-        return 1;
-    }
-    if d < 16384 {
-        return 2;
-    }
-    if d < 2097152 {
-        return 3;
-    }
-    if d < 268435456 {
-        return 4;
-    }
-    5
+    let bits = 32 - u32::leading_zeros(d | 1);
+    (bits * 9 / 64 + 1) as usize
 }
 
-// The paper's encoder: each group but the last with the high bit.
-fn put_groups(out: &mut [u8], at: usize, d: u32)
+// The paper's encoder: each group but the last with the high bit. The position after them.
+pub fn put_groups(out: &mut [u8], at: usize, d: u32) -> usize
     requires { ⌜ at + length (groupsOf d) ≤ length (now out) ⌝ }
+    ensures { λ r. ⌜ r ≡ at + length (groupsOf d) ⌝ }
     ensures { λ _. ⌜ now (out .exit) ≡ put (now (out .entry)) at (groupsOf d) ⌝ }
 {
     let mut i = at;
@@ -79,6 +70,7 @@ fn put_groups(out: &mut [u8], at: usize, d: u32)
         i += 1;
     }
     out[i] = x as u8;
+    i + 1
 }
 
 // Writes a number's groups from a position on, or nothing where the buffer is too short.

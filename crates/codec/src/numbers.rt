@@ -1,10 +1,10 @@
 // Numbers of the text form: "0", or a digit 1 to 9 and then any digits (the paper, text form; AIGER report, section 7).
 ghost use mathlib.Core.Path.{_≡_};
-ghost use Prim.Native.Nat.{_+_, _*_, min};
+ghost use Prim.Native.Nat.{_+_, _*_, _≤_, min};
 ghost use lib.ListN.{length};
 ghost use Rattle.plan.specs.Literals.{beyond};
 ghost use Rattle.plan.specs.Bytes.{digits};
-ghost use Rattle.plan.specs.Outcome.{numberAt, Says, writeNumber};
+ghost use Rattle.plan.specs.Outcome.{numberAt, Says, put, writeNumber};
 use crate::classes;
 use crate::room;
 use plan::Number;
@@ -85,6 +85,24 @@ pub fn digits_in(n: u32) -> usize
     10
 }
 
+// Puts a number's digits from a position on; the position after them. The last digit comes first: it is what a division leaves.
+pub fn put_digits(out: &mut [u8], at: usize, n: u32) -> usize
+    requires { ⌜ at + length (digits n) ≤ length (now out) ⌝ }
+    ensures { λ r. ⌜ r ≡ at + length (digits n) ⌝ }
+    ensures { λ _. ⌜ now (out .exit) ≡ put (now (out .entry)) at (digits n) ⌝ }
+{
+    let end = at + digits_in(n);
+    let mut i = end;
+    let mut rest = n;
+    while 10 <= rest {
+        i -= 1;
+        out[i] = 48 + (rest % 10) as u8;
+        rest /= 10;
+    }
+    out[at] = 48 + rest as u8;
+    end
+}
+
 // Writes a number's digits from a position on, or nothing where the buffer is too short.
 pub fn write_number(out: &mut [u8], at: usize, n: u32) -> Written
     ensures { λ r. ⌜ Says writeNumber (record { out = now (out .entry); at = at; value = n }) (record { answer = r; out = now (out .exit) }) ⌝ }
@@ -93,14 +111,6 @@ pub fn write_number(out: &mut [u8], at: usize, n: u32) -> Written
     if !room::holds(out.len(), at, count) {
         return Written::Refused(Refusal::ShortBuffer(room::needed(at, count)));
     }
-    // The last digit comes first: it is what a division leaves.
-    let mut i = at + count;
-    let mut rest = n;
-    while 10 <= rest {
-        i -= 1;
-        out[i] = 48 + (rest % 10) as u8;
-        rest /= 10;
-    }
-    out[at] = 48 + rest as u8;
+    put_digits(out, at, n);
     Written::Bytes(count)
 }

@@ -4,11 +4,8 @@ use mathlib.Core.Path.{_≡_, refl, sym, ap, _∙_}
 use mathlib.Core.List.{List, [], _++_}
 use native.Mathlib.Omega.{arith}
 use lib.ListN.{length, length-append}
-use Rattle.plan.specs.declared.Written.{Written}
-use Rattle.plan.specs.declared.Written.the-variants.{Bytes}
-use Rattle.plan.specs.Outcome.{WriteExit, put, putBytes}
-use Rattle.theorems.proofs.Put.{put-none, put-length, put-put, with-room}
-use Rattle.print.specs.Words.{bytesIn}
+use Rattle.plan.specs.Outcome.{put}
+use Rattle.theorems.proofs.Put.{put-none, put-length, put-put}
 
 -- `rest` is left to put from `next` on
 pub record Filling (out₀ : List ℕ) (at : ℕ) (whole out : List ℕ) (next : ℕ) (rest : List ℕ) : Type 0 where
@@ -48,15 +45,3 @@ module _ {out₀ : List ℕ} {at : ℕ} {whole out : List ℕ} {next : ℕ} {res
 
   pub all-ends : rest ≡ [] → next ≡ at + length whole
   all-ends e = omega (arith, f .ends, ap length e)
-
--- what a writer answers and leaves where there is room
-module _ (out : List ℕ) (at : ℕ) (w : List ℕ) (answer : Written) (out' : List ℕ) (h : at + length w ≤ length out)
-    (says : _≡_ {A = WriteExit} (record { answer = answer; out = out' }) (putBytes out at w)) where
-  wrote : _≡_ {A = WriteExit} (record { answer = answer; out = out' }) (record { answer = Bytes (length w); out = put out at w })
-  wrote = says ∙ sym (with-room out at w (length w) (put out at w) h refl refl)
-
-  pub wrote-bytes : bytesIn answer ≡ length w
-  wrote-bytes = ap (λ (x : WriteExit). bytesIn (x .answer)) wrote
-
-  pub wrote-out : out' ≡ put out at w
-  wrote-out = ap (λ (x : WriteExit). x .out) wrote

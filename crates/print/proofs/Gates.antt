@@ -5,16 +5,15 @@ use mathlib.Core.List.{List, [], _++_, map, append-assoc}
 use native.Mathlib.Omega.{arith}
 use lib.ListN.{length, getD, take, drop, length-append}
 use lib.Seq.{drop-drop}
-use Rattle.plan.specs.declared.Written.{Written}
 use Rattle.plan.specs.Circuit.{rowsOf, gateOf}
 use Rattle.plan.specs.Difference.{groupsOf}
 use Rattle.plan.specs.Binary.{gateBytes}
-use Rattle.plan.specs.Outcome.{WriteExit, put, putBytes}
+use Rattle.plan.specs.Outcome.{put}
 use Rattle.theorems.proofs.Tables.{row-word}
 use Rattle.theorems.proofs.Put.{put-put, put-length}
-use Rattle.print.specs.Words.{bytesIn, sidesBytes, bytesAt, bytesFrom}
+use Rattle.print.specs.Words.{sidesBytes, bytesAt, bytesFrom}
 use Rattle.print.proofs.Sizes.{groups-five}
-use Rattle.print.proofs.Filling.{Filling, none-filled, part-room, part-filled, all-filled, all-ends, wrote-bytes, wrote-out}
+use Rattle.print.proofs.Filling.{Filling, none-filled, part-room, part-filled, all-filled, all-ends}
 
 -- the first row
 row-bytes : (t : List ℕ) (i : ℕ)
@@ -55,43 +54,32 @@ module _ (out : List ℕ) (at lhs rhs0 rhs1 : ℕ) (fits : at + length (sidesByt
   both : length (sidesBytes lhs rhs0 rhs1) ≡ length (groupsOf (lhs - rhs0)) + length (groupsOf (rhs0 - rhs1))
   both = length-append (groupsOf (lhs - rhs0)) (groupsOf (rhs0 - rhs1))
 
-  module _ (answer : Written) (out' : List ℕ) (d : ℕ) (d-is : d ≡ lhs - rhs0)
-      (says : _≡_ {A = WriteExit} (record { answer = answer; out = out' }) (putBytes out at (groupsOf d)))
-      (count : ℕ) (count-is : count ≡ bytesIn answer) where
-    says' : _≡_ {A = WriteExit} (record { answer = answer; out = out' }) (putBytes out at (groupsOf (lhs - rhs0)))
-    says' = says ∙ ap (λ (d : ℕ). putBytes out at (groupsOf d)) d-is
+  module _ (d : ℕ) (d-is : d ≡ lhs - rhs0) where
+    pub first-fits : at + length (groupsOf d) ≤ length out
+    first-fits = omega (arith, fits, both, ap (λ (x : ℕ). length (groupsOf x)) d-is)
 
-    pub first-count : count ≡ length (groupsOf (lhs - rhs0))
-    first-count = count-is ∙ wrote-bytes out at (groupsOf (lhs - rhs0)) answer out' (omega (arith, both)) says'
-
-    pub first-put : out' ≡ put out at (groupsOf (lhs - rhs0))
-    first-put = wrote-out out at (groupsOf (lhs - rhs0)) answer out' (omega (arith, both)) says'
-
-    pub first-fits : at + count ≤ length out
-    first-fits = omega (arith, both, first-count)
-
-    module _ (answer₂ : Written) (out₂ : List ℕ) (e : ℕ) (e-is : e ≡ rhs0 - rhs1)
-        (says₂ : _≡_ {A = WriteExit} (record { answer = answer₂; out = out₂ }) (putBytes out' (at + count) (groupsOf e)))
-        (count₂ : ℕ) (count₂-is : count₂ ≡ bytesIn answer₂) where
-      second-says : _≡_ {A = WriteExit} (record { answer = answer₂; out = out₂ }) (putBytes out' (at + count) (groupsOf (rhs0 - rhs1)))
-      second-says = says₂ ∙ ap (λ (e : ℕ). putBytes out' (at + count) (groupsOf e)) e-is
-
-      second-fits : at + count + length (groupsOf (rhs0 - rhs1)) ≤ length out'
+    module _ (out' : List ℕ) (middle : ℕ) (m : middle ≡ at + length (groupsOf d)) (o : out' ≡ put out at (groupsOf d)) (e : ℕ)
+        (e-is : e ≡ rhs0 - rhs1) where
+      pub second-fits : middle + length (groupsOf e) ≤ length out'
       second-fits =
-          let same : length out' ≡ length out = ap length first-put ∙ put-length out at (groupsOf (lhs - rhs0)) (omega (arith, both)) in
-          omega (arith, both, first-count)
+          let same : length out' ≡ length out = ap length o ∙ put-length out at (groupsOf d) first-fits in
+          let first : length (groupsOf d) ≡ length (groupsOf (lhs - rhs0)) = ap (λ (x : ℕ). length (groupsOf x)) d-is in
+          let second : length (groupsOf e) ≡ length (groupsOf (rhs0 - rhs1)) = ap (λ (x : ℕ). length (groupsOf x)) e-is in
+          omega (arith, fits, both)
 
-      pub sides-end : at + count + count₂ ≡ at + length (sidesBytes lhs rhs0 rhs1)
-      sides-end =
-          let second : count₂ ≡ length (groupsOf (rhs0 - rhs1))
-          = count₂-is ∙ wrote-bytes out' (at + count) (groupsOf (rhs0 - rhs1)) answer₂ out₂ second-fits second-says in
-          omega (arith, both, first-count)
+      pub sides-end : (end : ℕ) → end ≡ middle + length (groupsOf e) → end ≡ at + length (sidesBytes lhs rhs0 rhs1)
+      sides-end end end-is =
+          let first : length (groupsOf d) ≡ length (groupsOf (lhs - rhs0)) = ap (λ (x : ℕ). length (groupsOf x)) d-is in
+          let second : length (groupsOf e) ≡ length (groupsOf (rhs0 - rhs1)) = ap (λ (x : ℕ). length (groupsOf x)) e-is in
+          omega (arith, both)
 
-      pub sides-put : out₂ ≡ put out at (sidesBytes lhs rhs0 rhs1)
-      sides-put =
+      pub sides-put : (out₂ : List ℕ) → out₂ ≡ put out' middle (groupsOf e) → out₂ ≡ put out at (sidesBytes lhs rhs0 rhs1)
+      sides-put out₂ o₂ =
+          let x : List ℕ = groupsOf (lhs - rhs0) in
           let y : List ℕ = groupsOf (rhs0 - rhs1) in
-          wrote-out out' (at + count) y answer₂ out₂ second-fits second-says
-          ∙ (ap₂ (λ (l : List ℕ) (k : ℕ). put l (at + k) y) first-put first-count ∙ put-put out at (groupsOf (lhs - rhs0)) y fits)
+          o₂
+          ∙ (ap₂ (λ (l : List ℕ) (k : ℕ). put l k (groupsOf e)) o m
+          ∙ (ap₂ (λ (d e : ℕ). put (put out at (groupsOf d)) (at + length (groupsOf d)) (groupsOf e)) d-is e-is ∙ put-put out at x y fits))
 
 -- the bytes of the first i gates are counted
 pub record Counted (t : List ℕ) (n sum i : ℕ) : Type 0 where

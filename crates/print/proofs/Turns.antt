@@ -4,37 +4,33 @@ use mathlib.Core.Path.{_≡_, refl, sym, ap, ap₂, subst, _∙_}
 use mathlib.Core.List.{List, [], _∷_, _++_}
 use native.Mathlib.Omega.{arith}
 use lib.ListN.{length, getD, set, length-append}
-use Rattle.plan.specs.declared.Written.{Written}
 use Rattle.plan.specs.Circuit.{rowsOf}
 use Rattle.plan.specs.Bytes.{digits, endOf, linesOf}
-use Rattle.plan.specs.Outcome.{WriteExit, put, putBytes}
+use Rattle.plan.specs.Outcome.{put}
 use Rattle.theorems.proofs.Put.{put-one, put-put, put-length}
-use Rattle.print.specs.Words.{bytesIn, following, wordBytes, wordsFrom}
+use Rattle.print.specs.Words.{following, wordBytes, wordsFrom}
 use Rattle.print.proofs.Lines.{lines-words}
-use Rattle.print.proofs.Filling.{Filling, none-filled, part-room, part-filled, all-filled, all-ends, wrote-bytes, wrote-out}
+use Rattle.print.proofs.Filling.{Filling, none-filled, part-room, part-filled, all-filled, all-ends}
 
 word-length : (j w : ℕ) → length (wordBytes j w) ≡ length (digits w) + 1
 word-length j w = length-append (digits w) (endOf j ∷ [])
 
 -- a number and then the byte after it
-module _ (out : List ℕ) (at j w : ℕ) (answer : Written) (out' : List ℕ) (fits : at + length (wordBytes j w) ≤ length out)
-    (says : _≡_ {A = WriteExit} (record { answer = answer; out = out' }) (putBytes out at (digits w)))
-    (count : ℕ) (count-is : count ≡ bytesIn answer) where
-  count-digits : count ≡ length (digits w)
-  count-digits = count-is ∙ wrote-bytes out at (digits w) answer out' (omega (arith, word-length j w)) says
+module _ (out : List ℕ) (at j w : ℕ) (fits : at + length (wordBytes j w) ≤ length out) where
+  pub number-fits : at + length (digits w) ≤ length out
+  number-fits = omega (arith, fits, word-length j w)
 
-  pub word-ends : at + count + 1 ≡ at + length (wordBytes j w)
-  word-ends = omega (arith, word-length j w, count-digits)
+  module _ (out' : List ℕ) (end : ℕ) (o : out' ≡ put out at (digits w)) (e : end ≡ at + length (digits w)) where
+    pub word-ends : end + 1 ≡ at + length (wordBytes j w)
+    word-ends = omega (arith, e, word-length j w)
 
-  pub word-put : (byte : ℕ) → byte ≡ endOf j → set out' (at + count) byte ≡ put out at (wordBytes j w)
-  word-put byte e =
-      let d : List ℕ = digits w in
-      let long : length (wordBytes j w) ≡ length d + 1 = word-length j w in
-      let room : at + length d ≤ length out = omega arith in
-      let same : length (put out at d) ≡ length out = put-length out at d room in
-      ap (λ (l : List ℕ). set l (at + count) byte) (wrote-out out at d answer out' room says)
-      ∙ (ap₂ (λ (k b : ℕ). set (put out at d) (at + k) b) count-digits e
-      ∙ (put-one (put out at d) (at + length d) (endOf j) (omega arith) ∙ put-put out at d (endOf j ∷ []) fits))
+    pub word-put : (byte : ℕ) → byte ≡ endOf j → set out' end byte ≡ put out at (wordBytes j w)
+    word-put byte b =
+        let d : List ℕ = digits w in
+        let same : length (put out at d) ≡ length out = put-length out at d number-fits in
+        ap (λ (l : List ℕ). set l end byte) o
+        ∙ (ap₂ (λ (k b : ℕ). set (put out at d) k b) e b
+        ∙ (put-one (put out at d) (at + length d) (endOf j) (omega (arith, fits, word-length j w)) ∙ put-put out at d (endOf j ∷ []) fits))
 
 -- the bytes of the first i words are counted
 pub record Counted (t : List ℕ) (k n sum i : ℕ) : Type 0 where

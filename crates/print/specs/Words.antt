@@ -2,15 +2,8 @@
 use Prim.Native.Nat.{ℕ, suc, zero, _+_, _-_, _*_}
 use mathlib.Core.List.{List, [], _∷_, _++_}
 use lib.ListN.{getD}
-use Rattle.plan.specs.declared.Written.{Written}
-use Rattle.plan.specs.declared.Written.the-variants.{Bytes, Refused}
 use Rattle.plan.specs.Bytes.{digits, endOf}
 use Rattle.plan.specs.Difference.{groupsOf}
-
--- the bytes that a writer wrote
-abbrev pub bytesIn : Written → ℕ
-bytesIn (Bytes n) = n
-bytesIn (Refused r) = 0
 
 -- after a word that j words of its line follow, so many follow the next one; `last` follow the first of a line
 abbrev pub following : ℕ → ℕ → ℕ

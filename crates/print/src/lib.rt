@@ -8,21 +8,10 @@ ghost use Rattle.plan.specs.Circuit.{rowsOf, gateOf};
 ghost use Rattle.plan.specs.Bytes.{endOf, linesOf};
 ghost use Rattle.plan.specs.Binary.{gateBytes};
 ghost use Rattle.plan.specs.Outcome.{put};
-ghost use Rattle.print.specs.Words.{bytesIn, following, wordBytes, sidesBytes};
+ghost use Rattle.print.specs.Words.{following, wordBytes, sidesBytes};
 use codec::differences;
 use codec::numbers;
 use plan::Lit;
-use plan::Written;
-
-// The bytes that a writer wrote.
-fn bytes(answer: Written) -> usize
-    ensures { λ r. ⌜ r ≡ bytesIn answer ⌝ }
-{
-    match answer {
-        Written::Bytes(n) => n,
-        Written::Refused(_) => 0,
-    }
-}
 
 // What stands after a number: a space if more follow in its line, the new line after the last.
 fn end_of(left: usize) -> u8
@@ -68,7 +57,7 @@ fn write_word(out: &mut [u8], at: usize, word: u32, left: usize) -> usize
     ensures { λ r. ⌜ r ≡ at + length (wordBytes left word) ⌝ }
     ensures { λ _. ⌜ now (out .exit) ≡ put (now (out .entry)) at (wordBytes left word) ⌝ }
 {
-    let end = at + bytes(numbers::write_number(out, at, word));
+    let end = numbers::put_digits(out, at, word);
     out[end] = end_of(left);
     end + 1
 }
@@ -133,8 +122,8 @@ fn write_gate(out: &mut [u8], at: usize, lhs: u32, rhs0: u32, rhs1: u32) -> usiz
     ensures { λ r. ⌜ r ≡ at + length (sidesBytes lhs rhs0 rhs1) ⌝ }
     ensures { λ _. ⌜ now (out .exit) ≡ put (now (out .entry)) at (sidesBytes lhs rhs0 rhs1) ⌝ }
 {
-    let middle = at + bytes(differences::write_difference(out, at, above(lhs, rhs0)));
-    middle + bytes(differences::write_difference(out, middle, above(rhs0, rhs1)))
+    let middle = differences::put_groups(out, at, above(lhs, rhs0));
+    differences::put_groups(out, middle, above(rhs0, rhs1))
 }
 
 // n gates of three words from a position on; the position after them.

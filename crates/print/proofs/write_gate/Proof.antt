@@ -1,76 +1,47 @@
 -- The first difference, then the second.
-use native.Mathlib.Omega.{arith}
-use Rattle.print.proofs.Gates.{first-fits, sides-end, sides-put}
 use borrow.Author.Needs.{needs}
+use Rattle.print.proofs.Gates.{first-fits, second-fits, sides-end, sides-put}
 use Rattle.print.proofs.write_gate.Statement.{statement}
 use Rattle.print.proofs.write_gate.Tie as tie
 
 above-requires : tie.Need-above-requires
 above-requires c κs = search needs
 
-write-difference-requires : tie.Need-write-difference-requires
-write-difference-requires c κs = search needs
-
-bytes-requires : tie.Need-bytes-requires
-bytes-requires c κs = search needs
-
-add-middle : tie.Need-add-middle
-add-middle c =
-    let b = c .bytes in
-    let w = c .before .before .before .write-difference in
-    let d = c .before .before .before .before .above in
-    let start = c .before .before .before .before .before .before .before in
+put-groups-requires : tie.Need-put-groups-requires
+put-groups-requires c κs =
+    let d = c .above in
+    let start = c .before .before .before in
     let a = start .args in
-    omega (
-      arith,
-      first-fits (a .out .now) (a .at) (a .lhs) (a .rhs0) (a .rhs1) (start .pre) (w .result) (w .last .0)
-          (d .result) (d .ensures) (w .ensures) (b .result) (b .ensures),
-    )
+    first-fits (a .out .now) (a .at) (a .lhs) (a .rhs0) (a .rhs1) (start .pre) (d .result) (d .ensures)
 
 above-requires-2 : tie.Need-above-requires-2
 above-requires-2 c κs = search needs
 
-write-difference-requires-2 : tie.Need-write-difference-requires-2
-write-difference-requires-2 c κs = search needs
-
-bytes-requires-2 : tie.Need-bytes-requires-2
-bytes-requires-2 c κs = search needs
-
-add-result : tie.Need-add-result
-add-result c =
-    let b = c .before .before .before .before .before .before .bytes in
-    let w = c .before .before .before .before .before .before .before .before .before .write-difference in
-    let d = c .before .before .before .before .before .before .before .before .before .before .above in
-    let start = c .before .before .before .before .before .before .before .before .before .before .before .before .before in
+put-groups-requires-2 : tie.Need-put-groups-requires-2
+put-groups-requires-2 c κs =
+    let e = c .above2 in
+    let wrote = c .before .before .before .before .put-groups in
+    let d = c .before .before .before .before .before .above in
+    let start = c .before .before .before .before .before .before .before .before in
     let a = start .args in
-    let w₂ = c .before .before .before .write-difference2 in
-    let e = c .before .before .before .before .above2 in
-    omega (
-      arith,
-      start .pre,
-      sides-end (a .out .now) (a .at) (a .lhs) (a .rhs0) (a .rhs1) (start .pre) (w .result) (w .last .0) (d .result)
-          (d .ensures) (w .ensures) (b .result) (b .ensures)
-          (w₂ .result) (w₂ .last .0) (e .result) (e .ensures) (w₂ .ensures) (c .bytes2 .result) (c .bytes2 .ensures),
-    )
+    second-fits (a .out .now) (a .at) (a .lhs) (a .rhs0) (a .rhs1) (start .pre) (d .result) (d .ensures) (wrote .last .0) (wrote .result)
+    (wrote .ensures .0) (wrote .ensures .1) (e .result) (e .ensures)
 
 same-length : tie.Need-same-length
 same-length c = search needs
 
 returns : tie.Need-returns
 returns c =
-    let b = c .before .before .before .before .before .before .bytes in
-    let w = c .before .before .before .before .before .before .before .before .before .write-difference in
-    let d = c .before .before .before .before .before .before .before .before .before .before .above in
-    let start = c .before .before .before .before .before .before .before .before .before .before .before .before .before in
-    let a = start .args in
-    let w₂ = c .before .before .before .write-difference2 in
-    let e = c .before .before .before .before .above2 in (
-      sides-end (a .out .now) (a .at) (a .lhs) (a .rhs0) (a .rhs1) (start .pre) (w .result) (w .last .0) (d .result)
-          (d .ensures) (w .ensures) (b .result) (b .ensures)
-          (w₂ .result) (w₂ .last .0) (e .result) (e .ensures) (w₂ .ensures) (c .bytes2 .result) (c .bytes2 .ensures),
-      sides-put (a .out .now) (a .at) (a .lhs) (a .rhs0) (a .rhs1) (start .pre) (w .result) (w .last .0) (d .result)
-          (d .ensures) (w .ensures) (b .result) (b .ensures)
-          (w₂ .result) (w₂ .last .0) (e .result) (e .ensures) (w₂ .ensures) (c .bytes2 .result) (c .bytes2 .ensures),
+    let wrote₂ = c .before .before .put-groups2 in
+    let e = c .before .before .before .above2 in
+    let wrote = c .before .before .before .before .before .before .before .put-groups in
+    let d = c .before .before .before .before .before .before .before .before .above in
+    let start = c .before .before .before .before .before .before .before .before .before .before .before in
+    let a = start .args in (
+      sides-end (a .out .now) (a .at) (a .lhs) (a .rhs0) (a .rhs1) (start .pre) (d .result) (d .ensures) (wrote .last .0) (wrote .result)
+          (wrote .ensures .0) (wrote .ensures .1) (e .result) (e .ensures) _ (wrote₂ .ensures .0),
+      sides-put (a .out .now) (a .at) (a .lhs) (a .rhs0) (a .rhs1) (start .pre) (d .result) (d .ensures) (wrote .last .0) (wrote .result)
+          (wrote .ensures .0) (wrote .ensures .1) (e .result) (e .ensures) _ (wrote₂ .ensures .1),
     )
 
 pub write-gate-spec : {M : Type 1} → statement M
@@ -78,12 +49,8 @@ write-gate-spec =
     tie.close
     (tie.spec
     above-requires
-    write-difference-requires
-    bytes-requires
-    add-middle
+    put-groups-requires
     above-requires-2
-    write-difference-requires-2
-    bytes-requires-2
-    add-result
+    put-groups-requires-2
     same-length
     returns)

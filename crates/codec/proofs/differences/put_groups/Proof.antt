@@ -1,9 +1,9 @@
 -- Each turn puts one group, and what is left completes what was to be put.
-use mathlib.Core.Path.{refl, _∙_}
+use mathlib.Core.Path.{refl}
 use native.Mathlib.Omega.{arith}
 use lib.ListN.{length-set}
 use Rattle.codec.proofs.differences.Bits.{high7}
-use Rattle.codec.proofs.differences.Groups.{Putting, in-room, next-group, last-group}
+use Rattle.codec.proofs.differences.Groups.{Putting, in-room, next-group, last-end, last-group}
 use Rattle.codec.proofs.differences.put_groups.Statement.{statement}
 use Rattle.codec.proofs.differences.put_groups.Tie as tie
 
@@ -14,7 +14,7 @@ abbrev μ-loop : tie.MeasureT-loop
 μ-loop out₀ at d i₀ x₀ out i x = x
 
 loop-holds : tie.Need-loop-holds Inv-loop μ-loop
-loop-holds c = record { left = refl; room = c .pre; size = refl; most = omega arith }
+loop-holds c = record { left = refl; ends = refl; room = c .pre; size = refl; most = omega arith }
 
 cast-out : tie.Need-cast-out Inv-loop μ-loop
 cast-out c = omega (arith, high7 (c .before .loop .x))
@@ -37,11 +37,14 @@ cast-out-2 c = omega arith
 slice-write-out-2 : tie.Need-slice-write-out-2 Inv-loop μ-loop
 slice-write-out-2 c = in-room (c .before .loop .inv)
 
+add-result : tie.Need-add-result Inv-loop μ-loop
+add-result c = omega (arith, in-room (c .before .loop .inv))
+
 same-length : tie.Need-same-length Inv-loop μ-loop
-same-length c = length-set (c .before .loop .out) (c .before .loop .i) (c .before .loop .x) ∙ c .before .loop .inv .size
+same-length c = simp length-set (c .before .loop .inv .size)
 
 returns : tie.Need-returns Inv-loop μ-loop
-returns c = last-group (c .before .loop .inv) (c .loop-test .left)
+returns c = (last-end (c .before .loop .inv) (c .loop-test .left), last-group (c .before .loop .inv) (c .loop-test .left))
 
 pub put-groups-spec : {M : Type 1} → statement M
 put-groups-spec =
@@ -57,5 +60,6 @@ put-groups-spec =
     loop-again
     cast-out-2
     slice-write-out-2
+    add-result
     same-length
     returns)

@@ -1,0 +1,2 @@
+-- What the proofs of every writer use.
+pub mod Asked
