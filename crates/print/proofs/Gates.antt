@@ -11,7 +11,8 @@ use Rattle.plan.specs.Binary.{gateBytes}
 use Rattle.plan.specs.Outcome.{put}
 use Rattle.theorems.proofs.Tables.{row-word}
 use Rattle.theorems.proofs.Put.{put-put, put-length}
-use Rattle.print.specs.Words.{sidesBytes, bytesAt, bytesFrom}
+use Rattle.theorems.proofs.Reading.Differences.{groups-some}
+use Rattle.print.specs.Words.{Begun, sidesBytes, bytesAt, bytesFrom}
 use Rattle.print.proofs.Sizes.{groups-five}
 use Rattle.print.proofs.Filling.{Filling, none-filled, part-room, part-filled, all-filled, all-ends}
 
@@ -108,6 +109,21 @@ module _ (t : List ℕ) (n : ℕ) where
       let none : n - i ≡ 0 = omega arith in
       ap (λ (m : ℕ). bytesFrom t m i) none
 
+  -- a gate that follows has two bytes at least
+  two-left : (i : ℕ) → i + 1 < n → 2 ≤ length (bytesFrom t (n - (i + 1)) (i + 1))
+  two-left i h =
+      let g : List ℕ = groupsOf (getD t (3 * (i + 1)) 0 - getD t (3 * (i + 1) + 1) 0) in
+      let k : List ℕ = groupsOf (getD t (3 * (i + 1) + 1) 0 - getD t (3 * (i + 1) + 2) 0) in
+      let rest : List ℕ = bytesFrom t (n - (i + 1 + 1)) (i + 1 + 1) in
+      let size : length (bytesFrom t (n - (i + 1)) (i + 1)) ≡ length (g ++ k) + length rest
+      = ap length (one-gate (i + 1) h) ∙ length-append (g ++ k) rest in
+      omega (
+        arith,
+        length-append g k,
+        groups-some (getD t (3 * (i + 1)) 0 - getD t (3 * (i + 1) + 1) 0),
+        groups-some (getD t (3 * (i + 1) + 1) 0 - getD t (3 * (i + 1) + 2) 0),
+      )
+
   pub none-counted : Counted t n 0 0
   none-counted = record { bound = omega arith; few = omega arith; total = omega (arith, ap length whole) }
 
@@ -142,6 +158,32 @@ module _ (t : List ℕ) (n : ℕ) where
       bound = omega arith;
       fill = part-filled (s .fill) (bytesAt t i) (bytesFrom t (n - (i + 1)) (i + 1)) out' next' (one-gate i h) o p;
     }
+
+    pub followed-fits : i + 1 < n → next + length (bytesAt t i) + 2 ≤ length out
+    followed-fits h =
+        let room : next + length (bytesFrom t (n - i) i) ≤ length out = s .fill .room in
+        let size : length (bytesFrom t (n - i) i) ≡ length (bytesAt t i) + length (bytesFrom t (n - (i + 1)) (i + 1))
+        = ap length (one-gate i (omega arith)) ∙ length-append (bytesAt t i) (bytesFrom t (n - (i + 1)) (i + 1)) in
+        omega (arith, two-left i h)
+
+    -- the same where its bytes stand only once the next ones have been put
+    pub one-begun : (out' : List ℕ) (next' : ℕ) → i + 1 < n → length out' ≡ length out → next' ≡ next + length (bytesAt t i)
+        → Begun out next (bytesAt t i) out' next' → Printed t n out₀ at out' next' (i + 1)
+    one-begun out' next' h same p b =
+        let rest : List ℕ = bytesFrom t (n - (i + 1)) (i + 1) in
+        let room : next + length (bytesFrom t (n - i) i) ≤ length out = s .fill .room in
+        let ends : next + length (bytesFrom t (n - i) i) ≡ at + length (gateBytes (map gateOf (rowsOf 3 n t))) = s .fill .ends in
+        let size : length (bytesFrom t (n - i) i) ≡ length (bytesAt t i) + length rest
+        = ap length (one-gate i (omega arith)) ∙ length-append (bytesAt t i) rest in
+        record {
+          bound = omega arith;
+          fill = (record {
+            ends = omega arith;
+            left = b rest (two-left i h) (omega arith) ∙ (ap (put out next) (sym (one-gate i (omega arith))) ∙ s .fill .left);
+            size = same ∙ s .fill .size;
+            room = omega arith;
+          });
+        }
 
     pub all-printed : n ≤ i → out ≡ put out₀ at (gateBytes (map gateOf (rowsOf 3 n t)))
     all-printed h = all-filled (s .fill) (no-gate i h)

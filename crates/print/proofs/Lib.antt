@@ -2,5 +2,6 @@
 pub mod Lines
 pub mod Filling
 pub mod Sizes
+pub mod Begun
 pub mod Turns
 pub mod Gates

@@ -1,9 +1,11 @@
 -- Lines of numbers, word by word: how many words follow in the line, and the bytes of a word. The bytes of a gate.
-use Prim.Native.Nat.{ℕ, suc, zero, _+_, _-_, _*_}
+use Prim.Native.Nat.{ℕ, suc, zero, _+_, _-_, _*_, _≤_}
+use mathlib.Core.Path.{_≡_}
 use mathlib.Core.List.{List, [], _∷_, _++_}
-use lib.ListN.{getD}
+use lib.ListN.{length, getD}
 use Rattle.plan.specs.Bytes.{digits, endOf}
 use Rattle.plan.specs.Difference.{groupsOf}
+use Rattle.plan.specs.Outcome.{put}
 
 -- after a word that j words of its line follow, so many follow the next one; `last` follow the first of a line
 abbrev pub following : ℕ → ℕ → ℕ
@@ -30,3 +32,7 @@ bytesAt t i = sidesBytes (getD t (3 * i) 0) (getD t (3 * i + 1) 0) (getD t (3 * 
 abbrev pub bytesFrom : List ℕ → ℕ → ℕ → List ℕ
 bytesFrom t zero i = []
 bytesFrom t (suc m) i = bytesAt t i ++ bytesFrom t m (i + 1)
+
+-- bytes x stand from a position on once whatever follows them has been put, two bytes at least: until then these may be any
+abbrev pub Begun : List ℕ → ℕ → List ℕ → List ℕ → ℕ → Type 0
+Begun out at x out' next = (y : List ℕ) → 2 ≤ length y → at + length x + length y ≤ length out → put out' next y ≡ put out at (x ++ y)

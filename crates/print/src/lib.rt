@@ -7,8 +7,9 @@ ghost use lib.ListN.{length};
 ghost use Rattle.plan.specs.Circuit.{rowsOf, gateOf};
 ghost use Rattle.plan.specs.Bytes.{endOf, linesOf};
 ghost use Rattle.plan.specs.Binary.{gateBytes};
+ghost use Rattle.plan.specs.Difference.{groupsOf};
 ghost use Rattle.plan.specs.Outcome.{put};
-ghost use Rattle.print.specs.Words.{following, wordBytes, sidesBytes};
+ghost use Rattle.print.specs.Words.{Begun, following, wordBytes, sidesBytes};
 use codec::differences;
 use codec::numbers;
 use plan::Lit;
@@ -126,6 +127,44 @@ fn write_gate(out: &mut [u8], at: usize, lhs: u32, rhs0: u32, rhs1: u32) -> usiz
     differences::put_groups(out, middle, above(rhs0, rhs1))
 }
 
+// The groups of a number that has three at most. Three bytes are stored always, since how many groups there are can't be foreseen and a
+// wrong guess is dear; what follows is put over those past the groups. The position after the groups.
+fn put_three(out: &mut [u8], at: usize, d: u32) -> usize
+    requires { ⌜ d < 2097152 ⌝ }
+    requires { ⌜ at + 3 ≤ length (now out) ⌝ }
+    ensures { λ r. ⌜ r ≡ at + length (groupsOf d) ⌝ }
+    ensures { λ r. ⌜ Begun (now (out .entry)) at (groupsOf d) (now (out .exit)) r ⌝ }
+{
+    let second = (d >= 128) as u32;
+    let third = (d >= 16384) as u32;
+    out[at] = (d & 0x7f | second << 7) as u8;
+    out[at + 1] = (d >> 7 & 0x7f | third << 7) as u8;
+    out[at + 2] = (d >> 14) as u8;
+    at + 1 + second as usize + third as usize
+}
+
+// One difference that two bytes more follow; the position after it.
+fn begin_difference(out: &mut [u8], at: usize, d: u32) -> usize
+    requires { ⌜ at + length (groupsOf d) + 2 ≤ length (now out) ⌝ }
+    ensures { λ r. ⌜ r ≡ at + length (groupsOf d) ⌝ }
+    ensures { λ r. ⌜ Begun (now (out .entry)) at (groupsOf d) (now (out .exit)) r ⌝ }
+{
+    if d < 2097152 {
+        return put_three(out, at, d);
+    }
+    differences::put_groups(out, at, d)
+}
+
+// One gate that another follows; the position after it.
+fn begin_gate(out: &mut [u8], at: usize, lhs: u32, rhs0: u32, rhs1: u32) -> usize
+    requires { ⌜ at + length (sidesBytes lhs rhs0 rhs1) + 2 ≤ length (now out) ⌝ }
+    ensures { λ r. ⌜ r ≡ at + length (sidesBytes lhs rhs0 rhs1) ⌝ }
+    ensures { λ r. ⌜ Begun (now (out .entry)) at (sidesBytes lhs rhs0 rhs1) (now (out .exit)) r ⌝ }
+{
+    let middle = begin_difference(out, at, above(lhs, rhs0));
+    begin_difference(out, middle, above(rhs0, rhs1))
+}
+
 // n gates of three words from a position on; the position after them.
 pub fn write_gates(out: &mut [u8], at: usize, gates: &[u32], n: usize) -> usize
     requires { ⌜ 3 * n ≤ length (now gates) ⌝ }
@@ -136,10 +175,14 @@ pub fn write_gates(out: &mut [u8], at: usize, gates: &[u32], n: usize) -> usize
 {
     let mut next = at;
     let mut i = 0;
-    while i < n {
+    while i + 1 < n {
         let k = 3 * i;
-        next = write_gate(out, next, gates[k], gates[k + 1], gates[k + 2]);
+        next = begin_gate(out, next, gates[k], gates[k + 1], gates[k + 2]);
         i += 1;
     }
-    next
+    if i == n {
+        return next;
+    }
+    let last = 3 * i;
+    write_gate(out, next, gates[last], gates[last + 1], gates[last + 2])
 }

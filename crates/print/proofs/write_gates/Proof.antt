@@ -1,7 +1,8 @@
--- Each turn writes one gate.
+-- Each turn writes one gate that another follows; the last one is written by itself.
 use Prim.Native.Nat.{_-_}
+use native.Mathlib.Omega.{arith}
 use borrow.Author.Needs.{needs}
-use Rattle.print.proofs.Gates.{Printed, none-printed, gate-fits, one-printed, all-printed, all-passed}
+use Rattle.print.proofs.Gates.{Printed, none-printed, gate-fits, followed-fits, one-printed, one-begun, all-printed, all-passed}
 use Rattle.print.proofs.write_gates.Statement.{statement}
 use Rattle.print.proofs.write_gates.Tie as tie
 
@@ -17,8 +18,71 @@ loop-holds c =
     let a = start .args in
     none-printed (a .gates .now) (a .n) (a .out .now) (a .at) (start .pre .1 .1)
 
+add-loop : tie.Need-add-loop Inv-loop μ-loop
+add-loop c = search needs
+
 mul-k : tie.Need-mul-k Inv-loop μ-loop
 mul-k c = search needs
+
+mul-begin-gate : tie.Need-mul-begin-gate Inv-loop μ-loop
+mul-begin-gate c = search needs
+
+shared-slice-read-begin-gate : tie.Need-shared-slice-read-begin-gate Inv-loop μ-loop
+shared-slice-read-begin-gate c = search needs
+
+add-begin-gate : tie.Need-add-begin-gate Inv-loop μ-loop
+add-begin-gate c = search needs
+
+mul-begin-gate-2 : tie.Need-mul-begin-gate-2 Inv-loop μ-loop
+mul-begin-gate-2 c = search needs
+
+shared-slice-read-begin-gate-2 : tie.Need-shared-slice-read-begin-gate-2 Inv-loop μ-loop
+shared-slice-read-begin-gate-2 c = search needs
+
+add-begin-gate-2 : tie.Need-add-begin-gate-2 Inv-loop μ-loop
+add-begin-gate-2 c = search needs
+
+mul-begin-gate-3 : tie.Need-mul-begin-gate-3 Inv-loop μ-loop
+mul-begin-gate-3 c = search needs
+
+shared-slice-read-begin-gate-3 : tie.Need-shared-slice-read-begin-gate-3 Inv-loop μ-loop
+shared-slice-read-begin-gate-3 c = search needs
+
+begin-gate-requires : tie.Need-begin-gate-requires Inv-loop μ-loop
+begin-gate-requires c κs =
+    let test = c .before .before .before .before in
+    let s = test .before .loop in
+    let a = test .before .before .before .before .args in
+    followed-fits (a .gates .now) (a .n) (a .out .now) (a .at) (s .out) (s .next) (s .i) (s .inv) (test .loop-test .taken)
+
+add-i : tie.Need-add-i Inv-loop μ-loop
+add-i c = search needs
+
+loop-less : tie.Need-loop-less Inv-loop μ-loop
+loop-less c = search needs
+
+loop-again : tie.Need-loop-again Inv-loop μ-loop
+loop-again c =
+    let wrote = c .before .before .begin-gate .ensures in
+    let test = c .before .before .before .before .before .before .before in
+    let s = test .before .loop in
+    let a = test .before .before .before .before .args in
+    one-begun (a .gates .now) (a .n) (a .out .now) (a .at) (s .out) (s .next) (s .i) (s .inv) _ _ (test .loop-test .taken)
+    (c .before .out .given) (wrote .0) (wrote .1)
+
+same-length : tie.Need-same-length Inv-loop μ-loop
+same-length c = c .before .before .loop .inv .fill .size
+
+returns : tie.Need-returns Inv-loop μ-loop
+returns c =
+    let s = c .before .before .loop in
+    let a = c .before .before .before .before .before .args in (
+      all-passed (a .gates .now) (a .n) (a .out .now) (a .at) (s .out) (s .next) (s .i) (s .inv) (omega (arith, c .if1 .taken)),
+      all-printed (a .gates .now) (a .n) (a .out .now) (a .at) (s .out) (s .next) (s .i) (s .inv) (omega (arith, c .if1 .taken)),
+    )
+
+mul-last : tie.Need-mul-last Inv-loop μ-loop
+mul-last c = search needs
 
 mul-write-gate : tie.Need-mul-write-gate Inv-loop μ-loop
 mul-write-gate c = search needs
@@ -47,34 +111,24 @@ shared-slice-read-write-gate-3 c = search needs
 write-gate-requires : tie.Need-write-gate-requires Inv-loop μ-loop
 write-gate-requires c κs =
     let test = c .before .before .before .before in
-    let s = test .before .loop in
-    let a = test .before .before .before .before .args in
-    gate-fits (a .gates .now) (a .n) (a .out .now) (a .at) (s .out) (s .next) (s .i) (s .inv) (test .loop-test .taken)
+    let s = test .before .before .loop in
+    let a = test .before .before .before .before .before .args in
+    gate-fits (a .gates .now) (a .n) (a .out .now) (a .at) (s .out) (s .next) (s .i) (s .inv) (omega (arith, test .if1 .left, s .inv .bound))
 
-add-i : tie.Need-add-i Inv-loop μ-loop
-add-i c = search needs
+same-length-2 : tie.Need-same-length-2 Inv-loop μ-loop
+same-length-2 c = search needs
 
-loop-less : tie.Need-loop-less Inv-loop μ-loop
-loop-less c = search needs
-
-loop-again : tie.Need-loop-again Inv-loop μ-loop
-loop-again c =
-    let wrote = c .before .before .write-gate .ensures in
+returns-2 : tie.Need-returns-2 Inv-loop μ-loop
+returns-2 c =
+    let wrote = c .before .before .write-gate in
     let test = c .before .before .before .before .before .before .before in
-    let s = test .before .loop in
-    let a = test .before .before .before .before .args in
-    one-printed (a .gates .now) (a .n) (a .out .now) (a .at) (s .out) (s .next) (s .i) (s .inv) _ _ (test .loop-test .taken)
-    (wrote .1) (wrote .0)
-
-same-length : tie.Need-same-length Inv-loop μ-loop
-same-length c = c .before .loop .inv .fill .size
-
-returns : tie.Need-returns Inv-loop μ-loop
-returns c =
-    let s = c .before .loop in
-    let a = c .before .before .before .before .args in (
-      all-passed (a .gates .now) (a .n) (a .out .now) (a .at) (s .out) (s .next) (s .i) (s .inv) (c .loop-test .left),
-      all-printed (a .gates .now) (a .n) (a .out .now) (a .at) (s .out) (s .next) (s .i) (s .inv) (c .loop-test .left),
+    let s = test .before .before .loop in
+    let a = test .before .before .before .before .before .args in
+    let done = one-printed (a .gates .now) (a .n) (a .out .now) (a .at) (s .out) (s .next) (s .i) (s .inv) (wrote .last .0) (wrote .result)
+    (omega (arith, test .if1 .left, s .inv .bound))
+    (wrote .ensures .1) (wrote .ensures .0) in (
+      all-passed (a .gates .now) (a .n) (a .out .now) (a .at) _ _ _ done (test .before .loop-test .left),
+      all-printed (a .gates .now) (a .n) (a .out .now) (a .at) _ _ _ done (test .before .loop-test .left),
     )
 
 pub write-gates-spec : {M : Type 1} → statement M
@@ -84,7 +138,23 @@ write-gates-spec =
     Inv-loop
     μ-loop
     loop-holds
+    add-loop
     mul-k
+    mul-begin-gate
+    shared-slice-read-begin-gate
+    add-begin-gate
+    mul-begin-gate-2
+    shared-slice-read-begin-gate-2
+    add-begin-gate-2
+    mul-begin-gate-3
+    shared-slice-read-begin-gate-3
+    begin-gate-requires
+    add-i
+    loop-less
+    loop-again
+    same-length
+    returns
+    mul-last
     mul-write-gate
     shared-slice-read-write-gate
     add-write-gate
@@ -94,8 +164,5 @@ write-gates-spec =
     mul-write-gate-3
     shared-slice-read-write-gate-3
     write-gate-requires
-    add-i
-    loop-less
-    loop-again
-    same-length
-    returns)
+    same-length-2
+    returns-2)

@@ -1,5 +1,4 @@
 -- The number of groups, from the number of bits.
-use borrow.Author.Needs.{needs}
 use native.Mathlib.Omega.{arith}
 use lib.Bits.{bitOr}
 use lib.Count.{leading-le}

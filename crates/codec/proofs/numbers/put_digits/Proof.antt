@@ -1,9 +1,9 @@
 -- The loop keeps the digits of the whole number; the measure is what is left of it.
 use mathlib.Core.Path.{ap}
-use Prim.Native.Nat.{ℕ, _+_, _≤_}
+use Prim.Native.Nat.{ℕ, _+_}
 use native.Mathlib.Omega.{arith}
 use borrow.Author.Needs.{needs}
-use lib.ListN.{length, length-set}
+use lib.ListN.{length-set}
 use Rattle.codec.proofs.numbers.Filling.{Filling, starts, wide, begun, inside, step, ends}
 use Rattle.codec.proofs.numbers.put_digits.Statement.{statement}
 use Rattle.codec.proofs.numbers.put_digits.Tie as tie
