@@ -41,18 +41,32 @@ const SLIPS: [Slip; 11] = [
     Slip::WordsOfTheWholeFile,
 ];
 
-struct Slipping {
-    slip: Slip,
+/// A library that answers by a function.
+struct Slipping<F> {
+    answers: F,
     asked: RefCell<VecDeque<Question>>,
 }
 
-impl Library for Slipping {
+impl<F> Slipping<F> {
+    fn new(answers: F) -> Self {
+        let asked = RefCell::default();
+        Slipping { answers, asked }
+    }
+}
+
+impl<F: Fn(Question) -> Result<Reply, String>> Library for Slipping<F> {
     fn ask(&self, question: Question) {
         self.asked.borrow_mut().push_back(question);
     }
 
     fn reply(&self) -> Result<Reply, String> {
         let question = self.asked.borrow_mut().pop_front().expect("a question was asked");
+        (self.answers)(question)
+    }
+}
+
+impl Slip {
+    fn answers(self, question: Question) -> Result<Reply, String> {
         let Question::File(FileQuestion {
             file,
             words,
@@ -63,28 +77,26 @@ impl Library for Slipping {
         };
         let words = words.into_iter().map(|table| self.words(&file, table)).collect();
         let read = self.read(&file, tables.each_mut().map(Memory::lent_mut));
-        if self.slip == Slip::WritesBeside {
+        if self == Slip::WritesBeside {
             let Memory { all, margin } = &mut tables[0];
             all.iter_mut().rev().take(*margin).for_each(|word| *word = 0);
         }
         Ok(Reply::File(FileReply { words, read, tables }))
     }
-}
 
-impl Slipping {
-    fn words(&self, file: &[u8], table: u64) -> u64 {
+    fn words(self, file: &[u8], table: u64) -> u64 {
         let words = read::words(file, table);
         let refused = words != u64::MAX && read::read(file, &[u64::MAX; 5]).is_err();
-        match self.slip {
+        match self {
             Slip::WordsOfTheWholeFile if refused => u64::MAX,
             _ => words,
         }
     }
 
-    fn read(&self, file: &[u8], mut lent: [&mut [u32]; 5]) -> ReadAnswer {
+    fn read(self, file: &[u8], mut lent: [&mut [u32]; 5]) -> ReadAnswer {
         let lengths = lent.each_ref().map(|table| table.len() as u64);
         let answer = read::read(file, &lengths);
-        let slip = self.slip;
+        let slip = self;
         if slip != Slip::TablesLeftAfterRefusal || answer.is_ok() {
             lent.iter_mut().for_each(|table| table.fill(0));
         }
@@ -159,10 +171,7 @@ pub fn run(tally: &mut Tally, seed: u64) {
 
 /// The first difference that a slip makes.
 fn notices(slip: Slip, seed: u64) -> Option<String> {
-    let library = Slipping {
-        slip,
-        asked: RefCell::default(),
-    };
+    let library = Slipping::new(|question| slip.answers(question));
     (0..CASES).find_map(|number| {
         let case = generate::case(seed, number);
         let answer = read::read(&case.file, &case.lengths);

@@ -3,13 +3,12 @@
 mod slips;
 mod vectors;
 
+use super::Slipping;
 use crate::compare::tables::{after, ask, judge};
 use crate::generate::given;
-use crate::library::{Call, Library, Question, Reply};
+use crate::library::{Call, Question, Reply};
 use crate::tally::Tally;
 use slips::{Slip, ANY, CHANGES, WRITERS};
-use std::cell::RefCell;
-use std::collections::VecDeque;
 use vectors::{STEPPER, WITNESS};
 
 fn slips(call: Call) -> Vec<(&'static str, Slip)> {
@@ -22,24 +21,13 @@ fn slips(call: Call) -> Vec<(&'static str, Slip)> {
     }
 }
 
-struct Slipping {
-    slip: Slip,
-    asked: RefCell<VecDeque<Question>>,
-}
-
-impl Library for Slipping {
-    fn ask(&self, question: Question) {
-        self.asked.borrow_mut().push_back(question);
-    }
-
-    fn reply(&self) -> Result<Reply, String> {
-        let Some(Question::Tables(call, before)) = self.asked.borrow_mut().pop_front() else {
-            return Err("only calls on tables are answered here".to_string());
-        };
-        let mut lent = after(call, &before);
-        (self.slip)(&before, &mut lent);
-        Ok(Reply::Tables(lent))
-    }
+fn answers(slip: Slip, question: Question) -> Result<Reply, String> {
+    let Question::Tables(call, before) = question else {
+        return Err("only calls on tables are answered here".to_string());
+    };
+    let mut lent = after(call, &before);
+    slip(&before, &mut lent);
+    Ok(Reply::Tables(lent))
 }
 
 /// How many of the first cases must do to notice a slip.
@@ -59,10 +47,7 @@ pub fn run(tally: &mut Tally, seed: u64) {
 
 /// The first difference that a slip makes.
 fn notices(call: Call, slip: Slip, seed: u64) -> Option<String> {
-    let library = Slipping {
-        slip,
-        asked: RefCell::default(),
-    };
+    let library = Slipping::new(|question| answers(slip, question));
     (0..CASES).find_map(|number| {
         let lent = given::case(call, seed, number).lent;
         ask(&library, call, &lent);
