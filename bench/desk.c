@@ -168,6 +168,17 @@ static int stepped_same(struct work *w) {
     return same;
 }
 
+static int filed_same(struct work *w) {
+    desk_file(w);
+    size_t length = w->answer[2];
+    uint8_t *kept = room(length);
+    memcpy(kept, w->out, length);
+    base_file(w);
+    int same = w->base_length == length && memcmp(kept, w->out, length) == 0;
+    free(kept);
+    return same;
+}
+
 /* Every output is 0, so that no step ends the question early. */
 static void never_one(struct work *w) {
     memset(w->given.table[OUTPUTS], 0, 4 * w->given.counts[O]);
@@ -179,7 +190,7 @@ static int was_never_one(struct work *w) {
 }
 
 #define BASE(f) {#f, base_##f, 0}
-enum { READ_BINARY, READ_TEXT, WRITE_BINARY, WRITE_TEXT, CONVERT, REDUCE, STEP, WITNESS, ORDER, TASKS };
+enum { READ_BINARY, READ_TEXT, WRITE_BINARY, WRITE_TEXT, CONVERT, REDUCE, STEP, WITNESS, ORDER, FILES, TASKS };
 static const struct task tasks[TASKS] = {
     {"read binary", desk_read, {BASE(decodec), BASE(decode)}, clear_written, NULL, base_encode, read_same, 2.0, 1},
     {"read text", desk_read, {BASE(textq), BASE(textc), BASE(text)}, clear_written, NULL, base_print, read_same, 2, 1},
@@ -189,7 +200,8 @@ static const struct task tasks[TASKS] = {
     {"reduce", desk_reduce, {BASE(strash)}, clear_written, desk_check, NULL, reduced_same, 2.0, 1},
     {"step", desk_step, {BASE(step3)}, clear_scratch, desk_check, NULL, stepped_same, 1.5, 1},
     {"one of 8 steps", desk_witness, {BASE(steps)}, clear_scratch, desk_check, never_one, was_never_one, 0, STEPS},
-    {"convert", desk_convert, {BASE(convert)}, NULL, NULL, NULL, converted_same, 2.5, 1}};
+    {"convert", desk_convert, {BASE(convert)}, NULL, NULL, NULL, converted_same, 2.5, 1},
+    {"convert a file", desk_file, {BASE(file)}, NULL, NULL, base_print, filed_same, 2.5, 1}};
 
 static struct circuit random_one(uint32_t gates) {
     return random_circuit(gates, 12);
@@ -261,6 +273,7 @@ static void time_all(int pass) {
     for (size_t k = 0; k < order_count; k++) {
         struct work w = work_of(&orders[k], sizes[SIZES - 1]);
         run(&tasks[ORDER], &orders[k], &w, pass);
+        run(&tasks[FILES], &orders[k], &w, pass);
         free_work(&w);
     }
 }
@@ -295,7 +308,7 @@ static void print_results(void) {
     printf("|---|---|--:|--:|--:|--:|--:|--:|---|\n");
     for (const struct result *r = results; r < results + result_count; r++) {
         const struct task *t = r->task;
-        if (t == &tasks[ORDER])
+        if (t >= &tasks[ORDER])
             continue;
         first = r->gates == sizes[0] ? r->desk : first;
         printf("| %s | %s | %llu | %.1f | %.1f | %s %.1f | %s | %s | ", t->name, r->kind->name,
@@ -312,7 +325,7 @@ static void print_split(void) {
     printf("|---|---|--:|--:|--:|--:|--:|--:|\n");
     for (const struct result *r = results; r < results + result_count; r++) {
         double rest = r->desk - r->checks;
-        if (r->task == &tasks[ORDER])
+        if (r->task >= &tasks[ORDER])
             continue;
         printf("| %s | %s | %llu | %.1f | %.1f | ", r->task->name, r->kind->name, (unsigned long long)r->gates, r->desk,
                r->clears);
@@ -323,12 +336,12 @@ static void print_split(void) {
     }
 }
 
-static void print_orders(void) {
+static void print_orders(int of, const char *heading) {
     const struct result *first = NULL;
-    printf("\n| shape | order | ns/gate | to binary order | baseline | its own to binary order | ratio |\n");
+    printf("\n| shape | order | %s, ns/gate | to binary order | baseline | its own to binary order | ratio |\n", heading);
     printf("|---|---|--:|--:|--:|--:|--:|\n");
     for (size_t k = 0; k < order_count; k++) {
-        const struct result *r = result_of(&tasks[ORDER], &orders[k], sizes[SIZES - 1]);
+        const struct result *r = result_of(&tasks[of], &orders[k], sizes[SIZES - 1]);
         first = orders[k].order == in_order ? r : first;
         printf("| %s | %s | %.1f | %s | %.1f | %.2f | %s |\n", r->kind->of, r->kind->name, r->desk,
                marked(r->desk / first->desk, 10), r->base[0], r->base[0] / first->base[0],
@@ -362,7 +375,8 @@ int main(void) {
     qsort(results, (size_t)result_count, sizeof results[0], in_rows);
     print_results();
     print_split();
-    print_orders();
+    print_orders(ORDER, "tables");
+    print_orders(FILES, "file");
     print_noise();
     return 0;
 }

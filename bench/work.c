@@ -111,6 +111,22 @@ void base_steps(struct work *w) {
         step3(&w->base, &w->given, w->state, w->ins + k * w->given.counts[I], w->outs);
 }
 
+void desk_file(struct work *w) {
+    uint64_t counts[5];
+    desk_read(w);
+    memcpy(counts, w->answer + 2, sizeof counts);
+    golvanzo_convert(counts, TABLES(w->made), TABLES(w->base_made), SCRATCH(w), w->answer);
+    memcpy(counts, w->answer + 2, sizeof counts);
+    golvanzo_write_binary(counts, TABLES(w->base_made), SCRATCH(w), NULL, 0, w->out, w->out_length, w->answer);
+}
+
+void base_file(struct work *w) {
+    if (textc(w->file, w->file + w->file_length, &w->base, &w->made, 1) != w->file + w->file_length)
+        give_up("textq refuses");
+    convert(&w->base, &w->made, &w->base_made);
+    w->base_length = encode(&w->base_made, w->out);
+}
+
 void clear_scratch(struct work *w) {
     memset(w->scratch, 0, 4 * w->scratch_length);
     __asm__ volatile("" ::: "memory");

@@ -11,7 +11,7 @@ enum { STEPS = 8 };
 struct work {
     struct circuit given, made, base_made;
     uint32_t *scratch;
-    size_t scratch_length, file_length, out_length;
+    size_t scratch_length, file_length, out_length, base_length;
     uint8_t *file, *out, *state, *ins, *outs;
     uint64_t answer[7];
     struct base base;
@@ -26,12 +26,13 @@ void free_work(struct work *w);
 
 typedef void call(struct work *);
 
-/* The desk. */
-call desk_read, desk_check, desk_write_text, desk_write_binary, desk_convert, desk_reduce, desk_step, desk_witness;
+/* The desk. desk_file reads a text file, converts it and writes it as binary. */
+call desk_read, desk_check, desk_write_text, desk_write_binary, desk_convert, desk_reduce, desk_step, desk_witness,
+    desk_file;
 
 /* The baseline; a reader that refuses ends the run. */
 call base_decode, base_decodec, base_text, base_textc, base_textq, base_print, base_encode, base_convert, base_strash,
-    base_step3, base_steps;
+    base_step3, base_steps, base_file;
 
 /* What the contracts ask to be cleared: the scratch, and the tables that are written. */
 call clear_scratch, clear_written;
