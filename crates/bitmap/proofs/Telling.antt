@@ -1,11 +1,11 @@
 -- Whether a place of a bitmap is on: by its word, and after a place is raised.
-use mathlib.Core.Path.{_≡_, refl, ap, _∙_, subst}
+use mathlib.Core.Path.{_≡_, refl, ap}
 use mathlib.Core.Bool.{Bool, true, false}
 use mathlib.Core.List.{List}
 use Prim.Native.Nat.{ℕ, _+_, _/_, _%_, _^_, _<_}
 use native.Mathlib.Nat.{zero-div}
 use native.Mathlib.Omega.{arith}
-use borrow.Author.Tests.{eq-eqb, ne-eqb, eqb-true, eqb-false}
+use borrow.Author.Tests.{eq-eqb, eqb-true, eqb-false}
 use lib.Bits.{bitOr}
 use lib.Dec.{eqb}
 use lib.ListN.{length, getD, set}
@@ -15,7 +15,7 @@ use Rattle.bitmap.proofs.Words.{or-other}
 use Rattle.bitmap.proofs.Places.{raised-here}
 
 -- the bit of a word tells
-pub told-on : (t : List ℕ) (p i : ℕ) → OnAt t p i → isOn t p i ≡ true
+told-on : (t : List ℕ) (p i : ℕ) → OnAt t p i → isOn t p i ≡ true
 unfolding OnAt On isOn
 told-on t p i h = eq-eqb _ 1 h
 

@@ -1,6 +1,6 @@
 -- Marks of variables: looked up, set, and what they agree with.
 use Prim.Native.Nat.{ℕ}
-use mathlib.Core.Path.{_≡_, refl, sym, ap, _∙_}
+use mathlib.Core.Path.{_≡_, refl, sym, _∙_}
 use mathlib.Core.Bool.{Bool, true, false}
 use mathlib.Core.List.{List}
 use Rattle.bitmap.specs.Bitmap.{isOn, raised}
