@@ -1,5 +1,5 @@
 use mathlib.Core.Path.{sym, _∙_}
-use mathlib.Core.Bool.{Bool, true, false, false≢true}
+use mathlib.Core.Bool.{false≢true}
 use borrow.Author.Needs.{needs}
 use Rattle.closing.proofs.needs_no_order.Statement.{statement}
 use Rattle.closing.proofs.needs_no_order.Tie as tie
