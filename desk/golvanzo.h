@@ -6,6 +6,10 @@
 #include <stddef.h>
 #include <stdint.h>
 
+#ifdef __cplusplus
+extern "C" {
+#endif
+
 /* How many words table 1 to 5 needs for the file's header; 2^64 - 1 if there is no such table or the header is refused. */
 uint64_t golvanzo_words(const uint8_t *file, size_t file_len, uint64_t table);
 
@@ -59,5 +63,9 @@ void golvanzo_witness(const uint64_t *counts /* 5 words */, const uint32_t *inpu
                       size_t n2, const uint32_t *outputs, size_t n3, const uint32_t *gates, size_t n4,
                       uint32_t *scratch, size_t n5, uint64_t number, const uint8_t *bytes, size_t bytes_len,
                       uint64_t *answer /* 3 words */);
+
+#ifdef __cplusplus
+}
+#endif
 
 #endif
