@@ -151,6 +151,7 @@ programs =
     ∷ (tracer (some (bytesOf "aag 0 0 0 0 0\n")) (some (bytesOf "\n\n")), bytesOf "   \n   \n")
     ∷ (tracer (some (bytesOf "aag 2 1 0 1 1\n2\n5\n4 2 3\n")) (some (bytesOf "x\n0\n")), bytesOf " x x \n 0 1 \n")
     ∷ (converter (some (converter (some (converter (some toggle))))), converter (some toggle))
+    ∷ (converter (some (bytesOf "aag 5 2 0 1 3\n2\n4\n6\n6 8 2\n8 2 4\n10 2 5\n")), bytesOf "aig 5 2 0 1 3\n8\n" ++ (2 ∷ 2 ∷ 2 ∷ 4 ∷ 5 ∷ 3 ∷ []))
     ∷ (reducer (some (bytesOf "aag 2 1 0 1 1\n2\n5\n4 2 3\ni0 a\n")), bytesOf "aig 1 1 0 1 0\n1\ni0 a\n")
     ∷ []
 
