@@ -24,7 +24,7 @@ use Rattle.gates.proofs.Spreading.{spread-held}
 use Rattle.order.specs.Numbers.{NumTable, InTable, InRange}
 use Rattle.order.proofs.Conversion.{gates-count, numbers-of}
 use Rattle.order.proofs.Spaces.{all-places, gates-inside}
-use Rattle.convert.specs.Renumbered.{Known, wordAt, columnBy, Placeable, Whole}
+use Rattle.renumber.specs.Renumbered.{Known, wordAt, columnBy, Placeable, Whole}
 use Rattle.convert.specs.Ready.{Ready}
 use Rattle.convert.proofs.Known.{known, literals-by}
 use Rattle.convert.proofs.Rows.{nexts-column, outputs-column}

@@ -18,7 +18,7 @@ use Rattle.theorems.proofs.Running.Scan.{every-gate}
 use Rattle.order.specs.Numbers.{NumTable}
 use Rattle.order.specs.Waiting.{Fresh}
 use Rattle.order.proofs.Settling.{small-words}
-use Rattle.convert.specs.Renumbered.{literalBy, Known}
+use Rattle.renumber.specs.Renumbered.{literalBy, Known}
 
 module _ (c : Circuit) (ok : Accepted c) (m : ℕ) (few : inner c + length (c .gates) < 2147483648) (t : List ℕ) (long : m < length t)
     (tab : NumTable (numbered c) (take (m + 1) t)) where

@@ -1,9 +1,6 @@
-pub mod Literals
-pub mod Columns
 pub mod Rows
 pub mod Different
 pub mod Places
-pub mod Placing
 pub mod Known
 pub mod Made
 pub mod Whole

@@ -18,7 +18,7 @@ use Rattle.theorems.proofs.Running.Converted.{length-leaves, length-renumberGat
 use Rattle.theorems.proofs.Running.Found.{Sides, sides-in}
 use Rattle.theorems.proofs.Writing.Holding.{length-gate-words}
 use Rattle.order.specs.Numbers.{NumTable, InRange}
-use Rattle.convert.specs.Renumbered.{numberIn, literalBy, gateBy, rowOf, Placeable, Whole}
+use Rattle.renumber.specs.Renumbered.{numberIn, literalBy, gateBy, rowOf, Placeable, Whole}
 use Rattle.convert.proofs.Known.{known, number-by, literal-by}
 use Rattle.convert.proofs.Places.{placeAt, sorted-count, at-each, left-has, number-is, place-below, gate-there, every-place}
 use Rattle.convert.proofs.Made.{gate-at, gate-renumbered, past-put}

@@ -1,2 +1,1 @@
-pub mod Renumbered
 pub mod Ready

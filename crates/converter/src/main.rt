@@ -1,5 +1,5 @@
 // Writes plan.in in its other form to standard output, or the line of the refusal
-// (the paper, programs). 14, 13, the reader's refusals, 4 and 11 are decided by crate whole.
+// (the paper, programs). 14, 13, the reader's refusals, 4 and 11 are decided by crate converting.
 fn main() {
     let mut file = [0u8; 65537];
     let plan = office::read_plan(&mut file);
@@ -14,7 +14,7 @@ fn main() {
     let mut made_gates = [0u32; 4096];
     let mut scratch = [0u32; 16384];
     let mut out = [0u8; 65536];
-    let answer = whole::convert_whole(
+    let answer = converting::convert_whole(
         office::readable(plan),
         &file[0..n],
         &mut inputs,

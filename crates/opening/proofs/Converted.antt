@@ -15,8 +15,8 @@ use Rattle.plan.specs.Outcome.{MakeEntry, MakeExit, madeBy, conversion}
 use Rattle.plan.specs.Programs.{input}
 use Rattle.plan.specs.Whole.{WholeEntry, OpenExit, inputOf, loaded, openBy, openWhole}
 use Rattle.read.proofs.Loads.{same-cleared}
-use Rattle.whole.specs.Opening.{OpenEntry, opened, Ready}
-use Rattle.whole.proofs.Writes.{converts}
+use Rattle.intake.specs.Opening.{OpenEntry, opened, Ready}
+use Rattle.intake.proofs.Writes.{converts}
 use Rattle.opening.specs.Leaving.{leftBy}
 
 -- a conversion that does not refuse

@@ -4,12 +4,12 @@ ghost use mathlib.Core.List.{[]};
 ghost use Rattle.plan.specs.Outcome.{Says};
 ghost use Rattle.plan.specs.Whole.{inputOf, openWhole};
 ghost use Rattle.opening.specs.Leaving.{leftBy};
+use intake::open_file;
 use plan::Loaded;
 use plan::Made;
 use tables::Sizes;
 use tables::clear;
 use tables::clear_four;
-use whole::open_file;
 
 // The circuit of a file, converted into the tables to make one in; or a refusal, after which those are zero. The tables that the file was
 // read into hold what was left in them.

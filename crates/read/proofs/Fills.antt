@@ -26,8 +26,8 @@ use Rattle.theorems.proofs.Reading.Short.{short-none}
 use Rattle.theorems.proofs.Reading.Texts.{text-took}
 use Rattle.theorems.proofs.Reading.Binaries.{binary-took}
 use Rattle.header.specs.Parts.{formOf}
-use Rattle.read.specs.Rest.{rest, Room, lengths, LoadedSays}
-use Rattle.read.proofs.After.{body-passed, body-refused}
+use Rattle.rest.specs.Rest.{rest, Room, lengths, LoadedSays}
+use Rattle.rest.proofs.After.{body-passed, body-refused}
 
 -- the counts of what is read are the header's
 body-counts : (file : List ℕ) → Bytes file → (f : Form) (n : Counts) (at : ℕ) (c : Circuit) (e : ℕ) → adds f n ≡ true → body file f n at ≡ got c e → countsOf c ≡ n

@@ -13,7 +13,7 @@ use Rattle.plan.specs.Circuit.{Circuit, Tables, cleared, allCleared}
 use Rattle.plan.specs.Reading.{readFile}
 use Rattle.plan.specs.Outcome.{ReadEntry, load, loadBy}
 use Rattle.theorems.proofs.Held.{holds-filled}
-use Rattle.read.specs.Rest.{LoadedSays, lengths}
+use Rattle.rest.specs.Rest.{LoadedSays, lengths}
 
 -- clearing keeps the lengths
 pub lengths-cleared : (t : Tables) (scratch : List ℕ) → lengths (allCleared t) (cleared scratch) ≡ lengths t scratch

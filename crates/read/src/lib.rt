@@ -1,118 +1,27 @@
 // Reading a file of either form.
 ghost use mathlib.Core.Path.{_≡_};
 ghost use mathlib.Core.Bool.{true};
-ghost use Prim.Native.Nat.{ℕ, _+_, _≤_};
+ghost use Prim.Native.Nat.{ℕ};
 ghost use lib.ListN.{getD};
-ghost use Rattle.plan.specs.Header.{text, binary, adds};
+ghost use Rattle.plan.specs.Header.{binary, adds};
 ghost use Rattle.plan.specs.Reading.{readFile};
 ghost use Rattle.plan.specs.Outcome.{Says, load, read};
 ghost use Rattle.theorems.proofs.Held.{BodySays};
 ghost use Rattle.header.specs.Parts.{formOf};
-ghost use Rattle.read.specs.Rest.{rest, Room, lengths, LoadedSays};
-use binary::read_binary;
+ghost use Rattle.rest.specs.Rest.{rest, Room, lengths, LoadedSays};
 use header::read_header;
-use plan::Checked;
 use plan::Counts;
 use plan::Headed;
 use plan::Loaded;
 use plan::Passed;
 use plan::Refusal;
+use rest::rest_of_binary;
+use rest::rest_of_text;
 use tables::clear;
 use tables::clear_four;
 use tables::too_short;
-use text::read_text;
 use told::no_counts;
 use told::tell;
-
-// What follows the header of a text file: the body, the tail, then 7 and 8. Marks of symbols stand at the start of the scratch, marks of
-// variables after them.
-fn rest_of_text(
-    file: &[u8],
-    at: usize,
-    n: Counts,
-    inputs: &mut [u32],
-    latches: &mut [u32],
-    outputs: &mut [u32],
-    gates: &mut [u32],
-    scratch: &mut [u32],
-) -> Passed
-    requires { ⌜ Room n (record { inputs = now inputs; latches = now latches; outputs = now outputs; gates = now gates }) (now scratch) ⌝ }
-    requires { ⌜ n .I + n .L + n .A ≤ n .M ⌝ }
-    ensures { λ r. ⌜ BodySays
-        (record { inputs = now (inputs .entry); latches = now (latches .entry); outputs = now (outputs .entry); gates = now (gates .entry) })
-        (rest (now (file .entry)) text n at) r
-        (record { inputs = now (inputs .exit); latches = now (latches .exit); outputs = now (outputs .exit); gates = now (gates .exit) }) ⌝ }
-{
-    let base = n.I + n.L + n.O;
-    let read = read_text(
-        file,
-        at,
-        n,
-        inputs,
-        latches,
-        outputs,
-        gates,
-        &mut scratch[base..],
-    );
-    let Passed::To(next) = read else {
-        return read;
-    };
-    match tail::check(file, next, n, &mut scratch[0..base]) {
-        Checked::Refused(r) => Passed::Refused(r),
-        Checked::Good => match closing::check(
-            n,
-            inputs,
-            latches,
-            outputs,
-            gates,
-            scratch,
-            base,
-            false,
-        ) {
-            Checked::Refused(r) => Passed::Refused(r),
-            Checked::Good => Passed::To(next),
-        },
-    }
-}
-
-// What follows the header of a binary file: the body and the tail. Marks of symbols stand at the start of the scratch. The order of its
-// variables leaves nothing to 7 and 8.
-fn rest_of_binary(
-    file: &[u8],
-    at: usize,
-    n: Counts,
-    inputs: &mut [u32],
-    latches: &mut [u32],
-    outputs: &mut [u32],
-    gates: &mut [u32],
-    scratch: &mut [u32],
-) -> Passed
-    requires { ⌜ Room n (record { inputs = now inputs; latches = now latches; outputs = now outputs; gates = now gates }) (now scratch) ⌝ }
-    requires { ⌜ n .I + n .L + n .A ≡ n .M ⌝ }
-    ensures { λ r. ⌜ BodySays
-        (record { inputs = now (inputs .entry); latches = now (latches .entry); outputs = now (outputs .entry); gates = now (gates .entry) })
-        (rest (now (file .entry)) binary n at) r
-        (record { inputs = now (inputs .exit); latches = now (latches .exit); outputs = now (outputs .exit); gates = now (gates .exit) }) ⌝ }
-{
-    let base = n.I + n.L + n.O;
-    let read = read_binary(
-        file,
-        at,
-        n,
-        inputs,
-        latches,
-        outputs,
-        gates,
-        &mut scratch[base..],
-    );
-    let Passed::To(next) = read else {
-        return read;
-    };
-    match tail::check(file, next, n, &mut scratch[0..base]) {
-        Checked::Refused(r) => Passed::Refused(r),
-        Checked::Good => Passed::To(next),
-    }
-}
 
 fn rest_of(
     binary: bool,

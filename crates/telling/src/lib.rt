@@ -5,9 +5,9 @@ ghost use lib.ListN.{length};
 ghost use Rattle.plan.specs.Bytes.{digits};
 ghost use Rattle.plan.specs.Outcome.{put};
 ghost use Rattle.plan.specs.Whole.{tellRefusal};
+use forms::append;
 use plan::Refusal;
 use plan::Written;
-use write::append;
 
 // How many digits a place has, which is any number of 64 bits.
 fn digits_in(n: usize) -> usize

@@ -24,7 +24,7 @@ use Rattle.plan.specs.Whole.{TraceEntry, TraceExit, traceStage, lineWidth, next
 use Rattle.theorems.proofs.Reading.Common.{and-left, and-right}
 use Rattle.codes.proofs.Places.{codesIn}
 use Rattle.step.proofs.Checks.{answer}
-use Rattle.trace.specs.Scan.{ended}
+use Rattle.stimulus.specs.Scan.{ended}
 use Rattle.trace.specs.Tracing.{Listed, Left, firstOnes, judged}
 
 -- what was judged

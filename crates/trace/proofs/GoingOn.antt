@@ -25,10 +25,10 @@ use Rattle.theorems.proofs.Writing.Stepping.{all-codes}
 use Rattle.codes.proofs.Places.{codesIn}
 use Rattle.given.specs.Judged.{allStages}
 use Rattle.step.proofs.Checks.{answer}
-use Rattle.trace.specs.Scan.{ended}
+use Rattle.stimulus.specs.Scan.{ended}
 use Rattle.trace.proofs.Answers.{bad}
 use Rattle.trace.proofs.InParts.{call, outcome, stages-none, vectors-good, whole, few-is, state-sized}
-use Rattle.trace.proofs.Passing.{ended-past}
+use Rattle.stimulus.proofs.Passing.{ended-past}
 use Rattle.trace.proofs.Together.{lines-past}
 
 -- whole lines past some of them

@@ -28,7 +28,7 @@ use Rattle.codes.proofs.Places.{codesIn}
 use Rattle.given.specs.Judged.{allStages}
 use Rattle.given.proofs.Sound.{Good, good-alone}
 use Rattle.step.proofs.Checks.{answer}
-use Rattle.trace.specs.Scan.{ended}
+use Rattle.stimulus.specs.Scan.{ended}
 use Rattle.trace.proofs.Answers.{bad}
 use Rattle.trace.proofs.Together.{traced-together, traced-length, after-length, all-sized, lines-past}
 

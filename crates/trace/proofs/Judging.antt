@@ -12,7 +12,7 @@ use Rattle.plan.specs.declared.Traced.the-variants.{Lines, Refused}
 use Rattle.plan.specs.Refusals.{got, refused}
 use Rattle.plan.specs.Programs.{linesIn, allVectors, stimulus}
 use Rattle.plan.specs.Whole.{countedBy}
-use Rattle.trace.specs.Scan.{ended}
+use Rattle.stimulus.specs.Scan.{ended}
 use Rattle.trace.specs.Tracing.{judged}
 
 -- whole lines, or some refusal

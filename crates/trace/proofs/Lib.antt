@@ -1,6 +1,3 @@
-pub mod Passing
-pub mod Scanning
-pub mod Counting
 pub mod Parts
 pub mod Writing
 pub mod Lines

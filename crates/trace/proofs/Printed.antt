@@ -20,7 +20,7 @@ use Rattle.plan.specs.Convert.{convert}
 use Rattle.plan.specs.Step.{Value, v0, valueOf, run, first}
 use Rattle.plan.specs.Programs.{lentWords, refusalLine, printed, input, linesIn, allVectors, stimulus, stepLines, tracer}
 use Rattle.plan.specs.Whole.{countedBy, countLines}
-use Rattle.trace.specs.Scan.{ended}
+use Rattle.stimulus.specs.Scan.{ended}
 use Rattle.trace.proofs.InParts.{values, Calls, calls-print}
 
 -- what is printed of standard input's lines

@@ -1,4 +1,4 @@
-// The run of a circuit as lines: standard input's lines counted, and a part of a run traced (the paper, programs and their output).
+// A part of a run as lines: state, inputs, outputs, next state (the paper, programs and their output).
 ghost use mathlib.Core.Path.{_≡_};
 ghost use mathlib.Core.Bool.{_&&_};
 ghost use mathlib.Core.List.{List, map};
@@ -8,84 +8,24 @@ ghost use lib.ListN.{length};
 ghost use Rattle.plan.specs.Literals.{most};
 ghost use Rattle.plan.specs.Step.{Value, valueOf};
 ghost use Rattle.plan.specs.Outcome.{Says, put, allCodes};
-ghost use Rattle.plan.specs.Programs.{linesIn, allVectors, stimulus};
-ghost use Rattle.plan.specs.Whole.{inputOf, countedBy, countLines, lineWidth, trace};
+ghost use Rattle.plan.specs.Programs.{linesIn, allVectors};
+ghost use Rattle.plan.specs.Whole.{lineWidth, trace};
 ghost use Rattle.tables.specs.Held.{circuitIn};
 ghost use Rattle.sweep.specs.Running.{Runs, Rests};
 ghost use Rattle.step.specs.Asked.{Blank};
-ghost use Rattle.trace.specs.Scan.{ended, scan};
+ghost use Rattle.stimulus.specs.Scan.{ended};
 ghost use Rattle.trace.specs.Tracing.{part, Resting, Wrote, Listed, firstOnes, Ran, Left, judged};
 use codes::codes_in;
-use codes::is_code;
 use given::check_in_order;
 use plan::Checked;
 use plan::Counts;
 use plan::Refusal;
 use plan::Traced;
+use stimulus::whole_lines;
 use sweep::step_values;
 use tables::clear;
 use values::load;
 use values::store;
-
-// Whether the last line has its end. No bytes are no line.
-fn ends(bytes: &[u8]) -> bool
-    ensures { λ r. ⌜ r ≡ ended (now (bytes .entry)) ⌝ }
-{
-    let n = bytes.len();
-    if n == 0 {
-        return true;
-    }
-    bytes[n - 1] == b'\n'
-}
-
-// The lines of `width` codes each, in one pass: past the width of a line only a new line can stand, and before it only a code.
-fn scan_lines(bytes: &[u8], width: usize) -> Traced
-    ensures { λ r. ⌜ r ≡ scan width 0 0 (now (bytes .entry)) ⌝ }
-{
-    let mut column = 0;
-    let mut number = 0;
-    let mut i = 0;
-    while i < bytes.len() {
-        let b = bytes[i];
-        if column == width {
-            if b != b'\n' {
-                return Traced::Refused(Refusal::BadVector(2));
-            }
-            column = 0;
-            number += 1;
-        } else {
-            if !is_code(b) {
-                return Traced::Refused(Refusal::BadVector(2));
-            }
-            column += 1;
-        }
-        i += 1;
-    }
-    Traced::Lines(number)
-}
-
-// The number of lines: 1 at the length where the last has no end, then 12 (the paper, programs and their output).
-fn whole_lines(bytes: &[u8], width: usize) -> Traced
-    ensures { λ r. ⌜ r ≡ countedBy (stimulus width (now (bytes .entry))) ⌝ }
-{
-    if !ends(bytes) {
-        return Traced::Refused(Refusal::WrongByte(bytes.len()));
-    }
-    scan_lines(bytes, width)
-}
-
-// The lines of standard input, each a vector of `width` codes: how many, by 14, 13, 1 and 12.
-pub fn count_lines(readable: bool, bytes: &[u8], width: usize) -> Traced
-    ensures { λ r. ⌜ r ≡ countLines (inputOf readable (now (bytes .entry))) width ⌝ }
-{
-    if !readable {
-        return Traced::Refused(Refusal::Unreadable(0));
-    }
-    if bytes.len() > 65536 {
-        return Traced::Refused(Refusal::LongInput(65536));
-    }
-    whole_lines(bytes, width)
-}
 
 // The codes of `count` words from `first` on, and the byte after them; the position past it.
 fn put_part(t: &[u32], first: usize, count: usize, last: u8, out: &mut [u8], at: usize) -> usize

@@ -80,7 +80,7 @@ fn trace_input(
     let size = office::size(input);
     let mut state = [b'0'; 4096];
     let wide = tables::shorter(n.L, 4096);
-    match trace::count_lines(office::readable(input), &bytes[0..size], n.I) {
+    match stimulus::count_lines(office::readable(input), &bytes[0..size], n.I) {
         Traced::Refused(r) => office::refuse(r),
         Traced::Lines(lines) => trace_all(
             n,

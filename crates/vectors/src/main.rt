@@ -130,7 +130,7 @@ fn show_converted(file: &[u8]) {
     let mut made_gates = [0u32; 64];
     let mut scratch = [0u32; 256];
     let mut out = [0u8; 512];
-    let answer = whole::convert_whole(
+    let answer = converting::convert_whole(
         true,
         file,
         &mut inputs,
@@ -159,7 +159,7 @@ fn show_reduced(file: &[u8]) {
     let mut made_gates = [0u32; 64];
     let mut scratch = [0u32; 256];
     let mut out = [0u8; 512];
-    let answer = whole::reduce_whole(
+    let answer = reducing::reduce_whole(
         true,
         file,
         &mut inputs,

@@ -17,8 +17,8 @@ use Rattle.theorems.proofs.Reading.Headers.{AllMost}
 use Rattle.theorems.proofs.Tables.{length-firsts, one-rows, latch-rows, gate-rows}
 use Rattle.tables.specs.Held.{circuitIn, Fits}
 use Rattle.given.proofs.Sound.{held-counts}
-use Rattle.write.specs.Forms.{headBytes, textBytes, binaryBytes, binaryOutputs, Printable}
-use Rattle.write.proofs.Copies.{nextAt, nexts-words}
+use Rattle.forms.specs.Forms.{headBytes, textBytes, binaryBytes, binaryOutputs, Printable}
+use Rattle.forms.proofs.Copies.{nextAt, nexts-words}
 
 nexts-count : (latches : List ℕ) (n : ℕ) → length (nexts (map latchOf (rowsOf 2 n latches))) ≡ n
 nexts-count latches n = ap length (sym (nexts-words latches n)) ∙ length-firsts (nextAt latches) n

@@ -1,3 +1,2 @@
 -- What the writers are stated with.
-pub mod Forms
 pub mod Judged

@@ -6,7 +6,7 @@ use borrow.Author.Needs.{needs}
 use Rattle.plan.specs.declared.Loaded.{Loaded}
 use Rattle.plan.specs.Circuit.{Tables, lengthsOf}
 use Rattle.read.proofs.Loads.{same-cleared}
-use Rattle.whole.specs.Opening.{OpenEntry, Opens}
+use Rattle.intake.specs.Opening.{OpenEntry, Opens}
 use Rattle.opening.proofs.Converted.{not-opened, opened-made}
 use Rattle.opening.proofs.open_made.Statement.{statement}
 use Rattle.opening.proofs.open_made.Tie as tie

@@ -6,7 +6,7 @@ use native.Mathlib.Omega.{arith}
 use borrow.Author.Needs.{needs}
 use borrow.Author.Tests.{not-true, not-false}
 use Rattle.plan.specs.Outcome.{putBytes}
-use Rattle.write.specs.Forms.{binaryBytes}
+use Rattle.forms.specs.Forms.{binaryBytes}
 use Rattle.write.proofs.Parts.{gathered}
 use Rattle.write.proofs.Answers.{no-room, form-fits, tail-fits, all-put}
 use Rattle.write.proofs.put_binary.Statement.{statement}

@@ -1,7 +1,7 @@
 -- No room, or the text form and then the tail.
 use borrow.Author.Needs.{needs}
 use borrow.Author.Tests.{not-true, not-false}
-use Rattle.write.specs.Forms.{textBytes}
+use Rattle.forms.specs.Forms.{textBytes}
 use Rattle.write.proofs.Answers.{no-room, form-fits, tail-fits, all-put}
 use Rattle.write.proofs.put_text.Statement.{statement}
 use Rattle.write.proofs.put_text.Tie as tie

@@ -1,0 +1,130 @@
+-- Opening a file: 14, 13, the reader's refusals, 4; and the tables then hold the circuit.
+use Prim.Native.Nat.{ℕ, _+_, _*_, _<_, _≤_}
+use mathlib.Core.Path.{_≡_, sym, ap, ap₂, _∙_, subst}
+use mathlib.Core.Bool.{Bool, true, false, cond}
+use mathlib.Core.Option.{Option, some}
+use mathlib.Core.List.{List, [], _∷_, _++_}
+use native.Mathlib.Omega.{arith}
+use borrow.Author.Tests.{le-leb, lt-leb}
+use lib.ListN.{length, take, drop}
+use Rattle.plan.specs.declared.Counts.{Counts}
+use Rattle.plan.specs.declared.Refusal.{Refusal}
+use Rattle.plan.specs.declared.Refusal.the-variants.{ShortTable, LongInput, Unreadable}
+use Rattle.plan.specs.declared.Loaded.the-variants as loaded
+use Rattle.plan.specs.Literals.{most}
+use Rattle.plan.specs.Refusals.{Parse, got, refused, _then_, unless}
+use Rattle.plan.specs.Circuit.{Circuit, countsOf, lengthsOf, wordsToRead, wordsToWork, against, short}
+use Rattle.plan.specs.Tail.{TailOk}
+use Rattle.plan.specs.Reading.{readFile, States, asText, asBinary}
+use Rattle.plan.specs.Given.{Given, given, lentAlone}
+use Rattle.plan.specs.Programs.{input}
+use Rattle.plan.specs.Outcome.{ReadEntry, LoadExit, load, loadBy}
+use Rattle.plan.specs.Whole.{inputOf}
+use Rattle.theorems.proofs.Reading.Differences.{Bytes}
+use Rattle.theorems.proofs.Reading.Exactly.{sound}
+use Rattle.theorems.proofs.Reading.Places.{start-within}
+use Rattle.theorems.proofs.Reading.Short.{short-none}
+use Rattle.theorems.proofs.Writing.Fine.{Fine, nothing-fine}
+use Rattle.theorems.proofs.Writing.Later.{Left, load-left}
+use Rattle.tables.specs.Lengths.{five, tableOf}
+use Rattle.tables.proofs.Told.{some-table, no-table}
+use Rattle.intake.specs.Opening.{OpenEntry, opening, opened, Opens}
+
+abbrev reading : OpenEntry → ReadEntry
+reading e = record { file = e .file; tables = e .tables; scratch = e .scratch }
+
+module _ (e : OpenEntry) where
+  abbrev parse : Parse Circuit
+  parse = readFile (e .file) (lengthsOf (e .tables) ++ (length (e .scratch) ∷ []))
+
+  pub not-readable : e .readable ≡ false → opened e ≡ refused (Unreadable 0)
+  not-readable h = ap (λ (b : Bool). input (inputOf b (e .file)) λ file. opening e file) h
+
+  module _ (readable : e .readable ≡ true) where
+    on-file : opened e ≡ input (some (e .file)) λ file. opening e file
+    on-file = ap (λ (b : Bool). input (inputOf b (e .file)) λ file. opening e file) readable
+
+    pub too-long : 65536 < length (e .file) → opened e ≡ refused (LongInput 65536)
+    too-long h = on-file ∙ ap (λ (b : Bool). cond b (opening e (e .file)) (refused (LongInput 65536))) (lt-leb (length (e .file)) 65536 h)
+
+    module _ (fits : length (e .file) ≤ 65536) where
+      here : opened e ≡ opening e (e .file)
+      here = on-file ∙ ap (λ (b : Bool). cond b (opening e (e .file)) (refused (LongInput 65536))) (le-leb (length (e .file)) 65536 fits)
+
+      module _ (x : LoadExit) (said : x ≡ load (reading e)) where
+        by-parse : (p : Parse Circuit) (r : Refusal) → loadBy (reading e) p .answer ≡ loaded.Refused r → p ≡ refused r
+        by-parse (got c s) r q = let z : _≡_ {A = ℕ} 0 1 = cc in absurd (omega arith)
+        by-parse (refused k) r q = let same : k ≡ r = cc in ap refused same
+
+        pub not-read : (r : Refusal) → x .answer ≡ loaded.Refused r → opened e ≡ refused r
+        not-read r a =
+            let p = by-parse parse r (ap (λ (y : LoadExit). y .answer) (sym said) ∙ a) in
+            here ∙ ap (λ (q : Parse Circuit). q then λ c start.
+            unless (short (against 1 (take 4 (wordsToWork (countsOf c))) (e .made))) ShortTable (got c start)) p
+
+        module _ (bytes : Bytes (e .file)) (n : Counts) (start : ℕ) (a : x .answer ≡ loaded.Accepted n start) where
+          abbrev g : Given
+          g = record { counts = n; tables = x .tables; scratch = x .scratch }
+
+          -- the circuit that the file states
+          read-is : (c : Circuit) × (parse ≡ got c start) × Left g c
+          read-is =
+              let l = load-left (reading e) bytes n start (ap (λ (y : LoadExit). y .answer) (sym said) ∙ a) in (
+                l .0,
+                l .1,
+                subst (λ (y : LoadExit). Left (record { counts = n; tables = y .tables; scratch = y .scratch }) (l .0)) (sym said) (l .2),
+              )
+
+          fine : Fine g (lentAlone g)
+          fine = nothing-fine g (lentAlone g) (read-is .2 .fine)
+
+          pub limits : (n .M ≤ most) × (n .L ≤ most) × (n .O ≤ most) × (n .A ≤ most)
+          limits = let s = fine .small in (s .0, s .1 .1 .0, s .1 .1 .1 .0, s .1 .1 .1 .1 .0)
+
+          scratch-long : 4 * (n .M + 1) + n .O ≤ length (x .scratch)
+          scratch-long = short-none (lentAlone g) .0 (fine .room) .1 .1 .1 .1 .0
+
+          opens-to : opened e ≡ unless (short (against 1 (take 4 (wordsToWork n)) (e .made))) ShortTable (got (given g) start)
+          opens-to =
+              let c = read-is .0 in
+              let l = read-is .2 in
+              here ∙ (ap (λ (q : Parse Circuit). q then λ c start.
+              unless (short (against 1 (take 4 (wordsToWork (countsOf c))) (e .made))) ShortTable (got c start)) (read-is .1)
+              ∙ ap₂ (λ (m : Counts) (d : Circuit). unless (short (against 1 (take 4 (wordsToWork m)) (e .made))) ShortTable (got d start))
+              (sym (l .counts)) (sym (l .holds)))
+
+          -- the answer on five tables, of which scratch is long enough
+          module _ (i l o a4 : ℕ) (made-is : e .made ≡ i ∷ l ∷ o ∷ a4 ∷ []) (k : ℕ)
+              (told : tableOf k ≡ short (against 1 (wordsToRead n) (five i l o a4 (length (x .scratch))))) where
+            four : short (against 1 (wordsToRead n) (five i l o a4 (length (x .scratch)))) ≡ short (against 1 (take 4 (wordsToWork n)) (e
+                .made))
+            four =
+                let first : short (against 1 (wordsToRead n) (five i l o a4 (length (x .scratch))))
+                ≡ short (against 1 (take 4 (wordsToWork n)) (i ∷ l ∷ o ∷ a4 ∷ []))
+                = rw (le-leb (4 * (n .M + 1) + n .O) (length (x .scratch)) scratch-long) in
+                first ∙ ap (λ (m : List ℕ). short (against 1 (take 4 (wordsToWork n)) m)) (sym made-is)
+
+            pub made-short : (k ≡ 0 → ⊥) → opened e ≡ refused (ShortTable k)
+            made-short h =
+                opens-to ∙ ap (λ (s : Option ℕ). unless s ShortTable (got (given g) start))
+                (some-table k (short (against 1 (take 4 (wordsToWork n)) (e .made))) h (told ∙ four))
+
+            stated-tail : (c : Circuit) (tail : List ℕ) → States (e .file) c tail → TailOk (countsOf c) tail
+            stated-tail c tail (asText q w t) = t
+            stated-tail c tail (asBinary q b w t) = t
+
+            pub made-long : k ≡ 0 → Opens e (loaded.Accepted n start) (x .tables) (x .scratch)
+            made-long h =
+                let long = no-table k (short (against 1 (take 4 (wordsToWork n)) (e .made))) h (told ∙ four) in
+                let c = read-is .0 in
+                let words = lengthsOf (e .tables) ++ (length (e .scratch) ∷ []) in
+                let s = sound (e .file) words bytes c start (read-is .1) in (
+                  opens-to ∙ ap (λ (s : Option ℕ). unless s ShortTable (got (given g) start)) long,
+                  start-within (e .file) words c start (read-is .1),
+                  record {
+                    fine = read-is .2 .fine;
+                    tail-ok = subst (λ (m : Counts). TailOk m (drop start (e .file))) (sym (read-is .2 .counts))
+                        (stated-tail c (drop start (e .file)) (s .0));
+                    long = long;
+                  },
+                )
