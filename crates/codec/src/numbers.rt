@@ -1,9 +1,9 @@
 // Numbers of the text form: "0", or a digit 1 to 9 and then any digits (the paper, text form; AIGER report, section 7).
 ghost use mathlib.Core.Path.{_≡_};
-ghost use Prim.Native.Nat.{_+_, _≤_, min};
-ghost use lib.ListN.{length, drop};
+ghost use Prim.Native.Nat.{_+_, _*_, _≤_, min};
+ghost use lib.ListN.{length};
 ghost use Rattle.plan.specs.Literals.{beyond};
-ghost use Rattle.plan.specs.Bytes.{digits, digitClass, span};
+ghost use Rattle.plan.specs.Bytes.{digits};
 ghost use Rattle.plan.specs.Outcome.{numberAt, Says, put, writeNumber};
 use crate::classes;
 use crate::room;
@@ -11,44 +11,18 @@ use plan::Number;
 use plan::Refusal;
 use plan::Written;
 
-// Above every literal and every count: a value is cut here, so that any run of digits has one that fits.
+// Above every literal and every count: a value is cut here, so that no run of digits wraps.
 const BEYOND: u32 = 2097152;
 
-// The value as it is told.
-fn cut(v: u32) -> u32
-    ensures { λ r. ⌜ r ≡ min v beyond ⌝ }
+// The value with one more digit.
+fn with_digit(v: u32, d: u8) -> u32
+    ensures { λ r. ⌜ r ≡ min (v * 10 + d) beyond ⌝ }
 {
-    if v < BEYOND { v } else { BEYOND }
+    let w = v as u64 * 10 + d as u64;
+    if w < BEYOND as u64 { w as u32 } else { BEYOND }
 }
 
-// The position after nine bytes from a position on, or the file's end where it has fewer.
-fn ninth(len: usize, at: usize) -> usize
-    requires { ⌜ at ≤ len ⌝ }
-    ensures { λ r. ⌜ r ≡ min len (at + 9) ⌝ }
-{
-    if len - at < 9 {
-        return len;
-    }
-    at + 9
-}
-
-// The position of the first byte from a position on that is no digit, or the file's end.
-fn past_digits(file: &[u8], at: usize) -> usize
-    ensures { λ r. ⌜ r ≡ at + length (span digitClass (drop at (now (file .entry)))) ⌝ }
-{
-    let mut i = at;
-    while i < file.len() {
-        let k = classes::class_of(file[i]);
-        if !classes::is_digit(k) {
-            return i;
-        }
-        i += 1;
-    }
-    i
-}
-
-// The number at a position, which may lie past the end. Nine digits never wrap, so the loop adds them up without a cut; and nine of which
-// the first is not 0 are past the cut already, so digits after them are only passed over.
+// The number at a position, which may lie past the end.
 pub fn read_number(file: &[u8], at: usize) -> Number
     ensures { λ r. ⌜ r ≡ numberAt (now (file .entry)) at ⌝ }
 {
@@ -63,19 +37,18 @@ pub fn read_number(file: &[u8], at: usize) -> Number
     if !classes::is_digit(c) {
         return Number::Wrong(at);
     }
-    let stop = ninth(file.len(), at);
-    let mut v: u32 = (first - 48) as u32;
+    let mut v: u32 = with_digit(0, first - 48);
     let mut i = at + 1;
-    while i < stop {
+    while i < file.len() {
         let b = file[i];
         let k = classes::class_of(b);
         if !classes::is_digit(k) {
-            return Number::Value(cut(v), i);
+            return Number::Value(v, i);
         }
-        v = v * 10 + (b - 48) as u32;
+        v = with_digit(v, b - 48);
         i += 1;
     }
-    Number::Value(cut(v), past_digits(file, i))
+    Number::Value(v, i)
 }
 
 // How many digits a number has.
