@@ -5,15 +5,14 @@ ghost use lib.ListN.{getD};
 ghost use Rattle.plan.specs.Bytes.{classOf, digitClass};
 use plan::Class;
 
-// This match alone decides what a byte is.
+// This match alone decides what a byte is. Digits share one range: whether the next one is a 0 can't be foreseen, and a wrong guess is dear.
 pub fn class_of(b: u8) -> Class
     ensures { λ r. ⌜ r ≡ classOf b ⌝ }
 {
     match b {
         10 => Class::Line,
         32 => Class::Space,
-        48 => Class::Zero,
-        49..=57 => Class::Digit,
+        48..=57 => { if b == 48 { Class::Zero } else { Class::Digit } }
         33..=126 => Class::Print,
         _ => Class::Rest,
     }
