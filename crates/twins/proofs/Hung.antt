@@ -66,12 +66,12 @@ module _ (t : List ℕ) (n l x y : ℕ) where
 -- no gate hangs in a scratch that is zero
 pub no-gates : (gates scratch : List ℕ) (w : ℕ) → ((s : ℕ) → w ≤ s → getD scratch s 0 ≡ 0) → Tree gates scratch w 0
 no-gates gates scratch w z =
-    record { grown = grown-none (paths gates) w (word scratch) (λ c h. z (w + c) (omega arith)); blank = λ s h. z s (omega arith) }
+    record { grown = grown-none (paths w gates) w (word scratch) (λ c h. z (w + c) (omega arith)); blank = λ s h. z s (omega arith) }
 
 -- a word before the roots is of another use
 pub word-before : (gates scratch : List ℕ) (w n s l : ℕ) → s < w → Tree gates scratch w n → Tree gates (set scratch s l) w n
 word-before gates scratch w n s l h t = record {
-  grown = λ q g k le nd. other (slotOf w k (symbol (paths gates) q k)) (slot-high w k (symbol (paths gates) q k)) ∙ t .grown q g k le nd;
+  grown = λ q g k le nd. other (slotOf w k (symbol (paths w gates) q k)) (slot-high w k (symbol (paths w gates) q k)) ∙ t .grown q g k le nd;
   blank = λ j le. other j (omega arith) ∙ t .blank j le;
 }
   where
@@ -80,10 +80,10 @@ word-before gates scratch w n s l h t = record {
 
 module _ (gates scratch : List ℕ) (w n x y slot : ℕ) (root : varOf x < w) (hangs : Hangs gates scratch w n x y slot) where
   pub slot-under : slot < 2 * w + 2 * n
-  slot-under = rw (hangs .at) (slot-low (paths gates) w (pathOf x y) (hangs .k) n (good-path w x y root) (hangs .below) (hangs .stands))
+  slot-under = rw (hangs .at) (slot-low (paths w gates) w (pathOf w x y) (hangs .k) n (good-path w x y root) (hangs .below) (hangs .stands))
 
   pub slot-over : w ≤ slot
-  slot-over = rw (hangs .at) (slot-high w (hangs .k) (symbol (paths gates) (pathOf x y) (hangs .k)))
+  slot-over = rw (hangs .at) (slot-high w (hangs .k) (symbol (paths w gates) (pathOf w x y) (hangs .k)))
 
   -- the words before the roots stay
   pub hung-front : take w (set scratch slot (n + 1)) ≡ take w scratch
@@ -97,18 +97,18 @@ module _ (gates scratch : List ℕ) (w n x y slot : ℕ) (root : varOf x < w) (h
       abbrev scratch′ : List ℕ
       scratch′ = set scratch slot (n + 1)
 
-      alike : (i : ℕ) → i < n → paths gates′ i ≡ paths gates i
-      alike i q = ap (λ (g : Gate). pathOf (g .rhs0) (g .rhs1)) (old gates n l x y i q)
+      alike : (i : ℕ) → i < n → paths w gates′ i ≡ paths w gates i
+      alike i q = ap (λ (g : Gate). pathOf w (g .rhs0) (g .rhs1)) (old gates n l x y i q)
 
-      at-slot : slot ≡ slotOf w (hangs .k) (symbol (paths gates′) (pathOf x y) (hangs .k))
+      at-slot : slot ≡ slotOf w (hangs .k) (symbol (paths w gates′) (pathOf w x y) (hangs .k))
       at-slot =
           hangs .at
-          ∙ ap (slotOf w (hangs .k)) (sym (symbol-ext (paths gates) (paths gates′) n alike (pathOf x y) (hangs .k) (hangs .below)))
+          ∙ ap (slotOf w (hangs .k)) (sym (symbol-ext (paths w gates) (paths w gates′) n alike (pathOf w x y) (hangs .k) (hangs .below)))
 
-      ends : firstOn (paths gates′) (pathOf x y) (hangs .k) n ≡ 0
+      ends : firstOn (paths w gates′) (pathOf w x y) (hangs .k) n ≡ 0
       ends =
-          first-ext′ (paths gates) (paths gates′) n alike (pathOf x y) (hangs .k)
-          ∙ sym (tree .grown (pathOf x y) (good-path w x y root) (hangs .k) (hangs .below) (hangs .stands))
+          first-ext′ (paths w gates) (paths w gates′) n alike (pathOf w x y) (hangs .k)
+          ∙ sym (tree .grown (pathOf w x y) (good-path w x y root) (hangs .k) (hangs .below) (hangs .stands))
           ∙ ap (word scratch) (sym (hangs .at)) ∙ hangs .free
 
       word-at : word scratch′ slot ≡ suc n
@@ -122,18 +122,18 @@ module _ (gates scratch : List ℕ) (w n x y slot : ℕ) (root : varOf x < w) (h
 
       pub hung : Tree gates′ scratch′ w (n + 1)
       hung = record {
-        grown = subst (λ (v : ℕ). Grown (paths gates′) w v (word scratch′)) (sym (add-one n)) more;
+        grown = subst (λ (v : ℕ). Grown (paths w gates′) w v (word scratch′)) (sym (add-one n)) more;
         blank = λ s h. word-past s (omega arith);
       }
         where
-          more : Grown (paths gates′) w (suc n) (word scratch′)
+          more : Grown (paths w gates′) w (suc n) (word scratch′)
           more =
-              inserted (paths gates′) w n (hangs .k) (word scratch) (word scratch′) (pathOf x y)
-              (grown-ext (paths gates) (paths gates′) n alike w (word scratch) (tree .grown))
+              inserted (paths w gates′) w n (hangs .k) (word scratch) (word scratch′) (pathOf w x y)
+              (grown-ext (paths w gates) (paths w gates′) n alike w (word scratch) (tree .grown))
               (good-path w x y root) (hangs .below)
-              (node-ext′ (paths gates) (paths gates′) n alike (pathOf x y) (hangs .k) (hangs .below) (hangs .stands))
+              (node-ext′ (paths w gates) (paths w gates′) n alike (pathOf w x y) (hangs .k) (hangs .below) (hangs .stands))
               ends
-              (λ e. ap (λ (g : Gate). pathOf (g .rhs0) (g .rhs1) e) (newest gates n l x y gates-long))
+              (λ e. ap (λ (g : Gate). pathOf w (g .rhs0) (g .rhs1) e) (newest gates n l x y gates-long))
               (ap (word scratch′) (sym at-slot) ∙ word-at)
               (λ c h. word-past (2 * w + (2 * n + c)) (omega arith))
               (λ s h q d. word-other s (λ z. d (z ∙ at-slot)))

@@ -12,18 +12,19 @@ use Rattle.theorems.proofs.Reading.Common.{and-left, and-right}
 use Rattle.theorems.proofs.Tables.{gateAt}
 use Rattle.twins.specs.declared.Place.the-variants.{Taken, Free}
 use Rattle.twins.specs.Tree.{depth, on, orFirst, firstOn, node, symbol, slotOf, Good}
-use Rattle.twins.specs.Pairs.{keyOf, halves, pathOf, paths, word, Tree, Rooted, Sought}
+use Rattle.twins.specs.Pairs.{keyOf, halves, rootOf, pathOf, paths, word, Tree, Rooted, Sought}
 use Rattle.twins.proofs.Agree.{agreed}
 use Rattle.twins.proofs.Depth.{depth-pos, First, first-some, node-next, none-on}
 use Rattle.twins.proofs.Slots.{slot-low}
+use Rattle.twins.proofs.Roots.{root-low}
 use Rattle.twins.proofs.Earliest.{same, earliest, leftOf, twin-earliest, earliest-none, earliest-stays}
 
-pub good-path : (w x y : ℕ) → varOf x < w → Good w (pathOf x y)
-good-path w x y h = record { root = h; bits = λ d. omega arith }
+pub good-path : (w x y : ℕ) → varOf x < w → Good w (pathOf w x y)
+good-path w x y h = record { root = root-low w x y (omega arith); bits = λ d. omega arith }
 
-path-bit : (x y d : ℕ) → 0 < d → pathOf x y d ≡ halves (keyOf x y) (d - 1) % 2
-path-bit x y zero h = absurd (omega arith)
-path-bit x y (suc d) h = let e : d ≡ suc d - 1 = omega arith in ap (λ (j : ℕ). halves (keyOf x y) j % 2) e
+path-bit : (w x y d : ℕ) → 0 < d → pathOf w x y d ≡ halves (keyOf x y) (d - 1) % 2
+path-bit w x y zero h = absurd (omega arith)
+path-bit w x y (suc d) h = let e : d ≡ suc d - 1 = omega arith in ap (λ (j : ℕ). halves (keyOf x y) j % 2) e
 
 half-more : (key d : ℕ) → 0 < d → halves key (d - 1) / 2 ≡ halves key d
 half-more key zero h = absurd (omega arith)
@@ -33,17 +34,17 @@ half-more key (suc d) h = let e : suc d - 1 ≡ d = omega arith in ap (λ (j : �
 pub record Way (gates : List ℕ) (w n x y slot key : ℕ) : Type 0 where
   pub k : ℕ
   pub below : k ≤ n
-  pub stands : node (paths gates) (pathOf x y) k ≡ true
-  pub at : slot ≡ slotOf w k (symbol (paths gates) (pathOf x y) k)
-  pub key-is : key ≡ halves (keyOf x y) (depth (paths gates) (pathOf x y) k - 1)
+  pub stands : node (paths w gates) (pathOf w x y) k ≡ true
+  pub at : slot ≡ slotOf w k (symbol (paths w gates) (pathOf w x y) k)
+  pub key-is : key ≡ halves (keyOf x y) (depth (paths w gates) (pathOf w x y) k - 1)
   pub absent : earliest gates x y k ≡ 0
 
 module _ {gates scratch : List ℕ} {w n x y : ℕ} (tree : Tree gates scratch w n) (rooted : Rooted w x y) where
   abbrev q : ℕ → ℕ
-  q = pathOf x y
+  q = pathOf w x y
 
   abbrev S : ℕ → ℕ → ℕ
-  S = paths gates
+  S = paths w gates
 
   good : Good w q
   good = good-path w x y (rooted .larger)
@@ -57,10 +58,10 @@ module _ {gates scratch : List ℕ} {w n x y : ℕ} (tree : Tree gates scratch w
       go true e =
           let left = eqb-true (gateAt gates i .rhs0) x (and-left (eqb (gateAt gates i .rhs0) x) (eqb (gateAt gates i .rhs1) y) e) in
           let right = eqb-true (gateAt gates i .rhs1) y (and-right (eqb (gateAt gates i .rhs0) x) (eqb (gateAt gates i .rhs1) y) e) in
-          let here : S i ≡ q = ap₂ (λ (a b : ℕ). pathOf a b) left right in
+          let here : S i ≡ q = ap₂ (λ (a b : ℕ). pathOf w a b) left right in
           absurd (false≢true (sym h ∙ agreed (depth S q i) q (S i) (λ d l. sym (ap (λ (s : ℕ → ℕ). s d) here))))
 
-  pub way-start : {slot key : ℕ} → slot ≡ w + varOf x → key ≡ keyOf x y → Way gates w n x y slot key
+  pub way-start : {slot key : ℕ} → slot ≡ w + rootOf w x y → key ≡ keyOf x y → Way gates w n x y slot key
   way-start e f = record { k = 0; below = omega arith; stands = refl; at = e; key-is = f; absent = refl }
 
   module _ {slot key : ℕ} (v : Way gates w n x y slot key) where
@@ -106,7 +107,7 @@ module _ {gates scratch : List ℕ} {w n x y : ℕ} (tree : Tree gates scratch w
         below = first .below;
         stands = first .stands;
         at = ap (λ (c : ℕ). 2 * w + (2 * i + c))
-            (ap (λ (j : ℕ). j % 2) (v .key-is) ∙ sym (path-bit x y (depth S q (v .k)) (depth-pos S q (v .k))) ∙ ap q (sym deep));
+            (ap (λ (j : ℕ). j % 2) (v .key-is) ∙ sym (path-bit w x y (depth S q (v .k)) (depth-pos S q (v .k))) ∙ ap q (sym deep));
         key-is = ap (λ (j : ℕ). j / 2) (v .key-is) ∙ half-more (keyOf x y) (depth S q (v .k)) (depth-pos S q (v .k))
             ∙ ap (halves (keyOf x y)) (sym deep);
         absent = ap₂ (λ (a : ℕ) (c : Bool). orFirst a (cond c (suc i) 0)) absent-before s;
