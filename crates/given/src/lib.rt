@@ -276,3 +276,24 @@ pub fn check_in_order(
     let own = sizes(inputs, latches, outputs, gates);
     check_to_make(n, inputs, latches, outputs, gates, scratch, own, true)
 }
+
+// The same answer. After a refusal scratch is zero; where nothing is refused it is left as it comes, for the caller to clear.
+pub fn judge_in_order(
+    n: Counts,
+    inputs: &[u32],
+    latches: &[u32],
+    outputs: &[u32],
+    gates: &[u32],
+    scratch: &mut [u32],
+) -> Checked
+    ensures { λ r. ⌜ r ≡ checkInOrder (record { counts = n; tables = (record { inputs = now (inputs .entry); latches = now (latches .entry); outputs = now (outputs .entry); gates = now (gates .entry) }); scratch = now (scratch .entry) }) .answer ⌝ }
+    ensures { λ r. ⌜ ((q : Refusal) → r ≡ Refused q → now (scratch .exit) ≡ cleared (now (scratch .entry))) ⌝ }
+{
+    let to = sizes(inputs, latches, outputs, gates);
+    let answer = judge(n, inputs, latches, outputs, gates, scratch, to, true, false);
+    if let Checked::Refused(_) = answer {
+        clear(scratch);
+        return answer;
+    }
+    answer
+}
