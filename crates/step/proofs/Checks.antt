@@ -17,7 +17,12 @@ use Rattle.theorems.proofs.Writing.Nothing.{some-first, both-first}
 use Rattle.given.specs.Judged.{allStages}
 use Rattle.given.proofs.Sound.{Good, good-none, refused-some, good-alone}
 use Rattle.sweep.specs.Running.{Runs}
-use Rattle.step.specs.Asked.{Blank}
+use Rattle.step.specs.Asked.{Room, Blank}
+
+-- the answer alone, where scratch is not cleared yet
+pub says-answer : (g : Given) {a : Checked} → a ≡ checkInOrder g .answer
+    → _≡_ {A = CheckExit} (record { answer = a; scratch = cleared (g .scratch) }) (checkInOrder g)
+says-answer g e = λ j. record { answer = e j; scratch = cleared (g .scratch) }
 
 -- the answer where one stage more comes after 15
 module _ (g : Given) (last : Option Refusal) where
@@ -46,13 +51,19 @@ module _ (g : Given) (last : Option Refusal) where
           let p = good-alone true g all-none in
           record { fits = p .fits; counts = p .counts; formed = p .formed; order = p .order refl }
 
+      pub room : (s : List ℕ) → length s ≡ length (g .scratch) → Room (g .counts) (g .tables .latches) (g .tables .outputs) (g .tables .gates) s
+      room s count = record {
+        inputs = g .tables .inputs;
+        runs = runs;
+        scratch-long = omega (arith, good-alone true g all-none .scratch, count);
+      }
+
       pub blank : Blank (g .counts) (g .tables .latches) (g .tables .outputs) (g .tables .gates) t
       blank =
-          let p = good-alone true g all-none in
           let count : length t ≡ length (g .scratch) = ap length blank-is ∙ length-replicate {A = ℕ} (length (g .scratch)) 0 in
           record {
             inputs = g .tables .inputs;
             runs = runs;
-            scratch-long = omega (arith, p .scratch, count);
+            scratch-long = room t count .scratch-long;
             zero = blank-is ∙ ap (λ (k : ℕ). replicate k 0) (sym count);
           }

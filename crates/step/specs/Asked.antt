@@ -1,5 +1,5 @@
--- What is asked where nothing is refused: tables that hold an accepted circuit in binary order, scratch that is zero, and vectors of
--- the right length.
+-- What is asked where nothing is refused: tables that hold an accepted circuit in binary order, room in scratch, and vectors of the
+-- right length.
 use Prim.Native.Nat.{ℕ}
 use mathlib.Core.Path.{_≡_}
 use mathlib.Core.List.{List, map}
@@ -10,6 +10,12 @@ use Rattle.plan.specs.Step.{codeOf, valueOf, outputsOf, nextOf}
 use Rattle.tables.specs.Held.{Scratch}
 use Rattle.sweep.specs.Running.{Runs}
 
+pub record Room (n : Counts) (latches outputs gates scratch : List ℕ) : Type 0 where
+  pub inputs : List ℕ
+  pub runs : Runs n inputs latches outputs gates
+  pub scratch-long : Scratch n scratch
+
+-- the same with scratch that is zero, where a run starts
 pub record Blank (n : Counts) (latches outputs gates scratch : List ℕ) : Type 0 where
   pub inputs : List ℕ
   pub runs : Runs n inputs latches outputs gates

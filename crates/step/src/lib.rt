@@ -4,9 +4,9 @@ ghost use Prim.Native.Nat.{ℕ};
 ghost use Rattle.plan.specs.Outcome.{Says, step};
 ghost use Rattle.tables.specs.Held.{circuitIn};
 ghost use Rattle.sweep.specs.Running.{Runs};
-ghost use Rattle.step.specs.Asked.{Blank, Vectors, Leaves};
+ghost use Rattle.step.specs.Asked.{Room, Vectors, Leaves};
 use codes::bad_vector;
-use given::check_in_order;
+use given::judge_in_order;
 use plan::Checked;
 use plan::Counts;
 use plan::Refusal;
@@ -16,7 +16,7 @@ use tables::clear;
 use values::load;
 use values::store;
 
-// A step whose tables and vectors are good.
+// A step whose tables and vectors are good. Of scratch it asks the length alone: every word is written before it is read.
 fn step_vectors(
     n: Counts,
     latches: &[u32],
@@ -27,12 +27,14 @@ fn step_vectors(
     ins: &[u8],
     outs: &mut [u8],
 )
-    requires { ⌜ Blank n (now latches) (now outputs) (now gates) (now scratch) ⌝ }
+    requires { ⌜ Room n (now latches) (now outputs) (now gates) (now scratch) ⌝ }
     requires { ⌜ Vectors n (now state) (now ins) (now outs) ⌝ }
     ensures { λ _. ⌜ ((inputs : List ℕ) → Runs n inputs (now (latches .entry)) (now (outputs .entry)) (now (gates .entry))
         → Leaves (circuitIn n inputs (now (latches .entry)) (now (outputs .entry)) (now (gates .entry)))
         (now (state .entry)) (now (ins .entry)) (now (state .exit)) (now (outs .exit))) ⌝ }
 {
+    // the constant
+    scratch[0] = 0;
     load(state, 1 + n.I, scratch);
     load(ins, 1, scratch);
     step_values(n, latches, outputs, gates, scratch);
@@ -71,11 +73,12 @@ pub fn step(
         })
         (record { answer = r; scratch = now (scratch .exit); state = now (state .exit); outputs = now (outs .exit) }) ⌝ }
 {
-    match check_in_order(n, inputs, latches, outputs, gates, scratch) {
+    match judge_in_order(n, inputs, latches, outputs, gates, scratch) {
         Checked::Refused(refusal) => Stepped::Refused(refusal),
         Checked::Good => {
             let bad = bad_vector(n, state, ins, outs.len());
             if bad != 0 {
+                clear(scratch);
                 return Stepped::Refused(Refusal::BadVector(bad));
             }
             step_vectors(n, latches, outputs, gates, scratch, state, ins, outs);

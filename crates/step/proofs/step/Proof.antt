@@ -1,10 +1,11 @@
 use Prim.Native.Nat.{ℕ}
 use mathlib.Core.Path.{_≡_, ap, _∙_}
-use lib.ListN.{replicate}
+use lib.ListN.{length, replicate}
 use Rattle.plan.specs.declared.Checked.the-variants.{Good}
+use Rattle.plan.specs.Circuit.{cleared}
 use Rattle.plan.specs.Outcome.{CheckExit, StepEntry, checkInOrder, stepStage}
 use Rattle.tables.proofs.Told.{some-table, no-table}
-use Rattle.step.proofs.Checks.{blank-is, refused-by, past-check, runs, blank}
+use Rattle.step.proofs.Checks.{says-answer, refused-by, past-check, runs, room}
 use Rattle.step.proofs.Answers.{good-vectors, refused-step, refused-vector, done-step}
 use borrow.Author.Needs.{needs}
 use Rattle.step.proofs.step.Statement.{statement}
@@ -25,23 +26,27 @@ entry s =
       outputs = a .outs .now;
     }
 
--- back to the start, where the tables are good, and what the check said there
+-- back to the start, where the tables are good, and what was said of them there
 abbrev start : tie.After-enum-told → tie.Start
 start d = d .before .before .before .before .before .before .before .before .before .before .before .before .before .before
 
-abbrev checked : tie.After-enum-told → tie.After-check-in-order
+abbrev checked : tie.After-enum-told → tie.After-judge-in-order
 checked d = d .before .before .before .before
 
-told : (d : tie.After-enum-told) → checked d .check-in-order .result ≡ Good
+told : (d : tie.After-enum-told) → checked d .judge-in-order .result ≡ Good
 told d = d .enum-told .given .1
 
 says : (d : tie.After-enum-told)
-    → let x = checked d .check-in-order in
-    _≡_ {A = CheckExit} (record { answer = x .result; scratch = x .last .1 .1 .1 .1 .1 .0 }) (checkInOrder (entry (start d) .circuit))
-says d = checked d .check-in-order .ensures
+    → let g = entry (start d) .circuit in
+    _≡_ {A = CheckExit} (record { answer = checked d .judge-in-order .result; scratch = cleared (g .scratch) }) (checkInOrder g)
+says d = says-answer (entry (start d) .circuit) (checked d .judge-in-order .ensures .0)
 
-check-in-order-requires : tie.Need-check-in-order-requires
-check-in-order-requires c κs = search needs
+-- scratch stays as long as it was
+same : (d : tie.After-enum-told) → length (checked d .judge-in-order .last .1 .1 .1 .1 .1 .0) ≡ length (start d .args .scratch .now)
+same d = d .before .before .before .scratch .given
+
+judge-in-order-requires : tie.Need-judge-in-order-requires
+judge-in-order-requires c κs = search needs
 
 enum-known-refusal : tie.Need-enum-known-refusal
 enum-known-refusal c = search needs
@@ -52,6 +57,9 @@ enum-told c = search needs
 bad-vector-requires : tie.Need-bad-vector-requires
 bad-vector-requires c κs = search needs
 
+clear-requires : tie.Need-clear-requires
+clear-requires c κs = search needs
+
 same-length : tie.Need-same-length
 same-length c = search needs
 
@@ -60,22 +68,24 @@ same-length-2 c = search needs
 
 returns : tie.Need-returns
 returns c =
-    let d = c .before .before .before in
+    let f = c .before .before .before .before in
+    let d = f .before .before .before in
     let e = entry (start d) in
-    refused-vector e _ (blank-is (e .circuit) (stepStage e) (says d)) (past-check (e .circuit) (stepStage e) (says d) (told d)) _
-    (some-table _ _ (c .if1 .taken) (c .before .bad-vector .ensures))
+    let zero = c .before .before .clear .ensures ∙ ap (λ (k : ℕ). replicate k 0) (same d) in
+    refused-vector e _ zero (past-check (e .circuit) (stepStage e) (says d) (told d)) _
+    (some-table _ _ (f .if1 .taken) (f .before .bad-vector .ensures))
 
 step-vectors-requires : tie.Need-step-vectors-requires
 step-vectors-requires c κs =
     let f = c .before .before .before in
     let d = f .before .before .before in
     let e = entry (start d) in (
-      blank (e .circuit) (stepStage e) (says d) (told d),
+      room (e .circuit) (stepStage e) (says d) (told d) _ (same d),
       good-vectors e (no-table _ _ (f .if1 .left) (f .before .bad-vector .ensures)),
     )
 
-clear-requires : tie.Need-clear-requires
-clear-requires c κs = search needs
+clear-requires-2 : tie.Need-clear-requires-2
+clear-requires-2 c κs = search needs
 
 same-length-3 : tie.Need-same-length-3
 same-length-3 c = search needs
@@ -84,8 +94,9 @@ returns-2 : tie.Need-returns-2
 returns-2 c =
     let x = c .before .before .before .before .before in
     let e = entry (x .before .before .before .before .before .before .before .before .before .before) in
-    refused-step e _ (blank-is (e .circuit) (stepStage e) (x .check-in-order .ensures)) _
-    (refused-by (e .circuit) (stepStage e) (x .check-in-order .ensures) _ (c .before .refusal .given .1))
+    let refused = c .before .refusal .given .1 in
+    refused-step e _ (x .judge-in-order .ensures .1 _ refused) _
+    (refused-by (e .circuit) (stepStage e) (says-answer (e .circuit) (x .judge-in-order .ensures .0)) _ refused)
 
 same-length-4 : tie.Need-same-length-4
 same-length-4 c = search needs
@@ -102,8 +113,7 @@ returns-3 c =
     let f = s .before .before .before .before .before in
     let d = f .before .before .before in
     let e = entry (start d) in
-    let same = s .scratch2 .given ∙ d .before .before .before .scratch .given in
-    let zero = c .before .before .clear .ensures ∙ ap (λ (k : ℕ). replicate k 0) same in
+    let zero = c .before .before .clear2 .ensures ∙ ap (λ (k : ℕ). replicate k 0) (s .scratch3 .given ∙ same d) in
     done-step e _ zero (past-check (e .circuit) (stepStage e) (says d) (told d))
     (no-table _ _ (f .if1 .left) (f .before .bad-vector .ensures)) _ _
     (s .before .step-vectors .ensures (e .circuit .tables .inputs) (runs (e .circuit) (stepStage e) (says d) (told d)))
@@ -112,15 +122,16 @@ pub step-spec : {M : Type 1} → statement M
 step-spec =
     tie.close
     (tie.spec
-    check-in-order-requires
+    judge-in-order-requires
     enum-known-refusal
     enum-told
     bad-vector-requires
+    clear-requires
     same-length
     same-length-2
     returns
     step-vectors-requires
-    clear-requires
+    clear-requires-2
     same-length-3
     returns-2
     same-length-4

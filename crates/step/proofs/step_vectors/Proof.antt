@@ -1,7 +1,7 @@
 use mathlib.Core.Path.{_≡_, _∙_}
 use mathlib.Core.List.{map}
 use native.Mathlib.Omega.{arith}
-use lib.ListN.{length}
+use lib.ListN.{length, length-set}
 use Rattle.plan.specs.Step.{valueOf}
 use Rattle.tables.specs.Held.{circuitIn}
 use Rattle.sweep.specs.Running.{Stands, Ready}
@@ -41,15 +41,27 @@ stand b =
 same : (d : tie.After-scratch3)
     → length (d .before .step-values .last .1 .1 .1 .1 .0) ≡ length (args (second d) .args .scratch .now)
 same d = d .scratch3 .given ∙ second d .scratch2 .given ∙ first (second d) .scratch .given
+    ∙ length-set (args (second d) .args .scratch .now) 0 0
+
+slice-write-scratch : tie.Need-slice-write-scratch
+slice-write-scratch c =
+    let s = c .before .before .before .before .before .before .before in
+    omega (arith, s .pre .0 .scratch-long)
 
 add-load : tie.Need-add-load
 add-load c = search needs
 
 load-requires : tie.Need-load-requires
-load-requires c κs = search needs
+load-requires c κs =
+    let s = c .before .before .before .before .before .before .before .before .before .before in
+    let p = s .pre in
+    omega (arith, p .0 .scratch-long, p .0 .runs .fits .sum, p .1 .state-length, length-set (s .args .scratch .now) 0 0)
 
 load-requires-2 : tie.Need-load-requires-2
-load-requires-2 c κs = search needs
+load-requires-2 c κs =
+    let a = c .before .before in
+    let p = start a .pre in
+    omega (arith, p .0 .scratch-long, p .0 .runs .fits .sum, p .1 .inputs-length, a .scratch .given, length-set (start a .args .scratch .now) 0 0)
 
 step-values-requires : tie.Need-step-values-requires
 step-values-requires c κs = asked (c .before .before)
@@ -78,7 +90,7 @@ store-requires-2 c κs =
     omega (arith, p .0 .scratch-long, p .0 .runs .fits .sum, p .1 .outputs-length, same d)
 
 same-length : tie.Need-same-length
-same-length c = search needs
+same-length c = same (c .before .before .before .before .before .before .before .before .before .before .before .before .before)
 
 same-length-2 : tie.Need-same-length-2
 same-length-2 c = search needs
@@ -101,6 +113,7 @@ pub step-vectors-spec : {M : Type 1} → statement M
 step-vectors-spec =
     tie.close
     (tie.spec
+    slice-write-scratch
     add-load
     load-requires
     load-requires-2
