@@ -36,7 +36,7 @@ choose_compiler() {
     fi
 }
 
-# The archive that the gate's proofs left is taken where nothing changed since.
+# One archive serves all: it is built again only where something of the crates changed since.
 build_archive() {
     local archive=target/staticlib/libdesk.a
     mkdir -p target/desk
