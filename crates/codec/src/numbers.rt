@@ -51,8 +51,21 @@ pub fn read_number(file: &[u8], at: usize) -> Number
     Number::Value(v, i)
 }
 
-// How many digits a number has.
-pub fn digits_in(n: u32) -> usize
+// How many digits a number has, counted one by one.
+fn count_digits(n: usize) -> usize
+    ensures { λ r. ⌜ r ≡ length (digits n) ⌝ }
+{
+    let mut count = 1;
+    let mut rest = n;
+    while 10 <= rest {
+        rest /= 10;
+        count += 1;
+    }
+    count
+}
+
+// How many digits a number has. A literal has at most seven, and tests tell them sooner than divisions do.
+pub fn digits_in(n: usize) -> usize
     ensures { λ r. ⌜ r ≡ length (digits n) ⌝ }
 {
     if n < 10 {
@@ -76,17 +89,11 @@ pub fn digits_in(n: u32) -> usize
     if n < 10000000 {
         return 7;
     }
-    if n < 100000000 {
-        return 8;
-    }
-    if n < 1000000000 {
-        return 9;
-    }
-    10
+    count_digits(n)
 }
 
 // Puts a number's digits from a position on; the position after them. The last digit comes first: it is what a division leaves.
-pub fn put_digits(out: &mut [u8], at: usize, n: u32) -> usize
+pub fn put_digits(out: &mut [u8], at: usize, n: usize) -> usize
     requires { ⌜ at + length (digits n) ≤ length (now out) ⌝ }
     ensures { λ r. ⌜ r ≡ at + length (digits n) ⌝ }
     ensures { λ _. ⌜ now (out .exit) ≡ put (now (out .entry)) at (digits n) ⌝ }
@@ -104,7 +111,7 @@ pub fn put_digits(out: &mut [u8], at: usize, n: u32) -> usize
 }
 
 // Writes a number's digits from a position on, or nothing where the buffer is too short.
-pub fn write_number(out: &mut [u8], at: usize, n: u32) -> Written
+pub fn write_number(out: &mut [u8], at: usize, n: usize) -> Written
     ensures { λ r. ⌜ Says writeNumber (record { out = now (out .entry); at = at; value = n }) (record { answer = r; out = now (out .exit) }) ⌝ }
 {
     let count = digits_in(n);

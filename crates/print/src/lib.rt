@@ -46,7 +46,7 @@ pub fn lines_length(table: &[u32], k: usize, n: usize) -> usize
     let mut sum: usize = 0;
     let mut i = 0;
     while i < words {
-        sum = sum + numbers::digits_in(table[i]) + 1;
+        sum = sum + numbers::digits_in(table[i] as usize) + 1;
         i += 1;
     }
     sum
@@ -58,7 +58,7 @@ fn write_word(out: &mut [u8], at: usize, word: u32, left: usize) -> usize
     ensures { λ r. ⌜ r ≡ at + length (wordBytes left word) ⌝ }
     ensures { λ _. ⌜ now (out .exit) ≡ put (now (out .entry)) at (wordBytes left word) ⌝ }
 {
-    let end = numbers::put_digits(out, at, word);
+    let end = numbers::put_digits(out, at, word as usize);
     out[end] = end_of(left);
     end + 1
 }

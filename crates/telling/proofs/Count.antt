@@ -4,8 +4,7 @@ use mathlib.Core.Path.{_≡_, refl}
 use native.Mathlib.Omega.{arith}
 use lib.ListN.{length}
 use Rattle.plan.specs.Bytes.{digits}
-use Rattle.codec.proofs.numbers.Length.{one, more}
-use Rattle.print.proofs.Sizes.{digits-most}
+use Rattle.codec.proofs.numbers.Length.{one, more, digits-most}
 
 -- what is left has as many digits as are still to count
 pub record Counting (n count rest : ℕ) : Type 0 where

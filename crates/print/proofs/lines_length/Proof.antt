@@ -26,6 +26,9 @@ mul-digits-in c = search needs
 shared-slice-read-digits-in : tie.Need-shared-slice-read-digits-in Inv-loop μ-loop
 shared-slice-read-digits-in c = search needs
 
+cast-digits-in : tie.Need-cast-digits-in Inv-loop μ-loop
+cast-digits-in c = record { fits = omega (arith, c .shared-slice-known2 .given (c .before .before .loop .i)) }
+
 digits-in-requires : tie.Need-digits-in-requires Inv-loop μ-loop
 digits-in-requires c κs = search needs
 
@@ -75,6 +78,7 @@ lines-length-spec =
     loop-holds
     mul-digits-in
     shared-slice-read-digits-in
+    cast-digits-in
     digits-in-requires
     add-sum
     add-sum-2

@@ -1,5 +1,5 @@
--- Each test splits at a power of ten.
-use native.Mathlib.Omega.{arith}
+-- Each test splits at a power of ten; more than seven digits are counted.
+use borrow.Author.Needs.{needs}
 use Rattle.codec.proofs.numbers.Length.{one, many}
 use Rattle.codec.proofs.numbers.digits_in.Statement.{statement}
 use Rattle.codec.proofs.numbers.digits_in.Tie as tie
@@ -25,26 +25,13 @@ returns-6 c = many 4 (c .before .before .before .before .before .before .args .n
 returns-7 : tie.Need-returns-7
 returns-7 c = many 5 (c .before .before .before .before .before .before .before .args .n) (c .before .if6 .left) (c .if7 .taken)
 
+count-digits-requires : tie.Need-count-digits-requires
+count-digits-requires c κs = search needs
+
 returns-8 : tie.Need-returns-8
-returns-8 c = many 6 (c .before .before .before .before .before .before .before .before .args .n) (c .before .if7 .left) (c .if8 .taken)
-
-returns-9 : tie.Need-returns-9
-returns-9 c = many 7 (c .before .before .before .before .before .before .before .before .before .args .n) (c .before .if8 .left) (c .if9 .taken)
-
-returns-10 : tie.Need-returns-10
-returns-10 c = many 8 (c .before .before .before .before .before .before .before .before .before .args .n) (c .if9 .left) (omega arith)
+returns-8 c = c .count-digits .ensures
 
 pub digits-in-spec : {M : Type 1} → statement M
 digits-in-spec =
     tie.close
-    (tie.spec
-    returns
-    returns-2
-    returns-3
-    returns-4
-    returns-5
-    returns-6
-    returns-7
-    returns-8
-    returns-9
-    returns-10)
+    (tie.spec returns returns-2 returns-3 returns-4 returns-5 returns-6 returns-7 count-digits-requires returns-8)
