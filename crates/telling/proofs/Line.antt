@@ -13,6 +13,7 @@ use Rattle.plan.specs.Outcome.{WriteExit, put}
 use Rattle.plan.specs.Programs.{bytesOf, refusalLine}
 use Rattle.plan.specs.Whole.{tellRefusal}
 use Rattle.theorems.proofs.Put.{put-none, put-length, put-put, put-one, with-room, without-room}
+use Rattle.codec.proofs.numbers.Length.{digits-twenty}
 
 -- w stands at the start of the buffer, and k is the position after it
 pub record Told (out w o : List ℕ) (k : ℕ) : Type 0 where
@@ -82,10 +83,11 @@ module _ (out : List ℕ) (r : Refusal) (n p line : ℕ) (n-is : n ≡ numberOf 
   long : line ≡ length (refusalLine r)
   long = line-is-long ∙ (sym (row-length n p) ∙ ap length same)
 
-  pub no-room : line ≤ 53 → length out < line
+  pub no-room : n < 2 ^ 64 → p < 2 ^ 64 → length out < line
       → _≡_ {A = WriteExit} (record { answer = Refused (ShortBuffer line); out = out }) (tellRefusal r out)
-  no-room small h =
-      let cut : line ≡ min (0 + length (refusalLine r)) (2 ^ 64 - 1) = omega (arith, long) in
+  no-room number place h =
+      let cut : line ≡ min (0 + length (refusalLine r)) (2 ^ 64 - 1)
+      = omega (arith, line-is-long, long, digits-twenty n number, digits-twenty p place) in
       without-room out 0 (refusalLine r) line (omega (arith, long)) cut
 
   pub all-told : (o : List ℕ) (k : ℕ) → Told out (row n p) o k → line ≤ length out

@@ -6,6 +6,7 @@ use borrow.Author.Needs.{needs}
 use lib.ListN.{length}
 use Rattle.plan.specs.Bytes.{digits}
 use Rattle.plan.specs.Programs.{bytesOf}
+use Rattle.codec.proofs.numbers.Length.{digits-twenty}
 use Rattle.telling.proofs.Line.{Told, nothing-told, more-told, byte-told, no-room, all-told}
 use Rattle.telling.proofs.tell_refusal.Statement.{statement}
 use Rattle.telling.proofs.tell_refusal.Tie as tie
@@ -20,7 +21,7 @@ told : (c : tie.After-slice-known5) → let a = start c .args in
     .before .before .before .before .before .before .before .before .before .before .before .before .told-number .result)) ++ bytesOf
     " at ") ++ digits (c .before .before .before .before .before .before .before .before .before .before .before .before .before
     .before .before .before .before .before .before .before .before .told-place .result))
-    (c .before .before .write-digits2 .last .0) (c .before .before .write-digits2 .result)
+    (c .before .before .put-digits2 .last .0) (c .before .before .put-digits2 .result)
 told c =
     let out = start c .args .out .now in
     let n = c .before .before .before .before .before .before .before .before .before .before .before .before .before .before .before
@@ -30,14 +31,14 @@ told c =
     let enough = c .before .before .before .before .before .before .before .before .before .before .before .before .before .before
     .before .before .before .before .if1 .left in
     let number = c .before .before .before .before .before .before .before .before .before .before .before .before .before .before
-    .before .before .before .before .before .before .digits-in .ensures .0 in
+    .before .before .before .before .before .before .digits-in .ensures in
     let place = c .before .before .before .before .before .before .before .before .before .before .before .before .before .before .before
-    .before .before .before .before .digits-in2 .ensures .0 in
+    .before .before .before .before .digits-in2 .ensures in
     let first = c .before .before .before .before .before .before .before .before .before .before .before .before .before .before .before
     .append in
-    let second = c .before .before .before .before .before .before .before .before .before .before .before .write-digits in
+    let second = c .before .before .before .before .before .before .before .before .before .before .before .put-digits in
     let third = c .before .before .before .before .before .before .append2 in
-    let fourth = c .before .before .write-digits2 in
+    let fourth = c .before .before .put-digits2 in
     let t1 = more-told out [] out 0 (nothing-told out) (bytesOf "refused ") (first .last .0) (first .result)
     (omega (arith, enough)) (first .ensures .1) (first .ensures .0) in
     let t2 = more-told out (bytesOf "refused ") (first .last .0) (first .result) t1 (digits n) (second .last .0) (second .result)
@@ -58,22 +59,28 @@ digits-in-requires : tie.Need-digits-in-requires
 digits-in-requires c κs = search needs
 
 add-line : tie.Need-add-line
-add-line c = search needs
+add-line c = omega (arith, c .digits-in .ensures, digits-twenty (c .before .before .told-number .result) (omega arith))
 
 digits-in-requires-2 : tie.Need-digits-in-requires-2
 digits-in-requires-2 c κs = search needs
 
 add-line-2 : tie.Need-add-line-2
-add-line-2 c = search needs
+add-line-2 c =
+    omega (
+      arith,
+      c .before .digits-in .ensures,
+      digits-twenty (c .before .before .before .told-number .result) (omega arith),
+      c .digits-in2 .ensures,
+      digits-twenty (c .before .before .told-place .result) (omega arith),
+    )
 
 returns : tie.Need-returns
 returns c =
     let a = c .before .before .before .before .before .before .args in
-    let number = c .before .before .digits-in in
-    let place = c .before .digits-in2 in
-    no-room (a .out .now) (a .r) _ _ _ (c .before .before .before .before .told-number .ensures) (c .before .before .before .told-place
-    .ensures)
-    (omega (arith, number .ensures .0, place .ensures .0)) (omega (arith, number .ensures .1, place .ensures .1)) (c .if1 .taken)
+    let number = c .before .before .before .before .told-number in
+    let place = c .before .before .before .told-place in
+    no-room (a .out .now) (a .r) _ _ _ (number .ensures) (place .ensures)
+    (omega (arith, c .before .before .digits-in .ensures, c .before .digits-in2 .ensures)) (omega arith) (omega arith) (c .if1 .taken)
 
 slice-aggregate-append : tie.Need-slice-aggregate-append
 slice-aggregate-append c = search needs
@@ -81,8 +88,8 @@ slice-aggregate-append c = search needs
 append-requires : tie.Need-append-requires
 append-requires c κs = search needs
 
-write-digits-requires : tie.Need-write-digits-requires
-write-digits-requires c κs = search needs
+put-digits-requires : tie.Need-put-digits-requires
+put-digits-requires c κs = search needs
 
 slice-aggregate-append-2 : tie.Need-slice-aggregate-append-2
 slice-aggregate-append-2 c = search needs
@@ -90,14 +97,14 @@ slice-aggregate-append-2 c = search needs
 append-requires-2 : tie.Need-append-requires-2
 append-requires-2 c κs = search needs
 
-write-digits-requires-2 : tie.Need-write-digits-requires-2
-write-digits-requires-2 c κs = search needs
+put-digits-requires-2 : tie.Need-put-digits-requires-2
+put-digits-requires-2 c κs = search needs
 
 slice-write-out : tie.Need-slice-write-out
 slice-write-out c = search needs
 
 -- the new line has room
-room : (c : tie.After-slice-known5) → c .before .before .write-digits2 .result + 1 ≤ length (start c .args .out .now)
+room : (c : tie.After-slice-known5) → c .before .before .put-digits2 .result + 1 ≤ length (start c .args .out .now)
 room c =
     let enough = c .before .before .before .before .before .before .before .before .before .before .before .before .before .before
     .before .before .before .before .if1 .left in
@@ -105,14 +112,14 @@ room c =
       arith,
       enough,
       c .before .before .before .before .before .before .before .before .before .before .before .before .before .before .before .before
-          .before .before .before .before .digits-in .ensures .0,
+          .before .before .before .before .digits-in .ensures,
       c .before .before .before .before .before .before .before .before .before .before .before .before .before .before .before .before
-          .before .before .before .digits-in2 .ensures .0,
+          .before .before .before .digits-in2 .ensures,
       c .before .before .before .before .before .before .before .before .before .before .before .before .before .before .before .append
           .ensures .0,
-      c .before .before .before .before .before .before .before .before .before .before .before .write-digits .ensures .0,
+      c .before .before .before .before .before .before .before .before .before .before .before .put-digits .ensures .0,
       c .before .before .before .before .before .before .append2 .ensures .0,
-      c .before .before .write-digits2 .ensures .0,
+      c .before .before .put-digits2 .ensures .0,
     )
 
 same-length : tie.Need-same-length
@@ -129,7 +136,7 @@ returns-2 c =
     .before .before .before .before .before .before .before .before .before .before .before .told-number .ensures) (c .before .before
     .before .before .before .before .before .before .before .before .before .before .before .before .before .before .before .before
     .before .before .before .told-place .ensures)
-    (omega (arith, number .ensures .0, place .ensures .0)) _ _ (byte-told _ _ _ _ 10 (told c) (omega (arith, room c)))
+    (omega (arith, number .ensures, place .ensures)) _ _ (byte-told _ _ _ _ 10 (told c) (omega (arith, room c)))
     (c .before .before .before .before .before .before .before .before .before .before .before .before .before .before .before .before
     .before .before .if1 .left)
 
@@ -146,10 +153,10 @@ tell-refusal-spec =
     returns
     slice-aggregate-append
     append-requires
-    write-digits-requires
+    put-digits-requires
     slice-aggregate-append-2
     append-requires-2
-    write-digits-requires-2
+    put-digits-requires-2
     slice-write-out
     same-length
     returns-2)
