@@ -1,9 +1,9 @@
--- Words of vectors before a step: a state in a blank table, and inputs beside a state.
-use Prim.Native.Nat.{ℕ, zero, suc, _+_, _-_, _≤_}
+-- Words of vectors before a step: a state beside the constant, and inputs beside a state.
+use Prim.Native.Nat.{ℕ, zero, suc, _+_, _-_, _≤_, _<_}
 use mathlib.Core.Path.{_≡_, refl, sym, ap, ap₂, _∙_}
 use mathlib.Core.List.{List, [], _∷_, _++_, map-append}
 use native.Mathlib.Omega.{arith}
-use lib.ListN.{length, take, drop, replicate, length-map, length-replicate, replicate-append-replicate}
+use lib.ListN.{length, take, drop, set, replicate, length-map, length-replicate, replicate-append-replicate}
 use lib.Seq.{take-add, take-at, drop-at}
 use Rattle.plan.specs.declared.Counts.{Counts}
 use Rattle.plan.specs.Step.{Value, v0}
@@ -42,24 +42,21 @@ rests-first n k h = record {
   state = part-blank (1 + n .I) (n .L) k h ∙ zeros-words (n .L);
 }
 
--- a state that is loaded into it
-pub rests-loaded : (n : Counts) (k : ℕ) (s : List Value) (t : List ℕ) → 1 + n .I + n .L ≤ k → length s ≡ n .L
-    → t ≡ put (blank k) (1 + n .I) (words s)
+-- where the constant is set, all else as it comes
+pub constant-set : (l : List ℕ) → 0 < length l → take 1 (set l 0 0) ≡ 0 ∷ []
+constant-set [] h = absurd (omega arith)
+constant-set (x ∷ l) h = refl
+
+-- a state that is loaded behind the constant
+pub rests-loaded : (n : Counts) (base : List ℕ) (s : List Value) (t : List ℕ) → take 1 base ≡ 0 ∷ [] → 1 + n .I ≤ length base → length s ≡ n .L
+    → t ≡ put base (1 + n .I) (words s)
     → Rests n s t
-rests-loaded n k s t h l e = record { zero = zero; state = state }
-  where
-    fits : 1 + n .I ≤ length (blank k)
-    fits = omega (arith, blank-length k, h)
-
-    zero : take 1 t ≡ 0 ∷ []
-    zero = ap (take 1) e ∙ (front-stays (blank k) (1 + n .I) (words s) fits 1 (omega arith) ∙ part-blank 0 1 k (omega arith))
-
-    count : length (words s) ≡ n .L
-    count = length-map s word ∙ l
-
-    state : take (n .L) (drop (1 + n .I) t) ≡ words s
-    state =
-        ap₂ (λ (m : ℕ) (x : List ℕ). take m (drop (1 + n .I) x)) (sym count) e ∙ part-put (blank k) (1 + n .I) (words s) fits
+rests-loaded n base s t constant fits l e = record {
+  zero = ap (take 1) e ∙ (front-stays base (1 + n .I) (words s) fits 1 (omega arith) ∙ constant);
+  state =
+      ap₂ (λ (m : ℕ) (x : List ℕ). take m (drop (1 + n .I) x)) (sym (length-map s word ∙ l)) e
+      ∙ part-put base (1 + n .I) (words s) fits;
+}
 
 -- inputs that are loaded beside a state
 pub stands-loaded : (n : Counts) (s i : List Value) (t t′ : List ℕ) → Rests n s t → length s ≡ n .L → length i ≡ n .I

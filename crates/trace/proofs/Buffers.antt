@@ -1,9 +1,9 @@
 -- The state's bytes around a run: loaded before the first line, stored after the last.
-use Prim.Native.Nat.{ℕ, _+_}
+use Prim.Native.Nat.{ℕ, _+_, _≤_}
 use mathlib.Core.Path.{_≡_, ap, _∙_}
 use mathlib.Core.List.{List, map}
 use native.Mathlib.Omega.{arith}
-use lib.ListN.{length, length-map}
+use lib.ListN.{length, take, length-map}
 use Rattle.plan.specs.declared.Counts.{Counts}
 use Rattle.plan.specs.Circuit.{Circuit}
 use Rattle.plan.specs.Step.{Value, codeOf, valueOf}
@@ -11,7 +11,7 @@ use Rattle.plan.specs.Outcome.{put}
 use Rattle.plan.specs.Whole.{stateAfter}
 use Rattle.values.specs.Words.{words, valuesAt}
 use Rattle.sweep.specs.Running.{Rests}
-use Rattle.sweep.proofs.Loading.{rests-loaded}
+use Rattle.sweep.proofs.Loading.{rests-first, rests-loaded}
 use Rattle.step.specs.Asked.{Blank}
 use Rattle.step.proofs.Buffers.{told-part}
 use Rattle.trace.specs.Tracing.{Resting, Ran, Left}
@@ -24,10 +24,13 @@ module _ {n : Counts} {latches outputs gates scratch : List ℕ} (b : Blank n la
   pub state-long : length s ≡ n .L
   state-long = length-map state valueOf ∙ long
 
+  leaves-in : 1 + n .I + n .L ≤ length scratch
+  leaves-in = omega (arith, b .scratch-long, b .runs .fits .sum)
+
   pub state-rests : Rests n s t1
   state-rests =
-      rests-loaded n (length scratch) s t1 (omega (arith, b .scratch-long, b .runs .fits .sum)) state-long
-      (e1 ∙ ap (λ (l : List ℕ). put l (1 + n .I) (words s)) (b .zero))
+      rests-loaded n scratch s t1 (ap (take 1) (b .zero) ∙ rests-first n (length scratch) leaves-in .zero) (omega (arith, leaves-in))
+      state-long e1
 
   pub state-resting : length t1 ≡ length scratch → Resting n latches outputs gates t1
   state-resting same = record {
