@@ -1,41 +1,29 @@
 -- What the check of given tables tells: the refusal that is answered, or tables that a step can run on.
 use Prim.Native.Nat.{ℕ}
-use mathlib.Core.Path.{_≡_, refl, sym, ap, _∙_}
+use mathlib.Core.Path.{_≡_, refl, sym, _∙_}
 use mathlib.Core.Bool.{true}
 use mathlib.Core.Option.{Option, none, some}
 use mathlib.Core.List.{List, [], _∷_, _++_}
 use native.Mathlib.Omega.{arith}
-use lib.ListN.{length, replicate, length-replicate}
+use lib.ListN.{length}
 use Rattle.plan.specs.declared.Refusal.{Refusal}
 use Rattle.plan.specs.declared.Checked.{Checked}
 use Rattle.plan.specs.declared.Checked.the-variants as checked
 use Rattle.plan.specs.Refusals.{firstOf}
-use Rattle.plan.specs.Circuit.{cleared}
 use Rattle.plan.specs.Given.{Given, lentAlone, stages, orderStage}
-use Rattle.plan.specs.Outcome.{CheckExit, checkInOrder, checkedBy}
+use Rattle.plan.specs.Outcome.{checkInOrder}
 use Rattle.theorems.proofs.Writing.Nothing.{some-first, both-first}
 use Rattle.given.specs.Judged.{allStages}
 use Rattle.given.proofs.Sound.{Good, good-none, refused-some, good-alone}
 use Rattle.sweep.specs.Running.{Runs}
-use Rattle.step.specs.Asked.{Room, Blank}
-
--- the answer alone, where scratch is not cleared yet
-pub says-answer : (g : Given) {a : Checked} → a ≡ checkInOrder g .answer
-    → _≡_ {A = CheckExit} (record { answer = a; scratch = cleared (g .scratch) }) (checkInOrder g)
-says-answer g e = λ j. record { answer = e j; scratch = cleared (g .scratch) }
+use Rattle.step.specs.Asked.{Room}
 
 -- the answer where one stage more comes after 15
 module _ (g : Given) (last : Option Refusal) where
   abbrev pub answer : Option Refusal
   answer = firstOf (stages g (lentAlone g) ++ (orderStage g ∷ last ∷ []))
 
-  module _ {a : Checked} {t : List ℕ} (e : _≡_ {A = CheckExit} (record { answer = a; scratch = t }) (checkInOrder g)) where
-    told : a ≡ checkedBy (firstOf (allStages true g (lentAlone g)))
-    told = ap (λ (x : CheckExit). x .answer) e
-
-    pub blank-is : t ≡ cleared (g .scratch)
-    blank-is = ap (λ (x : CheckExit). x .scratch) e
-
+  module _ {a : Checked} (told : a ≡ checkInOrder g .answer) where
     pub refused-by : (r : Refusal) → a ≡ checked.Refused r → answer ≡ some r
     refused-by r q = some-first r (allStages true g (lentAlone g)) (last ∷ []) (refused-some r _ (sym q ∙ told))
 
@@ -57,13 +45,3 @@ module _ (g : Given) (last : Option Refusal) where
         runs = runs;
         scratch-long = omega (arith, good-alone true g all-none .scratch, count);
       }
-
-      pub blank : Blank (g .counts) (g .tables .latches) (g .tables .outputs) (g .tables .gates) t
-      blank =
-          let count : length t ≡ length (g .scratch) = ap length blank-is ∙ length-replicate {A = ℕ} (length (g .scratch)) 0 in
-          record {
-            inputs = g .tables .inputs;
-            runs = runs;
-            scratch-long = room t count .scratch-long;
-            zero = blank-is ∙ ap (λ (k : ℕ). replicate k 0) (sym count);
-          }

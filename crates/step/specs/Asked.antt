@@ -5,7 +5,7 @@ use mathlib.Core.Path.{_≡_}
 use mathlib.Core.List.{List, map}
 use lib.ListN.{length}
 use Rattle.plan.specs.declared.Counts.{Counts}
-use Rattle.plan.specs.Circuit.{Circuit, cleared}
+use Rattle.plan.specs.Circuit.{Circuit}
 use Rattle.plan.specs.Step.{codeOf, valueOf, outputsOf, nextOf}
 use Rattle.tables.specs.Held.{Scratch}
 use Rattle.sweep.specs.Running.{Runs}
@@ -14,13 +14,6 @@ pub record Room (n : Counts) (latches outputs gates scratch : List ℕ) : Type 0
   pub inputs : List ℕ
   pub runs : Runs n inputs latches outputs gates
   pub scratch-long : Scratch n scratch
-
--- the same with scratch that is zero, where a run starts
-pub record Blank (n : Counts) (latches outputs gates scratch : List ℕ) : Type 0 where
-  pub inputs : List ℕ
-  pub runs : Runs n inputs latches outputs gates
-  pub scratch-long : Scratch n scratch
-  pub zero : scratch ≡ cleared scratch
 
 -- a state, inputs and outputs
 pub record Vectors (n : Counts) (state ins outs : List ℕ) : Type 0 where

@@ -48,7 +48,8 @@ constant-set [] h = absurd (omega arith)
 constant-set (x ∷ l) h = refl
 
 -- a state that is loaded behind the constant
-pub rests-loaded : (n : Counts) (base : List ℕ) (s : List Value) (t : List ℕ) → take 1 base ≡ 0 ∷ [] → 1 + n .I ≤ length base → length s ≡ n .L
+pub rests-loaded : (n : Counts) (base : List ℕ) (s : List Value) (t : List ℕ) → take 1 base ≡ 0 ∷ [] → 1 + n .I ≤ length base
+    → length s ≡ n .L
     → t ≡ put base (1 + n .I) (words s)
     → Rests n s t
 rests-loaded n base s t constant fits l e = record {

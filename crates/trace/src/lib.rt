@@ -12,11 +12,11 @@ ghost use Rattle.plan.specs.Programs.{linesIn, allVectors};
 ghost use Rattle.plan.specs.Whole.{lineWidth, trace};
 ghost use Rattle.tables.specs.Held.{circuitIn};
 ghost use Rattle.sweep.specs.Running.{Runs, Rests};
-ghost use Rattle.step.specs.Asked.{Blank};
+ghost use Rattle.step.specs.Asked.{Room};
 ghost use Rattle.stimulus.specs.Scan.{ended};
 ghost use Rattle.trace.specs.Tracing.{part, Resting, Wrote, Listed, firstOnes, Ran, Left, judged};
 use codes::codes_in;
-use given::check_in_order;
+use given::judge_in_order;
 use plan::Checked;
 use plan::Counts;
 use plan::Refusal;
@@ -108,7 +108,8 @@ fn trace_lines(
     }
 }
 
-// The same from the state that is given, over which the state after the last line goes.
+// The same from the state that is given, over which the state after the last line goes. Of scratch it asks the length alone: every word
+// is written before it is read.
 fn trace_from(
     n: Counts,
     latches: &[u32],
@@ -120,13 +121,15 @@ fn trace_from(
     vectors: &[u8],
     out: &mut [u8],
 )
-    requires { ⌜ Blank n (now latches) (now outputs) (now gates) (now scratch) ⌝ }
+    requires { ⌜ Room n (now latches) (now outputs) (now gates) (now scratch) ⌝ }
     requires { ⌜ length (now state) ≡ n .L ⌝ }
     requires { ⌜ Listed n number (now vectors) (now out) ⌝ }
     ensures { λ _. ⌜ ((inputs : List ℕ) → Runs n inputs (now (latches .entry)) (now (outputs .entry)) (now (gates .entry))
         → Left (circuitIn n inputs (now (latches .entry)) (now (outputs .entry)) (now (gates .entry))) (now (state .entry))
         (firstOnes number (now (vectors .entry))) (now (state .exit)) (now (out .entry)) (now (out .exit))) ⌝ }
 {
+    // the constant
+    scratch[0] = 0;
     load(state, 1 + n.I, scratch);
     trace_lines(n, latches, outputs, gates, scratch, number, vectors, out);
     store(scratch, 1 + n.I, state);
@@ -175,10 +178,13 @@ pub fn trace(
         (record { circuit = (record { counts = n; tables = (record { inputs = now (inputs .entry); latches = now (latches .entry); outputs = now (outputs .entry); gates = now (gates .entry) }); scratch = now (scratch .entry) }); state = now (state .entry); vectors = now (vectors .entry); out = now (out .entry) })
         (record { answer = r; scratch = now (scratch .exit); state = now (state .exit); out = now (out .exit) }) ⌝ }
 {
-    match check_in_order(n, inputs, latches, outputs, gates, scratch) {
+    match judge_in_order(n, inputs, latches, outputs, gates, scratch) {
         Checked::Refused(refusal) => Traced::Refused(refusal),
         Checked::Good => match judge(n, state, vectors) {
-            Traced::Refused(refusal) => Traced::Refused(refusal),
+            Traced::Refused(refusal) => {
+                clear(scratch);
+                Traced::Refused(refusal)
+            }
             Traced::Lines(lines) => {
                 let number = fitting(n, lines, out.len());
                 trace_from(

@@ -8,7 +8,7 @@ use native.Mathlib.Omega.{arith}
 use lib.ListN.{length, take, drop, replicate, length-map, length-take, length-drop, length-replicate}
 use lib.Seq.{length-take-le, drop-drop}
 use Rattle.plan.specs.declared.Counts.{Counts}
-use Rattle.plan.specs.Circuit.{Circuit}
+use Rattle.plan.specs.Circuit.{Circuit, cleared}
 use Rattle.plan.specs.Step.{Value, v0, valueOf, outputsOf, nextOf, run, vectorsOf, any1, shows1, witnessed}
 use Rattle.plan.specs.Outcome.{put}
 use Rattle.theorems.proofs.Tables.{row-ends}
@@ -17,7 +17,6 @@ use Rattle.tables.specs.Held.{circuitIn, Scratch}
 use Rattle.values.specs.Words.{words, valuesAt}
 use Rattle.sweep.specs.Running.{Runs, Rests, Stands, Stepped, Ready}
 use Rattle.sweep.proofs.Loading.{rests-first, stands-loaded}
-use Rattle.step.specs.Asked.{Blank}
 use Rattle.step.proofs.Buffers.{told-part}
 
 -- what is left of the list: `left` vectors, of which the first starts at `at`
@@ -118,11 +117,11 @@ module _ {n : Counts} {inputs latches outputs gates : List ℕ} (r : Runs n inpu
   abbrev held : Circuit
   held = circuitIn n inputs latches outputs gates
 
-  pub going-first : (t : List ℕ) (b : Blank n latches outputs gates t) → Going n held number bytes t 0 0
-  going-first t b = record {
+  pub going-first : (t : List ℕ) → Scratch n t → t ≡ cleared t → Going n held number bytes t 0 0
+  going-first t room blank = record {
     state = replicate (n .L) v0;
     state-length = length-replicate (n .L) v0;
-    rests = subst (Rests n (replicate (n .L) v0)) (sym (b .zero)) (rests-first n (length t) (omega (arith, b .scratch-long, r .fits .sum)));
+    rests = subst (Rests n (replicate (n .L) v0)) (sym blank) (rests-first n (length t) (omega (arith, room, r .fits .sum)));
     left = ap₂ (λ (m l : ℕ). shows1 (run held (replicate m v0) (vectorsOf held l bytes))) (ap (λ (m : Counts). m .L) (r .counts)) all;
   }
     where

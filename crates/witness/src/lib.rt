@@ -3,11 +3,12 @@ ghost use mathlib.Core.Path.{_≡_};
 ghost use mathlib.Core.List.{List};
 ghost use Prim.Native.Nat.{ℕ, _*_};
 ghost use lib.ListN.{length};
+ghost use Rattle.plan.specs.Circuit.{cleared};
 ghost use Rattle.plan.specs.Step.{witnessed};
 ghost use Rattle.plan.specs.Outcome.{Says, witness};
 ghost use Rattle.tables.specs.Held.{circuitIn};
 ghost use Rattle.sweep.specs.Running.{Runs};
-ghost use Rattle.step.specs.Asked.{Blank};
+ghost use Rattle.step.specs.Asked.{Room};
 use codes::whole_list;
 use given::check_in_order;
 use plan::Checked;
@@ -19,7 +20,8 @@ use tables::clear;
 use values::any_one;
 use values::load;
 
-// Whether a list, whose bytes are good, shows 1 on some output. Between two steps the state stays in scratch, and the first 1 ends it.
+// Whether a list, whose bytes are good, shows 1 on some output. Scratch that is zero holds the first state; between two steps the state
+// stays in it, and the first 1 ends it.
 fn shows_one(
     n: Counts,
     latches: &[u32],
@@ -29,7 +31,8 @@ fn shows_one(
     number: usize,
     bytes: &[u8],
 ) -> bool
-    requires { ⌜ Blank n (now latches) (now outputs) (now gates) (now scratch) ⌝ }
+    requires { ⌜ Room n (now latches) (now outputs) (now gates) (now scratch) ⌝ }
+    requires { ⌜ now scratch ≡ cleared (now scratch) ⌝ }
     requires { ⌜ length (now bytes) ≡ number * n .I ⌝ }
     ensures { λ r. ⌜ ((inputs : List ℕ) → Runs n inputs (now (latches .entry)) (now (outputs .entry)) (now (gates .entry))
         → r ≡ witnessed (circuitIn n inputs (now (latches .entry)) (now (outputs .entry)) (now (gates .entry))) number

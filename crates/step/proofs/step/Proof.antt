@@ -2,10 +2,9 @@ use Prim.Native.Nat.{ℕ}
 use mathlib.Core.Path.{_≡_, ap, _∙_}
 use lib.ListN.{length, replicate}
 use Rattle.plan.specs.declared.Checked.the-variants.{Good}
-use Rattle.plan.specs.Circuit.{cleared}
-use Rattle.plan.specs.Outcome.{CheckExit, StepEntry, checkInOrder, stepStage}
+use Rattle.plan.specs.Outcome.{StepEntry, checkInOrder, stepStage}
 use Rattle.tables.proofs.Told.{some-table, no-table}
-use Rattle.step.proofs.Checks.{says-answer, refused-by, past-check, runs, room}
+use Rattle.step.proofs.Checks.{refused-by, past-check, runs, room}
 use Rattle.step.proofs.Answers.{good-vectors, refused-step, refused-vector, done-step}
 use borrow.Author.Needs.{needs}
 use Rattle.step.proofs.step.Statement.{statement}
@@ -36,10 +35,8 @@ checked d = d .before .before .before .before
 told : (d : tie.After-enum-told) → checked d .judge-in-order .result ≡ Good
 told d = d .enum-told .given .1
 
-says : (d : tie.After-enum-told)
-    → let g = entry (start d) .circuit in
-    _≡_ {A = CheckExit} (record { answer = checked d .judge-in-order .result; scratch = cleared (g .scratch) }) (checkInOrder g)
-says d = says-answer (entry (start d) .circuit) (checked d .judge-in-order .ensures .0)
+says : (d : tie.After-enum-told) → checked d .judge-in-order .result ≡ checkInOrder (entry (start d) .circuit) .answer
+says d = checked d .judge-in-order .ensures .0
 
 -- scratch stays as long as it was
 same : (d : tie.After-enum-told) → length (checked d .judge-in-order .last .1 .1 .1 .1 .1 .0) ≡ length (start d .args .scratch .now)
@@ -96,7 +93,7 @@ returns-2 c =
     let e = entry (x .before .before .before .before .before .before .before .before .before .before) in
     let refused = c .before .refusal .given .1 in
     refused-step e _ (x .judge-in-order .ensures .1 _ refused) _
-    (refused-by (e .circuit) (stepStage e) (says-answer (e .circuit) (x .judge-in-order .ensures .0)) _ refused)
+    (refused-by (e .circuit) (stepStage e) (x .judge-in-order .ensures .0) _ refused)
 
 same-length-4 : tie.Need-same-length-4
 same-length-4 c = search needs

@@ -1,11 +1,11 @@
 use Prim.Native.Nat.{ℕ}
 use mathlib.Core.Path.{_≡_, ap, _∙_}
 use native.Mathlib.Omega.{arith}
-use lib.ListN.{replicate}
+use lib.ListN.{length, replicate}
 use Rattle.plan.specs.declared.Checked.the-variants.{Good}
-use Rattle.plan.specs.Outcome.{CheckExit, checkInOrder}
+use Rattle.plan.specs.Outcome.{checkInOrder}
 use Rattle.plan.specs.Whole.{TraceEntry, traceStage}
-use Rattle.step.proofs.Checks.{blank-is, refused-by, past-check, runs, blank}
+use Rattle.step.proofs.Checks.{refused-by, past-check, runs, room}
 use Rattle.trace.proofs.Answers.{state-long, listed, refused-trace, refused-vectors, done-trace}
 use borrow.Author.Needs.{needs}
 use Rattle.trace.proofs.trace.Statement.{statement}
@@ -26,30 +26,33 @@ entry s =
       out = a .out .now;
     }
 
--- back to the start, where the tables are good, and what the check said there
-abbrev checking : tie.After-judge-arg → tie.After-check-in-order
+-- back to the start, where the tables are good, and what was said of them there
+abbrev checking : tie.After-judge-arg → tie.After-judge-in-order
 checking d = d .before .before .before .before .before
 
-abbrev start : tie.After-check-in-order → tie.Start
+abbrev start : tie.After-judge-in-order → tie.Start
 start d = d .before .before .before .before .before .before .before .before .before .before
 
-told : (d : tie.After-judge-arg) → checking d .check-in-order .result ≡ Good
+told : (d : tie.After-judge-arg) → checking d .judge-in-order .result ≡ Good
 told d = d .before .enum-told .given .1
 
-says : (d : tie.After-judge-arg) → let k = checking d .check-in-order in
-    _≡_ {A = CheckExit} (record { answer = k .result; scratch = k .last .1 .1 .1 .1 .1 .0 })
-    (checkInOrder (entry (start (checking d)) .circuit))
-says d = checking d .check-in-order .ensures
+says : (d : tie.After-judge-arg) → checking d .judge-in-order .result ≡ checkInOrder (entry (start (checking d)) .circuit) .answer
+says d = checking d .judge-in-order .ensures .0
+
+-- scratch stays as long as it was
+same : (d : tie.After-judge-arg)
+    → length (checking d .judge-in-order .last .1 .1 .1 .1 .1 .0) ≡ length (start (checking d) .args .scratch .now)
+same d = d .before .before .before .before .scratch .given
 
 -- from the end back to where the vectors were judged
 abbrev judging : tie.After-trace-from-arg3 → tie.After-judge
 judging c = c .before .before .before .before .before .before .before
 
-abbrev tracing : tie.After-slice-known8 → tie.After-trace-from-arg3
+abbrev tracing : tie.After-slice-known9 → tie.After-trace-from-arg3
 tracing c = c .before .before .before .before .before .before .before .before .before .before .before
 
-check-in-order-requires : tie.Need-check-in-order-requires
-check-in-order-requires c κs = search needs
+judge-in-order-requires : tie.Need-judge-in-order-requires
+judge-in-order-requires c κs = search needs
 
 enum-known-refusal : tie.Need-enum-known-refusal
 enum-known-refusal c = search needs
@@ -62,6 +65,9 @@ judge-requires c κs = search needs
 
 enum-known-refusal-2 : tie.Need-enum-known-refusal-2
 enum-known-refusal-2 c = search needs
+
+clear-requires : tie.Need-clear-requires
+clear-requires c κs = search needs
 
 enum-known-lines : tie.Need-enum-known-lines
 enum-known-lines c = search needs
@@ -79,23 +85,23 @@ trace-from-requires c κs =
     let e = entry (start (checking d)) in
     let judged = judging c .judge .ensures in
     let lines = c .before .before .before .before .before .lines .given .1 in (
-      blank (e .circuit) (traceStage e) (says d) (told d),
+      room (e .circuit) (traceStage e) (says d) (told d) _ (same d),
       (state-long e _ judged _ lines, listed e _ judged _ lines _ (c .before .before .before .fitting .ensures)),
     )
 
-clear-requires : tie.Need-clear-requires
-clear-requires c κs = search needs
+clear-requires-2 : tie.Need-clear-requires-2
+clear-requires-2 c κs = search needs
 
 same-length : tie.Need-same-length
 same-length c = search needs
 
 returns : tie.Need-returns
 returns c =
-    let d = c .before .before .before .before .before in
-    let e = entry (start d) in
-    let check = d .check-in-order .ensures in
-    refused-trace e _ (blank-is (e .circuit) (traceStage e) check) _
-    (refused-by (e .circuit) (traceStage e) check _ (c .before .refusal .given .1))
+    let x = c .before .before .before .before .before in
+    let e = entry (start x) in
+    let refused = c .before .refusal .given .1 in
+    refused-trace e _ (x .judge-in-order .ensures .1 _ refused) _
+    (refused-by (e .circuit) (traceStage e) (x .judge-in-order .ensures .0) _ refused)
 
 same-length-2 : tie.Need-same-length-2
 same-length-2 c = search needs
@@ -105,10 +111,12 @@ same-length-3 c = search needs
 
 returns-2 : tie.Need-returns-2
 returns-2 c =
-    let d = c .before .before .before .before in
+    let j = c .before .before .before .before .before .before .before in
+    let d = j .before in
     let e = entry (start (checking d)) in
-    refused-vectors e _ (c .before .before .before .judge .ensures) _ (blank-is (e .circuit) (traceStage e) (says d))
-    (past-check (e .circuit) (traceStage e) (says d) (told d)) _ (c .before .refusal2 .given .1)
+    let zero = c .before .before .clear .ensures ∙ ap (λ (k : ℕ). replicate k 0) (same d) in
+    refused-vectors e _ (j .judge .ensures) _ zero (past-check (e .circuit) (traceStage e) (says d) (told d)) _
+    (c .before .before .before .before .before .refusal2 .given .1)
 
 same-length-4 : tie.Need-same-length-4
 same-length-4 c = search needs
@@ -125,8 +133,7 @@ returns-3 c =
     let d = judging f .before in
     let e = entry (start (checking d)) in
     let p = c .before .before .before .before .before .before .before .before .before in
-    let length-is = p .scratch2 .given ∙ d .before .before .before .before .scratch .given in
-    let zero = c .before .before .clear .ensures ∙ ap (λ (k : ℕ). replicate k 0) length-is in
+    let zero = c .before .before .clear2 .ensures ∙ ap (λ (k : ℕ). replicate k 0) (p .scratch3 .given ∙ same d) in
     let left = p .before .trace-from .ensures (e .circuit .tables .inputs) (runs (e .circuit) (traceStage e) (says d) (told d)) in
     done-trace e _ (judging f .judge .ensures) _ zero (past-check (e .circuit) (traceStage e) (says d) (told d)) _
     (f .before .before .before .before .before .lines .given .1) _ (f .before .before .before .fitting .ensures) _ _ left
@@ -135,15 +142,16 @@ pub trace-spec : {M : Type 1} → statement M
 trace-spec =
     tie.close
     (tie.spec
-    check-in-order-requires
+    judge-in-order-requires
     enum-known-refusal
     enum-told
     judge-requires
     enum-known-refusal-2
+    clear-requires
     enum-known-lines
     fitting-requires
     trace-from-requires
-    clear-requires
+    clear-requires-2
     same-length
     returns
     same-length-2

@@ -1,5 +1,8 @@
+use mathlib.Core.Path.{_≡_, _∙_}
 use native.Mathlib.Omega.{arith}
-use Rattle.trace.proofs.Buffers.{state-long, state-rests, state-resting, state-left}
+use lib.ListN.{length, length-set}
+use Rattle.step.proofs.Buffers.{state-long, state-rests}
+use Rattle.trace.proofs.Buffers.{state-resting, state-left}
 use borrow.Author.Needs.{needs}
 use Rattle.trace.proofs.trace_from.Statement.{statement}
 use Rattle.trace.proofs.trace_from.Tie as tie
@@ -15,11 +18,23 @@ start c = c .before .before .before .before .before .before .before .before .bef
 abbrev storing : tie.After-store-arg2 → tie.After-trace-lines-arg2
 storing c = c .before .before .before .before .before .before .before .before
 
+-- scratch stays as long as it was
+same : (c : tie.After-scratch) → length (c .before .load .last .1 .1 .0) ≡ length (start c .args .scratch .now)
+same c = c .scratch .given ∙ length-set (start c .args .scratch .now) 0 0
+
+slice-write-scratch : tie.Need-slice-write-scratch
+slice-write-scratch c =
+    let p = c .before .before .before .before .before .before .before .pre .0 in
+    omega (arith, p .scratch-long)
+
 add-load : tie.Need-add-load
 add-load c = search needs
 
 load-requires : tie.Need-load-requires
-load-requires c κs = search needs
+load-requires c κs =
+    let s = c .before .before .before .before .before .before .before .before .before .before in
+    let p = s .pre in
+    omega (arith, p .0 .scratch-long, p .0 .runs .fits .sum, p .1 .0, length-set (s .args .scratch .now) 0 0)
 
 trace-lines-requires : tie.Need-trace-lines-requires
 trace-lines-requires c κs =
@@ -36,11 +51,13 @@ store-requires : tie.Need-store-requires
 store-requires c κs =
     let l = loaded (storing c) in
     let p = start l .pre in
-    let same = c .before .before .before .before .before .before .scratch2 .given in
-    omega (arith, p .0 .runs .fits .sum, p .0 .scratch-long, p .1 .0, same, l .scratch .given)
+    let after = c .before .before .before .before .before .before .scratch2 .given in
+    omega (arith, p .0 .runs .fits .sum, p .0 .scratch-long, p .1 .0, after, same l)
 
 same-length : tie.Need-same-length
-same-length c = search needs
+same-length c =
+    let d = c .before .before .before in
+    d .before .before .before .before .before .before .scratch2 .given ∙ same (loaded (storing d))
 
 same-length-2 : tie.Need-same-length-2
 same-length-2 c = search needs
@@ -65,6 +82,7 @@ pub trace-from-spec : {M : Type 1} → statement M
 trace-from-spec =
     tie.close
     (tie.spec
+    slice-write-scratch
     add-load
     load-requires
     trace-lines-requires

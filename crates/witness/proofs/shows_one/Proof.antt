@@ -27,7 +27,7 @@ start q = q .before .before .before .before .before .before .before
 
 turn : (q : tie.In-loop Inv-loop μ-loop)
     → Turn (start q .args .n) (start q .args .number) (start q .args .bytes .now) (q .before .loop .k) (q .before .loop .at)
-turn q = record { whole = start q .pre .1; here = q .before .loop .inv .1; more = q .loop-test .taken }
+turn q = record { whole = start q .pre .1 .1; here = q .before .loop .inv .1; more = q .loop-test .taken }
 
 room : (q : tie.In-loop Inv-loop μ-loop) → Scratch (start q .args .n) (q .before .loop .scratch)
 room q = omega (arith, start q .pre .0 .scratch-long, q .before .loop .inv .2)
@@ -61,7 +61,7 @@ loop-holds c =
       omega arith,
       sym (mul-zero (s .args .n .I)),
       refl,
-      λ inputs r. going-first r (s .args .number) (s .args .bytes .now) (s .args .scratch .now) (s .pre .0),
+      λ inputs r. going-first r (s .args .number) (s .args .bytes .now) (s .args .scratch .now) (s .pre .0 .scratch-long) (s .pre .1 .0),
     )
 
 add-end : tie.Need-add-end Inv-loop μ-loop

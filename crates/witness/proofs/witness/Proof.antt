@@ -2,14 +2,14 @@ use Prim.Native.Nat.{ℕ, _*_}
 use mathlib.Core.Path.{_≡_, sym, ap, _∙_}
 use mathlib.Core.Bool.{true}
 use borrow.Author.Tests.{not-true, not-false}
-use lib.ListN.{replicate}
+use lib.ListN.{length, replicate}
 use Rattle.plan.specs.declared.Checked.the-variants.{Good}
 use Rattle.plan.specs.Circuit.{cleared}
 use Rattle.plan.specs.Step.{witnessed}
 use Rattle.plan.specs.Given.{given}
 use Rattle.plan.specs.Outcome.{CheckExit, WitnessEntry, checkInOrder, listStage}
 use Rattle.codes.proofs.Places.{codesIn}
-use Rattle.step.proofs.Checks.{blank-is, refused-by, past-check, runs, blank}
+use Rattle.step.proofs.Checks.{refused-by, past-check, runs, room}
 use Rattle.witness.proofs.Verdicts.{good-list, refused-witness, refused-list, yes-witness, no-witness}
 use borrow.Author.Needs.{needs}
 use Rattle.witness.proofs.witness.Statement.{statement}
@@ -39,10 +39,15 @@ checked d = d .before .before .before .before
 told : (d : tie.After-enum-told) → checked d .check-in-order .result ≡ Good
 told d = d .enum-told .given .1
 
-says : (d : tie.After-enum-told)
-    → let x = checked d .check-in-order in
-    _≡_ {A = CheckExit} (record { answer = x .result; scratch = x .last .1 .1 .1 .1 .1 .0 }) (checkInOrder (entry (start d) .circuit))
-says d = checked d .check-in-order .ensures
+says : (d : tie.After-enum-told) → checked d .check-in-order .result ≡ checkInOrder (entry (start d) .circuit) .answer
+says d = ap (λ (x : CheckExit). x .answer) (checked d .check-in-order .ensures)
+
+-- scratch stays as long as it was, and is zero then
+same : (d : tie.After-enum-told) → length (checked d .check-in-order .last .1 .1 .1 .1 .1 .0) ≡ length (start d .args .scratch .now)
+same d = d .before .before .before .scratch .given
+
+blank : (d : tie.After-enum-told) → checked d .check-in-order .last .1 .1 .1 .1 .1 .0 ≡ cleared (start d .args .scratch .now)
+blank d = ap (λ (x : CheckExit). x .scratch) (checked d .check-in-order .ensures)
 
 -- the list is good
 whole-told : (f : tie.Else1) → let e = entry (start (f .before .before)) in codesIn (e .bytes) (e .number * e .circuit .counts .I) ≡ true
@@ -61,7 +66,7 @@ good s = listed s .before .before
 zero : (z : tie.After-scratch3) → z .before .clear .last .0 ≡ cleared (start (good (stepped z)) .args .scratch .now)
 zero z =
     let s = stepped z in
-    z .before .clear .ensures ∙ ap (λ (k : ℕ). replicate k 0) (s .scratch2 .given ∙ good s .before .before .before .scratch .given)
+    z .before .clear .ensures ∙ ap (λ (k : ℕ). replicate k 0) (s .scratch2 .given ∙ same (good s))
 
 shown : (s : tie.After-scratch2)
     → let e = entry (start (good s)) in s .before .shows-one .result ≡ witnessed (given (e .circuit)) (e .number) (e .bytes)
@@ -89,14 +94,16 @@ returns : tie.Need-returns
 returns c =
     let d = c .before .before in
     let e = entry (start d) in
-    refused-list e _ (blank-is (e .circuit) (listStage e) (says d)) (past-check (e .circuit) (listStage e) (says d) (told d))
+    refused-list e _ (blank d) (past-check (e .circuit) (listStage e) (says d) (told d))
     (sym (c .before .whole-list .ensures) ∙ not-true _ (c .if1 .taken))
 
 shows-one-requires : tie.Need-shows-one-requires
 shows-one-requires c κs =
     let d = c .before .before .before in
-    let e = entry (start d) in
-    (blank (e .circuit) (listStage e) (says d) (told d), good-list e (whole-told (c .before)))
+    let e = entry (start d) in (
+      room (e .circuit) (listStage e) (says d) (told d) _ (same d),
+      (blank d ∙ ap (λ (k : ℕ). replicate k 0) (sym (same d)), good-list e (whole-told (c .before))),
+    )
 
 clear-requires : tie.Need-clear-requires
 clear-requires c κs = search needs
@@ -120,8 +127,9 @@ returns-3 : tie.Need-returns-3
 returns-3 c =
     let x = c .before .before .before .before .before in
     let e = entry (x .before .before .before .before .before .before .before .before) in
-    refused-witness e _ (blank-is (e .circuit) (listStage e) (x .check-in-order .ensures)) _
-    (refused-by (e .circuit) (listStage e) (x .check-in-order .ensures) _ (c .before .refusal .given .1))
+    let check = x .check-in-order .ensures in
+    refused-witness e _ (ap (λ (q : CheckExit). q .scratch) check) _
+    (refused-by (e .circuit) (listStage e) (ap (λ (q : CheckExit). q .answer) check) _ (c .before .refusal .given .1))
 
 same-length-4 : tie.Need-same-length-4
 same-length-4 c = search needs
