@@ -27,7 +27,7 @@ use Rattle.theorems.proofs.Running.Found.{AllG}
 use Rattle.theorems.proofs.Running.Lists.{allIn, distinct-left}
 use Rattle.theorems.proofs.Tables.{gateAt, gates-rows, latchAt, latches-rows, words-take}
 use Rattle.order.specs.Numbers.{InTable, InRange}
-use Rattle.order.specs.Waiting.{Room, Fresh, Unmarked}
+use Rattle.order.specs.Waiting.{Room, Known, Fresh, Blank}
 use Rattle.order.proofs.Spaces.{all-places, words-enough, gates-inside}
 use Rattle.order.proofs.Settling.{small-words}
 use Rattle.closing.specs.Leaves.{leavesOf, Leaves, Numbered}
@@ -99,7 +99,7 @@ module _ {n : Counts} {inputs latches outputs gates scratch : List ℕ} {base : 
     pub room : Room gates u (n .M + 1) (n .A)
     room = record {
       gates-long = p .gates-long;
-      table-long = omega (arith, words-enough (n .M) (n .A) (omega (arith, p .sum)), p .scratch-long, same, kept);
+      table-long = omega (arith, words-enough (n .M) (n .A) (omega (arith, p .sum)) (omega (arith, p .sum, p .most-M)), p .scratch-long, same, kept);
       small = omega (arith, p .sum, p .most-M);
       inside = gates-in;
     }
@@ -109,8 +109,11 @@ module _ {n : Counts} {inputs latches outputs gates scratch : List ℕ} {base : 
         small-words (leavesOf n inputs latches) u (n .M + 1) (omega (arith, p .scratch-long, same, kept))
         (omega (arith, leaves-count l, p .sum, p .most-M)) (done .numbers)
 
-    pub unmarked : ((v : ℕ) → getD t v 0 ≡ 0) → Unmarked u (n .M + 1) (n .A)
-    unmarked blank q h k = done .rest q (omega arith) ∙ blank q
+    pub blank-rest : ((v : ℕ) → getD t v 0 ≡ 0) → Blank u (n .M + 1)
+    blank-rest blank q h = done .rest q (omega arith) ∙ blank q
+
+    pub known : none ≡ undefinedIn c → Known gates u (n .M + 1) (n .A)
+    known e = record { lv = leavesOf n inputs latches; numbers = done .numbers; starts = refl; once = once; used = used e }
 
 -- what is answered: 7 if it is found, else what 8 gives
 pub by-missing : (c : Circuit) (v : ℕ) → some v ≡ undefinedIn c → Refused (NotDefined v) ≡ checkedBy (closing c)

@@ -1,30 +1,49 @@
 -- The loop that gives the numbers, by the laws of the plain scan.
 use Prim.Native.Nat.{ℕ, _+_, _*_, _<_, _≤_}
-use mathlib.Core.Path.{_≡_, sym, ap, _∙_, subst}
-use mathlib.Core.Bool.{true}
+use mathlib.Core.Path.{_≡_, refl, sym, ap, _∙_, subst}
+use mathlib.Core.Bool.{Bool, true, false}
 use mathlib.Core.List.{List}
 use native.Mathlib.Omega.{arith}
+use borrow.Author.Tests.{eqb-true, eqb-false}
+use lib.Dec.{eqb}
 use lib.ListN.{length, set, length-set}
 use Rattle.plan.specs.Literals.{varOf}
+use Rattle.bitmap.specs.Bitmap.{isOn}
 use Rattle.theorems.proofs.Tables.{gateAt}
 use Rattle.order.specs.Numbers.{NumTable, InRange}
-use Rattle.order.specs.Waiting.{shown, clean, readyAt, Chains, Marks, Before, Given}
+use Rattle.order.specs.Waiting.{shown, clean, readyAt, p0, Waiting, every, First, Given}
 use Rattle.order.proofs.Shown.{shown-low, clean-length, clean-set, clean-same, ready-clean}
 use Rattle.order.proofs.Numbering.{Starts}
 use Rattle.order.proofs.Going.{NotReady, Going, Final, going-start, going-more, going-break, going-end}
-use Rattle.order.proofs.Idling.{Idle}
+
+-- the scan: no gate before j is ready
+abbrev pub Idle : List ℕ → List ℕ → ℕ → ℕ → Type 0
+Idle gates t a j = (i : ℕ) → i < j → i < a → readyAt gates t i ≡ false
+
+module _ (gates t : List ℕ) (n a : ℕ) (w : Waiting gates t n a every) where
+  pub idle-first : (r : ℕ) → First t n a r → Idle gates t a r
+  idle-first r f i h k = sym (w .marks .here i k) ∙ f .dark i h k
+
+  pub marked-ready : (j : ℕ) (b : Bool) → j < a → isOn t (p0 n a) j ≡ b → readyAt gates t j ≡ b
+  marked-ready j b h e = sym (w .marks .here j h) ∙ e
+
+  pub idle-more : (j : ℕ) → Idle gates t a j → isOn t (p0 n a) j ≡ false → Idle gates t a (j + 1)
+  idle-more j f e i h k = go (eqb i j) refl
+    where
+      go : (b : Bool) → eqb i j ≡ b → readyAt gates t i ≡ false
+      go true z = let y = eqb-true i j z in marked-ready i false k (ap (isOn t (p0 n a)) y ∙ e)
+      go false z = f i (omega (arith, eqb-false i j z)) k
 
 -- the outer loop's state. Whatever the variables are that t₀ numbers, all of them below `first`, k more are numbered now
-pub record State (gates t₀ t : List ℕ) (n a first next from k : ℕ) : Type 0 where
+pub record State (gates t₀ t : List ℕ) (n a first next k : ℕ) : Type 0 where
   pub long : n ≤ length t
-  pub chains : Chains gates t n (2 * a)
-  pub marks : Marks gates t n a from (Before a)
+  pub waiting : Waiting gates t n a every
   pub going : (lv : List ℕ) → NumTable lv (clean n t₀) → Starts lv → length lv ≡ first → Going gates lv (clean n t) a next k
 
 abbrev pub Done : List ℕ → List ℕ → List ℕ → ℕ → ℕ → ℕ → Type 0
 Done gates t₀ t n a first = (lv : List ℕ) → NumTable lv (clean n t₀) → Starts lv → length lv ≡ first → Final gates lv (clean n t) a
 
-module _ (gates t₀ t : List ℕ) (n a first next from k : ℕ) (range : InRange n gates a) (s : State gates t₀ t n a first next from k) where
+module _ (gates t₀ t : List ℕ) (n a first next k : ℕ) (range : InRange n gates a) (s : State gates t₀ t n a first next k) where
   range′ : InRange (length (clean n t)) gates a
   range′ = subst (λ (m : ℕ). InRange m gates a) (sym (clean-length n t (s .long))) range
 
@@ -38,13 +57,11 @@ module _ (gates t₀ t : List ℕ) (n a first next from k : ℕ) (range : InRang
   pub state-end : a ≤ k → Done gates t₀ t n a first
   state-end h lv tab st len = going-end gates lv (clean n t) a next k h (s .going lv tab st len)
 
-  pub state-more : (u : List ℕ) (j r : ℕ) → k < a → j < a → next < 2147483648 → Idle gates t a j → readyAt gates t j ≡ true
-      → length u ≡ length t
-      → Given gates t u n a j next r → State gates t₀ u n a first (next + 1) r (k + 1)
-  state-more u j r hk hj small f e same-length g = record {
+  pub state-more : (u : List ℕ) (j : ℕ) → k < a → j < a → next < 2147483648 → Idle gates t a j → readyAt gates t j ≡ true
+      → length u ≡ length t → Given gates t u n a j next → State gates t₀ u n a first (next + 1) (k + 1)
+  state-more u j hk hj small f e same-length g = record {
     long = omega (arith, s .long);
-    chains = g .chains;
-    marks = g .marks;
+    waiting = g .waiting;
     going = λ lv tab st len.
         subst (λ (c : List ℕ). Going gates lv c a (next + 1) (k + 1)) same
         (going-more gates lv (clean n t) a next k j hk hj range′ (idle-not j (omega arith) f)
@@ -55,15 +72,13 @@ module _ (gates t₀ t : List ℕ) (n a first next from k : ℕ) (range : InRang
       same =
           sym (clean-same n (set t (varOf (gateAt gates j .lhs)) next) u
           (omega (arith, s .long, length-set t (varOf (gateAt gates j .lhs)) next)) (omega (arith, s .long))
-          (λ w q. ap shown (g .low w (omega arith)))
+          (λ w q. ap shown (g .low w q))
           ∙ clean-set n t (varOf (gateAt gates j .lhs)) next (range j hj .0)
           ∙ ap (set (clean n t) (varOf (gateAt gates j .lhs))) (shown-low next small))
 
-pub state-start : (gates t : List ℕ) (n a first : ℕ) → n ≤ length t → Chains gates t n (2 * a) → Marks gates t n a 0 (Before a)
-    → State gates t t n a first first 0 0
-state-start gates t n a first l c m = record {
+pub state-start : (gates t : List ℕ) (n a first : ℕ) → n ≤ length t → Waiting gates t n a every → State gates t t n a first first 0
+state-start gates t n a first l w = record {
   long = l;
-  chains = c;
-  marks = m;
+  waiting = w;
   going = λ lv tab st len. going-start gates lv (clean n t) a first tab st len;
 }

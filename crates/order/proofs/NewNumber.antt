@@ -1,110 +1,188 @@
--- Gate j gets number x: its mark goes, its chain is left to be walked, all else that waits stays as it is.
+-- Gate j gets number x: its mark goes, the gates of its chain are to be done again, and all else that waits stays as it is.
 use Prim.Native.Nat.{ℕ, _+_, _*_, _/_, _<_, _≤_}
-use mathlib.Core.Path.{_≡_, sym, ap, _∙_, subst}
-use mathlib.Core.Bool.{true, false≢true}
+use mathlib.Core.Path.{_≡_, refl, sym, ap, ap₂, _∙_, subst}
+use mathlib.Core.Bool.{Bool, true, false, not, _&&_, false≢true}
 use mathlib.Core.List.{List}
 use native.Mathlib.Omega.{arith}
+use borrow.Author.Tests.{eqb-true, eqb-false, le-ltb, ltb-true, not-true}
+use lib.Dec.{eqb, ltb}
 use lib.ListN.{length, getD, set, length-set}
 use lib.Seq.{getD-set-other}
-use Rattle.plan.specs.Literals.{varOf}
+use Rattle.plan.specs.Circuit.{has}
+use Rattle.bitmap.specs.Bitmap.{isOn}
+use Rattle.bitmap.proofs.Telling.{told-same}
+use Rattle.theorems.proofs.Reading.Common.{and-right}
+use Rattle.theorems.proofs.Running.Lists.{absent}
 use Rattle.theorems.proofs.Tables.{gateAt}
-use Rattle.bitmap.specs.Bitmap.{OnAt}
-use Rattle.bitmap.proofs.Places.{on-at-same}
-use Rattle.order.specs.Waiting.{shown, headOf, numberedV, readyAt, Top, Chain, Chains, p0, p1, p2, Ups, Marks, Before, Past, Agree, Space, Giving, TakenOff, Given}
-use Rattle.order.proofs.Shown.{numbered-by, ready-left, given-here, given-unnumbered, given-ready, side-even, side-odd}
-use Rattle.order.proofs.Waking.{ready-low, agree-trans}
+use Rattle.order.specs.Waiting.{numberedV, readyAt, lhsOf, watched, Named, Chain, Line, p0, p1, p2, p3, Levels, Waiting, every, Agree, Space, TakenOff, Waking, Giving, Given}
+use Rattle.order.proofs.Shown.{ready-left, given-here, given-other, given-unnumbered}
 use Rattle.order.proofs.Spaces.{space-again}
+use Rattle.order.proofs.Levels.{level-same}
+use Rattle.order.proofs.Watching.{watched-agree, numbered-agree, named-agree, ready-watched, watched-given, only-j, named-given}
+use Rattle.order.proofs.Hanging.{chain-kept}
 
-ups-same : (t u : List ℕ) (n a : ℕ) → ((p : ℕ) → n ≤ p → getD u p 0 ≡ getD t p 0) → Ups t n a → Ups u n a
-ups-same t u n a f g = record {
-  up1 =
-      λ w k pos. on-at-same t u (p1 n a) w (f (p1 n a + w / 32) (omega arith))
-      (g .up1 w k (subst (λ (x : ℕ). 0 < x) (f (p0 n a + w) (omega arith)) pos));
-  up2 =
-      λ w k pos. on-at-same t u (p2 n a) w (f (p2 n a + w / 32) (omega arith))
-      (g .up2 w k (subst (λ (x : ℕ). 0 < x) (f (p1 n a + w) (omega arith)) pos));
-}
+and-false : (b : Bool) → (b && false) ≡ false
+and-false true = refl
+and-false false = refl
 
--- v is gate j's left variable, and h where its chain starts
-module _ (gates t : List ℕ) (n a j x : ℕ) (q : Giving gates t n a j x) (v : ℕ) (its : v ≡ varOf (gateAt gates j .lhs)) where
-  inn : v < n
-  inn = omega (arith, q .space .inside j (q .within) .0)
+module _ (gates t : List ℕ) (n a j x : ℕ) (q : Giving gates t n a j x) where
+  pub give-fits : lhsOf gates j < length t
+  give-fits = omega (arith, q .space .inside j (q .within) .0, q .space .table-long)
 
-  pub give-fits : v < length t
-  give-fits = omega (arith, inn, q .space .table-long)
+  long : n ≤ length t
+  long = omega (arith, q .space .table-long)
+
+  open-j : numberedV t (lhsOf gates j) ≡ false
+  open-j = ready-left t (gateAt gates j) (q .is-ready)
+
+  low-j : watched gates t j < 2147483648
+  low-j =
+      ltb-true (watched gates t j) 2147483648
+      (and-right (not (numberedV t (lhsOf gates j))) (ltb (watched gates t j) 2147483648)
+      (sym (ready-watched gates t n a (q .space .inside) (q .waiting .named) j (q .within)) ∙ q .is-ready))
 
   -- the words past the variables
-  above : (p : ℕ) → n ≤ p → getD (set t v x) p 0 ≡ getD t p 0
-  above p k = getD-set-other t v p x 0 (λ e. omega (arith, inn, e))
+  above : (p : ℕ) → n ≤ p → getD (set t (lhsOf gates j) x) p 0 ≡ getD t p 0
+  above p k = getD-set-other t (lhsOf gates j) p x 0 (λ e. omega (arith, q .space .inside j (q .within) .0, e))
 
-  pub give-ups : Ups (set t v x) n a
-  give-ups = ups-same t (set t v x) n a above (q .marks .ups)
+  pub give-levels : Levels (set t (lhsOf gates j) x) n a
+  give-levels = record {
+    one = level-same t (set t (lhsOf gates j) x) (p0 n a) (p1 n a) (a / 32) (λ w k. above (p0 n a + w) (omega arith))
+        (λ w k. above (p1 n a + w) (omega arith)) (q .waiting .marks .levels .one);
+    two = level-same t (set t (lhsOf gates j) x) (p1 n a) (p2 n a) (a / 1024) (λ w k. above (p1 n a + w) (omega arith))
+        (λ w k. above (p2 n a + w) (omega arith)) (q .waiting .marks .levels .two);
+    three = level-same t (set t (lhsOf gates j) x) (p2 n a) (p3 n a) (a / 32768) (λ w k. above (p2 n a + w) (omega arith))
+        (λ w k. above (p3 n a + w) (omega arith)) (q .waiting .marks .levels .three);
+  }
 
-  pub give-on : OnAt (set t v x) (p0 n a) j
-  give-on =
-      on-at-same t (set t v x) (p0 n a) j (above (p0 n a + j / 32) (omega arith)) (q .marks .on j (q .within) (q .is-ready) (q .within))
+  mark-same : (c : ℕ) → isOn (set t (lhsOf gates j) x) (p0 n a) c ≡ isOn t (p0 n a) c
+  mark-same c = told-same t (set t (lhsOf gates j) x) (p0 n a) c (above (p0 n a + c / 32) (omega arith))
 
-  module _ (h : ℕ) (top : h ≡ headOf (getD t v 0)) where
-    old : Chain gates t n (2 * a) v h
-    old =
-        subst (Chain gates t n (2 * a) v) (sym top)
-        (q .chains v inn (ap (numberedV t) its ∙ ready-left t (gateAt gates j) (q .is-ready)))
+  pub give-on : isOn (set t (lhsOf gates j) x) (p0 n a) j ≡ true
+  give-on = mark-same j ∙ (q .waiting .marks .here j (q .within) ∙ q .is-ready)
 
-    module _ (u : List ℕ) (same : length u ≡ length (set t v x)) (o : TakenOff (set t v x) u n a j) where
-      pub give-space : Space gates u n a
-      give-space = space-again gates t u n a (same ∙ length-set t v x) (q .space)
+  line : Line gates t n a every j
+  line = q .waiting .lines j (q .within) open-j
 
-      pub give-chain : Chain gates u n (2 * a) v h
-      give-chain = record {
-        top = old .top;
-        nexts =
-            λ s k e. subst (λ (y : ℕ). Top gates s v y) (sym (o .low (n + s) (omega arith) ∙ above (n + s) (omega arith)))
-            (old .nexts s k e);
-      }
+  module _ (u : List ℕ) (same : length u ≡ length (set t (lhsOf gates j) x)) (o : TakenOff (set t (lhsOf gates j) x) u n a j) where
+    pub give-space : Space gates u n a
+    give-space = space-again gates t u n a (same ∙ length-set t (lhsOf gates j) x) (q .space)
 
-      mid : (c : ℕ) → c < a → readyAt gates u c ≡ true → readyAt gates (set t v x) c ≡ true
-      mid c k e = sym (ready-low gates (set t v x) u n a (q .space .inside) (o .low) c k) ∙ e
+    low : Agree n (set t (lhsOf gates j) x) u
+    low p k = o .low p (omega arith)
 
-      -- a gate that is ready now and not on the chain was ready before
-      was : (c : ℕ) → c < a → readyAt gates u c ≡ true → Past gates v h c → readyAt gates t c ≡ true
-      was c k e d =
-          given-ready t v x give-fits (q .pos) (q .small) (gateAt gates c)
-          (λ z. let y = side-even gates c ∙ z in d (2 * c) (old .top .above (2 * c) (omega arith) y) (omega arith) y)
-          (λ z. let y = side-odd gates c ∙ z in d (2 * c + 1) (old .top .above (2 * c + 1) (omega arith) y) (omega arith) y)
-          (mid c k e)
+    mid : (p : ℕ) → n ≤ p → p < p0 n a → getD u p 0 ≡ getD t p 0
+    mid p h k = o .low p k ∙ above p h
 
-      apart : (c : ℕ) → c < a → readyAt gates u c ≡ true → c ≡ j → ⊥
-      apart c k e z =
-          false≢true
-          (sym (ready-left (set t v x) (gateAt gates c) (mid c k e))
-          ∙ ap (λ (y : ℕ). numberedV (set t v x) (varOf (gateAt gates y .lhs))) z
-          ∙ ap (numberedV (set t v x)) (sym its) ∙ given-here t v x give-fits (q .pos) (q .small))
+    -- a gate that does not wait for gate j waits for the same as before
+    watch-same : (c : ℕ) → c < a → (watched gates t c ≡ 2147483648 + j → ⊥) → watched gates u c ≡ watched gates t c
+    watch-same c h d =
+        watched-agree gates (set t (lhsOf gates j) x) u n a (q .space .inside) low c h
+        ∙ watched-given gates t n a (q .space .inside) (q .waiting .named) j x (q .within) open-j long (q .pos) (q .small) c d
 
-      pub give-marks : Marks gates u n a j (Past gates v h)
-      give-marks = record {
-        on =
-            λ c k e d. o .keep c k (apart c k e)
-            (on-at-same t (set t v x) (p0 n a) c (above (p0 n a + c / 32) (omega arith)) (q .marks .on c k (was c k e d) k));
-        floor = λ c k e d. q .marks .floor c k (was c k e d) k;
-        ups = o .ups;
-      }
+    number-same : (c : ℕ) → c < a → (c ≡ j → ⊥) → numberedV u (lhsOf gates c) ≡ numberedV t (lhsOf gates c)
+    number-same c h d =
+        numbered-agree (set t (lhsOf gates j) x) u n (lhsOf gates c) low (q .space .inside c h .0)
+        ∙ given-other t (lhsOf gates j) x give-fits (q .pos) (q .small) (lhsOf gates c)
+        (λ e. d (only-j gates t n a (q .space .inside) (q .waiting .named) j x (q .within) open-j long (q .pos) (q .small) c h e))
 
-      pub give-done : (w : List ℕ) (r : ℕ) → Marks gates w n a r (Before a) → Agree (p0 n a) u w → Given gates t w n a j x r
-      give-done w r mw low = record { low = subst (λ (y : ℕ). Agree (p0 n a) (set t y x) w) its all; chains = chains; marks = mw }
-        where
-          all : Agree (p0 n a) (set t v x) w
-          all = agree-trans (p0 n a) (set t v x) u w (o .low) low
+    -- a gate that waits is not gate j
+    waits-other : (c g : ℕ) → watched gates t c ≡ 2147483648 + g → c ≡ j → ⊥
+    waits-other c g e z = omega (arith, low-j, sym (ap (watched gates t) z) ∙ e)
 
-          chains : Chains gates w n (2 * a)
-          chains y k f =
-              let g =
-              given-unnumbered t v x give-fits (q .pos) (q .small) y
-              (sym (numbered-by (set t v x) w y (ap shown (all y (omega arith)))) ∙ f) in
-              let c = q .chains y k (g .1) in
-              let same = all y (omega arith) ∙ getD-set-other t v y x 0 (g .0) in
-              record {
-                top = subst (λ (z : ℕ). Top gates (2 * a) y (headOf z)) (sym same) (c .top);
-                nexts =
-                    λ s i e. subst (λ (z : ℕ). Top gates s y z) (sym (all (n + s) (omega arith) ∙ above (n + s) (omega arith)))
-                    (c .nexts s i e);
-              }
+    nexts : (l : List ℕ) → ((c : ℕ) → has c l ≡ true → c < a) → (h : ℕ) → Chain t (n + a) h l → Chain u (n + a) h l
+    nexts l f h = chain-kept t u (n + a) h l (λ c e. mid (n + a + c) (omega arith) (omega (arith, f c e)))
+
+    -- the chains of the other gates
+    line-same : (g : ℕ) → g < a → numberedV u (lhsOf gates g) ≡ false → Line gates u n a (λ c. not (has c (line .l))) g
+    line-same g h e = record {
+      l = m .l;
+      chain = subst (λ (y : ℕ). Chain u (n + a) y (m .l)) (sym (mid (n + g) (omega arith) (omega arith)))
+          (nexts (m .l) (λ c k. m .its c k .0) (getD t (n + g) 0) (m .chain));
+      once = m .once;
+      its = λ c k.
+          let i = m .its c k in
+          let away : watched gates t c ≡ 2147483648 + j → ⊥ = λ z. other (omega (arith, sym (i .2) ∙ z)) in (
+            i .0,
+            ap not (absent (has c (line .l)) (λ z. away (line .its c z .2))),
+            watch-same c (i .0) away ∙ i .2,
+            number-same c (i .0) (waits-other c g (i .2)) ∙ i .3,
+          );
+      all = λ c k d w.
+          let away : watched gates t c ≡ 2147483648 + j → ⊥ = λ z. false≢true (sym (not-true (has c (line .l)) d) ∙ line .all c k refl z) in
+          m .all c k refl (sym (watch-same c k away) ∙ w);
+    }
+      where
+        was : (lhsOf gates g ≡ lhsOf gates j → ⊥) × (numberedV t (lhsOf gates g) ≡ false)
+        was =
+            given-unnumbered t (lhsOf gates j) x give-fits (q .pos) (q .small) (lhsOf gates g)
+            (sym (numbered-agree (set t (lhsOf gates j) x) u n (lhsOf gates g) low (q .space .inside g h .0)) ∙ e)
+
+        other : g ≡ j → ⊥
+        other z = was .0 (ap (lhsOf gates) z)
+
+        m : Line gates t n a every g
+        m = q .waiting .lines g h (was .1)
+
+    named : Named gates u n a
+    named =
+        named-agree gates (set t (lhsOf gates j) x) u n a (q .space .inside) low
+        (named-given gates t n a (q .space .inside) (q .waiting .named) j x (q .within) open-j long (q .pos) (q .small))
+
+    ready-u : (c : ℕ) → c < a → readyAt gates u c ≡ (not (numberedV u (lhsOf gates c)) && ltb (watched gates u c) 2147483648)
+    ready-u = ready-watched gates u n a (q .space .inside) named
+
+    ready-t : (c : ℕ) → c < a → readyAt gates t c ≡ (not (numberedV t (lhsOf gates c)) && ltb (watched gates t c) 2147483648)
+    ready-t = ready-watched gates t n a (q .space .inside) (q .waiting .named)
+
+    -- the marks: gate j's is gone, those of its chain are not set yet
+    mark-j : isOn u (p0 n a) j ≡ (not (has j (line .l)) && readyAt gates u j)
+    mark-j =
+        o .gone
+        ∙ sym (ap (λ (b : Bool). not (has j (line .l)) && b)
+        (ready-u j (q .within)
+        ∙ ap (λ (b : Bool). not b && ltb (watched gates u j) 2147483648)
+        (numbered-agree (set t (lhsOf gates j) x) u n (lhsOf gates j) low (q .space .inside j (q .within) .0)
+        ∙ given-here t (lhsOf gates j) x give-fits (q .pos) (q .small)))
+        ∙ and-false (not (has j (line .l))))
+
+    mark-other : (c : ℕ) → c < a → (c ≡ j → ⊥) → isOn u (p0 n a) c ≡ (not (has c (line .l)) && readyAt gates u c)
+    mark-other c h d =
+        o .others c d (omega arith) ∙ (mark-same c ∙ (q .waiting .marks .here c h ∙ go (has c (line .l)) refl))
+      where
+        go : (b : Bool) → has c (line .l) ≡ b → readyAt gates t c ≡ (not (has c (line .l)) && readyAt gates u c)
+        go true e =
+            ready-t c h
+            ∙ (ap (λ (b : Bool). not (numberedV t (lhsOf gates c)) && b)
+            (le-ltb (watched gates t c) 2147483648 (omega (arith, line .its c e .2))) ∙ and-false (not (numberedV t (lhsOf gates c))))
+            ∙ sym (ap (λ (b : Bool). not b && readyAt gates u c) e)
+        go false e =
+            let away : watched gates t c ≡ 2147483648 + j → ⊥ = λ z. false≢true (sym e ∙ line .all c h refl z) in
+            ready-t c h
+            ∙ ap₂ (λ (b : Bool) (y : ℕ). not b && ltb y 2147483648) (sym (number-same c h d)) (sym (watch-same c h away))
+            ∙ sym (ready-u c h) ∙ sym (ap (λ (b : Bool). not b && readyAt gates u c) e)
+
+    pub give-waking : (h : ℕ) → h ≡ getD t (n + j) 0 → Waking gates u n a h
+    give-waking h e = record {
+      todo = line .l;
+      chain = subst (λ (y : ℕ). Chain u (n + a) y (line .l)) (sym e) (nexts (line .l) (λ c k. line .its c k .0) (getD t (n + j) 0) (line .chain));
+      once = line .once;
+      each = λ c k. let i = line .its c k in (i .0, number-same c (i .0) (waits-other c j (i .2)) ∙ i .3);
+      rest = record {
+        named = named;
+        lines = line-same;
+        marks = record {
+          here = λ c k. here c k (eqb c j) refl;
+          past = λ c k f. o .others c (λ z. omega (arith, z, q .within)) f ∙ (mark-same c ∙ q .waiting .marks .past c k f);
+          levels = o .levels;
+        };
+      };
+    }
+      where
+        here : (c : ℕ) → c < a → (b : Bool) → eqb c j ≡ b → isOn u (p0 n a) c ≡ (not (has c (line .l)) && readyAt gates u c)
+        here c k true z =
+            subst (λ (y : ℕ). isOn u (p0 n a) y ≡ (not (has y (line .l)) && readyAt gates u y)) (sym (eqb-true c j z)) mark-j
+        here c k false z = mark-other c k (eqb-false c j z)
+
+    pub give-done : (w : List ℕ) → Waiting gates w n a every → Agree n u w → Given gates t w n a j x
+    give-done w done f = record { low = λ p k. f p k ∙ low p k; waiting = done }

@@ -9,7 +9,6 @@ use native.Mathlib.Omega.{arith}
 use borrow.Author.Tests.{eqb-true, eqb-false}
 use lib.Dec.{eqb}
 use lib.ListN.{length, getD, take, length-take, length-append}
-use lib.Seq.{getD-take}
 use Rattle.plan.specs.Literals.{varOf}
 use Rattle.plan.specs.Circuit.{Gate, Circuit, gateOf, rowsOf, lefts, rights, has}
 use Rattle.plan.specs.Depends.{cyclicIn}
@@ -20,9 +19,9 @@ use Rattle.theorems.proofs.Running.Lists.{allIn}
 use Rattle.theorems.proofs.Running.Scan.{scanned, scanned-length}
 use Rattle.theorems.proofs.Running.FirstOut.{firstOut, out-append-none, out-append-some, cyclic-out}
 use Rattle.theorems.proofs.Tables.{gateAt, gatesAt, gates-rows}
-use Rattle.order.specs.Numbers.{numberedT, NumTable, InRange}
+use Rattle.order.specs.Numbers.{NumTable, InRange}
 use Rattle.order.specs.Waiting.{numberedV, FirstAt}
-use Rattle.order.proofs.Shown.{shown-low}
+use Rattle.order.proofs.Shown.{numbered-take}
 use Rattle.order.proofs.Numbering.{Starts, numbered-has}
 use Rattle.order.proofs.Settling.{small-words}
 use Rattle.order.proofs.Conversion.{gates-count}
@@ -47,11 +46,6 @@ out-some o gates (suc a) r h f e = go (eqb r a) refl (λ q. out-some o gates a r
         ∙ ap (λ (b : Bool). cond b none (some (varOf (gateAt gates r .lhs)))) e)
     go false z ih =
         out-append-some o (gatesAt gates a) (gateAt gates a ∷ []) (varOf (gateAt gates r .lhs)) (ih (omega (arith, eqb-false r a z)))
-
--- a table of numbers is a table of words that show them
-numbered-take : (t : List ℕ) (n v : ℕ) → v < n → getD t v 0 < 2147483648 → numberedT (take n t) v ≡ numberedV t v
-unfolding numberedT numberedV
-numbered-take t n v h small = ap (λ (w : ℕ). eqb v 0 || not (eqb w 0)) (getD-take n t v 0 h ∙ sym (shown-low (getD t v 0) small))
 
 module _ (gates t o : List ℕ) (n a r : ℕ) (long : n ≤ length t) (range : InRange n gates a) (starts : Starts o)
     (short : length o < 2147483648) (tab : NumTable o (take n t)) (f : FirstAt gates t a r) where

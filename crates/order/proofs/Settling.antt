@@ -14,8 +14,8 @@ use Rattle.theorems.proofs.Running.Lists.{index-front}
 use Rattle.theorems.proofs.Running.Scan.{scanned}
 use Rattle.theorems.proofs.Tables.{gatesAt, gates-rows}
 use Rattle.order.specs.Numbers.{NumTable}
-use Rattle.order.specs.Waiting.{shown, headOf, clean, Top, p0, p1, wordsFor, Chains, Agree, Hung, Ups, Fresh, Unmarked}
-use Rattle.order.proofs.Shown.{shown-low, clean-at, clean-length, numbered-by}
+use Rattle.order.specs.Waiting.{shown, clean, Agree, Fresh}
+use Rattle.order.proofs.Shown.{shown-low, clean-at, clean-length}
 use Rattle.order.proofs.Numbering.{Starts}
 use Rattle.order.proofs.Assigning.{Done}
 
@@ -48,34 +48,15 @@ table-out o t u n lt lu same tab v h =
     let k : v < n = omega (arith, length-take n u) in
     getD-take n u v 0 k ∙ same v k ∙ sym (clean-at n t v k) ∙ tab v (omega (arith, clean-length n t lt))
 
--- from one part of `number` to the next
-pub ups-zero : (t u : List ℕ) (n a : ℕ) → Unmarked t n a → ((p : ℕ) → n + 2 * a ≤ p → getD u p 0 ≡ getD t p 0) → Ups u n a
-ups-zero t u n a z e = record {
-  up1 = λ w k pos. absurd (omega (arith, zero-at (p0 n a + w) (omega arith) (omega arith), pos));
-  up2 = λ w k pos. absurd (omega (arith, zero-at (p1 n a + w) (omega arith) (omega arith), pos));
-}
-  where
-    zero-at : (p : ℕ) → p0 n a ≤ p → p < wordsFor n a → getD u p 0 ≡ 0
-    zero-at p h k = e p h ∙ z p h k
-
-pub chains-agree : (gates t u : List ℕ) (n a : ℕ) → Agree (p0 n a) t u → Chains gates t n (2 * a) → Chains gates u n (2 * a)
-chains-agree gates t u n a low ch v k f =
-    let same = low v (omega arith) in
-    let c = ch v k (sym (numbered-by t u v (ap shown same)) ∙ f) in
-    record {
-      top = subst (λ (z : ℕ). Top gates (2 * a) v (headOf z)) (sym same) (c .top);
-      nexts = λ s q e. subst (λ (z : ℕ). Top gates s v z) (sym (low (n + s) (omega arith))) (c .nexts s q e);
-    }
-
--- all parts: sides hung, gates marked, numbers given, words settled
+-- all parts: gates named and hung, numbers given, words settled
 pub all-parts : (gates t x y z w : List ℕ) (n a first : ℕ) → n ≤ length t → n ≤ length y → n ≤ length z → n ≤ length w → Fresh t n
-    → Hung gates t x n a (2 * a) → Agree (p0 n a) x y → Done gates y z n a first → ((v : ℕ) → v < n → getD w v 0 ≡ shown (getD z v 0))
-    → (lv : List ℕ) → NumTable lv (take n t) → Starts lv → length lv ≡ first
+    → ((v : ℕ) → v < n → shown (getD x v 0) ≡ shown (getD t v 0)) → Agree n x y → Done gates y z n a first
+    → ((v : ℕ) → v < n → getD w v 0 ≡ shown (getD z v 0)) → (lv : List ℕ) → NumTable lv (take n t) → Starts lv → length lv ≡ first
     → NumTable (lv ++ lefts (scanned (map gateOf (rowsOf 3 a gates)) a lv)) (take n w)
-all-parts gates t x y z w n a first lt ly lz lw fresh hung marked given settled lv tab st len =
+all-parts gates t x y z w n a first lt ly lz lw fresh named hung given settled lv tab st len =
     subst (λ (gs : List Gate). NumTable (lv ++ lefts (scanned gs a lv)) (take n w)) (sym (gates-rows gates a))
     (table-out (lv ++ lefts (scanned (gatesAt gates a) a lv)) z w n lz lw settled
-    (given lv (table-in lv t y n lt ly fresh (λ v k. ap shown (marked v (omega arith)) ∙ hung .keep v k) tab) st len))
+    (given lv (table-in lv t y n lt ly fresh (λ v k. ap shown (hung v k) ∙ named v k) tab) st len))
 
 -- words from v on still to be settled
 pub settle-step : (t₀ t u : List ℕ) (v : ℕ) → v < length t → ((w : ℕ) → w < v → getD t w 0 ≡ shown (getD t₀ w 0))

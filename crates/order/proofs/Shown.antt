@@ -7,14 +7,14 @@ use native.Mathlib.Nat.{not-suc-le-zero}
 use native.Mathlib.Omega.{arith}
 use borrow.Author.Tests.{eq-eqb, ne-eqb, eqb-true, eqb-false, lt-ltb, le-ltb, not-true, not-false}
 use lib.Dec.{eqb}
-use lib.ListN.{length, getD, set}
-use lib.Seq.{getD-set-same, getD-set-other, ext-getD}
+use lib.ListN.{length, getD, set, take}
+use lib.Seq.{getD-set-same, getD-set-other, getD-take, ext-getD}
 use Rattle.plan.specs.Literals.{varOf}
 use Rattle.plan.specs.Circuit.{Gate}
 use Rattle.theorems.proofs.Reading.Common.{and-left}
 use Rattle.theorems.proofs.Tables.{gateAt}
 use Rattle.order.specs.Numbers.{numberedT, readyT, InTable}
-use Rattle.order.specs.Waiting.{shown, headOf, clean, numberedV, readyV, sideOf}
+use Rattle.order.specs.Waiting.{shown, clean, numberedV, readyV}
 
 pub shown-low : (w : ℕ) → w < 2147483648 → shown w ≡ w
 unfolding shown
@@ -23,14 +23,6 @@ shown-low w h = ap (λ (b : Bool). cond b w 0) (lt-ltb w 2147483648 h)
 pub shown-high : (w : ℕ) → 2147483648 ≤ w → shown w ≡ 0
 unfolding shown
 shown-high w h = ap (λ (b : Bool). cond b w 0) (le-ltb w 2147483648 h)
-
-pub head-low : (w : ℕ) → w < 2147483648 → headOf w ≡ 0
-unfolding headOf
-head-low w h = ap (λ (b : Bool). cond b 0 (w - 2147483648)) (lt-ltb w 2147483648 h)
-
-pub head-high : (w : ℕ) → 2147483648 ≤ w → headOf w ≡ w - 2147483648
-unfolding headOf
-head-high w h = ap (λ (b : Bool). cond b 0 (w - 2147483648)) (le-ltb w 2147483648 h)
 
 -- the numbers
 pub clean-at : (n : ℕ) (t : List ℕ) (v : ℕ) → v < n → getD (clean n t) v 0 ≡ shown (getD t v 0)
@@ -86,25 +78,17 @@ pub numbered-clean : (n : ℕ) (t : List ℕ) (v : ℕ) → v < n → numberedT 
 unfolding numberedT numberedV
 numbered-clean n t v h = ap (λ (w : ℕ). eqb v 0 || not (eqb w 0)) (clean-at n t v h)
 
--- ready
-pub ready-by : (t : List ℕ) (g : Gate) (x y : Bool) → numberedV t (varOf (g .lhs)) ≡ x → numberedV t (varOf (g .rhs0)) ≡ y
-    → readyV t g ≡ (not x && (y && numberedV t (varOf (g .rhs1))))
-unfolding readyV
-ready-by t g x y p q = ap₂ (λ (s z : Bool). not s && (z && numberedV t (varOf (g .rhs1)))) p q
+-- a table of numbers is a table of words that show them
+pub numbered-take : (t : List ℕ) (n v : ℕ) → v < n → getD t v 0 < 2147483648 → numberedT (take n t) v ≡ numberedV t v
+unfolding numberedT numberedV
+numbered-take t n v h small = ap (λ (w : ℕ). eqb v 0 || not (eqb w 0)) (getD-take n t v 0 h ∙ sym (shown-low (getD t v 0) small))
 
+-- ready
 pub ready-clean : (n : ℕ) (t : List ℕ) (g : Gate) → InTable n g → readyT (clean n t) g ≡ readyV t g
 unfolding readyT readyV
 ready-clean n t g k =
     ap₂ (λ (x y : Bool). not x && y) (numbered-clean n t (varOf (g .lhs)) (k .0))
     (ap₂ (λ (x y : Bool). x && y) (numbered-clean n t (varOf (g .rhs0)) (k .1)) (numbered-clean n t (varOf (g .rhs1)) (k .2)))
-
-pub ready-agree : (n : ℕ) (t u : List ℕ) (g : Gate) → InTable n g → ((v : ℕ) → v < n → shown (getD u v 0) ≡ shown (getD t v 0))
-    → readyV u g ≡ readyV t g
-unfolding readyV
-ready-agree n t u g k e =
-    ap₂ (λ (x y : Bool). not x && y) (numbered-by t u (varOf (g .lhs)) (e (varOf (g .lhs)) (k .0)))
-    (ap₂ (λ (x y : Bool). x && y) (numbered-by t u (varOf (g .rhs0)) (e (varOf (g .rhs0)) (k .1)))
-    (numbered-by t u (varOf (g .rhs1)) (e (varOf (g .rhs1)) (k .2))))
 
 pub ready-left : (t : List ℕ) (g : Gate) → readyV t g ≡ true → numberedV t (varOf (g .lhs)) ≡ false
 unfolding readyV
@@ -132,19 +116,3 @@ module _ (t : List ℕ) (v x : ℕ) (fits : v < length t) (pos : 0 < x) (small :
     where
       apart : u ≡ v → ⊥
       apart e = false≢true (sym h ∙ ap (λ (w : ℕ). numberedV (set t v x) w) e ∙ given-here)
-
-  pub given-ready : (g : Gate) → (varOf (g .rhs0) ≡ v → ⊥) → (varOf (g .rhs1) ≡ v → ⊥) → readyV (set t v x) g ≡ true → readyV t g ≡ true
-  unfolding readyV
-  given-ready g na nb h =
-      let L = given-unnumbered (varOf (g .lhs)) (ready-left (set t v x) g h) in
-      ap₂ (λ (s z : Bool). not s && z) (sym (given-other (varOf (g .lhs)) (L .0)))
-      (ap₂ (λ (s z : Bool). s && z) (sym (given-other (varOf (g .rhs0)) na)) (sym (given-other (varOf (g .rhs1)) nb))) ∙ h
-
--- sides
-pub side-even : (gates : List ℕ) (i : ℕ) → sideOf gates (2 * i) ≡ varOf (gateAt gates i .rhs0)
-unfolding sideOf
-side-even gates i = let e : 3 * (2 * i / 2) + 1 + 2 * i % 2 ≡ 3 * i + 1 = omega arith in ap (λ (k : ℕ). varOf (getD gates k 0)) e
-
-pub side-odd : (gates : List ℕ) (i : ℕ) → sideOf gates (2 * i + 1) ≡ varOf (gateAt gates i .rhs1)
-unfolding sideOf
-side-odd gates i = let e : 3 * ((2 * i + 1) / 2) + 1 + (2 * i + 1) % 2 ≡ 3 * i + 2 = omega arith in ap (λ (k : ℕ). varOf (getD gates k 0)) e

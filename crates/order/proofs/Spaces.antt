@@ -1,5 +1,5 @@
 -- Room: of the list of gates and by their places; in the words that are lent; for a circuit whose literals are in range.
-use Prim.Native.Nat.{ℕ, suc, zero, _+_, _*_, _<_, _≤_}
+use Prim.Native.Nat.{ℕ, suc, zero, _+_, _*_, _/_, _<_, _≤_}
 use mathlib.Core.Path.{_≡_, refl, sym, subst}
 use mathlib.Core.Bool.{Bool, true, false}
 use mathlib.Core.List.{List, [], _∷_, _++_, map}
@@ -14,7 +14,7 @@ use Rattle.theorems.proofs.Reading.Common.{and-left, and-right}
 use Rattle.theorems.proofs.Running.Found.{AllG}
 use Rattle.theorems.proofs.Tables.{firsts, gateAt, gates-rows}
 use Rattle.order.specs.Numbers.{InTable}
-use Rattle.order.specs.Waiting.{Room, Space, wordsFor}
+use Rattle.order.specs.Waiting.{Room, Space, wordsFor, p3}
 
 -- what holds of each gate of a table holds at each place
 all-front : (P : Gate → Type 0) (gs hs : List Gate) → AllG P (gs ++ hs) → AllG P gs
@@ -55,9 +55,21 @@ gate-fits gates t n a i s h =
     let g = s .inside i h in
     (omega (arith, g .0, s .table-long), omega (arith, g .1, s .table-long), omega (arith, g .2, s .table-long))
 
+-- where there is a gate the top level of marks has its word
+pub top-word : (n a l : ℕ) → 0 < a → wordsFor n a ≤ l → p3 n a < l
+top-word n a l h k = let one : 1 ≤ (a + 1048575) / 1048576 = omega arith in omega arith
+
 -- 4 * (M + 1) words are enough, where A is at most M
-pub words-enough : (m a : ℕ) → a ≤ m → wordsFor (m + 1) a ≤ 4 * (m + 1)
-words-enough m a h = omega arith
+top-few : (a : ℕ) → a < 1048576 → (a + 1048575) / 1048576 ≤ 1
+top-few a h = omega arith
+
+pub words-enough : (m a : ℕ) → a ≤ m → a < 1048576 → wordsFor (m + 1) a ≤ 4 * (m + 1)
+words-enough m zero h s = omega arith
+words-enough m (suc a) h s = enough m (suc a) ((suc a + 1048575) / 1048576) h (omega arith) (top-few (suc a) s)
+  where
+    enough : (m a top : ℕ) → a ≤ m → 1 ≤ a → top ≤ 1
+        → m + 1 + 2 * a + (a / 32 + 1) + (a / 1024 + 1) + (a / 32768 + 1) + top ≤ 4 * (m + 1)
+    enough m a top h k t = omega arith
 
 -- gates whose literals are in their ranges have variables below M + 1
 pub gates-inside : (m : ℕ) (gs : List Gate) → allInside true m (map gateLine gs) ≡ true → AllG (InTable (m + 1)) gs

@@ -1,24 +1,24 @@
--- The table that `number` works in: a word for each of n variables, then the chains (2 * a words), then the marks of the a gates.
--- A variable's word below 2 ^ 31 is its number; from there on it says where the chain of the sides that wait for it starts.
-use Prim.Native.Nat.{ℕ, zero, suc, _+_, _-_, _*_, _/_, _%_, _<_, _≤_}
+-- The table that `number` works in: a word for each of n variables, for each of a gates where its chain starts, for each gate which one
+-- comes after it in its chain, then the marks of the gates.
+-- A variable's word below 2 ^ 31 is its number; from there on it names the gate that defines it, which has no number yet.
+use Prim.Native.Nat.{ℕ, zero, suc, _+_, _-_, _*_, _/_, _<_, _≤_}
 use mathlib.Core.Path.{_≡_}
 use mathlib.Core.Bool.{Bool, true, false, not, cond, _&&_, _||_}
-use mathlib.Core.List.{List, [], _∷_, map}
+use mathlib.Core.List.{List, [], _∷_, _++_, map}
 use lib.Dec.{eqb, ltb}
-use lib.ListN.{length, getD, set}
+use lib.ListN.{length, getD, set, take}
 use Rattle.plan.specs.Literals.{varOf}
-use Rattle.plan.specs.Circuit.{Gate, gateOf, rowsOf}
+use Rattle.plan.specs.Circuit.{Gate, gateOf, rowsOf, lefts, rights, has}
+use Rattle.theorems.proofs.Reading.Members.{distinct}
 use Rattle.theorems.proofs.Running.Found.{AllG}
+use Rattle.theorems.proofs.Running.Lists.{allIn}
 use Rattle.theorems.proofs.Tables.{gateAt}
-use Rattle.bitmap.specs.Bitmap.{OnAt}
-use Rattle.order.specs.Numbers.{InTable, InRange}
+use Rattle.bitmap.specs.Bitmap.{isOn, raised}
+use Rattle.order.specs.Numbers.{NumTable, InTable, InRange}
 
--- the number in a word, and the chain in a word
+-- the number in a word
 unfoldable pub shown : ℕ → ℕ
 shown w = cond (ltb w 2147483648) w 0
-
-unfoldable pub headOf : ℕ → ℕ
-headOf w = cond (ltb w 2147483648) 0 (w - 2147483648)
 
 -- the numbers of n variables
 abbrev pub clean : ℕ → List ℕ → List ℕ
@@ -36,25 +36,50 @@ readyV t g = not (numberedV t (varOf (g .lhs))) && (numberedV t (varOf (g .rhs0)
 abbrev pub readyAt : List ℕ → List ℕ → ℕ → Bool
 readyAt gates t i = readyV t (gateAt gates i)
 
--- the variable of side s: sides 2 * i and 2 * i + 1 are gate i's
-unfoldable pub sideOf : List ℕ → ℕ → ℕ
-sideOf gates s = varOf (getD gates (3 * (s / 2) + 1 + s % 2) 0)
+-- the variables of gate i
+abbrev pub lhsOf : List ℕ → ℕ → ℕ
+lhsOf gates i = varOf (getD gates (3 * i) 0)
 
--- h is past the last side before m whose variable is v, and 0 if there is none
-pub record Top (gates : List ℕ) (m v h : ℕ) : Type 0 where
-  pub above : (s : ℕ) → s < m → sideOf gates s ≡ v → s < h
-  pub within : h ≤ m
-  pub its : 0 < h → sideOf gates (h - 1) ≡ v
+abbrev pub rhs0Of : List ℕ → ℕ → ℕ
+rhs0Of gates i = varOf (getD gates (3 * i + 1) 0)
 
--- v's chain through the first m sides starts at h, and goes down
-pub record Chain (gates t : List ℕ) (n m v h : ℕ) : Type 0 where
-  pub top : Top gates m v h
-  pub nexts : (s : ℕ) → s < m → sideOf gates s ≡ v → Top gates s v (getD t (n + s) 0)
+abbrev pub rhs1Of : List ℕ → ℕ → ℕ
+rhs1Of gates i = varOf (getD gates (3 * i + 2) 0)
 
-abbrev pub Chains : List ℕ → List ℕ → ℕ → ℕ → Type 0
-Chains gates t n m = (v : ℕ) → v < n → numberedV t v ≡ false → Chain gates t n m v (headOf (getD t v 0))
+-- the word that gate i waits for: its first right side's if that names a gate, else its second one's
+unfoldable pub watched : List ℕ → List ℕ → ℕ → ℕ
+watched gates t i = cond (ltb (getD t (rhs0Of gates i) 0) 2147483648) (getD t (rhs1Of gates i) 0) (getD t (rhs0Of gates i) 0)
 
--- where the marks start of gates, of words of marks that are not 0, and of words of those
+-- the words of the left variables of k gates name them
+abbrev pub withNames : List ℕ → ℕ → List ℕ → List ℕ
+withNames gates zero t = t
+withNames gates (suc k) t = set (withNames gates k t) (lhsOf gates k) (2147483648 + k)
+
+-- a left variable without a number names its gate; no other word names one; a right variable that names none has a number
+pub record Named (gates t : List ℕ) (n a : ℕ) : Type 0 where
+  pub own : (i : ℕ) → i < a → numberedV t (lhsOf gates i) ≡ false → getD t (lhsOf gates i) 0 ≡ 2147483648 + i
+  pub names : (v : ℕ) → v < n → 2147483648 ≤ getD t v 0 → (getD t v 0 < 2147483648 + a) × (numberedV t v ≡ false)
+  pub low0 : (i : ℕ) → i < a → getD t (rhs0Of gates i) 0 < 2147483648 → numberedV t (rhs0Of gates i) ≡ true
+  pub low1 : (i : ℕ) → i < a → getD t (rhs1Of gates i) 0 < 2147483648 → numberedV t (rhs1Of gates i) ≡ true
+
+-- the chain that starts at h is l: a place in it is 1 more than the gate, 0 its end; what comes after gate i stands in word b + i
+abbrev pub Chain : List ℕ → ℕ → ℕ → List ℕ → Type 0
+Chain t b h [] = h ≡ 0
+Chain t b h (i ∷ l) = (h ≡ i + 1) × Chain t b (getD t (b + i) 0) l
+
+-- gate g's chain: of the gates that are done those that wait for g
+pub record Line (gates t : List ℕ) (n a : ℕ) (done : ℕ → Bool) (g : ℕ) : Type 0 where
+  pub l : List ℕ
+  pub chain : Chain t (n + a) (getD t (n + g) 0) l
+  pub once : distinct l ≡ true
+  pub its : (i : ℕ) → has i l ≡ true
+      → (i < a) × (done i ≡ true) × (watched gates t i ≡ 2147483648 + g) × (numberedV t (lhsOf gates i) ≡ false)
+  pub all : (i : ℕ) → i < a → done i ≡ true → watched gates t i ≡ 2147483648 + g → has i l ≡ true
+
+abbrev pub Lines : List ℕ → List ℕ → ℕ → ℕ → (ℕ → Bool) → Type 0
+Lines gates t n a done = (g : ℕ) → g < a → numberedV t (lhsOf gates g) ≡ false → Line gates t n a done g
+
+-- where the marks start of gates, of words of those that are not 0, of words of these, and of words of these
 abbrev pub p0 : ℕ → ℕ → ℕ
 p0 n a = n + 2 * a
 
@@ -64,30 +89,40 @@ p1 n a = n + 2 * a + (a / 32 + 1)
 abbrev pub p2 : ℕ → ℕ → ℕ
 p2 n a = n + 2 * a + (a / 32 + 1) + (a / 1024 + 1)
 
--- the words of the whole table
+abbrev pub p3 : ℕ → ℕ → ℕ
+p3 n a = n + 2 * a + (a / 32 + 1) + (a / 1024 + 1) + (a / 32768 + 1)
+
+-- the words of the whole table: the last is one word, and none where there is no gate
 abbrev pub wordsFor : ℕ → ℕ → ℕ
-wordsFor n a = n + 2 * a + (a / 32 + 1) + (a / 1024 + 1) + (a / 32768 + 1)
+wordsFor n a = n + 2 * a + (a / 32 + 1) + (a / 1024 + 1) + (a / 32768 + 1) + (a + 1048575) / 1048576
 
--- each word at p, up to the one numbered m, that is not 0 is on at q
-abbrev pub Up : List ℕ → ℕ → ℕ → ℕ → Type 0
-Up t p q m = (w : ℕ) → w ≤ m → 0 < getD t (p + w) 0 → OnAt t q w
+-- of the words at p, up to the one numbered m, those that are not 0 are on at q, and nothing else there
+pub record Level (t : List ℕ) (p q m : ℕ) : Type 0 where
+  pub same : (w : ℕ) → w ≤ m → isOn t q w ≡ ltb 0 (getD t (p + w) 0)
+  pub past : (w : ℕ) → m < w → w / 32 ≤ m / 32 → isOn t q w ≡ false
 
-pub record Ups (t : List ℕ) (n a : ℕ) : Type 0 where
-  pub up1 : Up t (p0 n a) (p1 n a) (a / 32)
-  pub up2 : Up t (p1 n a) (p2 n a) (a / 1024)
+pub record Levels (t : List ℕ) (n a : ℕ) : Type 0 where
+  pub one : Level t (p0 n a) (p1 n a) (a / 32)
+  pub two : Level t (p1 n a) (p2 n a) (a / 1024)
+  pub three : Level t (p2 n a) (p3 n a) (a / 32768)
 
--- of the gates that are ready those that are Done are marked, and stand from r on
-pub record Marks (gates t : List ℕ) (n a r : ℕ) (Done : ℕ → Type 0) : Type 0 where
-  pub on : (i : ℕ) → i < a → readyAt gates t i ≡ true → Done i → OnAt t (p0 n a) i
-  pub floor : (i : ℕ) → i < a → readyAt gates t i ≡ true → Done i → r ≤ i
-  pub ups : Ups t n a
+-- of the gates that are done those that are ready are marked, and nothing else is
+pub record Marks (gates t : List ℕ) (n a : ℕ) (done : ℕ → Bool) : Type 0 where
+  pub here : (i : ℕ) → i < a → isOn t (p0 n a) i ≡ (done i && readyAt gates t i)
+  pub past : (i : ℕ) → a ≤ i → i / 32 ≤ a / 32 → isOn t (p0 n a) i ≡ false
+  pub levels : Levels t n a
 
-abbrev pub Before : ℕ → ℕ → Type 0
-Before k i = i < k
+-- each gate that is done is marked if it is ready, and else in the chain of a gate that it waits for
+pub record Waiting (gates t : List ℕ) (n a : ℕ) (done : ℕ → Bool) : Type 0 where
+  pub named : Named gates t n a
+  pub lines : Lines gates t n a done
+  pub marks : Marks gates t n a done
 
--- no side of gate i before h has the variable v
-abbrev pub Past : List ℕ → ℕ → ℕ → ℕ → Type 0
-Past gates v h i = (s : ℕ) → s < h → s / 2 ≡ i → sideOf gates s ≡ v → ⊥
+abbrev pub before : ℕ → ℕ → Bool
+before k i = ltb i k
+
+abbrev pub every : ℕ → Bool
+every i = true
 
 -- the two tables agree below b
 abbrev pub Agree : ℕ → List ℕ → List ℕ → Type 0
@@ -97,63 +132,78 @@ Agree b t u = (p : ℕ) → p < b → getD u p 0 ≡ getD t p 0
 pub record Room (gates t : List ℕ) (n a : ℕ) : Type 0 where
   pub gates-long : 3 * a ≤ length gates
   pub table-long : wordsFor n a ≤ length t
-  pub small : a < 1073741824
+  pub small : a < 1048576
   pub inside : AllG (InTable n) (map gateOf (rowsOf 3 a gates))
 
 pub record Space (gates t : List ℕ) (n a : ℕ) : Type 0 where
   pub gates-long : 3 * a ≤ length gates
   pub table-long : wordsFor n a ≤ length t
-  pub small : a < 1073741824
+  pub small : a < 1048576
   pub inside : InRange n gates a
 
--- no word of the n variables is a chain; nothing is marked
+-- t numbers the variables of a list; the gates define others, each once, and use only what is in the list or defined
+pub record Known (gates t : List ℕ) (n a : ℕ) : Type 0 where
+  pub lv : List ℕ
+  pub numbers : NumTable lv (take n t)
+  pub starts : getD lv 0 1 ≡ 0
+  pub once : distinct (lv ++ lefts (map gateOf (rowsOf 3 a gates))) ≡ true
+  pub used : allIn (rights (map gateOf (rowsOf 3 a gates))) (lv ++ lefts (map gateOf (rowsOf 3 a gates))) ≡ true
+
+-- no word of the n variables names a gate; nothing waits and nothing is marked
 abbrev pub Fresh : List ℕ → ℕ → Type 0
 Fresh t n = (v : ℕ) → v < n → getD t v 0 < 2147483648
 
-abbrev pub Unmarked : List ℕ → ℕ → ℕ → Type 0
-Unmarked t n a = (p : ℕ) → p0 n a ≤ p → p < wordsFor n a → getD t p 0 ≡ 0
+abbrev pub Blank : List ℕ → ℕ → Type 0
+Blank t n = (p : ℕ) → n ≤ p → getD t p 0 ≡ 0
 
--- what `hang` does, and what `hang_all` has done of m sides
-unfoldable pub hung : List ℕ → ℕ → ℕ → ℕ → List ℕ
-hung t n s v = cond (numberedV t v) t (set (set t (n + s) (headOf (getD t v 0))) v (2147483649 + s))
+-- what `mark` does, and `hang`: gate i is marked, or it is the first in the chain of gate g
+unfoldable pub marked : List ℕ → ℕ → ℕ → ℕ → List ℕ
+marked t n a i = raised (raised (raised (raised t (p0 n a) i) (p1 n a) (i / 32)) (p2 n a) (i / 1024)) (p3 n a) (i / 32768)
 
-pub record Hung (gates t₀ t : List ℕ) (n a m : ℕ) : Type 0 where
-  pub chains : Chains gates t n m
-  pub keep : (v : ℕ) → v < n → shown (getD t v 0) ≡ shown (getD t₀ v 0)
-  pub rest : (p : ℕ) → n + 2 * a ≤ p → getD t p 0 ≡ getD t₀ p 0
+unfoldable pub linked : List ℕ → ℕ → ℕ → ℕ → ℕ → List ℕ
+linked t n a i g = set (set t (n + a + i) (getD t (n + g) 0)) (n + g) (i + 1)
 
--- what `offer`, `unmark`, `skip`, `give` do
-pub record Offered (gates t u : List ℕ) (n a i r q : ℕ) : Type 0 where
-  pub low : Agree (p0 n a) t u
-  pub here : readyAt gates t i ≡ true → OnAt u (p0 n a) i
-  pub keep : (c : ℕ) → OnAt t (p0 n a) c → OnAt u (p0 n a) c
-  pub ups : Ups t n a → Ups u n a
-  pub less : q ≤ r
-  pub under : readyAt gates t i ≡ true → q ≤ i
+unfoldable pub hung : List ℕ → List ℕ → ℕ → ℕ → ℕ → List ℕ
+hung gates t n a i = cond (ltb (watched gates t i) 2147483648) (marked t n a i) (linked t n a i (watched gates t i - 2147483648))
 
+-- what `lower` does: place i is turned over if e is 1; r is 1 if that leaves its word 0
+pub record Lowered (t u : List ℕ) (p i e r : ℕ) : Type 0 where
+  pub off : (k : ℕ) → (k ≡ p + i / 32 → ⊥) → getD u k 0 ≡ getD t k 0
+  pub others : (c : ℕ) → (c ≡ i → ⊥) → isOn u p c ≡ isOn t p c
+  pub still : e ≡ 0 → (getD u (p + i / 32) 0 ≡ getD t (p + i / 32) 0) × (r ≡ 0)
+  pub turned : e ≡ 1 → (isOn u p i ≡ not (isOn t p i)) × (r ≡ cond (eqb (getD u (p + i / 32) 0) 0) 1 0)
+
+-- what `unmark` does, and what `first` finds
 pub record TakenOff (t u : List ℕ) (n a j : ℕ) : Type 0 where
   pub low : Agree (p0 n a) t u
-  pub keep : (c : ℕ) → c < a → (c ≡ j → ⊥) → OnAt t (p0 n a) c → OnAt u (p0 n a) c
-  pub ups : Ups u n a
+  pub others : (c : ℕ) → (c ≡ j → ⊥) → c / 32 ≤ a / 32 → isOn u (p0 n a) c ≡ isOn t (p0 n a) c
+  pub gone : isOn u (p0 n a) j ≡ false
+  pub levels : Levels u n a
 
-pub record Skipped (t : List ℕ) (n a j r : ℕ) : Type 0 where
-  pub from : j ≤ r
-  pub dark : (c : ℕ) → j ≤ c → c < r → c < a → OnAt t (p0 n a) c → ⊥
+pub record First (t : List ℕ) (n a r : ℕ) : Type 0 where
+  pub dark : (c : ℕ) → c < r → c < a → isOn t (p0 n a) c ≡ false
+  pub there : r < a → isOn t (p0 n a) r ≡ true
 
--- what `give` asks: gate j is the first that is ready
+-- what `wake` asks: the gates of the chain that starts at h are the only ones that are not done, and have no number
+pub record Waking (gates t : List ℕ) (n a h : ℕ) : Type 0 where
+  pub todo : List ℕ
+  pub chain : Chain t (n + a) h todo
+  pub once : distinct todo ≡ true
+  pub each : (i : ℕ) → has i todo ≡ true → (i < a) × (numberedV t (lhsOf gates i) ≡ false)
+  pub rest : Waiting gates t n a (λ i. not (has i todo))
+
+-- what `give` asks and does: gate j is ready, and gets number x
 pub record Giving (gates t : List ℕ) (n a j x : ℕ) : Type 0 where
   pub space : Space gates t n a
   pub within : j < a
   pub pos : 0 < x
   pub small : x < 2147483648
   pub is-ready : readyAt gates t j ≡ true
-  pub chains : Chains gates t n (2 * a)
-  pub marks : Marks gates t n a j (Before a)
+  pub waiting : Waiting gates t n a every
 
-pub record Given (gates t u : List ℕ) (n a j x r : ℕ) : Type 0 where
-  pub low : Agree (p0 n a) (set t (varOf (gateAt gates j .lhs)) x) u
-  pub chains : Chains gates u n (2 * a)
-  pub marks : Marks gates u n a r (Before a)
+pub record Given (gates t u : List ℕ) (n a j x : ℕ) : Type 0 where
+  pub low : Agree n (set t (lhsOf gates j) x) u
+  pub waiting : Waiting gates u n a every
 
 -- what `first_out` finds: the first gate without a number, or a
 pub record FirstAt (gates t : List ℕ) (a r : ℕ) : Type 0 where

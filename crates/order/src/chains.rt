@@ -1,34 +1,36 @@
-// The chains: each side without a number hangs on that of its variable. Side s has its next in word n + s; sides 2 * i and 2 * i + 1
-// are gate i's. A place in a chain is 1 more than the side, and 0 is its end.
+// The chains: a gate waits for at most one other, which defines a right side of it that has no number. Word n + g has where gate g's
+// chain starts, word n + a + i which gate comes after gate i. A place in a chain is 1 more than the gate, and 0 is its end.
 ghost use mathlib.Core.Path.{_≡_};
-ghost use Prim.Native.Nat.{_+_, _*_, _<_};
+ghost use mathlib.Core.Bool.{false};
+ghost use Prim.Native.Nat.{ℕ, _+_, _<_};
 ghost use lib.ListN.{length};
-ghost use Rattle.plan.specs.Literals.{varOf};
-ghost use Rattle.order.specs.Waiting.{Space, Fresh, hung, Hung};
+ghost use Rattle.order.specs.Waiting.{Space, Agree, numberedV, lhsOf, watched, hung, Waiting, before, every};
+use crate::marks;
 use crate::words;
 
-// Side s, of the literal l, hangs on the chain of its variable unless that has a number.
-fn hang(t: &mut [u32], n: usize, s: usize, l: u32)
-    requires { ⌜ (varOf l < n) × (n + s < length (now t)) × (s < 2147483647) ⌝ }
-    ensures { λ _. ⌜ now (t .exit) ≡ hung (now (t .entry)) n s (varOf l) ⌝ }
+// Gate i goes first in the chain of the gate that it waits for; it is marked if it waits for none.
+pub fn hang(gates: &[u32], t: &mut [u32], n: usize, a: usize, i: usize)
+    requires { ⌜ Space (now gates) (now t) n a × (i < a) × (watched (now gates) (now t) i < 2147483648 + a) ⌝ }
+    ensures { λ _. ⌜ now (t .exit) ≡ hung (now (gates .entry)) (now (t .entry)) n a i ⌝ }
 {
-    if words::numbered(t, l) {
+    let w = words::watch(gates, t, i);
+    if w < 2147483648 {
+        marks::mark(t, n, a, i);
         return;
     }
-    let v = words::var_of(l);
-    let h = words::chain(t[v]);
-    t[n + s] = h;
-    t[v] = 2147483649 + (s as u32);
+    let g = words::ix(w - 2147483648);
+    t[n + a + i] = t[n + g];
+    t[n + g] = (i + 1) as u32;
 }
 
 pub fn hang_all(gates: &[u32], t: &mut [u32], n: usize, a: usize)
-    requires { ⌜ Space (now gates) (now t) n a × Fresh (now t) n ⌝ }
-    ensures { λ _. ⌜ Hung (now (gates .entry)) (now (t .entry)) (now (t .exit)) n a (2 * a) ⌝ }
+    requires { ⌜ Space (now gates) (now t) n a × Waiting (now gates) (now t) n a (before 0)
+        × ((i : ℕ) → i < a → numberedV (now t) (lhsOf (now gates) i) ≡ false) ⌝ }
+    ensures { λ _. ⌜ Waiting (now (gates .entry)) (now (t .exit)) n a every × Agree n (now (t .entry)) (now (t .exit)) ⌝ }
 {
     let mut i: usize = 0;
     while i < a {
-        hang(t, n, 2 * i, gates[3 * i + 1]);
-        hang(t, n, 2 * i + 1, gates[3 * i + 2]);
+        hang(gates, t, n, a, i);
         i += 1;
     }
 }

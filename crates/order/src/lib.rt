@@ -1,8 +1,8 @@
 // The order of gates. Each next number goes, among the gates still without one, to the first gate in file order whose right sides
 // are both numbered; a gate that gets none lies on a cycle or above one.
 //
-// Never quadratic: each side that has no number hangs on the chain of its variable; when a variable gets its number, the gates on its
-// chain that are ready are marked; the next number goes to the first marked gate.
+// Never quadratic: a gate with a right side that has no number waits for the gate that defines it; when that gets its number, the gates
+// that wait for it wait for their other side, or are marked; the next number goes to the first marked gate.
 ghost use mathlib.Core.Path.{_≡_};
 ghost use mathlib.Core.Bool.{true};
 ghost use mathlib.Core.List.{List, _++_, map};
@@ -19,7 +19,7 @@ ghost use Rattle.theorems.proofs.Running.Lists.{allIn};
 ghost use Rattle.theorems.proofs.Running.Scan.{scanned};
 ghost use Rattle.theorems.proofs.Running.Ascending.{ascends};
 ghost use Rattle.order.specs.Numbers.{NumTable, InRange};
-ghost use Rattle.order.specs.Waiting.{Room, Fresh, Unmarked, FirstAt};
+ghost use Rattle.order.specs.Waiting.{Room, Known, Fresh, Blank, FirstAt};
 use plan::Checked;
 use plan::Refusal;
 
@@ -31,12 +31,13 @@ mod words;
 // Numbers from `first` on for the gates, in the first n words of t, which hold the numbers of the leaves; the rest of t is left as
 // it comes.
 fn number(gates: &[u32], t: &mut [u32], first: u32, n: usize, a: usize)
-    requires { ⌜ Room (now gates) (now t) n a × (0 < first) × (first + a < 2147483648) × Fresh (now t) n × Unmarked (now t) n a ⌝ }
+    requires { ⌜ Room (now gates) (now t) n a × (0 < first) × (first + a < 2147483648) × Fresh (now t) n × Blank (now t) n
+        × Known (now gates) (now t) n a ⌝ }
     ensures { λ r. ⌜ ((lv : List ℕ) → NumTable lv (take n (now (t .entry))) → getD lv 0 1 ≡ 0 → length lv ≡ first
         → NumTable (lv ++ lefts (scanned (map gateOf (rowsOf 3 a (now (gates .entry)))) a lv)) (take n (now (t .exit)))) ⌝ }
 {
+    words::name_all(gates, t, n, a);
     chains::hang_all(gates, t, n, a);
-    marks::mark_all(gates, t, n, a);
     giving::assign(gates, t, first, n, a);
     words::settle(t, n);
 }
@@ -58,7 +59,8 @@ fn first_out(gates: &[u32], t: &[u32], a: usize) -> usize
 
 // Refusal 8, of gates whose leaves t numbers: the left variable of the first gate in file order that gets no number. The numbers stay.
 pub fn cycle(gates: &[u32], t: &mut [u32], first: u32, n: usize, a: usize) -> Checked
-    requires { ⌜ Room (now gates) (now t) n a × (0 < first) × (first + a < 2147483648) × Fresh (now t) n × Unmarked (now t) n a ⌝ }
+    requires { ⌜ Room (now gates) (now t) n a × (0 < first) × (first + a < 2147483648) × Fresh (now t) n × Blank (now t) n
+        × Known (now gates) (now t) n a ⌝ }
     ensures { λ r. ⌜ ((c : Circuit) → c .gates ≡ map gateOf (rowsOf 3 a (now (gates .entry)))
         → distinct (leaves c ++ lefts (c .gates)) ≡ true → allIn (rights (c .gates)) (leaves c ++ lefts (c .gates)) ≡ true
         → NumTable (leaves c) (take n (now (t .entry))) → length (leaves c) ≡ first

@@ -1,77 +1,69 @@
-// The marks: a bit for each gate that is ready, a bit for each word of those that is not 0, and a bit for each word of these.
-// A gate that is ready is marked; one that is marked may be ready no more.
-ghost use Prim.Native.Nat.{_+_, _*_, _<_, _≤_};
+// The marks: a bit for each gate that is ready, a bit for each word of those that is not 0, a bit for each word of these, and so once
+// more: that is one word, as there are fewer than 2 ^ 20 gates.
+ghost use mathlib.Core.Path.{_≡_};
+ghost use mathlib.Core.Bool.{true};
+ghost use Prim.Native.Nat.{_+_, _*_, _/_, _<_};
 ghost use lib.ListN.{length};
-ghost use Rattle.bitmap.specs.Bitmap.{OnAt};
-ghost use Rattle.order.specs.Waiting.{Space, p0, wordsFor, Ups, Marks, Before, Agree, Offered, TakenOff, Skipped};
-use crate::words;
+ghost use Rattle.bitmap.specs.Bitmap.{isOn};
+ghost use Rattle.order.specs.Waiting.{p0, p3, Levels, marked, Lowered, TakenOff, First};
 
-// Gate i is marked if it is ready; r, or i if that is marked and less.
-pub fn offer(gates: &[u32], t: &mut [u32], n: usize, a: usize, i: usize, r: usize) -> usize
-    requires { ⌜ Space (now gates) (now t) n a × (i < a) ⌝ }
-    ensures { λ q. ⌜ Offered (now (gates .entry)) (now (t .entry)) (now (t .exit)) n a i r q ⌝ }
+// Gate i is marked.
+pub fn mark(t: &mut [u32], n: usize, a: usize, i: usize)
+    requires { ⌜ (p3 n a < length (now t)) × (a < 1048576) × (i < a) ⌝ }
+    ensures { λ _. ⌜ now (t .exit) ≡ marked (now (t .entry)) n a i ⌝ }
 {
-    if words::ready(gates, t, i) {
-        bitmap::raise(t, n + 2 * a, i);
-        bitmap::raise(t, n + 2 * a + (a / 32 + 1), i / 32);
-        bitmap::raise(t, n + 2 * a + (a / 32 + 1) + (a / 1024 + 1), i / 1024);
-        if i < r {
-            return i;
-        }
-        return r;
-    }
-    r
+    let p = n + 2 * a;
+    let q = p + (a / 32 + 1);
+    let r = q + (a / 1024 + 1);
+    let s = r + (a / 32768 + 1);
+    bitmap::raise(t, p, i);
+    bitmap::raise(t, q, i / 32);
+    bitmap::raise(t, r, i / 1024);
+    bitmap::raise(t, s, i / 32768);
 }
 
-pub fn mark_all(gates: &[u32], t: &mut [u32], n: usize, a: usize)
-    requires { ⌜ Space (now gates) (now t) n a × Ups (now t) n a ⌝ }
-    ensures { λ _. ⌜ Marks (now (gates .entry)) (now (t .exit)) n a 0 (Before a) × Agree (p0 n a) (now (t .entry)) (now (t .exit)) ⌝ }
+// Place i is turned over if e is 1, and not if e is 0. Gives e if that leaves its word 0, else 0. No branch: none could be foretold.
+fn lower(t: &mut [u32], p: usize, i: usize, e: u32) -> u32
+    requires { ⌜ (p + i / 32 < length (now t)) × (e < 2) ⌝ }
+    ensures { λ r. ⌜ Lowered (now (t .entry)) (now (t .exit)) p i e r × (r < 2) ⌝ }
 {
-    let mut i: usize = 0;
-    while i < a {
-        offer(gates, t, n, a, i, 0);
-        i += 1;
+    let k = p + i / 32;
+    t[k] = t[k] ^ (e << (i % 32));
+    if t[k] == 0 {
+        return e;
     }
+    0
 }
 
-// Gate j's mark is taken away.
+// Gate j's mark is taken away, and those above it that stand for words that are 0 then.
 pub fn unmark(t: &mut [u32], n: usize, a: usize, j: usize)
-    requires { ⌜ (wordsFor n a ≤ length (now t)) × (j < a) × Ups (now t) n a × OnAt (now t) (p0 n a) j ⌝ }
+    requires { ⌜ (p3 n a < length (now t)) × (a < 1048576) × (j < a) × Levels (now t) n a × (isOn (now t) (p0 n a) j ≡ true) ⌝ }
     ensures { λ _. ⌜ TakenOff (now (t .entry)) (now (t .exit)) n a j ⌝ }
 {
     let p = n + 2 * a;
-    bitmap::toggle(t, p, j);
-    if t[p + j / 32] != 0 {
-        return;
-    }
     let q = p + (a / 32 + 1);
-    bitmap::toggle(t, q, j / 32);
-    if t[q + j / 1024] != 0 {
-        return;
-    }
-    bitmap::toggle(t, q + (a / 1024 + 1), j / 1024);
+    let r = q + (a / 1024 + 1);
+    let s = r + (a / 32768 + 1);
+    let one = lower(t, p, j, 1);
+    let two = lower(t, q, j / 32, one);
+    let three = lower(t, r, j / 1024, two);
+    lower(t, s, j / 32768, three);
 }
 
-// The first place from j on that the marks do not rule out.
-pub fn skip(t: &[u32], n: usize, a: usize, j: usize) -> usize
-    requires { ⌜ (wordsFor n a ≤ length (now t)) × (a < 1073741824) × (j < a) × Ups (now t) n a ⌝ }
-    ensures { λ r. ⌜ Skipped (now (t .entry)) n a j r ⌝ }
+// The first gate that is marked, or a.
+pub fn first(t: &[u32], n: usize, a: usize) -> usize
+    requires { ⌜ (p3 n a < length (now t)) × (a < 1048576) × (0 < a) × Levels (now t) n a ⌝ }
+    ensures { λ r. ⌜ First (now (t .entry)) n a r ⌝ }
 {
     let p = n + 2 * a;
-    let i = bitmap::next_on(t, p, j);
-    if i / 32 == j / 32 {
-        return i;
-    }
-    if a <= i {
-        return i;
-    }
     let q = p + (a / 32 + 1);
-    let y = bitmap::next_on(t, q, i / 32);
-    if y / 32 == i / 1024 {
-        return 32 * y;
+    let r = q + (a / 1024 + 1);
+    let s = r + (a / 32768 + 1);
+    if t[s] == 0 {
+        return a;
     }
-    if a <= 32 * y {
-        return 32 * y;
-    }
-    1024 * bitmap::next_far(t, q + (a / 1024 + 1), y / 32, a / 32768 + 1)
+    let x = bitmap::next_on(t, s, 0);
+    let y = bitmap::next_on(t, r, 32 * x);
+    let z = bitmap::next_on(t, q, 32 * y);
+    bitmap::next_on(t, p, 32 * z)
 }

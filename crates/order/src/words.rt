@@ -1,11 +1,11 @@
-// A variable's word: below 2 ^ 31 its number, 0 for none; from there on where the chain of the sides that wait for it starts.
+// A variable's word: below 2 ^ 31 its number, 0 for none; from there on 2 ^ 31 more than the gate that defines it, which has no number.
 ghost use mathlib.Core.Path.{_≡_};
 ghost use Prim.Native.Nat.{ℕ, _+_, _*_, _<_, _≤_};
 ghost use lib.ListN.{length, getD, set};
 ghost use Rattle.plan.specs.Literals.{varOf};
 ghost use Rattle.theorems.proofs.Tables.{gateAt};
 ghost use Rattle.order.specs.Numbers.{InTable};
-ghost use Rattle.order.specs.Waiting.{shown, headOf, numberedV, readyAt};
+ghost use Rattle.order.specs.Waiting.{shown, numberedV, watched, withNames, Space};
 use plan::Lit;
 
 pub fn ix(x: u32) -> usize
@@ -19,16 +19,6 @@ pub fn var_of(word: u32) -> usize
     ensures { λ r. ⌜ r ≡ varOf word ⌝ }
 {
     ix(Lit::at(word).var().index())
-}
-
-// Where the chain starts that a variable's word holds.
-pub fn chain(w: u32) -> u32
-    ensures { λ r. ⌜ r ≡ headOf w ⌝ }
-{
-    if w < 2147483648 {
-        return 0;
-    }
-    w - 2147483648
 }
 
 pub fn numbered(t: &[u32], l: u32) -> bool
@@ -45,21 +35,31 @@ pub fn numbered(t: &[u32], l: u32) -> bool
     false
 }
 
-// Gate i has no number, and its right sides have.
-pub fn ready(gates: &[u32], t: &[u32], i: usize) -> bool
-    requires { ⌜ (3 * i + 2 < length (now gates)) × InTable (length (now t)) (gateAt (now gates) i) ⌝ }
-    ensures { λ r. ⌜ r ≡ readyAt (now (gates .entry)) (now (t .entry)) i ⌝ }
+// The left variables of the gates name them.
+pub fn name_all(gates: &[u32], t: &mut [u32], n: usize, a: usize)
+    requires { ⌜ Space (now gates) (now t) n a ⌝ }
+    ensures { λ _. ⌜ now (t .exit) ≡ withNames (now (gates .entry)) a (now (t .entry)) ⌝ }
 {
-    if numbered(t, gates[3 * i]) {
-        return false;
+    let mut i: usize = 0;
+    while i < a {
+        t[var_of(gates[3 * i])] = 2147483648 + (i as u32);
+        i += 1;
     }
-    if numbered(t, gates[3 * i + 1]) {
-        return numbered(t, gates[3 * i + 2]);
-    }
-    false
 }
 
-// A chain that is left becomes no number.
+// The word that gate i waits for, if that names a gate; else both its right sides have numbers.
+pub fn watch(gates: &[u32], t: &[u32], i: usize) -> u32
+    requires { ⌜ (3 * i + 2 < length (now gates)) × InTable (length (now t)) (gateAt (now gates) i) ⌝ }
+    ensures { λ r. ⌜ r ≡ watched (now (gates .entry)) (now (t .entry)) i ⌝ }
+{
+    let w = t[var_of(gates[3 * i + 1])];
+    if w < 2147483648 {
+        return t[var_of(gates[3 * i + 2])];
+    }
+    w
+}
+
+// A name that is left becomes no number.
 fn settle_one(t: &mut [u32], v: usize)
     requires { ⌜ v < length (now t) ⌝ }
     ensures { λ _. ⌜ now (t .exit) ≡ set (now (t .entry)) v (shown (getD (now (t .entry)) v 0)) ⌝ }

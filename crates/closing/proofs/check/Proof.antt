@@ -18,7 +18,7 @@ use Rattle.used.specs.Least.{missingOf}
 use Rattle.closing.specs.Leaves.{Leaves}
 use Rattle.tables.specs.Held.{circuitIn}
 use Rattle.closing.proofs.Leaving.{leaves-count}
-use Rattle.closing.proofs.Closing.{next-up, output-up, first-up, second-up, part-long, part-marked, once, used, leaves-ask, room, fresh, unmarked, by-missing, by-cycle, not-good}
+use Rattle.closing.proofs.Closing.{next-up, output-up, first-up, second-up, part-long, part-marked, once, used, leaves-ask, room, fresh, blank-rest, known, by-missing, by-cycle, not-good}
 use Rattle.closing.proofs.check.Statement.{statement}
 use Rattle.closing.proofs.check.Tie as tie
 
@@ -123,7 +123,8 @@ cycle-requires c κs =
       omega arith,
       omega (arith, p .sum, p .most-M),
       fresh p t same (asked e) u kept done,
-      unmarked p t same (asked e) u kept done (blank e),
+      blank-rest p t same (asked e) u kept done (blank e),
+      known p t same (asked e) u kept done (all-named (told e)),
     )
 
 same-length-2 : tie.Need-same-length-2

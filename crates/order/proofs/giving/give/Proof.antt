@@ -1,11 +1,32 @@
 -- The number is stored, the mark goes, and the chain is walked.
-use mathlib.Core.Path.{_≡_, _∙_}
+use Prim.Native.Nat.{ℕ}
+use mathlib.Core.Bool.{true}
+use mathlib.Core.Path.{_≡_, sym, _∙_, subst}
 use native.Mathlib.Omega.{arith}
 use borrow.Author.Needs.{needs}
 use lib.ListN.{length, set, length-set}
-use Rattle.order.proofs.NewNumber.{give-fits, give-ups, give-on, give-space, give-chain, give-marks, give-done}
+use Rattle.bitmap.specs.Bitmap.{isOn}
+use Rattle.order.specs.Waiting.{lhsOf, p0, Levels, TakenOff}
+use Rattle.order.proofs.Spaces.{top-word}
+use Rattle.order.proofs.NewNumber.{give-fits, give-levels, give-on, give-space, give-waking, give-done}
 use Rattle.order.proofs.giving.give.Statement.{statement}
 use Rattle.order.proofs.giving.give.Tie as tie
+
+-- what is left when the mark is gone
+off : (c : tie.After-unmark) → let A = c .before .before .before .before .before .before .before .before .args in
+    TakenOff (set (A .t .now) (lhsOf (A .gates .now) (A .j)) (A .x)) (c .unmark .last .0) (A .n) (A .a) (A .j)
+off c =
+    let d = c .before .before .before .before in
+    let A = d .before .before .before .before .args in
+    subst (λ (v : ℕ). TakenOff (set (A .t .now) v (A .x)) (c .unmark .last .0) (A .n) (A .a) (A .j)) (d .var-of .ensures) (c .unmark .ensures)
+
+kept : (c : tie.After-t) → let A = c .before .before .before .before .before .before .before .before .before .args in
+    length (c .before .unmark .last .0) ≡ length (set (A .t .now) (lhsOf (A .gates .now) (A .j)) (A .x))
+kept c =
+    let d = c .before .before .before .before .before in
+    let A = d .before .before .before .before .args in
+    let same : length (c .before .unmark .last .0) ≡ length (set (A .t .now) (d .var-of .result) (A .x)) = c .t .given in
+    same ∙ (length-set (A .t .now) (d .var-of .result) (A .x) ∙ sym (length-set (A .t .now) (lhsOf (A .gates .now) (A .j)) (A .x)))
 
 mul-var-of : tie.Need-mul-var-of
 mul-var-of c = search needs
@@ -19,104 +40,68 @@ shared-slice-read-var-of c = search needs
 var-of-requires : tie.Need-var-of-requires
 var-of-requires c κs = search needs
 
-mul-chain : tie.Need-mul-chain
-mul-chain c =
-    let P = c .before .before .before .before in
-    let A = P .args in
-    let fits = give-fits (A .gates .now) (A .t .now) (A .n) (A .a) (A .j) (A .x) (P .pre) (c .var-of .result) (c .var-of .ensures) in
-    record { fits = omega (arith, fits) }
+add-ix : tie.Need-add-ix
+add-ix c = search needs
 
-slice-read-chain : tie.Need-slice-read-chain
-slice-read-chain c =
-    let P = c .before .before .before .before .before in
-    let A = P .args in
-    give-fits (A .gates .now) (A .t .now) (A .n) (A .a) (A .j) (A .x) (P .pre) (c .before .var-of .result) (c .before .var-of .ensures)
+mul-ix : tie.Need-mul-ix
+mul-ix c = search needs
 
-chain-requires : tie.Need-chain-requires
-chain-requires c κs = search needs
+slice-read-ix : tie.Need-slice-read-ix
+slice-read-ix c = search needs
 
 ix-requires : tie.Need-ix-requires
 ix-requires c κs = search needs
 
 mul-t : tie.Need-mul-t
-mul-t c =
-    let c3 = c .before .before .before in
-    let P = c3 .before .before .before .before in
+mul-t c = let P = c .before .before .before .before .before .before in
     let A = P .args in
-    let fits = give-fits (A .gates .now) (A .t .now) (A .n) (A .a) (A .j) (A .x) (P .pre) (c3 .var-of .result) (c3 .var-of .ensures) in
-    record { fits = omega (arith, fits) }
+    let fits = give-fits (A .gates .now) (A .t .now) (A .n) (A .a) (A .j) (A .x) (P .pre) in
+    record { fits = omega (arith, fits, c .before .before .var-of .ensures) }
 
 slice-write-t : tie.Need-slice-write-t
-slice-write-t c =
-    let P = c .before .before .before .before .before .before .before in
+slice-write-t c = let P = c .before .before .before .before .before .before in
     let A = P .args in
-    give-fits (A .gates .now) (A .t .now) (A .n) (A .a) (A .j) (A .x) (P .pre) (c .before .before .before .var-of .result)
-    (c .before .before .before .var-of .ensures)
+    let fits = give-fits (A .gates .now) (A .t .now) (A .n) (A .a) (A .j) (A .x) (P .pre) in
+    omega (arith, fits, c .before .before .var-of .ensures)
 
 unmark-requires : tie.Need-unmark-requires
-unmark-requires c κs =
-    let P = c .before .before .before .before .before .before .before .before in
+unmark-requires c κs = let d = c .before .before .before in
+    let P = d .before .before .before .before in
     let A = P .args in
-    let v = c .before .before .before .before .var-of .result in
-    let e = c .before .before .before .before .var-of .ensures in (
-      omega (arith, P .pre .space .table-long, length-set (A .t .now) v (A .x)),
+    let e = sym (d .var-of .ensures) in
+    let top = top-word (A .n) (A .a) (length (A .t .now)) (omega (arith, P .pre .within)) (P .pre .space .table-long) in (
+      omega (arith, top, length-set (A .t .now) (d .var-of .result) (A .x)),
+      P .pre .space .small,
       P .pre .within,
-      give-ups (A .gates .now) (A .t .now) (A .n) (A .a) (A .j) (A .x) (P .pre) v e,
-      give-on (A .gates .now) (A .t .now) (A .n) (A .a) (A .j) (A .x) (P .pre) v e,
+      subst (λ (v : ℕ). Levels (set (A .t .now) v (A .x)) (A .n) (A .a)) e
+          (give-levels (A .gates .now) (A .t .now) (A .n) (A .a) (A .j) (A .x) (P .pre)),
+      subst (λ (v : ℕ). isOn (set (A .t .now) v (A .x)) (p0 (A .n) (A .a)) (A .j) ≡ true) e
+          (give-on (A .gates .now) (A .t .now) (A .n) (A .a) (A .j) (A .x) (P .pre)),
     )
 
 wake-requires : tie.Need-wake-requires
-wake-requires c κs =
-    let c3 = c .before .before .before in
-    let c5 = c3 .before .before in
-    let c6 = c5 .before in
-    let c8 = c6 .before .before in
-    let P = c8 .before .before .before .before in
+wake-requires c κs = let d = c .before .before .before in
+    let P = d .before .before .before .before .before .before .before .before in
     let A = P .args in
-    let v = c8 .var-of .result in
-    let e = c8 .var-of .ensures in
-    let h = c5 .ix .result in
-    let top = c5 .ix .ensures ∙ c6 .chain .ensures in
-    let u = c3 .unmark .last .0 in
-    let same : length u ≡ length (set (A .t .now) v (A .x)) = c .before .before .t .given in
-    let o = c3 .unmark .ensures in (
-      give-space (A .gates .now) (A .t .now) (A .n) (A .a) (A .j) (A .x) (P .pre) v e h top u same o,
-      give-chain (A .gates .now) (A .t .now) (A .n) (A .a) (A .j) (A .x) (P .pre) v e h top u same o,
-      give-marks (A .gates .now) (A .t .now) (A .n) (A .a) (A .j) (A .x) (P .pre) v e h top u same o,
+    let u = d .unmark .last .0 in (
+      give-space (A .gates .now) (A .t .now) (A .n) (A .a) (A .j) (A .x) (P .pre) u (kept (c .before .before)) (off d),
+      give-waking (A .gates .now) (A .t .now) (A .n) (A .a) (A .j) (A .x) (P .pre) u (kept (c .before .before)) (off d)
+          (d .before .before .ix .result) (d .before .before .ix .ensures),
     )
 
 same-length : tie.Need-same-length
-same-length c =
-    let c5 = c .before .before .before .before .before in
-    let c6 = c5 .before in
-    let c11 = c6 .before .before .before .before .before in
-    let c15 = c11 .before .before .before .before in
-    let A = c15 .args in
-    let v = c11 .var-of .result in
-    let u = c6 .unmark .last .0 in
-    let same : length u ≡ length (set (A .t .now) v (A .x)) = c5 .t .given in
-    let same2 : length (c .before .before .wake .last .1 .0) ≡ length u = c .before .t2 .given in
-    same2 ∙ same ∙ length-set (A .t .now) v (A .x)
+same-length c = let d = c .before .before .before .before .before in
+    let A = d .before .before .before .before .before .before .before .before .before .args in
+    let after : length (c .before .before .wake .last .1 .0) ≡ length (d .before .unmark .last .0) = c .before .t2 .given in
+    after ∙ (kept d ∙ length-set (A .t .now) (lhsOf (A .gates .now) (A .j)) (A .x))
 
 returns : tie.Need-returns
-returns c =
-    let c5 = c .before .before .before .before .before in
-    let c6 = c5 .before in
-    let c8 = c6 .before .before in
-    let c9 = c8 .before in
-    let c11 = c9 .before .before in
-    let P = c11 .before .before .before .before in
+returns c = let d = c .before .before .before .before .before in
+    let P = d .before .before .before .before .before .before .before .before .before in
     let A = P .args in
-    let v = c11 .var-of .result in
-    let e = c11 .var-of .ensures in
-    let h = c8 .ix .result in
-    let top = c8 .ix .ensures ∙ c9 .chain .ensures in
-    let u = c6 .unmark .last .0 in
-    let same : length u ≡ length (set (A .t .now) v (A .x)) = c5 .t .given in
-    give-done (A .gates .now) (A .t .now) (A .n) (A .a) (A .j) (A .x) (P .pre) v e h top u same
-    (c6 .unmark .ensures)
-    (c .before .before .wake .last .1 .0) (c .before .before .wake .result) (c .before .before .wake .ensures .0)
-    (c .before .before .wake .ensures .1)
+    let w = c .before .before .wake in
+    give-done (A .gates .now) (A .t .now) (A .n) (A .a) (A .j) (A .x) (P .pre) (d .before .unmark .last .0) (kept d) (off (d .before))
+    (w .last .1 .0) (w .ensures .0) (w .ensures .1)
 
 pub give-spec : {M : Type 1} → statement M
 give-spec =
@@ -126,9 +111,9 @@ give-spec =
     mul-var-of-2
     shared-slice-read-var-of
     var-of-requires
-    mul-chain
-    slice-read-chain
-    chain-requires
+    add-ix
+    mul-ix
+    slice-read-ix
     ix-requires
     mul-t
     slice-write-t
