@@ -11,8 +11,10 @@ use Rattle.plan.specs.Literals.{varOf}
 use Rattle.bitmap.specs.Bitmap.{isOn}
 use Rattle.theorems.proofs.Tables.{gateAt}
 use Rattle.order.specs.Numbers.{NumTable, InRange}
-use Rattle.order.specs.Waiting.{shown, clean, readyAt, p0, Waiting, every, First, Given}
-use Rattle.order.proofs.Shown.{shown-low, clean-length, clean-set, clean-same, ready-clean}
+use Rattle.order.specs.Waiting.{shown, clean, numberedV, readyAt, lhsOf, counted, p0, Waiting, every, First, Given}
+use Rattle.order.proofs.Shown.{shown-low, clean-length, clean-set, clean-same, ready-clean, ready-left, given-here, given-other}
+use Rattle.order.proofs.Counting.{counted-more}
+use Rattle.order.proofs.Watching.{numbered-agree, only-j}
 use Rattle.order.proofs.Numbering.{Starts}
 use Rattle.order.proofs.Going.{NotReady, Going, Final, going-start, going-more, going-break, going-end}
 
@@ -38,6 +40,7 @@ module _ (gates t : List ℕ) (n a : ℕ) (w : Waiting gates t n a every) where
 pub record State (gates t₀ t : List ℕ) (n a first next k : ℕ) : Type 0 where
   pub long : n ≤ length t
   pub waiting : Waiting gates t n a every
+  pub count : counted gates t a ≡ k
   pub going : (lv : List ℕ) → NumTable lv (clean n t₀) → Starts lv → length lv ≡ first → Going gates lv (clean n t) a next k
 
 abbrev pub Done : List ℕ → List ℕ → List ℕ → ℕ → ℕ → ℕ → Type 0
@@ -57,17 +60,35 @@ module _ (gates t₀ t : List ℕ) (n a first next k : ℕ) (range : InRange n g
   pub state-end : a ≤ k → Done gates t₀ t n a first
   state-end h lv tab st len = going-end gates lv (clean n t) a next k h (s .going lv tab st len)
 
-  pub state-more : (u : List ℕ) (j : ℕ) → k < a → j < a → next < 2147483648 → Idle gates t a j → readyAt gates t j ≡ true
+  pub state-more : (u : List ℕ) (j : ℕ) → k < a → j < a → 0 < next → next < 2147483648 → Idle gates t a j → readyAt gates t j ≡ true
       → length u ≡ length t → Given gates t u n a j next → State gates t₀ u n a first (next + 1) (k + 1)
-  state-more u j hk hj small f e same-length g = record {
+  state-more u j hk hj pos small f e same-length g = record {
     long = omega (arith, s .long);
     waiting = g .waiting;
+    count = counted-more gates t u a j hj open-j here others ∙ ap (λ (m : ℕ). m + 1) (s .count);
     going = λ lv tab st len.
         subst (λ (c : List ℕ). Going gates lv c a (next + 1) (k + 1)) same
         (going-more gates lv (clean n t) a next k j hk hj range′ (idle-not j (omega arith) f)
         (ready-clean n t (gateAt gates j) (range j hj) ∙ e) (s .going lv tab st len));
   }
     where
+      open-j : numberedV t (lhsOf gates j) ≡ false
+      open-j = ready-left t (gateAt gates j) e
+
+      fits : lhsOf gates j < length t
+      fits = omega (arith, range j hj .0, s .long)
+
+      here : numberedV u (lhsOf gates j) ≡ true
+      here =
+          numbered-agree (set t (lhsOf gates j) next) u n (lhsOf gates j) (g .low) (range j hj .0)
+          ∙ given-here t (lhsOf gates j) next fits pos small
+
+      others : (i : ℕ) → i < a → (i ≡ j → ⊥) → numberedV u (lhsOf gates i) ≡ numberedV t (lhsOf gates i)
+      others i h d =
+          numbered-agree (set t (lhsOf gates j) next) u n (lhsOf gates i) (g .low) (range i h .0)
+          ∙ given-other t (lhsOf gates j) next fits pos small (lhsOf gates i)
+          (λ z. d (only-j gates t n a range (s .waiting .named) j next hj open-j (s .long) pos small i h z))
+
       same : set (clean n t) (varOf (gateAt gates j .lhs)) next ≡ clean n u
       same =
           sym (clean-same n (set t (varOf (gateAt gates j .lhs)) next) u
@@ -76,9 +97,11 @@ module _ (gates t₀ t : List ℕ) (n a first next k : ℕ) (range : InRange n g
           ∙ clean-set n t (varOf (gateAt gates j .lhs)) next (range j hj .0)
           ∙ ap (set (clean n t) (varOf (gateAt gates j .lhs))) (shown-low next small))
 
-pub state-start : (gates t : List ℕ) (n a first : ℕ) → n ≤ length t → Waiting gates t n a every → State gates t t n a first first 0
-state-start gates t n a first l w = record {
+pub state-start : (gates t : List ℕ) (n a first : ℕ) → n ≤ length t → Waiting gates t n a every → counted gates t a ≡ 0
+    → State gates t t n a first first 0
+state-start gates t n a first l w z = record {
   long = l;
   waiting = w;
+  count = z;
   going = λ lv tab st len. going-start gates lv (clean n t) a first tab st len;
 }

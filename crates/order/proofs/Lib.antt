@@ -8,6 +8,7 @@ pub mod Places
 pub mod Numbering
 pub mod Watching
 pub mod Naming
+pub mod Counting
 pub mod Hanging
 pub mod AllHung
 pub mod Walking

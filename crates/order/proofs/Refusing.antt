@@ -20,9 +20,10 @@ use Rattle.theorems.proofs.Running.Scan.{scanned, scanned-length}
 use Rattle.theorems.proofs.Running.FirstOut.{firstOut, out-append-none, out-append-some, cyclic-out}
 use Rattle.theorems.proofs.Tables.{gateAt, gatesAt, gates-rows}
 use Rattle.order.specs.Numbers.{NumTable, InRange}
-use Rattle.order.specs.Waiting.{numberedV, FirstAt}
+use Rattle.order.specs.Waiting.{numberedV, counted, FirstAt}
 use Rattle.order.proofs.Shown.{numbered-take}
 use Rattle.order.proofs.Numbering.{Starts, numbered-has}
+use Rattle.order.proofs.Counting.{counted-all, counted-full}
 use Rattle.order.proofs.Settling.{small-words}
 use Rattle.order.proofs.Conversion.{gates-count}
 
@@ -103,3 +104,14 @@ module _ (gates t : List ℕ) (n a first : ℕ) (c : Circuit) (its : c .gates �
   pub cycle-here : (r ≡ a → ⊥) → cyclicIn c ≡ some (varOf (gateAt gates r .lhs))
   unfolding o
   cycle-here e = place ∙ out-here gates t o n a r long range refl short tab f e
+
+-- all gates have numbers if they are as many; else one has none
+pub first-none : (gates t : List ℕ) (a : ℕ) → counted gates t a ≡ a → FirstAt gates t a a
+first-none gates t a e = record { within = omega arith; before = counted-full gates t a e; there = λ h. absurd (omega arith) }
+
+pub first-some : (gates t : List ℕ) (a k r : ℕ) → k ≡ counted gates t a → (k ≡ a → ⊥) → FirstAt gates t a r → r < a
+first-some gates t a k r e d f = go (eqb r a) refl
+  where
+    go : (b : Bool) → eqb r a ≡ b → r < a
+    go true z = absurd (d (e ∙ counted-all gates t a (λ i h. f .before i (omega (arith, eqb-true r a z)))))
+    go false z = omega (arith, f .within, eqb-false r a z)

@@ -4,8 +4,8 @@ use mathlib.Core.Path.{_≡_, refl, sym, ap, _∙_, subst}
 use mathlib.Core.Bool.{Bool, true, false, cond}
 use mathlib.Core.List.{List, [], _++_, map, append-nil}
 use native.Mathlib.Omega.{arith}
-use borrow.Author.Tests.{eqb-true, eqb-false}
-use lib.Dec.{eqb}
+use borrow.Author.Tests.{eqb-true, eqb-false, ltb-true, ltb-false}
+use lib.Dec.{eqb, ltb}
 use lib.ListN.{length, getD, set, take, length-take}
 use lib.Seq.{getD-set-same, getD-set-other, getD-take}
 use Rattle.plan.specs.Circuit.{Gate, gateOf, rowsOf, lefts, has}
@@ -13,9 +13,10 @@ use Rattle.plan.specs.Convert.{index}
 use Rattle.theorems.proofs.Running.Lists.{index-front}
 use Rattle.theorems.proofs.Running.Scan.{scanned}
 use Rattle.theorems.proofs.Tables.{gatesAt, gates-rows}
-use Rattle.order.specs.Numbers.{NumTable}
-use Rattle.order.specs.Waiting.{shown, clean, Agree, Fresh}
-use Rattle.order.proofs.Shown.{shown-low, clean-at, clean-length}
+use Rattle.order.specs.Numbers.{NumTable, InRange}
+use Rattle.order.specs.Waiting.{shown, clean, lhsOf, counted, Agree, Fresh}
+use Rattle.order.proofs.Shown.{shown-low, shown-high, clean-at, clean-length, numbered-by}
+use Rattle.order.proofs.Counting.{counted-same}
 use Rattle.order.proofs.Numbering.{Starts}
 use Rattle.order.proofs.Assigning.{Done}
 
@@ -47,6 +48,21 @@ unfolding NumTable
 table-out o t u n lt lu same tab v h =
     let k : v < n = omega (arith, length-take n u) in
     getD-take n u v 0 k ∙ same v k ∙ sym (clean-at n t v k) ∙ tab v (omega (arith, clean-length n t lt))
+
+-- a settled word shows what it showed
+shown-twice : (w : ℕ) → shown (shown w) ≡ shown w
+shown-twice w = go (ltb w 2147483648) refl
+  where
+    go : (b : Bool) → ltb w 2147483648 ≡ b → shown (shown w) ≡ shown w
+    go true e = ap shown (shown-low w (ltb-true w 2147483648 e))
+    go false e = let z = shown-high w (ltb-false w 2147483648 e) in ap shown z ∙ (shown-low 0 (omega arith) ∙ sym z)
+
+pub settled-count : (gates t u : List ℕ) (n a : ℕ) → InRange n gates a → ((v : ℕ) → v < n → getD u v 0 ≡ shown (getD t v 0))
+    → counted gates u a ≡ counted gates t a
+settled-count gates t u n a range same =
+    counted-same gates t u a (λ i h.
+    let v = lhsOf gates i in
+    numbered-by t u v (ap shown (same v (range i h .0)) ∙ shown-twice (getD t v 0)))
 
 -- all parts: gates named and hung, numbers given, words settled
 pub all-parts : (gates t x y z w : List ℕ) (n a first : ℕ) → n ≤ length t → n ≤ length y → n ≤ length z → n ≤ length w → Fresh t n

@@ -46,6 +46,11 @@ rhs0Of gates i = varOf (getD gates (3 * i + 1) 0)
 abbrev pub rhs1Of : List ℕ → ℕ → ℕ
 rhs1Of gates i = varOf (getD gates (3 * i + 2) 0)
 
+-- how many of the first k gates have a number
+abbrev pub counted : List ℕ → List ℕ → ℕ → ℕ
+counted gates t zero = 0
+counted gates t (suc k) = counted gates t k + cond (numberedV t (lhsOf gates k)) 1 0
+
 -- the word that gate i waits for: its first right side's if that names a gate, else its second one's
 unfoldable pub watched : List ℕ → List ℕ → ℕ → ℕ
 watched gates t i = cond (ltb (getD t (rhs0Of gates i) 0) 2147483648) (getD t (rhs1Of gates i) 0) (getD t (rhs0Of gates i) 0)

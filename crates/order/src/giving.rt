@@ -7,7 +7,7 @@ ghost use Rattle.plan.specs.Circuit.{lefts};
 ghost use Rattle.theorems.proofs.Tables.{gatesAt};
 ghost use Rattle.theorems.proofs.Running.Scan.{scanned};
 ghost use Rattle.order.specs.Numbers.{NumTable};
-ghost use Rattle.order.specs.Waiting.{Space, clean, Agree, Waiting, every, Waking, Giving, Given};
+ghost use Rattle.order.specs.Waiting.{Space, clean, counted, Agree, Waiting, every, Waking, Giving, Given};
 use crate::chains;
 use crate::marks;
 use crate::words;
@@ -37,10 +37,13 @@ fn give(gates: &[u32], t: &mut [u32], n: usize, a: usize, j: usize, x: u32)
     wake(gates, t, n, a, h);
 }
 
-// The scan starts at the first mark and yields the next gate that is ready; where none is, no further number is given.
-pub fn assign(gates: &[u32], t: &mut [u32], first: u32, n: usize, a: usize)
-    requires { ⌜ Space (now gates) (now t) n a × (0 < first) × (first + a < 2147483648) × Waiting (now gates) (now t) n a every ⌝ }
-    ensures { λ _. ⌜ ((lv : List ℕ) → NumTable lv (clean n (now (t .entry))) → getD lv 0 1 ≡ 0 → length lv ≡ first
+// The scan starts at the first mark and yields the next gate that is ready; where none is, no further number is given. Gives how many
+// gates have one.
+pub fn assign(gates: &[u32], t: &mut [u32], first: u32, n: usize, a: usize) -> usize
+    requires { ⌜ Space (now gates) (now t) n a × (0 < first) × (first + a < 2147483648) × Waiting (now gates) (now t) n a every
+        × (counted (now gates) (now t) a ≡ 0) ⌝ }
+    ensures { λ r. ⌜ r ≡ counted (now (gates .entry)) (now (t .exit)) a ⌝ }
+    ensures { λ r. ⌜ ((lv : List ℕ) → NumTable lv (clean n (now (t .entry))) → getD lv 0 1 ≡ 0 → length lv ≡ first
         → NumTable (lv ++ lefts (scanned (gatesAt (now (gates .entry)) a) a lv)) (clean n (now (t .exit)))) ⌝ }
 {
     let mut next = first;
@@ -60,4 +63,5 @@ pub fn assign(gates: &[u32], t: &mut [u32], first: u32, n: usize, a: usize)
         next += 1;
         k += 1;
     }
+    k
 }

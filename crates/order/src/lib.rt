@@ -19,7 +19,7 @@ ghost use Rattle.theorems.proofs.Running.Lists.{allIn};
 ghost use Rattle.theorems.proofs.Running.Scan.{scanned};
 ghost use Rattle.theorems.proofs.Running.Ascending.{ascends};
 ghost use Rattle.order.specs.Numbers.{NumTable, InRange};
-ghost use Rattle.order.specs.Waiting.{Room, Known, Fresh, Blank, FirstAt};
+ghost use Rattle.order.specs.Waiting.{Room, Known, Fresh, Blank, counted, FirstAt};
 use plan::Checked;
 use plan::Refusal;
 
@@ -29,17 +29,19 @@ mod marks;
 mod words;
 
 // Numbers from `first` on for the gates, in the first n words of t, which hold the numbers of the leaves; the rest of t is left as
-// it comes.
-fn number(gates: &[u32], t: &mut [u32], first: u32, n: usize, a: usize)
+// it comes. Gives how many gates have one.
+fn number(gates: &[u32], t: &mut [u32], first: u32, n: usize, a: usize) -> usize
     requires { ⌜ Room (now gates) (now t) n a × (0 < first) × (first + a < 2147483648) × Fresh (now t) n × Blank (now t) n
         × Known (now gates) (now t) n a ⌝ }
+    ensures { λ r. ⌜ r ≡ counted (now (gates .entry)) (now (t .exit)) a ⌝ }
     ensures { λ r. ⌜ ((lv : List ℕ) → NumTable lv (take n (now (t .entry))) → getD lv 0 1 ≡ 0 → length lv ≡ first
         → NumTable (lv ++ lefts (scanned (map gateOf (rowsOf 3 a (now (gates .entry)))) a lv)) (take n (now (t .exit)))) ⌝ }
 {
     words::name_all(gates, t, n, a);
     chains::hang_all(gates, t, n, a);
-    giving::assign(gates, t, first, n, a);
+    let k = giving::assign(gates, t, first, n, a);
     words::settle(t, n);
+    k
 }
 
 // The first of the a gates without a number, or a.
@@ -68,11 +70,10 @@ pub fn cycle(gates: &[u32], t: &mut [u32], first: u32, n: usize, a: usize) -> Ch
     ensures { λ r. ⌜ ((lv : List ℕ) → NumTable lv (take n (now (t .entry))) → getD lv 0 1 ≡ 0 → length lv ≡ first
         → NumTable (lv ++ lefts (scanned (map gateOf (rowsOf 3 a (now (gates .entry)))) a lv)) (take n (now (t .exit)))) ⌝ }
 {
-    number(gates, t, first, n, a);
-    let i = first_out(gates, t, a);
-    if i == a {
+    if number(gates, t, first, n, a) == a {
         return Checked::Good;
     }
+    let i = first_out(gates, t, a);
     Checked::Refused(Refusal::Cyclic(words::var_of(gates[3 * i])))
 }
 

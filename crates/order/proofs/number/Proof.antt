@@ -1,13 +1,15 @@
 -- Gates are named and hung, numbers given, words settled.
 use Prim.Native.Nat.{_≤_}
-use mathlib.Core.Path.{_≡_, _∙_}
+use mathlib.Core.Path.{_≡_, _∙_, sym}
 use native.Mathlib.Omega.{arith}
 use borrow.Author.Needs.{needs}
 use lib.ListN.{length}
-use Rattle.order.specs.Waiting.{Space}
+use Rattle.order.specs.Waiting.{Space, lhsOf}
 use Rattle.order.proofs.Spaces.{space-of, space-again}
 use Rattle.order.proofs.Naming.{Naming, named-all, still-open, none-waits}
-use Rattle.order.proofs.Settling.{all-parts}
+use Rattle.order.proofs.Watching.{numbered-agree}
+use Rattle.order.proofs.Counting.{counted-none}
+use Rattle.order.proofs.Settling.{settled-count, all-parts}
 use Rattle.order.proofs.number.Statement.{statement}
 use Rattle.order.proofs.number.Tie as tie
 
@@ -42,6 +44,10 @@ assign-requires c κs = let d = c .before .before .before in
       P .pre .1,
       P .pre .2,
       d .hang-all .ensures .0,
+      counted-none (A .gates .now) (d .hang-all .last .1 .0) (A .a)
+          (λ i h. numbered-agree (f .name-all .last .1 .0) (d .hang-all .last .1 .0) (A .n) (lhsOf (A .gates .now) i) (d .hang-all .ensures .1)
+          (space P .inside i h .0)
+          ∙ still-open (A .gates .now) (A .t .now) (A .n) (A .a) (long P) (space P .inside) (P .pre .3) (P .pre .5) _ (f .name-all .ensures) i h),
     )
 
 settle-requires : tie.Need-settle-requires
@@ -65,9 +71,11 @@ returns c = let c6 = c .before .before .before .before .before .before in
     let same3 : length z ≡ length y = c .before .before .before .before .before .t3 .given in
     let same4 : length w ≡ length z = c .before .t4 .given in
     let named =
-    named-all (A .gates .now) (A .t .now) (A .n) (A .a) (long P) (space P .inside) (P .pre .3) (P .pre .5) x (c14 .name-all .ensures) in
-    all-parts (A .gates .now) (A .t .now) x y z w (A .n) (A .a) (A .first) (long P) (omega (arith, long P)) (omega (arith, long P))
-    (omega (arith, long P)) (P .pre .3) (named .keep) (c10 .hang-all .ensures .1) (c6 .assign .ensures) (c .before .before .settle .ensures)
+    named-all (A .gates .now) (A .t .now) (A .n) (A .a) (long P) (space P .inside) (P .pre .3) (P .pre .5) x (c14 .name-all .ensures) in (
+      c6 .assign .ensures .0 ∙ sym (settled-count (A .gates .now) z w (A .n) (A .a) (space P .inside) (c .before .before .settle .ensures)),
+      all-parts (A .gates .now) (A .t .now) x y z w (A .n) (A .a) (A .first) (long P) (omega (arith, long P)) (omega (arith, long P))
+          (omega (arith, long P)) (P .pre .3) (named .keep) (c10 .hang-all .ensures .1) (c6 .assign .ensures .1) (c .before .before .settle .ensures),
+    )
 
 pub number-spec : {M : Type 1} → statement M
 number-spec =

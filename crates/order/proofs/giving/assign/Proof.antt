@@ -24,7 +24,7 @@ abbrev μ-numbers : tie.MeasureT-numbers
 numbers-holds : tie.Need-numbers-holds Inv-loop μ-loop Inv-numbers μ-numbers
 numbers-holds c = let P = c .before .before in
     let A = P .args in
-    (omega arith, refl, omega arith, state-start (A .gates .now) (A .t .now) (A .n) (A .a) (A .first) (omega (arith, P .pre .0 .table-long)) (P .pre .3))
+    (omega arith, refl, omega arith, state-start (A .gates .now) (A .t .now) (A .n) (A .a) (A .first) (omega (arith, P .pre .0 .table-long)) (P .pre .3) (P .pre .4))
 
 first-requires : tie.Need-first-requires Inv-loop μ-loop Inv-numbers μ-numbers
 first-requires c κs = let P = c .before .before .before .before .before in
@@ -109,7 +109,7 @@ numbers-again c = let c4 = c .before .before .before .before in
       same ∙ N .inv .1,
       omega (arith, N .inv .2),
       state-more (A .gates .now) (A .t .now) (N .t) (A .n) (A .a) (A .first) (N .next) (N .k) (P .pre .0 .inside) (N .inv .3) u (d .loop .j)
-          more (omega (arith, inn)) (omega (arith, P .pre .2, N .inv .2)) (d .loop .inv)
+          more (omega (arith, inn)) (omega (arith, P .pre .1, N .inv .2)) (omega (arith, P .pre .2, N .inv .2)) (d .loop .inv)
           (marked-ready (A .gates .now) (N .t) (A .n) (A .a) (N .inv .3 .waiting) (d .loop .j) true (omega (arith, inn))
           (sym (c4 .before .is-on .ensures) ∙ c4 .if1 .taken)) same (c .before .before .give .ensures),
     )
@@ -120,9 +120,11 @@ same-length c = c .before .numbers .inv .1
 returns : tie.Need-returns Inv-loop μ-loop Inv-numbers μ-numbers
 returns c = let P = c .before .before .before .before in
     let A = P .args in
-    let N = c .before .numbers in
-    state-end (A .gates .now) (A .t .now) (N .t) (A .n) (A .a) (A .first) (N .next) (N .k) (P .pre .0 .inside) (N .inv .3)
-    (omega (arith, c .numbers-test .left))
+    let N = c .before .numbers in (
+      sym (N .inv .3 .count),
+      state-end (A .gates .now) (A .t .now) (N .t) (A .n) (A .a) (A .first) (N .next) (N .k) (P .pre .0 .inside) (N .inv .3)
+          (omega (arith, c .numbers-test .left)),
+    )
 
 same-length-2 : tie.Need-same-length-2 Inv-loop μ-loop Inv-numbers μ-numbers
 same-length-2 c = c .before .before .before .before .before .numbers .inv .1
@@ -131,9 +133,11 @@ returns-2 : tie.Need-returns-2 Inv-loop μ-loop Inv-numbers μ-numbers
 returns-2 c = let d = c .before in
     let P = d .before .before .before .before .before .before .before in
     let A = P .args in
-    let N = d .before .before .before .before .numbers in
-    state-break (A .gates .now) (A .t .now) (N .t) (A .n) (A .a) (A .first) (N .next) (N .k) (P .pre .0 .inside) (N .inv .3) (d .loop .j)
-    (c .loop-test .taken) (d .loop .inv)
+    let N = d .before .before .before .before .numbers in (
+      sym (N .inv .3 .count),
+      state-break (A .gates .now) (A .t .now) (N .t) (A .n) (A .a) (A .first) (N .next) (N .k) (P .pre .0 .inside) (N .inv .3) (d .loop .j)
+          (c .loop-test .taken) (d .loop .inv),
+    )
 
 pub assign-spec : {M : Type 1} → statement M
 assign-spec =
