@@ -33,8 +33,11 @@ same-length-5 c = search needs
 
 returns : tie.Need-returns
 returns c =
-    let a = c .before .before .before .before .before .before .before .before .before .before .before .before .before .before .before .before .before .before .before .before .before .before .before .before .before .before .before .before .args in
-    let made = c .before .before .before .before .before .before .before .before .before .before .before .before .convert in
+    let start = c .before .before .before .before .before .before .before .before .before .before .before .before .before .before .before .before .before .before .before .before .before .before .before .before .before .before .before .before in
+    let counts′ = c .before .before .before .before .before .before .before .before .before .before .before .before .before .before .before .before .before .before .counts in
+    let convert = c .before .before .before .before .before .before .before .before .before .before .before .before .convert in
+    let a = start .args in
+    let made = convert in
     let g : Given = record {
       counts = countsFrom (a .counts .now);
       tables = record { inputs = a .inputs .now; latches = a .latches .now; outputs = a .outputs .now; gates = a .gates .now };
@@ -56,7 +59,7 @@ returns c =
       };
       scratch = made .last .1 .1 .1 .1 .1 .1 .1 .1 .1 .0;
     } in
-    made-told conversion g t _ x _ (c .before .before .before .before .before .before .before .before .before .before .before .before .before .before .before .before .before .before .counts .ensures) (made .ensures) (c .made .ensures)
+    made-told conversion g t _ x _ (counts′ .ensures) (made .ensures) (c .made .ensures)
 
 pub golvanzo-convert-spec : {M : Type 1} → statement M
 golvanzo-convert-spec =

@@ -10,19 +10,21 @@ read-requires c κs = search needs
 
 sub-result : tie.Need-sub-result
 sub-result c =
-    let a = c .before .before .before .before .before .before .before .before .before .before .before .before .before .before .before .before .before .before .before .before .before .before .before .args in
+    let start = c .before .before .before .before .before .before .before .before .before .before .before .before .before .before .before .before .before .before .before .before .before .before .before in
+    let read = c .before .before .before .before .before .before .before .before .before .before .read in
+    let a = start .args in
     let e : ReadEntry = record {
       file = a .file .now;
       tables = record { inputs = a .inputs .now; latches = a .latches .now; outputs = a .outputs .now; gates = a .gates .now };
       scratch = a .scratch .now;
     } in
     let x : ReadExit = record {
-      answer = c .before .before .before .before .before .before .before .before .before .before .read .last .1 .1 .1 .1 .1 .1 .0;
-      tail = c .before .before .before .before .before .before .before .before .before .before .read .result .now;
-      tables = record { inputs = c .before .before .before .before .before .before .before .before .before .before .read .last .1 .0; latches = c .before .before .before .before .before .before .before .before .before .before .read .last .1 .1 .0; outputs = c .before .before .before .before .before .before .before .before .before .before .read .last .1 .1 .1 .0; gates = c .before .before .before .before .before .before .before .before .before .before .read .last .1 .1 .1 .1 .0 };
-      scratch = c .before .before .before .before .before .before .before .before .before .before .read .last .1 .1 .1 .1 .1 .0;
+      answer = read .last .1 .1 .1 .1 .1 .1 .0;
+      tail = read .result .now;
+      tables = record { inputs = read .last .1 .0; latches = read .last .1 .1 .0; outputs = read .last .1 .1 .1 .0; gates = read .last .1 .1 .1 .1 .0 };
+      scratch = read .last .1 .1 .1 .1 .1 .0;
     } in
-    omega (arith, tail-shorter e x (c .before .before .before .before .before .before .before .before .before .before .read .ensures))
+    omega (arith, tail-shorter e x (read .ensures))
 
 same-length : tie.Need-same-length
 same-length c = search needs
@@ -41,19 +43,21 @@ same-length-5 c = search needs
 
 returns : tie.Need-returns
 returns c =
-    let a = c .before .before .before .before .before .before .before .before .before .before .before .before .before .before .before .before .before .before .before .before .before .before .before .args in
+    let start = c .before .before .before .before .before .before .before .before .before .before .before .before .before .before .before .before .before .before .before .before .before .before .before in
+    let read = c .before .before .before .before .before .before .before .before .before .before .read in
+    let a = start .args in
     let e : ReadEntry = record {
       file = a .file .now;
       tables = record { inputs = a .inputs .now; latches = a .latches .now; outputs = a .outputs .now; gates = a .gates .now };
       scratch = a .scratch .now;
     } in
     let x : ReadExit = record {
-      answer = c .before .before .before .before .before .before .before .before .before .before .read .last .1 .1 .1 .1 .1 .1 .0;
-      tail = c .before .before .before .before .before .before .before .before .before .before .read .result .now;
-      tables = record { inputs = c .before .before .before .before .before .before .before .before .before .before .read .last .1 .0; latches = c .before .before .before .before .before .before .before .before .before .before .read .last .1 .1 .0; outputs = c .before .before .before .before .before .before .before .before .before .before .read .last .1 .1 .1 .0; gates = c .before .before .before .before .before .before .before .before .before .before .read .last .1 .1 .1 .1 .0 };
-      scratch = c .before .before .before .before .before .before .before .before .before .before .read .last .1 .1 .1 .1 .1 .0;
+      answer = read .last .1 .1 .1 .1 .1 .1 .0;
+      tail = read .result .now;
+      tables = record { inputs = read .last .1 .0; latches = read .last .1 .1 .0; outputs = read .last .1 .1 .1 .0; gates = read .last .1 .1 .1 .1 .0 };
+      scratch = read .last .1 .1 .1 .1 .1 .0;
     } in
-    tail-starts e x (c .before .before .before .before .before .before .before .before .before .before .read .ensures)
+    tail-starts e x (read .ensures)
 
 pub golvanzo-read-spec : {M : Type 1} → statement M
 golvanzo-read-spec =

@@ -26,8 +26,11 @@ same-length-3 c = search needs
 
 returns : tie.Need-returns
 returns c =
-    let a = c .before .before .before .before .before .before .before .before .before .before .before .before .before .before .before .before .before .before .before .before .before .args in
-    let stepped = c .before .before .before .before .before .before .before .before .step in
+    let start = c .before .before .before .before .before .before .before .before .before .before .before .before .before .before .before .before .before .before .before .before .before in
+    let counts′ = c .before .before .before .before .before .before .before .before .before .before .before .before .counts in
+    let step = c .before .before .before .before .before .before .before .before .step in
+    let a = start .args in
+    let stepped = step in
     let g : Given = record {
       counts = countsFrom (a .counts .now);
       tables = record { inputs = a .inputs .now; latches = a .latches .now; outputs = a .outputs .now; gates = a .gates .now };
@@ -39,7 +42,7 @@ returns c =
       state = stepped .last .1 .1 .1 .1 .1 .1 .0;
       outputs = stepped .last .1 .1 .1 .1 .1 .1 .1 .1 .0;
     } in
-    step-told g (a .state .now) (a .ins .now) (a .outs .now) _ x _ (c .before .before .before .before .before .before .before .before .before .before .before .before .counts .ensures) (stepped .ensures) (c .stepped .ensures)
+    step-told g (a .state .now) (a .ins .now) (a .outs .now) _ x _ (counts′ .ensures) (stepped .ensures) (c .stepped .ensures)
 
 pub golvanzo-step-spec : {M : Type 1} → statement M
 golvanzo-step-spec =

@@ -23,7 +23,9 @@ same-length-2 c = search needs
 
 returns : tie.Need-returns
 returns c =
-    let a = c .before .before .before .before .before .before .before .before .before .before .before .before .before .before .before .before .before .args in
+    let start = c .before .before .before .before .before .before .before .before .before .before .before .before .before .before .before .before .before in
+    let counts′ = c .before .before .before .before .before .before .before .before .before .counts in
+    let a = start .args in
     let wrote = c .before .before .before .before .before .before .write-binary in
     let g : Given = record {
       counts = countsFrom (a .counts .now);
@@ -35,7 +37,7 @@ returns c =
       scratch = wrote .last .1 .1 .1 .1 .1 .0;
       out = wrote .last .1 .1 .1 .1 .1 .1 .1 .0;
     } in
-    file-told writeBinary g (a .tail .now) (a .out .now) _ x _ (c .before .before .before .before .before .before .before .before .before .counts .ensures) (wrote .ensures) (c .written .ensures)
+    file-told writeBinary g (a .tail .now) (a .out .now) _ x _ (counts′ .ensures) (wrote .ensures) (c .written .ensures)
 
 pub golvanzo-write-binary-spec : {M : Type 1} → statement M
 golvanzo-write-binary-spec =

@@ -33,7 +33,8 @@ signed-as-requires c κs = search needs
 
 returns : tie.Need-returns
 returns c =
-    let a = c .before .before .before .before .before .before .args in
+    let start = c .before .before .before .before .before .before in
+    let a = start .args in
     let at : c .before .before .before .index .result ≡ varOf (wordOf (a .l))
     = c .before .before .before .index .ensures ∙ ap indexOf (c .before .before .before .before .var .ensures) in
     c .signed-as .ensures ∙ ap (λ (l : Lit). signedAs l (a .l)) (c .before .at .ensures)

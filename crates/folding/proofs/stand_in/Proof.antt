@@ -35,7 +35,8 @@ returns c =
 
 returns-2 : tie.Need-returns-2
 returns-2 c =
-    let a = c .before .before .before .before .before .before .before .before .args in
+    let start = c .before .before .before .before .before .before .before .before in
+    let a = start .args in
     let r = c .before .before .before .before .before .by-sides in
     by-twin (a .gates .now) (a .scratch .now) (a .w) (a .n) (wordOf (a .a)) (wordOf (a .b)) (r .result) (r .ensures) _ _
     (c .before .before .before .enum-told .given .1) (c .before .before .larger .ensures) (c .before .smaller .ensures) (c .find .result)

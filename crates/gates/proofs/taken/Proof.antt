@@ -26,7 +26,8 @@ enum-known-d c = search needs
 
 returns : tie.Need-returns
 returns c =
-    let a = c .before .before .before .before .before .before .before .args in
+    let start = c .before .before .before .before .before .before .before in
+    let a = start .args in
     let g = c .before .before .before .d .given in
     let read = sym (g .1) ∙ c .before .before .before .before .before .read-difference .ensures in
     zero-refused (a .file .now) (a .at) (a .first) (wordOf (a .from)) (g .0 .0) (g .0 .1 .0) read (c .before .if1 .taken) (c .if2 .taken)
@@ -36,7 +37,8 @@ word-requires c κs = search needs
 
 returns-2 : tie.Need-returns-2
 returns-2 c =
-    let a = c .before .before .before .before .before .before .before .before .args in
+    let start = c .before .before .before .before .before .before .before .before in
+    let a = start .args in
     let g = c .before .before .before .before .d .given in
     let read = sym (g .1) ∙ c .before .before .before .before .before .before .read-difference .ensures in
     let h : wordOf (a .from) < g .0 .0 = omega (arith, c .if3 .taken, c .before .word .ensures) in

@@ -20,7 +20,8 @@ same-length c = search needs
 
 returns : tie.Need-returns
 returns c =
-    let a = c .before .before .before .before .before .before .before .before .before .before .args in
+    let start = c .before .before .before .before .before .before .before .before .before .before in
+    let a = start .args in
     let t : Tables = record { inputs = a .inputs .now; latches = a .latches .now; outputs = a .outputs .now; gates = a .gates .now } in
     let g : Given = record { counts = a .n; tables = t; scratch = a .scratch .now } in
     c .before .before .check-to-make .ensures t (ap sizesOf (sym (c .before .before .before .before .sizes .ensures))) ∙ alone-answer true g

@@ -29,7 +29,8 @@ adds-up-requires c κs = search needs
 
 returns-2 : tie.Need-returns-2
 returns-2 c =
-    let a = c .before .before .before .before .before .before .before .before .before .args in
+    let start = c .before .before .before .before .before .before .before .before .before in
+    let a = start .args in
     let t : Tables = record { inputs = a .inputs .now; latches = a .latches .now; outputs = a .outputs .now; gates = a .gates .now } in
     let g : Given = record { counts = a .n; tables = t; scratch = a .scratch .now } in
     let e2 = no-table _ _ (c .before .before .if1 .left) (c .before .before .before .large-count .ensures) in
@@ -49,14 +50,17 @@ shorter-requires-4 c κs = search needs
 
 too-short-requires : tie.Need-too-short-requires
 too-short-requires c κs =
-    small-counts (c .before .before .before .before .before .before .before .before .before .before .before .before .before .args .n) (no-table _ _ (c .before .before .before .before .before .before .if1 .left) (c .before .before .before .before .before .before .before .large-count .ensures))
+    let start = c .before .before .before .before .before .before .before .before .before .before .before .before .before in
+    small-counts (start .args .n) (no-table _ _ (c .before .before .before .before .before .before .if1 .left) (c .before .before .before .before .before .before .before .large-count .ensures))
 
 returns-3 : tie.Need-returns-3
 returns-3 c =
-    let a = c .before .before .before .before .before .before .before .before .before .before .before .before .before .before .before .args in
+    let start = c .before .before .before .before .before .before .before .before .before .before .before .before .before .before .before in
+    let large-count = c .before .before .before .before .before .before .before .before .before .large-count in
+    let a = start .args in
     let t : Tables = record { inputs = a .inputs .now; latches = a .latches .now; outputs = a .outputs .now; gates = a .gates .now } in
     let g : Given = record { counts = a .n; tables = t; scratch = a .scratch .now } in
-    let e2 = no-table _ _ (c .before .before .before .before .before .before .before .before .if1 .left) (c .before .before .before .before .before .before .before .before .before .large-count .ensures) in
+    let e2 = no-table _ _ (c .before .before .before .before .before .before .before .before .if1 .left) (large-count .ensures) in
     let e3 = sym (c .before .before .before .before .before .before .before .adds-up .ensures) ∙ not-false _ (c .before .before .before .before .before .before .if2 .left) in
     let lent = shorter-lent g (a .to) _ _ _ _ (c .before .before .before .before .before .shorter .ensures) (c .before .before .before .before .shorter2 .ensures) (c .before .before .before .shorter3 .ensures)
     (c .before .before .shorter4 .ensures) in
@@ -64,27 +68,35 @@ returns-3 c =
 
 judge-circuit-requires : tie.Need-judge-circuit-requires
 judge-circuit-requires c κs =
-    let a = c .before .before .before .before .before .before .before .before .before .before .before .before .before .before .before .before .args in
+    let start = c .before .before .before .before .before .before .before .before .before .before .before .before .before .before .before .before in
+    let large-count = c .before .before .before .before .before .before .before .before .before .before .large-count in
+    let adds-up = c .before .before .before .before .before .before .before .before .adds-up in
+    let a = start .args in
     let t : Tables = record { inputs = a .inputs .now; latches = a .latches .now; outputs = a .outputs .now; gates = a .gates .now } in
     let g : Given = record { counts = a .n; tables = t; scratch = a .scratch .now } in
-    let e2 = no-table _ _ (c .before .before .before .before .before .before .before .before .before .if1 .left) (c .before .before .before .before .before .before .before .before .before .before .large-count .ensures) in
-    let e3 = sym (c .before .before .before .before .before .before .before .before .adds-up .ensures) ∙ not-false _ (c .before .before .before .before .before .before .before .if2 .left) in
+    let e2 = no-table _ _ (c .before .before .before .before .before .before .before .before .before .if1 .left) (large-count .ensures) in
+    let e3 = sym (adds-up .ensures) ∙ not-false _ (c .before .before .before .before .before .before .before .if2 .left) in
     let lent = shorter-lent g (a .to) _ _ _ _ (c .before .before .before .before .before .before .shorter .ensures) (c .before .before .before .before .before .shorter2 .ensures) (c .before .before .before .before .shorter3 .ensures)
     (c .before .before .before .shorter4 .ensures) in
     let e4 = no-table _ _ (c .before .if3 .left) (c .before .before .too-short .ensures ∙ lent) in
-    (fits g (a .to) e2 e3 e4, (fits-scratch g (a .to) e2 e3 e4, c .before .before .before .before .before .before .before .before .before .before .before .before .before .before .before .before .pre))
+    (fits g (a .to) e2 e3 e4, (fits-scratch g (a .to) e2 e3 e4, start .pre))
 
 same-length : tie.Need-same-length
 same-length c = search needs
 
 returns-4 : tie.Need-returns-4
 returns-4 c =
-    let a = c .before .before .before .before .before .before .before .before .before .before .before .before .before .before .before .before .before .before .before .args in
+    let start = c .before .before .before .before .before .before .before .before .before .before .before .before .before .before .before .before .before .before .before in
+    let large-count = c .before .before .before .before .before .before .before .before .before .before .before .before .before .large-count in
+    let adds-up = c .before .before .before .before .before .before .before .before .before .before .before .adds-up in
+    let shorter = c .before .before .before .before .before .before .before .before .before .shorter in
+    let shorter2 = c .before .before .before .before .before .before .before .before .shorter2 in
+    let a = start .args in
     let t : Tables = record { inputs = a .inputs .now; latches = a .latches .now; outputs = a .outputs .now; gates = a .gates .now } in
     let g : Given = record { counts = a .n; tables = t; scratch = a .scratch .now } in
-    let e2 = no-table _ _ (c .before .before .before .before .before .before .before .before .before .before .before .before .if1 .left) (c .before .before .before .before .before .before .before .before .before .before .before .before .before .large-count .ensures) in
-    let e3 = sym (c .before .before .before .before .before .before .before .before .before .before .before .adds-up .ensures) ∙ not-false _ (c .before .before .before .before .before .before .before .before .before .before .if2 .left) in
-    let lent = shorter-lent g (a .to) _ _ _ _ (c .before .before .before .before .before .before .before .before .before .shorter .ensures) (c .before .before .before .before .before .before .before .before .shorter2 .ensures) (c .before .before .before .before .before .before .before .shorter3 .ensures)
+    let e2 = no-table _ _ (c .before .before .before .before .before .before .before .before .before .before .before .before .if1 .left) (large-count .ensures) in
+    let e3 = sym (adds-up .ensures) ∙ not-false _ (c .before .before .before .before .before .before .before .before .before .before .if2 .left) in
+    let lent = shorter-lent g (a .to) _ _ _ _ (shorter .ensures) (shorter2 .ensures) (c .before .before .before .before .before .before .before .shorter3 .ensures)
     (c .before .before .before .before .before .before .shorter4 .ensures) in
     let e4 = no-table _ _ (c .before .before .before .before .if3 .left) (c .before .before .before .before .before .too-short .ensures ∙ lent) in (
       c .before .before .judge-circuit .ensures .0 ∙ sym (ap checkedBy (past-four (a .ordered) g (lentShorter g (a .to)) e2 e3 e4)),

@@ -25,10 +25,12 @@ same-length c = search needs
 
 returns : tie.Need-returns
 returns c =
-    let a = c .before .before .before .before .before .before .before .before .before .before .before .before .before .before .before .before .args in
+    let start = c .before .before .before .before .before .before .before .before .before .before .before .before .before .before .before .before in
+    let judge = c .before .before .before .before .before .before .before .before .before .judge in
+    let a = start .args in
     let t : Tables = record { inputs = a .inputs .now; latches = a .latches .now; outputs = a .outputs .now; gates = a .gates .now } in
     let g : Given = record { counts = a .n; tables = t; scratch = a .scratch .now } in
-    let judged = c .before .before .before .before .before .before .before .before .before .judge in (
+    let judged = judge in (
       λ t′ sizes. sym (c .before .before .before .before .before .answer .given .1) ∙ (judged .ensures .0 ∙ same-answer g (a .to) t′ sizes false),
       (
         λ good. not-good _ good,
@@ -44,7 +46,8 @@ same-length-2 c = search needs
 
 returns-2 : tie.Need-returns-2
 returns-2 c =
-    let a = c .before .before .before .before .before .before .before .before .before .before .before .args in
+    let start = c .before .before .before .before .before .before .before .before .before .before .before in
+    let a = start .args in
     let t : Tables = record { inputs = a .inputs .now; latches = a .latches .now; outputs = a .outputs .now; gates = a .gates .now } in
     let g : Given = record { counts = a .n; tables = t; scratch = a .scratch .now } in
     let judged = c .before .before .before .before .judge in (

@@ -13,7 +13,8 @@ held : (c : tie.After-known-told2) →
     let a = c .before .before .before .before .before .before .before .args in
     Held (a .file .now) (formOf (a .binary)) (c .before .before .before .before .read-row .last .1 .1 .1 .1 .1 .0) (c .before .next .given .0 .0)
 held c =
-    let a = c .before .before .before .before .before .before .before .args in
+    let start = c .before .before .before .before .before .before .before in
+    let a = start .args in
     let r = c .before .before .before .before .read-row in
     told (a .file .now) (formOf (a .binary)) _ _ _ refl (sym (c .before .next .given .1) ∙ r .ensures .0) (r .ensures .1)
 
@@ -73,18 +74,21 @@ adds-up-requires c κs = search needs
 
 returns : tie.Need-returns
 returns c =
-    sum-wrong (c .before .before .before .before .before .before .before .before .before .args .binary) (held (c .before .before))
+    let start = c .before .before .before .before .before .before .before .before .before in
+    sum-wrong (start .args .binary) (held (c .before .before))
     (sym (c .before .adds-up .ensures) ∙ not-true _ (c .if1 .taken))
 
 returns-2 : tie.Need-returns-2
 returns-2 c =
-    let a = c .before .before .before .before .before .before .before .before .args in
+    let start = c .before .before .before .before .before .before .before .before in
+    let a = start .args in
     ap headed.Refused (c .of-count .ensures)
     ∙ stops (a .file .now) (formOf (a .binary)) _ (sym (c .before .before .r .given .1) ∙ c .before .before .before .before .before .read-row .ensures .0)
 
 returns-3 : tie.Need-returns-3
 returns-3 c =
-    sum-right (c .before .before .before .before .before .before .before .before .before .args .binary) (held (c .before .before))
+    let start = c .before .before .before .before .before .before .before .before .before in
+    sum-right (start .args .binary) (held (c .before .before))
     (sym (c .before .adds-up .ensures) ∙ not-false _ (c .if1 .left))
 
 pub read-counts-spec : {M : Type 1} → statement M

@@ -27,7 +27,8 @@ returns c =
 
 returns-2 : tie.Need-returns-2
 returns-2 c =
-    let a = c .before .before .before .before .before .before .args in
+    let start = c .before .before .before .before .before .before in
+    let a = start .args in
     let took = accepted (a .file .now) _ _ _ (sym (c .before .before .n .given .1) ∙ c .before .before .before .before .read-header .ensures) in
     c .words-of .ensures ∙ sym (ap (wordsBy (a .table)) (took .head))
 

@@ -27,11 +27,14 @@ enum-known-place : tie.Need-enum-known-place Inv-loop μ-loop
 enum-known-place c = search needs
 
 same-length : tie.Need-same-length Inv-loop μ-loop
-same-length c = wide (c .before .before .before .before .before .loop .inv) (c .before .before .before .before .before .before .before .before .pre .1)
+same-length c =
+    let start = c .before .before .before .before .before .before .before .before in
+    wide (c .before .before .before .before .before .loop .inv) (start .pre .1)
 
 returns : tie.Need-returns Inv-loop μ-loop
 returns c =
-    let a = c .before .before .before .before .before .before .before .before .args in
+    let start = c .before .before .before .before .before .before .before .before in
+    let a = start .args in
     let r = wrong-number (c .before .before .before .before .before .loop .inv) _ (c .before .before .before .before .loop-test .taken) (sym (c .before .place .given .1) ∙ c .before .before .before .read-number .ensures) in
     (r, λ ls next q. not-accepted (row (a .file .now) (a .k) (a .defines) (a .m) (a .at)) _ r _ ls next q)
 
@@ -45,22 +48,29 @@ ends-requires : tie.Need-ends-requires Inv-loop μ-loop
 ends-requires c κs = search needs
 
 same-length-2 : tie.Need-same-length-2 Inv-loop μ-loop
-same-length-2 c = wide (c .before .before .before .before .before .before .before .loop .inv) (c .before .before .before .before .before .before .before .before .before .before .pre .1)
+same-length-2 c =
+    let start = c .before .before .before .before .before .before .before .before .before .before in
+    wide (c .before .before .before .before .before .before .before .loop .inv) (start .pre .1)
 
 returns-2 : tie.Need-returns-2 Inv-loop μ-loop
 returns-2 c =
-    let a = c .before .before .before .before .before .before .before .before .before .before .args in
+    let start = c .before .before .before .before .before .before .before .before .before .before in
+    let a = start .args in
     let r = wrong-end (c .before .before .before .before .before .before .before .loop .inv) _ _ (c .before .before .before .before .before .before .loop-test .taken) (sym (c .before .before .before .v .given .1) ∙ c .before .before .before .before .before .read-number .ensures) (sym (c .before .ends .ensures) ∙ not-true _ (c .if1 .taken)) in
     (r, λ ls next q. not-accepted (row (a .file .now) (a .k) (a .defines) (a .m) (a .at)) _ r _ ls next q)
 
 add-table : tie.Need-add-table Inv-loop μ-loop
-add-table c = omega (arith, c .before .before .before .before .before .before .before .before .before .before .pre .1)
+add-table c =
+    let start = c .before .before .before .before .before .before .before .before .before .before in
+    omega (arith, start .pre .1)
 
 mul-table : tie.Need-mul-table Inv-loop μ-loop
 mul-table c = search needs
 
 slice-write-table : tie.Need-slice-write-table Inv-loop μ-loop
-slice-write-table c = omega (arith, c .before .before .before .before .before .before .before .before .before .before .pre .1, wide (c .before .before .before .before .before .before .before .loop .inv) (c .before .before .before .before .before .before .before .before .before .before .pre .1))
+slice-write-table c =
+    let start = c .before .before .before .before .before .before .before .before .before .before in
+    omega (arith, start .pre .1, wide (c .before .before .before .before .before .before .before .loop .inv) (start .pre .1))
 
 at-requires : tie.Need-at-requires Inv-loop μ-loop
 at-requires c κs = search needs
@@ -72,7 +82,10 @@ noted-requires : tie.Need-noted-requires Inv-loop μ-loop
 noted-requires c κs = search needs
 
 add-pos : tie.Need-add-pos Inv-loop μ-loop
-add-pos c = omega (arith, inner (c .before .before .before .before .before .before .before .before .before .before .before .before .before .args .file .now) _ (eqb (c .before .before .before .before .before .before .before .before .before .before .loop .j + 1) (c .before .before .before .before .before .before .before .before .before .before .before .before .before .args .k)) (sym (c .before .before .before .before .ends .ensures) ∙ not-false _ (c .before .before .before .if1 .left)))
+add-pos c =
+    let start = c .before .before .before .before .before .before .before .before .before .before .before .before .before in
+    let loop = c .before .before .before .before .before .before .before .before .before .before .loop in
+    omega (arith, inner (start .args .file .now) _ (eqb (loop .j + 1) (start .args .k)) (sym (c .before .before .before .before .ends .ensures) ∙ not-false _ (c .before .before .before .if1 .left)))
 
 add-j : tie.Need-add-j Inv-loop μ-loop
 add-j c = omega arith
@@ -82,8 +95,12 @@ loop-less c = omega arith
 
 loop-again : tie.Need-loop-again Inv-loop μ-loop
 loop-again c =
-    turns (c .before .before .before .before .before .before .before .before .before .before .loop .inv) _ _ (c .before .before .before .before .before .before .before .before .before .loop-test .taken) (sym (c .before .before .before .before .before .before .v .given .1) ∙ c .before .before .before .before .before .before .before .before .read-number .ensures) _ _ (c .before .before .before .before .before .before .before .before .before .before .before .before .before .pre .0) (c .before .before .before .before .before .before .before .before .before .before .before .before .before .pre .1)
-    (sym (c .before .before .before .before .ends .ensures) ∙ not-false _ (c .before .before .before .if1 .left)) (c .before .within .ensures ∙ ap (λ (l : Lit). inRange (c .before .before .before .before .before .before .before .before .before .before .loop .d) (c .before .before .before .before .before .before .before .before .before .before .before .before .before .args .m) (wordOf l)) (c .before .before .at .ensures)) (c .noted .ensures)
+    let start = c .before .before .before .before .before .before .before .before .before .before .before .before .before in
+    let loop = c .before .before .before .before .before .before .before .before .before .before .loop in
+    let loop-test = c .before .before .before .before .before .before .before .before .before .loop-test in
+    let read-number = c .before .before .before .before .before .before .before .before .read-number in
+    turns (loop .inv) _ _ (loop-test .taken) (sym (c .before .before .before .before .before .before .v .given .1) ∙ read-number .ensures) _ _ (start .pre .0) (start .pre .1)
+    (sym (c .before .before .before .before .ends .ensures) ∙ not-false _ (c .before .before .before .if1 .left)) (c .before .within .ensures ∙ ap (λ (l : Lit). inRange (loop .d) (start .args .m) (wordOf l)) (c .before .before .at .ensures)) (c .noted .ensures)
 
 enum-told : tie.Need-enum-told Inv-loop μ-loop
 enum-told c = search needs
@@ -96,18 +113,23 @@ same-length-3 c = wide (c .before .before .before .loop .inv) (c .before .before
 
 returns-3 : tie.Need-returns-3 Inv-loop μ-loop
 returns-3 c =
+    let start = c .before .before .before .before .before .before in
     let s = c .before .before .before .loop .inv in
-    let over : c .before .before .before .before .before .before .args .k ≤ c .before .before .before .loop .j = omega arith in
-    (all-fine s over (ap foundOf (c .enum-told .given .1)), held s over (c .before .before .before .before .before .before .pre .0))
+    let over : start .args .k ≤ c .before .before .before .loop .j = omega arith in
+    (all-fine s over (ap foundOf (c .enum-told .given .1)), held s over (start .pre .0))
 
 same-length-4 : tie.Need-same-length-4 Inv-loop μ-loop
-same-length-4 c = wide (c .before .before .before .before .loop .inv) (c .before .before .before .before .before .before .before .pre .1)
+same-length-4 c =
+    let start = c .before .before .before .before .before .before .before in
+    wide (c .before .before .before .before .loop .inv) (start .pre .1)
 
 returns-4 : tie.Need-returns-4 Inv-loop μ-loop
 returns-4 c =
-    let s = c .before .before .before .before .loop .inv in
-    let over : c .before .before .before .before .before .before .before .args .k ≤ c .before .before .before .before .loop .j = omega arith in
-    (one-out s over _ (ap foundOf (c .before .bad .given .1)), held s over (c .before .before .before .before .before .before .before .pre .0))
+    let start = c .before .before .before .before .before .before .before in
+    let loop = c .before .before .before .before .loop in
+    let s = loop .inv in
+    let over : start .args .k ≤ loop .j = omega arith in
+    (one-out s over _ (ap foundOf (c .before .bad .given .1)), held s over (start .pre .0))
 
 pub read-row-spec : {M : Type 1} → statement M
 read-row-spec =

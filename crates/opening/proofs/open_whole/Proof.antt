@@ -44,8 +44,11 @@ same-length-9 c = search needs
 
 returns : tie.Need-returns
 returns c =
-    let a = c .before .before .before .before .before .before .before .before .before .before .before .before .before .before .before .before .before .before .before .before .before .before .before .before .before .before .before .before .before .before .before .before .before .before .before .before .before .before .before .before .before .before .before .before .before .before .before .before .before .before .before .args in
-    let o = c .before .before .before .before .before .before .before .before .before .before .before .before .before .before .before .before .before .before .before .before .before .before .before .before .before .before .before .before .before .before .before .open-made in
+    let start = c .before .before .before .before .before .before .before .before .before .before .before .before .before .before .before .before .before .before .before .before .before .before .before .before .before .before .before .before .before .before .before .before .before .before .before .before .before .before .before .before .before .before .before .before .before .before .before .before .before .before .before in
+    let open-made = c .before .before .before .before .before .before .before .before .before .before .before .before .before .before .before .before .before .before .before .before .before .before .before .before .before .before .before .before .before .before .before .open-made in
+    let clear-four = c .before .before .before .before .before .before .before .before .clear-four in
+    let a = start .args in
+    let o = open-made in
     let read : Tables = record { inputs = a .inputs .now; latches = a .latches .now; outputs = a .outputs .now; gates = a .gates .now } in
     let made : Tables = record { inputs = a .made-inputs .now; latches = a .made-latches .now; outputs = a .made-outputs .now; gates = a .made-gates .now } in
     let w : WholeEntry = record { plan = inputOf (a .readable) (a .file .now); read = read; made = made; scratch = a .scratch .now; out = [] } in
@@ -53,7 +56,7 @@ returns c =
     let k = o .kept in
     let read′ : Tables = record { inputs = l .1 .1 .0; latches = l .1 .1 .1 .0; outputs = l .1 .1 .1 .1 .0; gates = l .1 .1 .1 .1 .1 .0 } in
     closed w _ (o .ensures) _
-    (c .before .before .before .before .before .before .before .before .clear-four .ensures ∙ all-same read′ read (k .1 .1 .0) (k .1 .1 .1 .0) (k .1 .1 .1 .1 .0) (k .1 .1 .1 .1 .1 .0))
+    (clear-four .ensures ∙ all-same read′ read (k .1 .1 .0) (k .1 .1 .1 .0) (k .1 .1 .1 .1 .0) (k .1 .1 .1 .1 .1 .0))
 
 pub open-whole-spec : {M : Type 1} → statement M
 open-whole-spec =

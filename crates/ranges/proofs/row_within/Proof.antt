@@ -30,7 +30,8 @@ word-within-requires c κs = search needs
 
 returns : tie.Need-returns Inv-loop μ-loop
 returns c =
-    let a = c .before .before .before .before .before .before .args in
+    let start = c .before .before .before .before .before .before in
+    let a = start .args in
     let w = c .before .before .before .before .loop in
     sym (w .inv .1
     ∙ word-outside (w .first) (a .m) (a .table .now) (w .at) (w .left) (c .before .before .before .loop-test .taken) (w .inv .0)
@@ -47,7 +48,8 @@ loop-less c = search needs
 
 loop-again : tie.Need-loop-again Inv-loop μ-loop
 loop-again c =
-    let a = c .before .before .before .before .before .before .args in
+    let start = c .before .before .before .before .before .before in
+    let a = start .args in
     let w = c .before .before .before .before .loop in (
       omega arith,
       w .inv .1

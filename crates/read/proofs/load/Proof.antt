@@ -17,7 +17,9 @@ clear-requires : tie.Need-clear-requires
 clear-requires c κs = search needs
 
 fill-requires : tie.Need-fill-requires
-fill-requires c κs = λ i. ap (λ (l : List ℕ). getD l i 0) (c .before .before .before .before .before .before .before .clear .ensures) ∙ zeros (length (c .before .before .before .before .before .before .before .before .before .before .before .before .before .before .before .before .before .before .before .before .before .before .before .before .before .before .before .before .args .scratch .now)) i
+fill-requires c κs =
+    let start = c .before .before .before .before .before .before .before .before .before .before .before .before .before .before .before .before .before .before .before .before .before .before .before .before .before .before .before .before in
+    λ i. ap (λ (l : List ℕ). getD l i 0) (c .before .before .before .before .before .before .before .clear .ensures) ∙ zeros (length (start .args .scratch .now)) i
 
 clear-requires-2 : tie.Need-clear-requires-2
 clear-requires-2 c κs = search needs
@@ -29,13 +31,25 @@ clear-four-requires-2 : tie.Need-clear-four-requires-2
 clear-four-requires-2 c κs = search needs
 
 same-length : tie.Need-same-length
-same-length c = c .before .before .before .before .before .before .before .before .clear-four2 .kept .0 ∙ (c .before .before .before .before .before .before .before .before .before .before .before .before .before .before .before .before .before .before .before .before .before .before .before .before .before .before .before .before .before .before .fill .kept .1 .0 ∙ c .before .before .before .before .before .before .before .before .before .before .before .before .before .before .before .before .before .before .before .before .before .before .before .before .before .before .before .before .before .before .before .before .before .before .before .before .before .before .before .before .before .before .before .before .before .before .before .before .clear-four .kept .0)
+same-length c =
+    let clear-four = c .before .before .before .before .before .before .before .before .before .before .before .before .before .before .before .before .before .before .before .before .before .before .before .before .before .before .before .before .before .before .before .before .before .before .before .before .before .before .before .before .before .before .before .before .before .before .before .before .clear-four in
+    let fill = c .before .before .before .before .before .before .before .before .before .before .before .before .before .before .before .before .before .before .before .before .before .before .before .before .before .before .before .before .before .before .fill in
+    let clear-four2 = c .before .before .before .before .before .before .before .before .clear-four2 in
+    clear-four2 .kept .0 ∙ (fill .kept .1 .0 ∙ clear-four .kept .0)
 
 same-length-2 : tie.Need-same-length-2
-same-length-2 c = c .before .before .before .before .before .before .before .before .clear-four2 .kept .1 .0 ∙ (c .before .before .before .before .before .before .before .before .before .before .before .before .before .before .before .before .before .before .before .before .before .before .before .before .before .before .before .before .before .before .fill .kept .1 .1 .0 ∙ c .before .before .before .before .before .before .before .before .before .before .before .before .before .before .before .before .before .before .before .before .before .before .before .before .before .before .before .before .before .before .before .before .before .before .before .before .before .before .before .before .before .before .before .before .before .before .before .before .clear-four .kept .1 .0)
+same-length-2 c =
+    let clear-four = c .before .before .before .before .before .before .before .before .before .before .before .before .before .before .before .before .before .before .before .before .before .before .before .before .before .before .before .before .before .before .before .before .before .before .before .before .before .before .before .before .before .before .before .before .before .before .before .before .clear-four in
+    let fill = c .before .before .before .before .before .before .before .before .before .before .before .before .before .before .before .before .before .before .before .before .before .before .before .before .before .before .before .before .before .before .fill in
+    let clear-four2 = c .before .before .before .before .before .before .before .before .clear-four2 in
+    clear-four2 .kept .1 .0 ∙ (fill .kept .1 .1 .0 ∙ clear-four .kept .1 .0)
 
 same-length-3 : tie.Need-same-length-3
-same-length-3 c = c .before .before .before .before .before .before .before .before .clear-four2 .kept .1 .1 .0 ∙ (c .before .before .before .before .before .before .before .before .before .before .before .before .before .before .before .before .before .before .before .before .before .before .before .before .before .before .before .before .before .before .fill .kept .1 .1 .1 .0 ∙ c .before .before .before .before .before .before .before .before .before .before .before .before .before .before .before .before .before .before .before .before .before .before .before .before .before .before .before .before .before .before .before .before .before .before .before .before .before .before .before .before .before .before .before .before .before .before .before .before .clear-four .kept .1 .1 .0)
+same-length-3 c =
+    let clear-four = c .before .before .before .before .before .before .before .before .before .before .before .before .before .before .before .before .before .before .before .before .before .before .before .before .before .before .before .before .before .before .before .before .before .before .before .before .before .before .before .before .before .before .before .before .before .before .before .before .clear-four in
+    let fill = c .before .before .before .before .before .before .before .before .before .before .before .before .before .before .before .before .before .before .before .before .before .before .before .before .before .before .before .before .before .before .fill in
+    let clear-four2 = c .before .before .before .before .before .before .before .before .clear-four2 in
+    clear-four2 .kept .1 .1 .0 ∙ (fill .kept .1 .1 .1 .0 ∙ clear-four .kept .1 .1 .0)
 
 same-length-4 : tie.Need-same-length-4
 same-length-4 c = search needs
@@ -45,21 +59,28 @@ same-length-5 c = search needs
 
 returns : tie.Need-returns
 returns c =
-    let a = c .before .before .before .before .before .before .before .before .before .before .before .before .before .before .before .before .before .before .before .before .before .before .before .before .before .before .before .before .before .before .before .before .before .before .before .before .before .before .before .before .before .before .before .before .before .before .before .before .before .before .before .before .before .before .before .before .before .before .before .args in
+    let start = c .before .before .before .before .before .before .before .before .before .before .before .before .before .before .before .before .before .before .before .before .before .before .before .before .before .before .before .before .before .before .before .before .before .before .before .before .before .before .before .before .before .before .before .before .before .before .before .before .before .before .before .before .before .before .before .before .before .before .before in
+    let clear-four = c .before .before .before .before .before .before .before .before .before .before .before .before .before .before .before .before .before .before .before .before .before .before .before .before .before .before .before .before .before .before .before .before .before .before .before .before .before .before .before .before .before .before .before .before .before .before .before .before .clear-four in
+    let clear = c .before .before .before .before .before .before .before .before .before .before .before .before .before .before .before .before .before .before .before .before .before .before .before .before .before .before .before .before .before .before .before .before .before .before .before .before .before .before .clear in
+    let fill = c .before .before .before .before .before .before .before .before .before .before .before .before .before .before .before .before .before .before .before .before .before .before .before .before .before .before .before .before .before .before .fill in
+    let clear2 = c .before .before .before .before .before .before .before .before .before .before .before .before .before .before .before .before .before .before .clear2 in
+    let read = c .before .before .before .before .before .before .before .before .before .before .before .before .before .before .read in
+    let clear-four2 = c .before .before .before .before .before .before .before .before .clear-four2 in
+    let a = start .args in
     let e : ReadEntry = record {
       file = a .file .now;
       tables = record { inputs = a .inputs .now; latches = a .latches .now; outputs = a .outputs .now; gates = a .gates .now };
       scratch = a .scratch .now;
     } in
-    let T : Tables = record { inputs = c .before .before .before .before .before .before .before .before .before .before .before .before .before .before .before .before .before .before .before .before .before .before .before .before .before .before .before .before .before .before .before .before .before .before .before .before .before .before .before .before .before .before .before .before .before .before .before .before .clear-four .last .0; latches = c .before .before .before .before .before .before .before .before .before .before .before .before .before .before .before .before .before .before .before .before .before .before .before .before .before .before .before .before .before .before .before .before .before .before .before .before .before .before .before .before .before .before .before .before .before .before .before .before .clear-four .last .1 .0; outputs = c .before .before .before .before .before .before .before .before .before .before .before .before .before .before .before .before .before .before .before .before .before .before .before .before .before .before .before .before .before .before .before .before .before .before .before .before .before .before .before .before .before .before .before .before .before .before .before .before .clear-four .last .1 .1 .0; gates = c .before .before .before .before .before .before .before .before .before .before .before .before .before .before .before .before .before .before .before .before .before .before .before .before .before .before .before .before .before .before .before .before .before .before .before .before .before .before .before .before .before .before .before .before .before .before .before .before .clear-four .last .1 .1 .1 .0 } in
-    let t′ : Tables = record { inputs = c .before .before .before .before .before .before .before .before .before .before .before .before .before .before .before .before .before .before .before .before .before .before .before .before .before .before .before .before .before .before .fill .last .1 .0; latches = c .before .before .before .before .before .before .before .before .before .before .before .before .before .before .before .before .before .before .before .before .before .before .before .before .before .before .before .before .before .before .fill .last .1 .1 .0; outputs = c .before .before .before .before .before .before .before .before .before .before .before .before .before .before .before .before .before .before .before .before .before .before .before .before .before .before .before .before .before .before .fill .last .1 .1 .1 .0; gates = c .before .before .before .before .before .before .before .before .before .before .before .before .before .before .before .before .before .before .before .before .before .before .before .before .before .before .before .before .before .before .fill .last .1 .1 .1 .1 .0 } in
-    let S = c .before .before .before .before .before .before .before .before .before .before .before .before .before .before .before .before .before .before .before .before .before .before .before .before .before .before .before .before .before .before .before .before .before .before .before .before .before .before .clear .last .0 in
-    let kept = c .before .before .before .before .before .before .before .before .before .before .before .before .before .before .before .before .before .before .before .before .before .before .before .before .before .before .before .before .before .before .fill .kept in
-    let four = c .before .before .before .before .before .before .before .before .before .before .before .before .before .before .before .before .before .before .before .before .before .before .before .before .before .before .before .before .before .before .before .before .before .before .before .before .before .before .before .before .before .before .before .before .before .before .before .before .clear-four .kept in
-    let wide : length (c .before .before .before .before .before .before .before .before .before .before .before .before .before .before .before .before .before .before .before .before .before .before .before .before .before .before .before .before .before .before .fill .last .1 .1 .1 .1 .1 .0) ≡ length (a .scratch .now) = kept .1 .1 .1 .1 .1 .0 ∙ c .before .before .before .before .before .before .before .before .before .before .before .before .before .before .before .before .before .before .before .before .before .before .before .before .before .before .before .before .before .before .before .before .before .before .before .before .before .before .clear .kept .0 in
+    let T : Tables = record { inputs = clear-four .last .0; latches = clear-four .last .1 .0; outputs = clear-four .last .1 .1 .0; gates = clear-four .last .1 .1 .1 .0 } in
+    let t′ : Tables = record { inputs = fill .last .1 .0; latches = fill .last .1 .1 .0; outputs = fill .last .1 .1 .1 .0; gates = fill .last .1 .1 .1 .1 .0 } in
+    let S = clear .last .0 in
+    let kept = fill .kept in
+    let four = clear-four .kept in
+    let wide : length (fill .last .1 .1 .1 .1 .1 .0) ≡ length (a .scratch .now) = kept .1 .1 .1 .1 .1 .0 ∙ clear .kept .0 in
     let back = all-same t′ (e .tables) (kept .1 .0 ∙ four .0) (kept .1 .1 .0 ∙ four .1 .0) (kept .1 .1 .1 .0 ∙ four .1 .1 .0) (kept .1 .1 .1 .1 .0 ∙ four .1 .1 .1 .0) in
-    load-refused e T t′ S _ (c .before .before .before .before .before .before .before .before .before .before .before .before .before .before .before .before .before .before .before .before .before .before .before .before .before .before .before .before .before .before .before .before .before .before .before .before .before .before .before .before .before .before .before .before .before .before .before .before .clear-four .ensures) (c .before .before .before .before .before .before .before .before .before .before .before .before .before .before .before .before .before .before .before .before .before .before .before .before .before .before .before .before .before .before .before .before .before .before .before .before .before .before .clear .ensures) (c .before .before .before .before .before .before .before .before .before .before .before .before .before .before .before .before .before .before .before .before .before .before .before .before .before .before .before .before .before .before .fill .ensures) _
-    (c .before .before .before .before .before .before .before .before .before .before .before .before .before .before .before .before .before .before .clear2 .ensures ∙ same-cleared (c .before .before .before .before .before .before .before .before .before .before .before .before .before .before .before .before .before .before .before .before .before .before .before .before .before .before .before .before .before .before .fill .last .1 .1 .1 .1 .1 .0) (a .scratch .now) wide) _ (c .before .before .before .before .before .before .before .before .before .before .before .before .before .before .read .given .1) _ (c .before .before .before .before .before .before .before .before .clear-four2 .ensures ∙ back)
+    load-refused e T t′ S _ (clear-four .ensures) (clear .ensures) (fill .ensures) _
+    (clear2 .ensures ∙ same-cleared (fill .last .1 .1 .1 .1 .1 .0) (a .scratch .now) wide) _ (read .given .1) _ (clear-four2 .ensures ∙ back)
 
 enum-told : tie.Need-enum-told
 enum-told c = search needs
@@ -81,20 +102,24 @@ same-length-10 c = search needs
 
 returns-2 : tie.Need-returns-2
 returns-2 c =
-    let a = c .before .before .before .before .before .before .before .before .before .before .before .before .before .before .before .before .before .before .before .before .before .before .before .before .before .before .before .before .before .before .before .before .before .before .before .before .before .before .before .before .before .before .before .before .before .args in
+    let start = c .before .before .before .before .before .before .before .before .before .before .before .before .before .before .before .before .before .before .before .before .before .before .before .before .before .before .before .before .before .before .before .before .before .before .before .before .before .before .before .before .before .before .before .before .before in
+    let clear-four = c .before .before .before .before .before .before .before .before .before .before .before .before .before .before .before .before .before .before .before .before .before .before .before .before .before .before .before .before .before .before .before .before .before .before .clear-four in
+    let clear = c .before .before .before .before .before .before .before .before .before .before .before .before .before .before .before .before .before .before .before .before .before .before .before .before .clear in
+    let fill = c .before .before .before .before .before .before .before .before .before .before .before .before .before .before .before .before .fill in
+    let a = start .args in
     let e : ReadEntry = record {
       file = a .file .now;
       tables = record { inputs = a .inputs .now; latches = a .latches .now; outputs = a .outputs .now; gates = a .gates .now };
       scratch = a .scratch .now;
     } in
-    let T : Tables = record { inputs = c .before .before .before .before .before .before .before .before .before .before .before .before .before .before .before .before .before .before .before .before .before .before .before .before .before .before .before .before .before .before .before .before .before .before .clear-four .last .0; latches = c .before .before .before .before .before .before .before .before .before .before .before .before .before .before .before .before .before .before .before .before .before .before .before .before .before .before .before .before .before .before .before .before .before .before .clear-four .last .1 .0; outputs = c .before .before .before .before .before .before .before .before .before .before .before .before .before .before .before .before .before .before .before .before .before .before .before .before .before .before .before .before .before .before .before .before .before .before .clear-four .last .1 .1 .0; gates = c .before .before .before .before .before .before .before .before .before .before .before .before .before .before .before .before .before .before .before .before .before .before .before .before .before .before .before .before .before .before .before .before .before .before .clear-four .last .1 .1 .1 .0 } in
-    let t′ : Tables = record { inputs = c .before .before .before .before .before .before .before .before .before .before .before .before .before .before .before .before .fill .last .1 .0; latches = c .before .before .before .before .before .before .before .before .before .before .before .before .before .before .before .before .fill .last .1 .1 .0; outputs = c .before .before .before .before .before .before .before .before .before .before .before .before .before .before .before .before .fill .last .1 .1 .1 .0; gates = c .before .before .before .before .before .before .before .before .before .before .before .before .before .before .before .before .fill .last .1 .1 .1 .1 .0 } in
-    let S = c .before .before .before .before .before .before .before .before .before .before .before .before .before .before .before .before .before .before .before .before .before .before .before .before .clear .last .0 in
-    let kept = c .before .before .before .before .before .before .before .before .before .before .before .before .before .before .before .before .fill .kept in
-    let four = c .before .before .before .before .before .before .before .before .before .before .before .before .before .before .before .before .before .before .before .before .before .before .before .before .before .before .before .before .before .before .before .before .before .before .clear-four .kept in
-    let wide : length (c .before .before .before .before .before .before .before .before .before .before .before .before .before .before .before .before .fill .last .1 .1 .1 .1 .1 .0) ≡ length (a .scratch .now) = kept .1 .1 .1 .1 .1 .0 ∙ c .before .before .before .before .before .before .before .before .before .before .before .before .before .before .before .before .before .before .before .before .before .before .before .before .clear .kept .0 in
-    load-accepted e T t′ S _ (c .before .before .before .before .before .before .before .before .before .before .before .before .before .before .before .before .before .before .before .before .before .before .before .before .before .before .before .before .before .before .before .before .before .before .clear-four .ensures) (c .before .before .before .before .before .before .before .before .before .before .before .before .before .before .before .before .before .before .before .before .before .before .before .before .clear .ensures) (c .before .before .before .before .before .before .before .before .before .before .before .before .before .before .before .before .fill .ensures) _
-    (c .before .before .before .before .clear2 .ensures ∙ same-cleared (c .before .before .before .before .before .before .before .before .before .before .before .before .before .before .before .before .fill .last .1 .1 .1 .1 .1 .0) (a .scratch .now) wide) _ _ (c .enum-told .given .1)
+    let T : Tables = record { inputs = clear-four .last .0; latches = clear-four .last .1 .0; outputs = clear-four .last .1 .1 .0; gates = clear-four .last .1 .1 .1 .0 } in
+    let t′ : Tables = record { inputs = fill .last .1 .0; latches = fill .last .1 .1 .0; outputs = fill .last .1 .1 .1 .0; gates = fill .last .1 .1 .1 .1 .0 } in
+    let S = clear .last .0 in
+    let kept = fill .kept in
+    let four = clear-four .kept in
+    let wide : length (fill .last .1 .1 .1 .1 .1 .0) ≡ length (a .scratch .now) = kept .1 .1 .1 .1 .1 .0 ∙ clear .kept .0 in
+    load-accepted e T t′ S _ (clear-four .ensures) (clear .ensures) (fill .ensures) _
+    (c .before .before .before .before .clear2 .ensures ∙ same-cleared (fill .last .1 .1 .1 .1 .1 .0) (a .scratch .now) wide) _ _ (c .enum-told .given .1)
 
 pub load-spec : {M : Type 1} → statement M
 load-spec =

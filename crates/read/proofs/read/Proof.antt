@@ -18,34 +18,38 @@ tell-requires c κs = search needs
 
 sub-result : tie.Need-sub-result
 sub-result c =
-    let a = c .before .before .before .before .before .before .before .before .before .before .before .before .before .before .before .before .before .before .before .before .before .before .before .before .before .before .before .args in
+    let start = c .before .before .before .before .before .before .before .before .before .before .before .before .before .before .before .before .before .before .before .before .before .before .before .before .before .before .before in
+    let load = c .before .before .before .before .before .before .before .before .before .before .before .before .before .before .before .load in
+    let a = start .args in
     let e : ReadEntry = record {
       file = a .file .now;
       tables = record { inputs = a .inputs .now; latches = a .latches .now; outputs = a .outputs .now; gates = a .gates .now };
       scratch = a .scratch .now;
     } in
     let x : LoadExit = record {
-      answer = c .before .before .before .before .before .before .before .before .before .before .before .before .before .before .before .load .result;
-      tables = record { inputs = c .before .before .before .before .before .before .before .before .before .before .before .before .before .before .before .load .last .1 .0; latches = c .before .before .before .before .before .before .before .before .before .before .before .before .before .before .before .load .last .1 .1 .0; outputs = c .before .before .before .before .before .before .before .before .before .before .before .before .before .before .before .load .last .1 .1 .1 .0; gates = c .before .before .before .before .before .before .before .before .before .before .before .before .before .before .before .load .last .1 .1 .1 .1 .0 };
-      scratch = c .before .before .before .before .before .before .before .before .before .before .before .before .before .before .before .load .last .1 .1 .1 .1 .1 .0;
+      answer = load .result;
+      tables = record { inputs = load .last .1 .0; latches = load .last .1 .1 .0; outputs = load .last .1 .1 .1 .0; gates = load .last .1 .1 .1 .1 .0 };
+      scratch = load .last .1 .1 .1 .1 .1 .0;
     } in
-    let said = c .before .before .before .before .before .before .before .before .before .before .before .before .before .before .before .load .ensures in
+    let said = load .ensures in
     omega (arith, starts-within e x said _ _ (c .before .before .before .n .given .1))
 
 part-result-start : tie.Need-part-result-start
 part-result-start c =
-    let a = c .before .before .before .before .before .before .before .before .before .before .before .before .before .before .before .before .before .before .before .before .before .before .before .before .before .before .before .args in
+    let start = c .before .before .before .before .before .before .before .before .before .before .before .before .before .before .before .before .before .before .before .before .before .before .before .before .before .before .before in
+    let load = c .before .before .before .before .before .before .before .before .before .before .before .before .before .before .before .load in
+    let a = start .args in
     let e : ReadEntry = record {
       file = a .file .now;
       tables = record { inputs = a .inputs .now; latches = a .latches .now; outputs = a .outputs .now; gates = a .gates .now };
       scratch = a .scratch .now;
     } in
     let x : LoadExit = record {
-      answer = c .before .before .before .before .before .before .before .before .before .before .before .before .before .before .before .load .result;
-      tables = record { inputs = c .before .before .before .before .before .before .before .before .before .before .before .before .before .before .before .load .last .1 .0; latches = c .before .before .before .before .before .before .before .before .before .before .before .before .before .before .before .load .last .1 .1 .0; outputs = c .before .before .before .before .before .before .before .before .before .before .before .before .before .before .before .load .last .1 .1 .1 .0; gates = c .before .before .before .before .before .before .before .before .before .before .before .before .before .before .before .load .last .1 .1 .1 .1 .0 };
-      scratch = c .before .before .before .before .before .before .before .before .before .before .before .before .before .before .before .load .last .1 .1 .1 .1 .1 .0;
+      answer = load .result;
+      tables = record { inputs = load .last .1 .0; latches = load .last .1 .1 .0; outputs = load .last .1 .1 .1 .0; gates = load .last .1 .1 .1 .1 .0 };
+      scratch = load .last .1 .1 .1 .1 .1 .0;
     } in
-    let said = c .before .before .before .before .before .before .before .before .before .before .before .before .before .before .before .load .ensures in
+    let said = load .ensures in
     starts-within e x said _ _ (c .before .before .before .n .given .1)
 
 part-result-end : tie.Need-part-result-end
@@ -92,19 +96,22 @@ same-length-5 c = search needs
 
 returns : tie.Need-returns
 returns c =
-    let a = c .before .before .before .before .before .before .before .before .before .before .before .before .before .before .before .before .before .before .before .before .before .before .before .before .before .before .before .before .args in
+    let start = c .before .before .before .before .before .before .before .before .before .before .before .before .before .before .before .before .before .before .before .before .before .before .before .before .before .before .before .before in
+    let load = c .before .before .before .before .before .before .before .before .before .before .before .before .before .before .before .before .load in
+    let n = c .before .before .before .before .n in
+    let a = start .args in
     let e : ReadEntry = record {
       file = a .file .now;
       tables = record { inputs = a .inputs .now; latches = a .latches .now; outputs = a .outputs .now; gates = a .gates .now };
       scratch = a .scratch .now;
     } in
     let x : LoadExit = record {
-      answer = c .before .before .before .before .before .before .before .before .before .before .before .before .before .before .before .before .load .result;
-      tables = record { inputs = c .before .before .before .before .before .before .before .before .before .before .before .before .before .before .before .before .load .last .1 .0; latches = c .before .before .before .before .before .before .before .before .before .before .before .before .before .before .before .before .load .last .1 .1 .0; outputs = c .before .before .before .before .before .before .before .before .before .before .before .before .before .before .before .before .load .last .1 .1 .1 .0; gates = c .before .before .before .before .before .before .before .before .before .before .before .before .before .before .before .before .load .last .1 .1 .1 .1 .0 };
-      scratch = c .before .before .before .before .before .before .before .before .before .before .before .before .before .before .before .before .load .last .1 .1 .1 .1 .1 .0;
+      answer = load .result;
+      tables = record { inputs = load .last .1 .0; latches = load .last .1 .1 .0; outputs = load .last .1 .1 .1 .0; gates = load .last .1 .1 .1 .1 .0 };
+      scratch = load .last .1 .1 .1 .1 .1 .0;
     } in
-    let said = c .before .before .before .before .before .before .before .before .before .before .before .before .before .before .before .before .load .ensures in
-    read-by e x said _ _ (c .before .tell .ensures ∙ ap loadedValues (sym (c .before .before .before .before .n .given .1))) (part-from _ (a .file .now) ∙ ap (tailOf (a .file .now)) (sym (c .before .before .before .before .n .given .1)))
+    let said = load .ensures in
+    read-by e x said _ _ (c .before .tell .ensures ∙ ap loadedValues (sym (n .given .1))) (part-from _ (a .file .now) ∙ ap (tailOf (a .file .now)) (sym (n .given .1)))
 
 same-length-6 : tie.Need-same-length-6
 same-length-6 c = search needs
@@ -123,8 +130,10 @@ same-length-10 c = search needs
 
 returns-2 : tie.Need-returns-2
 returns-2 c =
-    let a = c .before .before .before .before .before .before .before .before .before .before .before .before .before .before .before .before .before .before .before .before .before .before .before .before .before .before .before .before .before .before .before .args in
-    let loaded = c .before .before .before .before .before .before .before .before .before .before .before .before .before .before .before .before .before .before .before .load in
+    let start = c .before .before .before .before .before .before .before .before .before .before .before .before .before .before .before .before .before .before .before .before .before .before .before .before .before .before .before .before .before .before .before in
+    let load = c .before .before .before .before .before .before .before .before .before .before .before .before .before .before .before .before .before .before .before .load in
+    let a = start .args in
+    let loaded = load in
     let e : ReadEntry = record {
       file = a .file .now;
       tables = record { inputs = a .inputs .now; latches = a .latches .now; outputs = a .outputs .now; gates = a .gates .now };

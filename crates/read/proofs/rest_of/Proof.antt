@@ -5,7 +5,9 @@ use Rattle.read.proofs.rest_of.Statement.{statement}
 use Rattle.read.proofs.rest_of.Tie as tie
 
 rest-of-binary-requires : tie.Need-rest-of-binary-requires
-rest-of-binary-requires c κs = let a = c .before .before .before .before .before .before .before .before .before .before .before .before .args in (c .before .before .before .before .before .before .before .before .before .before .before .before .pre .0, binary-sum (a .n) (a .binary) (c .before .before .before .before .before .if1 .taken) (c .before .before .before .before .before .before .before .before .before .before .before .before .pre .1))
+rest-of-binary-requires c κs =
+    let start = c .before .before .before .before .before .before .before .before .before .before .before .before in
+    let a = start .args in (start .pre .0, binary-sum (a .n) (a .binary) (c .before .before .before .before .before .if1 .taken) (start .pre .1))
 
 same-length : tie.Need-same-length
 same-length c = search needs
@@ -24,18 +26,22 @@ same-length-5 c = search needs
 
 returns : tie.Need-returns
 returns c =
-    let a = c .before .before .before .before .before .before .before .before .before .before .before .before .before .before .before .before .before .before .before .before .before .before .before .args in
+    let start = c .before .before .before .before .before .before .before .before .before .before .before .before .before .before .before .before .before .before .before .before .before .before .before in
+    let rest-of-binary = c .before .before .before .before .before .before .before .before .before .before .rest-of-binary in
+    let a = start .args in
     let t : Tables = record { inputs = a .inputs .now; latches = a .latches .now; outputs = a .outputs .now; gates = a .gates .now } in
     let t′ : Tables = record {
-      inputs = c .before .before .before .before .before .before .before .before .before .before .rest-of-binary .last .1 .1 .1 .0;
-      latches = c .before .before .before .before .before .before .before .before .before .before .rest-of-binary .last .1 .1 .1 .1 .0;
-      outputs = c .before .before .before .before .before .before .before .before .before .before .rest-of-binary .last .1 .1 .1 .1 .1 .0;
-      gates = c .before .before .before .before .before .before .before .before .before .before .rest-of-binary .last .1 .1 .1 .1 .1 .1 .0;
+      inputs = rest-of-binary .last .1 .1 .1 .0;
+      latches = rest-of-binary .last .1 .1 .1 .1 .0;
+      outputs = rest-of-binary .last .1 .1 .1 .1 .1 .0;
+      gates = rest-of-binary .last .1 .1 .1 .1 .1 .1 .0;
     } in
-    as-binary (a .file .now) (a .n) (a .at) t t′ _ (a .binary) (c .before .before .before .before .before .before .before .before .before .before .before .before .before .before .before .before .if1 .taken) (c .before .before .before .before .before .before .before .before .before .before .rest-of-binary .ensures)
+    as-binary (a .file .now) (a .n) (a .at) t t′ _ (a .binary) (c .before .before .before .before .before .before .before .before .before .before .before .before .before .before .before .before .if1 .taken) (rest-of-binary .ensures)
 
 rest-of-text-requires : tie.Need-rest-of-text-requires
-rest-of-text-requires c κs = let a = c .before .before .before .before .before .before .before .before .before .before .before .before .args in (c .before .before .before .before .before .before .before .before .before .before .before .before .pre .0, text-sum (a .n) (a .binary) (c .before .before .before .before .before .if1 .left) (c .before .before .before .before .before .before .before .before .before .before .before .before .pre .1))
+rest-of-text-requires c κs =
+    let start = c .before .before .before .before .before .before .before .before .before .before .before .before in
+    let a = start .args in (start .pre .0, text-sum (a .n) (a .binary) (c .before .before .before .before .before .if1 .left) (start .pre .1))
 
 same-length-6 : tie.Need-same-length-6
 same-length-6 c = search needs
@@ -54,15 +60,17 @@ same-length-10 c = search needs
 
 returns-2 : tie.Need-returns-2
 returns-2 c =
-    let a = c .before .before .before .before .before .before .before .before .before .before .before .before .before .before .before .before .before .before .before .before .before .before .before .args in
+    let start = c .before .before .before .before .before .before .before .before .before .before .before .before .before .before .before .before .before .before .before .before .before .before .before in
+    let rest-of-text = c .before .before .before .before .before .before .before .before .before .before .rest-of-text in
+    let a = start .args in
     let t : Tables = record { inputs = a .inputs .now; latches = a .latches .now; outputs = a .outputs .now; gates = a .gates .now } in
     let t′ : Tables = record {
-      inputs = c .before .before .before .before .before .before .before .before .before .before .rest-of-text .last .1 .1 .1 .0;
-      latches = c .before .before .before .before .before .before .before .before .before .before .rest-of-text .last .1 .1 .1 .1 .0;
-      outputs = c .before .before .before .before .before .before .before .before .before .before .rest-of-text .last .1 .1 .1 .1 .1 .0;
-      gates = c .before .before .before .before .before .before .before .before .before .before .rest-of-text .last .1 .1 .1 .1 .1 .1 .0;
+      inputs = rest-of-text .last .1 .1 .1 .0;
+      latches = rest-of-text .last .1 .1 .1 .1 .0;
+      outputs = rest-of-text .last .1 .1 .1 .1 .1 .0;
+      gates = rest-of-text .last .1 .1 .1 .1 .1 .1 .0;
     } in
-    as-text (a .file .now) (a .n) (a .at) t t′ _ (a .binary) (c .before .before .before .before .before .before .before .before .before .before .before .before .before .before .before .before .if1 .left) (c .before .before .before .before .before .before .before .before .before .before .rest-of-text .ensures)
+    as-text (a .file .now) (a .n) (a .at) t t′ _ (a .binary) (c .before .before .before .before .before .before .before .before .before .before .before .before .before .before .before .before .if1 .left) (rest-of-text .ensures)
 
 pub rest-of-spec : {M : Type 1} → statement M
 rest-of-spec =

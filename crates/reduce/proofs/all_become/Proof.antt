@@ -56,7 +56,8 @@ loop-less c = search needs
 
 loop-again : tie.Need-loop-again Inv-loop μ-loop
 loop-again c =
-    let a = c .before .before .before .before .before .before .before .before .before .args in
+    let start = c .before .before .before .before .before .before .before .before .before in
+    let a = start .args in
     let l = c .before .before .before .before .before .loop in
     let word : c .word .result ≡ becomes (a .became .now) (getD (a .table .now) (l .i) 0)
     = c .word .ensures ∙ ap wordOf (c .before .becomes .ensures)

@@ -54,15 +54,17 @@ same-length-5 c = search needs
 
 returns : tie.Need-returns
 returns c =
-    let a = c .before .before .before .before .before .before .before .before .before .before .before .before .before .before .before .before .before .before .before .before .before .before .before .before .before .before .args in
+    let start = c .before .before .before .before .before .before .before .before .before .before .before .before .before .before .before .before .before .before .before .before .before .before .before .before .before .before in
+    let read-binary = c .before .before .before .before .before .before .before .before .before .before .before .before .read-binary in
+    let a = start .args in
     let t : Tables = record { inputs = a .inputs .now; latches = a .latches .now; outputs = a .outputs .now; gates = a .gates .now } in
     let t′ : Tables = record {
-      inputs = c .before .before .before .before .before .before .before .before .before .before .before .before .read-binary .last .1 .1 .1 .0;
-      latches = c .before .before .before .before .before .before .before .before .before .before .before .before .read-binary .last .1 .1 .1 .1 .0;
-      outputs = c .before .before .before .before .before .before .before .before .before .before .before .before .read-binary .last .1 .1 .1 .1 .1 .0;
-      gates = c .before .before .before .before .before .before .before .before .before .before .before .before .read-binary .last .1 .1 .1 .1 .1 .1 .0;
+      inputs = read-binary .last .1 .1 .1 .0;
+      latches = read-binary .last .1 .1 .1 .1 .0;
+      outputs = read-binary .last .1 .1 .1 .1 .1 .0;
+      gates = read-binary .last .1 .1 .1 .1 .1 .1 .0;
     } in
-    stops (a .file .now) (a .n) (binaryBody (a .file .now) (a .n) (a .at)) t t′ _ (c .before .before .before .before .before .before .before .before .before .before .before .before .read-binary .ensures) _ (c .enum-told .given .1)
+    stops (a .file .now) (a .n) (binaryBody (a .file .now) (a .n) (a .at)) t t′ _ (read-binary .ensures) _ (c .enum-told .given .1)
 
 sub-check : tie.Need-sub-check
 sub-check c = search needs
@@ -75,12 +77,14 @@ part-check-end c = search needs
 
 check-requires : tie.Need-check-requires
 check-requires c κs =
-    let a = c .before .before .before .before .before .before .before .before .before .before .before .before .before .before .before .before .before .before .before .before .before .before .before .before .before .before .before .before .args in
-    let room = c .before .before .before .before .before .before .before .before .before .before .before .before .before .before .before .before .before .before .before .before .before .before .before .before .before .before .before .before .pre .0 in
+    let start = c .before .before .before .before .before .before .before .before .before .before .before .before .before .before .before .before .before .before .before .before .before .before .before .before .before .before .before .before in
+    let read-binary = c .before .before .before .before .before .before .before .before .before .before .before .before .before .before .read-binary in
+    let a = start .args in
+    let room = start .pre .0 in
     let base = a .n .I + a .n .L + a .n .O in
     let s = a .scratch .now in
-    let ys = c .before .before .before .before .before .before .before .before .before .before .before .before .before .before .read-binary .last .1 .1 .1 .1 .1 .1 .1 .0 in
-    let fits : base ≤ length s = omega (arith, room .words, room .most-M, c .before .before .before .before .before .before .before .before .before .before .before .before .before .before .before .before .before .before .before .before .before .before .before .before .before .before .before .before .pre .1) in (
+    let ys = read-binary .last .1 .1 .1 .1 .1 .1 .1 .0 in
+    let fits : base ≤ length s = omega (arith, room .words, room .most-M, start .pre .1) in (
       record { most-I = room .most-I; most-L = room .most-L; most-O = room .most-O; words = omega (arith, first-length base s ys fits) },
       λ i h. first-blank base s ys fits (room .blank) i,
     )
@@ -108,15 +112,18 @@ same-length-10 c = search needs
 
 returns-2 : tie.Need-returns-2
 returns-2 c =
-    let a = c .before .before .before .before .before .before .before .before .before .before .before .before .before .before .before .before .before .before .before .before .before .before .before .before .before .before .before .before .before .before .before .before .before .before .args in
+    let start = c .before .before .before .before .before .before .before .before .before .before .before .before .before .before .before .before .before .before .before .before .before .before .before .before .before .before .before .before .before .before .before .before .before .before in
+    let read-binary = c .before .before .before .before .before .before .before .before .before .before .before .before .before .before .before .before .before .before .before .before .read-binary in
+    let read = c .before .before .before .before .before .before .before .before .read in
+    let a = start .args in
     let t : Tables = record { inputs = a .inputs .now; latches = a .latches .now; outputs = a .outputs .now; gates = a .gates .now } in
     let t′ : Tables = record {
-      inputs = c .before .before .before .before .before .before .before .before .before .before .before .before .before .before .before .before .before .before .before .before .read-binary .last .1 .1 .1 .0;
-      latches = c .before .before .before .before .before .before .before .before .before .before .before .before .before .before .before .before .before .before .before .before .read-binary .last .1 .1 .1 .1 .0;
-      outputs = c .before .before .before .before .before .before .before .before .before .before .before .before .before .before .before .before .before .before .before .before .read-binary .last .1 .1 .1 .1 .1 .0;
-      gates = c .before .before .before .before .before .before .before .before .before .before .before .before .before .before .before .before .before .before .before .before .read-binary .last .1 .1 .1 .1 .1 .1 .0;
+      inputs = read-binary .last .1 .1 .1 .0;
+      latches = read-binary .last .1 .1 .1 .1 .0;
+      outputs = read-binary .last .1 .1 .1 .1 .1 .0;
+      gates = read-binary .last .1 .1 .1 .1 .1 .1 .0;
     } in
-    tail-told (a .file .now) (a .n) (binaryBody (a .file .now) (a .n) (a .at)) t t′ _ (c .before .before .before .before .before .before .before .before .before .before .before .before .before .before .before .before .before .before .before .before .read-binary .ensures) _ (c .before .before .before .before .before .before .before .before .read .given .1) _ (c .before .before .before .before .before .check .ensures) _ (c .before .r .given .1)
+    tail-told (a .file .now) (a .n) (binaryBody (a .file .now) (a .n) (a .at)) t t′ _ (read-binary .ensures) _ (read .given .1) _ (c .before .before .before .before .before .check .ensures) _ (c .before .r .given .1)
 
 same-length-11 : tie.Need-same-length-11
 same-length-11 c = search needs
@@ -135,16 +142,19 @@ same-length-15 c = search needs
 
 returns-3 : tie.Need-returns-3
 returns-3 c =
-    let a = c .before .before .before .before .before .before .before .before .before .before .before .before .before .before .before .before .before .before .before .before .before .before .before .before .before .before .before .before .before .before .before .before .before .args in
+    let start = c .before .before .before .before .before .before .before .before .before .before .before .before .before .before .before .before .before .before .before .before .before .before .before .before .before .before .before .before .before .before .before .before .before in
+    let shared-slice-known = c .before .before .before .before .before .before .before .before .before .before .before .before .before .before .before .before .before .before .before .before .before .before .before .before .before .before .before .before .before .before .before .before .shared-slice-known in
+    let read-binary = c .before .before .before .before .before .before .before .before .before .before .before .before .before .before .before .before .before .before .before .read-binary in
+    let a = start .args in
     let t : Tables = record { inputs = a .inputs .now; latches = a .latches .now; outputs = a .outputs .now; gates = a .gates .now } in
     let t′ : Tables = record {
-      inputs = c .before .before .before .before .before .before .before .before .before .before .before .before .before .before .before .before .before .before .before .read-binary .last .1 .1 .1 .0;
-      latches = c .before .before .before .before .before .before .before .before .before .before .before .before .before .before .before .before .before .before .before .read-binary .last .1 .1 .1 .1 .0;
-      outputs = c .before .before .before .before .before .before .before .before .before .before .before .before .before .before .before .before .before .before .before .read-binary .last .1 .1 .1 .1 .1 .0;
-      gates = c .before .before .before .before .before .before .before .before .before .before .before .before .before .before .before .before .before .before .before .read-binary .last .1 .1 .1 .1 .1 .1 .0;
+      inputs = read-binary .last .1 .1 .1 .0;
+      latches = read-binary .last .1 .1 .1 .1 .0;
+      outputs = read-binary .last .1 .1 .1 .1 .1 .0;
+      gates = read-binary .last .1 .1 .1 .1 .1 .1 .0;
     } in
-    good (a .file .now) (a .n) (binaryBody (a .file .now) (a .n) (a .at)) t t′ _ (c .before .before .before .before .before .before .before .before .before .before .before .before .before .before .before .before .before .before .before .read-binary .ensures) _ (c .before .before .before .before .before .before .before .read .given .1) _ (c .before .before .before .before .check .ensures) (c .enum-told2 .given .1)
-    (λ d e. no-seven-eight (a .file .now) (λ k. c .before .before .before .before .before .before .before .before .before .before .before .before .before .before .before .before .before .before .before .before .before .before .before .before .before .before .before .before .before .before .before .before .shared-slice-known .given k .fits) (a .n) (a .at) d _ (c .before .before .before .before .before .before .before .before .before .before .before .before .before .before .before .before .before .before .before .before .before .before .before .before .before .before .before .before .before .before .before .before .before .pre .1) e)
+    good (a .file .now) (a .n) (binaryBody (a .file .now) (a .n) (a .at)) t t′ _ (read-binary .ensures) _ (c .before .before .before .before .before .before .before .read .given .1) _ (c .before .before .before .before .check .ensures) (c .enum-told2 .given .1)
+    (λ d e. no-seven-eight (a .file .now) (λ k. shared-slice-known .given k .fits) (a .n) (a .at) d _ (start .pre .1) e)
 
 pub rest-of-binary-spec : {M : Type 1} → statement M
 rest-of-binary-spec =

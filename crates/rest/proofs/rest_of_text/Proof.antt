@@ -36,12 +36,13 @@ part-read-text-end c = search needs
 
 read-text-requires : tie.Need-read-text-requires
 read-text-requires c κs =
-    let a = c .before .before .before .before .before .before .before .before .before .before .before .before .before .args in
-    let room = c .before .before .before .before .before .before .before .before .before .before .before .before .before .pre .0 in
+    let start = c .before .before .before .before .before .before .before .before .before .before .before .before .before in
+    let a = start .args in
+    let room = start .pre .0 in
     let base = a .n .I + a .n .L + a .n .O in
     let s = a .scratch .now in
     let long : length (midOf base (length s - base) s) ≡ length s - base = mid-len base (length s) s (le-refl (length s)) in
-    let enough : a .n .M < length (midOf base (length s - base) s) = omega (arith, room .words, c .before .before .before .before .before .before .before .before .before .before .before .before .before .pre .1) in
+    let enough : a .n .M < length (midOf base (length s - base) s) = omega (arith, room .words, start .pre .1) in
     (room .most-M, (room .inputs, (room .latches, (room .outputs, (room .gates, (enough, λ v h. zeros-mid base (length s - base) s (room .blank) v))))))
 
 enum-known-read : tie.Need-enum-known-read
@@ -67,16 +68,18 @@ same-length-5 c = search needs
 
 returns : tie.Need-returns
 returns c =
-    let a = c .before .before .before .before .before .before .before .before .before .before .before .before .before .before .before .before .before .before .before .before .before .before .before .before .before .before .args in
+    let start = c .before .before .before .before .before .before .before .before .before .before .before .before .before .before .before .before .before .before .before .before .before .before .before .before .before .before in
+    let read-text = c .before .before .before .before .before .before .before .before .before .before .before .before .read-text in
+    let a = start .args in
     let body = textBody (a .file .now) (a .n) (a .at) in
     let t : Tables = record { inputs = a .inputs .now; latches = a .latches .now; outputs = a .outputs .now; gates = a .gates .now } in
     let t′ : Tables = record {
-      inputs = c .before .before .before .before .before .before .before .before .before .before .before .before .read-text .last .1 .1 .1 .0;
-      latches = c .before .before .before .before .before .before .before .before .before .before .before .before .read-text .last .1 .1 .1 .1 .0;
-      outputs = c .before .before .before .before .before .before .before .before .before .before .before .before .read-text .last .1 .1 .1 .1 .1 .0;
-      gates = c .before .before .before .before .before .before .before .before .before .before .before .before .read-text .last .1 .1 .1 .1 .1 .1 .0;
+      inputs = read-text .last .1 .1 .1 .0;
+      latches = read-text .last .1 .1 .1 .1 .0;
+      outputs = read-text .last .1 .1 .1 .1 .1 .0;
+      gates = read-text .last .1 .1 .1 .1 .1 .1 .0;
     } in
-    let said = c .before .before .before .before .before .before .before .before .before .before .before .before .read-text .ensures in
+    let said = read-text .ensures in
     stops (a .file .now) (a .n) body t t′ _ (said .body) _ (c .enum-told .given .1)
 
 sub-check : tie.Need-sub-check
@@ -90,12 +93,14 @@ part-check-end c = search needs
 
 check-requires : tie.Need-check-requires
 check-requires c κs =
-    let a = c .before .before .before .before .before .before .before .before .before .before .before .before .before .before .before .before .before .before .before .before .before .before .before .before .before .before .before .before .args in
-    let room = c .before .before .before .before .before .before .before .before .before .before .before .before .before .before .before .before .before .before .before .before .before .before .before .before .before .before .before .before .pre .0 in
+    let start = c .before .before .before .before .before .before .before .before .before .before .before .before .before .before .before .before .before .before .before .before .before .before .before .before .before .before .before .before in
+    let read-text = c .before .before .before .before .before .before .before .before .before .before .before .before .before .before .read-text in
+    let a = start .args in
+    let room = start .pre .0 in
     let base = a .n .I + a .n .L + a .n .O in
     let s = a .scratch .now in
-    let ys = c .before .before .before .before .before .before .before .before .before .before .before .before .before .before .read-text .last .1 .1 .1 .1 .1 .1 .1 .0 in
-    let fits : base ≤ length s = omega (arith, room .words, c .before .before .before .before .before .before .before .before .before .before .before .before .before .before .before .before .before .before .before .before .before .before .before .before .before .before .before .before .pre .1) in (
+    let ys = read-text .last .1 .1 .1 .1 .1 .1 .1 .0 in
+    let fits : base ≤ length s = omega (arith, room .words, start .pre .1) in (
       record { most-I = room .most-I; most-L = room .most-L; most-O = room .most-O; words = omega (arith, first-length base s ys fits) },
       λ i h. first-blank base s ys fits (room .blank) i,
     )
@@ -108,27 +113,35 @@ enum-told-2 c = search needs
 
 check-requires-2 : tie.Need-check-requires-2
 check-requires-2 c κs =
-    let a = c .before .before .before .before .before .before .before .before .before .before .before .before .before .before .before .before .before .before .before .before .before .before .before .before .before .before .before .before .before .before .before .before .before .before .before .before .before .before .args in
+    let start = c .before .before .before .before .before .before .before .before .before .before .before .before .before .before .before .before .before .before .before .before .before .before .before .before .before .before .before .before .before .before .before .before .before .before .before .before .before .before in
+    let read-text = c .before .before .before .before .before .before .before .before .before .before .before .before .before .before .before .before .before .before .before .before .before .before .before .before .read-text in
+    let inputs′ = c .before .before .before .before .before .before .before .before .before .before .before .before .before .before .before .before .before .before .before .before .before .before .before .inputs in
+    let latches′ = c .before .before .before .before .before .before .before .before .before .before .before .before .before .before .before .before .before .before .before .before .before .latches in
+    let outputs′ = c .before .before .before .before .before .before .before .before .before .before .before .before .before .before .before .before .before .before .before .outputs in
+    let gates′ = c .before .before .before .before .before .before .before .before .before .before .before .before .before .before .before .before .before .gates in
+    let read = c .before .before .before .before .before .before .before .before .before .before .before .before .read in
+    let check = c .before .before .before .before .before .before .before .before .before .check in
+    let a = start .args in
     let body = textBody (a .file .now) (a .n) (a .at) in
     let t : Tables = record { inputs = a .inputs .now; latches = a .latches .now; outputs = a .outputs .now; gates = a .gates .now } in
     let t′ : Tables = record {
-      inputs = c .before .before .before .before .before .before .before .before .before .before .before .before .before .before .before .before .before .before .before .before .before .before .before .before .read-text .last .1 .1 .1 .0;
-      latches = c .before .before .before .before .before .before .before .before .before .before .before .before .before .before .before .before .before .before .before .before .before .before .before .before .read-text .last .1 .1 .1 .1 .0;
-      outputs = c .before .before .before .before .before .before .before .before .before .before .before .before .before .before .before .before .before .before .before .before .before .before .before .before .read-text .last .1 .1 .1 .1 .1 .0;
-      gates = c .before .before .before .before .before .before .before .before .before .before .before .before .before .before .before .before .before .before .before .before .before .before .before .before .read-text .last .1 .1 .1 .1 .1 .1 .0;
+      inputs = read-text .last .1 .1 .1 .0;
+      latches = read-text .last .1 .1 .1 .1 .0;
+      outputs = read-text .last .1 .1 .1 .1 .1 .0;
+      gates = read-text .last .1 .1 .1 .1 .1 .1 .0;
     } in
-    let said = c .before .before .before .before .before .before .before .before .before .before .before .before .before .before .before .before .before .before .before .before .before .before .before .before .read-text .ensures in
-    let room = c .before .before .before .before .before .before .before .before .before .before .before .before .before .before .before .before .before .before .before .before .before .before .before .before .before .before .before .before .before .before .before .before .before .before .before .before .before .before .pre .0 in
+    let said = read-text .ensures in
+    let room = start .pre .0 in
     let base = a .n .I + a .n .L + a .n .O in
     let s = a .scratch .now in
-    let ys = c .before .before .before .before .before .before .before .before .before .before .before .before .before .before .before .before .before .before .before .before .before .before .before .before .read-text .last .1 .1 .1 .1 .1 .1 .1 .0 in
-    let fits : base ≤ length s = omega (arith, room .words, c .before .before .before .before .before .before .before .before .before .before .before .before .before .before .before .before .before .before .before .before .before .before .before .before .before .before .before .before .before .before .before .before .before .before .before .before .before .before .pre .1) in
-    let zs = c .before .before .before .before .before .before .before .before .before .check .last .1 .1 .1 .0 in
-    let p = read-as (a .file .now) (a .n) body t t′ _ (said .body) _ (c .before .before .before .before .before .before .before .before .before .before .before .before .read .given .1) in
-    let ys-long : length ys ≡ length (midOf base (length s - base) s) = c .before .before .before .before .before .before .before .before .before .before .before .before .before .before .before .before .before .before .before .before .before .before .before .before .read-text .kept .1 .1 .1 .1 .1 .1 .1 .0 in
-    let zs-long : length zs ≡ length (midOf 0 (base - 0) (second base s ys fits)) = c .before .before .before .before .before .before .before .before .before .check .kept .1 .1 .1 .0 in
-    text-read (a .file .now) (a .n) (a .at) t t′ (p .0) _ (p .1) (p .2) s (putMid 0 (base - 0) (second base s ys fits) zs) ys base room (c .before .before .before .before .before .before .before .before .before .before .before .before .before .before .before .before .before .before .before .before .before .before .before .before .before .before .before .before .before .before .before .before .before .before .before .before .before .before .pre .1) refl
-    (c .before .before .before .before .before .before .before .before .before .before .before .before .before .before .before .before .before .before .before .before .before .before .before .inputs .given) (c .before .before .before .before .before .before .before .before .before .before .before .before .before .before .before .before .before .before .before .before .before .latches .given) (c .before .before .before .before .before .before .before .before .before .before .before .before .before .before .before .before .before .before .before .outputs .given) (c .before .before .before .before .before .before .before .before .before .before .before .before .before .before .before .before .before .gates .given)
+    let ys = read-text .last .1 .1 .1 .1 .1 .1 .1 .0 in
+    let fits : base ≤ length s = omega (arith, room .words, start .pre .1) in
+    let zs = check .last .1 .1 .1 .0 in
+    let p = read-as (a .file .now) (a .n) body t t′ _ (said .body) _ (read .given .1) in
+    let ys-long : length ys ≡ length (midOf base (length s - base) s) = read-text .kept .1 .1 .1 .1 .1 .1 .1 .0 in
+    let zs-long : length zs ≡ length (midOf 0 (base - 0) (second base s ys fits)) = check .kept .1 .1 .1 .0 in
+    text-read (a .file .now) (a .n) (a .at) t t′ (p .0) _ (p .1) (p .2) s (putMid 0 (base - 0) (second base s ys fits) zs) ys base room (start .pre .1) refl
+    (inputs′ .given) (latches′ .given) (outputs′ .given) (gates′ .given)
     (same-len-mid 0 (base - 0) (second base s ys fits) zs zs-long ∙ second-length base s ys fits ys-long) (second-part base s ys fits zs ys-long zs-long)
     (said .marked (p .0) _ (p .1))
 
@@ -155,17 +168,20 @@ same-length-10 c = search needs
 
 returns-2 : tie.Need-returns-2
 returns-2 c =
-    let a = c .before .before .before .before .before .before .before .before .before .before .before .before .before .before .before .before .before .before .before .before .before .before .before .before .before .before .before .before .before .before .before .before .before .before .args in
+    let start = c .before .before .before .before .before .before .before .before .before .before .before .before .before .before .before .before .before .before .before .before .before .before .before .before .before .before .before .before .before .before .before .before .before .before in
+    let read-text = c .before .before .before .before .before .before .before .before .before .before .before .before .before .before .before .before .before .before .before .before .read-text in
+    let read = c .before .before .before .before .before .before .before .before .read in
+    let a = start .args in
     let body = textBody (a .file .now) (a .n) (a .at) in
     let t : Tables = record { inputs = a .inputs .now; latches = a .latches .now; outputs = a .outputs .now; gates = a .gates .now } in
     let t′ : Tables = record {
-      inputs = c .before .before .before .before .before .before .before .before .before .before .before .before .before .before .before .before .before .before .before .before .read-text .last .1 .1 .1 .0;
-      latches = c .before .before .before .before .before .before .before .before .before .before .before .before .before .before .before .before .before .before .before .before .read-text .last .1 .1 .1 .1 .0;
-      outputs = c .before .before .before .before .before .before .before .before .before .before .before .before .before .before .before .before .before .before .before .before .read-text .last .1 .1 .1 .1 .1 .0;
-      gates = c .before .before .before .before .before .before .before .before .before .before .before .before .before .before .before .before .before .before .before .before .read-text .last .1 .1 .1 .1 .1 .1 .0;
+      inputs = read-text .last .1 .1 .1 .0;
+      latches = read-text .last .1 .1 .1 .1 .0;
+      outputs = read-text .last .1 .1 .1 .1 .1 .0;
+      gates = read-text .last .1 .1 .1 .1 .1 .1 .0;
     } in
-    let said = c .before .before .before .before .before .before .before .before .before .before .before .before .before .before .before .before .before .before .before .before .read-text .ensures in
-    tail-told (a .file .now) (a .n) body t t′ _ (said .body) _ (c .before .before .before .before .before .before .before .before .read .given .1) _ (c .before .before .before .before .before .check .ensures) _ (c .before .r .given .1)
+    let said = read-text .ensures in
+    tail-told (a .file .now) (a .n) body t t′ _ (said .body) _ (read .given .1) _ (c .before .before .before .before .before .check .ensures) _ (c .before .r .given .1)
 
 same-length-11 : tie.Need-same-length-11
 same-length-11 c = search needs
@@ -184,18 +200,22 @@ same-length-15 c = search needs
 
 returns-3 : tie.Need-returns-3
 returns-3 c =
-    let a = c .before .before .before .before .before .before .before .before .before .before .before .before .before .before .before .before .before .before .before .before .before .before .before .before .before .before .before .before .before .before .before .before .before .before .before .before .before .before .before .before .before .before .before .before .args in
+    let start = c .before .before .before .before .before .before .before .before .before .before .before .before .before .before .before .before .before .before .before .before .before .before .before .before .before .before .before .before .before .before .before .before .before .before .before .before .before .before .before .before .before .before .before .before in
+    let read-text = c .before .before .before .before .before .before .before .before .before .before .before .before .before .before .before .before .before .before .before .before .before .before .before .before .before .before .before .before .before .before .read-text in
+    let read = c .before .before .before .before .before .before .before .before .before .before .before .before .before .before .before .before .before .before .read in
+    let check = c .before .before .before .before .before .before .before .before .before .before .before .before .before .before .before .check in
+    let a = start .args in
     let body = textBody (a .file .now) (a .n) (a .at) in
     let t : Tables = record { inputs = a .inputs .now; latches = a .latches .now; outputs = a .outputs .now; gates = a .gates .now } in
     let t′ : Tables = record {
-      inputs = c .before .before .before .before .before .before .before .before .before .before .before .before .before .before .before .before .before .before .before .before .before .before .before .before .before .before .before .before .before .before .read-text .last .1 .1 .1 .0;
-      latches = c .before .before .before .before .before .before .before .before .before .before .before .before .before .before .before .before .before .before .before .before .before .before .before .before .before .before .before .before .before .before .read-text .last .1 .1 .1 .1 .0;
-      outputs = c .before .before .before .before .before .before .before .before .before .before .before .before .before .before .before .before .before .before .before .before .before .before .before .before .before .before .before .before .before .before .read-text .last .1 .1 .1 .1 .1 .0;
-      gates = c .before .before .before .before .before .before .before .before .before .before .before .before .before .before .before .before .before .before .before .before .before .before .before .before .before .before .before .before .before .before .read-text .last .1 .1 .1 .1 .1 .1 .0;
+      inputs = read-text .last .1 .1 .1 .0;
+      latches = read-text .last .1 .1 .1 .1 .0;
+      outputs = read-text .last .1 .1 .1 .1 .1 .0;
+      gates = read-text .last .1 .1 .1 .1 .1 .1 .0;
     } in
-    let said = c .before .before .before .before .before .before .before .before .before .before .before .before .before .before .before .before .before .before .before .before .before .before .before .before .before .before .before .before .before .before .read-text .ensures in
-    let p = read-as (a .file .now) (a .n) body t t′ _ (said .body) _ (c .before .before .before .before .before .before .before .before .before .before .before .before .before .before .before .before .before .before .read .given .1) in
-    closing-told (a .file .now) (a .n) body t t′ _ (said .body) _ (c .before .before .before .before .before .before .before .before .before .before .before .before .before .before .before .before .before .before .read .given .1) _ (c .before .before .before .before .before .before .before .before .before .before .before .before .before .before .before .check .ensures) (c .before .before .before .before .before .before .before .before .before .before .before .enum-told2 .given .1) _
+    let said = read-text .ensures in
+    let p = read-as (a .file .now) (a .n) body t t′ _ (said .body) _ (read .given .1) in
+    closing-told (a .file .now) (a .n) body t t′ _ (said .body) _ (read .given .1) _ (check .ensures) (c .before .before .before .before .before .before .before .before .before .before .before .enum-told2 .given .1) _
     (sym (c .before .r2 .given .1) ∙ (c .before .before .before .before .before .check2 .ensures .0 ∙ ap (λ (x : Circuit). checkedBy (closed x)) (same-circuit (a .file .now) (a .n) (a .at) t t′ (p .0) _ (p .1) (p .2))))
 
 same-length-16 : tie.Need-same-length-16
@@ -215,19 +235,23 @@ same-length-20 c = search needs
 
 returns-4 : tie.Need-returns-4
 returns-4 c =
-    let a = c .before .before .before .before .before .before .before .before .before .before .before .before .before .before .before .before .before .before .before .before .before .before .before .before .before .before .before .before .before .before .before .before .before .before .before .before .before .before .before .before .before .before .before .args in
+    let start = c .before .before .before .before .before .before .before .before .before .before .before .before .before .before .before .before .before .before .before .before .before .before .before .before .before .before .before .before .before .before .before .before .before .before .before .before .before .before .before .before .before .before .before in
+    let read-text = c .before .before .before .before .before .before .before .before .before .before .before .before .before .before .before .before .before .before .before .before .before .before .before .before .before .before .before .before .before .read-text in
+    let read = c .before .before .before .before .before .before .before .before .before .before .before .before .before .before .before .before .before .read in
+    let check = c .before .before .before .before .before .before .before .before .before .before .before .before .before .before .check in
+    let a = start .args in
     let body = textBody (a .file .now) (a .n) (a .at) in
     let t : Tables = record { inputs = a .inputs .now; latches = a .latches .now; outputs = a .outputs .now; gates = a .gates .now } in
     let t′ : Tables = record {
-      inputs = c .before .before .before .before .before .before .before .before .before .before .before .before .before .before .before .before .before .before .before .before .before .before .before .before .before .before .before .before .before .read-text .last .1 .1 .1 .0;
-      latches = c .before .before .before .before .before .before .before .before .before .before .before .before .before .before .before .before .before .before .before .before .before .before .before .before .before .before .before .before .before .read-text .last .1 .1 .1 .1 .0;
-      outputs = c .before .before .before .before .before .before .before .before .before .before .before .before .before .before .before .before .before .before .before .before .before .before .before .before .before .before .before .before .before .read-text .last .1 .1 .1 .1 .1 .0;
-      gates = c .before .before .before .before .before .before .before .before .before .before .before .before .before .before .before .before .before .before .before .before .before .before .before .before .before .before .before .before .before .read-text .last .1 .1 .1 .1 .1 .1 .0;
+      inputs = read-text .last .1 .1 .1 .0;
+      latches = read-text .last .1 .1 .1 .1 .0;
+      outputs = read-text .last .1 .1 .1 .1 .1 .0;
+      gates = read-text .last .1 .1 .1 .1 .1 .1 .0;
     } in
-    let said = c .before .before .before .before .before .before .before .before .before .before .before .before .before .before .before .before .before .before .before .before .before .before .before .before .before .before .before .before .before .read-text .ensures in
-    let p = read-as (a .file .now) (a .n) body t t′ _ (said .body) _ (c .before .before .before .before .before .before .before .before .before .before .before .before .before .before .before .before .before .read .given .1) in
+    let said = read-text .ensures in
+    let p = read-as (a .file .now) (a .n) body t t′ _ (said .body) _ (read .given .1) in
     let shut = closing-good (p .0) (sym (c .enum-told3 .given .1) ∙ (c .before .before .before .before .check2 .ensures .0 ∙ ap (λ (x : Circuit). checkedBy (closed x)) (same-circuit (a .file .now) (a .n) (a .at) t t′ (p .0) _ (p .1) (p .2)))) in
-    accepted-as (a .file .now) (a .n) body t t′ _ (said .body) _ (c .before .before .before .before .before .before .before .before .before .before .before .before .before .before .before .before .before .read .given .1) _ (c .before .before .before .before .before .before .before .before .before .before .before .before .before .before .check .ensures) (c .before .before .before .before .before .before .before .before .before .before .enum-told2 .given .1) (shut .0) (shut .1)
+    accepted-as (a .file .now) (a .n) body t t′ _ (said .body) _ (read .given .1) _ (check .ensures) (c .before .before .before .before .before .before .before .before .before .before .enum-told2 .given .1) (shut .0) (shut .1)
 
 pub rest-of-text-spec : {M : Type 1} → statement M
 rest-of-text-spec =

@@ -31,7 +31,8 @@ in-name-requires c κs = search needs
 
 returns : tie.Need-returns Inv-loop μ-loop
 returns c =
-    let a = c .before .before .before .before .before .before .before .args in
+    let start = c .before .before .before .before .before .before .before in
+    let a = start .args in
     let l = c .before .before .before .before .before .loop in
     stays (a .file .now) (a .at) (l .i) (l .inv)
     (span-none nameClass (a .file .now) (l .i) (omega arith)
@@ -45,7 +46,8 @@ loop-less c = search needs
 
 loop-again : tie.Need-loop-again Inv-loop μ-loop
 loop-again c =
-    let a = c .before .before .before .before .before .before .before .args in
+    let start = c .before .before .before .before .before .before .before in
+    let a = start .args in
     let l = c .before .before .before .before .before .loop in
     passes (a .file .now) (a .at) (l .i) (l .inv) (omega arith)
     (ap nameClass (sym (c .before .before .class-of .ensures)) ∙ (sym (c .before .in-name .ensures) ∙ not-false _ (c .if1 .left)))

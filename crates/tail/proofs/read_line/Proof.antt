@@ -24,7 +24,8 @@ stands-requires c κs = search needs
 
 returns : tie.Need-returns
 returns c =
-    let a = c .before .before .before .before .before .before .before .args in
+    let start = c .before .before .before .before .before .before .before in
+    let a = start .args in
     let g = c .before .before .before .entry .given in
     no-space (a .file .now) (a .at) (g .0 .0) (g .0 .1 .0) (sym (g .1) ∙ c .before .before .before .before .before .read-number .ensures)
     (sym (c .before .stands .ensures) ∙ not-true _ (c .if1 .taken))
@@ -53,7 +54,8 @@ returns-2 c =
 
 add-t12 : tie.Need-add-t12
 add-t12 c =
-    let a = c .before .before .before .before .before .before .before .before .before .before .args in
+    let start = c .before .before .before .before .before .before .before .before .before .before in
+    let a = start .args in
     let newline = sym (c .before .stands2 .ensures) ∙ not-false _ (c .if2 .left) in
     omega (arith, stands-in (a .file .now) (c .before .before .name-end .result) 10 (omega arith) newline)
 
