@@ -6,9 +6,7 @@ use mathlib.Core.List.{List}
 use native.Mathlib.Omega.{arith}
 use borrow.Author.Tests.{lt-ltb, le-ltb, ltb-true, ltb-false}
 use lib.Dec.{ltb}
-use lib.ListN.{length, getD}
 use Rattle.order.specs.Waiting.{numberedV, readyAt, lhsOf, Agree, Space, hung, Waiting, before, every}
-use Rattle.order.proofs.Spaces.{space-again}
 use Rattle.order.proofs.Watching.{numbered-agree}
 use Rattle.order.proofs.Hanging.{hung-all}
 

@@ -11,9 +11,10 @@ use lib.Seq.{getD-set-same, getD-set-other}
 use Rattle.plan.specs.Circuit.{has}
 use Rattle.bitmap.specs.Bitmap.{isOn}
 use Rattle.bitmap.proofs.Telling.{told-same}
-use Rattle.theorems.proofs.Reading.Members.{has-self, has-later, has-cases, distinct}
+use Rattle.theorems.proofs.Reading.Members.{has-self, has-later, has-cases}
 use Rattle.theorems.proofs.Running.Lists.{absent, distinct-cons}
-use Rattle.order.specs.Waiting.{numberedV, readyAt, lhsOf, watched, Chain, Line, Lines, p0, p1, p2, p3, Levels, Marks, Waiting, Agree, Space, marked, linked, hung}
+use Rattle.order.specs.Waiting.{numberedV, readyAt, lhsOf, watched, Chain, Line, p0, p1, p2, p3, Waiting, Agree, Space, marked, linked, hung}
+use Rattle.order.proofs.Shown.{and-false}
 use Rattle.order.proofs.Spaces.{top-word}
 use Rattle.order.proofs.Levels.{level-same}
 use Rattle.order.proofs.Marking.{marked-low, marked-here, marked-others, marked-levels}
@@ -39,10 +40,6 @@ module _ (gates t : List ℕ) (n a i : ℕ) where
   unfolding hung
   hung-first h =
       ap (λ (b : Bool). cond b (marked t n a i) (linked t n a i (watched gates t i - 2147483648))) (le-ltb (watched gates t i) 2147483648 h)
-
-and-false : (b : Bool) → (b && false) ≡ false
-and-false true = refl
-and-false false = refl
 
 module _ (gates t : List ℕ) (n a i : ℕ) (D E : ℕ → Bool) (space : Space gates t n a) (inn : i < a) (new : D i ≡ false) (now-done : E i ≡ true)
     (others : (c : ℕ) → (c ≡ i → ⊥) → E c ≡ D c) (own-open : numberedV t (lhsOf gates i) ≡ false) (w : Waiting gates t n a D) where

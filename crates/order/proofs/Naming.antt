@@ -1,22 +1,22 @@
 -- The left variables name their gates: nothing else changes, and nothing waits yet.
-use Prim.Native.Nat.{ℕ, zero, suc, _+_, _*_, _/_, _<_, _≤_}
+use Prim.Native.Nat.{ℕ, zero, suc, _+_, _/_, _<_, _≤_}
 use mathlib.Core.Path.{_≡_, refl, sym, ap, _∙_, subst}
 use mathlib.Core.Bool.{Bool, true, false, _&&_, false≢true}
-use mathlib.Core.List.{List, [], _∷_, _++_, map}
+use mathlib.Core.List.{List, [], _++_, map}
 use native.Mathlib.Nat.{not-suc-le-zero}
 use native.Mathlib.Omega.{arith}
 use borrow.Author.Tests.{eqb-true, eqb-false, ltb-true, le-ltb}
 use lib.Dec.{eqb, ltb}
-use lib.ListN.{length, getD, set, take, length-set, length-take}
+use lib.ListN.{length, getD, take, length-set, length-take}
 use lib.Seq.{getD-set-same, getD-set-other}
-use Rattle.plan.specs.Circuit.{Gate, gateOf, rowsOf, lefts, rights, has}
+use Rattle.plan.specs.Circuit.{gateOf, rowsOf, lefts, has}
 use Rattle.bitmap.specs.Bitmap.{isOn}
 use Rattle.bitmap.proofs.Telling.{blank-off}
 use Rattle.theorems.proofs.Reading.Members.{distinct}
 use Rattle.theorems.proofs.Running.Found.{AllG, Sides, sides-in}
 use Rattle.theorems.proofs.Running.Lists.{has-rest, distinct-right, apart}
 use Rattle.theorems.proofs.Tables.{firsts, gateAt, gates-rows, gates-heads}
-use Rattle.order.specs.Numbers.{NumTable, InRange}
+use Rattle.order.specs.Numbers.{InRange}
 use Rattle.order.specs.Waiting.{shown, numberedV, readyAt, lhsOf, rhs0Of, rhs1Of, withNames, Named, Level, p0, p1, p2, p3, Waiting, before, Known, Fresh, Blank}
 use Rattle.order.proofs.Shown.{shown-high, numbered-by, numbered-take, unnumbered}
 use Rattle.order.proofs.Numbering.{numbered-has}

@@ -1,5 +1,5 @@
 -- Gate j gets number x: its mark goes, the gates of its chain are to be done again, and all else that waits stays as it is.
-use Prim.Native.Nat.{ℕ, _+_, _*_, _/_, _<_, _≤_}
+use Prim.Native.Nat.{ℕ, _+_, _/_, _<_, _≤_}
 use mathlib.Core.Path.{_≡_, refl, sym, ap, ap₂, _∙_, subst}
 use mathlib.Core.Bool.{Bool, true, false, not, _&&_, false≢true}
 use mathlib.Core.List.{List}
@@ -15,15 +15,11 @@ use Rattle.theorems.proofs.Reading.Common.{and-right}
 use Rattle.theorems.proofs.Running.Lists.{absent}
 use Rattle.theorems.proofs.Tables.{gateAt}
 use Rattle.order.specs.Waiting.{numberedV, readyAt, lhsOf, watched, Named, Chain, Line, p0, p1, p2, p3, Levels, Waiting, every, Agree, Space, TakenOff, Waking, Giving, Given}
-use Rattle.order.proofs.Shown.{ready-left, given-here, given-other, given-unnumbered}
+use Rattle.order.proofs.Shown.{and-false, ready-left, given-here, given-other, given-unnumbered}
 use Rattle.order.proofs.Spaces.{space-again}
 use Rattle.order.proofs.Levels.{level-same}
 use Rattle.order.proofs.Watching.{watched-agree, numbered-agree, named-agree, ready-watched, watched-given, only-j, named-given}
 use Rattle.order.proofs.Hanging.{chain-kept}
-
-and-false : (b : Bool) → (b && false) ≡ false
-and-false true = refl
-and-false false = refl
 
 module _ (gates t : List ℕ) (n a j x : ℕ) (q : Giving gates t n a j x) where
   pub give-fits : lhsOf gates j < length t

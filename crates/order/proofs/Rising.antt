@@ -12,6 +12,7 @@ use Rattle.plan.specs.Literals.{varOf}
 use Rattle.plan.specs.Circuit.{Gate, gateOf, rowsOf}
 use Rattle.theorems.proofs.Running.Ascending.{above, ascends, ascends-snoc}
 use Rattle.theorems.proofs.Tables.{gateAt, gatesAt, gates-rows}
+use Rattle.order.proofs.Shown.{and-false}
 
 -- one gate
 pub rises : (g : Gate) → varOf (g .rhs0) < varOf (g .lhs) → varOf (g .rhs1) < varOf (g .lhs) → above g ≡ true
@@ -19,10 +20,6 @@ rises g h k = ap₂ (λ (x y : Bool). x && y) (lt-ltb (varOf (g .rhs0)) (varOf (
 
 pub falls-first : (g : Gate) → varOf (g .lhs) ≤ varOf (g .rhs0) → above g ≡ false
 falls-first g h = ap (λ (x : Bool). x && ltb (varOf (g .rhs1)) (varOf (g .lhs))) (le-ltb (varOf (g .rhs0)) (varOf (g .lhs)) h)
-
-and-false : (b : Bool) → (b && false) ≡ false
-and-false true = refl
-and-false false = refl
 
 pub falls-second : (g : Gate) → varOf (g .lhs) ≤ varOf (g .rhs1) → above g ≡ false
 falls-second g h =

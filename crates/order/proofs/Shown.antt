@@ -1,5 +1,5 @@
 -- A variable's word, and which gates are ready.
-use Prim.Native.Nat.{ℕ, zero, suc, _+_, _-_, _*_, _/_, _%_, _<_, _≤_}
+use Prim.Native.Nat.{ℕ, zero, suc, _<_, _≤_}
 use mathlib.Core.Path.{_≡_, refl, sym, ap, ap₂, _∙_, subst}
 use mathlib.Core.Bool.{Bool, true, false, not, cond, _&&_, _||_, false≢true}
 use mathlib.Core.List.{List, [], _∷_}
@@ -12,7 +12,6 @@ use lib.Seq.{getD-set-same, getD-set-other, getD-take, ext-getD}
 use Rattle.plan.specs.Literals.{varOf}
 use Rattle.plan.specs.Circuit.{Gate}
 use Rattle.theorems.proofs.Reading.Common.{and-left}
-use Rattle.theorems.proofs.Tables.{gateAt}
 use Rattle.order.specs.Numbers.{numberedT, readyT, InTable}
 use Rattle.order.specs.Waiting.{shown, clean, numberedV, readyV}
 
@@ -84,6 +83,10 @@ unfolding numberedT numberedV
 numbered-take t n v h small = ap (λ (w : ℕ). eqb v 0 || not (eqb w 0)) (getD-take n t v 0 h ∙ sym (shown-low (getD t v 0) small))
 
 -- ready
+pub and-false : (b : Bool) → (b && false) ≡ false
+and-false true = refl
+and-false false = refl
+
 pub ready-clean : (n : ℕ) (t : List ℕ) (g : Gate) → InTable n g → readyT (clean n t) g ≡ readyV t g
 unfolding readyT readyV
 ready-clean n t g k =

@@ -11,7 +11,7 @@ use lib.ListN.{length, getD, set}
 use lib.Seq.{getD-set-same, getD-set-other}
 use Rattle.order.specs.Numbers.{InRange}
 use Rattle.order.specs.Waiting.{shown, numberedV, readyV, readyAt, lhsOf, rhs0Of, rhs1Of, watched, Named, Agree}
-use Rattle.order.proofs.Shown.{numbered-by, given-here, given-other, given-unnumbered}
+use Rattle.order.proofs.Shown.{numbered-by, given-other, given-unnumbered}
 
 pub watched-low : (gates t : List ℕ) (i : ℕ) → getD t (rhs0Of gates i) 0 < 2147483648 → watched gates t i ≡ getD t (rhs1Of gates i) 0
 unfolding watched
@@ -125,16 +125,13 @@ module _ (gates t : List ℕ) (n a : ℕ) (range : InRange n gates a) (s : Named
 
     low-side : (y : ℕ) → (getD t y 0 < 2147483648 → numberedV t y ≡ true) → getD (set t (lhsOf gates j) x) y 0 < 2147483648
         → numberedV (set t (lhsOf gates j) x) y ≡ true
-    low-side y f h = absent′ (numberedV (set t (lhsOf gates j) x) y) no
+    low-side y f h = go (numberedV (set t (lhsOf gates j) x) y) refl
       where
-        absent′ : (b : Bool) → (b ≡ false → ⊥) → b ≡ true
-        absent′ true g = refl
-        absent′ false g = absurd (g refl)
-
-        no : numberedV (set t (lhsOf gates j) x) y ≡ false → ⊥
-        no e =
+        go : (b : Bool) → numberedV (set t (lhsOf gates j) x) y ≡ b → numberedV (set t (lhsOf gates j) x) y ≡ true
+        go true e = e
+        go false e =
             let g = given-unnumbered t (lhsOf gates j) x fits pos small y e in
-            false≢true (sym (g .1) ∙ f (omega (arith, getD-set-other t (lhsOf gates j) y x 0 (g .0))))
+            absurd (false≢true (sym (g .1) ∙ f (omega (arith, getD-set-other t (lhsOf gates j) y x 0 (g .0)))))
 
     pub named-given : Named gates (set t (lhsOf gates j) x) n a
     named-given = record {

@@ -6,7 +6,7 @@ use borrow.Author.Needs.{needs}
 use lib.ListN.{length}
 use Rattle.order.specs.Waiting.{Space, lhsOf}
 use Rattle.order.proofs.Spaces.{space-of, space-again}
-use Rattle.order.proofs.Naming.{Naming, named-all, still-open, none-waits}
+use Rattle.order.proofs.Naming.{named-all, still-open, none-waits}
 use Rattle.order.proofs.Watching.{numbered-agree}
 use Rattle.order.proofs.Counting.{counted-none}
 use Rattle.order.proofs.Settling.{settled-count, all-parts}

@@ -1,6 +1,6 @@
 -- The scan yields the first gate that is ready: none before it is, and where none is the order is at its end.
 use Prim.Native.Nat.{_+_, _-_, _≤_}
-use mathlib.Core.Bool.{true, false}
+use mathlib.Core.Bool.{true}
 use mathlib.Core.Path.{_≡_, refl, sym, _∙_}
 use native.Mathlib.Omega.{arith}
 use lib.ListN.{length}

@@ -1,9 +1,8 @@
 -- From the top level down, each time the first place of the word that the level above names.
-use Prim.Native.Nat.{ℕ, _/_, _≤_, _<_, _^_, _+_}
+use Prim.Native.Nat.{ℕ, _/_, _+_}
 use mathlib.Core.Path.{_≡_, subst}
 use native.Mathlib.Omega.{arith}
 use borrow.Author.Needs.{needs}
-use lib.ListN.{getD}
 use Rattle.order.specs.Waiting.{p0, p1, p2, p3}
 use Rattle.order.proofs.Finding.{FirstOn, first-in, first-down, first-top, none-marked, first-found}
 use Rattle.order.proofs.marks.first.Statement.{statement}

@@ -1,5 +1,4 @@
 -- A place turned over, or not; what its word is then.
-use Prim.Native.Nat.{ℕ, _/_, _+_}
 use mathlib.Core.Bool.{Bool, cond}
 use mathlib.Core.Path.{refl, sym, ap}
 use native.Mathlib.Omega.{arith}
