@@ -10,8 +10,7 @@ use lib.Count.{trailingZeros, under}
 use lib.Dec.{eqb}
 use lib.ListN.{getD}
 use lib.Pow.{shr-shr, pow-mono, shr-le}
-use Rattle.bitmap.specs.Bitmap.{On, OnAt, NextOn, NextFar}
-use Rattle.bitmap.proofs.Places.{on-at-pos}
+use Rattle.bitmap.specs.Bitmap.{On, OnAt, NextOn}
 
 -- zeros below the lowest digit that is set
 tz-dark : (d w c : ℕ) → c < trailingZeros d w → w / 2 ^ c % 2 ≡ 0
@@ -110,24 +109,3 @@ next-some t p i small pos =
   where
     shorter : getD t (p + i / 32) 0 / 2 ^ (i % 32) < 2 ^ 32
     shorter = lt-of-le-of-lt (shr-le (getD t (p + i / 32) 0) (i % 32)) small
-
--- past i's word, and past one word more that is 0
-pub far-start : (t : List ℕ) (p i end r : ℕ) → i / 32 < end → NextOn t p i r → (r / 32 ≡ i / 32 → ⊥) → NextFar t p i end (32 * (i / 32 + 1))
-far-start t p i end r h s n =
-    let next : r ≡ 32 * (i / 32 + 1) = omega (arith, s .from, s .near, n) in
-    record { from = omega arith; within = omega arith; dark = λ c f b q. s .dark c f (omega (arith, next)) q }
-
-pub far-on : (t : List ℕ) (p i end w : ℕ) → w < end → NextFar t p i end (32 * w) → getD t (p + w) 0 ≡ 0 → NextFar t p i end (32 * (w + 1))
-far-on t p i end w h s e = record { from = omega (arith, s .from); within = omega arith; dark = dark-on }
-  where
-    dark-on : (c : ℕ) → i ≤ c → c < 32 * (w + 1) → OnAt t p c → ⊥
-    dark-on c f b q = go (32 * w - c) refl
-      where
-        go : (m : ℕ) → 32 * w - c ≡ m → ⊥
-        go zero k =
-            let here : c / 32 ≡ w = omega arith in
-            omega (arith, on-at-pos t p c q, ap (λ (x : ℕ). getD t (p + x) 0) here, e)
-        go (suc m) k = s .dark c f (omega (arith, k)) q
-
-pub far-near : (t : List ℕ) (p i end r : ℕ) → i / 32 < end → NextOn t p i r → NextFar t p i end r
-far-near t p i end r h s = record { from = s .from; within = omega (arith, s .near); dark = s .dark }

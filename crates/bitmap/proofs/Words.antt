@@ -1,9 +1,9 @@
 -- The bits of one word: a power of two, a union with one, a difference with one.
-use mathlib.Core.Path.{_≡_, refl, sym, ap, ap₂, _∙_, subst}
+use mathlib.Core.Path.{_≡_, refl, sym, ap, _∙_, subst}
 use Prim.Native.Nat.{ℕ, zero, suc, _+_, _-_, _*_, _/_, _%_, _^_, _<_}
 use native.Mathlib.Nat.{pow-suc, one-mul, div-eq-of-lt, zero-div, mul-mod-left, zero-lt-suc}
 use native.Mathlib.Omega.{arith}
-use lib.Bits.{bitOr, bitXor, or-shr, or-mod, or-comm, or-zero-r, xor-shr, xor-mod}
+use lib.Bits.{bitOr, or-shr, or-mod, or-comm, or-zero-r}
 use lib.Dec.{lit<}
 use lib.Pow.{shl-exact, shl-shr, pow-lt, pow-add}
 use Rattle.bitmap.specs.Bitmap.{On}
@@ -32,7 +32,7 @@ pow-other b c n = go (b - c) refl
         let q : suc d + c ≡ b = omega arith in
         subst (λ (x : ℕ). 2 ^ x / 2 ^ c % 2 ≡ 0) q (pow-below c d)
 
--- one digit of a union and of a difference
+-- one digit of a union
 or-one : (y : ℕ) → y < 2 → bitOr 1 y ≡ 1
 or-one zero h = refl
 or-one (suc zero) h = refl
@@ -53,11 +53,6 @@ pub or-other : (w b c : ℕ) → (c ≡ b → ⊥) → bitOr w (2 ^ b) / 2 ^ c %
 or-other w b c n =
     ap (λ (m : ℕ). m % 2) (or-shr w (2 ^ b) c) ∙ or-mod (w / 2 ^ c) (2 ^ b / 2 ^ c) 1 ∙ ap (λ (x : ℕ). bitOr (w / 2 ^ c % 2) x)
     (pow-other b c n) ∙ or-zero-r (w / 2 ^ c % 2)
-
-pub xor-on : (w b c : ℕ) → (c ≡ b → ⊥) → On w c → On (bitXor w (2 ^ b)) c
-unfolding On
-xor-on w b c n h =
-    ap (λ (m : ℕ). m % 2) (xor-shr w (2 ^ b) c) ∙ xor-mod (w / 2 ^ c) (2 ^ b / 2 ^ c) 1 ∙ ap₂ (λ (x y : ℕ). bitXor x y) h (pow-other b c n)
 
 pub on-pos : (w c : ℕ) → On w c → 0 < w
 unfolding On

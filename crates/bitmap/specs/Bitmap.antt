@@ -33,9 +33,3 @@ pub record NextOn (t : List ℕ) (p i r : ℕ) : Type 0 where
   pub near : r ≤ 32 * (i / 32) + 32
   pub dark : (c : ℕ) → i ≤ c → c < r → OnAt t p c → ⊥
   pub there : r < 32 * (i / 32) + 32 → OnAt t p r
-
--- no place from i on before r is on; r is no further than where word `end` would start
-pub record NextFar (t : List ℕ) (p i end r : ℕ) : Type 0 where
-  pub from : i ≤ r
-  pub within : r ≤ 32 * end
-  pub dark : (c : ℕ) → i ≤ c → c < r → OnAt t p c → ⊥

@@ -1,8 +1,8 @@
 // Bitmaps that stand in a table of words: place i of the one that starts at p is bit i % 32 of word p + i / 32.
 ghost use mathlib.Core.Path.{_≡_};
-ghost use Prim.Native.Nat.{_+_, _*_, _/_, _<_, _≤_};
+ghost use Prim.Native.Nat.{_+_, _/_, _<_};
 ghost use lib.ListN.{length};
-ghost use Rattle.bitmap.specs.Bitmap.{isOn, raised, toggled, NextOn, NextFar};
+ghost use Rattle.bitmap.specs.Bitmap.{isOn, raised, NextOn};
 
 // Whether place i is on.
 pub fn is_on(t: &[u32], p: usize, i: usize) -> bool
@@ -21,15 +21,6 @@ pub fn raise(t: &mut [u32], p: usize, i: usize)
     t[k] = t[k] | (1u32 << (i % 32));
 }
 
-// Place i is on if it was off, and off if it was on.
-pub fn toggle(t: &mut [u32], p: usize, i: usize)
-    requires { ⌜ p + i / 32 < length (now t) ⌝ }
-    ensures { λ _. ⌜ now (t .exit) ≡ toggled (now (t .entry)) p i ⌝ }
-{
-    let k = p + i / 32;
-    t[k] = t[k] ^ (1u32 << (i % 32));
-}
-
 // The first place from i on in i's word that is on, or where the next word starts.
 pub fn next_on(t: &[u32], p: usize, i: usize) -> usize
     requires { ⌜ (p + i / 32 < length (now t)) × (i < 4294967296) ⌝ }
@@ -40,24 +31,4 @@ pub fn next_on(t: &[u32], p: usize, i: usize) -> usize
         return (i / 32 + 1) * 32;
     }
     i + (u32::trailing_zeros(w) as usize)
-}
-
-// The first place from i on in i's word that is on, or where the next word starts that is not 0, or where word `end` would start: words
-// without a place that is on are passed over as such.
-pub fn next_far(t: &[u32], p: usize, i: usize, end: usize) -> usize
-    requires { ⌜ (p + end ≤ length (now t)) × (i / 32 < end) × (end < 134217728) ⌝ }
-    ensures { λ r. ⌜ NextFar (now (t .entry)) p i end r ⌝ }
-{
-    let near = next_on(t, p, i);
-    if near / 32 == i / 32 {
-        return near;
-    }
-    let mut w = i / 32 + 1;
-    while w < end {
-        if t[p + w] != 0 {
-            return 32 * w;
-        }
-        w += 1;
-    }
-    32 * w
 }
