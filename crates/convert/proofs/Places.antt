@@ -20,7 +20,8 @@ use Rattle.theorems.proofs.Running.Accepted.{Accepted}
 use Rattle.theorems.proofs.Running.Converted.{gets-number}
 use Rattle.theorems.proofs.Running.Found.{AllG, all-map, found-own}
 use Rattle.theorems.proofs.Running.Numbering.{order-all}
-use Rattle.theorems.proofs.Running.Scan.{has-snoc, every-gate}
+use Rattle.theorems.proofs.Running.Scan.{every-gate}
+use Rattle.order.proofs.Places.{of-places}
 use Rattle.order.proofs.Spaces.{all-places}
 use Rattle.convert.proofs.Different.{numbered-distinct}
 
@@ -49,14 +50,7 @@ gate-found P (g ∷ gs) v d h a = go (eqb (varOf (g .lhs)) v) refl h (gate-found
 
 -- a number that stands at some place
 has-place : (at : ℕ → ℕ) (n v : ℕ) → has v (firsts at n) ≡ true → (i : ℕ) × (i < n) × (at i ≡ v)
-has-place at zero v h = absurd (false≢true h)
-has-place at (suc n) v h = go (eqb (at n) v) refl (has-place at n v)
-  where
-    go : (t : Bool) → eqb (at n) v ≡ t → (has v (firsts at n) ≡ true → (i : ℕ) × (i < n) × (at i ≡ v)) → (i : ℕ) × (i < suc n) × (at i ≡ v)
-    go true e f = (n, omega arith, eqb-true (at n) v e)
-    go false e f =
-        let r = f (sym (has-snoc v (at n) (firsts at n) e) ∙ h) in
-        (r .0, omega (arith, r .1), r .2)
+has-place at n v h = of-places (λ (u : ℕ). (i : ℕ) × (i < n) × (at i ≡ u)) at n v (λ i k. (i, k, refl)) h
 
 -- every gate's left variable is among them; variables of gates that are
 own-left : (gs : List Gate) → AllG (λ g. has (varOf (g .lhs)) (lefts gs) ≡ true) gs

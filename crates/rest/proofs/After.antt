@@ -57,12 +57,6 @@ module _ (file : List ℕ) (n : Counts) (p : Parse Circuit) where
       pub past-tail : after file n p ≡ unless (undefinedIn c) NotDefined (unless (cyclicIn c) Cyclic (got c next))
       past-tail = let t = tail-good (tailAt file n next) h in rw (e, t .2)
 
-      pub refused-undefined : (v : ℕ) → undefinedIn c ≡ some v → after file n p ≡ refused (NotDefined v)
-      refused-undefined v q = past-tail ∙ rw q
-
-      pub refused-cyclic : (v : ℕ) → undefinedIn c ≡ none → cyclicIn c ≡ some v → after file n p ≡ refused (Cyclic v)
-      refused-cyclic v q k = past-tail ∙ rw (q, k)
-
       pub accepted : undefinedIn c ≡ none → cyclicIn c ≡ none → after file n p ≡ got c next
       accepted q k = past-tail ∙ rw (q, k)
 

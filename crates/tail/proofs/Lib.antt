@@ -4,4 +4,3 @@ pub mod Lines
 pub mod Words
 pub mod Agree
 pub mod Turns
-pub mod Blanks

@@ -4,8 +4,8 @@ use mathlib.Core.List.{List, [], _∷_, _++_}
 use Prim.Native.Nat.{ℕ, zero, suc, _+_, _*_, _<_, _≤_}
 use native.Mathlib.Omega.{arith}
 use native.Mathlib.Numerals.{add-one}
-use lib.ListN.{length, getD, set, take, drop, length-set}
-use lib.Seq.{drop-set-lt, getD-set-same, getD-set-other, take-set-le}
+use lib.ListN.{length, getD, set, drop, length-set}
+use lib.Seq.{drop-set-lt, getD-set-same, getD-set-other}
 use Rattle.plan.specs.Literals.{varOf}
 use Rattle.plan.specs.Circuit.{Gate}
 use Rattle.theorems.proofs.Tables.{gateAt, gatesAt}
@@ -84,10 +84,6 @@ module _ (gates scratch : List ℕ) (w n x y slot : ℕ) (root : varOf x < w) (h
 
   pub slot-over : w ≤ slot
   slot-over = rw (hangs .at) (slot-high w (hangs .k) (symbol (paths w gates) (pathOf w x y) (hangs .k)))
-
-  -- the words before the roots stay
-  pub hung-front : take w (set scratch slot (n + 1)) ≡ take w scratch
-  hung-front = take-set-le w scratch slot (n + 1) slot-over
 
   module _ (l : ℕ) (tree : Tree gates scratch w n) (gates-long : 3 * n + 3 ≤ length gates) (scratch-long : 2 * w + 2 * n ≤ length scratch)
     where

@@ -49,10 +49,3 @@ cut-range d m v h = by-size (decLe v beyond)
     by-size : Dec (v ≤ beyond) → inRange d m (min v beyond) ≡ inRange d m v
     by-size (yes l) = let e : min v beyond ≡ v = omega arith in ap (inRange d m) e
     by-size (no l) = out d (min v beyond) (omega arith) ∙ sym (out d v (omega arith))
-
-pub cut-count : (v : ℕ) → leb (min v beyond) most ≡ leb v most
-cut-count v = by-size (decLe v most)
-  where
-    by-size : Dec (v ≤ most) → leb (min v beyond) most ≡ leb v most
-    by-size (yes l) = let e : min v beyond ≡ v = omega arith in ap (λ (x : ℕ). leb x most) e
-    by-size (no l) = lt-leb (min v beyond) most (omega arith) ∙ sym (lt-leb v most (omega arith))
