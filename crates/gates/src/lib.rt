@@ -10,7 +10,6 @@ ghost use Rattle.plan.specs.Difference.{difference};
 ghost use Rattle.plan.specs.Binary.{gate, gatesFrom, litsFrom, latchesFrom};
 ghost use Rattle.plan.specs.Outcome.{put};
 ghost use Rattle.gates.specs.Gates.{sideBy, gateBy, GatesSay};
-use codec::differences;
 use plan::Difference;
 use plan::Lit;
 use plan::Passed;

@@ -4,7 +4,7 @@ ghost use Rattle.plan.specs.Header.{header, wordsFor, listOf};
 ghost use Rattle.plan.specs.Outcome.{headedBy};
 ghost use Rattle.theorems.proofs.Reading.Headers.{AllMost};
 ghost use Rattle.header.specs.Parts.{formOf, magicEnd, magic, counted, ofCount, sums, wordsOf};
-use codec::classes::stands;
+use classes::stands;
 use lines::read_row;
 use plan::Counts;
 use plan::Headed;

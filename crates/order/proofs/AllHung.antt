@@ -6,7 +6,8 @@ use mathlib.Core.List.{List}
 use native.Mathlib.Omega.{arith}
 use borrow.Author.Tests.{lt-ltb, le-ltb, ltb-true, ltb-false}
 use lib.Dec.{ltb}
-use Rattle.order.specs.Waiting.{numberedV, readyAt, lhsOf, Agree, Space, hung, Waiting, before, every}
+use Rattle.marks.specs.Levels.{Agree}
+use Rattle.order.specs.Waiting.{numberedV, readyAt, lhsOf, Space, hung, Waiting, before, every}
 use Rattle.order.proofs.Watching.{numbered-agree}
 use Rattle.order.proofs.Hanging.{hung-all}
 

@@ -11,7 +11,8 @@ use Rattle.plan.specs.Literals.{varOf}
 use Rattle.bitmap.specs.Bitmap.{isOn}
 use Rattle.theorems.proofs.Tables.{gateAt}
 use Rattle.order.specs.Numbers.{NumTable, InRange}
-use Rattle.order.specs.Waiting.{shown, clean, numberedV, readyAt, lhsOf, counted, p0, Waiting, every, First, Given}
+use Rattle.marks.specs.Levels.{p0, First}
+use Rattle.order.specs.Waiting.{shown, clean, numberedV, readyAt, lhsOf, counted, Waiting, every, Given}
 use Rattle.order.proofs.Shown.{shown-low, clean-length, clean-set, clean-same, ready-clean, ready-left, given-here, given-other}
 use Rattle.order.proofs.Counting.{counted-more}
 use Rattle.order.proofs.Watching.{numbered-agree, only-j}

@@ -13,11 +13,12 @@ use Rattle.bitmap.specs.Bitmap.{isOn}
 use Rattle.bitmap.proofs.Telling.{told-same}
 use Rattle.theorems.proofs.Reading.Members.{has-self, has-later, has-cases}
 use Rattle.theorems.proofs.Running.Lists.{absent, distinct-cons}
-use Rattle.order.specs.Waiting.{numberedV, readyAt, lhsOf, watched, Chain, Line, p0, p1, p2, p3, Waiting, Agree, Space, marked, linked, hung}
+use Rattle.marks.specs.Levels.{p0, p1, p2, p3, Agree, marked}
+use Rattle.order.specs.Waiting.{numberedV, readyAt, lhsOf, watched, Chain, Line, Waiting, Space, linked, hung}
 use Rattle.order.proofs.Shown.{and-false}
 use Rattle.order.proofs.Spaces.{top-word}
-use Rattle.order.proofs.Levels.{level-same}
-use Rattle.order.proofs.Marking.{marked-low, marked-here, marked-others, marked-levels}
+use Rattle.marks.proofs.Levels.{level-same}
+use Rattle.marks.proofs.Marking.{marked-low, marked-here, marked-others, marked-levels}
 use Rattle.order.proofs.Watching.{watched-agree, numbered-agree, ready-agree, named-agree, watched-below, ready-watched}
 
 pub chain-kept : (t u : List ℕ) (b h : ℕ) (l : List ℕ) → ((i : ℕ) → has i l ≡ true → getD u (b + i) 0 ≡ getD t (b + i) 0) → Chain t b h l

@@ -1,8 +1,4 @@
 pub mod Shown
-pub mod Turning
-pub mod Levels
-pub mod Marking
-pub mod Finding
 pub mod Spaces
 pub mod Places
 pub mod Numbering

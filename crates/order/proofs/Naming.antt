@@ -17,7 +17,8 @@ use Rattle.theorems.proofs.Running.Found.{AllG, Sides, sides-in}
 use Rattle.theorems.proofs.Running.Lists.{has-rest, distinct-right, apart}
 use Rattle.theorems.proofs.Tables.{firsts, gateAt, gates-rows, gates-heads}
 use Rattle.order.specs.Numbers.{InRange}
-use Rattle.order.specs.Waiting.{shown, numberedV, readyAt, lhsOf, rhs0Of, rhs1Of, withNames, Named, Level, p0, p1, p2, p3, Waiting, before, Known, Fresh, Blank}
+use Rattle.marks.specs.Levels.{Level, p0, p1, p2, p3}
+use Rattle.order.specs.Waiting.{shown, numberedV, readyAt, lhsOf, rhs0Of, rhs1Of, withNames, Named, Waiting, before, Known, Fresh, Blank}
 use Rattle.order.proofs.Shown.{shown-high, numbered-by, numbered-take, unnumbered}
 use Rattle.order.proofs.Numbering.{numbered-has}
 use Rattle.order.proofs.Places.{has-first, of-places, one-place}

@@ -14,10 +14,11 @@ use Rattle.bitmap.proofs.Telling.{told-same}
 use Rattle.theorems.proofs.Reading.Common.{and-right}
 use Rattle.theorems.proofs.Running.Lists.{absent}
 use Rattle.theorems.proofs.Tables.{gateAt}
-use Rattle.order.specs.Waiting.{numberedV, readyAt, lhsOf, watched, Named, Chain, Line, p0, p1, p2, p3, Levels, Waiting, every, Agree, Space, TakenOff, Waking, Giving, Given}
+use Rattle.marks.specs.Levels.{p0, p1, p2, p3, Levels, Agree, TakenOff}
+use Rattle.order.specs.Waiting.{numberedV, readyAt, lhsOf, watched, Named, Chain, Line, Waiting, every, Space, Waking, Giving, Given}
 use Rattle.order.proofs.Shown.{and-false, ready-left, given-here, given-other, given-unnumbered}
 use Rattle.order.proofs.Spaces.{space-again}
-use Rattle.order.proofs.Levels.{level-same}
+use Rattle.marks.proofs.Levels.{level-same}
 use Rattle.order.proofs.Watching.{watched-agree, numbered-agree, named-agree, ready-watched, watched-given, only-j, named-given}
 use Rattle.order.proofs.Hanging.{chain-kept}
 

@@ -14,7 +14,8 @@ use Rattle.theorems.proofs.Running.Lists.{index-front}
 use Rattle.theorems.proofs.Running.Scan.{scanned}
 use Rattle.theorems.proofs.Tables.{gatesAt, gates-rows}
 use Rattle.order.specs.Numbers.{NumTable, InRange}
-use Rattle.order.specs.Waiting.{shown, clean, lhsOf, counted, Agree, Fresh}
+use Rattle.marks.specs.Levels.{Agree}
+use Rattle.order.specs.Waiting.{shown, clean, lhsOf, counted, Fresh}
 use Rattle.order.proofs.Shown.{shown-low, shown-high, clean-at, clean-length, numbered-by}
 use Rattle.order.proofs.Counting.{counted-same}
 use Rattle.order.proofs.Numbering.{Starts}

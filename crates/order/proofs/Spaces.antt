@@ -14,7 +14,8 @@ use Rattle.theorems.proofs.Reading.Common.{and-left, and-right}
 use Rattle.theorems.proofs.Running.Found.{AllG}
 use Rattle.theorems.proofs.Tables.{firsts, gateAt, gates-rows}
 use Rattle.order.specs.Numbers.{InTable}
-use Rattle.order.specs.Waiting.{Room, Space, wordsFor, p3}
+use Rattle.marks.specs.Levels.{p3}
+use Rattle.order.specs.Waiting.{Room, Space, wordsFor}
 
 -- what holds of each gate of a table holds at each place
 all-front : (P : Gate → Type 0) (gs hs : List Gate) → AllG P (gs ++ hs) → AllG P gs

@@ -12,7 +12,8 @@ use Rattle.plan.specs.Circuit.{has}
 use Rattle.theorems.proofs.Reading.Members.{has-self, has-later, distinct, pigeon}
 use Rattle.theorems.proofs.Running.Lists.{distinct-head, distinct-tail}
 use Rattle.theorems.proofs.Tables.{firsts, length-firsts}
-use Rattle.order.specs.Waiting.{numberedV, lhsOf, Chain, Agree, Space, hung, Waiting, every, Waking}
+use Rattle.marks.specs.Levels.{Agree}
+use Rattle.order.specs.Waiting.{numberedV, lhsOf, Chain, Space, hung, Waiting, every, Waking}
 use Rattle.order.proofs.Places.{has-first}
 use Rattle.order.proofs.Watching.{numbered-agree}
 use Rattle.order.proofs.Hanging.{chain-kept, hung-all}

@@ -10,7 +10,8 @@ use lib.Dec.{ltb}
 use lib.ListN.{length, getD, set}
 use lib.Seq.{getD-set-same, getD-set-other}
 use Rattle.order.specs.Numbers.{InRange}
-use Rattle.order.specs.Waiting.{shown, numberedV, readyV, readyAt, lhsOf, rhs0Of, rhs1Of, watched, Named, Agree}
+use Rattle.marks.specs.Levels.{Agree}
+use Rattle.order.specs.Waiting.{shown, numberedV, readyV, readyAt, lhsOf, rhs0Of, rhs1Of, watched, Named}
 use Rattle.order.proofs.Shown.{numbered-by, given-other, given-unnumbered}
 
 pub watched-low : (gates t : List ℕ) (i : ℕ) → getD t (rhs0Of gates i) 0 < 2147483648 → watched gates t i ≡ getD t (rhs1Of gates i) 0

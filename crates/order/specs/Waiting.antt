@@ -13,7 +13,8 @@ use Rattle.theorems.proofs.Reading.Members.{distinct}
 use Rattle.theorems.proofs.Running.Found.{AllG}
 use Rattle.theorems.proofs.Running.Lists.{allIn}
 use Rattle.theorems.proofs.Tables.{gateAt}
-use Rattle.bitmap.specs.Bitmap.{isOn, raised}
+use Rattle.bitmap.specs.Bitmap.{isOn}
+use Rattle.marks.specs.Levels.{p0, Levels, Agree, marked}
 use Rattle.order.specs.Numbers.{NumTable, InTable, InRange}
 
 -- the number in a word
@@ -84,32 +85,9 @@ pub record Line (gates t : List ℕ) (n a : ℕ) (done : ℕ → Bool) (g : ℕ)
 abbrev pub Lines : List ℕ → List ℕ → ℕ → ℕ → (ℕ → Bool) → Type 0
 Lines gates t n a done = (g : ℕ) → g < a → numberedV t (lhsOf gates g) ≡ false → Line gates t n a done g
 
--- where the marks start of gates, of words of those that are not 0, of words of these, and of words of these
-abbrev pub p0 : ℕ → ℕ → ℕ
-p0 n a = n + 2 * a
-
-abbrev pub p1 : ℕ → ℕ → ℕ
-p1 n a = n + 2 * a + (a / 32 + 1)
-
-abbrev pub p2 : ℕ → ℕ → ℕ
-p2 n a = n + 2 * a + (a / 32 + 1) + (a / 1024 + 1)
-
-abbrev pub p3 : ℕ → ℕ → ℕ
-p3 n a = n + 2 * a + (a / 32 + 1) + (a / 1024 + 1) + (a / 32768 + 1)
-
 -- the words of the whole table: the last is one word, and none where there is no gate
 abbrev pub wordsFor : ℕ → ℕ → ℕ
 wordsFor n a = n + 2 * a + (a / 32 + 1) + (a / 1024 + 1) + (a / 32768 + 1) + (a + 1048575) / 1048576
-
--- of the words at p, up to the one numbered m, those that are not 0 are on at q, and nothing else there
-pub record Level (t : List ℕ) (p q m : ℕ) : Type 0 where
-  pub same : (w : ℕ) → w ≤ m → isOn t q w ≡ ltb 0 (getD t (p + w) 0)
-  pub past : (w : ℕ) → m < w → w / 32 ≤ m / 32 → isOn t q w ≡ false
-
-pub record Levels (t : List ℕ) (n a : ℕ) : Type 0 where
-  pub one : Level t (p0 n a) (p1 n a) (a / 32)
-  pub two : Level t (p1 n a) (p2 n a) (a / 1024)
-  pub three : Level t (p2 n a) (p3 n a) (a / 32768)
 
 -- of the gates that are done those that are ready are marked, and nothing else is
 pub record Marks (gates t : List ℕ) (n a : ℕ) (done : ℕ → Bool) : Type 0 where
@@ -128,10 +106,6 @@ before k i = ltb i k
 
 abbrev pub every : ℕ → Bool
 every i = true
-
--- the two tables agree below b
-abbrev pub Agree : ℕ → List ℕ → List ℕ → Type 0
-Agree b t u = (p : ℕ) → p < b → getD u p 0 ≡ getD t p 0
 
 -- the gates and the table are long enough, and the gates' variables are below n: of the list of gates, and by their places
 pub record Room (gates t : List ℕ) (n a : ℕ) : Type 0 where
@@ -161,33 +135,12 @@ Fresh t n = (v : ℕ) → v < n → getD t v 0 < 2147483648
 abbrev pub Blank : List ℕ → ℕ → Type 0
 Blank t n = (p : ℕ) → n ≤ p → getD t p 0 ≡ 0
 
--- what `mark` does, and `hang`: gate i is marked, or it is the first in the chain of gate g
-unfoldable pub marked : List ℕ → ℕ → ℕ → ℕ → List ℕ
-marked t n a i = raised (raised (raised (raised t (p0 n a) i) (p1 n a) (i / 32)) (p2 n a) (i / 1024)) (p3 n a) (i / 32768)
-
+-- what `hang` does: gate i is marked, or it is the first in the chain of gate g
 unfoldable pub linked : List ℕ → ℕ → ℕ → ℕ → ℕ → List ℕ
 linked t n a i g = set (set t (n + a + i) (getD t (n + g) 0)) (n + g) (i + 1)
 
 unfoldable pub hung : List ℕ → List ℕ → ℕ → ℕ → ℕ → List ℕ
 hung gates t n a i = cond (ltb (watched gates t i) 2147483648) (marked t n a i) (linked t n a i (watched gates t i - 2147483648))
-
--- what `lower` does: place i is turned over if e is 1; r is 1 if that leaves its word 0
-pub record Lowered (t u : List ℕ) (p i e r : ℕ) : Type 0 where
-  pub off : (k : ℕ) → (k ≡ p + i / 32 → ⊥) → getD u k 0 ≡ getD t k 0
-  pub others : (c : ℕ) → (c ≡ i → ⊥) → isOn u p c ≡ isOn t p c
-  pub still : e ≡ 0 → (getD u (p + i / 32) 0 ≡ getD t (p + i / 32) 0) × (r ≡ 0)
-  pub turned : e ≡ 1 → (isOn u p i ≡ not (isOn t p i)) × (r ≡ cond (eqb (getD u (p + i / 32) 0) 0) 1 0)
-
--- what `unmark` does, and what `first` finds
-pub record TakenOff (t u : List ℕ) (n a j : ℕ) : Type 0 where
-  pub low : Agree (p0 n a) t u
-  pub others : (c : ℕ) → (c ≡ j → ⊥) → c / 32 ≤ a / 32 → isOn u (p0 n a) c ≡ isOn t (p0 n a) c
-  pub gone : isOn u (p0 n a) j ≡ false
-  pub levels : Levels u n a
-
-pub record First (t : List ℕ) (n a r : ℕ) : Type 0 where
-  pub dark : (c : ℕ) → c < r → c < a → isOn t (p0 n a) c ≡ false
-  pub there : r < a → isOn t (p0 n a) r ≡ true
 
 -- what `wake` asks: the gates of the chain that starts at h are the only ones that are not done, and have no number
 pub record Waking (gates t : List ℕ) (n a h : ℕ) : Type 0 where

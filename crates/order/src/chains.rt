@@ -4,8 +4,8 @@ ghost use mathlib.Core.Path.{_≡_};
 ghost use mathlib.Core.Bool.{false};
 ghost use Prim.Native.Nat.{ℕ, _+_, _<_};
 ghost use lib.ListN.{length};
-ghost use Rattle.order.specs.Waiting.{Space, Agree, numberedV, lhsOf, watched, hung, Waiting, before, every};
-use crate::marks;
+ghost use Rattle.marks.specs.Levels.{Agree};
+ghost use Rattle.order.specs.Waiting.{Space, numberedV, lhsOf, watched, hung, Waiting, before, every};
 use crate::words;
 
 // Gate i goes first in the chain of the gate that it waits for; it is marked if it waits for none.

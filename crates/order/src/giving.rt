@@ -7,9 +7,9 @@ ghost use Rattle.plan.specs.Circuit.{lefts};
 ghost use Rattle.theorems.proofs.Tables.{gatesAt};
 ghost use Rattle.theorems.proofs.Running.Scan.{scanned};
 ghost use Rattle.order.specs.Numbers.{NumTable};
-ghost use Rattle.order.specs.Waiting.{Space, clean, counted, Agree, Waiting, every, Waking, Giving, Given};
+ghost use Rattle.marks.specs.Levels.{Agree};
+ghost use Rattle.order.specs.Waiting.{Space, clean, counted, Waiting, every, Waking, Giving, Given};
 use crate::chains;
-use crate::marks;
 use crate::words;
 
 // The gates of the chain that starts at h wait no more for its gate: each is hung again, or marked.

@@ -25,7 +25,6 @@ use plan::Refusal;
 
 mod chains;
 mod giving;
-mod marks;
 mod words;
 
 // Numbers from `first` on for the gates, in the first n words of t, which hold the numbers of the leaves; the rest of t is left as

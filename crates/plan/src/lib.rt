@@ -3,7 +3,6 @@
 ghost use mathlib.Core.Path.{_≡_};
 ghost use Prim.Native.Nat.{_-_, max, min};
 ghost use lib.Dec.{ltb};
-ghost use Rattle.plan.specs.Refusals.{numberOf, placeOf};
 ghost use Rattle.plan.specs.Literals.{litAt, wordOf, halved, signOf, negated, signedAs, inRange, varAt, indexOf, doubled};
 
 // A variable's index. Neither it nor a literal stands for the other: a doubling and a halving lead across.
@@ -182,53 +181,6 @@ pub enum Refusal {
     LongInput(usize),
     Unreadable(usize),
     NotInOrder(usize),
-}
-
-impl Refusal {
-    // The paper's number of the refusal.
-    pub fn told_number(self) -> u64
-        ensures { λ r. ⌜ r ≡ numberOf self ⌝ }
-    {
-        match self {
-            Refusal::WrongByte(_) => 1,
-            Refusal::LargeCount(_) => 2,
-            Refusal::WrongSum(_) => 3,
-            Refusal::ShortTable(_) => 4,
-            Refusal::OutOfRange(_) => 5,
-            Refusal::DefinedTwice(_) => 6,
-            Refusal::NotDefined(_) => 7,
-            Refusal::Cyclic(_) => 8,
-            Refusal::BadDifference(_) => 9,
-            Refusal::BadSymbol(_) => 10,
-            Refusal::ShortBuffer(_) => 11,
-            Refusal::BadVector(_) => 12,
-            Refusal::LongInput(_) => 13,
-            Refusal::Unreadable(_) => 14,
-            Refusal::NotInOrder(_) => 15,
-        }
-    }
-
-    pub fn told_place(self) -> usize
-        ensures { λ r. ⌜ r ≡ placeOf self ⌝ }
-    {
-        match self {
-            Refusal::WrongByte(place) => place,
-            Refusal::LargeCount(place) => place,
-            Refusal::WrongSum(place) => place,
-            Refusal::ShortTable(place) => place,
-            Refusal::OutOfRange(place) => place,
-            Refusal::DefinedTwice(place) => place,
-            Refusal::NotDefined(place) => place,
-            Refusal::Cyclic(place) => place,
-            Refusal::BadDifference(place) => place,
-            Refusal::BadSymbol(place) => place,
-            Refusal::ShortBuffer(place) => place,
-            Refusal::BadVector(place) => place,
-            Refusal::LongInput(place) => place,
-            Refusal::Unreadable(place) => place,
-            Refusal::NotInOrder(place) => place,
-        }
-    }
 }
 
 // A number at a position of a file.

@@ -13,7 +13,7 @@ use Rattle.plan.specs.Difference.{groupsOf}
 use Rattle.plan.specs.Outcome.{put}
 use Rattle.theorems.proofs.Put.{put-one, put-put, put-over, put-length}
 use Rattle.theorems.proofs.Reading.Differences.{groups-small, groups-step}
-use Rattle.codec.proofs.differences.Bits.{low7, high7}
+use Rattle.differences.proofs.Bits.{low7, high7}
 use Rattle.print.specs.Words.{Begun, sidesBytes}
 
 -- up to two bytes too many

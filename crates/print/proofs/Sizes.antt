@@ -10,7 +10,7 @@ use lib.ListN.{length}
 use Rattle.plan.specs.Bytes.{digits}
 use Rattle.plan.specs.Difference.{groupsOf}
 use Rattle.theorems.proofs.Reading.Differences.{groups-small, groups-step}
-use Rattle.codec.proofs.numbers.Length.{digits-most}
+use Rattle.numbers.proofs.Length.{digits-most}
 
 pub digits-ten : (n : ℕ) → n < 2 ^ 32 → length (digits n) ≤ 10
 digits-ten n h = digits-most 9 n (omega arith)

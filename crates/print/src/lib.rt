@@ -10,8 +10,6 @@ ghost use Rattle.plan.specs.Binary.{gateBytes};
 ghost use Rattle.plan.specs.Difference.{groupsOf};
 ghost use Rattle.plan.specs.Outcome.{put};
 ghost use Rattle.print.specs.Words.{Begun, following, wordBytes, sidesBytes};
-use codec::differences;
-use codec::numbers;
 use plan::Lit;
 
 // What stands after a number: a space if more follow in its line, the new line after the last.

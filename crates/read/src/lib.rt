@@ -15,6 +15,8 @@ use plan::Headed;
 use plan::Loaded;
 use plan::Passed;
 use plan::Refusal;
+use refusals::told_number;
+use refusals::told_place;
 use rest::rest_of_binary;
 use rest::rest_of_text;
 use tables::clear;
@@ -139,7 +141,7 @@ pub fn read<'a>(
             &file[start..]
         }
         Loaded::Refused(r) => {
-            tell(answer, r.told_number(), r.told_place() as u64, no_counts());
+            tell(answer, told_number(r), told_place(r) as u64, no_counts());
             let end = file.len();
             &file[end..]
         }

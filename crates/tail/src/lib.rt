@@ -8,9 +8,9 @@ ghost use Rattle.plan.specs.Tail.{isKind, countOf, comment as commentAt, tailAt
 ghost use Rattle.plan.specs.Given.{refusalOf};
 ghost use Rattle.plan.specs.Outcome.{cutNumber, passedBy, checkedBy};
 ghost use Rattle.tail.specs.Marks.{symbolLine, entryOf, firstWord, markedSymbol, marksAfter, Holds, Blank};
-use codec::classes::class_of;
-use codec::classes::stands;
-use codec::numbers::read_number;
+use classes::class_of;
+use classes::stands;
+use numbers::read_number;
 use plan::Checked;
 use plan::Class;
 use plan::Counts;

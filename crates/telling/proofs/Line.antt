@@ -13,7 +13,7 @@ use Rattle.plan.specs.Outcome.{WriteExit, put}
 use Rattle.plan.specs.Programs.{bytesOf, refusalLine}
 use Rattle.plan.specs.Whole.{tellRefusal}
 use Rattle.theorems.proofs.Put.{put-none, put-length, put-put, put-one, with-room, without-room}
-use Rattle.codec.proofs.numbers.Length.{digits-twenty}
+use Rattle.numbers.proofs.Length.{digits-twenty}
 
 -- w stands at the start of the buffer, and k is the position after it
 pub record Told (out w o : List ℕ) (k : ℕ) : Type 0 where

@@ -1,17 +1,18 @@
 // The line of a refusal, which is all that a program writes then (the paper, programs).
 ghost use mathlib.Core.Path.{_≡_};
 ghost use Rattle.plan.specs.Whole.{tellRefusal};
-use codec::numbers;
 use forms::append;
 use plan::Refusal;
 use plan::Written;
+use refusals::told_number;
+use refusals::told_place;
 
 // The line "refused N at P", or 11 and nothing.
 pub fn tell_refusal(r: Refusal, out: &mut [u8]) -> Written
     ensures { λ answer. ⌜ record { answer = answer; out = now (out .exit) } ≡ tellRefusal r (now (out .entry)) ⌝ }
 {
-    let number = r.told_number() as usize;
-    let place = r.told_place();
+    let number = told_number(r) as usize;
+    let place = told_place(r);
     let line = 13 + numbers::digits_in(number) + numbers::digits_in(place);
     if out.len() < line {
         return Written::Refused(Refusal::ShortBuffer(line));

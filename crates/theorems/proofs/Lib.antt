@@ -3,6 +3,7 @@ pub mod Marks
 pub mod Once
 pub mod Paper
 pub mod Put
+pub mod Asked
 pub mod Ranges
 pub mod Reading
 pub mod Running

@@ -9,6 +9,8 @@ use plan::Made;
 use plan::Stepped;
 use plan::Verdict;
 use plan::Written;
+use refusals::told_number;
+use refusals::told_place;
 
 // M, I, L, O, A.
 pub fn counts(words: &[u64; 5]) -> Counts
@@ -31,7 +33,7 @@ pub fn checked(r: Checked, answer: &mut [u64; 2])
             *answer = [0, 0];
         }
         Checked::Refused(r) => {
-            *answer = [r.told_number(), r.told_place() as u64];
+            *answer = [told_number(r), told_place(r) as u64];
         }
     }
 }
@@ -45,7 +47,7 @@ pub fn written(r: Written, answer: &mut [u64; 3])
             *answer = [0, 0, n as u64];
         }
         Written::Refused(r) => {
-            *answer = [r.told_number(), r.told_place() as u64, 0];
+            *answer = [told_number(r), told_place(r) as u64, 0];
         }
     }
 }
@@ -87,7 +89,7 @@ pub fn made(r: Made, answer: &mut [u64; 7])
             tell(answer, 0, 0, n);
         }
         Made::Refused(r) => {
-            tell(answer, r.told_number(), r.told_place() as u64, no_counts());
+            tell(answer, told_number(r), told_place(r) as u64, no_counts());
         }
     }
 }
@@ -100,7 +102,7 @@ pub fn stepped(r: Stepped, answer: &mut [u64; 2])
             *answer = [0, 0];
         }
         Stepped::Refused(r) => {
-            *answer = [r.told_number(), r.told_place() as u64];
+            *answer = [told_number(r), told_place(r) as u64];
         }
     }
 }
@@ -117,7 +119,7 @@ pub fn verdict(r: Verdict, answer: &mut [u64; 3])
             *answer = [0, 0, 0];
         }
         Verdict::Refused(r) => {
-            *answer = [r.told_number(), r.told_place() as u64, 0];
+            *answer = [told_number(r), told_place(r) as u64, 0];
         }
     }
 }

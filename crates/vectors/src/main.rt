@@ -2,7 +2,6 @@
 // is asked, the example's file, and the file of its vectors where it is to be stepped.
 ghost use Prim.Native.Nat.{_≤_};
 ghost use lib.ListN.{length};
-use codec::differences;
 use libc::STDOUT_FILENO;
 use plan::Counts;
 use plan::Difference;

@@ -10,7 +10,6 @@ ghost use Rattle.plan.specs.Outcome.{Says, putBytes, checkedBy, writeText, writ
 ghost use Rattle.tables.specs.Held.{Fits};
 ghost use Rattle.forms.specs.Forms.{textBytes, binaryBytes, Printable};
 ghost use Rattle.write.specs.Judged.{givenIn, tableStages, writerStages};
-use codec::room;
 use forms::append;
 use forms::binary_length;
 use forms::fill_binary;

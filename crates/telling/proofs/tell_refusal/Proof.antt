@@ -6,7 +6,7 @@ use borrow.Author.Needs.{needs}
 use lib.ListN.{length}
 use Rattle.plan.specs.Bytes.{digits}
 use Rattle.plan.specs.Programs.{bytesOf}
-use Rattle.codec.proofs.numbers.Length.{digits-twenty}
+use Rattle.numbers.proofs.Length.{digits-twenty}
 use Rattle.telling.proofs.Line.{Told, nothing-told, more-told, byte-told, no-room, all-told}
 use Rattle.telling.proofs.tell_refusal.Statement.{statement}
 use Rattle.telling.proofs.tell_refusal.Tie as tie

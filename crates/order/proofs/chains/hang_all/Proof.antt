@@ -3,7 +3,8 @@ use Prim.Native.Nat.{_≤_, _-_}
 use mathlib.Core.Path.{_≡_, refl, _∙_}
 use native.Mathlib.Omega.{arith}
 use lib.ListN.{length}
-use Rattle.order.specs.Waiting.{Waiting, before, Agree}
+use Rattle.marks.specs.Levels.{Agree}
+use Rattle.order.specs.Waiting.{Waiting, before}
 use Rattle.order.proofs.Spaces.{space-again}
 use Rattle.order.proofs.Watching.{watched-below}
 use Rattle.order.proofs.AllHung.{hang-more, hang-end}

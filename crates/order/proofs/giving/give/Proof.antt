@@ -6,7 +6,8 @@ use native.Mathlib.Omega.{arith}
 use borrow.Author.Needs.{needs}
 use lib.ListN.{length, set, length-set}
 use Rattle.bitmap.specs.Bitmap.{isOn}
-use Rattle.order.specs.Waiting.{lhsOf, p0, Levels, TakenOff}
+use Rattle.marks.specs.Levels.{p0, Levels, TakenOff}
+use Rattle.order.specs.Waiting.{lhsOf}
 use Rattle.order.proofs.Spaces.{top-word}
 use Rattle.order.proofs.NewNumber.{give-fits, give-levels, give-on, give-space, give-waking, give-done}
 use Rattle.order.proofs.giving.give.Statement.{statement}

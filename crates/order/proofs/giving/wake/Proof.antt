@@ -4,7 +4,8 @@ use mathlib.Core.Path.{_≡_, refl, _∙_}
 use native.Mathlib.Omega.{arith}
 use borrow.Author.Needs.{needs}
 use lib.ListN.{length}
-use Rattle.order.specs.Waiting.{Space, Waking, Agree}
+use Rattle.marks.specs.Levels.{Agree}
+use Rattle.order.specs.Waiting.{Space, Waking}
 use Rattle.order.proofs.Spaces.{space-again}
 use Rattle.order.proofs.Watching.{watched-below}
 use Rattle.order.proofs.Walking.{steps, Woken, wake-step, wake-low, wake-more, wake-less, wake-end}

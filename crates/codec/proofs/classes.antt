@@ -1,2 +1,0 @@
--- What the proofs of module classes use.
-pub mod ByClass

@@ -1,2 +1,0 @@
--- What the proofs of every writer use.
-pub mod Asked

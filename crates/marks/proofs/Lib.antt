@@ -1,0 +1,4 @@
+pub mod Turning
+pub mod Levels
+pub mod Marking
+pub mod Finding

@@ -1,0 +1,4 @@
+pub mod Scan
+pub mod Length
+pub mod Count
+pub mod Filling
