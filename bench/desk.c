@@ -10,7 +10,7 @@
 
 #include "work.h"
 
-enum { PASSES = 2, ROUNDS = 7, LEAST = 2, SIZES = 3, BASES = 3, MOST = 6, ROOM = 100 };
+enum { PASSES = 2, ROUNDS = 7, LEAST = 2, SIZES = 3, BASES = 3, MOST = 6, ROOM = 100, TURNS = 8 };
 
 /* After so many seconds no further round starts, but LEAST are had always. */
 static const double enough = 0.7;
@@ -35,12 +35,18 @@ struct task {
 
 typedef uint32_t *ordering(uint32_t);
 
-/* A kind of circuits: a shape, and an order of its gates with or without other names for them. */
+/* A kind of circuits: a shape, and an order of its gates with or without other names for them. Where `by_turns`, each
+   call is given another circuit than the one before it, so that the processor can't know its branches by heart. */
 struct kind {
     const char *name, *of;
     struct circuit (*make)(uint32_t gates);
     ordering *order, *names;
+    int by_turns;
 };
+
+/* The circuits of a kind that come by turns, the first of which its work is made for. */
+static struct circuit turns[TURNS];
+static int turn_count;
 
 /* What was measured of a task on one circuit, in nanoseconds per gate, 0 where there is nothing; the desk's time and
    its ratio to the first baseline also in each pass. */
@@ -63,8 +69,10 @@ static double now(void) {
 
 static double seconds(call *run, struct work *w, int times) {
     double from = now();
-    for (int k = 0; k < times; k++)
+    for (int k = 0; k < times; k++) {
+        w->given = turns[k % turn_count];
         run(w);
+    }
     return (now() - from) / times;
 }
 
@@ -140,6 +148,7 @@ static int converted_same(struct work *w) {
 }
 
 static int reduced_same(struct work *w) {
+    base_strash(w);
     desk_reduce(w);
     return w->answer[6] == w->base.retained && same_circuit(&w->made, &w->base_made, w->answer[6]);
 }
@@ -218,48 +227,65 @@ static const struct {
     struct kind kind;
     int tasks[TASKS + 1];
 } plan[] = {
-    {{"random", "", random_one, in_order, in_order},
+    {{"random", "", random_one, in_order, in_order, 0},
      {READ_BINARY, WRITE_BINARY, WRITE_TEXT, REDUCE, STEP, WITNESS, TASKS}},
-    {{"in order", "", random_one, in_order, in_order}, {READ_TEXT, CONVERT, TASKS}},
-    {{"reversed", "", random_one, reversed, in_order}, {READ_TEXT, CONVERT, TASKS}},
-    {{"shuffled", "", random_one, shuffled, in_order}, {READ_TEXT, CONVERT, TASKS}},
-    {{"shuffled, renamed", "", random_one, shuffled, shuffled}, {READ_TEXT, CONVERT, TASKS}},
-    {{"hostile: braid", "", braid_circuit, two_halves, shuffled}, {READ_TEXT, CONVERT, TASKS}},
-    {{"duplicates", "", duplicates, in_order, in_order}, {REDUCE, TASKS}},
-    {{"one larger side", "", colliding_circuit, in_order, in_order}, {REDUCE, TASKS}},
+    {{"in order", "", random_one, in_order, in_order, 0}, {READ_TEXT, CONVERT, TASKS}},
+    {{"reversed", "", random_one, reversed, in_order, 0}, {READ_TEXT, CONVERT, TASKS}},
+    {{"shuffled", "", random_one, shuffled, in_order, 0}, {READ_TEXT, CONVERT, TASKS}},
+    {{"shuffled, renamed", "", random_one, shuffled, shuffled, 0}, {READ_TEXT, CONVERT, TASKS}},
+    {{"hostile: braid", "", braid_circuit, two_halves, shuffled, 0}, {READ_TEXT, CONVERT, TASKS}},
+    {{"random, by turns", "", random_one, in_order, in_order, 1}, {REDUCE, TASKS}},
+    {{"duplicates", "", duplicates, in_order, in_order, 0}, {REDUCE, TASKS}},
+    {{"duplicates, by turns", "", duplicates, in_order, in_order, 1}, {REDUCE, TASKS}},
+    {{"one larger side", "", colliding_circuit, in_order, in_order, 0}, {REDUCE, TASKS}},
+    {{"one larger side, by turns", "", colliding_circuit, in_order, in_order, 1}, {REDUCE, TASKS}},
 };
 
 /* Orders of a million gates, compared with the binary order before them. Where one gate is ready at a time, two more
    are slow. */
 static const struct kind orders[] = {
-    {"binary order", "random", random_one, in_order, in_order},
-    {"reversed", "random", random_one, reversed, reversed},
-    {"shuffled", "random", random_one, shuffled, shuffled},
-    {"binary order", "star", star_circuit, in_order, in_order},
-    {"reversed", "star", star_circuit, reversed, reversed},
-    {"shuffled", "star", star_circuit, shuffled, shuffled},
-    {"binary order", "chain", chain_circuit, in_order, in_order},
-    {"reversed", "chain", chain_circuit, reversed, reversed},
-    {"shuffled", "chain", chain_circuit, shuffled, shuffled},
-    {"from both ends", "chain", chain_circuit, from_both_ends, reversed},
-    {"two halves by turns", "chain", chain_circuit, two_halves, shuffled},
-    {"binary order", "braid", braid_circuit, in_order, in_order},
-    {"reversed", "braid", braid_circuit, reversed, reversed},
-    {"shuffled", "braid", braid_circuit, shuffled, shuffled},
-    {"from both ends", "braid", braid_circuit, from_both_ends, reversed},
-    {"two halves by turns", "braid", braid_circuit, two_halves, shuffled},
+    {"binary order", "random", random_one, in_order, in_order, 0},
+    {"reversed", "random", random_one, reversed, reversed, 0},
+    {"shuffled", "random", random_one, shuffled, shuffled, 0},
+    {"binary order", "star", star_circuit, in_order, in_order, 0},
+    {"reversed", "star", star_circuit, reversed, reversed, 0},
+    {"shuffled", "star", star_circuit, shuffled, shuffled, 0},
+    {"binary order", "chain", chain_circuit, in_order, in_order, 0},
+    {"reversed", "chain", chain_circuit, reversed, reversed, 0},
+    {"shuffled", "chain", chain_circuit, shuffled, shuffled, 0},
+    {"from both ends", "chain", chain_circuit, from_both_ends, reversed, 0},
+    {"two halves by turns", "chain", chain_circuit, two_halves, shuffled, 0},
+    {"binary order", "braid", braid_circuit, in_order, in_order, 0},
+    {"reversed", "braid", braid_circuit, reversed, reversed, 0},
+    {"shuffled", "braid", braid_circuit, shuffled, shuffled, 0},
+    {"from both ends", "braid", braid_circuit, from_both_ends, reversed, 0},
+    {"two halves by turns", "braid", braid_circuit, two_halves, shuffled, 0},
 };
 
 static const size_t plans = sizeof plan / sizeof plan[0], order_count = sizeof orders / sizeof orders[0];
 
-static struct work work_of(const struct kind *kind, uint32_t gates) {
+static struct circuit made_of(const struct kind *kind, uint32_t gates) {
     struct circuit c = kind->make(gates);
     uint32_t *order = kind->order(gates), *names = kind->names(gates);
-    struct work w = work_on(arranged(&c, order, names));
+    struct circuit put = arranged(&c, order, names);
     free_circuit(&c);
     free(order);
     free(names);
-    return w;
+    return put;
+}
+
+static struct work work_of(const struct kind *kind, uint32_t gates) {
+    turn_count = kind->by_turns ? TURNS : 1;
+    for (int k = 0; k < turn_count; k++)
+        turns[k] = made_of(kind, gates);
+    return work_on(turns[0]);
+}
+
+static void end_work(struct work *w) {
+    w->given = turns[0];
+    free_work(w);
+    for (int k = 1; k < turn_count; k++)
+        free_circuit(&turns[k]);
 }
 
 static void time_all(int pass) {
@@ -268,13 +294,13 @@ static void time_all(int pass) {
             struct work w = work_of(&plan[p].kind, sizes[size]);
             for (const int *t = plan[p].tasks; *t != TASKS; t++)
                 run(&tasks[*t], &plan[p].kind, &w, pass);
-            free_work(&w);
+            end_work(&w);
         }
     for (size_t k = 0; k < order_count; k++) {
         struct work w = work_of(&orders[k], sizes[SIZES - 1]);
         run(&tasks[ORDER], &orders[k], &w, pass);
         run(&tasks[FILES], &orders[k], &w, pass);
-        free_work(&w);
+        end_work(&w);
     }
 }
 
