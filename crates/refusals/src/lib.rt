@@ -26,7 +26,7 @@ pub fn told_number(refusal: Refusal) -> u64
     }
 }
 
-// Its place: an offset, a table, a variable, or 0.
+// Its place, as the paper gives one for each number.
 pub fn told_place(refusal: Refusal) -> usize
     ensures { λ r. ⌜ r ≡ placeOf refusal ⌝ }
 {
