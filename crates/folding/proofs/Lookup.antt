@@ -6,10 +6,9 @@ use native.Mathlib.Omega.{arith}
 use Rattle.plan.specs.declared.Lit.{Lit}
 use Rattle.plan.specs.Literals.{litAt, wordOf, varOf}
 use Rattle.plan.specs.Reduce.{twin, standIn}
-use Rattle.theorems.proofs.Tables.{gatesAt}
 use Rattle.twins.specs.declared.Place.{Place}
 use Rattle.twins.specs.declared.Place.the-variants.{Taken, Free}
-use Rattle.twins.specs.Pairs.{Rooted, Sought}
+use Rattle.twins.specs.Pairs.{named, Rooted, Sought}
 use Rattle.folding.specs.declared.Rule.{Rule}
 use Rattle.folding.specs.declared.Rule.the-variants.{Gives, Open}
 use Rattle.folding.specs.Rules.{orTwin, Ruled, StandsIn}
@@ -20,19 +19,19 @@ rooted-sorted {w} {a} {b} {x} {y} r p q = record {
   smaller = omega (arith, ap (λ (l : Lit). varOf (wordOf l)) q, r .larger, r .smaller);
 }
 
-module _ (gates scratch : List ℕ) (w n a b : ℕ) (rule : Rule) (ruled : Ruled a b rule) where
-  pub by-rule : (l : ℕ) → rule ≡ Gives l → StandsIn gates scratch w n a b (Taken l)
-  by-rule l e = ruled (gatesAt gates n) ∙ ap (λ (r : Rule). orTwin r (twin (max a b) (min a b) (gatesAt gates n))) e
+module _ (gates scratch : List ℕ) (base w n a b : ℕ) (rule : Rule) (ruled : Ruled a b rule) where
+  pub by-rule : (l : ℕ) → rule ≡ Gives l → StandsIn gates scratch base w n a b (Taken l)
+  by-rule l e = ruled (named base gates n) ∙ ap (λ (r : Rule). orTwin r (twin (max a b) (min a b) (named base gates n))) e
 
   module _ (x y : Lit) (e : rule ≡ Open) (p : x ≡ litAt (max a b)) (q : y ≡ litAt (min a b)) where
-    pub by-twin : (place : Place) → Sought gates scratch w n (wordOf x) (wordOf y) place → StandsIn gates scratch w n a b place
+    pub by-twin : (place : Place) → Sought gates scratch base w n (wordOf x) (wordOf y) place → StandsIn gates scratch base w n a b place
     by-twin place found =
-        sorted place (subst (λ (l : Lit). Sought gates scratch w n (max a b) (wordOf l) place) q
-        (subst (λ (l : Lit). Sought gates scratch w n (wordOf l) (wordOf y) place) p found))
+        sorted place (subst (λ (l : Lit). Sought gates scratch base w n (max a b) (wordOf l) place) q
+        (subst (λ (l : Lit). Sought gates scratch base w n (wordOf l) (wordOf y) place) p found))
       where
-        at-twin : standIn a b (gatesAt gates n) ≡ twin (max a b) (min a b) (gatesAt gates n)
-        at-twin = ruled (gatesAt gates n) ∙ ap (λ (r : Rule). orTwin r (twin (max a b) (min a b) (gatesAt gates n))) e
+        at-twin : standIn a b (named base gates n) ≡ twin (max a b) (min a b) (named base gates n)
+        at-twin = ruled (named base gates n) ∙ ap (λ (r : Rule). orTwin r (twin (max a b) (min a b) (named base gates n))) e
 
-        sorted : (place : Place) → Sought gates scratch w n (max a b) (min a b) place → StandsIn gates scratch w n a b place
+        sorted : (place : Place) → Sought gates scratch base w n (max a b) (min a b) place → StandsIn gates scratch base w n a b place
         sorted (Taken l) f = at-twin ∙ f
         sorted (Free slot) f = (at-twin ∙ f .0, f .1)

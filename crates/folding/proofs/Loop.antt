@@ -4,14 +4,15 @@ use mathlib.Core.List.{List, [], _∷_, _++_, append-assoc, map}
 use Prim.Native.Nat.{ℕ, zero, suc, _+_, _-_, _*_, _<_, _≤_}
 use native.Mathlib.Omega.{arith}
 use native.Mathlib.Numerals.{add-one}
-use lib.ListN.{length, getD, set, take, drop, take-append-drop}
-use lib.Seq.{append-snoc, drop-cons, set-at, take-at, take-suc, drop-drop, length-take-le, getD-append-add, getD-drop}
+use lib.ListN.{length, getD, set, take, drop, length-append}
+use lib.Seq.{append-snoc, drop-cons, set-at, take-at, drop-drop, getD-append-add, getD-drop}
 use Rattle.plan.specs.Literals.{litOf}
 use Rattle.plan.specs.Circuit.{Gate, gateLine, flat}
 use Rattle.plan.specs.Binary.{litsFrom}
 use Rattle.plan.specs.Outcome.{put}
 use Rattle.theorems.proofs.Reading.Runs.{length-lits}
-use Rattle.theorems.proofs.Tables.{gateAt, gatesAt, length-firsts}
+use Rattle.theorems.proofs.Tables.{length-firsts}
+use Rattle.twins.specs.Pairs.{namedAt, named}
 use Rattle.twins.proofs.Hung.{no-gates}
 use Rattle.folding.specs.Folded.{folded, Held, Stepped, Done}
 
@@ -32,8 +33,8 @@ begin-more t v h =
     ∙ ap (λ (j : ℕ). litsFrom 0 j ++ drop j t) (sym (add-one v))
 
 -- where the loop begins
-module _ (gates to scratch begun : List ℕ) (base a : ℕ) (blank : (s : ℕ) → getD scratch s 0 ≡ 0)
-    (b : begun ≡ litsFrom 0 base ++ drop base scratch) where
+module _ (gates to scratch begun : List ℕ) (base a : ℕ) (to-blank : (s : ℕ) → getD to s 0 ≡ 0)
+    (blank : (s : ℕ) → getD scratch s 0 ≡ 0) (b : begun ≡ litsFrom 0 base ++ drop base scratch) where
   past-leaves : (s : ℕ) → base + a ≤ s → getD begun s 0 ≡ 0
   past-leaves s h =
       let e : s ≡ length (litsFrom 0 base) + (s - base) = omega (arith, length-lits 0 base) in
@@ -48,7 +49,7 @@ module _ (gates to scratch begun : List ℕ) (base a : ℕ) (blank : (s : ℕ) �
         ap₂ (λ (j : ℕ) (t : List ℕ). take j t) o b ∙ take-at (litsFrom 0 base) (drop base scratch) base (length-lits 0 base));
     retained = refl;
     fresh = omega arith;
-    tree = no-gates to begun (base + a) past-leaves;
+    tree = no-gates to begun (base + a) to-blank past-leaves;
   }
 
 drop-more : (t t₀ : List ℕ) (i j : ℕ) → i ≤ j → drop i t ≡ drop i t₀ → drop j t ≡ drop j t₀
@@ -76,55 +77,65 @@ going-more {gates} {to₀} {scratch₀} {to} {scratch} {to′} {scratch′} {bas
   past = t .past ∙ drop-more to to₀ (3 * n) (3 * r) (omega (arith, t .more)) (g .past);
 }
 
--- the gates of a table as its words
+-- gates as the words of a table
 flat-snoc : (gs : List Gate) (g : Gate) → flat (map gateLine (gs ++ (g ∷ []))) ≡ flat (map gateLine gs) ++ gateLine g
 flat-snoc [] g = refl
 flat-snoc (x ∷ gs) g = ap (λ (l : List ℕ). gateLine x ++ l) (flat-snoc gs g)
 
-take-three : (t : List ℕ) (j : ℕ) → j + 3 ≤ length t → take (j + 3) t ≡ take j t ++ (getD t j 0 ∷ getD t (j + 1) 0 ∷ getD t (j + 2) 0 ∷ [])
-take-three t j h =
-    let p : j + 3 ≡ suc (j + 2) = omega arith in
-    let q : j + 2 ≡ suc (j + 1) = omega arith in
-    ap (λ (i : ℕ). take i t) p ∙ take-suc t (j + 2) 0 (omega arith)
-    ∙ ap (λ (l : List ℕ). l ++ (getD t (j + 2) 0 ∷ []))
-    (ap (λ (i : ℕ). take i t) q ∙ take-suc t (j + 1) 0 (omega arith)
-    ∙ ap (λ (l : List ℕ). l ++ (getD t (j + 1) 0 ∷ [])) (ap (λ (i : ℕ). take i t) (add-one j) ∙ take-suc t j 0 (omega arith)))
-    ∙ simp append-assoc
+abbrev pub rows : ℕ → List ℕ → ℕ → List ℕ
+rows base t n = flat (map gateLine (named base t n))
 
-gates-words : (t : List ℕ) (n : ℕ) → 3 * n ≤ length t → flat (map gateLine (gatesAt t n)) ≡ take (3 * n) t
-gates-words t zero h = refl
-gates-words t (suc n) h =
-    let e : 3 * n + 3 ≡ 3 * suc n = omega arith in
-    flat-snoc (gatesAt t n) (gateAt t n)
-    ∙ ap (λ (l : List ℕ). l ++ (getD t (3 * n) 0 ∷ getD t (3 * n + 1) 0 ∷ getD t (3 * n + 2) 0 ∷ [])) (gates-words t n (omega arith))
-    ∙ sym (take-three t (3 * n) (omega arith)) ∙ ap (λ (j : ℕ). take j t) e
+rows-length : (base : ℕ) (t : List ℕ) (n : ℕ) → length (rows base t n) ≡ 3 * n
+rows-length base t zero = refl
+rows-length base t (suc n) =
+    ap length (flat-snoc (named base t n) (namedAt base t n))
+    ∙ length-append (rows base t n) (gateLine (namedAt base t n)) ∙ omega (arith, rows-length base t n)
 
-pub going-end : {gates to₀ scratch₀ to scratch : List ℕ} {base w a k n : ℕ} → a ≤ k → 3 * a ≤ length to₀
-    → Going gates to₀ scratch₀ to scratch base w a k n → Done gates to₀ to scratch base a n
-going-end {gates} {to₀} {scratch₀} {to} {scratch} {base} {w} {a} {k} {n} h room g = record {
-  count = sym (length-firsts (gateAt to) n) ∙ ap length (g .held .retained) ∙ ap (λ (j : ℕ). length (folded gates base j .retained)) is;
+-- one left side more
+pub name-more : (base : ℕ) (t : List ℕ) (i : ℕ) → 3 * i + 3 ≤ length t
+    → set (rows base t i ++ drop (3 * i) t) (3 * i) (litOf (base + i)) ≡ rows base t (i + 1) ++ drop (3 * (i + 1)) t
+name-more base t i h =
+    ap (λ (l : List ℕ). set (rows base t i ++ l) (3 * i) (litOf (base + i))) row
+    ∙ set-at (rows base t i) (getD t (3 * i) 0) (getD t (3 * i + 1) 0 ∷ getD t (3 * i + 2) 0 ∷ drop (3 * (i + 1)) t) (litOf (base + i)) (3 * i)
+    (rows-length base t i)
+    ∙ sym (append-assoc (rows base t i) (gateLine (namedAt base t i)) (drop (3 * (i + 1)) t))
+    ∙ ap (λ (l : List ℕ). l ++ drop (3 * (i + 1)) t)
+    (sym (flat-snoc (named base t i) (namedAt base t i)) ∙ ap (rows base t) (sym (add-one i)))
+  where
+    row : drop (3 * i) t ≡ getD t (3 * i) 0 ∷ getD t (3 * i + 1) 0 ∷ getD t (3 * i + 2) 0 ∷ drop (3 * (i + 1)) t
+    row =
+        let p : suc (3 * i) ≡ 3 * i + 1 = omega arith in
+        let q : suc (3 * i + 1) ≡ 3 * i + 2 = omega arith in
+        let z : suc (3 * i + 2) ≡ 3 * (i + 1) = omega arith in
+        drop-cons t (3 * i) 0 (omega arith)
+        ∙ ap (λ (l : List ℕ). getD t (3 * i) 0 ∷ l)
+        (ap (λ (j : ℕ). drop j t) p ∙ drop-cons t (3 * i + 1) 0 (omega arith)
+        ∙ ap (λ (l : List ℕ). getD t (3 * i + 1) 0 ∷ l)
+        (ap (λ (j : ℕ). drop j t) q ∙ drop-cons t (3 * i + 2) 0 (omega arith)
+        ∙ ap (λ (j : ℕ). getD t (3 * i + 2) 0 ∷ drop j t) z))
+
+-- all of them
+pub named-all : (base : ℕ) (t : List ℕ) (n : ℕ) → rows base t n ++ drop (3 * n) t ≡ put t 0 (rows base t n)
+named-all base t n =
+    let size : 3 * n ≡ 0 + length (rows base t n) = omega (arith, rows-length base t n) in
+    ap (λ (j : ℕ). rows base t n ++ drop j t) size
+
+pub going-end : {gates to₀ scratch₀ to scratch to′ : List ℕ} {base w a k n : ℕ} → a ≤ k
+    → Going gates to₀ scratch₀ to scratch base w a k n → to′ ≡ put to 0 (rows base to n) → Done gates to₀ to′ scratch base a n
+going-end {gates} {to₀} {scratch₀} {to} {scratch} {to′} {base} {w} {a} {k} {n} h g e = record {
+  count = sym (length-firsts (namedAt base to) n) ∙ ap length all;
   became = ap (λ (j : ℕ). take (base + j) scratch) (sym is) ∙ g .held .became ∙ ap (λ (j : ℕ). folded gates base j .became) is;
-  retained = whole;
+  retained = e ∙ sym (named-all base to n) ∙ ap (λ (l : List ℕ). rows base to n ++ l) (g .past) ∙ whole;
 }
   where
     is : k ≡ a
     is = omega (arith, g .within)
 
-    long : 3 * n ≤ length to
-    long = omega (arith, g .held .count, g .to-long)
+    all : named base to n ≡ folded gates base a .retained
+    all = g .held .retained ∙ ap (λ (j : ℕ). folded gates base j .retained) is
 
-    all : List ℕ
-    all = flat (map gateLine (folded gates base a .retained))
-
-    words : take (3 * n) to ≡ flat (map gateLine (folded gates base a .retained))
-    words =
-        sym (gates-words to n long) ∙ ap (λ (gs : List Gate). flat (map gateLine gs)) (g .held .retained)
-        ∙ ap (λ (j : ℕ). flat (map gateLine (folded gates base j .retained))) is
-
-    size : 3 * n ≡ 0 + length (flat (map gateLine (folded gates base a .retained)))
-    size = sym (length-take-le (3 * n) to long) ∙ ap length words ∙ omega arith
-
-    whole : to ≡ put to₀ 0 (flat (map gateLine (folded gates base a .retained)))
+    whole : rows base to n ++ drop (3 * n) to₀ ≡ put to₀ 0 (flat (map gateLine (folded gates base a .retained)))
     whole =
-        sym (take-append-drop (3 * n) to) ∙ ap₂ (λ (x y : List ℕ). x ++ y) words (g .past)
-        ∙ ap (λ (j : ℕ). flat (map gateLine (folded gates base a .retained)) ++ drop j to₀) size
+        let size : 3 * n ≡ 0 + length (rows base to n) = omega (arith, rows-length base to n) in
+        ap (λ (j : ℕ). rows base to n ++ drop j to₀) size
+        ∙ ap (λ (gs : List Gate). put to₀ 0 (flat (map gateLine gs))) all

@@ -1,10 +1,12 @@
 -- One gate more: a literal stands in for it, or it is retained.
 use mathlib.Core.Path.{_≡_, refl, sym, ap, ap₂, _∙_, subst}
 use mathlib.Core.Option.{Option, none, some}
+use mathlib.Core.Bool.{Bool, true, false, cond}
 use mathlib.Core.List.{List, [], _∷_, _++_}
-use Prim.Native.Nat.{ℕ, suc, _+_, _*_, _%_, _^_, _<_, _≤_, min, max}
+use Prim.Native.Nat.{ℕ, suc, _+_, _*_, _<_, _≤_, min, max}
 use native.Mathlib.Omega.{arith}
 use native.Mathlib.Numerals.{add-one}
+use lib.Dec.{ltb}
 use lib.ListN.{length, getD, set, take, length-set}
 use lib.Seq.{take-suc-set, getD-take, take-set-le}
 use Rattle.plan.specs.declared.Lit.{Lit}
@@ -17,8 +19,8 @@ use Rattle.theorems.proofs.Running.Signs.{signed-half}
 use Rattle.theorems.proofs.Running.Upward.{lits-low}
 use Rattle.theorems.proofs.Running.ReduceGates.{Ok, ok-all}
 use Rattle.twins.specs.declared.Place.{Place}
-use Rattle.twins.specs.Pairs.{Room, Rooted, Hangs, stored}
-use Rattle.twins.proofs.Hung.{stored-gates, stored-past, word-before, slot-under, slot-over, hung}
+use Rattle.twins.specs.Pairs.{named, Room, Rooted, Hangs, stored, gatesHung, scratchHung}
+use Rattle.twins.proofs.Hung.{hung-gates, hung-past, word-before, slot-under, slot-over, hung}
 use Rattle.folding.specs.Rules.{StandsIn}
 use Rattle.folding.specs.Folded.{folded, Held, Roomy, Stepped}
 
@@ -44,10 +46,6 @@ unfolding folded
 folded-ok gates base k h =
     ok-all base (record { became = litsFrom 0 base; retained = []; fresh = base }) (gatesAt gates k)
     (record { some-var = h; order = tt; count = omega arith; low = lits-low 0 base base h (omega arith) })
-
--- the doubling of a variable in use is not cut
-pub whole : (v : ℕ) → v ≤ 1048576 → litOf v % 2 ^ 32 ≡ litOf v
-whole v h = omega arith
 
 module _ {gates to scratch : List ℕ} {base w k n : ℕ} (s : Held gates to scratch base w k n) (r : Roomy gates to scratch base w k) where
   abbrev R : Reduced
@@ -79,10 +77,13 @@ module _ {gates to scratch : List ℕ} {base w k n : ℕ} (s : Held gates to scr
     few = r .few;
     fewer = omega (arith, s .count, r .within);
     gates-long = omega (arith, s .count, r .to-long);
-    scratch-long = omega (arith, s .count, r .scratch-long);
+    scratch-long = r .scratch-long;
   }
 
-  step : (o : Option ℕ) → standIn left right (gatesAt to n) ≡ o → folded gates base (k + 1) ≡ retain R left right o
+  pub named-low : base + n ≤ w
+  named-low = omega (arith, s .count, r .within)
+
+  step : (o : Option ℕ) → standIn left right (named base to n) ≡ o → folded gates base (k + 1) ≡ retain R left right o
   step o e =
       folded-more gates base k
       ∙ ap₂ (λ (a b : ℕ). reduceGate R a b) (became-is (getD gates (3 * k + 1) 0) (r .below .rhs0))
@@ -91,12 +92,12 @@ module _ {gates to scratch : List ℕ} {base w k n : ℕ} (s : Held gates to scr
       ∙ ap (retain R left right) e
 
   -- what is answered for the literals that the sides became
-  pub answered : {a b : Lit} {p q : Place} → a ≡ litAt left → b ≡ litAt right → p ≡ q → StandsIn to scratch w n (wordOf a) (wordOf b) p
-      → StandsIn to scratch w n left right q
+  pub answered : {a b : Lit} {p q : Place} → a ≡ litAt left → b ≡ litAt right → p ≡ q → StandsIn to scratch base w n (wordOf a) (wordOf b) p
+      → StandsIn to scratch base w n left right q
   answered {a} {b} {p} {q} ea eb e found =
-      subst (λ (x : Place). StandsIn to scratch w n left right x) e
-      (subst (λ (x : Lit). StandsIn to scratch w n left (wordOf x) p) eb
-      (subst (λ (x : Lit). StandsIn to scratch w n (wordOf x) (wordOf b) p) ea found))
+      subst (λ (x : Place). StandsIn to scratch base w n left right x) e
+      (subst (λ (x : Lit). StandsIn to scratch base w n left (wordOf x) p) eb
+      (subst (λ (x : Lit). StandsIn to scratch base w n (wordOf x) (wordOf b) p) ea found))
 
   -- a word of what became is stored in a scratch that starts alike
   took : (t : List ℕ) (l : ℕ) → length t ≡ length scratch → take (base + k) t ≡ take (base + k) scratch
@@ -107,7 +108,7 @@ module _ {gates to scratch : List ℕ} {base w k n : ℕ} (s : Held gates to scr
       ∙ ap (λ (x : List ℕ). x ++ (l ∷ [])) (same ∙ s .became)
 
   -- a literal stands in
-  pub stands : (l : ℕ) → standIn left right (gatesAt to n) ≡ some l → Stepped gates to to (set scratch (base + k) l) base w k n n
+  pub stands : (l : ℕ) → standIn left right (named base to n) ≡ some l → Stepped gates to to (set scratch (base + k) l) base w k n n
   stands l e = record {
     more = omega arith;
     held = record {
@@ -121,53 +122,64 @@ module _ {gates to scratch : List ℕ} {base w k n : ℕ} (s : Held gates to scr
   }
 
   -- the gate is retained
-  module _ {slot : ℕ} (new : standIn left right (gatesAt to n) ≡ none) (hangs : Hangs to scratch w n (max left right) (min left right) slot)
+  module _ {slot : ℕ} (new : standIn left right (named base to n) ≡ none) (hangs : Hangs to scratch w n (max left right) (min left right) slot)
     where
-      abbrev l : ℕ
-      l = litOf (base + n)
-
       abbrev to′ : List ℕ
-      to′ = stored to n (litOf (base + n)) (max left right) (min left right)
+      to′ = gatesHung (stored to n (max left right) (min left right)) w slot n
+
+      abbrev scratch′ : List ℕ
+      scratch′ = scratchHung scratch w slot n
 
       root : varOf (max left right) < w
       root = omega (arith, rooted .larger, rooted .smaller)
 
-      pub slot-in : slot < length scratch
-      slot-in = omega (arith, slot-under to scratch w n (max left right) (min left right) slot root hangs, room .scratch-long)
+      pub slot-low : slot < 4 * w + n
+      slot-low = slot-under to scratch w n (max left right) (min left right) slot root hangs
 
-      front : take (base + k) (set scratch slot (n + 1)) ≡ take (base + k) scratch
-      front =
-          take-set-le (base + k) scratch slot (n + 1)
-          (omega (arith, slot-over to scratch w n (max left right) (min left right) slot root hangs, r .within))
+      same : length scratch′ ≡ length scratch
+      same = go (ltb slot (4 * w))
+        where
+          go : (b : Bool) → length (cond b (set scratch slot (n + 1)) scratch) ≡ length scratch
+          go true = length-set scratch slot (n + 1)
+          go false = refl
+
+      front : take (base + k) scratch′ ≡ take (base + k) scratch
+      front = go (ltb slot (4 * w))
+        where
+          go : (b : Bool) → take (base + k) (cond b (set scratch slot (n + 1)) scratch) ≡ take (base + k) scratch
+          go true =
+              take-set-le (base + k) scratch slot (n + 1)
+              (omega (arith, slot-over to scratch w n (max left right) (min left right) slot root hangs, r .within))
+          go false = refl
 
       E : folded gates base (k + 1) ≡ retain R left right none
       E = step none new
 
-      pub retained : Stepped gates to to′ (set (set scratch slot (n + 1)) (base + k) (litOf (base + n))) base w k n (n + 1)
+      pub retained : Stepped gates to to′ (set scratch′ (base + k) (litOf (base + n))) base w k n (n + 1)
       retained = record {
         more = omega arith;
         held = record {
           count = omega (arith, s .count);
-          became = took (set scratch slot (n + 1)) l (length-set scratch slot (n + 1)) front
+          became = took scratch′ (litOf (base + n)) same front
               ∙ sym (ap (λ (x : Reduced). x .became) E ∙ ap (λ (v : ℕ). R .became ++ (litOf v ∷ [])) (s .fresh));
-          retained = stored-gates to n l (max left right) (min left right) (room .gates-long)
+          retained = hung-gates to w n (max left right) (min left right) slot base (room .gates-long)
               ∙ ap₂ (λ (gs : List Gate) (v : ℕ). gs ++ (record { lhs = litOf v; rhs0 = max left right; rhs1 = min left right } ∷ []))
               (s .retained) (sym (s .fresh))
               ∙ sym (ap (λ (x : Reduced). x .retained) E);
           fresh = ap (λ (x : Reduced). x .fresh) E ∙ ap suc (s .fresh) ∙ omega arith;
-          tree = word-before to′ (set scratch slot (n + 1)) w (n + 1) (base + k) l (r .within)
-              (hung to scratch w n (max left right) (min left right) slot root hangs l (s .tree) (room .gates-long)
-              (omega (arith, room .scratch-long)));
+          tree = word-before to′ scratch′ w (n + 1) (base + k) (litOf (base + n)) (r .within)
+              (hung to scratch w n (max left right) (min left right) slot root hangs (s .tree) (room .fewer) (room .gates-long)
+              (room .scratch-long));
         };
-        past = stored-past to n l (max left right) (min left right);
+        past = hung-past to w n (max left right) (min left right) slot slot-low;
       }
 
       -- with the words that the code stored
-      pub retained-as : {to″ scratch″ : List ℕ} {l x y word : ℕ} → l ≡ litOf (base + n) → x ≡ max left right → y ≡ min left right → word ≡ l
-          → to″ ≡ stored to n l x y → scratch″ ≡ set scratch slot (n + 1)
+      pub retained-as : {to″ scratch″ : List ℕ} {x y word : ℕ} → x ≡ max left right → y ≡ min left right → word ≡ litOf (base + n)
+          → to″ ≡ gatesHung (stored to n x y) w slot n → scratch″ ≡ scratch′
           → Stepped gates to to″ (set scratch″ (base + k) word) base w k n (n + 1)
-      retained-as {to″} {scratch″} {l} {x} {y} {word} el ex ey ew et es =
+      retained-as {to″} {scratch″} {x} {y} {word} ex ey ew et es =
           subst (λ (t : List ℕ). Stepped gates to to″ t base w k n (n + 1))
-          (sym (ap₂ (λ (t : List ℕ) (v : ℕ). set t (base + k) v) es (ew ∙ el)))
-          (subst (λ (t : List ℕ). Stepped gates to t (set (set scratch slot (n + 1)) (base + k) (litOf (base + n))) base w k n (n + 1))
-          (sym (et ∙ λ j. stored to n (el j) (ex j) (ey j))) retained)
+          (sym (ap₂ (λ (t : List ℕ) (v : ℕ). set t (base + k) v) es ew))
+          (subst (λ (t : List ℕ). Stepped gates to t (set scratch′ (base + k) (litOf (base + n))) base w k n (n + 1))
+          (sym (et ∙ λ j. gatesHung (stored to n (ex j) (ey j)) w slot n)) retained)

@@ -9,7 +9,7 @@ use Rattle.plan.specs.Binary.{litsFrom}
 use Rattle.plan.specs.Reduce.{Reduced, reduceGates}
 use Rattle.plan.specs.Outcome.{put}
 use Rattle.theorems.proofs.Tables.{gatesAt}
-use Rattle.twins.specs.Pairs.{Tree}
+use Rattle.twins.specs.Pairs.{named, Tree}
 
 -- the first k gates of a table, over the variables below base
 unfoldable pub folded : List ℕ → ℕ → ℕ → Reduced
@@ -24,7 +24,7 @@ pub record Below (gates : List ℕ) (base k : ℕ) : Type 0 where
 pub record Held (gates to scratch : List ℕ) (base w k n : ℕ) : Type 0 where
   pub count : n ≤ k
   pub became : take (base + k) scratch ≡ folded gates base k .became
-  pub retained : gatesAt to n ≡ folded gates base k .retained
+  pub retained : named base to n ≡ folded gates base k .retained
   pub fresh : folded gates base k .fresh ≡ base + n
   pub tree : Tree to scratch w n
 
@@ -35,7 +35,7 @@ pub record Roomy (gates to scratch : List ℕ) (base w k : ℕ) : Type 0 where
   pub few : w ≤ most + 1
   pub gates-long : 3 * k + 3 ≤ length gates
   pub to-long : 3 * k + 3 ≤ length to
-  pub scratch-long : 2 * w + 2 * k + 2 ≤ length scratch
+  pub scratch-long : 4 * w ≤ length scratch
   pub below : Below gates base k
 
 -- one gate later, r are retained
@@ -44,7 +44,7 @@ pub record Stepped (gates to₀ to scratch : List ℕ) (base w k n r : ℕ) : Ty
   pub held : Held gates to scratch base w (k + 1) r
   pub past : drop (3 * r) to ≡ drop (3 * r) to₀
 
--- gates in binary order, with room, and a scratch that is zero
+-- gates in binary order, with room, and tables to work in that are zero
 pub record Foldable (gates to scratch : List ℕ) (base a : ℕ) : Type 0 where
   pub leaf : 0 < base
   pub few : base + a ≤ most + 1
@@ -52,7 +52,8 @@ pub record Foldable (gates to scratch : List ℕ) (base a : ℕ) : Type 0 where
   pub to-long : 3 * a ≤ length to
   pub scratch-long : 4 * (base + a) ≤ length scratch
   pub below : (k : ℕ) → k < a → Below gates base k
-  pub blank : (s : ℕ) → getD scratch s 0 ≡ 0
+  pub to-blank : (s : ℕ) → getD to s 0 ≡ 0
+  pub scratch-blank : (s : ℕ) → getD scratch s 0 ≡ 0
 
 -- all gates are done: how many are retained, what the variables became, and the retained gates in their table
 pub record Done (gates to₀ to scratch : List ℕ) (base a r : ℕ) : Type 0 where

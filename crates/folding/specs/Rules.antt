@@ -5,10 +5,9 @@ use mathlib.Core.List.{List}
 use Prim.Native.Nat.{ℕ, min, max}
 use Rattle.plan.specs.Circuit.{Gate}
 use Rattle.plan.specs.Reduce.{twin, standIn}
-use Rattle.theorems.proofs.Tables.{gatesAt}
 use Rattle.twins.specs.declared.Place.{Place}
 use Rattle.twins.specs.declared.Place.the-variants.{Taken, Free}
-use Rattle.twins.specs.Pairs.{Hangs}
+use Rattle.twins.specs.Pairs.{named, Hangs}
 use Rattle.folding.specs.declared.Rule.{Rule}
 use Rattle.folding.specs.declared.Rule.the-variants.{Gives, Open}
 
@@ -21,6 +20,7 @@ abbrev pub Ruled : ℕ → ℕ → Rule → Type 0
 Ruled a b r = (gs : List Gate) → standIn a b gs ≡ orTwin r (twin (max a b) (min a b) gs)
 
 -- of the first n gates of a table
-abbrev pub StandsIn : List ℕ → List ℕ → ℕ → ℕ → ℕ → ℕ → Place → Type 0
-StandsIn gates scratch w n a b (Taken l) = standIn a b (gatesAt gates n) ≡ some l
-StandsIn gates scratch w n a b (Free slot) = (standIn a b (gatesAt gates n) ≡ none) × Hangs gates scratch w n (max a b) (min a b) slot
+abbrev pub StandsIn : List ℕ → List ℕ → ℕ → ℕ → ℕ → ℕ → ℕ → Place → Type 0
+StandsIn gates scratch base w n a b (Taken l) = standIn a b (named base gates n) ≡ some l
+StandsIn gates scratch base w n a b (Free slot) =
+    (standIn a b (named base gates n) ≡ none) × Hangs gates scratch w n (max a b) (min a b) slot

@@ -1,17 +1,20 @@
 // One-level folding of gates in binary order (the paper, reduction).
 ghost use mathlib.Core.Path.{_≡_};
-ghost use mathlib.Core.List.{_++_};
-ghost use Prim.Native.Nat.{_+_, _<_, _≤_};
+ghost use mathlib.Core.List.{_++_, map};
+ghost use Prim.Native.Nat.{_+_, _*_, _<_, _≤_};
 ghost use lib.ListN.{length, drop};
 ghost use Rattle.plan.specs.Literals.{most, litAt, wordOf, varOf};
+ghost use Rattle.plan.specs.Circuit.{gateLine, flat};
 ghost use Rattle.plan.specs.Binary.{litsFrom};
 ghost use Rattle.plan.specs.Reduce.{becomes};
-ghost use Rattle.twins.specs.Pairs.{Tree, Room, Rooted};
+ghost use Rattle.plan.specs.Outcome.{put};
+ghost use Rattle.twins.specs.Pairs.{Tree, Room, Rooted, named};
 ghost use Rattle.folding.specs.Rules.{Ruled, StandsIn};
 ghost use Rattle.folding.specs.Folded.{Held, Roomy, Stepped, Foldable, Done};
 use plan::Lit;
 use plan::Var;
 use twins::Place;
+use twins::left_side;
 
 // What two sides give with no look at the retained gates.
 enum Rule {
@@ -56,15 +59,16 @@ fn by_sides(a: Lit, b: Lit) -> Rule
 }
 
 // The literal that stands in for a gate with the sides a and b, or where the gate is to hang, larger side first.
-fn stand_in(a: Lit, b: Lit, gates: &[u32], scratch: &[u32], w: usize, n: usize) -> Place
+fn stand_in(a: Lit, b: Lit, gates: &[u32], scratch: &[u32], base: usize, w: usize, n: usize) -> Place
     requires { ⌜ Room (now gates) (now scratch) w n ⌝ }
+    requires { ⌜ base + n ≤ w ⌝ }
     requires { ⌜ Rooted w (wordOf a) (wordOf b) ⌝ }
     requires { ⌜ Tree (now gates) (now scratch) w n ⌝ }
-    ensures { λ r. ⌜ StandsIn (now (gates .entry)) (now (scratch .entry)) w n (wordOf a) (wordOf b) r ⌝ }
+    ensures { λ r. ⌜ StandsIn (now (gates .entry)) (now (scratch .entry)) base w n (wordOf a) (wordOf b) r ⌝ }
 {
     match by_sides(a, b) {
         Rule::Gives(l) => Place::Taken(l),
-        Rule::Open => twins::find(gates, scratch, w, n, a.larger(b), a.smaller(b)),
+        Rule::Open => twins::find(gates, scratch, base, w, n, a.larger(b), a.smaller(b)),
     }
 }
 
@@ -84,15 +88,14 @@ fn fold_gate(
 {
     let a = becomes(scratch, Lit::at(gates[3 * k + 1]));
     let b = becomes(scratch, Lit::at(gates[3 * k + 2]));
-    match stand_in(a, b, to, scratch, w, n) {
+    match stand_in(a, b, to, scratch, base, w, n) {
         Place::Taken(l) => {
             scratch[base + k] = l;
             return n;
         }
         Place::Free(slot) => {
-            let l = Var::at((base + n) as u32).lit();
-            twins::hang(to, scratch, slot, n, l, a.larger(b), a.smaller(b));
-            scratch[base + k] = l.word();
+            twins::hang(to, scratch, w, slot, n, a.larger(b), a.smaller(b));
+            scratch[base + k] = left_side(base, n).word();
             return n + 1;
         }
     }
@@ -107,6 +110,18 @@ fn begin(scratch: &mut [u32], n: usize)
     while v < n {
         scratch[v] = Var::at(v as u32).lit().word();
         v += 1;
+    }
+}
+
+// The left sides of n retained gates, which stand in their rows' first words once these are no links any more.
+fn name_gates(to: &mut [u32], base: usize, n: usize)
+    requires { ⌜ (3 * n ≤ length (now to)) × (base + n ≤ most + 1) ⌝ }
+    ensures { λ _. ⌜ now (to .exit) ≡ put (now (to .entry)) 0 (flat (map gateLine (named base (now (to .entry)) n))) ⌝ }
+{
+    let mut i = 0;
+    while i < n {
+        to[3 * i] = left_side(base, i).word();
+        i += 1;
     }
 }
 
@@ -130,5 +145,6 @@ pub fn fold_gates(
         n = fold_gate(gates, base, w, k, n, to, scratch);
         k += 1;
     }
+    name_gates(to, base, n);
     n
 }

@@ -81,7 +81,8 @@ module _ (g : Given) (t : Tables) where
           outputs = omega (arith, wide .outputs, length-replicate {A = ℕ} (length (t .outputs)) 0);
           gates = omega (arith, wide .gates, length-replicate {A = ℕ} (length (t .gates)) 0);
         });
-        blank = λ i. ap (λ (l : List ℕ). getD l i 0) scratch-is ∙ zeros (length (g .scratch)) i;
+        to-blank = λ i. ap (λ (x : Tables). getD (x .gates) i 0) cleared-is ∙ zeros (length (t .gates)) i;
+        scratch-blank = λ i. ap (λ (l : List ℕ). getD l i 0) scratch-is ∙ zeros (length (g .scratch)) i;
       }
 
       module _ (to₀ to : Tables) (k : ℕ) (cleared-is : to₀ ≡ allCleared t) (written : Written (given g) to₀ to k) where

@@ -68,7 +68,8 @@ module _ (g : Given) (to : Tables) (ready : Ready g to) where
     below = all-below (g .tables .gates) base (n .A)
         (subst (λ (m : ℕ). Binary m (gatesAt (g .tables .gates) (n .A))) inner-is
         (subst (λ (gs : List Gate). Binary (inner c) gs) (gates-rows (g .tables .gates) (n .A)) (ordered .gates-in)));
-    blank = ready .blank;
+    to-blank = ready .to-blank;
+    scratch-blank = ready .scratch-blank;
   }
 
   folded-is : folded (g .tables .gates) base (n .A) ≡ reduced c

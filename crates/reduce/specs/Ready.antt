@@ -1,5 +1,5 @@
--- What the reducer's core asks: tables that the checks let pass, with 15, room in the tables lent for writing, and a scratch that is zero;
--- and what it leaves.
+-- What the reducer's core asks: tables that the checks let pass, with 15, room in the tables lent for writing, and a table of gates and a
+-- scratch that are zero; and what it leaves.
 use Prim.Native.Nat.{ℕ}
 use mathlib.Core.Path.{_≡_}
 use mathlib.Core.Bool.{true}
@@ -13,7 +13,8 @@ use Rattle.given.proofs.Sound.{Good, Wide}
 pub record Ready (g : Given) (to : Tables) : Type 0 where
   pub good : Good true g
   pub wide : Wide (g .counts) to
-  pub blank : (s : ℕ) → getD (g .scratch) s 0 ≡ 0
+  pub to-blank : (s : ℕ) → getD (to .gates) s 0 ≡ 0
+  pub scratch-blank : (s : ℕ) → getD (g .scratch) s 0 ≡ 0
 
 -- the reduced circuit stands first in the tables, and r gates of it were retained
 pub record Written (c : Circuit) (to₀ to : Tables) (r : ℕ) : Type 0 where

@@ -1,17 +1,19 @@
--- The earliest gate with a pair, by its place in a table: the twin's left side stands there.
+-- The earliest gate with a pair, by its place in a table, which tells the twin's left side.
 use mathlib.Core.Path.{_≡_, refl, sym, ap, ap₂, _∙_}
 use mathlib.Core.Bool.{Bool, true, false, _&&_, cond}
 use mathlib.Core.Option.{Option, none, some}
 use mathlib.Core.List.{List, [], _∷_, _++_}
-use Prim.Native.Nat.{ℕ, zero, suc, _<_, _≤_}
+use Prim.Native.Nat.{ℕ, zero, suc, _+_, _<_, _≤_}
 use native.Mathlib.Omega.{arith}
 use native.Mathlib.Nat.{not-suc-le-zero}
 use borrow.Author.Tests.{eqb-true, eqb-false}
 use lib.Dec.{eqb}
+use Rattle.plan.specs.Literals.{litOf}
 use Rattle.plan.specs.Circuit.{Gate}
 use Rattle.plan.specs.Reduce.{twin}
-use Rattle.theorems.proofs.Tables.{gateAt, gatesAt}
+use Rattle.theorems.proofs.Tables.{gateAt}
 use Rattle.twins.specs.Tree.{orFirst}
+use Rattle.twins.specs.Pairs.{namedAt, named}
 
 -- a gate has the sides x, y; gate i of a table
 abbrev sides : ℕ → ℕ → Gate → Bool
@@ -26,9 +28,9 @@ earliest t x y zero = 0
 earliest t x y (suc n) = orFirst (earliest t x y n) (cond (same t x y n) (suc n) 0)
 
 -- the left side of a gate that is counted from 1
-abbrev pub leftOf : List ℕ → ℕ → Option ℕ
-leftOf t zero = none
-leftOf t (suc i) = some (gateAt t i .lhs)
+abbrev pub leftOf : ℕ → ℕ → Option ℕ
+leftOf base zero = none
+leftOf base (suc i) = some (litOf (base + i))
 
 abbrev orSome : Option ℕ → Option ℕ → Option ℕ
 orSome none o = o
@@ -45,14 +47,14 @@ twin-snoc x y (k ∷ gs) g = go (sides x y k) (twin-snoc x y gs g)
     go true h = refl
     go false h = h
 
-pub twin-earliest : (t : List ℕ) (x y n : ℕ) → twin x y (gatesAt t n) ≡ leftOf t (earliest t x y n)
-twin-earliest t x y zero = refl
-twin-earliest t x y (suc n) =
-    twin-snoc x y (gatesAt t n) (gateAt t n)
-    ∙ ap (λ (o : Option ℕ). orSome o (cond (same t x y n) (some (gateAt t n .lhs)) none)) (twin-earliest t x y n)
+pub twin-earliest : (base : ℕ) (t : List ℕ) (x y n : ℕ) → twin x y (named base t n) ≡ leftOf base (earliest t x y n)
+twin-earliest base t x y zero = refl
+twin-earliest base t x y (suc n) =
+    twin-snoc x y (named base t n) (namedAt base t n)
+    ∙ ap (λ (o : Option ℕ). orSome o (cond (same t x y n) (some (litOf (base + n))) none)) (twin-earliest base t x y n)
     ∙ go (earliest t x y n) (same t x y n)
   where
-    go : (e : ℕ) (q : Bool) → orSome (leftOf t e) (cond q (some (gateAt t n .lhs)) none) ≡ leftOf t (orFirst e (cond q (suc n) 0))
+    go : (e : ℕ) (q : Bool) → orSome (leftOf base e) (cond q (some (litOf (base + n))) none) ≡ leftOf base (orFirst e (cond q (suc n) 0))
     go zero true = refl
     go zero false = refl
     go (suc e) q = refl

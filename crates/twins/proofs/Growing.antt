@@ -9,20 +9,21 @@ use lib.Dec.{eqb, leb}
 use Rattle.twins.specs.Tree.{agree, depth, on, orFirst, firstOn, node, symbol, slotOf, Good, Grown}
 use Rattle.twins.proofs.Agree.{Agree, agreeing, agreed}
 use Rattle.twins.proofs.Depth.{still, first-none}
-use Rattle.twins.proofs.Slots.{slot-high, same-slot, other-slot, symbol-bit, slot-low, slot-inj}
+use Rattle.twins.proofs.Slots.{same-slot, other-slot, symbol-bit, slot-inj}
 
 module _ (S : ℕ → ℕ → ℕ) where
   -- gate n takes the word at which the search along its path ended
-  module _ (w n k : ℕ) (ct ct′ : ℕ → ℕ) (p : ℕ → ℕ) (grown : Grown S w n ct) (gp : Good w p) (hk : k ≤ n) (np : node S p k ≡ true)
+  module _ (w n k : ℕ) (ct ct′ : ℕ → ℕ) (p : ℕ → ℕ) (few : n ≤ w) (grown : Grown S w n ct) (gp : Good w p) (hk : k ≤ n)
+      (np : node S p k ≡ true)
       (ends : firstOn S p k n ≡ 0) (is : (e : ℕ) → S n e ≡ p e) (at : ct′ (slotOf w k (symbol S p k)) ≡ suc n)
-      (new : (c : ℕ) → c < 2 → ct′ (2 * w + (2 * n + c)) ≡ 0)
-      (old : (s : ℕ) → w ≤ s → s < 2 * w + 2 * n → (s ≡ slotOf w k (symbol S p k) → ⊥) → ct′ s ≡ ct s) where
+      (new : (c : ℕ) → c < 2 → ct′ (slotOf w (suc n) c) ≡ 0)
+      (old : (s : ℕ) → (s ≡ slotOf w k (symbol S p k) → ⊥) → ct′ s ≡ ct s) where
     module _ (q : ℕ → ℕ) (g : Good w q) (j : ℕ) (nq : node S q j ≡ true) (le : j ≤ n) where
       value : ct (slotOf w j (symbol S q j)) ≡ firstOn S q j n
       value = grown q g j le nq
 
       kept-word : (slotOf w j (symbol S q j) ≡ slotOf w k (symbol S p k) → ⊥) → ct′ (slotOf w j (symbol S q j)) ≡ firstOn S q j n
-      kept-word d = old (slotOf w j (symbol S q j)) (slot-high w j (symbol S q j)) (slot-low S w q j n g le nq) d ∙ value
+      kept-word d = old (slotOf w j (symbol S q j)) d ∙ value
 
       turn : (b : Bool) → on S q n ≡ b → firstOn S q j n ≡ 0 → (slotOf w j (symbol S q j) ≡ slotOf w k (symbol S p k) → ⊥)
           → on S q n ≡ false
@@ -40,7 +41,7 @@ module _ (S : ℕ → ℕ → ℕ) where
           same = eqb-true (slotOf w j (symbol S q j)) (slotOf w k (symbol S p k)) c
 
           i : (j ≡ k) × (symbol S q j ≡ symbol S p k)
-          i = slot-inj S w q p j k g gp nq np same
+          i = slot-inj S w q p j k g gp (omega arith) (omega arith) nq np same
 
           a : Agree (depth S q j) q p
           a = same-slot S q p j nq (subst (λ (v : ℕ). node S p v ≡ true) (sym (i .0)) np) (i .1 ∙ ap (symbol S p) (sym (i .0)))
@@ -106,6 +107,6 @@ module _ (S S′ : ℕ → ℕ → ℕ) (n : ℕ) (alike : (i : ℕ) → i < n �
   pub first-ext′ : (q : ℕ → ℕ) (k : ℕ) → firstOn S′ q k n ≡ firstOn S q k n
   first-ext′ q k = first-ext q k n (omega arith)
 
-pub grown-none : (S : ℕ → ℕ → ℕ) (w : ℕ) (ct : ℕ → ℕ) → ((c : ℕ) → c < w → ct (w + c) ≡ 0) → Grown S w 0 ct
+pub grown-none : (S : ℕ → ℕ → ℕ) (w : ℕ) (ct : ℕ → ℕ) → ((c : ℕ) → c < 2 * w → ct (w + c) ≡ 0) → Grown S w 0 ct
 grown-none S w ct z q g zero h n = z (q 0) (g .root)
 grown-none S w ct z q g (suc k) h n = absurd (not-suc-le-zero h)

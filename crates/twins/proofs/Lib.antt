@@ -2,6 +2,7 @@ pub mod Agree
 pub mod Depth
 pub mod Slots
 pub mod Roots
+pub mod Words
 pub mod Growing
 pub mod Earliest
 pub mod Way

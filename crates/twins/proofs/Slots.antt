@@ -9,9 +9,28 @@ use Rattle.twins.specs.Tree.{depth, node, symbol, slotOf, Good}
 use Rattle.twins.proofs.Agree.{Agree, agreeing}
 use Rattle.twins.proofs.Depth.{depth-on, depth-step, depth-pos, depth-same, on-same, node-depth}
 
+link-high : (w i c : ℕ) → 3 * w ≤ slotOf w (suc i) c
+link-high w i zero = omega arith
+link-high w i (suc c) = omega arith
+
+link-low : (w i c : ℕ) → slotOf w (suc i) c < 4 * w + suc i
+link-low w i zero = omega arith
+link-low w i (suc c) = omega arith
+
+link-kept : (w i c : ℕ) → slotOf w (suc i) c < 4 * w → slotOf w (suc i) c < 3 * w + suc i
+link-kept w i zero h = absurd (omega arith)
+link-kept w i (suc c) h = omega arith
+
+-- the links of the first w gates are all different
+link-inj : (w i j c d : ℕ) → i < w → j < w → c < 2 → d < 2 → slotOf w (suc i) c ≡ slotOf w (suc j) d → (i ≡ j) × (c ≡ d)
+link-inj w i j zero zero hi hj hc hd e = (omega arith, refl)
+link-inj w i j zero (suc d) hi hj hc hd e = absurd (omega arith)
+link-inj w i j (suc c) zero hi hj hc hd e = absurd (omega arith)
+link-inj w i j (suc c) (suc d) hi hj hc hd e = (omega arith, omega arith)
+
 pub slot-high : (w k c : ℕ) → w ≤ slotOf w k c
 slot-high w zero c = omega arith
-slot-high w (suc i) c = omega arith
+slot-high w (suc i) c = omega (arith, link-high w i c)
 
 module _ (S : ℕ → ℕ → ℕ) where
   -- two paths that leave a node by the same symbol
@@ -71,18 +90,22 @@ module _ (S : ℕ → ℕ → ℕ) where
   pub symbol-bit : (w : ℕ) (q : ℕ → ℕ) (i : ℕ) → Good w q → node S q (suc i) ≡ true → symbol S q (suc i) < 2
   symbol-bit w q i g n = good-bit w q (depth S q (suc i) - 1) g (omega (arith, depth-on S q i n, depth-pos S q i))
 
-  -- a slot below those of gate n
-  pub slot-low : (w : ℕ) (q : ℕ → ℕ) (k n : ℕ) → Good w q → k ≤ n → node S q k ≡ true → slotOf w k (symbol S q k) < 2 * w + 2 * n
-  slot-low w q zero n g h d = omega (arith, g .root)
-  slot-low w q (suc i) n g h d = omega (arith, symbol-bit w q i g d)
+  -- a slot below the last gate's
+  pub slot-low : (w : ℕ) (q : ℕ → ℕ) (k n : ℕ) → Good w q → k ≤ n → slotOf w k (symbol S q k) < 4 * w + n
+  slot-low w q zero n g h = omega (arith, g .root)
+  slot-low w q (suc i) n g h = omega (arith, link-low w i (symbol S q (suc i)))
 
-  pub slot-inj : (w : ℕ) (q p : ℕ → ℕ) (j k : ℕ) → Good w q → Good w p → node S q j ≡ true → node S p k ≡ true
+  -- and so in the scratch
+  pub slot-kept : (w : ℕ) (q : ℕ → ℕ) (k n : ℕ) → Good w q → k ≤ n → slotOf w k (symbol S q k) < 4 * w
+      → slotOf w k (symbol S q k) < 3 * w + n
+  slot-kept w q zero n g h l = omega (arith, g .root)
+  slot-kept w q (suc i) n g h l = omega (arith, link-kept w i (symbol S q (suc i)) l)
+
+  pub slot-inj : (w : ℕ) (q p : ℕ → ℕ) (j k : ℕ) → Good w q → Good w p → j ≤ w → k ≤ w → node S q j ≡ true → node S p k ≡ true
       → slotOf w j (symbol S q j) ≡ slotOf w k (symbol S p k) → (j ≡ k) × (symbol S q j ≡ symbol S p k)
-  slot-inj w q p zero zero g h nq np e = (refl, omega arith)
-  slot-inj w q p zero (suc k) g h nq np e = absurd (omega (arith, g .root))
-  slot-inj w q p (suc j) zero g h nq np e = absurd (omega (arith, h .root))
-  slot-inj w q p (suc j) (suc k) g h nq np e =
-      let a = symbol-bit w q j g nq in
-      let b = symbol-bit w p k h np in
-      let i : j ≡ k = omega arith in
-      (ap suc i, omega arith)
+  slot-inj w q p zero zero g h lj lk nq np e = (refl, omega arith)
+  slot-inj w q p zero (suc k) g h lj lk nq np e = absurd (omega (arith, g .root, link-high w k (symbol S p (suc k))))
+  slot-inj w q p (suc j) zero g h lj lk nq np e = absurd (omega (arith, h .root, link-high w j (symbol S q (suc j))))
+  slot-inj w q p (suc j) (suc k) g h lj lk nq np e =
+      let i = link-inj w j k (symbol S q (suc j)) (symbol S p (suc k)) lj lk (symbol-bit w q j g nq) (symbol-bit w p k h np) e in
+      (ap suc (i .0), i .1)

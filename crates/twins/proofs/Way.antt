@@ -1,34 +1,37 @@
 -- The way of a search along a pair's path.
-use mathlib.Core.Path.{_≡_, refl, sym, ap, ap₂, _∙_}
+use mathlib.Core.Path.{_≡_, refl, sym, ap, ap₂, _∙_, subst}
 use mathlib.Core.Bool.{Bool, true, false, cond, false≢true}
 use mathlib.Core.List.{List}
-use Prim.Native.Nat.{ℕ, zero, suc, _+_, _-_, _*_, _/_, _%_, _<_, _≤_}
+use Prim.Native.Nat.{ℕ, zero, suc, _+_, _-_, _/_, _%_, _<_, _≤_}
 use native.Mathlib.Omega.{arith}
 use borrow.Author.Tests.{eqb-true}
 use lib.Dec.{eqb}
-use lib.ListN.{getD}
-use Rattle.plan.specs.Literals.{varOf}
+use Rattle.plan.specs.Literals.{litOf, varOf}
 use Rattle.theorems.proofs.Reading.Common.{and-left, and-right}
 use Rattle.theorems.proofs.Tables.{gateAt}
 use Rattle.twins.specs.declared.Place.the-variants.{Taken, Free}
 use Rattle.twins.specs.Tree.{depth, on, orFirst, firstOn, node, symbol, slotOf, Good}
-use Rattle.twins.specs.Pairs.{keyOf, halves, rootOf, pathOf, paths, word, Tree, Rooted, Sought}
+use Rattle.twins.specs.Pairs.{halves, rootOf, pathOf, paths, word, Tree, Rooted, Sought}
 use Rattle.twins.proofs.Agree.{agreed}
 use Rattle.twins.proofs.Depth.{depth-pos, First, first-some, node-next, none-on}
-use Rattle.twins.proofs.Slots.{slot-low}
 use Rattle.twins.proofs.Roots.{root-low}
 use Rattle.twins.proofs.Earliest.{same, earliest, leftOf, twin-earliest, earliest-none, earliest-stays}
 
 pub good-path : (w x y : ℕ) → varOf x < w → Good w (pathOf w x y)
 good-path w x y h = record { root = root-low w x y (omega arith); bits = λ d. omega arith }
 
-path-bit : (w x y d : ℕ) → 0 < d → pathOf w x y d ≡ halves (keyOf x y) (d - 1) % 2
+path-bit : (w x y d : ℕ) → 0 < d → pathOf w x y d ≡ halves y (d - 1) % 2
 path-bit w x y zero h = absurd (omega arith)
-path-bit w x y (suc d) h = let e : d ≡ suc d - 1 = omega arith in ap (λ (j : ℕ). halves (keyOf x y) j % 2) e
+path-bit w x y (suc d) h = let e : d ≡ suc d - 1 = omega arith in ap (λ (j : ℕ). halves y j % 2) e
 
 half-more : (key d : ℕ) → 0 < d → halves key (d - 1) / 2 ≡ halves key d
 half-more key zero h = absurd (omega arith)
 half-more key (suc d) h = let e : suc d - 1 ≡ d = omega arith in ap (λ (j : ℕ). halves key j / 2) e
+
+-- how many gates may be left to look at, where the next is counted from 1
+abbrev pub left : ℕ → ℕ → ℕ
+left n zero = 0
+left n (suc i) = n - i
 
 -- the search stands at node k, no gate before which has the pair, with what is left of the key
 pub record Way (gates : List ℕ) (w n x y slot key : ℕ) : Type 0 where
@@ -36,7 +39,7 @@ pub record Way (gates : List ℕ) (w n x y slot key : ℕ) : Type 0 where
   pub below : k ≤ n
   pub stands : node (paths w gates) (pathOf w x y) k ≡ true
   pub at : slot ≡ slotOf w k (symbol (paths w gates) (pathOf w x y) k)
-  pub key-is : key ≡ halves (keyOf x y) (depth (paths w gates) (pathOf w x y) k - 1)
+  pub key-is : key ≡ halves y (depth (paths w gates) (pathOf w x y) k - 1)
   pub absent : earliest gates x y k ≡ 0
 
 module _ {gates scratch : List ℕ} {w n x y : ℕ} (tree : Tree gates scratch w n) (rooted : Rooted w x y) where
@@ -61,28 +64,25 @@ module _ {gates scratch : List ℕ} {w n x y : ℕ} (tree : Tree gates scratch w
           let here : S i ≡ q = ap₂ (λ (a b : ℕ). pathOf w a b) left right in
           absurd (false≢true (sym h ∙ agreed (depth S q i) q (S i) (λ d l. sym (ap (λ (s : ℕ → ℕ). s d) here))))
 
-  pub way-start : {slot key : ℕ} → slot ≡ w + rootOf w x y → key ≡ keyOf x y → Way gates w n x y slot key
+  pub way-start : {slot key : ℕ} → slot ≡ w + rootOf w x y → key ≡ y → Way gates w n x y slot key
   way-start e f = record { k = 0; below = omega arith; stands = refl; at = e; key-is = f; absent = refl }
 
   module _ {slot key : ℕ} (v : Way gates w n x y slot key) where
-    leads : getD scratch slot 0 ≡ firstOn S q (v .k) n
-    leads = ap (word scratch) (v .at) ∙ tree .grown q good (v .k) (v .below) (v .stands)
-
-    pub way-slot : slot < 2 * w + 2 * n
-    way-slot = rw (v .at) (slot-low S w q (v .k) n good (v .below) (v .stands))
+    leads : word gates scratch w slot ≡ firstOn S q (v .k) n
+    leads = ap (word gates scratch w) (v .at) ∙ tree .grown q good (v .k) (v .below) (v .stands)
 
     -- no gate is left on the path
-    pub way-out : getD scratch slot 0 ≡ 0 → Sought gates scratch w n x y (Free slot)
-    way-out e =
+    pub way-out : (base : ℕ) → word gates scratch w slot ≡ 0 → Sought gates scratch base w n x y (Free slot)
+    way-out base e =
         let z : firstOn S q (v .k) n ≡ 0 = sym leads ∙ e in
         let no-gate : earliest gates x y n ≡ 0
         = earliest-none gates x y (v .k) n (v .below) (v .absent) (λ j a b. off-path j (none-on S q (v .k) n j z a b)) in (
-          twin-earliest gates x y n ∙ ap (leftOf gates) no-gate,
+          twin-earliest base gates x y n ∙ ap (leftOf base) no-gate,
           record { k = v .k; below = v .below; stands = v .stands; at = v .at; free = e },
         )
 
     -- gate i is the next on the path
-    module _ {i : ℕ} (e : getD scratch slot 0 ≡ suc i) where
+    module _ {i : ℕ} (e : word gates scratch w slot ≡ suc i) where
       first : First S q (v .k) n i
       first = first-some S q (v .k) n i (sym leads ∙ e)
 
@@ -95,20 +95,33 @@ module _ {gates scratch : List ℕ} {w n x y : ℕ} (tree : Tree gates scratch w
       pub way-low : i < n
       way-low = first .below
 
-      pub way-rises : (b : ℕ) → slot < 2 * w + (2 * i + b)
-      way-rises b = rw (v .at) (omega (arith, slot-low S w q (v .k) i good (first .after) (v .stands)))
+      pub way-rises : v .k ≤ i
+      way-rises = first .after
 
-      pub way-found : same gates x y i ≡ true → Sought gates scratch w n x y (Taken (getD gates (3 * i) 0))
-      way-found s = twin-earliest gates x y n ∙ ap (leftOf gates) (earliest-stays gates x y i n (first .below) absent-before s)
+      pub way-found : (base : ℕ) → same gates x y i ≡ true → Sought gates scratch base w n x y (Taken (litOf (base + i)))
+      way-found base s =
+          twin-earliest base gates x y n ∙ ap (leftOf base) (earliest-stays gates x y i n (first .below) absent-before s)
 
-      pub way-next : same gates x y i ≡ false → Way gates w n x y (2 * w + (2 * i + key % 2)) (key / 2)
+      pub way-next : same gates x y i ≡ false → Way gates w n x y (slotOf w (suc i) (key % 2)) (key / 2)
       way-next s = record {
         k = suc i;
         below = first .below;
         stands = first .stands;
-        at = ap (λ (c : ℕ). 2 * w + (2 * i + c))
+        at = ap (slotOf w (suc i))
             (ap (λ (j : ℕ). j % 2) (v .key-is) ∙ sym (path-bit w x y (depth S q (v .k)) (depth-pos S q (v .k))) ∙ ap q (sym deep));
-        key-is = ap (λ (j : ℕ). j / 2) (v .key-is) ∙ half-more (keyOf x y) (depth S q (v .k)) (depth-pos S q (v .k))
-            ∙ ap (halves (keyOf x y)) (sym deep);
+        key-is = ap (λ (j : ℕ). j / 2) (v .key-is) ∙ half-more y (depth S q (v .k)) (depth-pos S q (v .k))
+            ∙ ap (halves y) (sym deep);
         absent = ap₂ (λ (a : ℕ) (c : Bool). orFirst a (cond c (suc i) 0)) absent-before s;
       }
+
+  -- each gate that is looked at comes after the one before it
+  pub way-less : {slot key i at at′ : ℕ} → (v : Way gates w n x y slot key) (e : word gates scratch w slot ≡ suc i) → same gates x y i ≡ false
+      → at ≡ suc i → at′ ≡ word gates scratch w (slotOf w (suc i) (key % 2)) → left n at′ < left n at
+  unfolding way-next
+  way-less {slot} {key} {i} {at} {at′} v e s a b = subst (λ (j : ℕ). left n at′ < left n j) (sym a) (go at′ b)
+    where
+      go : (j : ℕ) → j ≡ word gates scratch w (slotOf w (suc i) (key % 2)) → left n j < left n (suc i)
+      go zero z = omega (arith, way-low v e)
+      go (suc j) z =
+          let after : suc i ≤ j = way-rises (way-next v e s) (sym z) in
+          omega (arith, after, way-low (way-next v e s) (sym z))

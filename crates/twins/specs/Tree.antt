@@ -36,13 +36,15 @@ node S q (suc i) = on S q i
 abbrev pub symbol : (ℕ → ℕ → ℕ) → (ℕ → ℕ) → ℕ → ℕ
 symbol S q k = q (depth S q k - 1)
 
--- after w words of another use come w roots, then two links a gate
+-- the places at which gates hang, numbered: after w words of another use come 2 × w roots, then one link of each gate; the other links
+-- are numbered from 4 × w on
 abbrev pub slotOf : ℕ → ℕ → ℕ → ℕ
 slotOf w zero c = w + c
-slotOf w (suc i) c = 2 * w + (2 * i + c)
+slotOf w (suc i) zero = 4 * w + i
+slotOf w (suc i) (suc c) = 3 * w + i
 
 pub record Good (w : ℕ) (q : ℕ → ℕ) : Type 0 where
-  pub root : q 0 < w
+  pub root : q 0 < 2 * w
   pub bits : (d : ℕ) → q (suc d) < 2
 
 -- each node's word leads to the first gate after it on the path

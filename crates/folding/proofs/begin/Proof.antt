@@ -7,7 +7,7 @@ use lib.ListN.{length, drop, set, length-set}
 use Rattle.plan.specs.Literals.{litOf, wordOf, doubled}
 use Rattle.plan.specs.Binary.{litsFrom}
 use Rattle.folding.proofs.Loop.{begin-more}
-use Rattle.folding.proofs.Step.{whole}
+use Rattle.twins.proofs.Roots.{whole}
 use Rattle.folding.proofs.begin.Statement.{statement}
 use Rattle.folding.proofs.begin.Tie as tie
 

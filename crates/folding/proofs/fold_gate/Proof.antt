@@ -1,14 +1,14 @@
-use Prim.Native.Nat.{ℕ, _+_, min, max}
+use Prim.Native.Nat.{ℕ, min, max}
 use mathlib.Core.Path.{_≡_, sym, ap, ap₂, _∙_, subst₂}
 use native.Mathlib.Omega.{arith}
 use Rattle.plan.specs.declared.Lit.{Lit}
-use Rattle.plan.specs.Literals.{litAt, wordOf, varOf, litOf, doubled}
+use Rattle.plan.specs.Literals.{litAt, wordOf, varOf}
 use Rattle.plan.specs.Reduce.{becomes}
 use Rattle.twins.specs.declared.Place.{Place}
 use Rattle.twins.specs.declared.Place.the-variants.{Taken, Free}
 use Rattle.twins.specs.Pairs.{Rooted}
 use Rattle.folding.specs.Rules.{StandsIn}
-use Rattle.folding.proofs.Step.{whole, left, right, room, rooted, answered, stands, slot-in, retained-as}
+use Rattle.folding.proofs.Step.{left, right, room, rooted, named-low, answered, stands, slot-low, retained-as}
 use borrow.Author.Needs.{needs}
 use Rattle.folding.proofs.fold_gate.Statement.{statement}
 use Rattle.folding.proofs.fold_gate.Tie as tie
@@ -26,18 +26,19 @@ left-is c =
 right-is : (c : tie.After-becomes2) → c .becomes2 .result ≡ litAt (right (start c .pre .1) (start c .pre .0))
 right-is c = c .becomes2 .ensures ∙ ap (λ (l : Lit). litAt (becomes (start c .args .scratch .now) (wordOf l))) (c .before .at2 .ensures)
 
--- the call's arguments, where the gate hangs
+-- back from where a gate was hung to where its place was found, and to the call's arguments
+abbrev sought : tie.After-slice-known4 → tie.After-stand-in
+sought c = c .before .before .before .before .before .before .before .before .before .before .before .before
+
 abbrev ready : tie.After-word → tie.Start
-ready c =
-    let h = c .before .before .before .before .before .before .before .before .before .before in
-    start (h .before .before .before .before .before .before .before .before)
+ready c = start (sought (c .before .before) .before .before .before)
 
 -- what stands in for the gate
 found : (c : tie.After-stand-in) (p : Place) → c .stand-in .result ≡ p
     → let d = c .before .before .before in
     let a = start d .args in
     let s = start d .pre in
-    StandsIn (a .to .now) (a .scratch .now) (a .w) (a .n) (left (s .1) (s .0)) (right (s .1) (s .0)) p
+    StandsIn (a .to .now) (a .scratch .now) (a .base) (a .w) (a .n) (left (s .1) (s .0)) (right (s .1) (s .0)) p
 found c p e =
     let d = c .before .before .before in
     answered (start d .pre .1) (start d .pre .0) (left-is d) (right-is d) e (c .stand-in .ensures)
@@ -90,7 +91,10 @@ stand-in-requires c κs =
     let s = start d in
     let sides = rooted (s .pre .1) (s .pre .0) in (
       room (s .pre .1) (s .pre .0),
-      (subst₂ (λ (x y : Lit). Rooted (s .args .w) (wordOf x) (wordOf y)) (sym (left-is d)) (sym (right-is d)) sides, s .pre .1 .tree),
+      (
+        named-low (s .pre .1) (s .pre .0),
+        (subst₂ (λ (x y : Lit). Rooted (s .args .w) (wordOf x) (wordOf y)) (sym (left-is d)) (sym (right-is d)) sides, s .pre .1 .tree),
+      ),
     )
 
 enum-known-l : tie.Need-enum-known-l
@@ -120,18 +124,6 @@ returns c =
 enum-known-slot : tie.Need-enum-known-slot
 enum-known-slot c = search needs
 
-add-at-3 : tie.Need-add-at-3
-add-at-3 c = search needs
-
-cast-at : tie.Need-cast-at
-cast-at c = search needs
-
-at-requires-3 : tie.Need-at-requires-3
-at-requires-3 c κs = search needs
-
-lit-requires : tie.Need-lit-requires
-lit-requires c κs = search needs
-
 larger-requires : tie.Need-larger-requires
 larger-requires c κs = search needs
 
@@ -140,14 +132,15 @@ smaller-requires c κs = search needs
 
 hang-requires : tie.Need-hang-requires
 hang-requires c κs =
-    let k = c .before .before .before .before .before .before .before .before .before in
+    let k = c .before .before .before .before .before .before .before in
     let s = start (k .before .before .before) in
-    let there = found k (Free _) (c .before .before .before .before .before .before .before .slot .given .1) in
-    let r = s .pre .0 in (
-      omega (arith, s .pre .1 .count, r .to-long),
-      slot-in (s .pre .1) r (there .0) (there .1),
-      omega (arith, s .pre .1 .count, r .within, r .few),
-    )
+    let there = found k (Free _) (c .before .before .before .before .before .slot .given .1) in
+    (room (s .pre .1) (s .pre .0), slot-low (s .pre .1) (s .pre .0) (there .0) (there .1))
+
+left-side-requires : tie.Need-left-side-requires
+left-side-requires c κs =
+    let s = start (sought c .before .before .before) in
+    omega (arith, named-low (s .pre .1) (s .pre .0), s .pre .0 .few)
 
 word-requires : tie.Need-word-requires
 word-requires c κs = search needs
@@ -161,7 +154,7 @@ mul-scratch-2 c = let r = ready c .pre .0 in omega (arith, r .within, r .few)
 slice-write-scratch-2 : tie.Need-slice-write-scratch-2
 slice-write-scratch-2 c =
     let r = ready c .pre .0 in
-    omega (arith, c .before .before .scratch .given, r .within, r .scratch-long)
+    omega (arith, c .before .before .before .scratch .given, r .within, r .scratch-long)
 
 add-result : tie.Need-add-result
 add-result c = let s = ready c in omega (arith, s .pre .1 .count, s .pre .0 .within, s .pre .0 .few)
@@ -174,20 +167,16 @@ same-length-4 c = search needs
 
 returns-2 : tie.Need-returns-2
 returns-2 c =
-    let h = c .before .before .before .before .before in
-    let l = h .before .before .before .before .before in
-    let k = l .before .before .before .before .before in
+    let h = c .before .before .before .before .before .before in
+    let k = sought (c .before .before) in
     let d = k .before .before .before in
     let s = start d in
-    let a = s .args in
-    let there = found k (Free _) (l .before .before .before .slot .given .1) in
-    let l-is : wordOf (l .lit .result) ≡ litOf (a .base + a .n)
-    = ap wordOf (l .lit .ensures ∙ ap doubled (l .before .at3 .ensures))
-    ∙ whole (a .base + a .n) (omega (arith, s .pre .1 .count, s .pre .0 .within, s .pre .0 .few)) in
+    let there = found k (Free _) (h .before .before .before .before .before .before .slot .given .1) in
     let sorted : (f : ℕ → ℕ → ℕ) → f (wordOf (d .before .before .before .before .becomes .result)) (wordOf (d .becomes2 .result)) ≡ _
     = λ f. ap₂ (λ (x y : Lit). f (wordOf x) (wordOf y)) (left-is d) (right-is d) in
-    retained-as (s .pre .1) (s .pre .0) (there .0) (there .1) l-is (ap wordOf (h .before .before .larger .ensures) ∙ sorted max)
-    (ap wordOf (h .before .smaller .ensures) ∙ sorted min) (c .word .ensures) (h .hang .ensures .0) (h .hang .ensures .1)
+    retained-as (s .pre .1) (s .pre .0) (there .0) (there .1) (ap wordOf (h .before .before .larger .ensures) ∙ sorted max)
+    (ap wordOf (h .before .smaller .ensures) ∙ sorted min) (c .word .ensures ∙ c .before .left-side .ensures)
+    (h .hang .ensures .0) (h .hang .ensures .1)
 
 pub fold-gate-spec : {M : Type 1} → statement M
 fold-gate-spec =
@@ -214,13 +203,10 @@ fold-gate-spec =
     same-length-2
     returns
     enum-known-slot
-    add-at-3
-    cast-at
-    at-requires-3
-    lit-requires
     larger-requires
     smaller-requires
     hang-requires
+    left-side-requires
     word-requires
     add-scratch-2
     mul-scratch-2

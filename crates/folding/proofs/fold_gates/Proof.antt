@@ -28,7 +28,8 @@ loop-holds c =
         within = omega arith;
         to-long = refl;
         scratch-long = refl;
-        held = begun-held (a .gates .now) (a .to .now) (a .scratch .now) _ (a .base) (a .a) (s .pre .blank) (started .ensures);
+        held = begun-held (a .gates .now) (a .to .now) (a .scratch .now) _ (a .base) (a .a) (s .pre .to-blank) (s .pre .scratch-blank)
+            (started .ensures);
         past = refl;
       },
     )
@@ -66,16 +67,25 @@ loop-again c =
     let t = c .before .before .before .before .before .before .before .loop-test in
     (refl, going-more (t .taken) (c .before .before .before .to .given) (c .before .scratch2 .given) (g .ensures) (l .inv .1))
 
+name-gates-requires : tie.Need-name-gates-requires Inv-loop μ-loop
+name-gates-requires c κs =
+    let l = c .before .before .loop in
+    let s = c .before .before .before .before .before .before .before .before .before .before in
+    let g = l .inv .1 in
+    (omega (arith, g .held .count, g .within, g .to-long, s .pre .to-long), omega (arith, g .held .count, g .within, s .pre .few))
+
 same-length : tie.Need-same-length Inv-loop μ-loop
-same-length c = c .before .loop .inv .1 .to-long
+same-length c = c .before .to2 .given ∙ c .before .before .before .before .before .loop .inv .1 .to-long
 
 same-length-2 : tie.Need-same-length-2 Inv-loop μ-loop
-same-length-2 c = c .before .loop .inv .1 .scratch-long ∙ c .before .before .before .scratch .given
+same-length-2 c =
+    let l = c .before .before .before .before .before in
+    l .loop .inv .1 .scratch-long ∙ l .before .before .scratch .given
 
 returns : tie.Need-returns Inv-loop μ-loop
 returns c =
-    let s = c .before .before .before .before .before .before .before .before .before in
-    going-end (c .loop-test .left) (s .pre .to-long) (c .before .loop .inv .1)
+    let t = c .before .before .before .before in
+    going-end (t .loop-test .left) (t .before .loop .inv .1) (c .before .before .name-gates .ensures)
 
 pub fold-gates-spec : {M : Type 1} → statement M
 fold-gates-spec =
@@ -90,6 +100,7 @@ fold-gates-spec =
     add-k
     loop-less
     loop-again
+    name-gates-requires
     same-length
     same-length-2
     returns)

@@ -23,14 +23,14 @@ find-requires : tie.Need-find-requires
 find-requires c κs =
     let s = c .before .before .before .before .before .before .before in (
       s .pre .0,
-      (rooted-sorted (s .pre .1 .0) (c .before .larger .ensures) (c .smaller .ensures), s .pre .1 .1),
+      (s .pre .1 .0, (rooted-sorted (s .pre .1 .1 .0) (c .before .larger .ensures) (c .smaller .ensures), s .pre .1 .1 .1)),
     )
 
 returns : tie.Need-returns
 returns c =
     let a = c .before .before .before .before .before .before .args in
     let r = c .before .before .before .by-sides in
-    by-rule (a .gates .now) (a .scratch .now) (a .w) (a .n) (wordOf (a .a)) (wordOf (a .b)) (r .result) (r .ensures) _
+    by-rule (a .gates .now) (a .scratch .now) (a .base) (a .w) (a .n) (wordOf (a .a)) (wordOf (a .b)) (r .result) (r .ensures) _
     (c .before .l .given .1)
 
 returns-2 : tie.Need-returns-2
@@ -38,7 +38,7 @@ returns-2 c =
     let start = c .before .before .before .before .before .before .before .before in
     let a = start .args in
     let r = c .before .before .before .before .before .by-sides in
-    by-twin (a .gates .now) (a .scratch .now) (a .w) (a .n) (wordOf (a .a)) (wordOf (a .b)) (r .result) (r .ensures) _ _
+    by-twin (a .gates .now) (a .scratch .now) (a .base) (a .w) (a .n) (wordOf (a .a)) (wordOf (a .b)) (r .result) (r .ensures) _ _
     (c .before .before .before .enum-told .given .1) (c .before .before .larger .ensures) (c .before .smaller .ensures) (c .find .result)
     (c .find .ensures)
 

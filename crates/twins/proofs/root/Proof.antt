@@ -1,24 +1,20 @@
 use Prim.Native.Nat.{_+_}
-use mathlib.Core.Path.{_≡_, ap, ap₂, _∙_}
+use mathlib.Core.Path.{_≡_, ap₂}
 use native.Mathlib.Omega.{arith}
-use Rattle.plan.specs.Literals.{indexOf, varOf, wordOf}
+use borrow.Author.Needs.{needs}
+use Rattle.plan.specs.Literals.{wordOf}
 use Rattle.twins.specs.Pairs.{spreadOf}
 use Rattle.twins.proofs.Roots.{spread-low, root-under, root-over}
-use borrow.Author.Needs.{needs}
 use Rattle.twins.proofs.root.Statement.{statement}
 use Rattle.twins.proofs.root.Tie as tie
 
--- what the code tests against w
+-- what the code tests
 sum : (c : tie.After-spread)
-    → let a = c .before .before .before .args in
-    c .before .index .result + c .spread .result ≡ varOf (wordOf (a .x)) + spreadOf (a .w) (wordOf (a .y))
-sum c = ap₂ _+_ (c .before .index .ensures ∙ ap indexOf (c .before .before .var .ensures)) (c .spread .ensures)
+    → let a = c .before .before .args in c .before .word .result + c .spread .result ≡ wordOf (a .x) + spreadOf (a .w) (wordOf (a .y))
+sum c = ap₂ _+_ (c .before .word .ensures) (c .spread .ensures)
 
-var-requires : tie.Need-var-requires
-var-requires c κs = search needs
-
-index-requires : tie.Need-index-requires
-index-requires c κs = search needs
+word-requires : tie.Need-word-requires
+word-requires c κs = search needs
 
 cast-v : tie.Need-cast-v
 cast-v c = search needs
@@ -28,20 +24,40 @@ spread-requires c κs = search needs
 
 add-v : tie.Need-add-v
 add-v c =
-    let s = c .before .before .before in
+    let s = c .before .before in
     let a = s .args in
     record { fits = omega (arith, sum c, s .pre, spread-low (a .w) (wordOf (a .y)) (omega (arith, s .pre .0))) }
 
+mul-if1 : tie.Need-mul-if1
+mul-if1 c = search needs
+
+mul-result : tie.Need-mul-result
+mul-result c = search needs
+
+sub-result : tie.Need-sub-result
+sub-result c = search needs
+
 returns : tie.Need-returns
 returns c =
-    let a = c .before .before .before .before .args in
+    let a = c .before .before .before .args in
     root-under (a .w) (wordOf (a .x)) (wordOf (a .y)) _ (sum (c .before)) (omega (arith, c .if1 .taken))
 
 returns-2 : tie.Need-returns-2
 returns-2 c =
-    let s = c .before .before .before .before in
+    let s = c .before .before .before in
     let a = s .args in
     root-over (a .w) (wordOf (a .x)) (wordOf (a .y)) _ (s .pre .0) (sum (c .before)) (omega (arith, c .if1 .left))
 
 pub root-spec : {M : Type 1} → statement M
-root-spec = tie.close (tie.spec var-requires index-requires cast-v spread-requires add-v returns returns-2)
+root-spec =
+    tie.close
+    (tie.spec
+    word-requires
+    cast-v
+    spread-requires
+    add-v
+    mul-if1
+    mul-result
+    sub-result
+    returns
+    returns-2)
