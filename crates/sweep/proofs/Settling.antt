@@ -1,12 +1,16 @@
--- The table after the sweep: each variable's word is its value in the step.
-use Prim.Native.Nat.{ℕ, _+_, _≤_, _<_}
-use mathlib.Core.Path.{_≡_, refl, sym, ap, _∙_, subst}
-use mathlib.Core.List.{List, [], _∷_, _++_, map}
+-- The table after the sweep: each literal's word is its value in the step, and what stands before these words is as it was.
+use Prim.Native.Nat.{ℕ, _+_, _*_, _≤_, _<_}
+use mathlib.Core.Path.{_≡_, sym, ap, ap₂, _∙_, subst}
+use mathlib.Core.List.{List, map}
 use native.Mathlib.Omega.{arith}
-use lib.ListN.{length, getD, take, drop, length-append, take-append-drop}
+use lib.ListN.{length, getD, take, length-append, List·getD-map}
+use lib.Seq.{getD-take}
 use Rattle.plan.specs.declared.Counts.{Counts}
+use Rattle.plan.specs.Literals.{varOf, signOf}
 use Rattle.plan.specs.Circuit.{Gate, Circuit}
-use Rattle.plan.specs.Step.{Value, valuesOf}
+use Rattle.plan.specs.Step.{Value, v0, signedValue, lit, valuesOf}
+use Rattle.plan.specs.Outcome.{put}
+use Rattle.theorems.proofs.Put.{put-over}
 use Rattle.theorems.proofs.Reading.Runs.{BinaryOrder, order-exactly}
 use Rattle.theorems.proofs.Tables.{gateAt, gatesAt, gates-rows, length-firsts}
 use Rattle.theorems.proofs.Running.Binary.{Binary, inner}
@@ -14,16 +18,17 @@ use Rattle.theorems.proofs.Running.InOrder.{order-binary}
 use Rattle.theorems.proofs.Running.Upward.{given}
 use Rattle.theorems.proofs.Running.Sweep.{sweep, at, length-sweep, sweep-step}
 use Rattle.tables.specs.Held.{circuitIn, Scratch}
-use Rattle.values.specs.Words.{word, told, words}
+use Rattle.values.specs.Words.{word, told, valuesAt}
 use Rattle.values.proofs.Codes.{told-words}
-use Rattle.sweep.specs.Lookup.{valueAt, Sweeps, swept}
+use Rattle.values.proofs.Parts.{front-stays}
+use Rattle.sweep.specs.Lookup.{litWords, Spreads, spread, Sweeps, swept}
 use Rattle.sweep.specs.Running.{Runs, Stands}
-use Rattle.sweep.proofs.Sweeping.{value-at, small-at}
+use Rattle.sweep.proofs.NotAnd.{word-small}
+use Rattle.sweep.proofs.Spreading.{Spread, literal-word}
 
--- the constant's word stays
-pub sweep-first : (a : Value) (l : List Value) (gs : List Gate) (rest : List ℕ) → take 1 (words (sweep (a ∷ l) gs) ++ rest) ≡ word a ∷ []
-sweep-first a l [] rest = refl
-sweep-first a l (g ∷ gs) rest = sweep-first a _ gs rest
+-- where the literals' words start
+abbrev pub litsOf : Counts → ℕ
+litsOf n = n .M + 1 + n .O + n .L
 
 module _ {n : Counts} {inputs latches outputs gates : List ℕ} (r : Runs n inputs latches outputs gates) where
   abbrev c : Circuit
@@ -38,7 +43,7 @@ module _ {n : Counts} {inputs latches outputs gates : List ℕ} (r : Runs n inpu
   all-leaves : inner c ≡ leaves
   all-leaves = ap (λ (m : Counts). 1 + m .I + m .L) (r .counts)
 
-  pub all-variables : leaves + n .A ≡ n .M + 1
+  all-variables : leaves + n .A ≡ n .M + 1
   all-variables =
       let i = ap (λ (m : Counts). m .I) (r .counts) in
       let l = ap (λ (m : Counts). m .L) (r .counts) in
@@ -50,48 +55,76 @@ module _ {n : Counts} {inputs latches outputs gates : List ℕ} (r : Runs n inpu
       subst (λ (k : ℕ). Binary k (gatesAt gates (n .A))) all-leaves
       (subst (λ (gs : List Gate). Binary (inner c) gs) (gates-rows gates (n .A)) (order-binary (inner c) (c .gates) (in-order .gates)))
 
-  module _ {s i : List Value} {t : List ℕ} (b : Stands n s i t) where
+  module _ {s i : List Value} {t : List ℕ} (room : Scratch n t) (b : Stands n s i t) where
+    pub literals-long : litsOf n + 2 * (n .M + 1) ≤ length t
+    literals-long = omega (arith, room, r .fits .sum)
+
     given-length : length (given s i) ≡ leaves
     given-length = omega (arith, length-append i s, b .state-length, b .inputs-length)
 
-    leaves-first : t ≡ words (given s i) ++ drop leaves t
-    leaves-first = sym (take-append-drop leaves t) ∙ ap (λ (x : List ℕ). x ++ drop leaves t) (b .leaves)
+    leaf-small : (v : ℕ) → v < leaves → getD t v 0 < 3
+    leaf-small v h =
+        subst (λ (w : ℕ). w < 3)
+        (sym (sym (getD-take leaves t v 0 h) ∙ (ap (λ (l : List ℕ). getD l v 0) (b .leaves) ∙ List·getD-map word (given s i) v v0)))
+        (word-small (getD (given s i) v v0))
 
-    pub sweeps : Scratch n t → Sweeps gates (n .A) leaves t
-    sweeps room = record {
-      gates-long = r .fits .gates-long;
-      table-long = omega (arith, room, r .fits .sum);
-      ordered = gates-binary;
-      small = λ v h. subst (λ (x : List ℕ). getD x v 0 < 3) (sym leaves-first)
-          (small-at (given s i) (drop leaves t) v (omega (arith, given-length)));
+    pub spreads : Spreads leaves (litsOf n) t
+    spreads = record {
+      before = omega (arith, r .fits .sum);
+      table-long = omega (arith, literals-long, r .fits .sum);
+      small = leaf-small;
     }
 
-    -- t′: the table after the sweep
-    module _ {t′ : List ℕ} (e : t′ ≡ swept gates (n .A) leaves t) where
-      abbrev settled : List Value
-      settled = sweep (given s i) (gatesAt gates (n .A))
+    -- t1: with the leaves' values at their literals
+    module _ {t1 : List ℕ} (same : length t1 ≡ length t) (e : t1 ≡ spread leaves (litsOf n) t) where
+      front-one : (p : ℕ) → p ≤ litsOf n → take p t1 ≡ take p t
+      front-one p h =
+          ap (take p) e ∙ front-stays t (litsOf n) (litWords (valuesAt t 0 leaves)) (omega (arith, literals-long)) p h
 
-      pub settled-are : t′ ≡ words settled ++ drop (leaves + n .A) t
-      settled-are =
-          e ∙ ap (λ (l : List Value). words (sweep l (gatesAt gates (n .A))) ++ drop (leaves + n .A) t)
-          (ap (map told) (b .leaves) ∙ told-words (given s i))
+      leaves-stay : valuesAt t1 0 leaves ≡ valuesAt t 0 leaves
+      leaves-stay = ap (map told) (front-one leaves (omega (arith, r .fits .sum)))
 
-      settled-length : length settled ≡ n .M + 1
-      settled-length =
-          length-sweep (given s i) (gatesAt gates (n .A))
-          ∙ omega (arith, given-length, length-firsts (gateAt gates) (n .A), all-variables)
+      pub sweeps : Sweeps gates (n .A) leaves (litsOf n) t1
+      sweeps = record {
+        gates-long = r .fits .gates-long;
+        table-long = omega (arith, literals-long, same, all-variables);
+        ordered = gates-binary;
+        there = sym (ap₂ (λ (x : List ℕ) (l : List Value). put x (litsOf n) (litWords l)) e leaves-stay
+            ∙ (put-over t (litsOf n) w w (omega (arith, literals-long)) (omega arith) ∙ sym e));
+      }
+        where
+          w : List ℕ
+          w = litWords (valuesAt t 0 leaves)
 
-      pub settled-small : (v : ℕ) → v ≤ n .M → getD t′ v 0 < 3
-      settled-small v h =
-          subst (λ (x : List ℕ). getD x v 0 < 3) (sym settled-are) (small-at settled _ v (omega (arith, settled-length)))
+      -- t2: after the sweep
+      module _ {t2 : List ℕ} (same2 : length t2 ≡ length t1) (e2 : t2 ≡ swept gates (n .A) leaves (litsOf n) t1) where
+        abbrev settled : List Value
+        settled = sweep (given s i) (gatesAt gates (n .A))
 
-      pub settled-value : (v : ℕ) → v ≤ n .M → valueAt t′ v ≡ valuesOf c s i v
-      settled-value v h =
-          ap (λ (x : List ℕ). valueAt x v) settled-are
-          ∙ (value-at settled (drop (leaves + n .A) t) v (omega (arith, settled-length))
-          ∙ (ap (λ (gs : List Gate). at (sweep (given s i) gs) v) (sym (gates-rows gates (n .A)))
-          ∙ sweep-step c in-order s i (b .state-length ∙ sym (ap (λ (m : Counts). m .L) (r .counts)))
-          (b .inputs-length ∙ sym (ap (λ (m : Counts). m .I) (r .counts))) v))
+        settled-there : Spread (litsOf n) settled t1 t2
+        settled-there = record {
+          same = same2;
+          put-there = e2 ∙ ap (λ (l : List Value). put t1 (litsOf n) (litWords (sweep l (gatesAt gates (n .A)))))
+              (leaves-stay ∙ (ap (map told) (b .leaves) ∙ told-words (given s i)));
+        }
 
-      pub settled-zero : take 1 t′ ≡ 0 ∷ []
-      settled-zero = ap (take 1) settled-are ∙ sweep-first _ (i ++ s) (gatesAt gates (n .A)) _
+        settled-length : length settled ≡ n .M + 1
+        settled-length =
+            length-sweep (given s i) (gatesAt gates (n .A))
+            ∙ omega (arith, given-length, length-firsts (gateAt gates) (n .A), all-variables)
+
+        settled-value : (v : ℕ) → at settled v ≡ valuesOf c s i v
+        settled-value v =
+            ap (λ (gs : List Gate). at (sweep (given s i) gs) v) (sym (gates-rows gates (n .A)))
+            ∙ sweep-step c in-order s i (b .state-length ∙ sym (ap (λ (m : Counts). m .L) (r .counts)))
+            (b .inputs-length ∙ sym (ap (λ (m : Counts). m .I) (r .counts))) v
+
+        pub settled-word : (l : ℕ) → varOf l ≤ n .M → getD t2 (litsOf n + l) 0 ≡ word (lit (valuesOf c s i) l)
+        settled-word l h =
+            literal-word settled-there (omega (arith, literals-long, same)) l (omega (arith, settled-length))
+            ∙ ap (λ (a : Value). word (signedValue (signOf l) a)) (settled-value (varOf l))
+
+        pub settled-front : (p : ℕ) → p ≤ litsOf n → take p t2 ≡ take p t
+        settled-front p h =
+            ap (take p) (settled-there .put-there)
+            ∙ (front-stays t1 (litsOf n) (litWords settled) (omega (arith, literals-long, same)) p h ∙ front-one p h)

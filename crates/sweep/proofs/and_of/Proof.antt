@@ -2,7 +2,7 @@ use Prim.Native.Nat.{ℕ, _+_, _*_}
 use mathlib.Core.Path.{ap, _∙_}
 use mathlib.Core.List.{List}
 use lib.ListN.{getD}
-use Rattle.sweep.proofs.Lookups.{and-at}
+use Rattle.sweep.proofs.NotAnd.{and-at}
 use borrow.Author.Needs.{needs}
 use Rattle.sweep.proofs.and_of.Statement.{statement}
 use Rattle.sweep.proofs.and_of.Tie as tie

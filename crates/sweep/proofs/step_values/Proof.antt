@@ -1,19 +1,22 @@
 use native.Mathlib.Omega.{arith}
-use Rattle.sweep.proofs.Settling.{sweeps}
+use Rattle.sweep.proofs.Settling.{spreads, sweeps}
 use Rattle.sweep.proofs.Stepping.{looks-outputs, looks-nexts, stepped}
 use borrow.Author.Needs.{needs}
 use Rattle.sweep.proofs.step_values.Statement.{statement}
 use Rattle.sweep.proofs.step_values.Tie as tie
 
--- back from one table to the one before it: after the sweep, the first look up and the second
+-- back from one table to the one before it: after the leaves, the sweep, the first look up and the second
 abbrev start : tie.After-t → tie.Start
-start a = a .before .before .before .before .before .before .before .before .before .before .before
+start a = a .before .before .before .before .before .before .before .before .before .before .before .before
 
 abbrev first : tie.After-t2 → tie.After-t
-first b = b .before .before .before .before
+first b = b .before .before .before .before .before
 
 abbrev second : tie.After-t3 → tie.After-t2
 second d = d .before .before .before .before
+
+abbrev third : tie.After-t4 → tie.After-t3
+third f = f .before .before .before .before
 
 add-state : tie.Need-add-state
 add-state c = search needs
@@ -24,46 +27,66 @@ add-out c = search needs
 add-next : tie.Need-add-next
 add-next c = search needs
 
+add-lits : tie.Need-add-lits
+add-lits c = search needs
+
+add-spread-leaves : tie.Need-add-spread-leaves
+add-spread-leaves c = search needs
+
+spread-leaves-requires : tie.Need-spread-leaves-requires
+spread-leaves-requires c κs =
+    let p = c .before .before .before .before .before .before .before .before .before .before .pre in
+    spreads (p .runs) (p .scratch) (p .stands)
+
 add-sweep-gates : tie.Need-add-sweep-gates
 add-sweep-gates c = search needs
 
 sweep-gates-requires : tie.Need-sweep-gates-requires
 sweep-gates-requires c κs =
-    let p = c .before .before .before .before .before .before .before .before .before .pre in
-    sweeps (p .runs) (p .stands) (p .scratch)
+    let a = c .before .before .before in
+    let p = start a .pre in
+    sweeps (p .runs) (p .scratch) (p .stands) (a .t .given) (a .before .spread-leaves .ensures)
 
 look-up-requires : tie.Need-look-up-requires
 look-up-requires c κs =
-    let a = c .before .before in
-    let p = start a .pre in
-    looks-outputs (p .runs) (p .scratch) (p .stands) (a .t .given) (a .before .sweep-gates .ensures)
-
-look-up-requires-2 : tie.Need-look-up-requires-2
-look-up-requires-2 c κs =
     let b = c .before .before in
     let a = first b in
     let p = start a .pre in
-    looks-nexts (p .runs) (p .scratch) (p .stands) (a .t .given) (a .before .sweep-gates .ensures) (b .t2 .given)
-    (b .before .look-up .ensures)
+    looks-outputs (p .runs) (p .scratch) (p .stands) (a .t .given) (a .before .spread-leaves .ensures) (b .t2 .given)
+    (b .before .sweep-gates .ensures)
 
-copy-requires : tie.Need-copy-requires
-copy-requires c κs =
+look-up-requires-2 : tie.Need-look-up-requires-2
+look-up-requires-2 c κs =
     let d = c .before .before in
     let b = second d in
     let a = first b in
     let p = start a .pre in
-    (omega (arith, p .runs .fits .sum), omega (arith, p .runs .fits .sum, p .scratch, a .t .given, b .t2 .given, d .t3 .given))
+    looks-nexts (p .runs) (p .scratch) (p .stands) (a .t .given) (a .before .spread-leaves .ensures) (b .t2 .given)
+    (b .before .sweep-gates .ensures) (d .t3 .given) (d .before .look-up .ensures)
+
+copy-requires : tie.Need-copy-requires
+copy-requires c κs =
+    let f = c .before .before in
+    let d = third f in
+    let b = second d in
+    let a = first b in
+    let p = start a .pre in (
+      omega (arith, p .runs .fits .sum),
+      omega (arith, p .runs .fits .sum, p .scratch, a .t .given, b .t2 .given, d .t3 .given, f .t4 .given),
+    )
 
 same-length : tie.Need-same-length
 same-length c = search needs
 
 returns : tie.Need-returns
 returns c = λ inputs s i r stands.
-    let d = c .before .before .before .before .before in
+    let f = c .before .before .before .before .before in
+    let d = third f in
     let b = second d in
     let a = first b in
-    stepped r (start a .pre .scratch) stands (a .t .given) (a .before .sweep-gates .ensures) (b .t2 .given) (b .before .look-up .ensures)
-    (d .before .look-up2 .ensures) (d .t3 .given) (c .before .before .copy .ensures)
+    stepped r (start a .pre .scratch) stands (a .t .given) (a .before .spread-leaves .ensures) (b .t2 .given)
+    (b .before .sweep-gates .ensures) (d .t3 .given) (d .before .look-up .ensures) (f .t4 .given) (f .before .look-up2 .ensures)
+    (c .before .before .copy .ensures)
 
 pub step-values-spec : {M : Type 1} → statement M
 step-values-spec =
@@ -72,6 +95,9 @@ step-values-spec =
     add-state
     add-out
     add-next
+    add-lits
+    add-spread-leaves
+    spread-leaves-requires
     add-sweep-gates
     sweep-gates-requires
     look-up-requires

@@ -1,34 +1,59 @@
-use Prim.Native.Nat.{ℕ, _+_, _*_, _-_, _≤_}
+use Prim.Native.Nat.{ℕ, _+_, _*_, _-_, _≤_, _<_}
 use mathlib.Core.Path.{_≡_, refl, sym, ap, _∙_, subst}
 use native.Mathlib.Omega.{arith}
-use lib.ListN.{getD}
+use lib.ListN.{length, getD}
 use Rattle.plan.specs.declared.Lit.{Lit}
 use Rattle.plan.specs.Literals.{wordOf, litAt}
-use Rattle.sweep.specs.Lookup.{Valued, literalWord}
-use Rattle.sweep.proofs.Lookups.{literal-small}
-use Rattle.sweep.proofs.Sweeping.{Swept, swept-none, first-valued, second-valued, swept-more, swept-all}
+use Rattle.sweep.proofs.NotAnd.{and-small}
+use Rattle.sweep.proofs.Spreading.{Spread}
+use Rattle.sweep.proofs.Sweeping.{done, swept-none, first-in, second-in, both-small, swept-more, swept-all}
 use borrow.Author.Needs.{needs}
 use Rattle.sweep.proofs.sweep_gates.Statement.{statement}
 use Rattle.sweep.proofs.sweep_gates.Tie as tie
 
 abbrev Inv-loop : tie.InvT-loop
-Inv-loop gates n first t₀ not and at₀ i₀ t at i = (i ≤ n) × (at ≡ 3 * i) × Swept gates first t₀ i t
+Inv-loop gates n first lits t₀ not and to₀ at₀ i₀ t to at i =
+    (i ≤ n) × (to ≡ lits + 2 * (first + i)) × (at ≡ 3 * i) × Spread lits (done gates first t₀ i) t₀ t
 
 abbrev μ-loop : tie.MeasureT-loop
-μ-loop gates n first t₀ not and at₀ i₀ t at i = n - i
+μ-loop gates n first lits t₀ not and to₀ at₀ i₀ t to at i = n - i
 
--- back to the start from a turn
+-- back to the start from a turn, and to the turn from where both its values are read
 abbrev start : tie.In-loop Inv-loop μ-loop → tie.Start Inv-loop μ-loop
-start i = i .before .before .before .before
+start q = q .before .before .before .before
+
+abbrev turn : tie.After-value-of2 Inv-loop μ-loop → tie.In-loop Inv-loop μ-loop
+turn b = b .before .before .before .before .before .before .before .before
 
 -- a right side of the turn's gate
-side : (i : tie.In-loop Inv-loop μ-loop) (j : ℕ) (l : Lit)
-    → let gates = start i .args .gates .now in
-    l ≡ litAt (getD gates (i .before .loop .at + j) 0) → l ≡ litAt (getD gates (3 * i .before .loop .i + j) 0)
-side i j l e = e ∙ ap (λ (k : ℕ). litAt (getD (start i .args .gates .now) (k + j) 0)) (i .before .loop .inv .1)
+side : (q : tie.In-loop Inv-loop μ-loop) (j : ℕ) (l : Lit)
+    → let gates = start q .args .gates .now in
+    l ≡ litAt (getD gates (q .before .loop .at + j) 0) → l ≡ litAt (getD gates (3 * q .before .loop .i + j) 0)
+side q j l e = e ∙ ap (λ (k : ℕ). litAt (getD (start q .args .gates .now) (k + j) 0)) (q .before .loop .inv .2)
+
+-- a literal's word, and those of both sides
+abbrev wordIn : tie.After-value-of2 Inv-loop μ-loop → Lit → ℕ
+wordIn b l = getD (turn b .before .loop .t) (start (turn b) .args .lits + wordOf l) 0
+
+first-read : (b : tie.After-value-of2 Inv-loop μ-loop)
+    → b .before .before .before .before .value-of .result
+    ≡ wordIn b (litAt (getD (start (turn b) .args .gates .now) (3 * turn b .before .loop .i + 1) 0))
+first-read b =
+    let a = b .before .before .before .before in
+    a .value-of .ensures ∙ ap (wordIn b) (side (turn b) 1 (a .before .at .result) (a .before .at .ensures))
+
+second-read : (b : tie.After-value-of2 Inv-loop μ-loop)
+    → b .value-of2 .result ≡ wordIn b (litAt (getD (start (turn b) .args .gates .now) (3 * turn b .before .loop .i + 2) 0))
+second-read b = b .value-of2 .ensures ∙ ap (wordIn b) (side (turn b) 2 (b .before .at2 .result) (b .before .at2 .ensures))
+
+mul-to : tie.Need-mul-to Inv-loop μ-loop
+mul-to c = search needs
+
+add-to : tie.Need-add-to Inv-loop μ-loop
+add-to c = search needs
 
 loop-holds : tie.Need-loop-holds Inv-loop μ-loop
-loop-holds c = (omega arith, omega arith, swept-none (c .before .before .pre))
+loop-holds c = (omega arith, omega arith, omega arith, swept-none (c .before .before .pre))
 
 add-at : tie.Need-add-at Inv-loop μ-loop
 add-at c = search needs
@@ -44,12 +69,10 @@ at-requires c κs = search needs
 
 value-of-requires : tie.Need-value-of-requires Inv-loop μ-loop
 value-of-requires c κs =
-    let i = c .before .before .before .before in
-    let w = i .before .loop in (
-      refl,
-      subst (λ (l : Lit). Valued (w .t) (wordOf l)) (sym (side i 1 (c .at .result) (c .at .ensures)))
-          (first-valued (start i .pre) (w .i) (i .loop-test .taken) (w .t) (w .inv .2)),
-    )
+    let q = c .before .before .before in
+    let w = q .before .loop in
+    subst (λ (l : Lit). start q .args .lits + wordOf l < length (w .t)) (sym (side q 1 (c .at .result) (c .at .ensures)))
+    (first-in (start q .pre) (w .i) (q .loop-test .taken) (w .t) (w .inv .3))
 
 add-at-2 : tie.Need-add-at-2 Inv-loop μ-loop
 add-at-2 c = search needs
@@ -65,30 +88,27 @@ at-requires-2 c κs = search needs
 
 value-of-requires-2 : tie.Need-value-of-requires-2 Inv-loop μ-loop
 value-of-requires-2 c κs =
-    let i = c .before .before .before .before .before .before .before .before .before in
-    let w = i .before .loop in (
-      refl,
-      subst (λ (l : Lit). Valued (w .t) (wordOf l)) (sym (side i 2 (c .at2 .result) (c .at2 .ensures)))
-          (second-valued (start i .pre) (w .i) (i .loop-test .taken) (w .t) (w .inv .2)),
-    )
+    let q = c .before .before .before .before .before .before .before in
+    let w = q .before .loop in
+    subst (λ (l : Lit). start q .args .lits + wordOf l < length (w .t)) (sym (side q 2 (c .at2 .result) (c .at2 .ensures)))
+    (second-in (start q .pre) (w .i) (q .loop-test .taken) (w .t) (w .inv .3))
 
 and-of-requires : tie.Need-and-of-requires Inv-loop μ-loop
 and-of-requires c κs =
-    let b = c .before in
-    let a = b .before .before .before .before .before in
-    let t = a .before .before .before .before .before .before .loop .t in
-    let one = literal-small t (wordOf (a .before .at .result)) _ (a .value-of .ensures) in
-    let two = literal-small t (wordOf (b .before .at2 .result)) _ (b .value-of2 .ensures) in
-    (refl, (one, two))
+    let b = c .before .before in
+    let q = turn b in
+    let w = q .before .loop in
+    (refl, both-small (start q .pre) (w .i) (q .loop-test .taken) (w .t) (w .inv .3) _ _ (first-read b) (second-read b))
 
-add-t : tie.Need-add-t Inv-loop μ-loop
-add-t c = search needs
+put-value-requires : tie.Need-put-value-requires Inv-loop μ-loop
+put-value-requires c κs =
+    let b = c .before .before .before .before in
+    let q = turn b in
+    let small = and-small (b .before .before .before .before .value-of .result) (b .value-of2 .result) _ (c .before .and-of .ensures) in
+    (refl, (small, omega (arith, q .before .loop .inv .3 .same, start q .pre .table-long)))
 
-mul-t : tie.Need-mul-t Inv-loop μ-loop
-mul-t c = search needs
-
-slice-write-t : tie.Need-slice-write-t Inv-loop μ-loop
-slice-write-t c = search needs
+add-to-2 : tie.Need-add-to-2 Inv-loop μ-loop
+add-to-2 c = search needs
 
 add-at-3 : tie.Need-add-at-3 Inv-loop μ-loop
 add-at-3 c = search needs
@@ -101,25 +121,23 @@ loop-less c = search needs
 
 loop-again : tie.Need-loop-again Inv-loop μ-loop
 loop-again c =
-    let b = c .before .before in
-    let a = b .before .before .before .before .before in
-    let i = a .before .before .before .before .before in
-    let w = i .before .loop in
-    let looked : Lit → ℕ = λ l. literalWord (w .t) (wordOf l) in (
+    let b = c .before .before .before .before .before .before .before in
+    let q = turn b in
+    let w = q .before .loop in (
       omega arith,
       omega arith,
-      swept-more (start i .pre) (w .i) (i .loop-test .taken) (w .t) (w .inv .2) _ _ _
-          (a .value-of .ensures ∙ ap looked (side i 1 (a .before .at .result) (a .before .at .ensures)))
-          (b .value-of2 .ensures ∙ ap looked (side i 2 (b .before .at2 .result) (b .before .at2 .ensures))) (c .and-of .ensures),
+      omega arith,
+      swept-more (start q .pre) (w .i) (q .loop-test .taken) (w .t) (w .inv .3) _ _ (first-read b) (second-read b) _ (w .to) _
+          (c .before .before .before .before .and-of .ensures) (w .inv .1) (c .before .t .given) (c .before .before .put-value .ensures),
     )
 
 same-length : tie.Need-same-length Inv-loop μ-loop
-same-length c = c .before .loop .inv .2 .same
+same-length c = c .before .loop .inv .3 .same
 
 returns : tie.Need-returns Inv-loop μ-loop
 returns c =
     let w = c .before .loop in
-    swept-all (c .before .before .before .before .pre) (w .i) (w .t) (w .inv .2) (omega arith)
+    swept-all (c .before .before .before .before .pre) (w .i) (w .t) (w .inv .3) (omega arith)
 
 pub sweep-gates-spec : {M : Type 1} → statement M
 sweep-gates-spec =
@@ -127,6 +145,8 @@ sweep-gates-spec =
     (tie.spec
     Inv-loop
     μ-loop
+    mul-to
+    add-to
     loop-holds
     add-at
     mul-at
@@ -139,9 +159,8 @@ sweep-gates-spec =
     at-requires-2
     value-of-requires-2
     and-of-requires
-    add-t
-    mul-t
-    slice-write-t
+    put-value-requires
+    add-to-2
     add-at-3
     add-i
     loop-less
