@@ -96,8 +96,8 @@ pub name-more : (base : ℕ) (t : List ℕ) (i : ℕ) → 3 * i + 3 ≤ length t
     → set (rows base t i ++ drop (3 * i) t) (3 * i) (litOf (base + i)) ≡ rows base t (i + 1) ++ drop (3 * (i + 1)) t
 name-more base t i h =
     ap (λ (l : List ℕ). set (rows base t i ++ l) (3 * i) (litOf (base + i))) row
-    ∙ set-at (rows base t i) (getD t (3 * i) 0) (getD t (3 * i + 1) 0 ∷ getD t (3 * i + 2) 0 ∷ drop (3 * (i + 1)) t) (litOf (base + i)) (3 * i)
-    (rows-length base t i)
+    ∙ set-at (rows base t i) (getD t (3 * i) 0) (getD t (3 * i + 1) 0 ∷ getD t (3 * i + 2) 0 ∷ drop (3 * (i + 1)) t) (litOf (base + i))
+    (3 * i) (rows-length base t i)
     ∙ sym (append-assoc (rows base t i) (gateLine (namedAt base t i)) (drop (3 * (i + 1)) t))
     ∙ ap (λ (l : List ℕ). l ++ drop (3 * (i + 1)) t)
     (sym (flat-snoc (named base t i) (namedAt base t i)) ∙ ap (rows base t) (sym (add-one i)))

@@ -122,7 +122,8 @@ module _ {gates to scratch : List ℕ} {base w k n : ℕ} (s : Held gates to scr
   }
 
   -- the gate is retained
-  module _ {slot : ℕ} (new : standIn left right (named base to n) ≡ none) (hangs : Hangs to scratch w n (max left right) (min left right) slot)
+  module _ {slot : ℕ} (new : standIn left right (named base to n) ≡ none)
+      (hangs : Hangs to scratch w n (max left right) (min left right) slot)
     where
       abbrev to′ : List ℕ
       to′ = gatesHung (stored to n (max left right) (min left right)) w slot n

@@ -59,7 +59,15 @@ fn by_sides(a: Lit, b: Lit) -> Rule
 }
 
 // The literal that stands in for a gate with the sides a and b, or where the gate is to hang, larger side first.
-fn stand_in(a: Lit, b: Lit, gates: &[u32], scratch: &[u32], base: usize, w: usize, n: usize) -> Place
+fn stand_in(
+    a: Lit,
+    b: Lit,
+    gates: &[u32],
+    scratch: &[u32],
+    base: usize,
+    w: usize,
+    n: usize,
+) -> Place
     requires { ⌜ Room (now gates) (now scratch) w n ⌝ }
     requires { ⌜ base + n ≤ w ⌝ }
     requires { ⌜ Rooted w (wordOf a) (wordOf b) ⌝ }

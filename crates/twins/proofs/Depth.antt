@@ -22,7 +22,7 @@ module _ (S : ℕ → ℕ → ℕ) where
   pub depth-on : (q : ℕ → ℕ) (k : ℕ) → on S q k ≡ true → depth S q (suc k) ≡ suc (depth S q k)
   depth-on q k h = ap (λ (b : Bool). cond b (suc (depth S q k)) (depth S q k)) h
 
-  depth-off : (q : ℕ → ℕ) (k : ℕ) → on S q k ≡ false → depth S q (suc k) ≡ depth S q k
+  pub depth-off : (q : ℕ → ℕ) (k : ℕ) → on S q k ≡ false → depth S q (suc k) ≡ depth S q k
   depth-off q k h = ap (λ (b : Bool). cond b (suc (depth S q k)) (depth S q k)) h
 
   pub depth-step : (q : ℕ → ℕ) (k : ℕ) → depth S q k ≤ depth S q (suc k)

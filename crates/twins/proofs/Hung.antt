@@ -11,9 +11,8 @@ use lib.ListN.{length, getD, set, drop, length-set}
 use lib.Seq.{drop-set-lt, getD-set-same, getD-set-other}
 use Rattle.plan.specs.Literals.{litOf, varOf}
 use Rattle.plan.specs.Circuit.{Gate}
-use Rattle.theorems.proofs.Tables.{gateAt}
 use Rattle.twins.specs.Tree.{symbol, slotOf, firstOn, Grown}
-use Rattle.twins.specs.Pairs.{pathOf, paths, word, namedAt, named, Tree, Hangs, stored, gatesHung, scratchHung}
+use Rattle.twins.specs.Pairs.{pathOf, paths, word, named, Tree, Hangs, stored, gatesHung, scratchHung}
 use Rattle.twins.proofs.Slots.{slot-high, slot-low, slot-kept}
 use Rattle.twins.proofs.Words.{word-scratch, word-row}
 use Rattle.twins.proofs.Growing.{inserted, grown-ext, symbol-ext, node-ext′, first-ext′, grown-none}
@@ -80,7 +79,8 @@ module _ (t : List ℕ) (w n x y slot : ℕ) where
       ∙ drop-set-lt (3 * (n + 1)) t (3 * n + 1) x (omega arith)
     where
       go : (b : Bool) → ltb slot (4 * w) ≡ b
-          → drop (3 * (n + 1)) (cond b (stored t n x y) (set (stored t n x y) (3 * (slot - 4 * w)) (n + 1))) ≡ drop (3 * (n + 1)) (stored t n x y)
+          → drop (3 * (n + 1)) (cond b (stored t n x y) (set (stored t n x y) (3 * (slot - 4 * w)) (n + 1)))
+          ≡ drop (3 * (n + 1)) (stored t n x y)
       go true e = refl
       go false e =
           drop-set-lt (3 * (n + 1)) (stored t n x y) (3 * (slot - 4 * w)) (n + 1) (omega (arith, ltb-false slot (4 * w) e))

@@ -7,3 +7,4 @@ pub mod Growing
 pub mod Earliest
 pub mod Way
 pub mod Hung
+pub mod Steps

@@ -115,7 +115,7 @@ module _ {gates scratch : List ℕ} {w n x y : ℕ} (tree : Tree gates scratch w
       }
 
   -- each gate that is looked at comes after the one before it
-  pub way-less : {slot key i at at′ : ℕ} → (v : Way gates w n x y slot key) (e : word gates scratch w slot ≡ suc i) → same gates x y i ≡ false
+  pub way-less : {slot key i at at′ : ℕ} → Way gates w n x y slot key → word gates scratch w slot ≡ suc i → same gates x y i ≡ false
       → at ≡ suc i → at′ ≡ word gates scratch w (slotOf w (suc i) (key % 2)) → left n at′ < left n at
   unfolding way-next
   way-less {slot} {key} {i} {at} {at′} v e s a b = subst (λ (j : ℕ). left n at′ < left n j) (sym a) (go at′ b)

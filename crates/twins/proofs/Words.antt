@@ -16,7 +16,8 @@ module _ (gates scratch : List ℕ) (w : ℕ) where
   pub word-row : (i : ℕ) → word gates scratch w (4 * w + i) ≡ getD gates (3 * i) 0
   word-row i =
       let e : 4 * w + i - 4 * w ≡ i = omega arith in
-      ap (λ (b : Bool). cond b (getD scratch (4 * w + i) 0) (getD gates (3 * (4 * w + i - 4 * w)) 0)) (le-ltb (4 * w + i) (4 * w) (omega arith))
+      ap (λ (b : Bool). cond b (getD scratch (4 * w + i) 0) (getD gates (3 * (4 * w + i - 4 * w)) 0))
+      (le-ltb (4 * w + i) (4 * w) (omega arith))
       ∙ ap (λ (j : ℕ). getD gates (3 * j) 0) e
 
   -- a link of gate i, by its bit

@@ -76,11 +76,23 @@ fn leads(gates: &[u32], scratch: &[u32], w: usize, i: usize, bit: u32) -> u32
     requires { ⌜ (w ≤ most + 1) × (i < w) ⌝ }
     ensures { λ r. ⌜ r ≡ word (now (gates .entry)) (now (scratch .entry)) w (slotOf w (suc i) bit) ⌝ }
 {
-    if bit == 0 { gates[3 * i] } else { scratch[3 * w + i] }
+    if bit == 0 {
+        gates[3 * i]
+    } else {
+        scratch[3 * w + i]
+    }
 }
 
 // The earliest of the n gates with the sides x and y, or where it is to hang.
-pub fn find(gates: &[u32], scratch: &[u32], base: usize, w: usize, n: usize, x: Lit, y: Lit) -> Place
+pub fn find(
+    gates: &[u32],
+    scratch: &[u32],
+    base: usize,
+    w: usize,
+    n: usize,
+    x: Lit,
+    y: Lit,
+) -> Place
     requires { ⌜ Room (now gates) (now scratch) w n ⌝ }
     requires { ⌜ base + n ≤ w ⌝ }
     requires { ⌜ Rooted w (wordOf x) (wordOf y) ⌝ }

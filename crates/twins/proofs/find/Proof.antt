@@ -1,5 +1,5 @@
 use Prim.Native.Nat.{ℕ, suc, _+_, _-_, _*_, _/_, _<_}
-use mathlib.Core.Path.{_≡_, refl, sym, ap, ap₂, _∙_, subst}
+use mathlib.Core.Path.{_≡_, sym, ap, _∙_, subst}
 use native.Mathlib.Omega.{arith}
 use borrow.Author.Needs.{needs}
 use Rattle.plan.specs.Literals.{wordOf}
@@ -12,7 +12,8 @@ use Rattle.twins.proofs.find.Statement.{statement}
 use Rattle.twins.proofs.find.Tie as tie
 
 abbrev Inv-loop : tie.InvT-loop
-Inv-loop gates scratch base w n x y slot₀ at₀ key₀ slot at key = (at ≡ word gates scratch w slot) × Way gates w n (wordOf x) (wordOf y) slot key
+Inv-loop gates scratch base w n x y slot₀ at₀ key₀ slot at key =
+    (at ≡ word gates scratch w slot) × Way gates w n (wordOf x) (wordOf y) slot key
 
 abbrev μ-loop : tie.MeasureT-loop
 μ-loop gates scratch base w n x y slot₀ at₀ key₀ slot at key = left n at
