@@ -126,7 +126,7 @@ module _ {gates to scratch : List ℕ} {base w k n : ℕ} (s : Held gates to scr
       (hangs : Hangs to scratch w n (max left right) (min left right) slot)
     where
       abbrev to′ : List ℕ
-      to′ = gatesHung (stored to n (max left right) (min left right)) w slot n
+      to′ = stored (gatesHung to w slot n) n (max left right) (min left right)
 
       abbrev scratch′ : List ℕ
       scratch′ = scratchHung scratch w slot n
@@ -134,7 +134,7 @@ module _ {gates to scratch : List ℕ} {base w k n : ℕ} (s : Held gates to scr
       root : varOf (max left right) < w
       root = omega (arith, rooted .larger, rooted .smaller)
 
-      pub slot-low : slot < 4 * w + n
+      slot-low : slot < 4 * w + n
       slot-low = slot-under to scratch w n (max left right) (min left right) slot root hangs
 
       same : length scratch′ ≡ length scratch
@@ -177,10 +177,10 @@ module _ {gates to scratch : List ℕ} {base w k n : ℕ} (s : Held gates to scr
 
       -- with the words that the code stored
       pub retained-as : {to″ scratch″ : List ℕ} {x y word : ℕ} → x ≡ max left right → y ≡ min left right → word ≡ litOf (base + n)
-          → to″ ≡ gatesHung (stored to n x y) w slot n → scratch″ ≡ scratch′
+          → to″ ≡ stored (gatesHung to w slot n) n x y → scratch″ ≡ scratch′
           → Stepped gates to to″ (set scratch″ (base + k) word) base w k n (n + 1)
       retained-as {to″} {scratch″} {x} {y} {word} ex ey ew et es =
           subst (λ (t : List ℕ). Stepped gates to to″ t base w k n (n + 1))
           (sym (ap₂ (λ (t : List ℕ) (v : ℕ). set t (base + k) v) es ew))
           (subst (λ (t : List ℕ). Stepped gates to t (set scratch′ (base + k) (litOf (base + n))) base w k n (n + 1))
-          (sym (et ∙ λ j. gatesHung (stored to n (ex j) (ey j)) w slot n)) retained)
+          (sym (et ∙ λ j. stored (gatesHung to w slot n) n (ex j) (ey j))) retained)

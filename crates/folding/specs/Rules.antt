@@ -7,7 +7,7 @@ use Rattle.plan.specs.Circuit.{Gate}
 use Rattle.plan.specs.Reduce.{twin, standIn}
 use Rattle.twins.specs.declared.Place.{Place}
 use Rattle.twins.specs.declared.Place.the-variants.{Taken, Free}
-use Rattle.twins.specs.Pairs.{named, Hangs}
+use Rattle.twins.specs.Pairs.{named, numberOf, Within, Hangs}
 use Rattle.folding.specs.declared.Rule.{Rule}
 use Rattle.folding.specs.declared.Rule.the-variants.{Gives, Open}
 
@@ -23,4 +23,4 @@ Ruled a b r = (gs : List Gate) → standIn a b gs ≡ orTwin r (twin (max a b) (
 abbrev pub StandsIn : List ℕ → List ℕ → ℕ → ℕ → ℕ → ℕ → ℕ → Place → Type 0
 StandsIn gates scratch base w n a b (Taken l) = standIn a b (named base gates n) ≡ some l
 StandsIn gates scratch base w n a b (Free slot) =
-    (standIn a b (named base gates n) ≡ none) × Hangs gates scratch w n (max a b) (min a b) slot
+    (standIn a b (named base gates n) ≡ none) × (Within w n slot × Hangs gates scratch w n (max a b) (min a b) (numberOf w slot))

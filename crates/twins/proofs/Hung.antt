@@ -18,23 +18,32 @@ use Rattle.twins.proofs.Words.{word-scratch, word-row}
 use Rattle.twins.proofs.Growing.{inserted, grown-ext, symbol-ext, node-ext′, first-ext′, grown-none}
 use Rattle.twins.proofs.Way.{good-path}
 
--- the sides of gate n, and the word that leads to it
+-- the word that leads to gate n, and the gate's sides
 module _ (t : List ℕ) (w n x y slot : ℕ) where
+  abbrev linked : List ℕ
+  linked = gatesHung t w slot n
+
   abbrev pub tableHung : List ℕ
-  tableHung = gatesHung (stored t n x y) w slot n
+  tableHung = stored (gatesHung t w slot n) n x y
+
+  linked-length : length linked ≡ length t
+  linked-length = go (ltb slot (4 * w))
+    where
+      go : (b : Bool) → length (cond b t (set t (3 * (slot - 4 * w)) (n + 1))) ≡ length t
+      go true = refl
+      go false = length-set t (3 * (slot - 4 * w)) (n + 1)
 
   -- a word that is no row's first
-  beside : (j : ℕ) → ((i : ℕ) → j ≡ 3 * i → ⊥) → getD tableHung j 0 ≡ getD (stored t n x y) j 0
+  beside : (j : ℕ) → ((i : ℕ) → j ≡ 3 * i → ⊥) → getD linked j 0 ≡ getD t j 0
   beside j h = go (ltb slot (4 * w))
     where
-      go : (b : Bool) → getD (cond b (stored t n x y) (set (stored t n x y) (3 * (slot - 4 * w)) (n + 1))) j 0 ≡ getD (stored t n x y) j 0
+      go : (b : Bool) → getD (cond b t (set t (3 * (slot - 4 * w)) (n + 1))) j 0 ≡ getD t j 0
       go true = refl
-      go false = getD-set-other (stored t n x y) (3 * (slot - 4 * w)) j (n + 1) 0 (h (slot - 4 * w))
+      go false = getD-set-other t (3 * (slot - 4 * w)) j (n + 1) 0 (h (slot - 4 * w))
 
-  -- sides
-  apart : (j : ℕ) → (j ≡ 3 * n + 1 → ⊥) → (j ≡ 3 * n + 2 → ⊥) → getD (stored t n x y) j 0 ≡ getD t j 0
-  apart j d e =
-      getD-set-other (set t (3 * n + 1) x) (3 * n + 2) j y 0 e ∙ getD-set-other t (3 * n + 1) j x 0 d
+  -- a word that is no side of gate n
+  apart : (j : ℕ) → (j ≡ 3 * n + 1 → ⊥) → (j ≡ 3 * n + 2 → ⊥) → getD tableHung j 0 ≡ getD linked j 0
+  apart j d e = getD-set-other (set linked (3 * n + 1) x) (3 * n + 2) j y 0 e ∙ getD-set-other linked (3 * n + 1) j x 0 d
 
   no-first : (i j : ℕ) → 3 * i + 1 ≡ 3 * j → ⊥
   no-first i j e = omega arith
@@ -44,15 +53,15 @@ module _ (t : List ℕ) (w n x y slot : ℕ) where
 
   old : (i : ℕ) → i < n → (getD tableHung (3 * i + 1) 0 ≡ getD t (3 * i + 1) 0) × (getD tableHung (3 * i + 2) 0 ≡ getD t (3 * i + 2) 0)
   old i h = (
-    beside (3 * i + 1) (no-first i) ∙ apart (3 * i + 1) (λ e. omega arith) (λ e. omega arith),
-    beside (3 * i + 2) (no-second i) ∙ apart (3 * i + 2) (λ e. omega arith) (λ e. omega arith),
+    apart (3 * i + 1) (λ e. omega arith) (λ e. omega arith) ∙ beside (3 * i + 1) (no-first i),
+    apart (3 * i + 2) (λ e. omega arith) (λ e. omega arith) ∙ beside (3 * i + 2) (no-second i),
   )
 
   newest : 3 * n + 3 ≤ length t → (getD tableHung (3 * n + 1) 0 ≡ x) × (getD tableHung (3 * n + 2) 0 ≡ y)
   newest h = (
-    beside (3 * n + 1) (no-first n) ∙ getD-set-other (set t (3 * n + 1) x) (3 * n + 2) (3 * n + 1) y 0 (λ e. omega arith)
-        ∙ getD-set-same t (3 * n + 1) x 0 (omega arith),
-    beside (3 * n + 2) (no-second n) ∙ getD-set-same (set t (3 * n + 1) x) (3 * n + 2) y 0 (simp length-set (omega arith)),
+    getD-set-other (set linked (3 * n + 1) x) (3 * n + 2) (3 * n + 1) y 0 (λ e. omega arith)
+        ∙ getD-set-same linked (3 * n + 1) x 0 (omega (arith, linked-length)),
+    getD-set-same (set linked (3 * n + 1) x) (3 * n + 2) y 0 (simp length-set (omega (arith, linked-length))),
   )
 
   module _ (base : ℕ) where
@@ -74,26 +83,13 @@ module _ (t : List ℕ) (w n x y slot : ℕ) where
   -- what stands past gate n stays
   pub hung-past : slot < 4 * w + n → drop (3 * (n + 1)) tableHung ≡ drop (3 * (n + 1)) t
   hung-past h =
-      go (ltb slot (4 * w)) refl
-      ∙ drop-set-lt (3 * (n + 1)) (set t (3 * n + 1) x) (3 * n + 2) y (omega arith)
-      ∙ drop-set-lt (3 * (n + 1)) t (3 * n + 1) x (omega arith)
+      drop-set-lt (3 * (n + 1)) (set linked (3 * n + 1) x) (3 * n + 2) y (omega arith)
+      ∙ drop-set-lt (3 * (n + 1)) linked (3 * n + 1) x (omega arith) ∙ go (ltb slot (4 * w)) refl
     where
       go : (b : Bool) → ltb slot (4 * w) ≡ b
-          → drop (3 * (n + 1)) (cond b (stored t n x y) (set (stored t n x y) (3 * (slot - 4 * w)) (n + 1)))
-          ≡ drop (3 * (n + 1)) (stored t n x y)
+          → drop (3 * (n + 1)) (cond b t (set t (3 * (slot - 4 * w)) (n + 1))) ≡ drop (3 * (n + 1)) t
       go true e = refl
-      go false e =
-          drop-set-lt (3 * (n + 1)) (stored t n x y) (3 * (slot - 4 * w)) (n + 1) (omega (arith, ltb-false slot (4 * w) e))
-
-  pub hung-length : length tableHung ≡ length t
-  hung-length = go (ltb slot (4 * w))
-    where
-      sides : length (stored t n x y) ≡ length t
-      sides = length-set (set t (3 * n + 1) x) (3 * n + 2) y ∙ length-set t (3 * n + 1) x
-
-      go : (b : Bool) → length (cond b (stored t n x y) (set (stored t n x y) (3 * (slot - 4 * w)) (n + 1))) ≡ length t
-      go true = sides
-      go false = length-set (stored t n x y) (3 * (slot - 4 * w)) (n + 1) ∙ sides
+      go false e = drop-set-lt (3 * (n + 1)) t (3 * (slot - 4 * w)) (n + 1) (omega (arith, ltb-false slot (4 * w) e))
 
 -- no gate hangs in tables that are zero
 pub no-gates : (gates scratch : List ℕ) (w : ℕ) → ((s : ℕ) → getD gates s 0 ≡ 0) → ((s : ℕ) → w ≤ s → getD scratch s 0 ≡ 0)
@@ -155,49 +151,45 @@ module _ (gates scratch : List ℕ) (w n x y slot : ℕ) (root : varOf x < w) (h
           ∙ sym (tree .grown (pathOf w x y) (good-path w x y root) (hangs .k) (hangs .below) (hangs .stands))
           ∙ ap (word gates scratch w) (sym (hangs .at)) ∙ hangs .free
 
-      -- the first word of a row, where it is stored as a side is
-      row : (j : ℕ) → getD (stored gates n x y) (3 * j) 0 ≡ getD gates (3 * j) 0
+      -- the first word of a row is no side
+      row : (j : ℕ) → getD gates′ (3 * j) 0 ≡ getD (gatesHung gates w slot n) (3 * j) 0
       row j = apart gates w n x y slot (3 * j) (λ e. omega arith) (λ e. omega arith)
 
       word-at : word gates′ scratch′ w slot ≡ suc n
-      word-at = go (ltb slot (4 * w)) refl
+      word-at = ap (cond (ltb slot (4 * w)) (getD scratch′ slot 0)) (row (slot - 4 * w)) ∙ go (ltb slot (4 * w)) refl
         where
           go : (b : Bool) → ltb slot (4 * w) ≡ b
               → cond b (getD (cond b (set scratch slot (n + 1)) scratch) slot 0)
-              (getD (cond b (stored gates n x y) (set (stored gates n x y) (3 * (slot - 4 * w)) (n + 1))) (3 * (slot - 4 * w)) 0) ≡ suc n
+              (getD (cond b gates (set gates (3 * (slot - 4 * w)) (n + 1))) (3 * (slot - 4 * w)) 0) ≡ suc n
           go true e = getD-set-same scratch slot (n + 1) 0 (omega (arith, ltb-true slot (4 * w) e)) ∙ add-one n
           go false e =
-              getD-set-same (stored gates n x y) (3 * (slot - 4 * w)) (n + 1) 0
-              (simp length-set (omega (arith, ltb-false slot (4 * w) e, slot-under)))
-              ∙ add-one n
+              getD-set-same gates (3 * (slot - 4 * w)) (n + 1) 0 (omega (arith, ltb-false slot (4 * w) e, slot-under)) ∙ add-one n
 
       -- any other slot stays
       word-other : (j : ℕ) → (j ≡ slot → ⊥) → word gates′ scratch′ w j ≡ word gates scratch w j
-      word-other j d = go (ltb slot (4 * w)) refl (ltb j (4 * w)) refl
+      word-other j d =
+          ap (cond (ltb j (4 * w)) (getD scratch′ j 0)) (row (j - 4 * w)) ∙ go (ltb slot (4 * w)) refl (ltb j (4 * w)) refl
         where
           go : (b : Bool) → ltb slot (4 * w) ≡ b → (c : Bool) → ltb j (4 * w) ≡ c
               → cond c (getD (cond b (set scratch slot (n + 1)) scratch) j 0)
-              (getD (cond b (stored gates n x y) (set (stored gates n x y) (3 * (slot - 4 * w)) (n + 1))) (3 * (j - 4 * w)) 0)
+              (getD (cond b gates (set gates (3 * (slot - 4 * w)) (n + 1))) (3 * (j - 4 * w)) 0)
               ≡ cond c (getD scratch j 0) (getD gates (3 * (j - 4 * w)) 0)
           go true e true f = getD-set-other scratch slot j (n + 1) 0 d
-          go true e false f = row (j - 4 * w)
+          go true e false f = refl
           go false e true f = refl
           go false e false f =
-              getD-set-other (stored gates n x y) (3 * (slot - 4 * w)) (3 * (j - 4 * w)) (n + 1) 0
+              getD-set-other gates (3 * (slot - 4 * w)) (3 * (j - 4 * w)) (n + 1) 0
               (λ z. d (omega (arith, z, ltb-false slot (4 * w) e, ltb-false j (4 * w) f)))
-              ∙ row (j - 4 * w)
 
       -- the links of later gates
       rows-past : (i : ℕ) → n ≤ i → getD gates′ (3 * i) 0 ≡ 0
-      rows-past i h = go (ltb slot (4 * w)) refl ∙ tree .blank-rows i h
+      rows-past i h = row i ∙ go (ltb slot (4 * w)) refl ∙ tree .blank-rows i h
         where
           go : (b : Bool) → ltb slot (4 * w) ≡ b
-              → getD (cond b (stored gates n x y) (set (stored gates n x y) (3 * (slot - 4 * w)) (n + 1))) (3 * i) 0 ≡ getD gates (3 * i) 0
-          go true e = row i
+              → getD (cond b gates (set gates (3 * (slot - 4 * w)) (n + 1))) (3 * i) 0 ≡ getD gates (3 * i) 0
+          go true e = refl
           go false e =
-              getD-set-other (stored gates n x y) (3 * (slot - 4 * w)) (3 * i) (n + 1) 0
-              (λ z. omega (arith, z, ltb-false slot (4 * w) e, slot-under))
-              ∙ row i
+              getD-set-other gates (3 * (slot - 4 * w)) (3 * i) (n + 1) 0 (λ z. omega (arith, z, ltb-false slot (4 * w) e, slot-under))
 
       links-past : (i : ℕ) → n ≤ i → i < w → getD scratch′ (3 * w + i) 0 ≡ 0
       links-past i h l = go (ltb slot (4 * w)) refl ∙ tree .blank-links i h l

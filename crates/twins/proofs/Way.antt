@@ -1,17 +1,19 @@
 -- The way of a search along a pair's path.
-use mathlib.Core.Path.{_≡_, refl, sym, ap, ap₂, _∙_, subst}
+use mathlib.Core.Path.{_≡_, refl, sym, ap, ap₂, _∙_}
 use mathlib.Core.Bool.{Bool, true, false, cond, false≢true}
+use mathlib.Core.Option.{none}
 use mathlib.Core.List.{List}
 use Prim.Native.Nat.{ℕ, zero, suc, _+_, _-_, _/_, _%_, _<_, _≤_}
 use native.Mathlib.Omega.{arith}
 use borrow.Author.Tests.{eqb-true}
 use lib.Dec.{eqb}
 use Rattle.plan.specs.Literals.{litOf, varOf}
+use Rattle.plan.specs.Reduce.{twin}
 use Rattle.theorems.proofs.Reading.Common.{and-left, and-right}
 use Rattle.theorems.proofs.Tables.{gateAt}
-use Rattle.twins.specs.declared.Place.the-variants.{Taken, Free}
+use Rattle.twins.specs.declared.Place.the-variants.{Taken}
 use Rattle.twins.specs.Tree.{depth, on, orFirst, firstOn, node, symbol, slotOf, Good}
-use Rattle.twins.specs.Pairs.{halves, rootOf, pathOf, paths, word, Tree, Rooted, Sought}
+use Rattle.twins.specs.Pairs.{halves, rootOf, pathOf, paths, word, named, Tree, Rooted, Hangs, Sought}
 use Rattle.twins.proofs.Agree.{agreed}
 use Rattle.twins.proofs.Depth.{depth-pos, First, first-some, node-next, none-on}
 use Rattle.twins.proofs.Roots.{root-low}
@@ -27,11 +29,6 @@ path-bit w x y (suc d) h = let e : d ≡ suc d - 1 = omega arith in ap (λ (j : 
 half-more : (key d : ℕ) → 0 < d → halves key (d - 1) / 2 ≡ halves key d
 half-more key zero h = absurd (omega arith)
 half-more key (suc d) h = let e : suc d - 1 ≡ d = omega arith in ap (λ (j : ℕ). halves key j / 2) e
-
--- how many gates may be left to look at, where the next is counted from 1
-abbrev pub left : ℕ → ℕ → ℕ
-left n zero = 0
-left n (suc i) = n - i
 
 -- the search stands at node k, no gate before which has the pair, with what is left of the key
 pub record Way (gates : List ℕ) (w n x y slot key : ℕ) : Type 0 where
@@ -72,7 +69,8 @@ module _ {gates scratch : List ℕ} {w n x y : ℕ} (tree : Tree gates scratch w
     leads = ap (word gates scratch w) (v .at) ∙ tree .grown q good (v .k) (v .below) (v .stands)
 
     -- no gate is left on the path
-    pub way-out : (base : ℕ) → word gates scratch w slot ≡ 0 → Sought gates scratch base w n x y (Free slot)
+    pub way-out : (base : ℕ) → word gates scratch w slot ≡ 0
+        → (twin x y (named base gates n) ≡ none) × Hangs gates scratch w n x y slot
     way-out base e =
         let z : firstOn S q (v .k) n ≡ 0 = sym leads ∙ e in
         let no-gate : earliest gates x y n ≡ 0
@@ -114,14 +112,8 @@ module _ {gates scratch : List ℕ} {w n x y : ℕ} (tree : Tree gates scratch w
         absent = ap₂ (λ (a : ℕ) (c : Bool). orFirst a (cond c (suc i) 0)) absent-before s;
       }
 
-  -- each gate that is looked at comes after the one before it
-  pub way-less : {slot key i at at′ : ℕ} → Way gates w n x y slot key → word gates scratch w slot ≡ suc i → same gates x y i ≡ false
-      → at ≡ suc i → at′ ≡ word gates scratch w (slotOf w (suc i) (key % 2)) → left n at′ < left n at
+  -- the gate that comes next stands after this one
+  pub way-after : {slot key i j : ℕ} (v : Way gates w n x y slot key) (e : word gates scratch w slot ≡ suc i) → same gates x y i ≡ false
+      → word gates scratch w (slotOf w (suc i) (key % 2)) ≡ suc j → i < j
   unfolding way-next
-  way-less {slot} {key} {i} {at} {at′} v e s a b = subst (λ (j : ℕ). left n at′ < left n j) (sym a) (go at′ b)
-    where
-      go : (j : ℕ) → j ≡ word gates scratch w (slotOf w (suc i) (key % 2)) → left n j < left n (suc i)
-      go zero z = omega (arith, way-low v e)
-      go (suc j) z =
-          let after : suc i ≤ j = way-rises (way-next v e s) (sym z) in
-          omega (arith, after, way-low (way-next v e s) (sym z))
+  way-after v e s z = way-rises (way-next v e s) z

@@ -10,6 +10,8 @@ use Rattle.plan.specs.Literals.{most, litOf, varOf}
 use Rattle.plan.specs.Circuit.{Gate}
 use Rattle.plan.specs.Reduce.{twin}
 use Rattle.theorems.proofs.Tables.{firsts, gateAt}
+use Rattle.twins.specs.declared.Slot.{Slot}
+use Rattle.twins.specs.declared.Slot.the-variants.{Root, Under}
 use Rattle.twins.specs.declared.Place.{Place}
 use Rattle.twins.specs.declared.Place.the-variants.{Taken, Free}
 use Rattle.twins.specs.Tree.{node, symbol, slotOf, Grown}
@@ -72,16 +74,26 @@ pub record Hangs (gates scratch : List ℕ) (w n x y slot : ℕ) : Type 0 where
   pub at : slot ≡ slotOf w k (symbol (paths w gates) (pathOf w x y) k)
   pub free : word gates scratch w slot ≡ 0
 
+-- a slot's number, and where it may be
+abbrev pub numberOf : ℕ → Slot → ℕ
+numberOf w (Root at) = at
+numberOf w (Under i bit) = slotOf w (suc i) bit
+
+abbrev pub Within : ℕ → ℕ → Slot → Type 0
+Within w n (Root at) = at < 4 * w
+Within w n (Under i bit) = i < n
+
 -- the earlier gate with the same pair, or where the gate is to hang
 abbrev pub Sought : List ℕ → List ℕ → ℕ → ℕ → ℕ → ℕ → ℕ → Place → Type 0
 Sought gates scratch base w n x y (Taken l) = twin x y (named base gates n) ≡ some l
-Sought gates scratch base w n x y (Free slot) = (twin x y (named base gates n) ≡ none) × Hangs gates scratch w n x y slot
+Sought gates scratch base w n x y (Free slot) =
+    (twin x y (named base gates n) ≡ none) × (Within w n slot × Hangs gates scratch w n x y (numberOf w slot))
 
 -- the sides of gate n of a table
 abbrev pub stored : List ℕ → ℕ → ℕ → ℕ → List ℕ
 stored gates n x y = set (set gates (3 * n + 1) x) (3 * n + 2) y
 
--- the slot leads to gate n
+-- a slot leads to gate n
 abbrev pub gatesHung : List ℕ → ℕ → ℕ → ℕ → List ℕ
 gatesHung gates w slot n = cond (ltb slot (4 * w)) gates (set gates (3 * (slot - 4 * w)) (n + 1))
 

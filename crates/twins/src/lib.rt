@@ -2,9 +2,9 @@
 // on, so that a pair is found in at most 22 steps, whatever gates were retained before. The smaller side moves the root on from the
 // larger side, over all roots, so that gates that share a side don't share a root.
 //
-// Places at which gates hang are numbered, as slots: the scratch holds 2 × w roots from word w on and a link for each gate from 3 × w
-// on. A gate's other link is the first word of its row in the table of gates, until its left side is written there; it has a slot from
-// 4 × w on.
+// A gate hangs at a slot: at one of 2 × w roots, which are the scratch's words from w on, or at another gate's link for a bit. A gate's
+// link for the bit 1 is a word of the scratch from 3 × w on; for the bit 0 it is the first word of the gate's own row, until its left
+// side is written there.
 ghost use mathlib.Core.Path.{_≡_};
 ghost use mathlib.Core.Bool.{_&&_};
 ghost use Prim.Native.Nat.{suc, _+_, _*_, _<_, _≤_};
@@ -13,16 +13,25 @@ ghost use lib.ListN.{length};
 ghost use Rattle.plan.specs.Literals.{most, litOf, wordOf};
 ghost use Rattle.theorems.proofs.Tables.{gateAt};
 ghost use Rattle.twins.specs.Tree.{slotOf};
-ghost use Rattle.twins.specs.Pairs.{Tree, Room, Rooted, Sought, spreadOf, rootOf, word, stored, gatesHung, scratchHung};
+ghost use Rattle.twins.specs.Pairs.{spreadOf, rootOf, word, Tree, Room, Rooted, Within, Sought};
+ghost use Rattle.twins.specs.Pairs.{numberOf, stored, gatesHung, scratchHung};
 use plan::Lit;
 use plan::Var;
+
+// Where a gate hangs.
+pub enum Slot {
+    // At a root: a word of the scratch.
+    Root(usize),
+    // At a gate's link for a bit.
+    Under(usize, u32),
+}
 
 // Where a pair belongs.
 pub enum Place {
     // The left side of the earlier gate with the same pair.
     Taken(u32),
     // The slot at which a gate with the pair is to hang.
-    Free(usize),
+    Free(Slot),
 }
 
 // The left side of retained gate i: the variables of retained gates run on from base.
@@ -62,15 +71,7 @@ fn root(w: usize, x: Lit, y: Lit) -> usize
     if v < 2 * w { v } else { v - 2 * w }
 }
 
-// The slot of gate i's link for a bit.
-fn slot_of(w: usize, i: usize, bit: u32) -> usize
-    requires { ⌜ (w ≤ most + 1) × (i < w) ⌝ }
-    ensures { λ r. ⌜ r ≡ slotOf w (suc i) bit ⌝ }
-{
-    if bit == 0 { 4 * w + i } else { 3 * w + i }
-}
-
-// What stands there: the next gate, counted from 1, or 0.
+// What stands at gate i's link for a bit: the next gate, counted from 1, or 0.
 fn leads(gates: &[u32], scratch: &[u32], w: usize, i: usize, bit: u32) -> u32
     requires { ⌜ (3 * i < length (now gates)) × (4 * w ≤ length (now scratch)) ⌝ }
     requires { ⌜ (w ≤ most + 1) × (i < w) ⌝ }
@@ -99,35 +100,63 @@ pub fn find(
     requires { ⌜ Tree (now gates) (now scratch) w n ⌝ }
     ensures { λ r. ⌜ Sought (now (gates .entry)) (now (scratch .entry)) base w n (wordOf x) (wordOf y) r ⌝ }
 {
-    let mut slot = w + root(w, x, y);
-    let mut at = scratch[slot];
+    let at = w + root(w, x, y);
+    let first = scratch[at];
+    if first == 0 {
+        return Place::Free(Slot::Root(at));
+    }
+    let mut i = (first - 1) as usize;
     // The key is no literal: its bits, lowest first, lead on from gate to gate.
     let mut key = y.word();
-    while at != 0 {
-        let i = (at - 1) as usize;
+    loop {
         if has_sides(gates, i, x, y) {
             return Place::Taken(left_side(base, i).word());
         }
         let bit = key % 2;
-        slot = slot_of(w, i, bit);
-        at = leads(gates, scratch, w, i, bit);
+        let next = leads(gates, scratch, w, i, bit);
+        if next == 0 {
+            return Place::Free(Slot::Under(i, bit));
+        }
+        i = (next - 1) as usize;
         key = key / 2;
     }
-    Place::Free(slot)
+}
+
+// Gate i's link for a bit leads to gate n.
+fn link(gates: &mut [u32], scratch: &mut [u32], w: usize, i: usize, bit: u32, n: usize)
+    requires { ⌜ Room (now gates) (now scratch) w n ⌝ }
+    requires { ⌜ i < n ⌝ }
+    ensures { λ _. ⌜ (now (gates .exit) ≡ gatesHung (now (gates .entry)) w (slotOf w (suc i) bit) n)
+        × (now (scratch .exit) ≡ scratchHung (now (scratch .entry)) w (slotOf w (suc i) bit) n) ⌝ }
+{
+    if bit == 0 {
+        gates[3 * i] = (n + 1) as u32;
+        return;
+    }
+    scratch[3 * w + i] = (n + 1) as u32;
+}
+
+// A slot leads to gate n.
+fn lead(gates: &mut [u32], scratch: &mut [u32], w: usize, slot: Slot, n: usize)
+    requires { ⌜ Room (now gates) (now scratch) w n ⌝ }
+    requires { ⌜ Within w n slot ⌝ }
+    ensures { λ _. ⌜ (now (gates .exit) ≡ gatesHung (now (gates .entry)) w (numberOf w slot) n)
+        × (now (scratch .exit) ≡ scratchHung (now (scratch .entry)) w (numberOf w slot) n) ⌝ }
+{
+    match slot {
+        Slot::Root(at) => scratch[at] = (n + 1) as u32,
+        Slot::Under(i, bit) => link(gates, scratch, w, i, bit, n),
+    }
 }
 
 // Gate n, with the sides x and y, hangs at the slot where its pair belongs. Its row's first word stays zero, as a link.
-pub fn hang(gates: &mut [u32], scratch: &mut [u32], w: usize, slot: usize, n: usize, x: Lit, y: Lit)
+pub fn hang(gates: &mut [u32], scratch: &mut [u32], w: usize, slot: Slot, n: usize, x: Lit, y: Lit)
     requires { ⌜ Room (now gates) (now scratch) w n ⌝ }
-    requires { ⌜ slot < 4 * w + n ⌝ }
-    ensures { λ _. ⌜ (now (gates .exit) ≡ gatesHung (stored (now (gates .entry)) n (wordOf x) (wordOf y)) w slot n)
-        × (now (scratch .exit) ≡ scratchHung (now (scratch .entry)) w slot n) ⌝ }
+    requires { ⌜ Within w n slot ⌝ }
+    ensures { λ _. ⌜ (now (gates .exit) ≡ stored (gatesHung (now (gates .entry)) w (numberOf w slot) n) n (wordOf x) (wordOf y))
+        × (now (scratch .exit) ≡ scratchHung (now (scratch .entry)) w (numberOf w slot) n) ⌝ }
 {
+    lead(gates, scratch, w, slot, n);
     gates[3 * n + 1] = x.word();
     gates[3 * n + 2] = y.word();
-    if slot < 4 * w {
-        scratch[slot] = (n + 1) as u32;
-        return;
-    }
-    gates[3 * (slot - 4 * w)] = (n + 1) as u32;
 }

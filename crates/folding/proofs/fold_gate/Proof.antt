@@ -8,7 +8,7 @@ use Rattle.twins.specs.declared.Place.{Place}
 use Rattle.twins.specs.declared.Place.the-variants.{Taken, Free}
 use Rattle.twins.specs.Pairs.{Rooted}
 use Rattle.folding.specs.Rules.{StandsIn}
-use Rattle.folding.proofs.Step.{left, right, room, rooted, named-low, answered, stands, slot-low, retained-as}
+use Rattle.folding.proofs.Step.{left, right, room, rooted, named-low, answered, stands, retained-as}
 use borrow.Author.Needs.{needs}
 use Rattle.folding.proofs.fold_gate.Statement.{statement}
 use Rattle.folding.proofs.fold_gate.Tie as tie
@@ -135,7 +135,7 @@ hang-requires c κs =
     let k = c .before .before .before .before .before .before .before in
     let s = start (k .before .before .before) in
     let there = found k (Free _) (c .before .before .before .before .before .slot .given .1) in
-    (room (s .pre .1) (s .pre .0), slot-low (s .pre .1) (s .pre .0) (there .0) (there .1))
+    (room (s .pre .1) (s .pre .0), there .1 .0)
 
 left-side-requires : tie.Need-left-side-requires
 left-side-requires c κs =
@@ -174,7 +174,7 @@ returns-2 c =
     let there = found k (Free _) (h .before .before .before .before .before .before .slot .given .1) in
     let sorted : (f : ℕ → ℕ → ℕ) → f (wordOf (d .before .before .before .before .becomes .result)) (wordOf (d .becomes2 .result)) ≡ _
     = λ f. ap₂ (λ (x y : Lit). f (wordOf x) (wordOf y)) (left-is d) (right-is d) in
-    retained-as (s .pre .1) (s .pre .0) (there .0) (there .1) (ap wordOf (h .before .before .larger .ensures) ∙ sorted max)
+    retained-as (s .pre .1) (s .pre .0) (there .0) (there .1 .1) (ap wordOf (h .before .before .larger .ensures) ∙ sorted max)
     (ap wordOf (h .before .smaller .ensures) ∙ sorted min) (c .word .ensures ∙ c .before .left-side .ensures)
     (h .hang .ensures .0) (h .hang .ensures .1)
 
