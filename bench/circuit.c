@@ -168,6 +168,28 @@ struct circuit colliding_circuit(uint32_t gates) {
     return c;
 }
 
+/* A file made against the library's search for a pair: as many pairs as can start from its root 0, and all different, so
+   that every gate is retained under its own number. Where none is found, the gate before is taken. */
+struct circuit crowded_circuit(uint32_t gates) {
+    struct circuit c = begun(gates);
+    uint32_t base = (uint32_t)(c.counts[I] + c.counts[L]), roots = 2 * (base + gates + 1);
+    uint8_t *used = room(roots);
+    for (uint32_t i = 0; i < gates; i++) {
+        uint32_t top = 2 * (base + 1 + i), x = top - 2, y = 2;
+        for (int tries = 0; tries < 64; tries++) {
+            uint32_t b = 4 + below(top - 4), moved = (uint32_t)((uint64_t)(b * 2654435769u) * roots >> 32);
+            uint32_t a = (roots - moved) % roots;
+            if (a > (b | 1) && a < top && !used[b]) {
+                used[b] = 1, x = a, y = b;
+                break;
+            }
+        }
+        put_gate(&c, i, x, y);
+    }
+    free(used);
+    return c;
+}
+
 /* Every gate takes the first one. */
 struct circuit star_circuit(uint32_t gates) {
     struct circuit c = begun(gates);

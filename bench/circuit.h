@@ -28,6 +28,7 @@ struct circuit random_circuit(uint32_t gates, uint32_t copies);
 struct circuit chain_circuit(uint32_t gates);
 struct circuit braid_circuit(uint32_t gates);
 struct circuit colliding_circuit(uint32_t gates);
+struct circuit crowded_circuit(uint32_t gates);
 struct circuit star_circuit(uint32_t gates);
 
 /* Orders: at place k of the file stands gate order[k]. */

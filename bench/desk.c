@@ -1,6 +1,6 @@
-/* Times the desk's calls and the baseline's by turns, in two passes over everything, and prints three tables: CPU time
+/* Times the desk's calls and the baseline's by turns, in two passes over everything, and prints tables: CPU time
    per gate, least of all rounds, and its ratio to the baseline's; what of a call is clearing and checking; conversion
-   in other orders. A last line says how far the two passes differ. */
+   in other orders; reduction on a file made against it. A last line says how far the two passes differ. */
 #define _GNU_SOURCE
 #include <stdint.h>
 #include <stdio.h>
@@ -199,7 +199,7 @@ static int was_never_one(struct work *w) {
 }
 
 #define BASE(f) {#f, base_##f, 0}
-enum { READ_BINARY, READ_TEXT, WRITE_BINARY, WRITE_TEXT, CONVERT, REDUCE, STEP, WITNESS, ORDER, FILES, TASKS };
+enum { READ_BINARY, READ_TEXT, WRITE_BINARY, WRITE_TEXT, CONVERT, REDUCE, STEP, WITNESS, ORDER, FILES, WORST, TASKS };
 static const struct task tasks[TASKS] = {
     {"read binary", desk_read, {BASE(decodec), BASE(decode)}, clear_written, NULL, base_encode, read_same, 2.0, 1},
     {"read text", desk_read, {BASE(textq), BASE(textc), BASE(text)}, clear_written, NULL, base_print, read_same, 2, 1},
@@ -208,9 +208,10 @@ static const struct task tasks[TASKS] = {
     {"convert", desk_convert, {BASE(convert)}, clear_written, desk_check, NULL, converted_same, 2.5, 1},
     {"reduce", desk_reduce, {BASE(strash)}, clear_written, desk_check, NULL, reduced_same, 2.0, 1},
     {"step", desk_step, {BASE(step3)}, clear_scratch, desk_check, NULL, stepped_same, 1.5, 1},
-    {"one of 8 steps", desk_witness, {BASE(steps)}, clear_scratch, desk_check, never_one, was_never_one, 0, STEPS},
+    {"one of 8 steps", desk_witness, {BASE(steps)}, clear_scratch, desk_check, never_one, was_never_one, 1.5, STEPS},
     {"convert", desk_convert, {BASE(convert)}, NULL, NULL, NULL, converted_same, 2.5, 1},
-    {"convert a file", desk_file, {BASE(file)}, NULL, NULL, base_print, filed_same, 2.5, 1}};
+    {"convert a file", desk_file, {BASE(file)}, NULL, NULL, base_print, filed_same, 2.5, 1},
+    {"reduce, worst", desk_reduce, {BASE(strash)}, NULL, NULL, NULL, reduced_same, 0, 1}};
 
 static struct circuit random_one(uint32_t gates) {
     return random_circuit(gates, 12);
@@ -262,6 +263,9 @@ static const struct kind orders[] = {
     {"two halves by turns", "braid", braid_circuit, two_halves, shuffled, 0},
 };
 
+/* What the search for a pair is slowest on. */
+static const struct kind worst = {"pairs of one root", "", crowded_circuit, in_order, in_order, 0};
+
 static const size_t plans = sizeof plan / sizeof plan[0], order_count = sizeof orders / sizeof orders[0];
 
 static struct circuit made_of(const struct kind *kind, uint32_t gates) {
@@ -302,6 +306,11 @@ static void time_all(int pass) {
         run(&tasks[FILES], &orders[k], &w, pass);
         end_work(&w);
     }
+    for (int size = 0; size < SIZES; size++) {
+        struct work w = work_of(&worst, sizes[size]);
+        run(&tasks[WORST], &worst, &w, pass);
+        end_work(&w);
+    }
 }
 
 /* By task, then kind, then gates. */
@@ -337,9 +346,11 @@ static void print_results(void) {
         if (t >= &tasks[ORDER])
             continue;
         first = r->gates == sizes[0] ? r->desk : first;
+        /* a step's limit is without the check */
+        double limit = t == &tasks[STEP] ? 0 : t->limit;
         printf("| %s | %s | %llu | %.1f | %.1f | %s %.1f | %s | %s | ", t->name, r->kind->name,
                (unsigned long long)r->gates, r->desk, 1e3 / r->desk, t->base[0].name, r->base[0],
-               marked(r->desk / r->base[0], t->limit), marked(r->desk / first, 4));
+               marked(r->desk / r->base[0], limit), marked(r->desk / first, 4));
         print_others(r);
         printf(" |\n");
     }
@@ -375,6 +386,18 @@ static void print_orders(int of, const char *heading) {
     }
 }
 
+static void print_worst(void) {
+    double first = 0;
+    printf("\n| %s | gates | ns/gate | growth | %s | ratio |\n", worst.name, tasks[WORST].base[0].name);
+    printf("|---|--:|--:|--:|--:|--:|\n");
+    for (int size = 0; size < SIZES; size++) {
+        const struct result *r = result_of(&tasks[WORST], &worst, sizes[size]);
+        first = size == 0 ? r->desk : first;
+        printf("| reduce | %u | %.1f | %.2f | %.1f | %.2f |\n", sizes[size], r->desk, r->desk / first, r->base[0],
+               r->desk / r->base[0]);
+    }
+}
+
 static int by_size(const void *a, const void *b) {
     double x = *(const double *)a, y = *(const double *)b;
     return (x > y) - (x < y);
@@ -403,6 +426,7 @@ int main(void) {
     print_split();
     print_orders(ORDER, "tables");
     print_orders(FILES, "file");
+    print_worst();
     print_noise();
     return 0;
 }

@@ -50,7 +50,7 @@ pub fn unmark(t: &mut [u32], n: usize, a: usize, j: usize)
     lower(t, s, j / 32768, three);
 }
 
-// The first gate that is marked, or a.
+// The first gate that is marked; where none is, some number from a on.
 pub fn first(t: &[u32], n: usize, a: usize) -> usize
     requires { ⌜ (p3 n a < length (now t)) × (a < 1048576) × (0 < a) × Levels (now t) n a ⌝ }
     ensures { λ r. ⌜ First (now (t .entry)) n a r ⌝ }
