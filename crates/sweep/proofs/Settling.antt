@@ -28,7 +28,7 @@ use Rattle.sweep.proofs.Spreading.{Spread, literal-word}
 
 -- where the literals' words start
 abbrev pub litsOf : Counts → ℕ
-litsOf n = n .M + 1 + n .O + n .L
+litsOf n = n .M + 1 + n .O
 
 module _ {n : Counts} {inputs latches outputs gates : List ℕ} (r : Runs n inputs latches outputs gates) where
   abbrev c : Circuit

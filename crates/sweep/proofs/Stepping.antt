@@ -13,7 +13,7 @@ use Rattle.theorems.proofs.Tables.{length-firsts}
 use Rattle.used.specs.Least.{every}
 use Rattle.tables.specs.Held.{circuitIn, Scratch}
 use Rattle.values.specs.Words.{word, words}
-use Rattle.values.proofs.Parts.{front-stays, back-stays, part-stays, part-put, word-past}
+use Rattle.values.proofs.Parts.{front-stays, back-stays, part-put, word-past}
 use Rattle.sweep.specs.Lookup.{spread, swept, Looks, looked}
 use Rattle.sweep.specs.Running.{Runs, Stands, Stepped}
 use Rattle.sweep.proofs.Literals.{firsts-agree, outputs-every, nexts-every, output-up, next-up}
@@ -42,9 +42,6 @@ module _ {n : Counts} {inputs latches outputs gates : List ℕ} (r : Runs n inpu
   abbrev out : ℕ
   out = n .M + 1
 
-  abbrev next : ℕ
-  next = out + n .O
-
   long : litsOf n + 2 * out ≤ length t2
   long = omega (arith, literals-long r room b, same, same2)
 
@@ -58,17 +55,16 @@ module _ {n : Counts} {inputs latches outputs gates : List ℕ} (r : Runs n inpu
 
   -- t3: with the outputs' words
   module _ {t3 : List ℕ} (same3 : length t3 ≡ length t2) (e3 : t3 ≡ put t2 out (looked outputs 0 1 (n .O) (litsOf n) t2)) where
-    pub looks-nexts : Looks latches 1 2 (n .L) (litsOf n) next t3
+    pub looks-nexts : Looks latches 1 2 (n .L) (litsOf n) (1 + n .I) t3
     looks-nexts = record {
       start-in = omega arith;
       literals-long = r .fits .latches-long;
-      before = omega arith;
+      before = omega (arith, r .fits .sum);
       inside = λ k h. omega (arith, next-up r k h, long, same3);
     }
 
-    -- t4: with the next state's words past them; t5: with them over the state's
-    module _ {t4 t5 : List ℕ} (same4 : length t4 ≡ length t3) (e4 : t4 ≡ put t3 next (looked latches 1 2 (n .L) (litsOf n) t3))
-        (e5 : t5 ≡ put t4 (1 + n .I) (take (n .L) (drop next t4))) where
+    -- t4: with the next state's words over the state's
+    module _ {t4 : List ℕ} (e4 : t4 ≡ put t3 (1 + n .I) (looked latches 1 2 (n .L) (litsOf n) t3)) where
       abbrev outs : List ℕ
       outs = looked outputs 0 1 (n .O) (litsOf n) t2
 
@@ -96,40 +92,29 @@ module _ {n : Counts} {inputs latches outputs gates : List ℕ} (r : Runs n inpu
           ∙ settled-word r room b same e same2 e2 l (next-up r k h)))
           ∙ sym (ap (λ (l : List ℕ). words (map (lit (valuesOf c s i)) l)) (nexts-every r))
 
-      next-is : t5 ≡ put t4 (1 + n .I) nexts
-      next-is =
-          e5 ∙ ap (put t4 (1 + n .I))
-          (ap₂ (λ (k : ℕ) (x : List ℕ). take k (drop next x)) (sym nexts-length) e4
-          ∙ part-put t3 next nexts (omega (arith, long, same3)))
-
-      pub stepped : Stepped n c s i t5
+      pub stepped : Stepped n c s i t4
       stepped = record { rests = record { zero = zero; state = state }; outputs = shown }
         where
-          inner : 1 + n .I ≤ length t4
-          inner = omega (arith, long, same3, same4, r .fits .sum)
+          inner : 1 + n .I ≤ length t3
+          inner = omega (arith, long, same3, r .fits .sum)
 
-          zero : take 1 t5 ≡ 0 ∷ []
+          zero : take 1 t4 ≡ 0 ∷ []
           zero =
-              ap (take 1) next-is
-              ∙ (front-stays t4 (1 + n .I) nexts inner 1 (omega arith)
-              ∙ (ap (take 1) e4
-              ∙ (front-stays t3 next nexts (omega (arith, long, same3)) 1 (omega arith)
+              ap (take 1) e4
+              ∙ (front-stays t3 (1 + n .I) nexts inner 1 (omega arith)
               ∙ (ap (take 1) e3
               ∙ (front-stays t2 out outs (omega (arith, long)) 1 (omega arith)
               ∙ (settled-front r room b same e same2 e2 1 (omega arith)
-              ∙ (sym (take-take 1 (1 + n .I + n .L) t (omega arith)) ∙ ap (take 1) (b .leaves))))))))
+              ∙ (sym (take-take 1 (1 + n .I + n .L) t (omega arith)) ∙ ap (take 1) (b .leaves))))))
 
-          state : take (n .L) (drop (1 + n .I) t5) ≡ words (nextOf c s i)
+          state : take (n .L) (drop (1 + n .I) t4) ≡ words (nextOf c s i)
           state =
-              ap₂ (λ (k : ℕ) (x : List ℕ). take k (drop (1 + n .I) x)) (sym nexts-length) next-is
-              ∙ (part-put t4 (1 + n .I) nexts inner ∙ nexts-are)
+              ap₂ (λ (k : ℕ) (x : List ℕ). take k (drop (1 + n .I) x)) (sym nexts-length) e4
+              ∙ (part-put t3 (1 + n .I) nexts inner ∙ nexts-are)
 
-          shown : take (n .O) (drop out t5) ≡ words (outputsOf c s i)
+          shown : take (n .O) (drop out t4) ≡ words (outputsOf c s i)
           shown =
-              ap (λ (x : List ℕ). take (n .O) (drop out x)) next-is
-              ∙ (ap (take (n .O)) (back-stays t4 (1 + n .I) nexts inner out (omega (arith, nexts-length, r .fits .sum)))
-              ∙ (ap (λ (x : List ℕ). take (n .O) (drop out x)) e4
-              ∙ (part-stays t3 next nexts (omega (arith, long, same3)) out (n .O) (omega arith)
-              (omega (arith, long, same3, same4, ap length e4))
+              ap (λ (x : List ℕ). take (n .O) (drop out x)) e4
+              ∙ (ap (take (n .O)) (back-stays t3 (1 + n .I) nexts inner out (omega (arith, nexts-length, r .fits .sum)))
               ∙ (ap₂ (λ (k : ℕ) (x : List ℕ). take k (drop out x)) (sym outs-length) e3
-              ∙ (part-put t2 out outs (omega (arith, long)) ∙ outs-are)))))
+              ∙ (part-put t2 out outs (omega (arith, long)) ∙ outs-are)))

@@ -11,7 +11,6 @@ ghost use Rattle.sweep.specs.Lookup.{notTable, andTable, bothWords, andW
 ghost use Rattle.sweep.specs.Running.{Runs, Stands, Stepped, Ready};
 use plan::Counts;
 use plan::Lit;
-use values::copy;
 
 // At a value: 0 and 1 exchange, x stays.
 const NOT: [u32; 3] = [1, 0, 2];
@@ -119,11 +118,9 @@ pub fn step_values(n: Counts, latches: &[u32], outputs: &[u32], gates: &[u32], t
 {
     let state = 1 + n.I;
     let out = n.M + 1;
-    let next = out + n.O;
-    let lits = next + n.L;
+    let lits = out + n.O;
     spread_leaves(state + n.L, lits, t);
     sweep_gates(gates, n.A, state + n.L, lits, t);
     look_up(outputs, 0, 1, n.O, lits, out, t);
-    look_up(latches, 1, 2, n.L, lits, next, t);
-    copy(t, next, n.L, state);
+    look_up(latches, 1, 2, n.L, lits, state, t);
 }

@@ -4,13 +4,9 @@ use mathlib.Core.Path.{_≡_, refl, sym, ap, _∙_}
 use mathlib.Core.List.{List, _++_}
 use native.Mathlib.Omega.{arith}
 use lib.ListN.{length, getD, take, drop}
-use lib.Seq.{length-take-le, take-append-le, take-add, take-take, take-at, drop-at, drop-drop, drop-append-add, getD-take, getD-drop}
+use lib.Seq.{length-take-le, take-append-le, take-take, take-at, drop-drop, drop-append-add, getD-take, getD-drop}
 use Rattle.plan.specs.Outcome.{put}
 use Rattle.theorems.proofs.Put.{put-there}
-
--- a part is what is left of a longer front
-part-take : (l : List ℕ) (p n : ℕ) → p ≤ length l → take n (drop p l) ≡ drop p (take (p + n) l)
-part-take l p n h = sym (ap (drop p) (take-add p n l) ∙ drop-at (take p l) (take n (drop p l)) p (length-take-le p l h))
 
 module _ (l : List ℕ) (at : ℕ) (w : List ℕ) (fits : at ≤ length l) where
   pub front-stays : (p : ℕ) → p ≤ at → take p (put l at w) ≡ take p l
@@ -27,10 +23,6 @@ module _ (l : List ℕ) (at : ℕ) (w : List ℕ) (fits : at ≤ length l) where
       ∙ (ap (drop (length w + k)) (put-there l at w fits)
       ∙ (drop-append-add w (drop (at + length w) l) k
       ∙ (drop-drop k (at + length w) l ∙ ap (λ (q : ℕ). drop q l) rest))))
-
-  pub part-stays : (p n : ℕ) → p + n ≤ at → at ≤ length (put l at w) → take n (drop p (put l at w)) ≡ take n (drop p l)
-  part-stays p n h k =
-      part-take (put l at w) p n (omega arith) ∙ (ap (drop p) (front-stays (p + n) h) ∙ sym (part-take l p n (omega arith)))
 
   -- what is put stands there
   pub part-put : take (length w) (drop at (put l at w)) ≡ w

@@ -2,7 +2,7 @@
 ghost use mathlib.Core.Path.{_≡_};
 ghost use mathlib.Core.List.{map};
 ghost use Prim.Native.Nat.{_+_, _≤_};
-ghost use lib.ListN.{length, take, drop};
+ghost use lib.ListN.{length};
 ghost use Rattle.plan.specs.Step.{codeOf, valueOf, any1};
 ghost use Rattle.plan.specs.Outcome.{put};
 ghost use Rattle.values.specs.Words.{word, told, words, valuesAt};
@@ -52,19 +52,6 @@ pub fn store(t: &[u32], first: usize, codes: &mut [u8])
     let mut i = 0;
     while i < codes.len() {
         codes[i] = code_of(t[first + i]);
-        i += 1;
-    }
-}
-
-// n words from `from` on go over those from `to` on, of which none is among them.
-pub fn copy(t: &mut [u32], from: usize, n: usize, to: usize)
-    requires { ⌜ to + n ≤ from ⌝ }
-    requires { ⌜ from + n ≤ length (now t) ⌝ }
-    ensures { λ _. ⌜ now (t .exit) ≡ put (now (t .entry)) to (take n (drop from (now (t .entry)))) ⌝ }
-{
-    let mut i = 0;
-    while i < n {
-        t[to + i] = t[from + i];
         i += 1;
     }
 }

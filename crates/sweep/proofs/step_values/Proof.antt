@@ -1,13 +1,12 @@
-use native.Mathlib.Omega.{arith}
 use Rattle.sweep.proofs.Settling.{spreads, sweeps}
 use Rattle.sweep.proofs.Stepping.{looks-outputs, looks-nexts, stepped}
 use borrow.Author.Needs.{needs}
 use Rattle.sweep.proofs.step_values.Statement.{statement}
 use Rattle.sweep.proofs.step_values.Tie as tie
 
--- back from one table to the one before it: after the leaves, the sweep, the first look up and the second
+-- back from one table to the one before it: after the leaves, the sweep and the first look up
 abbrev start : tie.After-t → tie.Start
-start a = a .before .before .before .before .before .before .before .before .before .before .before .before
+start a = a .before .before .before .before .before .before .before .before .before .before .before
 
 abbrev first : tie.After-t2 → tie.After-t
 first b = b .before .before .before .before .before
@@ -15,17 +14,11 @@ first b = b .before .before .before .before .before
 abbrev second : tie.After-t3 → tie.After-t2
 second d = d .before .before .before .before
 
-abbrev third : tie.After-t4 → tie.After-t3
-third f = f .before .before .before .before
-
 add-state : tie.Need-add-state
 add-state c = search needs
 
 add-out : tie.Need-add-out
 add-out c = search needs
-
-add-next : tie.Need-add-next
-add-next c = search needs
 
 add-lits : tie.Need-add-lits
 add-lits c = search needs
@@ -35,7 +28,7 @@ add-spread-leaves c = search needs
 
 spread-leaves-requires : tie.Need-spread-leaves-requires
 spread-leaves-requires c κs =
-    let p = c .before .before .before .before .before .before .before .before .before .before .pre in
+    let p = c .before .before .before .before .before .before .before .before .before .pre in
     spreads (p .runs) (p .scratch) (p .stands)
 
 add-sweep-gates : tie.Need-add-sweep-gates
@@ -64,29 +57,16 @@ look-up-requires-2 c κs =
     looks-nexts (p .runs) (p .scratch) (p .stands) (a .t .given) (a .before .spread-leaves .ensures) (b .t2 .given)
     (b .before .sweep-gates .ensures) (d .t3 .given) (d .before .look-up .ensures)
 
-copy-requires : tie.Need-copy-requires
-copy-requires c κs =
-    let f = c .before .before in
-    let d = third f in
-    let b = second d in
-    let a = first b in
-    let p = start a .pre in (
-      omega (arith, p .runs .fits .sum),
-      omega (arith, p .runs .fits .sum, p .scratch, a .t .given, b .t2 .given, d .t3 .given, f .t4 .given),
-    )
-
 same-length : tie.Need-same-length
 same-length c = search needs
 
 returns : tie.Need-returns
 returns c = λ inputs s i r stands.
-    let f = c .before .before .before .before .before in
-    let d = third f in
+    let d = c .before .before .before .before .before in
     let b = second d in
     let a = first b in
     stepped r (start a .pre .scratch) stands (a .t .given) (a .before .spread-leaves .ensures) (b .t2 .given)
-    (b .before .sweep-gates .ensures) (d .t3 .given) (d .before .look-up .ensures) (f .t4 .given) (f .before .look-up2 .ensures)
-    (c .before .before .copy .ensures)
+    (b .before .sweep-gates .ensures) (d .t3 .given) (d .before .look-up .ensures) (c .before .before .look-up2 .ensures)
 
 pub step-values-spec : {M : Type 1} → statement M
 step-values-spec =
@@ -94,7 +74,6 @@ step-values-spec =
     (tie.spec
     add-state
     add-out
-    add-next
     add-lits
     add-spread-leaves
     spread-leaves-requires
@@ -102,6 +81,5 @@ step-values-spec =
     sweep-gates-requires
     look-up-requires
     look-up-requires-2
-    copy-requires
     same-length
     returns)
