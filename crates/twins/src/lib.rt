@@ -123,7 +123,7 @@ pub fn find(
 }
 
 // Gate i's link for a bit leads to gate n.
-fn link(gates: &mut [u32], scratch: &mut [u32], w: usize, i: usize, bit: u32, n: usize)
+fn set_link(gates: &mut [u32], scratch: &mut [u32], w: usize, i: usize, bit: u32, n: usize)
     requires { ⌜ Room (now gates) (now scratch) w n ⌝ }
     requires { ⌜ i < n ⌝ }
     ensures { λ _. ⌜ (now (gates .exit) ≡ gatesHung (now (gates .entry)) w (slotOf w (suc i) bit) n)
@@ -137,7 +137,7 @@ fn link(gates: &mut [u32], scratch: &mut [u32], w: usize, i: usize, bit: u32, n:
 }
 
 // A slot leads to gate n.
-fn lead(gates: &mut [u32], scratch: &mut [u32], w: usize, slot: Slot, n: usize)
+fn set_slot(gates: &mut [u32], scratch: &mut [u32], w: usize, slot: Slot, n: usize)
     requires { ⌜ Room (now gates) (now scratch) w n ⌝ }
     requires { ⌜ Within w n slot ⌝ }
     ensures { λ _. ⌜ (now (gates .exit) ≡ gatesHung (now (gates .entry)) w (numberOf w slot) n)
@@ -145,7 +145,7 @@ fn lead(gates: &mut [u32], scratch: &mut [u32], w: usize, slot: Slot, n: usize)
 {
     match slot {
         Slot::Root(at) => scratch[at] = (n + 1) as u32,
-        Slot::Under(i, bit) => link(gates, scratch, w, i, bit, n),
+        Slot::Under(i, bit) => set_link(gates, scratch, w, i, bit, n),
     }
 }
 
@@ -156,7 +156,7 @@ pub fn hang(gates: &mut [u32], scratch: &mut [u32], w: usize, slot: Slot, n: usi
     ensures { λ _. ⌜ (now (gates .exit) ≡ stored (gatesHung (now (gates .entry)) w (numberOf w slot) n) n (wordOf x) (wordOf y))
         × (now (scratch .exit) ≡ scratchHung (now (scratch .entry)) w (numberOf w slot) n) ⌝ }
 {
-    lead(gates, scratch, w, slot, n);
+    set_slot(gates, scratch, w, slot, n);
     gates[3 * n + 1] = x.word();
     gates[3 * n + 2] = y.word();
 }

@@ -5,8 +5,8 @@ use Rattle.twins.specs.Pairs.{stored}
 use Rattle.twins.proofs.hang.Statement.{statement}
 use Rattle.twins.proofs.hang.Tie as tie
 
-lead-requires : tie.Need-lead-requires
-lead-requires c κs = search needs
+set-slot-requires : tie.Need-set-slot-requires
+set-slot-requires c κs = search needs
 
 word-requires : tie.Need-word-requires
 word-requires c κs = search needs
@@ -50,13 +50,13 @@ returns : tie.Need-returns
 returns c =
     let l = c .before .before .before .before .before .before in
     let a = l .before .before .before .before .before .args in
-    (λ j. stored (l .lead .ensures .0 j) (a .n) (c .before .word .ensures j) (c .word2 .ensures j), l .lead .ensures .1)
+    (λ j. stored (l .set-slot .ensures .0 j) (a .n) (c .before .word .ensures j) (c .word2 .ensures j), l .set-slot .ensures .1)
 
 pub hang-spec : {M : Type 1} → statement M
 hang-spec =
     tie.close
     (tie.spec
-    lead-requires
+    set-slot-requires
     word-requires
     mul-gates
     add-gates

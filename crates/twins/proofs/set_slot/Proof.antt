@@ -6,8 +6,8 @@ use Rattle.twins.specs.declared.Slot.{Slot}
 use Rattle.twins.specs.declared.Slot.the-variants.{Root}
 use Rattle.twins.specs.Pairs.{Within, numberOf, gatesHung, scratchHung}
 use Rattle.twins.proofs.Words.{led-scratch}
-use Rattle.twins.proofs.lead.Statement.{statement}
-use Rattle.twins.proofs.lead.Tie as tie
+use Rattle.twins.proofs.set_slot.Statement.{statement}
+use Rattle.twins.proofs.set_slot.Tie as tie
 
 -- a root is a word of the scratch
 root-in : (s : tie.Start) (at : ℕ) → s .args .slot ≡ Root at → at < 4 * s .args .w
@@ -35,8 +35,8 @@ slice-write-scratch c =
 enum-known-slot-2 : tie.Need-enum-known-slot-2
 enum-known-slot-2 c = search needs
 
-link-requires : tie.Need-link-requires
-link-requires c κs =
+set-link-requires : tie.Need-set-link-requires
+set-link-requires c κs =
     let s = c .before .before .before .before .before .before .before in
     (s .pre .0, subst (λ (x : Slot). Within (s .args .w) (s .args .n) x) (c .before .before .before .slot2 .given .1) (s .pre .1))
 
@@ -65,12 +65,12 @@ returns-2 c =
     let s = k .before .before .before .before .before .before .before .before in
     let a = s .args in
     let is = sym (k .before .before .before .before .slot2 .given .1) in (
-      k .link .ensures .0 ∙ ap (λ (x : Slot). gatesHung (a .gates .now) (a .w) (numberOf (a .w) x) (a .n)) is,
-      k .link .ensures .1 ∙ ap (λ (x : Slot). scratchHung (a .scratch .now) (a .w) (numberOf (a .w) x) (a .n)) is,
+      k .set-link .ensures .0 ∙ ap (λ (x : Slot). gatesHung (a .gates .now) (a .w) (numberOf (a .w) x) (a .n)) is,
+      k .set-link .ensures .1 ∙ ap (λ (x : Slot). scratchHung (a .scratch .now) (a .w) (numberOf (a .w) x) (a .n)) is,
     )
 
-pub lead-spec : {M : Type 1} → statement M
-lead-spec =
+pub set-slot-spec : {M : Type 1} → statement M
+set-slot-spec =
     tie.close
     (tie.spec
     enum-known-slot
@@ -79,7 +79,7 @@ lead-spec =
     mul-scratch
     slice-write-scratch
     enum-known-slot-2
-    link-requires
+    set-link-requires
     same-length
     returns
     same-length-2

@@ -1,8 +1,8 @@
 use native.Mathlib.Omega.{arith}
 use borrow.Author.Needs.{needs}
 use Rattle.twins.proofs.Words.{led-zero, led-one}
-use Rattle.twins.proofs.link.Statement.{statement}
-use Rattle.twins.proofs.link.Tie as tie
+use Rattle.twins.proofs.set_link.Statement.{statement}
+use Rattle.twins.proofs.set_link.Tie as tie
 
 add-gates : tie.Need-add-gates
 add-gates c = search needs
@@ -54,8 +54,8 @@ returns-2 c =
     let a = s .args in
     led-one (a .gates .now) (a .scratch .now) (a .w) (a .n) (a .i) (a .bit) (omega (arith, s .pre .0 .fewer, s .pre .1)) (c .if1 .left)
 
-pub link-spec : {M : Type 1} → statement M
-link-spec =
+pub set-link-spec : {M : Type 1} → statement M
+set-link-spec =
     tie.close
     (tie.spec
     add-gates
