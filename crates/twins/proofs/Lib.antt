@@ -8,3 +8,4 @@ pub mod Earliest
 pub mod Way
 pub mod Hung
 pub mod Steps
+pub mod Once

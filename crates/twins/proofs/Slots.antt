@@ -9,7 +9,7 @@ use Rattle.twins.specs.Tree.{depth, node, symbol, slotOf, Good}
 use Rattle.twins.proofs.Agree.{Agree, agreeing}
 use Rattle.twins.proofs.Depth.{depth-on, depth-step, depth-pos, depth-same, on-same, node-depth}
 
-link-high : (w i c : ℕ) → 3 * w ≤ slotOf w (suc i) c
+pub link-high : (w i c : ℕ) → 3 * w ≤ slotOf w (suc i) c
 link-high w i zero = omega arith
 link-high w i (suc c) = omega arith
 
@@ -22,7 +22,7 @@ link-kept w i zero h = absurd (omega arith)
 link-kept w i (suc c) h = omega arith
 
 -- the links of the first w gates are all different
-link-inj : (w i j c d : ℕ) → i < w → j < w → c < 2 → d < 2 → slotOf w (suc i) c ≡ slotOf w (suc j) d → (i ≡ j) × (c ≡ d)
+pub link-inj : (w i j c d : ℕ) → i < w → j < w → c < 2 → d < 2 → slotOf w (suc i) c ≡ slotOf w (suc j) d → (i ≡ j) × (c ≡ d)
 link-inj w i j zero zero hi hj hc hd e = (omega arith, refl)
 link-inj w i j zero (suc d) hi hj hc hd e = absurd (omega arith)
 link-inj w i j (suc c) zero hi hj hc hd e = absurd (omega arith)

@@ -74,14 +74,14 @@ pub record Hangs (gates scratch : List ℕ) (w n x y slot : ℕ) : Type 0 where
   pub at : slot ≡ slotOf w k (symbol (paths w gates) (pathOf w x y) k)
   pub free : word gates scratch w slot ≡ 0
 
--- a slot's number, and where it may be
+-- a slot's number; each has one slot that is so within bounds
 abbrev pub numberOf : ℕ → Slot → ℕ
 numberOf w (Root at) = at
 numberOf w (Under i bit) = slotOf w (suc i) bit
 
 abbrev pub Within : ℕ → ℕ → Slot → Type 0
-Within w n (Root at) = at < 4 * w
-Within w n (Under i bit) = i < n
+Within w n (Root at) = at < 3 * w
+Within w n (Under i bit) = (i < n) × (bit < 2)
 
 -- the earlier gate with the same pair, or where the gate is to hang
 abbrev pub Sought : List ℕ → List ℕ → ℕ → ℕ → ℕ → ℕ → ℕ → Place → Type 0

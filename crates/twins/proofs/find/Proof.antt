@@ -145,7 +145,7 @@ returns-3 c =
     let next = way-next (p .1 .1 .1) (p .1 .1 .0) (q .loop .inv .way) (q .loop .inv .leads)
     (sym (e .before .has-sides .ensures) ∙ e .if2 .left) in
     let out = way-out (p .1 .1 .1) (p .1 .1 .0) next (a .base) (sym (c .before .leads .ensures) ∙ c .if3 .taken) in
-    (out .0, (known q, out .1))
+    (out .0, ((known q, omega arith), out .1))
 
 sub-i-2 : tie.Need-sub-i-2 Inv-loop μ-loop
 sub-i-2 c = omega (arith, c .if3 .left)

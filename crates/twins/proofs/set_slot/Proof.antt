@@ -3,7 +3,7 @@ use mathlib.Core.Path.{_≡_, sym, ap, _∙_, subst}
 use native.Mathlib.Omega.{arith}
 use borrow.Author.Needs.{needs}
 use Rattle.twins.specs.declared.Slot.{Slot}
-use Rattle.twins.specs.declared.Slot.the-variants.{Root}
+use Rattle.twins.specs.declared.Slot.the-variants.{Root, Under}
 use Rattle.twins.specs.Pairs.{Within, numberOf, gatesHung, scratchHung}
 use Rattle.twins.proofs.Words.{led-scratch}
 use Rattle.twins.proofs.set_slot.Statement.{statement}
@@ -11,7 +11,12 @@ use Rattle.twins.proofs.set_slot.Tie as tie
 
 -- a root is a word of the scratch
 root-in : (s : tie.Start) (at : ℕ) → s .args .slot ≡ Root at → at < 4 * s .args .w
-root-in s at e = subst (λ (x : Slot). Within (s .args .w) (s .args .n) x) e (s .pre .1)
+root-in s at e =
+    let low : at < 3 * s .args .w = subst (λ (x : Slot). Within (s .args .w) (s .args .n) x) e (s .pre .1) in
+    omega (arith, low)
+
+link-in : (s : tie.Start) (i bit : ℕ) → s .args .slot ≡ Under i bit → i < s .args .n
+link-in s i bit e = subst (λ (x : Slot). Within (s .args .w) (s .args .n) x) e (s .pre .1) .0
 
 enum-known-slot : tie.Need-enum-known-slot
 enum-known-slot c = search needs
@@ -38,7 +43,7 @@ enum-known-slot-2 c = search needs
 set-link-requires : tie.Need-set-link-requires
 set-link-requires c κs =
     let s = c .before .before .before .before .before .before .before in
-    (s .pre .0, subst (λ (x : Slot). Within (s .args .w) (s .args .n) x) (c .before .before .before .slot2 .given .1) (s .pre .1))
+    (s .pre .0, link-in s _ _ (c .before .before .before .slot2 .given .1))
 
 same-length : tie.Need-same-length
 same-length c = search needs
