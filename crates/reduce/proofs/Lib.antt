@@ -1,5 +1,4 @@
 pub mod Leaves
 pub mod Replaced
-pub mod Gates
 pub mod Reducing
 pub mod Answers

@@ -13,12 +13,12 @@ use Rattle.plan.specs.Outcome.{put}
 use Rattle.theorems.proofs.Reading.Runs.{BinaryOrder, order-exactly, length-nexts}
 use Rattle.theorems.proofs.Tables.{gatesAt, gates-rows}
 use Rattle.theorems.proofs.Running.Binary.{Binary, inner, Bounded, Ordered}
+use Rattle.theorems.proofs.Running.Sides.{sides-below}
 use Rattle.theorems.proofs.Running.InOrder.{well-ordered}
 use Rattle.folding.specs.Folded.{folded, Foldable, Done}
 use Rattle.reduce.specs.Ready.{Ready, Written}
 use Rattle.reduce.proofs.Leaves.{leaf-stays, inputs-stay, currents-stay, lits-bounded, latches-bounded, bounded-more}
 use Rattle.reduce.proofs.Leaves.{becomes-front, latches-words}
-use Rattle.reduce.proofs.Gates.{all-below}
 
 abbrev pub tablesOf : List ℕ → List ℕ → List ℕ → List ℕ → Tables
 tablesOf inputs latches outputs gates = record { inputs = inputs; latches = latches; outputs = outputs; gates = gates }
@@ -58,6 +58,11 @@ module _ (g : Given) (to : Tables) (ready : Ready g to) where
   inner-is : inner c ≡ base
   inner-is = omega (arith, some-inputs, some-latches)
 
+  in-order : Binary base (gatesAt (g .tables .gates) (n .A))
+  in-order =
+      subst (λ (m : ℕ). Binary m (gatesAt (g .tables .gates) (n .A))) inner-is
+      (subst (λ (gs : List Gate). Binary (inner c) gs) (gates-rows (g .tables .gates) (n .A)) (ordered .gates-in))
+
   pub foldable : Foldable (g .tables .gates) (to .gates) (g .scratch) base (n .A)
   foldable = record {
     leaf = omega arith;
@@ -65,9 +70,9 @@ module _ (g : Given) (to : Tables) (ready : Ready g to) where
     gates-long = ready .good .fits .gates-long;
     to-long = ready .wide .gates;
     scratch-long = omega (arith, sum, ready .good .scratch);
-    below = all-below (g .tables .gates) base (n .A)
-        (subst (λ (m : ℕ). Binary m (gatesAt (g .tables .gates) (n .A))) inner-is
-        (subst (λ (gs : List Gate). Binary (inner c) gs) (gates-rows (g .tables .gates) (n .A)) (ordered .gates-in)));
+    below = λ k h.
+        let sides = sides-below base (g .tables .gates) (n .A) k h in-order in
+        record { rhs0 = sides .0; rhs1 = sides .1 };
     to-blank = ready .to-blank;
     scratch-blank = ready .scratch-blank;
   }

@@ -1,9 +1,7 @@
 -- One turn of the sweep over the gates.
-use Prim.Native.Nat.{ℕ, zero, suc, _+_, _*_, _<_}
+use Prim.Native.Nat.{ℕ, _+_, _*_, _<_}
 use mathlib.Core.Path.{_≡_, refl, sym, ap, ap₂, _∙_, subst}
 use mathlib.Core.List.{List, [], _∷_, _++_}
-use native.Mathlib.Nat.{not-suc-le-zero}
-use native.Mathlib.Decide.{decLt}
 use native.Mathlib.Numerals.{add-one}
 use native.Mathlib.Omega.{arith}
 use lib.ListN.{length, getD}
@@ -12,7 +10,7 @@ use Rattle.plan.specs.Circuit.{Gate}
 use Rattle.plan.specs.Step.{Value, and, lit}
 use Rattle.plan.specs.Outcome.{put}
 use Rattle.theorems.proofs.Tables.{length-firsts, gateAt, gatesAt}
-use Rattle.theorems.proofs.Running.Binary.{Binary}
+use Rattle.theorems.proofs.Running.Sides.{Sides, sides-below}
 use Rattle.theorems.proofs.Running.Sweep.{sweep, at, length-sweep}
 use Rattle.values.specs.Words.{word, told, valuesAt}
 use Rattle.values.proofs.Codes.{told-word}
@@ -24,31 +22,6 @@ sweep-snoc : (l : List Value) (gs : List Gate) (g : Gate)
     → sweep l (gs ++ (g ∷ [])) ≡ sweep l gs ++ (and (lit (at (sweep l gs)) (g .rhs0)) (lit (at (sweep l gs)) (g .rhs1)) ∷ [])
 sweep-snoc l [] g = refl
 sweep-snoc l (x ∷ gs) g = sweep-snoc (l ++ (and (lit (at l) (x .rhs0)) (lit (at l) (x .rhs1)) ∷ [])) gs g
-
--- the right sides of each gate are of variables below its own
-abbrev Sides : ℕ → Gate → Type 0
-Sides n g = (varOf (g .rhs0) < n) × (varOf (g .rhs1) < n)
-
-binary-front : (n : ℕ) (gs hs : List Gate) → Binary n (gs ++ hs) → Binary n gs
-binary-front n [] hs b = tt
-binary-front n (x ∷ gs) hs b = (b .0, b .1, b .2, binary-front (suc n) gs hs (b .3))
-
-binary-last : (n : ℕ) (gs : List Gate) (g : Gate) → Binary n (gs ++ (g ∷ [])) → Sides (n + length gs) g
-binary-last n [] g b = (omega (arith, b .1), omega (arith, b .2))
-binary-last n (x ∷ gs) g b = let s = binary-last (suc n) gs g (b .3) in (omega (arith, s .0), omega (arith, s .1))
-
-sides-below : (n : ℕ) (t : List ℕ) (a k : ℕ) → k < a → Binary n (gatesAt t a) → Sides (n + k) (gateAt t k)
-sides-below n t zero k h b = absurd (not-suc-le-zero h)
-sides-below n t (suc a) k h b =
-    go (decLt k a) (λ q. sides-below n t a k q (binary-front n (gatesAt t a) (gateAt t a ∷ []) b))
-  where
-    go : Dec (k < a) → (k < a → Sides (n + k) (gateAt t k)) → Sides (n + k) (gateAt t k)
-    go (yes q) f = f q
-    go (no q) f =
-        let e : a ≡ k = omega arith in
-        let here : n + length (gatesAt t a) ≡ n + a = omega (arith, length-firsts (gateAt t) a) in
-        subst (λ (j : ℕ). Sides (n + j) (gateAt t j)) e
-        (subst (λ (j : ℕ). Sides j (gateAt t a)) here (binary-last n (gatesAt t a) (gateAt t a) b))
 
 -- the values after i gates
 abbrev pub done : List ℕ → ℕ → List ℕ → ℕ → List Value

@@ -10,6 +10,7 @@ pub mod Accepted
 pub mod GateValue
 pub mod Signs
 pub mod Binary
+pub mod Sides
 pub mod Upward
 pub mod InOrder
 pub mod Different
