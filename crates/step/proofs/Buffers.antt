@@ -22,19 +22,19 @@ told-part t first n m l e h =
 -- a state that is loaded beside the constant, whatever else scratch holds
 module _ {n : Counts} {latches outputs gates scratch : List ℕ} (b : Room n latches outputs gates scratch)
     (state : List ℕ) (long : length state ≡ n .L)
-    {t1 : List ℕ} (e1 : t1 ≡ put (set scratch 0 0) (1 + n .I) (words (map valueOf state))) where
+    {t1 : List ℕ} (e1 : t1 ≡ put (set scratch 0 1) (1 + n .I) (words (map valueOf state))) where
   pub state-long : length (map valueOf state) ≡ n .L
   state-long = length-map state valueOf ∙ long
 
   pub state-rests : Rests n (map valueOf state) t1
   state-rests =
-      rests-loaded n (set scratch 0 0) (map valueOf state) t1 (constant-set scratch (omega (arith, b .scratch-long)))
-      (omega (arith, b .scratch-long, b .runs .fits .sum, length-set scratch 0 0)) state-long e1
+      rests-loaded n (set scratch 0 1) (map valueOf state) t1 (constant-set scratch (omega (arith, b .scratch-long)))
+      (omega (arith, b .scratch-long, b .runs .fits .sum, length-set scratch 0 1)) state-long e1
 
 module _ {n : Counts} {latches outputs gates scratch : List ℕ} (b : Room n latches outputs gates scratch)
     {state ins outs : List ℕ} (v : Vectors n state ins outs)
-    {t1 t2 : List ℕ} (e1 : t1 ≡ put (set scratch 0 0) (1 + n .I) (words (map valueOf state)))
-    (same1 : length t1 ≡ length (set scratch 0 0))
+    {t1 t2 : List ℕ} (e1 : t1 ≡ put (set scratch 0 1) (1 + n .I) (words (map valueOf state)))
+    (same1 : length t1 ≡ length (set scratch 0 1))
     (e2 : t2 ≡ put t1 1 (words (map valueOf ins))) (same2 : length t2 ≡ length t1) where
   abbrev s : List Value
   s = map valueOf state
@@ -43,7 +43,7 @@ module _ {n : Counts} {latches outputs gates scratch : List ℕ} (b : Room n lat
   i = map valueOf ins
 
   same : length t1 ≡ length scratch
-  same = same1 ∙ length-set scratch 0 0
+  same = same1 ∙ length-set scratch 0 1
 
   pub stands : Stands n s i t2
   stands =

@@ -13,6 +13,7 @@ use plan::Refusal;
 use plan::Stepped;
 use sweep::step_values;
 use tables::clear;
+use values::MAY0;
 use values::load;
 use values::store;
 
@@ -34,7 +35,7 @@ fn step_vectors(
         (now (state .entry)) (now (ins .entry)) (now (state .exit)) (now (outs .exit))) ⌝ }
 {
     // the constant
-    scratch[0] = 0;
+    scratch[0] = MAY0;
     load(state, 1 + n.I, scratch);
     load(ins, 1, scratch);
     step_values(n, latches, outputs, gates, scratch);

@@ -1,7 +1,7 @@
 -- Words of vectors before a step: a state beside the constant, and inputs beside a state.
-use Prim.Native.Nat.{ℕ, zero, suc, _+_, _-_, _≤_, _<_}
+use Prim.Native.Nat.{ℕ, suc, _+_, _≤_, _<_}
 use mathlib.Core.Path.{_≡_, refl, sym, ap, ap₂, _∙_}
-use mathlib.Core.List.{List, [], _∷_, _++_, map-append}
+use mathlib.Core.List.{List, [], _∷_, _++_, map-append, append-assoc}
 use native.Mathlib.Omega.{arith}
 use lib.ListN.{length, take, drop, set, replicate, length-map, length-replicate, replicate-append-replicate}
 use lib.Seq.{take-add, take-at, drop-at}
@@ -13,42 +13,44 @@ use Rattle.values.specs.Words.{word, words}
 use Rattle.values.proofs.Parts.{front-stays, back-stays, part-put}
 use Rattle.sweep.specs.Running.{Rests, Stands}
 
-abbrev pub blank : ℕ → List ℕ
-blank n = replicate n 0
+-- the values 0 in the leaves' words: the constant, and the state that is all "0"
+module _ (n : Counts) where
+  abbrev zeros : List Value
+  zeros = replicate (1 + n .I) v0
 
-blank-length : (n : ℕ) → length (blank n) ≡ n
-blank-length n = length-replicate {A = ℕ} n 0
+  abbrev state : List Value
+  state = replicate (n .L) v0
 
-blank-more : (n m : ℕ) → blank n ++ blank m ≡ blank (n + m)
-blank-more n m = replicate-append-replicate {A = ℕ} n m 0
+  count : (k : ℕ) → length (words (replicate k v0)) ≡ k
+  count k = length-map (replicate k v0) word ∙ length-replicate k v0
 
-part-blank : (p n k : ℕ) → p + n ≤ k → take n (drop p (blank k)) ≡ blank n
-part-blank p n k h =
-    let rest = k - (p + n) in
-    let all : k ≡ p + (n + rest) = omega arith in
-    ap (λ (m : ℕ). take n (drop p (blank m))) all
-    ∙ (ap (λ (l : List ℕ). take n (drop p l)) (sym (blank-more p (n + rest)))
-    ∙ (ap (take n) (drop-at (blank p) (blank (n + rest)) p (blank-length p))
-    ∙ (ap (take n) (sym (blank-more n rest)) ∙ take-at (blank n) (blank rest) n (blank-length n))))
+  pub rests-first : (base t : List ℕ) → t ≡ put base 0 (words (replicate (1 + n .I + n .L) v0)) → Rests n (replicate (n .L) v0) t
+  rests-first base t e = record {
+    zero = ap (take 1) there ∙ ap (λ (k : ℕ). take 1 (words (replicate k v0) ++ (words state ++ past))) one;
+    state =
+        ap (λ (l : List ℕ). take (n .L) (drop (1 + n .I) l)) there
+        ∙ (ap (take (n .L)) (drop-at (words zeros) (words state ++ past) (1 + n .I) (count (1 + n .I)))
+        ∙ take-at (words state) past (n .L) (count (n .L)));
+  }
+    where
+      past : List ℕ
+      past = drop (0 + length (words (replicate (1 + n .I + n .L) v0))) base
 
-zeros-words : (n : ℕ) → blank n ≡ words (replicate n v0)
-zeros-words zero = refl
-zeros-words (suc n) = ap (λ (l : List ℕ). 0 ∷ l) (zeros-words n)
+      one : 1 + n .I ≡ suc (n .I)
+      one = omega arith
 
--- a blank table holds the state that is all "0"
-pub rests-first : (n : Counts) (k : ℕ) → 1 + n .I + n .L ≤ k → Rests n (replicate (n .L) v0) (blank k)
-rests-first n k h = record {
-  zero = part-blank 0 1 k (omega arith);
-  state = part-blank (1 + n .I) (n .L) k h ∙ zeros-words (n .L);
-}
+      there : t ≡ words zeros ++ (words state ++ past)
+      there =
+          e ∙ (ap (λ (l : List Value). words l ++ past) (sym (replicate-append-replicate (1 + n .I) (n .L) v0))
+          ∙ (ap (λ (l : List ℕ). l ++ past) (map-append word zeros state) ∙ append-assoc (words zeros) (words state) past))
 
 -- where the constant is set, all else as it comes
-pub constant-set : (l : List ℕ) → 0 < length l → take 1 (set l 0 0) ≡ 0 ∷ []
+pub constant-set : (l : List ℕ) → 0 < length l → take 1 (set l 0 (word v0)) ≡ words (v0 ∷ [])
 constant-set [] h = absurd (omega arith)
 constant-set (x ∷ l) h = refl
 
 -- a state that is loaded behind the constant
-pub rests-loaded : (n : Counts) (base : List ℕ) (s : List Value) (t : List ℕ) → take 1 base ≡ 0 ∷ [] → 1 + n .I ≤ length base
+pub rests-loaded : (n : Counts) (base : List ℕ) (s : List Value) (t : List ℕ) → take 1 base ≡ words (v0 ∷ []) → 1 + n .I ≤ length base
     → length s ≡ n .L
     → t ≡ put base (1 + n .I) (words s)
     → Rests n s t
@@ -72,7 +74,7 @@ stands-loaded n s i t t′ r ls li h e = record { state-length = ls; inputs-leng
     count : length w ≡ n .I
     count = length-map i word ∙ li
 
-    front : take 1 (put t 1 w) ≡ 0 ∷ []
+    front : take 1 (put t 1 w) ≡ words (v0 ∷ [])
     front = front-stays t 1 w (omega arith) 1 (omega arith) ∙ r .zero
 
     middle : take (n .I) (drop 1 (put t 1 w)) ≡ w
@@ -86,4 +88,4 @@ stands-loaded n s i t t′ r ls li h e = record { state-length = ls; inputs-leng
         ap (take (1 + n .I + n .L)) e
         ∙ (take-add (1 + n .I) (n .L) (put t 1 w)
         ∙ (ap₂ (λ (x y : List ℕ). x ++ y) (take-add 1 (n .I) (put t 1 w) ∙ ap₂ (λ (x y : List ℕ). x ++ y) front middle) back
-        ∙ ap (λ (l : List ℕ). 0 ∷ l) (sym (map-append word i s))))
+        ∙ ap (λ (l : List ℕ). word v0 ∷ l) (sym (map-append word i s))))

@@ -1,43 +1,67 @@
--- Words that are values, and what stands at them in the tables of Not and And.
-use Prim.Native.Nat.{ℕ, zero, suc, _+_, _*_, _<_}
-use mathlib.Core.Path.{_≡_, refl}
-use native.Mathlib.Omega.{arith}
-use lib.ListN.{getD}
-use Rattle.plan.specs.Step.{Value, v0, v1, vx, inv, and}
-use Rattle.values.specs.Words.{word, told}
-use Rattle.sweep.specs.Lookup.{notTable, andTable, andWord}
+-- The bits "may be 0" and "may be 1" of a value: of a negation and of an And, and of the word that holds both.
+use Prim.Native.Nat.{ℕ, _+_, _*_, _/_, _%_}
+use mathlib.Core.Path.{_≡_, refl, sym, ap, _∙_}
+use lib.Bits.{bitAnd, bitOr}
+use Rattle.plan.specs.Literals.{negOf}
+use Rattle.plan.specs.Step.{Value, v0, v1, vx, inv, and, lit}
+use Rattle.theorems.proofs.Running.Signs.{lit-neg}
+use Rattle.values.specs.Words.{may0, may1, word, told, Coded}
+use Rattle.values.proofs.Codes.{word-coded}
 
-pub word-small : (a : Value) → word a < 3
-word-small v0 = omega arith
-word-small v1 = omega arith
-word-small vx = omega arith
+-- "may be 0" and "may be 1" exchange
+pub may-not : (a : Value) → may1 (inv a) ≡ may0 a
+may-not v0 = refl
+may-not v1 = refl
+may-not vx = refl
 
-pub and-small : (a b w : ℕ) → w ≡ andWord a b → w < 3
-and-small a b w e = omega (arith, word-small (and (told a) (told b)))
+pub negated-may : (w : ℕ → Value) (l : ℕ) → may1 (lit w (negOf l)) ≡ may0 (lit w l)
+negated-may w l = ap may1 (lit-neg w l) ∙ may-not (lit w l)
 
-pub word-told : (w : ℕ) → w < 3 → word (told w) ≡ w
-word-told zero h = refl
-word-told (suc zero) h = refl
-word-told (suc (suc zero)) h = refl
-word-told (suc (suc (suc w))) h = absurd (omega arith)
+-- it may be 1 if both may, and 0 if either may
+pub and-may1 : (x y : Value) → bitAnd (may1 x) (may1 y) ≡ may1 (and x y)
+and-may1 v0 v0 = refl
+and-may1 v0 v1 = refl
+and-may1 v0 vx = refl
+and-may1 v1 v0 = refl
+and-may1 v1 v1 = refl
+and-may1 v1 vx = refl
+and-may1 vx v0 = refl
+and-may1 vx v1 = refl
+and-may1 vx vx = refl
 
-pub not-at : (w : ℕ) → w < 3 → getD notTable w 0 ≡ word (inv (told w))
-not-at zero h = refl
-not-at (suc zero) h = refl
-not-at (suc (suc zero)) h = refl
-not-at (suc (suc (suc w))) h = absurd (omega arith)
+pub and-may0 : (x y : Value) → bitOr (may0 x) (may0 y) ≡ may0 (and x y)
+and-may0 v0 v0 = refl
+and-may0 v0 v1 = refl
+and-may0 v0 vx = refl
+and-may0 v1 v0 = refl
+and-may0 v1 v1 = refl
+and-may0 v1 vx = refl
+and-may0 vx v0 = refl
+and-may0 vx v1 = refl
+and-may0 vx vx = refl
 
-pub and-at : (a b : ℕ) → a < 3 → b < 3 → getD andTable (3 * a + b) 0 ≡ andWord a b
-and-at zero zero h k = refl
-and-at zero (suc zero) h k = refl
-and-at zero (suc (suc zero)) h k = refl
-and-at zero (suc (suc (suc b))) h k = absurd (omega arith)
-and-at (suc zero) zero h k = refl
-and-at (suc zero) (suc zero) h k = refl
-and-at (suc zero) (suc (suc zero)) h k = refl
-and-at (suc zero) (suc (suc (suc b))) h k = absurd (omega arith)
-and-at (suc (suc zero)) zero h k = refl
-and-at (suc (suc zero)) (suc zero) h k = refl
-and-at (suc (suc zero)) (suc (suc zero)) h k = refl
-and-at (suc (suc zero)) (suc (suc (suc b))) h k = absurd (omega arith)
-and-at (suc (suc (suc a))) b h k = absurd (omega arith)
+-- a value's word is coded
+pub is-coded : (a : Value) (w : ℕ) → w ≡ word a → Coded w
+is-coded a w e = e ∙ (word-coded a ∙ sym (ap (λ (k : ℕ). word (told k)) e))
+
+-- the word of both bits, and both bits of a word
+pub both-bits : (a : Value) → bitOr (may0 a) (may1 a * 2 % 4294967296) ≡ word a
+both-bits v0 = refl
+both-bits v1 = refl
+both-bits vx = refl
+
+high-value : (a : Value) → word a / 2 ≡ may1 a
+high-value v0 = refl
+high-value v1 = refl
+high-value vx = refl
+
+low-value : (a : Value) → bitAnd (word a) 1 ≡ may0 a
+low-value v0 = refl
+low-value v1 = refl
+low-value vx = refl
+
+pub high-bit : (w : ℕ) → Coded w → w / 2 ≡ may1 (told w)
+high-bit w h = ap (λ (k : ℕ). k / 2) h ∙ high-value (told w)
+
+pub low-bit : (w : ℕ) → Coded w → bitAnd w 1 ≡ may0 (told w)
+low-bit w h = ap (λ (k : ℕ). bitAnd k 1) h ∙ low-value (told w)

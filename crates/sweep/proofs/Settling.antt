@@ -1,9 +1,10 @@
--- The table after the sweep: each literal's word is its value in the step, and what stands before these words is as it was.
-use Prim.Native.Nat.{ℕ, _+_, _*_, _≤_, _<_}
-use mathlib.Core.Path.{_≡_, sym, ap, ap₂, _∙_, subst}
-use mathlib.Core.List.{List, map}
+-- The table after the sweep: each literal's word tells whether it may be 1 in the step, and what stands before these words is as it was.
+use Prim.Native.Nat.{ℕ, zero, suc, _+_, _*_, _≤_, _<_}
+use mathlib.Core.Path.{_≡_, refl, sym, ap, ap₂, _∙_, subst}
+use mathlib.Core.List.{List, [], _∷_, map}
+use native.Mathlib.Nat.{not-suc-le-zero}
 use native.Mathlib.Omega.{arith}
-use lib.ListN.{length, getD, take, length-append, List·getD-map}
+use lib.ListN.{length, getD, take, length-append}
 use lib.Seq.{getD-take}
 use Rattle.plan.specs.declared.Counts.{Counts}
 use Rattle.plan.specs.Literals.{varOf, signOf}
@@ -18,17 +19,22 @@ use Rattle.theorems.proofs.Running.InOrder.{order-binary}
 use Rattle.theorems.proofs.Running.Upward.{given}
 use Rattle.theorems.proofs.Running.Sweep.{sweep, at, length-sweep, sweep-step}
 use Rattle.tables.specs.Held.{circuitIn, Scratch}
-use Rattle.values.specs.Words.{word, told, valuesAt}
+use Rattle.values.specs.Words.{may1, word, words, told, Coded, valuesAt}
 use Rattle.values.proofs.Codes.{told-words}
 use Rattle.values.proofs.Parts.{front-stays}
 use Rattle.sweep.specs.Lookup.{litWords, Spreads, spread, Sweeps, swept}
 use Rattle.sweep.specs.Running.{Runs, Stands}
-use Rattle.sweep.proofs.NotAnd.{word-small}
+use Rattle.sweep.proofs.NotAnd.{is-coded}
 use Rattle.sweep.proofs.Spreading.{Spread, literal-word}
 
 -- where the literals' words start
 abbrev pub litsOf : Counts → ℕ
 litsOf n = n .M + 1 + n .O
+
+word-at : (l : List Value) (v : ℕ) → v < length l → getD (words l) v 0 ≡ word (getD l v v0)
+word-at [] v h = absurd (not-suc-le-zero h)
+word-at (a ∷ l) zero h = refl
+word-at (a ∷ l) (suc v) h = word-at l v (omega arith)
 
 module _ {n : Counts} {inputs latches outputs gates : List ℕ} (r : Runs n inputs latches outputs gates) where
   abbrev c : Circuit
@@ -62,17 +68,17 @@ module _ {n : Counts} {inputs latches outputs gates : List ℕ} (r : Runs n inpu
     given-length : length (given s i) ≡ leaves
     given-length = omega (arith, length-append i s, b .state-length, b .inputs-length)
 
-    leaf-small : (v : ℕ) → v < leaves → getD t v 0 < 3
-    leaf-small v h =
-        subst (λ (w : ℕ). w < 3)
-        (sym (sym (getD-take leaves t v 0 h) ∙ (ap (λ (l : List ℕ). getD l v 0) (b .leaves) ∙ List·getD-map word (given s i) v v0)))
-        (word-small (getD (given s i) v v0))
+    leaf-coded : (v : ℕ) → v < leaves → Coded (getD t v 0)
+    leaf-coded v h =
+        is-coded (getD (given s i) v v0) (getD t v 0)
+        (sym (getD-take leaves t v 0 h)
+        ∙ (ap (λ (l : List ℕ). getD l v 0) (b .leaves) ∙ word-at (given s i) v (omega (arith, given-length))))
 
     pub spreads : Spreads leaves (litsOf n) t
     spreads = record {
       before = omega (arith, r .fits .sum);
       table-long = omega (arith, literals-long, r .fits .sum);
-      small = leaf-small;
+      coded = leaf-coded;
     }
 
     -- t1: with the leaves' values at their literals
@@ -119,10 +125,10 @@ module _ {n : Counts} {inputs latches outputs gates : List ℕ} (r : Runs n inpu
             ∙ sweep-step c in-order s i (b .state-length ∙ sym (ap (λ (m : Counts). m .L) (r .counts)))
             (b .inputs-length ∙ sym (ap (λ (m : Counts). m .I) (r .counts))) v
 
-        pub settled-word : (l : ℕ) → varOf l ≤ n .M → getD t2 (litsOf n + l) 0 ≡ word (lit (valuesOf c s i) l)
+        pub settled-word : (l : ℕ) → varOf l ≤ n .M → getD t2 (litsOf n + l) 0 ≡ may1 (lit (valuesOf c s i) l)
         settled-word l h =
             literal-word settled-there (omega (arith, literals-long, same)) l (omega (arith, settled-length))
-            ∙ ap (λ (a : Value). word (signedValue (signOf l) a)) (settled-value (varOf l))
+            ∙ ap (λ (a : Value). may1 (signedValue (signOf l) a)) (settled-value (varOf l))
 
         pub settled-front : (p : ℕ) → p ≤ litsOf n → take p t2 ≡ take p t
         settled-front p h =

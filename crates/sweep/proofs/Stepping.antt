@@ -1,35 +1,46 @@
 -- One step over words: what each look up asks, and what stands in the table at the end.
-use Prim.Native.Nat.{ℕ, _+_, _*_, _≤_, _<_}
+use Prim.Native.Nat.{ℕ, _+_, _*_, _%_, _≤_, _<_}
 use mathlib.Core.Path.{_≡_, sym, ap, ap₂, _∙_}
 use mathlib.Core.List.{List, [], _∷_, map, map-map}
 use native.Mathlib.Omega.{arith}
 use lib.ListN.{length, getD, take, drop, length-map}
 use lib.Seq.{take-take}
+use lib.Bits.{bitOr}
 use Rattle.plan.specs.declared.Counts.{Counts}
+use Rattle.plan.specs.Literals.{varOf, negOf}
 use Rattle.plan.specs.Circuit.{Circuit}
-use Rattle.plan.specs.Step.{Value, lit, valuesOf, outputsOf, nextOf}
+use Rattle.plan.specs.Step.{Value, v0, lit, valuesOf, outputsOf, nextOf}
 use Rattle.plan.specs.Outcome.{put}
 use Rattle.theorems.proofs.Tables.{length-firsts}
 use Rattle.used.specs.Least.{every}
 use Rattle.tables.specs.Held.{circuitIn, Scratch}
-use Rattle.values.specs.Words.{word, words}
+use Rattle.values.specs.Words.{may1, word, words}
 use Rattle.values.proofs.Parts.{front-stays, back-stays, part-put, word-past}
-use Rattle.sweep.specs.Lookup.{spread, swept, Looks, looked}
+use Rattle.sweep.specs.Lookup.{wordAt, spread, swept, Looks, looked}
 use Rattle.sweep.specs.Running.{Runs, Stands, Stepped}
+use Rattle.sweep.proofs.NotAnd.{negated-may, both-bits}
 use Rattle.sweep.proofs.Literals.{firsts-agree, outputs-every, nexts-every, output-up, next-up}
 use Rattle.sweep.proofs.Settling.{litsOf, literals-long, settled-word, settled-front}
+
+-- the word of a literal, by both its words
+word-there : (lits : ℕ) (t : List ℕ) (w : ℕ → Value) (m : ℕ) → ((l : ℕ) → varOf l ≤ m → getD t (lits + l) 0 ≡ may1 (lit w l))
+    → (l : ℕ) → varOf l ≤ m → wordAt lits t l ≡ word (lit w l)
+word-there lits t w m h l up =
+    let half : varOf (negOf l) ≡ varOf l = omega arith in
+    ap₂ (λ (x y : ℕ). bitOr x (y * 2 % 4294967296)) (h (negOf l) (omega arith) ∙ negated-may w l) (h l up) ∙ both-bits (lit w l)
 
 module _ (table : List ℕ) (start stride n lits : ℕ) (t : List ℕ) where
   looked-length : length (looked table start stride n lits t) ≡ n
   looked-length =
-      length-map (every table start stride n) (λ l. getD t (lits + l) 0) ∙ length-firsts (λ k. getD table (stride * k + start) 0) n
+      length-map (every table start stride n) (wordAt lits t) ∙ length-firsts (λ k. getD table (stride * k + start) 0) n
 
-  -- words of values, looked up, are the literals' values
-  looked-words : (w : ℕ → Value)
-      → ((k : ℕ) → k < n → let l = getD table (stride * k + start) 0 in getD t (lits + l) 0 ≡ word (lit w l))
+  -- where literals' words stand, those that are looked up are the literals' values
+  looked-words : (w : ℕ → Value) (m : ℕ) → ((l : ℕ) → varOf l ≤ m → getD t (lits + l) 0 ≡ may1 (lit w l))
+      → ((k : ℕ) → k < n → varOf (getD table (stride * k + start) 0) ≤ m)
       → looked table start stride n lits t ≡ words (map (lit w) (every table start stride n))
-  looked-words w h =
-      firsts-agree (λ l. getD t (lits + l) 0) (λ l. word (lit w l)) (λ k. getD table (stride * k + start) 0) n h
+  looked-words w m h up =
+      firsts-agree (wordAt lits t) (λ l. word (lit w l)) (λ k. getD table (stride * k + start) 0) n
+      (λ k j. word-there lits t w m h (getD table (stride * k + start) 0) (up k j))
       ∙ sym (map-map word (lit w) (every table start stride n))
 
 module _ {n : Counts} {inputs latches outputs gates : List ℕ} (r : Runs n inputs latches outputs gates)
@@ -79,17 +90,19 @@ module _ {n : Counts} {inputs latches outputs gates : List ℕ} (r : Runs n inpu
 
       outs-are : outs ≡ words (outputsOf c s i)
       outs-are =
-          looked-words outputs 0 1 (n .O) (litsOf n) t2 (valuesOf c s i)
-          (λ k h. settled-word r room b same e same2 e2 (getD outputs (1 * k + 0) 0) (output-up r k h))
+          looked-words outputs 0 1 (n .O) (litsOf n) t2 (valuesOf c s i) (n .M) (settled-word r room b same e same2 e2) (output-up r)
           ∙ sym (ap (λ (l : List ℕ). words (map (lit (valuesOf c s i)) l)) (outputs-every r))
+
+      -- no look up changes a literal's word
+      later : (l : ℕ) → varOf l ≤ n .M → getD t3 (litsOf n + l) 0 ≡ may1 (lit (valuesOf c s i) l)
+      later l h =
+          ap (λ (x : List ℕ). getD x (litsOf n + l) 0) e3
+          ∙ (word-past t2 out outs (omega (arith, long)) (litsOf n + l) (omega (arith, outs-length))
+          ∙ settled-word r room b same e same2 e2 l h)
 
       nexts-are : nexts ≡ words (nextOf c s i)
       nexts-are =
-          looked-words latches 1 2 (n .L) (litsOf n) t3 (valuesOf c s i)
-          (λ k h. let l = getD latches (2 * k + 1) 0 in
-          ap (λ (x : List ℕ). getD x (litsOf n + l) 0) e3
-          ∙ (word-past t2 out outs (omega (arith, long)) (litsOf n + l) (omega (arith, outs-length))
-          ∙ settled-word r room b same e same2 e2 l (next-up r k h)))
+          looked-words latches 1 2 (n .L) (litsOf n) t3 (valuesOf c s i) (n .M) later (next-up r)
           ∙ sym (ap (λ (l : List ℕ). words (map (lit (valuesOf c s i)) l)) (nexts-every r))
 
       pub stepped : Stepped n c s i t4
@@ -98,7 +111,7 @@ module _ {n : Counts} {inputs latches outputs gates : List ℕ} (r : Runs n inpu
           inner : 1 + n .I ≤ length t3
           inner = omega (arith, long, same3, r .fits .sum)
 
-          zero : take 1 t4 ≡ 0 ∷ []
+          zero : take 1 t4 ≡ words (v0 ∷ [])
           zero =
               ap (take 1) e4
               ∙ (front-stays t3 (1 + n .I) nexts inner 1 (omega arith)

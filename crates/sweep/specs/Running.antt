@@ -9,7 +9,7 @@ use Rattle.plan.specs.declared.Counts.{Counts}
 use Rattle.plan.specs.Circuit.{Circuit, countsOf}
 use Rattle.plan.specs.Binary.{binaryOrder}
 use Rattle.plan.specs.Reading.{WellFormed}
-use Rattle.plan.specs.Step.{Value, outputsOf, nextOf}
+use Rattle.plan.specs.Step.{Value, v0, outputsOf, nextOf}
 use Rattle.theorems.proofs.Running.Upward.{given}
 use Rattle.tables.specs.Held.{circuitIn, Fits, Scratch}
 use Rattle.values.specs.Words.{words}
@@ -23,7 +23,7 @@ pub record Runs (n : Counts) (inputs latches outputs gates : List ℕ) : Type 0 
 
 -- the constant and a state, between two steps
 pub record Rests (n : Counts) (s : List Value) (t : List ℕ) : Type 0 where
-  pub zero : take 1 t ≡ 0 ∷ []
+  pub zero : take 1 t ≡ words (v0 ∷ [])
   pub state : take (n .L) (drop (1 + n .I) t) ≡ words s
 
 -- the leaves' values before a step

@@ -1,25 +1,20 @@
 // A step in three values over tables in binary order: one sweep over the gates gives each literal's value (the paper, stepping).
 ghost use mathlib.Core.Path.{_≡_};
-ghost use mathlib.Core.List.{List};
+ghost use mathlib.Core.List.{List, [], _∷_};
 ghost use Prim.Native.Nat.{ℕ, _+_, _<_, _≤_};
 ghost use lib.ListN.{length, getD};
-ghost use Rattle.plan.specs.Literals.{wordOf};
+ghost use Rattle.plan.specs.Literals.{wordOf, negOf};
 ghost use Rattle.plan.specs.Step.{Value};
 ghost use Rattle.plan.specs.Outcome.{put};
 ghost use Rattle.tables.specs.Held.{circuitIn};
-ghost use Rattle.sweep.specs.Lookup.{notTable, andTable, bothWords, andWord, Spreads, spread, Sweeps, swept, Looks, looked};
+ghost use Rattle.values.specs.Words.{told, Coded};
+ghost use Rattle.sweep.specs.Lookup.{litWords, andWords, wordAt, Inside, Spreads, spread, Gated, Settles, Sweeps, swept, Looks, looked};
 ghost use Rattle.sweep.specs.Running.{Runs, Stands, Stepped, Ready};
 use plan::Counts;
 use plan::Lit;
 
-// At a value: 0 and 1 exchange, x stays.
-const NOT: [u32; 3] = [1, 0, 2];
-
-// At 3 × value + value: 0 if either is 0, 1 if both are 1, else x.
-const AND: [u32; 9] = [0, 0, 0, 0, 1, 2, 0, 2, 2];
-
-// The value of a literal: one read, whatever its sign, as each literal has a word of its own.
-fn value_of(t: &[u32], lits: usize, l: Lit) -> u32
+// Whether a literal may be 1: one read, whatever its sign, as each literal has a word of its own.
+fn may_be_1(t: &[u32], lits: usize, l: Lit) -> u32
     requires { ⌜ lits + wordOf l < length (now t) ⌝ }
     ensures { λ r. ⌜ r ≡ getD (now (t .entry)) (lits + wordOf l) 0 ⌝ }
 {
@@ -27,26 +22,43 @@ fn value_of(t: &[u32], lits: usize, l: Lit) -> u32
     t[at]
 }
 
-// The And of two values. Tables are lent, since a constant is copied wherever it is named.
-fn and_of(and: &[u32; 9], a: u32, b: u32) -> u32
-    requires { ⌜ now and ≡ andTable ⌝ }
-    requires { ⌜ a < 3 ⌝ }
-    requires { ⌜ b < 3 ⌝ }
-    ensures { λ r. ⌜ r ≡ andWord a b ⌝ }
+// Whether it may be 0: its negation may be 1 then. Not exchanges the two, by looking at the other word.
+fn may_be_0(t: &[u32], lits: usize, l: Lit) -> u32
+    requires { ⌜ lits + negOf (wordOf l) < length (now t) ⌝ }
+    ensures { λ r. ⌜ r ≡ getD (now (t .entry)) (lits + negOf (wordOf l)) 0 ⌝ }
 {
-    let at = 3 * a + b;
-    and[at as usize]
+    may_be_1(t, lits, l.negated())
 }
 
-// A variable's value goes to its literal's word, and the negation to the next one, of the negated literal.
-fn put_value(not: &[u32; 3], value: u32, at: usize, t: &mut [u32])
-    requires { ⌜ now not ≡ notTable ⌝ }
-    requires { ⌜ value < 3 ⌝ }
-    requires { ⌜ at + 2 ≤ length (now t) ⌝ }
-    ensures { λ _. ⌜ now (t .exit) ≡ put (now (t .entry)) at (bothWords value) ⌝ }
+// The value of a literal.
+fn value_of(t: &[u32], lits: usize, l: Lit) -> u32
+    requires { ⌜ Inside lits (now t) (wordOf l) ⌝ }
+    ensures { λ r. ⌜ r ≡ wordAt lits (now (t .entry)) (wordOf l) ⌝ }
 {
-    t[at] = value;
-    t[at + 1] = not[value as usize];
+    may_be_0(t, lits, l) | (may_be_1(t, lits, l) << 1)
+}
+
+// The And of two literals: it may be 1 if both may, and 0 if either may.
+fn put_and(a: Lit, b: Lit, lits: usize, to: usize, t: &mut [u32])
+    requires { ⌜ Inside lits (now t) (wordOf a) ⌝ }
+    requires { ⌜ Inside lits (now t) (wordOf b) ⌝ }
+    requires { ⌜ to + 2 ≤ length (now t) ⌝ }
+    ensures { λ _. ⌜ now (t .exit) ≡ put (now (t .entry)) to (andWords lits (now (t .entry)) (wordOf a) (wordOf b)) ⌝ }
+{
+    let may1 = may_be_1(t, lits, a) & may_be_1(t, lits, b);
+    let may0 = may_be_0(t, lits, a) | may_be_0(t, lits, b);
+    t[to] = may1;
+    t[to + 1] = may0;
+}
+
+// A variable's value goes to its literal's word, whether it may be 1, and to that of the negated literal, whether it may be 0.
+fn put_value(value: u32, to: usize, t: &mut [u32])
+    requires { ⌜ Coded value ⌝ }
+    requires { ⌜ to + 2 ≤ length (now t) ⌝ }
+    ensures { λ _. ⌜ now (t .exit) ≡ put (now (t .entry)) to (litWords (told value ∷ [])) ⌝ }
+{
+    t[to] = value >> 1;
+    t[to + 1] = value & 1;
 }
 
 // The leaves' values, in the first n words, go to their literals' words, where gates and look ups read.
@@ -54,35 +66,41 @@ fn spread_leaves(n: usize, lits: usize, t: &mut [u32])
     requires { ⌜ Spreads n lits (now t) ⌝ }
     ensures { λ _. ⌜ now (t .exit) ≡ spread n lits (now (t .entry)) ⌝ }
 {
-    let not = NOT;
     let mut to = lits;
     let mut v = 0;
     while v < n {
         let value = t[v];
-        put_value(&not, value, to, t);
+        put_value(value, to, t);
         to += 2;
         v += 1;
     }
 }
 
-// The values of n gates, whose variables run on from `first`; no test on a value decides the way (the paper, stepping).
-fn sweep_gates(gates: &[u32], n: usize, first: usize, lits: usize, t: &mut [u32])
-    requires { ⌜ Sweeps (now gates) n first lits (now t) ⌝ }
-    ensures { λ _. ⌜ now (t .exit) ≡ swept (now (gates .entry)) n first lits (now (t .entry)) ⌝ }
+// The values of n gates, whose variables run on from `first`; no test on a value decides the way (the paper, stepping). A literal's word
+// stands at its own number.
+fn settle_gates(gates: &[u32], n: usize, first: usize, t: &mut [u32])
+    requires { ⌜ Gated (now gates) n first (now t) ⌝ }
+    ensures { λ _. ⌜ Settles (now (gates .entry)) n first (now (t .entry)) (now (t .exit)) ⌝ }
 {
-    let not = NOT;
-    let and = AND;
-    let mut to = lits + 2 * first;
+    let mut to = 2 * first;
     let mut at = 0;
     let mut i = 0;
     while i < n {
-        let a = value_of(t, lits, Lit::at(gates[at + 1]));
-        let b = value_of(t, lits, Lit::at(gates[at + 2]));
-        put_value(&not, and_of(&and, a, b), to, t);
+        let a = Lit::at(gates[at + 1]);
+        let b = Lit::at(gates[at + 2]);
+        put_and(a, b, 0, to, t);
         to += 2;
         at += 3;
         i += 1;
     }
+}
+
+// The same where the literals' words start at `lits`: that part is lent, so that no look adds it.
+fn sweep_gates(gates: &[u32], n: usize, first: usize, lits: usize, t: &mut [u32])
+    requires { ⌜ Sweeps (now gates) n first lits (now t) ⌝ }
+    ensures { λ _. ⌜ now (t .exit) ≡ swept (now (gates .entry)) n first lits (now (t .entry)) ⌝ }
+{
+    settle_gates(gates, n, first, &mut t[lits..]);
 }
 
 // The values of n literals of a table, from `start` on by `stride`, go into words from `first` on, which lie before the literals'.

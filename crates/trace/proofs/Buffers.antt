@@ -15,16 +15,16 @@ use Rattle.step.proofs.Buffers.{told-part, state-long, state-rests}
 use Rattle.trace.specs.Tracing.{Resting, Ran, Left}
 
 module _ {n : Counts} {latches outputs gates scratch : List ℕ} (b : Room n latches outputs gates scratch) (state : List ℕ)
-    (long : length state ≡ n .L) {t1 : List ℕ} (e1 : t1 ≡ put (set scratch 0 0) (1 + n .I) (words (map valueOf state))) where
+    (long : length state ≡ n .L) {t1 : List ℕ} (e1 : t1 ≡ put (set scratch 0 1) (1 + n .I) (words (map valueOf state))) where
   abbrev s : List Value
   s = map valueOf state
 
-  pub state-resting : length t1 ≡ length (set scratch 0 0) → Resting n latches outputs gates t1
+  pub state-resting : length t1 ≡ length (set scratch 0 1) → Resting n latches outputs gates t1
   state-resting same = record {
     inputs = b .inputs;
     state = s;
     runs = b .runs;
-    scratch-long = omega (arith, b .scratch-long, same, length-set scratch 0 0);
+    scratch-long = omega (arith, b .scratch-long, same, length-set scratch 0 1);
     state-length = state-long b state long e1;
     rests = state-rests b state long e1;
   }

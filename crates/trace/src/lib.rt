@@ -24,6 +24,7 @@ use plan::Traced;
 use stimulus::whole_lines;
 use sweep::step_values;
 use tables::clear;
+use values::MAY0;
 use values::load;
 use values::store;
 
@@ -129,7 +130,7 @@ fn trace_from(
         (firstOnes number (now (vectors .entry))) (now (state .exit)) (now (out .entry)) (now (out .exit))) ⌝ }
 {
     // the constant
-    scratch[0] = 0;
+    scratch[0] = MAY0;
     load(state, 1 + n.I, scratch);
     trace_lines(n, latches, outputs, gates, scratch, number, vectors, out);
     store(scratch, 1 + n.I, state);

@@ -4,12 +4,12 @@ use mathlib.Core.Path.{_≡_, refl, sym, ap, ap₂, _∙_}
 use mathlib.Core.Bool.{Bool, true, false, _||_}
 use mathlib.Core.List.{List, [], _∷_, _++_, map, append-nil}
 use native.Mathlib.Omega.{arith}
-use lib.ListN.{length, getD, take, drop-of-length-le}
+use lib.ListN.{length, getD, take, replicate, drop-of-length-le}
 use lib.Seq.{take-length, drop-cons}
 use Rattle.plan.specs.Step.{Value, v0, v1, vx, codeOf, valueOf, is1, any1}
 use Rattle.plan.specs.Outcome.{put}
 use Rattle.theorems.proofs.Tables.{firsts, length-firsts, words-take}
-use Rattle.values.specs.Words.{word, told, words, valuesAt}
+use Rattle.values.specs.Words.{word, told, Coded, words, valuesAt}
 use Rattle.values.proofs.Filling.{map-firsts, part-firsts}
 
 pub told-word : (a : Value) → told (word a) ≡ a
@@ -21,11 +21,25 @@ pub told-words : (l : List Value) → map told (words l) ≡ l
 told-words [] = refl
 told-words (a ∷ l) = ap₂ (λ (x : Value) (y : List Value). x ∷ y) (told-word a) (told-words l)
 
--- a word that is neither 0 nor 1
-pub told-x : (w : ℕ) → (w ≡ 0 → ⊥) → (w ≡ 1 → ⊥) → told w ≡ vx
-told-x zero h k = absurd (h refl)
-told-x (suc zero) h k = absurd (k refl)
-told-x (suc (suc w)) h k = refl
+-- a value's word is coded
+pub word-coded : (a : Value) → Coded (word a)
+word-coded a = sym (ap word (told-word a))
+
+-- a word that is neither that of 0 nor that of 1
+pub told-x : (w : ℕ) → (w ≡ word v0 → ⊥) → (w ≡ word v1 → ⊥) → told w ≡ vx
+told-x zero h k = refl
+told-x (suc zero) h k = absurd (h refl)
+told-x (suc (suc zero)) h k = absurd (k refl)
+told-x (suc (suc (suc w))) h k = refl
+
+-- the words that `set_zeros` puts
+pub zeros : (n : ℕ) → firsts (λ i. word v0) n ≡ words (replicate n v0)
+zeros zero = refl
+zeros (suc n) = ap (λ (l : List ℕ). l ++ (word v0 ∷ [])) (zeros n) ∙ one-more n
+  where
+    one-more : (n : ℕ) → words (replicate n v0) ++ (word v0 ∷ []) ≡ words (replicate (suc n) v0)
+    one-more zero = refl
+    one-more (suc n) = ap (λ (l : List ℕ). word v0 ∷ l) (one-more n)
 
 -- the words that `load` puts, and the codes that `store` fills a vector with
 pub loaded : (codes : List ℕ) → firsts (λ i. word (valueOf (getD codes i 0))) (length codes) ≡ words (map valueOf codes)
@@ -49,13 +63,14 @@ stored t first n codes e h =
     x = firsts at n
 
 -- the words that are left to look at: the next one, and the rest
-is-one : (w : ℕ) → w ≡ 1 → is1 (told w) ≡ true
+is-one : (w : ℕ) → w ≡ word v1 → is1 (told w) ≡ true
 is-one w e = ap (λ (k : ℕ). is1 (told k)) e
 
-no-one : (w : ℕ) → (w ≡ 1 → ⊥) → is1 (told w) ≡ false
+no-one : (w : ℕ) → (w ≡ word v1 → ⊥) → is1 (told w) ≡ false
 no-one zero h = refl
-no-one (suc zero) h = absurd (h refl)
-no-one (suc (suc w)) h = refl
+no-one (suc zero) h = refl
+no-one (suc (suc zero)) h = absurd (h refl)
+no-one (suc (suc (suc w))) h = refl
 
 any-turn : (t : List ℕ) (first n i : ℕ) → first + n ≤ length t → i < n
     → any1 (valuesAt t (first + i) (n - i)) ≡ (is1 (told (getD t (first + i) 0)) || any1 (valuesAt t (first + (i + 1)) (n - (i + 1))))
@@ -67,12 +82,12 @@ any-turn t first n i h k =
 
 module _ (t : List ℕ) (first n i : ℕ) (h : first + n ≤ length t) (k : i < n)
     (left : any1 (valuesAt t first n) ≡ any1 (valuesAt t (first + i) (n - i))) where
-  pub any-here : getD t (first + i) 0 ≡ 1 → true ≡ any1 (valuesAt t first n)
+  pub any-here : getD t (first + i) 0 ≡ word v1 → true ≡ any1 (valuesAt t first n)
   any-here e =
       sym (left ∙ any-turn t first n i h k
       ∙ ap (λ (b : Bool). b || any1 (valuesAt t (first + (i + 1)) (n - (i + 1)))) (is-one (getD t (first + i) 0) e))
 
-  pub any-later : (getD t (first + i) 0 ≡ 1 → ⊥) → any1 (valuesAt t first n) ≡ any1 (valuesAt t (first + (i + 1)) (n - (i + 1)))
+  pub any-later : (getD t (first + i) 0 ≡ word v1 → ⊥) → any1 (valuesAt t first n) ≡ any1 (valuesAt t (first + (i + 1)) (n - (i + 1)))
   any-later e =
       left ∙ any-turn t first n i h k
       ∙ ap (λ (b : Bool). b || any1 (valuesAt t (first + (i + 1)) (n - (i + 1)))) (no-one (getD t (first + i) 0) e)

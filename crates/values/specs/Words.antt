@@ -1,18 +1,32 @@
--- Values as words of scratch: 0 and 1, and 2 for x.
-use Prim.Native.Nat.{ℕ, zero, suc}
+-- Values as words of scratch, two bits each: "may be 0", worth 1, and "may be 1", worth 2.
+use Prim.Native.Nat.{ℕ, zero, suc, _+_, _*_}
+use mathlib.Core.Path.{_≡_}
 use mathlib.Core.List.{List, map}
 use lib.ListN.{take, drop}
 use Rattle.plan.specs.Step.{Value, v0, v1, vx}
 
+abbrev pub may0 : Value → ℕ
+may0 v0 = 1
+may0 v1 = 0
+may0 vx = 1
+
+abbrev pub may1 : Value → ℕ
+may1 v0 = 0
+may1 v1 = 1
+may1 vx = 1
+
 abbrev pub word : Value → ℕ
-word v0 = 0
-word v1 = 1
-word vx = 2
+word a = may0 a + 2 * may1 a
 
 abbrev pub told : ℕ → Value
-told zero = v0
-told (suc zero) = v1
-told (suc (suc k)) = vx
+told zero = vx
+told (suc zero) = v0
+told (suc (suc zero)) = v1
+told (suc (suc (suc k))) = vx
+
+-- a word that is a value's
+abbrev pub Coded : ℕ → Type 0
+Coded w = w ≡ word (told w)
 
 abbrev pub words : List Value → List ℕ
 words l = map word l

@@ -1,6 +1,6 @@
 -- One vector more of a list: what is left to step, and the state that the table keeps.
 use Prim.Native.Nat.{ℕ, suc, _+_, _-_, _*_, _≤_, _<_}
-use mathlib.Core.Path.{_≡_, refl, sym, ap, ap₂, _∙_, subst}
+use mathlib.Core.Path.{_≡_, refl, sym, ap, ap₂, _∙_}
 use mathlib.Core.Bool.{Bool, true, false, _||_}
 use mathlib.Core.List.{List, map}
 use native.Mathlib.Nat.{mul-comm}
@@ -8,7 +8,7 @@ use native.Mathlib.Omega.{arith}
 use lib.ListN.{length, take, drop, replicate, length-map, length-take, length-drop, length-replicate}
 use lib.Seq.{length-take-le, drop-drop}
 use Rattle.plan.specs.declared.Counts.{Counts}
-use Rattle.plan.specs.Circuit.{Circuit, cleared}
+use Rattle.plan.specs.Circuit.{Circuit}
 use Rattle.plan.specs.Step.{Value, v0, valueOf, outputsOf, nextOf, run, vectorsOf, any1, shows1, witnessed}
 use Rattle.plan.specs.Outcome.{put}
 use Rattle.theorems.proofs.Tables.{row-ends}
@@ -117,11 +117,11 @@ module _ {n : Counts} {inputs latches outputs gates : List ℕ} (r : Runs n inpu
   abbrev held : Circuit
   held = circuitIn n inputs latches outputs gates
 
-  pub going-first : (t : List ℕ) → Scratch n t → t ≡ cleared t → Going n held number bytes t 0 0
-  going-first t room blank = record {
+  pub going-first : (base t : List ℕ) → t ≡ put base 0 (words (replicate (1 + n .I + n .L) v0)) → Going n held number bytes t 0 0
+  going-first base t e = record {
     state = replicate (n .L) v0;
     state-length = length-replicate (n .L) v0;
-    rests = subst (Rests n (replicate (n .L) v0)) (sym blank) (rests-first n (length t) (omega (arith, room, r .fits .sum)));
+    rests = rests-first n base t e;
     left = ap₂ (λ (m l : ℕ). shows1 (run held (replicate m v0) (vectorsOf held l bytes))) (ap (λ (m : Counts). m .L) (r .counts)) all;
   }
     where

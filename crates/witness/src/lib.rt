@@ -3,7 +3,6 @@ ghost use mathlib.Core.Path.{_≡_};
 ghost use mathlib.Core.List.{List};
 ghost use Prim.Native.Nat.{ℕ, _*_};
 ghost use lib.ListN.{length};
-ghost use Rattle.plan.specs.Circuit.{cleared};
 ghost use Rattle.plan.specs.Step.{witnessed};
 ghost use Rattle.plan.specs.Outcome.{Says, witness};
 ghost use Rattle.tables.specs.Held.{circuitIn};
@@ -19,9 +18,10 @@ use sweep::step_values;
 use tables::clear;
 use values::any_one;
 use values::load;
+use values::set_zeros;
 
-// Whether a list, whose bytes are good, shows 1 on some output. Scratch that is zero holds the first state; between two steps the state
-// stays in it, and the first 1 ends it.
+// Whether a list, whose bytes are good, shows 1 on some output. Between two steps the state stays in scratch, and the first 1 ends it. Of
+// scratch it asks the length alone: every word is written before it is read.
 fn shows_one(
     n: Counts,
     latches: &[u32],
@@ -32,12 +32,13 @@ fn shows_one(
     bytes: &[u8],
 ) -> bool
     requires { ⌜ Room n (now latches) (now outputs) (now gates) (now scratch) ⌝ }
-    requires { ⌜ now scratch ≡ cleared (now scratch) ⌝ }
     requires { ⌜ length (now bytes) ≡ number * n .I ⌝ }
     ensures { λ r. ⌜ ((inputs : List ℕ) → Runs n inputs (now (latches .entry)) (now (outputs .entry)) (now (gates .entry))
         → r ≡ witnessed (circuitIn n inputs (now (latches .entry)) (now (outputs .entry)) (now (gates .entry))) number
         (now (bytes .entry))) ⌝ }
 {
+    // the constant and the first state
+    set_zeros(1 + n.I + n.L, scratch);
     let mut at = 0;
     let mut k = 0;
     while k < number {

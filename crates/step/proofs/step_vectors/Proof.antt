@@ -41,7 +41,7 @@ stand b =
 same : (d : tie.After-scratch3)
     → length (d .before .step-values .last .1 .1 .1 .1 .0) ≡ length (args (second d) .args .scratch .now)
 same d = d .scratch3 .given ∙ second d .scratch2 .given ∙ first (second d) .scratch .given
-    ∙ length-set (args (second d) .args .scratch .now) 0 0
+    ∙ length-set (args (second d) .args .scratch .now) 0 1
 
 slice-write-scratch : tie.Need-slice-write-scratch
 slice-write-scratch c =
@@ -55,13 +55,13 @@ load-requires : tie.Need-load-requires
 load-requires c κs =
     let s = c .before .before .before .before .before .before .before .before .before .before in
     let p = s .pre in
-    omega (arith, p .0 .scratch-long, p .0 .runs .fits .sum, p .1 .state-length, length-set (s .args .scratch .now) 0 0)
+    omega (arith, p .0 .scratch-long, p .0 .runs .fits .sum, p .1 .state-length, length-set (s .args .scratch .now) 0 1)
 
 load-requires-2 : tie.Need-load-requires-2
 load-requires-2 c κs =
     let a = c .before .before in
     let p = start a .pre in
-    omega (arith, p .0 .scratch-long, p .0 .runs .fits .sum, p .1 .inputs-length, a .scratch .given, length-set (start a .args .scratch .now) 0 0)
+    omega (arith, p .0 .scratch-long, p .0 .runs .fits .sum, p .1 .inputs-length, a .scratch .given, length-set (start a .args .scratch .now) 0 1)
 
 step-values-requires : tie.Need-step-values-requires
 step-values-requires c κs = asked (c .before .before)

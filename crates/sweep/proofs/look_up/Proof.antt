@@ -2,18 +2,19 @@ use Prim.Native.Nat.{_+_, _*_, _-_, _≤_, _<_}
 use mathlib.Core.Path.{_≡_, sym, ap, _∙_, subst}
 use native.Mathlib.Nat.{mul-zero}
 use native.Mathlib.Omega.{arith}
-use lib.ListN.{length, getD}
+use lib.ListN.{length}
 use Rattle.plan.specs.declared.Lit.{Lit}
 use Rattle.plan.specs.Literals.{wordOf}
 use Rattle.values.proofs.Filling.{Filled, filled-none}
-use Rattle.sweep.proofs.Lookups.{wordAt, next-at, row-in, literal-in, place-in, next-looked, all-looked}
+use Rattle.sweep.specs.Lookup.{wordAt, Inside}
+use Rattle.sweep.proofs.Lookups.{literalWord, next-at, row-in, literal-in, place-in, next-looked, all-looked}
 use borrow.Author.Needs.{needs}
 use Rattle.sweep.proofs.look_up.Statement.{statement}
 use Rattle.sweep.proofs.look_up.Tie as tie
 
 abbrev Inv-loop : tie.InvT-loop
 Inv-loop table start stride n lits first t₀ at₀ i₀ t at i =
-    (i ≤ n) × (at ≡ stride * i + start) × Filled t₀ first (wordAt table start stride lits t₀) i t
+    (i ≤ n) × (at ≡ stride * i + start) × Filled t₀ first (literalWord table start stride lits t₀) i t
 
 abbrev μ-loop : tie.MeasureT-loop
 μ-loop table start stride n lits first t₀ at₀ i₀ t at i = n - i
@@ -49,7 +50,7 @@ value-of-requires : tie.Need-value-of-requires Inv-loop μ-loop
 value-of-requires c κs =
     let q = c .before .before .before in
     let w = q .before .loop in
-    subst (λ (l : Lit). start q .args .lits + wordOf l < length (w .t)) (sym (c .at .ensures))
+    subst (λ (l : Lit). Inside (start q .args .lits) (w .t) (wordOf l)) (sym (c .at .ensures))
     (literal-in (start q .pre) (w .i) (w .at) (w .t) (q .loop-test .taken) (w .inv .1) (w .inv .2))
 
 add-t : tie.Need-add-t Inv-loop μ-loop
@@ -80,7 +81,7 @@ loop-again c =
       omega arith,
       next-at (s .args .stride) (s .args .start) (w .i) (w .at) (w .inv .1),
       next-looked (s .pre) (w .i) (w .at) (w .t) (q .loop-test .taken) (w .inv .1) (w .inv .2) _
-          (c .value-of .ensures ∙ ap (λ (l : Lit). getD (w .t) (s .args .lits + wordOf l) 0) (c .before .at .ensures)),
+          (c .value-of .ensures ∙ ap (λ (l : Lit). wordAt (s .args .lits) (w .t) (wordOf l)) (c .before .at .ensures)),
     )
 
 same-length : tie.Need-same-length Inv-loop μ-loop

@@ -1,6 +1,11 @@
+use Prim.Native.Nat.{ℕ}
+use mathlib.Core.Path.{ap₂, _∙_}
+use mathlib.Core.List.{[], _∷_}
 use native.Mathlib.Omega.{arith}
 use lib.ListN.{length-set}
-use Rattle.sweep.proofs.Spreading.{both-put}
+use Rattle.plan.specs.Outcome.{put}
+use Rattle.sweep.proofs.NotAnd.{high-bit, low-bit}
+use Rattle.sweep.proofs.Spreading.{two-put}
 use borrow.Author.Needs.{needs}
 use Rattle.sweep.proofs.put_value.Statement.{statement}
 use Rattle.sweep.proofs.put_value.Tie as tie
@@ -11,17 +16,11 @@ mul-t c = search needs
 slice-write-t : tie.Need-slice-write-t
 slice-write-t c = search needs
 
-mul-t-2 : tie.Need-mul-t-2
-mul-t-2 c = search needs
-
-element-copy-out-t : tie.Need-element-copy-out-t
-element-copy-out-t c = search needs
-
 add-t : tie.Need-add-t
 add-t c = search needs
 
-mul-t-3 : tie.Need-mul-t-3
-mul-t-3 c = search needs
+mul-t-2 : tie.Need-mul-t-2
+mul-t-2 c = search needs
 
 slice-write-t-2 : tie.Need-slice-write-t-2
 slice-write-t-2 c = simp length-set (omega arith)
@@ -31,8 +30,9 @@ same-length c = search needs
 
 returns : tie.Need-returns
 returns c =
-    let s = c .before in
-    both-put (s .args .t .now) (s .args .not .now) (s .args .at) (s .args .value) (s .pre .0) (s .pre .1 .0) (s .pre .1 .1)
+    let w = c .args .value in
+    two-put (c .args .t .now) (c .args .to) _ _ (c .pre .1)
+    ∙ ap₂ (λ (x y : ℕ). put (c .args .t .now) (c .args .to) (x ∷ y ∷ [])) (high-bit w (c .pre .0)) (low-bit w (c .pre .0))
 
 pub put-value-spec : {M : Type 1} → statement M
 put-value-spec =
@@ -40,10 +40,8 @@ put-value-spec =
     (tie.spec
     mul-t
     slice-write-t
-    mul-t-2
-    element-copy-out-t
     add-t
-    mul-t-3
+    mul-t-2
     slice-write-t-2
     same-length
     returns)

@@ -1,17 +1,17 @@
 use Prim.Native.Nat.{_+_, _*_, _-_, _≤_}
-use mathlib.Core.Path.{_≡_, refl}
+use mathlib.Core.Path.{_≡_}
 use native.Mathlib.Omega.{arith}
 use Rattle.values.specs.Words.{valuesAt}
-use Rattle.sweep.proofs.Spreading.{Spread, leaves-none, leaf-small, leaves-more, leaves-all}
+use Rattle.sweep.proofs.Spreading.{Spread, leaves-none, leaf-coded, leaves-more, leaves-all}
 use borrow.Author.Needs.{needs}
 use Rattle.sweep.proofs.spread_leaves.Statement.{statement}
 use Rattle.sweep.proofs.spread_leaves.Tie as tie
 
 abbrev Inv-loop : tie.InvT-loop
-Inv-loop n lits t₀ not to₀ v₀ t to v = (v ≤ n) × (to ≡ lits + 2 * v) × Spread lits (valuesAt t₀ 0 v) t₀ t
+Inv-loop n lits t₀ to₀ v₀ t to v = (v ≤ n) × (to ≡ lits + 2 * v) × Spread lits (valuesAt t₀ 0 v) t₀ t
 
 abbrev μ-loop : tie.MeasureT-loop
-μ-loop n lits t₀ not to₀ v₀ t to v = n - v
+μ-loop n lits t₀ to₀ v₀ t to v = n - v
 
 -- back to the start from a turn
 abbrev start : tie.In-loop Inv-loop μ-loop → tie.Start Inv-loop μ-loop
@@ -28,10 +28,10 @@ slice-read-value c = search needs
 
 put-value-requires : tie.Need-put-value-requires Inv-loop μ-loop
 put-value-requires c κs =
-    let q = c .before .before .before in
+    let q = c .before .before in
     let w = q .before .loop in
-    let small = leaf-small (start q .pre) (w .v) (w .to) (w .t) (q .loop-test .taken) (w .inv .1) (w .inv .2) in
-    (refl, (small, omega (arith, w .inv .2 .same, start q .pre .table-long)))
+    let coded = leaf-coded (start q .pre) (w .v) (w .to) (w .t) (q .loop-test .taken) (w .inv .1) (w .inv .2) in
+    (coded, omega (arith, w .inv .2 .same, start q .pre .table-long))
 
 add-to : tie.Need-add-to Inv-loop μ-loop
 add-to c = search needs
@@ -44,7 +44,7 @@ loop-less c = search needs
 
 loop-again : tie.Need-loop-again Inv-loop μ-loop
 loop-again c =
-    let q = c .before .before .before .before .before .before in
+    let q = c .before .before .before .before .before in
     let w = q .before .loop in (
       omega arith,
       omega arith,

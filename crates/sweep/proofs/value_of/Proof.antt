@@ -1,30 +1,19 @@
-use Prim.Native.Nat.{ℕ, _+_}
-use mathlib.Core.Path.{ap}
-use lib.ListN.{getD}
+use Prim.Native.Nat.{ℕ, _*_, _%_}
+use mathlib.Core.Path.{ap₂}
+use lib.Bits.{bitOr}
+use native.Mathlib.Omega.{arith}
 use borrow.Author.Needs.{needs}
 use Rattle.sweep.proofs.value_of.Statement.{statement}
 use Rattle.sweep.proofs.value_of.Tie as tie
 
-word-requires : tie.Need-word-requires
-word-requires c κs = search needs
+may-be-0-requires : tie.Need-may-be-0-requires
+may-be-0-requires c κs = search needs
 
-cast-at : tie.Need-cast-at
-cast-at c = search needs
-
-add-at : tie.Need-add-at
-add-at c = search needs
-
-mul-result : tie.Need-mul-result
-mul-result c = search needs
-
-shared-slice-read-result : tie.Need-shared-slice-read-result
-shared-slice-read-result c = search needs
+may-be-1-requires : tie.Need-may-be-1-requires
+may-be-1-requires c κs = search needs
 
 returns : tie.Need-returns
-returns c =
-    let s = c .before .before .before in
-    ap (λ (k : ℕ). getD (s .args .t .now) (s .args .lits + k) 0) (c .before .word .ensures)
+returns c = ap₂ (λ (x y : ℕ). bitOr x (y * 2 % 4294967296)) (c .before .may-be-0 .ensures) (c .may-be-1 .ensures)
 
 pub value-of-spec : {M : Type 1} → statement M
-value-of-spec =
-    tie.close (tie.spec word-requires cast-at add-at mul-result shared-slice-read-result returns)
+value-of-spec = tie.close (tie.spec may-be-0-requires may-be-1-requires returns)

@@ -20,7 +20,7 @@ storing c = c .before .before .before .before .before .before .before .before
 
 -- scratch stays as long as it was
 same : (c : tie.After-scratch) → length (c .before .load .last .1 .1 .0) ≡ length (start c .args .scratch .now)
-same c = c .scratch .given ∙ length-set (start c .args .scratch .now) 0 0
+same c = c .scratch .given ∙ length-set (start c .args .scratch .now) 0 1
 
 slice-write-scratch : tie.Need-slice-write-scratch
 slice-write-scratch c =
@@ -34,7 +34,7 @@ load-requires : tie.Need-load-requires
 load-requires c κs =
     let s = c .before .before .before .before .before .before .before .before .before .before in
     let p = s .pre in
-    omega (arith, p .0 .scratch-long, p .0 .runs .fits .sum, p .1 .0, length-set (s .args .scratch .now) 0 0)
+    omega (arith, p .0 .scratch-long, p .0 .runs .fits .sum, p .1 .0, length-set (s .args .scratch .now) 0 1)
 
 trace-lines-requires : tie.Need-trace-lines-requires
 trace-lines-requires c κs =

@@ -21,30 +21,38 @@ Inv-loop n latches outputs gates scratch₀ number bytes at₀ k₀ scratch at k
 abbrev μ-loop : tie.MeasureT-loop
 μ-loop n latches outputs gates scratch₀ number bytes at₀ k₀ scratch at k = number - k
 
--- back to the start from a turn; the turn's vector, and the room in scratch
+-- back from a turn to where the first state is set, and to the start; the turn's vector, and the room in scratch
+abbrev begun : tie.In-loop Inv-loop μ-loop → tie.After-scratch Inv-loop μ-loop
+begun q = q .before .before .before
+
 abbrev start : tie.In-loop Inv-loop μ-loop → tie.Start Inv-loop μ-loop
-start q = q .before .before .before .before .before .before .before
+start q = begun q .before .before .before .before .before .before .before .before .before .before
 
 turn : (q : tie.In-loop Inv-loop μ-loop)
     → Turn (start q .args .n) (start q .args .number) (start q .args .bytes .now) (q .before .loop .k) (q .before .loop .at)
-turn q = record { whole = start q .pre .1 .1; here = q .before .loop .inv .1; more = q .loop-test .taken }
+turn q = record { whole = start q .pre .1; here = q .before .loop .inv .1; more = q .loop-test .taken }
 
 room : (q : tie.In-loop Inv-loop μ-loop) → Scratch (start q .args .n) (q .before .loop .scratch)
-room q = omega (arith, start q .pre .0 .scratch-long, q .before .loop .inv .2)
+room q = omega (arith, start q .pre .0 .scratch-long, q .before .loop .inv .2, begun q .scratch .given)
 
 -- the table after the load, and after the step
-abbrev loaded : tie.After-scratch2 Inv-loop μ-loop → tie.After-scratch Inv-loop μ-loop
+abbrev loaded : tie.After-scratch3 Inv-loop μ-loop → tie.After-scratch2 Inv-loop μ-loop
 loaded b = b .before .before .before .before
 
-abbrev turning : tie.After-scratch Inv-loop μ-loop → tie.In-loop Inv-loop μ-loop
+abbrev turning : tie.After-scratch2 Inv-loop μ-loop → tie.In-loop Inv-loop μ-loop
 turning a = a .before .before .before .before .before
 
-same : (b : tie.After-scratch2 Inv-loop μ-loop)
+-- scratch stays as long as it was, from where the first state is set and from the start
+kept : (b : tie.After-scratch3 Inv-loop μ-loop)
+    → length (b .before .step-values .last .1 .1 .1 .1 .0) ≡ length (begun (turning (loaded b)) .before .set-zeros .last .1 .0)
+kept b = b .scratch3 .given ∙ loaded b .scratch2 .given ∙ turning (loaded b) .before .loop .inv .2
+
+same : (b : tie.After-scratch3 Inv-loop μ-loop)
     → length (b .before .step-values .last .1 .1 .1 .1 .0) ≡ length (start (turning (loaded b)) .args .scratch .now)
-same b = b .scratch2 .given ∙ loaded b .scratch .given ∙ turning (loaded b) .before .loop .inv .2
+same b = kept b ∙ begun (turning (loaded b)) .scratch .given
 
 -- what the step leaves
-after : (b : tie.After-scratch2 Inv-loop μ-loop) (inputs : List ℕ)
+after : (b : tie.After-scratch3 Inv-loop μ-loop) (inputs : List ℕ)
     → let q = turning (loaded b) in
     let x = start q .args in
     (r : Runs (x .n) inputs (x .latches .now) (x .outputs .now) (x .gates .now))
@@ -55,13 +63,25 @@ after b inputs r =
     b .before .step-values .ensures inputs _ _ r
     (vector-stands (turn q) r (room q) (q .before .loop .inv .3 inputs r) (loaded b .before .load .ensures))
 
+add-set-zeros : tie.Need-add-set-zeros Inv-loop μ-loop
+add-set-zeros c = search needs
+
+add-set-zeros-2 : tie.Need-add-set-zeros-2 Inv-loop μ-loop
+add-set-zeros-2 c = search needs
+
+set-zeros-requires : tie.Need-set-zeros-requires Inv-loop μ-loop
+set-zeros-requires c κs =
+    let b = c .before .before .before .before .before .before .before .before .pre .0 in
+    omega (arith, b .scratch-long, b .runs .fits .sum)
+
 loop-holds : tie.Need-loop-holds Inv-loop μ-loop
 loop-holds c =
-    let s = c .before .before .before .before .before in (
+    let z = c .before .before in
+    let s = z .before .before .before .before .before .before .before .before .before in (
       omega arith,
       sym (mul-zero (s .args .n .I)),
       refl,
-      λ inputs r. going-first r (s .args .number) (s .args .bytes .now) (s .args .scratch .now) (s .pre .0 .scratch-long) (s .pre .1 .0),
+      λ inputs r. going-first r (s .args .number) (s .args .bytes .now) (s .args .scratch .now) _ (z .set-zeros .ensures),
     )
 
 add-end : tie.Need-add-end Inv-loop μ-loop
@@ -88,7 +108,7 @@ step-values-requires c κs =
     let a = c .before .before in
     let q = turning a in
     let b = start q .pre .0 in
-    vector-ready (turn q) (b .runs) (room q) (q .before .loop .inv .3 (b .inputs) (b .runs)) (a .before .load .ensures) (a .scratch .given)
+    vector-ready (turn q) (b .runs) (room q) (q .before .loop .inv .3 (b .inputs) (b .runs)) (a .before .load .ensures) (a .scratch2 .given)
 
 add-any-one : tie.Need-add-any-one Inv-loop μ-loop
 add-any-one c =
@@ -111,7 +131,9 @@ returns c = λ inputs r.
     found-one (turn q) r (room q) (q .before .loop .inv .3 inputs r) (after b inputs r) _ (c .before .any-one .ensures) (c .if1 .taken)
 
 add-k : tie.Need-add-k Inv-loop μ-loop
-add-k c = search needs
+add-k c =
+    let q = turning (loaded (c .before .before .before .before .before)) in
+    omega (arith, q .loop-test .taken, start q .good)
 
 loop-less : tie.Need-loop-less Inv-loop μ-loop
 loop-less c = search needs
@@ -123,16 +145,16 @@ loop-again c =
     let w = q .before .loop in (
       omega arith,
       next-row (start q .args .n .I) (w .k) (w .at) (w .inv .1),
-      same b,
+      kept b,
       λ inputs r. going-on (turn q) r (room q) (w .inv .3 inputs r) (after b inputs r) _ (c .before .any-one .ensures) (c .if1 .left),
     )
 
 same-length-2 : tie.Need-same-length-2 Inv-loop μ-loop
-same-length-2 c = c .before .loop .inv .2
+same-length-2 c = c .before .loop .inv .2 ∙ c .before .before .before .scratch .given
 
 returns-2 : tie.Need-returns-2 Inv-loop μ-loop
 returns-2 c = λ inputs r.
-    let s = c .before .before .before .before .before .before .before in
+    let s = c .before .before .before .before .before .before .before .before .before .before .before .before .before in
     let w = c .before .loop in
     none-shown r (s .args .number) (s .args .bytes .now) (w .scratch) (w .k) (w .at) (c .loop-test .left) (w .inv .3 inputs r)
 
@@ -142,6 +164,9 @@ shows-one-spec =
     (tie.spec
     Inv-loop
     μ-loop
+    add-set-zeros
+    add-set-zeros-2
+    set-zeros-requires
     loop-holds
     add-end
     sub-load

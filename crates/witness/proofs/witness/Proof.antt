@@ -102,7 +102,7 @@ shows-one-requires c κs =
     let d = c .before .before .before in
     let e = entry (start d) in (
       room (e .circuit) (listStage e) (says d) (told d) _ (same d),
-      (blank d ∙ ap (λ (k : ℕ). replicate k 0) (sym (same d)), good-list e (whole-told (c .before))),
+      good-list e (whole-told (c .before)),
     )
 
 clear-requires : tie.Need-clear-requires
