@@ -1,14 +1,15 @@
 -- Text form: the classes of bytes, numbers, lines of literals.
-use Prim.Native.Nat.{ℕ, suc, zero, _+_, _-_, _*_, _/_, _%_}
+use Prim.Native.Nat.{ℕ, suc, zero, _+_, _-_, _*_, _/_, _%_, _≤_}
+use mathlib.Core.Path.{_≡_}
 use mathlib.Core.Bool.{Bool, true, false, cond, _&&_}
 use mathlib.Core.Option.{Option, none, some}
 use mathlib.Core.List.{List, [], _∷_, _++_}
 use lib.Dec.{eqb, leb, ltb}
-use lib.ListN.{length, getD, drop}
+use lib.ListN.{length, getD, take, drop, replicate}
 use Rattle.plan.specs.declared.Refusal.the-variants.{WrongByte, OutOfRange, DefinedTwice}
 use Rattle.plan.specs.declared.Class.{Class}
 use Rattle.plan.specs.declared.Class.the-variants.{Line, Space, Zero, Digit, Print, Rest}
-use Rattle.plan.specs.Literals.{varOf, inRange}
+use Rattle.plan.specs.Literals.{litOf, varOf, inRange, isReset}
 use Rattle.plan.specs.Refusals.{Parse, got, refused, _then_, unless}
 use Rattle.plan.specs.Circuit.{literalOf, has}
 
@@ -73,23 +74,28 @@ number file at = numberBy (classOf (getD file at 0)) (drop at file) at
 abbrev pub expect : List ℕ → ℕ → ℕ → Parse ℕ
 expect file b at = cond (eqb (getD file at 0) b) (got b (at + 1)) (refused (WrongByte at))
 
--- what stands after a number of a line: a space if k more follow, the new line after the last
-abbrev pub endOf : ℕ → ℕ
-endOf zero = 10
-endOf (suc k) = 32
-
 -- a number and its place: in a file its first byte, from tables its table
 pub record Placed : Type 0 where
   pub value : ℕ
   pub place : ℕ
 
--- a line of k numbers
-abbrev pub numbers : List ℕ → ℕ → ℕ → Parse (List Placed)
-numbers file zero at = got [] at
-numbers file (suc k) at =
+-- whether numbers go on, where some must and some may: a space if one must, the new line if none may, else either
+abbrev pub goesOn : List ℕ → ℕ → ℕ → ℕ → Parse Bool
+goesOn file must zero at = expect file 10 at then λ _ next. got false next
+goesOn file (suc must) (suc may) at = expect file 32 at then λ _ next. got true next
+goesOn file zero (suc may) at = cond (eqb (getD file at 0) 10) (got false (at + 1)) (expect file 32 at then λ _ next. got true next)
+
+abbrev pub less : ℕ → ℕ
+less zero = zero
+less (suc k) = k
+
+-- a line of numbers, of which some must stand there and no more than some may
+abbrev pub numbers : List ℕ → ℕ → ℕ → ℕ → Parse (List Placed)
+numbers file must zero at = got [] at
+numbers file must (suc may) at =
     number file at then λ n end.
-    expect file (endOf k) end then λ _ next.
-    numbers file k next then λ ns last.
+    goesOn file (less must) may end then λ more next.
+    elim more [ true ↦ numbers file (less must) may next | false ↦ got [] next ] then λ ns last.
     got (record { value = n; place = at } ∷ ns) last
 
 abbrev pub values : List Placed → List ℕ
@@ -110,7 +116,7 @@ twice false seen xs = none
 -- one line of k literals, of which the first defines or not: by 1, then 5 from left to right, then 6
 abbrev pub line : List ℕ → ℕ → Bool → ℕ → List ℕ → ℕ → Parse (List ℕ)
 line file k d m seen at =
-    numbers file k at then λ xs next.
+    numbers file k k at then λ xs next.
     unless (outside d m xs) OutOfRange (unless (twice d seen xs) DefinedTwice (got (values xs) next))
 
 -- n such lines; `seen` holds the variables defined before
@@ -121,6 +127,36 @@ lines file k d m (suc n) seen at =
     lines file k d m n (seen ++ (varOf (literalOf row) ∷ [])) next then λ rows last.
     got (row ∷ rows) last
 
+-- 5: a reset but 0, 1 and the latch's own literal
+abbrev pub wrongReset : ℕ → List Placed → Option ℕ
+wrongReset own [] = none
+wrongReset own (x ∷ xs) = cond (isReset own (x .value)) (wrongReset own xs) (some (x .place))
+
+-- a latch's own literal: where its line defines it the first, else that of variable v
+abbrev pub ownOf : Bool → ℕ → List ℕ → ℕ
+ownOf true v row = literalOf row
+ownOf false v row = litOf v
+
+-- a latch's line: k literals, of which the first defines or not, and then a reset, if `more` is 1 and one stands there
+abbrev pub latchLineAt : List ℕ → ℕ → Bool → ℕ → ℕ → ℕ → List ℕ → ℕ → Parse (List ℕ)
+latchLineAt file k d m more v seen at =
+    numbers file k (k + more) at then λ xs next.
+    unless (outside d m (take k xs)) OutOfRange
+    (unless (wrongReset (ownOf d v (values xs)) (drop k xs)) OutOfRange
+    (unless (twice d seen xs) DefinedTwice (got (values xs) next)))
+
+-- n such lines, of variables v, v + 1 .. where they define none
+abbrev pub latchLines : List ℕ → ℕ → Bool → ℕ → ℕ → ℕ → ℕ → List ℕ → ℕ → Parse (List (List ℕ))
+latchLines file k d m more zero v seen at = got [] at
+latchLines file k d m more (suc n) v seen at =
+    latchLineAt file k d m more v seen at then λ row next.
+    latchLines file k d m more n (suc v) (seen ++ (varOf (literalOf row) ∷ [])) next then λ rows last.
+    got (row ∷ rows) last
+
+-- a reset after k literals, 0 if none stands there
+abbrev pub resetAfter : ℕ → List ℕ → ℕ
+resetAfter k row = getD row k 0
+
 -- the same, written: a number's digits, of which n has at most k + 1; a line; lines
 abbrev pub spell : ℕ → ℕ → List ℕ
 spell zero n = (48 + n) ∷ []
@@ -129,6 +165,11 @@ spell (suc k) n = elim (ltb n 10) [ true ↦ (48 + n) ∷ [] | false ↦ spell k
 abbrev pub digits : ℕ → List ℕ
 digits n = spell n n
 
+-- what stands after a number of a line: a space if k more follow, the new line after the last
+abbrev pub endOf : ℕ → ℕ
+endOf zero = 10
+endOf (suc k) = 32
+
 abbrev pub lineOf : List ℕ → List ℕ
 lineOf [] = []
 lineOf (n ∷ l) = digits n ++ (endOf (length l) ∷ lineOf l)
@@ -136,3 +177,30 @@ lineOf (n ∷ l) = digits n ++ (endOf (length l) ∷ lineOf l)
 abbrev pub linesOf : List (List ℕ) → List ℕ
 linesOf [] = []
 linesOf (row ∷ rows) = lineOf row ++ linesOf rows
+
+-- lines of literals, each with its reset
+abbrev pub withResets : List (List ℕ) → List ℕ → List (List ℕ)
+withResets [] rs = []
+withResets (row ∷ rows) [] = []
+withResets (row ∷ rows) (r ∷ rs) = (row ++ (r ∷ [])) ∷ withResets rows rs
+
+-- a line of at least `must` and at most `may` numbers spells these, of which trailing zeros are left off
+abbrev pub Spells : ℕ → ℕ → List ℕ → List ℕ → Type 0
+Spells must may full row = (must ≤ length row) × (length row ≤ may) × (row ++ replicate (length full - length row) 0 ≡ full)
+
+abbrev pub AllSpell : ℕ → ℕ → List (List ℕ) → List (List ℕ) → Type 0
+AllSpell must may [] [] = Unit {0}
+AllSpell must may [] (row ∷ rows) = ⊥
+AllSpell must may (full ∷ fulls) [] = ⊥
+AllSpell must may (full ∷ fulls) (row ∷ rows) = Spells must may full row × AllSpell must may fulls rows
+
+-- the shortest: all trailing zeros left off, but k numbers stand
+abbrev pub unlessZero : ℕ → List ℕ → List ℕ
+unlessZero zero [] = []
+unlessZero zero (x ∷ l) = zero ∷ x ∷ l
+unlessZero (suc n) l = suc n ∷ l
+
+abbrev pub shortest : ℕ → List ℕ → List ℕ
+shortest k [] = []
+shortest zero (n ∷ l) = unlessZero n (shortest zero l)
+shortest (suc k) (n ∷ l) = n ∷ shortest k l

@@ -6,7 +6,7 @@ use mathlib.Core.List.{List, [], _∷_, _++_, map}
 use lib.Dec.{eqb, leb}
 use lib.ListN.{length, getD, take, drop, replicate}
 use Rattle.plan.specs.declared.Counts.{Counts}
-use Rattle.plan.specs.Literals.{varOf, inRange}
+use Rattle.plan.specs.Literals.{varOf, inRange, isReset}
 
 pub record Gate : Type 0 where
   pub lhs : ℕ
@@ -21,11 +21,22 @@ pub record Circuit : Type 0 where
   pub M : ℕ
   pub inputs : List ℕ
   pub latches : List Latch
+  pub resets : List ℕ
   pub outputs : List ℕ
+  pub bads : List ℕ
+  pub constraints : List ℕ
   pub gates : List Gate
 
 abbrev pub countsOf : Circuit → Counts
-countsOf c = record { M = c .M; I = length (c .inputs); L = length (c .latches); O = length (c .outputs); A = length (c .gates) }
+countsOf c = record {
+  M = c .M;
+  I = length (c .inputs);
+  L = length (c .latches);
+  O = length (c .outputs);
+  A = length (c .gates);
+  B = length (c .bads);
+  C = length (c .constraints);
+}
 
 -- the lines of literals of an input or an output, a latch, a gate; and back
 abbrev pub oneLine : ℕ → List ℕ
@@ -46,12 +57,12 @@ latchOf row = record { current = getD row 0 0; next = getD row 1 0 }
 abbrev pub gateOf : List ℕ → Gate
 gateOf row = record { lhs = getD row 0 0; rhs0 = getD row 1 0; rhs1 = getD row 2 0 }
 
--- the words that tables 1 to 5 need, to read a file and for every other call
+-- the words that tables 1 to 9 need, to read a file and for every other call; table 6 is no circuit's
 abbrev pub wordsToRead : Counts → List ℕ
-wordsToRead n = n .I ∷ 2 * n .L ∷ n .O ∷ 3 * n .A ∷ (4 * (n .M + 1) + n .O) ∷ []
+wordsToRead n = n .I ∷ 2 * n .L ∷ n .O ∷ 3 * n .A ∷ (4 * (n .M + 1) + n .O + n .B + n .C) ∷ 0 ∷ n .L ∷ n .B ∷ n .C ∷ []
 
 abbrev pub wordsToWork : Counts → List ℕ
-wordsToWork n = n .I ∷ 2 * n .L ∷ n .O ∷ 3 * n .A ∷ (4 * (n .M + 1) + n .O) ∷ []
+wordsToWork n = n .I ∷ 2 * n .L ∷ n .O ∷ 3 * n .A ∷ (4 * (n .M + 1) + n .O + n .B + n .C) ∷ 0 ∷ n .L ∷ n .B ∷ n .C ∷ []
 
 -- a table's number, the words it needs and the words lent
 pub record Lent : Type 0 where
@@ -82,22 +93,34 @@ abbrev pub flat : List (List ℕ) → List ℕ
 flat [] = []
 flat (row ∷ rows) = row ++ flat rows
 
--- tables 1 to 4
+-- tables 1 to 4 and 7 to 9
 pub record Tables : Type 0 where
   pub inputs : List ℕ
   pub latches : List ℕ
   pub outputs : List ℕ
   pub gates : List ℕ
+  pub resets : List ℕ
+  pub bads : List ℕ
+  pub constraints : List ℕ
 
-abbrev pub lengthsOf : Tables → List ℕ
-lengthsOf t = length (t .inputs) ∷ length (t .latches) ∷ length (t .outputs) ∷ length (t .gates) ∷ []
+abbrev pub seven : List ℕ → List ℕ → List ℕ → List ℕ → List ℕ → List ℕ → List ℕ → Tables
+seven a b c d e f g = record { inputs = a; latches = b; outputs = c; gates = d; resets = e; bads = f; constraints = g }
+
+-- the lengths of tables 1 to 9, with table 5, scratch, and no table 6
+abbrev pub lengthsOf : Tables → List ℕ → List ℕ
+lengthsOf t scratch =
+    length (t .inputs) ∷ length (t .latches) ∷ length (t .outputs) ∷ length (t .gates) ∷ length scratch ∷ 0
+    ∷ length (t .resets) ∷ length (t .bads) ∷ length (t .constraints) ∷ []
 
 abbrev pub circuitOf : Counts → Tables → Circuit
 circuitOf n t = record {
   M = n .M;
   inputs = take (n .I) (t .inputs);
   latches = map latchOf (rowsOf 2 (n .L) (t .latches));
+  resets = take (n .L) (t .resets);
   outputs = take (n .O) (t .outputs);
+  bads = take (n .B) (t .bads);
+  constraints = take (n .C) (t .constraints);
   gates = map gateOf (rowsOf 3 (n .A) (t .gates));
 }
 
@@ -114,10 +137,21 @@ holding t c = record {
   latches = filled (t .latches) (flat (map latchLine (c .latches)));
   outputs = filled (t .outputs) (c .outputs);
   gates = filled (t .gates) (flat (map gateLine (c .gates)));
+  resets = filled (t .resets) (c .resets);
+  bads = filled (t .bads) (c .bads);
+  constraints = filled (t .constraints) (c .constraints);
 }
 
 abbrev pub allCleared : Tables → Tables
-allCleared t = record { inputs = cleared (t .inputs); latches = cleared (t .latches); outputs = cleared (t .outputs); gates = cleared (t .gates) }
+allCleared t = record {
+  inputs = cleared (t .inputs);
+  latches = cleared (t .latches);
+  outputs = cleared (t .outputs);
+  gates = cleared (t .gates);
+  resets = cleared (t .resets);
+  bads = cleared (t .bads);
+  constraints = cleared (t .constraints);
+}
 
 -- the variables that lines define: of inputs, of latches, of gates
 abbrev pub heads : List (List ℕ) → List ℕ
@@ -136,13 +170,16 @@ lefts gs = heads (map gateLine gs)
 abbrev pub definedIn : Circuit → List ℕ
 definedIn c = vars (c .inputs) ++ (currents (c .latches) ++ lefts (c .gates))
 
--- the literals that are used: next states and outputs, which are observed, and right sides
+-- the literals that are used: next states; outputs, bad states and constraints, which are observed; right sides
 abbrev pub nexts : List Latch → List ℕ
 nexts [] = []
 nexts (l ∷ ls) = l .next ∷ nexts ls
 
+abbrev pub observed : Circuit → List ℕ
+observed c = c .outputs ++ (c .bads ++ c .constraints)
+
 abbrev pub roots : Circuit → List ℕ
-roots c = nexts (c .latches) ++ c .outputs
+roots c = nexts (c .latches) ++ observed c
 
 abbrev pub rights : List Gate → List ℕ
 rights [] = []
@@ -159,6 +196,13 @@ has v (u ∷ us) = eqb u v || has v us
 abbrev pub allNew : List ℕ → List ℕ → Bool
 allNew seen [] = true
 allNew seen (v ∷ vs) = not (has v seen) && allNew (seen ++ (v ∷ [])) vs
+
+-- one reset for each latch
+abbrev pub resetsOk : List Latch → List ℕ → Bool
+resetsOk [] [] = true
+resetsOk [] (r ∷ rs) = false
+resetsOk (l ∷ ls) [] = false
+resetsOk (l ∷ ls) (r ∷ rs) = isReset (l .current) r && resetsOk ls rs
 
 -- the literals of a line, of which the first defines or not, are in their ranges
 abbrev pub inside : Bool → ℕ → List ℕ → Bool

@@ -62,12 +62,15 @@ abbrev pub renumberGates : List ℕ → ℕ → List Gate → List Gate
 renumberGates os v [] = []
 renumberGates os v (g ∷ gs) = gateFor v (renumber os (g .rhs0)) (renumber os (g .rhs1)) ∷ renumberGates os (suc v) gs
 
--- inputs get variables 1 .. I in list order, latches the next, then gates
+-- inputs get variables 1 .. I in list order, latches the next, then gates; resets that are literals of latches follow
 abbrev pub convert : Circuit → Circuit
 convert c = record {
   M = length (c .inputs) + length (c .latches) + length (c .gates);
   inputs = litsFrom 1 (length (c .inputs));
   latches = latchesFrom (1 + length (c .inputs)) (map (renumber (numbered c)) (nexts (c .latches)));
+  resets = map (renumber (numbered c)) (c .resets);
   outputs = map (renumber (numbered c)) (c .outputs);
+  bads = map (renumber (numbered c)) (c .bads);
+  constraints = map (renumber (numbered c)) (c .constraints);
   gates = renumberGates (numbered c) (1 + length (c .inputs) + length (c .latches)) (sorted c);
 }

@@ -4,20 +4,21 @@ use mathlib.Core.Bool.{Bool, true, false, cond}
 use mathlib.Core.Option.{Option, none, some}
 use mathlib.Core.List.{List, [], _∷_, _++_, map}
 use lib.Dec.{leb}
-use lib.ListN.{length, take}
+use lib.ListN.{length}
 use Rattle.plan.specs.declared.Counts.{Counts}
+use Rattle.plan.specs.declared.Version.the-variants.{V19}
 use Rattle.plan.specs.declared.Refusal.{Refusal}
 use Rattle.plan.specs.declared.Refusal.the-variants.{LargeCount, WrongSum, ShortTable, OutOfRange, DefinedTwice, NotDefined, Cyclic, ShortBuffer, NotInOrder}
 use Rattle.plan.specs.Literals.{varOf}
 use Rattle.plan.specs.Refusals.{Parse, got, refused, stage}
-use Rattle.plan.specs.Circuit.{Circuit, Tables, Lent, circuitOf, lengthsOf, wordsToWork, against, short, oneLine, latchLine, gateLine, literalOf, vars, currents}
+use Rattle.plan.specs.Circuit.{Circuit, Tables, Lent, circuitOf, lengthsOf, wordsToWork, against, short, oneLine, latchLine, gateLine, literalOf, vars, currents, resetsOk}
 use Rattle.plan.specs.Bytes.{Placed, outside, twice}
 use Rattle.plan.specs.Header.{text, listOf, over, adds}
 use Rattle.plan.specs.Depends.{undefinedIn, cyclicIn}
 use Rattle.plan.specs.Binary.{binaryOrder}
 use Rattle.plan.specs.Tail.{tailAt}
 
--- the counts, tables 1 to 4 and table 5, scratch
+-- the counts, tables 1 to 4 and 7 to 9, and table 5, scratch
 pub record Given : Type 0 where
   pub counts : Counts
   pub tables : Tables
@@ -28,10 +29,10 @@ given g = circuitOf (g .counts) (g .tables)
 
 -- what is lent: the given tables and scratch; with written tables, which bear the same numbers
 abbrev pub lentAlone : Given → List Lent
-lentAlone g = against 1 (wordsToWork (g .counts)) (lengthsOf (g .tables) ++ (length (g .scratch) ∷ []))
+lentAlone g = against 1 (wordsToWork (g .counts)) (lengthsOf (g .tables) (g .scratch))
 
 abbrev pub lentWith : Given → Tables → List Lent
-lentWith g t = lentAlone g ++ against 1 (take 4 (wordsToWork (g .counts))) (lengthsOf t)
+lentWith g t = lentAlone g ++ against 1 (wordsToWork (g .counts)) (lengthsOf t (g .scratch))
 
 -- numbers with the places t, t + 1 ..; with one place
 abbrev pub counted : ℕ → List ℕ → List Placed
@@ -46,10 +47,13 @@ abbrev pub orElse : Option ℕ → Option ℕ → Option ℕ
 orElse none o = o
 orElse (some place) o = some place
 
--- the place 0 of a test that fails
+-- the place of a test that fails; the place 0
+abbrev pub failingAt : ℕ → Bool → Option ℕ
+failingAt place true = none
+failingAt place false = some place
+
 abbrev pub failing : Bool → Option ℕ
-failing true = none
-failing false = some 0
+failing t = failingAt 0 t
 
 -- 5 over the lines of table t
 abbrev pub outsideOf : ℕ → Bool → ℕ → List (List ℕ) → Option ℕ
@@ -61,7 +65,10 @@ outsideIn c =
     orElse (outsideOf 1 true (c .M) (map oneLine (c .inputs)))
     (orElse (outsideOf 2 true (c .M) (map latchLine (c .latches)))
     (orElse (outsideOf 3 false (c .M) (map oneLine (c .outputs)))
-    (outsideOf 4 true (c .M) (map gateLine (c .gates)))))
+    (orElse (outsideOf 4 true (c .M) (map gateLine (c .gates)))
+    (orElse (failingAt 7 (resetsOk (c .latches) (c .resets)))
+    (orElse (outsideOf 8 false (c .M) (map oneLine (c .bads)))
+    (outsideOf 9 false (c .M) (map oneLine (c .constraints))))))))
 
 -- 6 over the lines of table t; `seen` holds the variables defined before
 abbrev pub twiceOf : ℕ → List ℕ → List (List ℕ) → Option ℕ
@@ -96,7 +103,7 @@ refusalOf (got a next) = none
 refusalOf (refused r) = some r
 
 abbrev pub tailStage : Given → List ℕ → Option Refusal
-tailStage g tail = refusalOf (tailAt tail (g .counts) 0)
+tailStage g tail = refusalOf (tailAt V19 tail (g .counts) 0)
 
 -- 11: the length needed to hold bytes from a position on, cut at the largest number of 64 bits, where a buffer is shorter
 abbrev pub room : List ℕ → ℕ → List ℕ → Option ℕ

@@ -1,11 +1,11 @@
 -- What the build covers: the limits, variables and literals.
 use Prim.Native.Nat.{ℕ, suc, zero, _+_, _-_, _*_, _/_, _%_, _^_}
-use mathlib.Core.Bool.{Bool, true, false, _&&_}
+use mathlib.Core.Bool.{Bool, true, false, _&&_, _||_}
 use lib.Dec.{eqb, leb}
 use Rattle.plan.specs.declared.Var.{Var}
 use Rattle.plan.specs.declared.Lit.{Lit}
 
--- M, I, L, O, A are each at most 1,048,575
+-- M, I, L, O, A, B, C are each at most 1,048,575
 abbrev pub most : ℕ
 most = 1048575
 
@@ -36,6 +36,10 @@ signed (suc s) l = negOf l
 abbrev pub inRange : Bool → ℕ → ℕ → Bool
 inRange true m l = eqb (signOf l) 0 && (leb 2 l && leb l (2 * m))
 inRange false m l = leb l (2 * m + 1)
+
+-- a reset: 0, 1 or the latch's own literal
+abbrev pub isReset : ℕ → ℕ → Bool
+isReset own r = eqb r 0 || (eqb r 1 || eqb r own)
 
 -- the two structs: a word in, a word out; the doubling, which a 32-bit word cuts; the halving
 abbrev pub varAt : ℕ → Var

@@ -7,6 +7,8 @@ use mathlib.Core.List.{List, [], _∷_, _++_, map}
 use lib.Dec.{eqb}
 use lib.ListN.{length, take, drop}
 use Rattle.plan.specs.declared.Refusal.{Refusal}
+use Rattle.plan.specs.declared.Version.{Version}
+use Rattle.plan.specs.declared.Version.the-variants.{V2007, V19}
 use Rattle.plan.specs.declared.Refusal.the-variants.{ShortBuffer, BadVector}
 use Rattle.plan.specs.declared.Number.{Number}
 use Rattle.plan.specs.declared.Number.the-variants.{Value, Wrong}
@@ -35,7 +37,7 @@ use Rattle.plan.specs.Text.{textOf}
 use Rattle.plan.specs.Difference.{groupsOf}
 use Rattle.plan.specs.Binary.{binaryOf}
 use Rattle.plan.specs.Reading.{readFile}
-use Rattle.plan.specs.Given.{Given, given, lentAlone, lentWith, orElse, stages, orderStage, tailStage, room, roomStage}
+use Rattle.plan.specs.Given.{Given, given, lentAlone, lentWith, orElse, failingAt, stages, orderStage, tailStage, room, roomStage}
 use Rattle.plan.specs.Convert.{convert}
 use Rattle.plan.specs.Reduce.{reduce}
 use Rattle.plan.specs.Step.{codeOf, valueOf, isCode, outputsOf, nextOf, witnessed}
@@ -50,7 +52,7 @@ refusalValues r zeros = numberOf r ∷ placeOf r ∷ zeros
 
 abbrev pub loadedValues : Loaded → List ℕ
 loadedValues (loaded.Accepted n start) = 0 ∷ 0 ∷ listOf n
-loadedValues (loaded.Refused r) = refusalValues r (0 ∷ 0 ∷ 0 ∷ 0 ∷ 0 ∷ [])
+loadedValues (loaded.Refused r) = refusalValues r (0 ∷ 0 ∷ 0 ∷ 0 ∷ 0 ∷ 0 ∷ 0 ∷ [])
 
 abbrev pub checkedValues : Checked → List ℕ
 checkedValues checked.Good = 0 ∷ 0 ∷ []
@@ -62,7 +64,7 @@ writtenValues (written.Refused r) = refusalValues r (0 ∷ [])
 
 abbrev pub madeValues : Made → List ℕ
 madeValues (made.Accepted n) = 0 ∷ 0 ∷ listOf n
-madeValues (made.Refused r) = refusalValues r (0 ∷ 0 ∷ 0 ∷ 0 ∷ 0 ∷ [])
+madeValues (made.Refused r) = refusalValues r (0 ∷ 0 ∷ 0 ∷ 0 ∷ 0 ∷ 0 ∷ 0 ∷ [])
 
 abbrev pub steppedValues : Stepped → List ℕ
 steppedValues stepped.Done = 0 ∷ 0 ∷ []
@@ -136,8 +138,12 @@ abbrev pub loadBy : ReadEntry → Parse Circuit → LoadExit
 loadBy e (got c start) = record { answer = loaded.Accepted (countsOf c) start; tables = holding (e .tables) c; scratch = cleared (e .scratch) }
 loadBy e (refused r) = record { answer = loaded.Refused r; tables = allCleared (e .tables); scratch = cleared (e .scratch) }
 
+-- by a version of the report
+abbrev pub loadAs : Version → ReadEntry → LoadExit
+loadAs v e = loadBy e (readFile v (e .file) (lengthsOf (e .tables) (e .scratch)))
+
 abbrev pub load : ReadEntry → LoadExit
-load e = loadBy e (readFile (e .file) (lengthsOf (e .tables) ++ (length (e .scratch) ∷ [])))
+load e = loadAs V19 e
 
 pub record ReadExit : Type 0 where
   pub answer : List ℕ
@@ -150,10 +156,17 @@ abbrev pub tailOf : List ℕ → Loaded → List ℕ
 tailOf file (loaded.Accepted n start) = drop start file
 tailOf file (loaded.Refused r) = []
 
-abbrev pub read : ReadEntry → ReadExit
-read e =
-    let x = load e in
+abbrev pub readAs : Version → ReadEntry → ReadExit
+readAs v e =
+    let x = loadAs v e in
     record { answer = loadedValues (x .answer); tail = tailOf (e .file) (x .answer); tables = x .tables; scratch = x .scratch }
+
+-- the reader, and that of 2007
+abbrev pub read : ReadEntry → ReadExit
+read e = readAs V19 e
+
+abbrev pub read2007 : ReadEntry → ReadExit
+read2007 e = readAs V2007 e
 
 -- check: given tables alone
 pub record CheckExit : Type 0 where
@@ -231,8 +244,7 @@ allCodes [] = true
 allCodes (b ∷ l) = isCode b && allCodes l
 
 abbrev pub vector : ℕ → Bool → Option ℕ
-vector place true = none
-vector place false = some place
+vector place t = failingAt place t
 
 -- the stepper: given tables, the state, which the next state is written over, the inputs and a buffer for the outputs
 pub record StepEntry : Type 0 where

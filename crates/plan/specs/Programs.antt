@@ -8,6 +8,7 @@ use mathlib.Core.List.{List, [], _∷_, _++_, map}
 use lib.Dec.{eqb, leb}
 use lib.ListN.{length, drop}
 use Rattle.plan.specs.declared.Refusal.{Refusal}
+use Rattle.plan.specs.declared.Version.the-variants.{V19}
 use Rattle.plan.specs.declared.Refusal.the-variants.{WrongByte, ShortBuffer, BadVector, LongInput, Unreadable}
 use Rattle.plan.specs.Refusals.{Parse, got, refused, _then_, numberOf, placeOf}
 use Rattle.plan.specs.Circuit.{Circuit}
@@ -26,9 +27,9 @@ abbrev pub bytesOf : String → List ℕ
 bytesOf nil = []
 bytesOf (c & s) = code c ∷ bytesOf s
 
--- 16,384 words for table 5, 4,096 for each other, 65,536 bytes for a written file
+-- 16,384 words for table 5, none for 6, 4,096 for each other, 65,536 bytes for a written file
 abbrev pub lentWords : List ℕ
-lentWords = 4096 ∷ 4096 ∷ 4096 ∷ 4096 ∷ 16384 ∷ []
+lentWords = 4096 ∷ 4096 ∷ 4096 ∷ 4096 ∷ 16384 ∷ 0 ∷ 4096 ∷ 4096 ∷ 4096 ∷ []
 
 abbrev pub lentBytes : ℕ
 lentBytes = 65536
@@ -57,15 +58,15 @@ otherForm binary c = textOf c
 abbrev pub converter : Option (List ℕ) → List ℕ
 converter planIn =
     printed (input planIn λ file.
-    readFile file lentWords then λ c start.
-    header file 0 then λ h _.
+    readFile V19 file lentWords then λ c start.
+    header V19 file 0 then λ h _.
     fitting (otherForm (h .form) c ++ drop start file))
 
 -- the reducer writes reduced binary
 abbrev pub reducer : Option (List ℕ) → List ℕ
 reducer planIn =
     printed (input planIn λ file.
-    readFile file lentWords then λ c start.
+    readFile V19 file lentWords then λ c start.
     fitting (binaryOf (reduce (convert c)) ++ drop start file))
 
 -- the lines of an input, each ended by a new line; bytes after the last new line are no line
@@ -100,7 +101,7 @@ stepLines (s ∷ steps) = stepLine s ++ stepLines steps
 abbrev pub tracer : Option (List ℕ) → Option (List ℕ) → List ℕ
 tracer planIn standardIn =
     printed (input planIn λ file.
-    readFile file lentWords then λ c _.
+    readFile V19 file lentWords then λ c _.
     input standardIn λ bytes.
     stimulus (length (c .inputs)) bytes then λ list end.
     got (stepLines (run (convert c) (first (convert c)) (map (map valueOf) list))) end)

@@ -58,7 +58,7 @@ reduced c =
     let n = 1 + length (c .inputs) + length (c .latches) in
     reduceGates (record { became = litsFrom 0 n; retained = []; fresh = n }) (c .gates)
 
--- latches and outputs follow
+-- next states, outputs, bad states and constraints follow; resets stay
 abbrev pub latchBecomes : List ℕ → Latch → Latch
 latchBecomes m l = record { current = l .current; next = becomes m (l .next) }
 
@@ -67,6 +67,9 @@ reduce c = record {
   M = length (c .inputs) + length (c .latches) + length (reduced c .retained);
   inputs = c .inputs;
   latches = map (latchBecomes (reduced c .became)) (c .latches);
+  resets = c .resets;
   outputs = map (becomes (reduced c .became)) (c .outputs);
+  bads = map (becomes (reduced c .became)) (c .bads);
+  constraints = map (becomes (reduced c .became)) (c .constraints);
   gates = reduced c .retained;
 }

@@ -1,10 +1,10 @@
 -- Stepping in 0, 1 and x, for any order of gates; the witness question.
 use Prim.Native.Nat.{ℕ, zero, suc}
-use mathlib.Core.Bool.{Bool, true, false, cond, _||_}
+use mathlib.Core.Bool.{Bool, true, false, cond, _&&_, _||_}
 use mathlib.Core.Option.{Option, none, some}
 use mathlib.Core.List.{List, [], _∷_, _++_, map}
 use lib.Dec.{eqb}
-use lib.ListN.{length, getD, replicate}
+use lib.ListN.{length, getD}
 use Rattle.plan.specs.Literals.{varOf, signOf}
 use Rattle.plan.specs.Circuit.{Gate, Circuit, nexts, rowsOf}
 use Rattle.plan.specs.Depends.{find}
@@ -72,6 +72,12 @@ valuesOf c state ins = valueIn (c .gates) (leafValue c state ins) (length (c .ga
 abbrev pub outputsOf : Circuit → List Value → List Value → List Value
 outputsOf c state ins = map (lit (valuesOf c state ins)) (c .outputs)
 
+abbrev pub badsOf : Circuit → List Value → List Value → List Value
+badsOf c state ins = map (lit (valuesOf c state ins)) (c .bads)
+
+abbrev pub constraintsOf : Circuit → List Value → List Value → List Value
+constraintsOf c state ins = map (lit (valuesOf c state ins)) (c .constraints)
+
 -- all latches take their next values at once
 abbrev pub nextOf : Circuit → List Value → List Value → List Value
 nextOf c state ins = map (lit (valuesOf c state ins)) (nexts (c .latches))
@@ -80,24 +86,36 @@ pub record Step : Type 0 where
   pub state : List Value
   pub inputs : List Value
   pub outputs : List Value
+  pub bads : List Value
+  pub constraints : List Value
   pub next : List Value
 
 abbrev pub stepOf : Circuit → List Value → List Value → Step
-stepOf c state ins = record { state = state; inputs = ins; outputs = outputsOf c state ins; next = nextOf c state ins }
+stepOf c state ins = record {
+  state = state;
+  inputs = ins;
+  outputs = outputsOf c state ins;
+  bads = badsOf c state ins;
+  constraints = constraintsOf c state ins;
+  next = nextOf c state ins;
+}
 
 abbrev pub run : Circuit → List Value → List (List Value) → List Step
 run c state [] = []
 run c state (ins ∷ list) = stepOf c state ins ∷ run c (nextOf c state ins) list
 
--- the first state is all "0"
+-- the first state is that of the resets; a latch's own literal is x
+abbrev pub resetValue : ℕ → Value
+resetValue r = cond (eqb r 0) v0 (cond (eqb r 1) v1 vx)
+
 abbrev pub first : Circuit → List Value
-first c = replicate (length (c .latches)) v0
+first c = map resetValue (c .resets)
 
 -- a list is given as a number of vectors and its bytes, I for each
 abbrev pub vectorsOf : Circuit → ℕ → List ℕ → List (List Value)
 vectorsOf c number bytes = map (map valueOf) (rowsOf (length (c .inputs)) number bytes)
 
--- the witness question: 1 on some output at some step
+-- the witness question: 1 on some output or bad state at some step, every constraint being 1 there and at all steps before
 abbrev pub is1 : Value → Bool
 is1 v0 = false
 is1 v1 = true
@@ -107,9 +125,13 @@ abbrev pub any1 : List Value → Bool
 any1 [] = false
 any1 (a ∷ l) = is1 a || any1 l
 
+abbrev pub all1 : List Value → Bool
+all1 [] = true
+all1 (a ∷ l) = is1 a && all1 l
+
 abbrev pub shows1 : List Step → Bool
 shows1 [] = false
-shows1 (s ∷ steps) = any1 (s .outputs) || shows1 steps
+shows1 (s ∷ steps) = all1 (s .constraints) && (any1 (s .outputs) || (any1 (s .bads) || shows1 steps))
 
 abbrev pub witnessed : Circuit → ℕ → List ℕ → Bool
 witnessed c number bytes = shows1 (run c (first c) (vectorsOf c number bytes))

@@ -6,6 +6,7 @@ use mathlib.Core.List.{List, [], _∷_, _++_, map}
 use lib.Dec.{eqb}
 use lib.ListN.{length, take, drop}
 use Rattle.plan.specs.declared.Counts.{Counts}
+use Rattle.plan.specs.declared.Version.the-variants.{V19}
 use Rattle.plan.specs.declared.Refusal.{Refusal}
 use Rattle.plan.specs.declared.Refusal.the-variants.{ShortTable, ShortBuffer, BadVector}
 use Rattle.plan.specs.declared.Made.{Made}
@@ -54,8 +55,8 @@ pub record WholeExit : Type 0 where
 -- the circuit of the file, by all that a reader checks; then 4 for the tables to make a circuit in. The position is the tail's
 abbrev pub loaded : WholeEntry → List ℕ → Parse Circuit
 loaded e file =
-    readFile file (lengthsOf (e .read) ++ (length (e .scratch) ∷ [])) then λ c start.
-    unless (short (against 1 (take 4 (wordsToWork (countsOf c))) (lengthsOf (e .made)))) ShortTable (got c start)
+    readFile V19 file (lengthsOf (e .read) (e .scratch)) then λ c start.
+    unless (short (against 1 (wordsToWork (countsOf c)) (lengthsOf (e .made) (e .scratch)))) ShortTable (got c start)
 
 -- the bytes to write, or 11
 abbrev pub fittingIn : List ℕ → List ℕ → Parse (List ℕ)
@@ -83,7 +84,7 @@ abbrev pub convertWhole : WholeEntry → WholeExit
 convertWhole e =
     wholeBy e (input (e .plan) λ file.
     loaded e file then λ c start.
-    header file 0 then λ h _.
+    header V19 file 0 then λ h _.
     fittingIn (e .out) (otherForm (h .form) c ++ drop start file))
 
 -- reduced binary, with the same tail

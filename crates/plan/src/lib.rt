@@ -145,13 +145,21 @@ impl Lit {
     }
 }
 
-// M, I, L, O, A: the largest variable; the inputs, latches, outputs and gates.
+// M, I, L, O, A, B, C: the largest variable; the inputs, latches, outputs and gates, bad states and constraints.
 pub struct Counts {
     pub M: usize,
     pub I: usize,
     pub L: usize,
     pub O: usize,
     pub A: usize,
+    pub B: usize,
+    pub C: usize,
+}
+
+// The report of 2007, or 1.9, which goes on from it.
+pub enum Version {
+    V2007,
+    V19,
 }
 
 // The six classes of bytes: new line, space, digit 0, digits 1 to 9, other printable, the rest.
@@ -164,7 +172,7 @@ pub enum Class {
     Rest,
 }
 
-// One case for each refusal number from 1 to 15, in their order, each with its place.
+// One case for each refusal number from 1 to 15 and for 21, in their order, each with its place.
 pub enum Refusal {
     WrongByte(usize),
     LargeCount(usize),
@@ -181,6 +189,7 @@ pub enum Refusal {
     LongInput(usize),
     Unreadable(usize),
     NotInOrder(usize),
+    Justice(usize),
 }
 
 // A number at a position of a file.
