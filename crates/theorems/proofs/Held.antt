@@ -1,4 +1,4 @@
--- What a reader leaves in tables 1 to 4: the circuit's words from the start of each; after a refusal only the refusal counts.
+-- What a reader leaves in tables 1 to 4 and 7 to 9: the circuit's words from the start of each; after a refusal only the refusal counts.
 use Prim.Native.Nat.{ℕ, zero, suc, _-_}
 use mathlib.Core.Path.{_≡_, refl, sym, ap, ap₂, _∙_}
 use mathlib.Core.List.{List, [], _∷_, _++_, append-assoc, map}
@@ -19,6 +19,9 @@ pub record Holds (t : Tables) (c : Circuit) (t′ : Tables) : Type 0 where
   pub latches : t′ .latches ≡ put (t .latches) 0 (flat (map latchLine (c .latches)))
   pub outputs : t′ .outputs ≡ put (t .outputs) 0 (c .outputs)
   pub gates : t′ .gates ≡ put (t .gates) 0 (flat (map gateLine (c .gates)))
+  pub resets : t′ .resets ≡ put (t .resets) 0 (c .resets)
+  pub bads : t′ .bads ≡ put (t .bads) 0 (c .bads)
+  pub constraints : t′ .constraints ≡ put (t .constraints) 0 (c .constraints)
 
 abbrev pub BodySays : Tables → Parse Circuit → Passed → Tables → Type 0
 BodySays t (got c next) r t′ = (r ≡ To next) × Holds t c t′
@@ -39,10 +42,22 @@ pub record Starts (c : Circuit) (t : Tables) : Type 0 where
   pub latches : (more : List ℕ) × (t .latches ≡ flat (map latchLine (c .latches)) ++ more)
   pub outputs : (more : List ℕ) × (t .outputs ≡ c .outputs ++ more)
   pub gates : (more : List ℕ) × (t .gates ≡ flat (map gateLine (c .gates)) ++ more)
+  pub resets : (more : List ℕ) × (t .resets ≡ c .resets ++ more)
+  pub bads : (more : List ℕ) × (t .bads ≡ c .bads ++ more)
+  pub constraints : (more : List ℕ) × (t .constraints ≡ c .constraints ++ more)
 
--- the circuit that tables hold is the circuit that they start with
-pub starts-circuit : (t : Tables) (c : Circuit) → Starts c t → circuitOf (countsOf c) t ≡ c
-starts-circuit t c h = λ i. record { M = c .M; inputs = ins i; latches = lats i; outputs = outs i; gates = gs i }
+-- the circuit that tables hold is the circuit that they start with, if it has a reset for each latch
+pub starts-circuit : (t : Tables) (c : Circuit) → length (c .resets) ≡ length (c .latches) → Starts c t → circuitOf (countsOf c) t ≡ c
+starts-circuit t c n h = λ i. record {
+  M = c .M;
+  inputs = ins i;
+  latches = lats i;
+  resets = res i;
+  outputs = outs i;
+  bads = one (c .bads) (t .bads) (h .bads) i;
+  constraints = one (c .constraints) (t .constraints) (h .constraints) i;
+  gates = gs i;
+}
   where
     one : (words table : List ℕ) → ((more : List ℕ) × (table ≡ words ++ more)) → take (length words) table ≡ words
     one words table q = ap (take (length words)) (q .1) ∙ take-at words (q .0) (length words) refl
@@ -58,6 +73,9 @@ starts-circuit t c h = λ i. record { M = c .M; inputs = ins i; latches = lats i
     ins : take (length (c .inputs)) (t .inputs) ≡ c .inputs
     ins = one (c .inputs) (t .inputs) (h .inputs)
 
+    res : take (length (c .latches)) (t .resets) ≡ c .resets
+    res = ap (λ (k : ℕ). take k (t .resets)) (sym n) ∙ one (c .resets) (t .resets) (h .resets)
+
     outs : take (length (c .outputs)) (t .outputs) ≡ c .outputs
     outs = one (c .outputs) (t .outputs) (h .outputs)
 
@@ -68,10 +86,19 @@ starts-circuit t c h = λ i. record { M = c .M; inputs = ins i; latches = lats i
     gs = rows 3 gateOf gateLine (c .gates) (t .gates) (λ a. refl) (λ a. refl) (h .gates)
 
 -- the circuit that the tables hold is the circuit that they were filled with
-pub holds-circuit : (n : Counts) (t t′ : Tables) (c : Circuit) → Holds t c t′ → countsOf c ≡ n → circuitOf n t′ ≡ c
-holds-circuit n t t′ c h e =
+pub holds-circuit : (n : Counts) (t t′ : Tables) (c : Circuit) → length (c .resets) ≡ length (c .latches) → Holds t c t′ → countsOf c ≡ n
+    → circuitOf n t′ ≡ c
+holds-circuit n t t′ c k h e =
     ap (λ (m : Counts). circuitOf m t′) (sym e)
-    ∙ starts-circuit t′ c (record { inputs = (_, h .inputs); latches = (_, h .latches); outputs = (_, h .outputs); gates = (_, h .gates) })
+    ∙ starts-circuit t′ c k (record {
+      inputs = (_, h .inputs);
+      latches = (_, h .latches);
+      outputs = (_, h .outputs);
+      gates = (_, h .gates);
+      resets = (_, h .resets);
+      bads = (_, h .bads);
+      constraints = (_, h .constraints);
+    })
 
 drop-zeros : (k n : ℕ) → drop {A = ℕ} k (replicate n 0) ≡ replicate (n - k) 0
 drop-zeros zero n = ap (λ (m : ℕ). replicate m 0) (sym (sub-zero n))
@@ -90,4 +117,7 @@ holds-filled t t′ c h = λ i. record {
   latches = (h .latches ∙ put-cleared (t .latches) (flat (map latchLine (c .latches)))) i;
   outputs = (h .outputs ∙ put-cleared (t .outputs) (c .outputs)) i;
   gates = (h .gates ∙ put-cleared (t .gates) (flat (map gateLine (c .gates)))) i;
+  resets = (h .resets ∙ put-cleared (t .resets) (c .resets)) i;
+  bads = (h .bads ∙ put-cleared (t .bads) (c .bads)) i;
+  constraints = (h .constraints ∙ put-cleared (t .constraints) (c .constraints)) i;
 }

@@ -3,6 +3,7 @@ use Prim.Native.Nat.{ℕ}
 use mathlib.Core.Path.{_≡_, refl}
 use mathlib.Core.Option.{some}
 use mathlib.Core.List.{List, [], _∷_, _++_, map}
+use Rattle.plan.specs.declared.Version.the-variants.{V19}
 use Rattle.plan.specs.Refusals.{got, _then_}
 use Rattle.plan.specs.Circuit.{Circuit}
 use Rattle.plan.specs.Bytes.{digits}
@@ -21,7 +22,7 @@ pub data Asked : Type 0 where
   outputs-on reduced-outputs-on : List ℕ → Asked
 
 abbrev circuit : List ℕ → (Circuit → List ℕ) → List ℕ
-circuit file f = printed (readFile file lentWords then λ c start. got (f c) start)
+circuit file f = printed (readFile V19 file lentWords then λ c start. got (f c) start)
 
 abbrev outputs : List ℕ → Circuit → List ℕ
 outputs ins c = map codeOf (outputsOf c (first c) (map valueOf ins))

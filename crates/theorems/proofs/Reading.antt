@@ -12,6 +12,7 @@ pub mod Undefined
 pub mod Cycles
 pub mod Lines
 pub mod Headers
+pub mod Latches
 pub mod Rows
 pub mod Texts
 pub mod Steps
@@ -22,4 +23,6 @@ pub mod Runs
 pub mod Binaries
 pub mod NoSevenEight
 pub mod Exactly
+pub mod Versions
+pub mod Shortest
 pub mod Spans

@@ -13,6 +13,7 @@ pub mod Binary
 pub mod Sides
 pub mod Upward
 pub mod InOrder
+pub mod Resets
 pub mod Different
 pub mod NoSixToEight
 pub mod Sweep
@@ -35,3 +36,4 @@ pub mod WithoutX
 pub mod EachStep
 pub mod Runs
 pub mod DemandThree
+pub mod Shown

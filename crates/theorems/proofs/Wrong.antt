@@ -21,21 +21,21 @@ abbrev words : ℕ → List ℕ
 words n = replicate n 0
 
 abbrev lent : Tables
-lent = record { inputs = words 9; latches = words 9; outputs = words 9; gates = words 9 }
+lent = record { inputs = words 9; latches = words 9; outputs = words 9; gates = words 9; resets = words 9; bads = words 9; constraints = words 9 }
 
 -- x & !x, negated: one input, one output, one gate; the reducer's example
 abbrev pub halves : Given
 halves = record {
-  counts = record { M = 2; I = 1; L = 0; O = 1; A = 1 };
-  tables = record { inputs = 2 ∷ []; latches = []; outputs = 5 ∷ []; gates = 4 ∷ 2 ∷ 3 ∷ [] };
+  counts = record { M = 2; I = 1; L = 0; O = 1; A = 1; B = 0; C = 0 };
+  tables = record { inputs = 2 ∷ []; latches = []; outputs = 5 ∷ []; gates = 4 ∷ 2 ∷ 3 ∷ []; resets = []; bads = []; constraints = [] };
   scratch = words 13;
 }
 
 -- the AIGER report's toggle flip flop without inputs
 abbrev pub flip : Given
 flip = record {
-  counts = record { M = 1; I = 0; L = 1; O = 2; A = 0 };
-  tables = record { inputs = []; latches = 2 ∷ 3 ∷ []; outputs = 2 ∷ 3 ∷ []; gates = [] };
+  counts = record { M = 1; I = 0; L = 1; O = 2; A = 0; B = 0; C = 0 };
+  tables = record { inputs = []; latches = 2 ∷ 3 ∷ []; outputs = 2 ∷ 3 ∷ []; gates = []; resets = 0 ∷ []; bads = []; constraints = [] };
   scratch = words 10;
 }
 
@@ -51,7 +51,7 @@ refuses-all-is-wrong r e = let p = ap (λ (x : LoadExit). x .answer) e in let z 
 
 -- a converter that always writes the empty circuit
 abbrev nothing : Circuit
-nothing = record { M = 0; inputs = []; latches = []; outputs = []; gates = [] }
+nothing = record { M = 0; inputs = []; latches = []; resets = []; outputs = []; bads = []; constraints = []; gates = [] }
 
 abbrev made-of : Circuit → MakeEntry → MakeExit
 made-of c e = record { answer = made.Accepted (countsOf c); written = holding (e .written) c; scratch = cleared (e .circuit .scratch) }

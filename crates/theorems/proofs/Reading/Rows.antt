@@ -1,5 +1,5 @@
 -- Lines of literals and the circuit's tables.
-use Prim.Native.Nat.{ℕ, suc}
+use Prim.Native.Nat.{ℕ, suc, _+_}
 use mathlib.Core.Path.{_≡_, refl, sym, ap, ap₂, _∙_}
 use mathlib.Core.Bool.{Bool, true, false, not, _&&_}
 use mathlib.Core.List.{List, [], _∷_, _++_, append-nil, map}
@@ -9,7 +9,8 @@ use lib.ListN.{length, drop}
 use lib.Seq.{append-snoc}
 use Rattle.plan.specs.declared.Counts.{Counts}
 use Rattle.plan.specs.Literals.{varOf}
-use Rattle.plan.specs.Circuit.{Circuit, countsOf, oneLine, latchLine, gateLine, literalOf, latchOf, gateOf, flat, heads, has, allNew, definedIn, inside, allInside}
+use Rattle.plan.specs.Circuit.{Circuit, countsOf, oneLine, latchLine, gateLine, literalOf, latchOf, gateOf, flat, heads, has, allNew, definedIn, inside, allInside, resetsOk}
+use Rattle.plan.specs.Bytes.{AllSpell}
 use Rattle.theorems.proofs.Reading.Common.{and-left, and-right, and-intro}
 use Rattle.theorems.proofs.Reading.Lines.{New, RowsOk}
 
@@ -125,11 +126,17 @@ pub new-second : (seen xs ys : List ℕ) → allNew seen (xs ++ ys) ≡ true →
 new-second seen xs ys h = and-right (allNew seen xs) _ (sym (new-append seen xs ys) ∙ h)
 
 -- what a body's reading says of the circuit
-pub record BodyOk (file : List ℕ) (bytes : Circuit → List ℕ) (n : Counts) (at : ℕ) (c : Circuit) (e : ℕ) : Type 0 where
-  pub took : drop at file ≡ bytes c ++ drop e file
+pub record BodyOk (file : List ℕ) (bytes : List (List ℕ) → Circuit → List ℕ) (full : Circuit → List (List ℕ)) (k more : ℕ) (n : Counts) (at : ℕ)
+    (c : Circuit) (e : ℕ) : Type 0 where
+  pub lats : List (List ℕ)
+  pub took : drop at file ≡ bytes lats c ++ drop e file
+  pub spelled : AllSpell k (k + more) (full c) lats
   pub counts : countsOf c ≡ n
   pub inputs : allInside true (c .M) (map oneLine (c .inputs)) ≡ true
   pub latches : allInside true (c .M) (map latchLine (c .latches)) ≡ true
+  pub resets : resetsOk (c .latches) (c .resets) ≡ true
   pub outputs : allInside false (c .M) (map oneLine (c .outputs)) ≡ true
+  pub bads : allInside false (c .M) (map oneLine (c .bads)) ≡ true
+  pub constraints : allInside false (c .M) (map oneLine (c .constraints)) ≡ true
   pub gates : allInside true (c .M) (map gateLine (c .gates)) ≡ true
   pub different : allNew [] (definedIn c) ≡ true

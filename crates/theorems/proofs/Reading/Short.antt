@@ -4,7 +4,7 @@ use mathlib.Core.Path.{_≡_, refl, ap, subst}
 use mathlib.Core.Bool.{Bool, true, false, cond}
 use mathlib.Core.Option.{Option, none, some}
 use mathlib.Core.Logic.{_⊎_, inl, inr, _↔_}
-use mathlib.Core.List.{List, [], _∷_}
+use mathlib.Core.List.{List, [], _∷_, _++_}
 use native.Mathlib.Omega.{arith}
 use native.Mathlib.Decide.{decLe}
 use borrow.Author.Tests.{leb-true, leb-false}
@@ -14,6 +14,19 @@ use Rattle.plan.specs.Circuit.{Lent, orLess, short}
 abbrev pub AllLong : List Lent → Type 0
 AllLong [] = Unit {0}
 AllLong (x ∷ xs) = (x .needed ≤ x .words) × AllLong xs
+
+-- tables of two lists are long enough exactly if those of each are
+pub long-both : (xs ys : List Lent) → AllLong xs → AllLong ys → AllLong (xs ++ ys)
+long-both [] ys h k = k
+long-both (x ∷ xs) ys h k = (h .0, long-both xs ys (h .1) k)
+
+pub first-long : (xs ys : List Lent) → AllLong (xs ++ ys) → AllLong xs
+first-long [] ys h = tt
+first-long (x ∷ xs) ys h = (h .0, first-long xs ys (h .1))
+
+pub last-long : (xs ys : List Lent) → AllLong (xs ++ ys) → AllLong ys
+last-long [] ys h = h
+last-long (x ∷ xs) ys h = last-long xs ys (h .1)
 
 -- a table of number t is too short
 abbrev pub ShortIn : ℕ → List Lent → Type 0

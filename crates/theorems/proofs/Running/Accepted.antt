@@ -8,7 +8,7 @@ use borrow.Author.Tests.{leb-true}
 use lib.Dec.{eqb, leb}
 use lib.ListN.{length}
 use Rattle.plan.specs.Literals.{varOf, signOf, inRange}
-use Rattle.plan.specs.Circuit.{Latch, Gate, Circuit, oneLine, latchLine, gateLine, heads, vars, currents, lefts, definedIn, nexts, roots, rights, usedIn, has, allNew, inside, allInside}
+use Rattle.plan.specs.Circuit.{Latch, Gate, Circuit, oneLine, latchLine, gateLine, heads, vars, currents, lefts, definedIn, nexts, observed, roots, rights, usedIn, has, allNew, inside, allInside}
 use Rattle.plan.specs.Depends.{settled}
 use Rattle.plan.specs.Reading.{WellFormed}
 use Rattle.plan.specs.Convert.{leaves}
@@ -21,6 +21,8 @@ pub record Accepted (c : Circuit) : Type 0 where
   pub once : distinct (leaves c ++ lefts (c .gates)) ≡ true
   pub used-next : allIn (nexts (c .latches)) (leaves c ++ lefts (c .gates)) ≡ true
   pub used-output : allIn (c .outputs) (leaves c ++ lefts (c .gates)) ≡ true
+  pub used-bad : allIn (c .bads) (leaves c ++ lefts (c .gates)) ≡ true
+  pub used-constraint : allIn (c .constraints) (leaves c ++ lefts (c .gates)) ≡ true
   pub used-gate : allIn (rights (c .gates)) (leaves c ++ lefts (c .gates)) ≡ true
   pub settles : (v : ℕ) → settled (c .gates) (length (c .gates)) v ≡ true
 
@@ -82,14 +84,30 @@ module _ (c : Circuit) (defined : (v : ℕ) → has v (usedIn c) ≡ true → ha
   pub nexts-in : allIn (nexts (c .latches)) (leaves c ++ lefts (c .gates)) ≡ true
   nexts-in =
       used-in (nexts (c .latches))
-      (λ v k. has-roots v (rw (vars-append (nexts (c .latches)) (c .outputs))
-      (has-left v (vars (nexts (c .latches))) (vars (c .outputs)) k)))
+      (λ v k. has-roots v (rw (vars-append (nexts (c .latches)) (observed c))
+      (has-left v (vars (nexts (c .latches))) (vars (observed c)) k)))
+
+  has-observed : (v : ℕ) → has v (vars (observed c)) ≡ true → has v (usedIn c) ≡ true
+  has-observed v k =
+      has-roots v (rw (vars-append (nexts (c .latches)) (observed c)) (has-right v (vars (nexts (c .latches))) (vars (observed c)) k))
 
   pub outputs-in : allIn (c .outputs) (leaves c ++ lefts (c .gates)) ≡ true
   outputs-in =
       used-in (c .outputs)
-      (λ v k. has-roots v (rw (vars-append (nexts (c .latches)) (c .outputs))
-      (has-right v (vars (nexts (c .latches))) (vars (c .outputs)) k)))
+      (λ v k. has-observed v (rw (vars-append (c .outputs) (c .bads ++ c .constraints))
+      (has-left v (vars (c .outputs)) (vars (c .bads ++ c .constraints)) k)))
+
+  pub bads-in : allIn (c .bads) (leaves c ++ lefts (c .gates)) ≡ true
+  bads-in =
+      used-in (c .bads)
+      (λ v k. has-observed v (rw (vars-append (c .outputs) (c .bads ++ c .constraints), vars-append (c .bads) (c .constraints))
+      (has-right v (vars (c .outputs)) (vars (c .bads) ++ vars (c .constraints)) (has-left v (vars (c .bads)) (vars (c .constraints)) k))))
+
+  pub constraints-in : allIn (c .constraints) (leaves c ++ lefts (c .gates)) ≡ true
+  constraints-in =
+      used-in (c .constraints)
+      (λ v k. has-observed v (rw (vars-append (c .outputs) (c .bads ++ c .constraints), vars-append (c .bads) (c .constraints))
+      (has-right v (vars (c .outputs)) (vars (c .bads) ++ vars (c .constraints)) (has-right v (vars (c .bads)) (vars (c .constraints)) k))))
 
   pub rights-in : allIn (rights (c .gates)) (leaves c ++ lefts (c .gates)) ≡ true
   rights-in =
@@ -101,6 +119,8 @@ accepted c ok = record {
   once = all-once c (ok .inputs) (ok .latches) (ok .gates) (ok .different);
   used-next = nexts-in c (ok .defined);
   used-output = outputs-in c (ok .defined);
+  used-bad = bads-in c (ok .defined);
+  used-constraint = constraints-in c (ok .defined);
   used-gate = rights-in c (ok .defined);
   settles = settled-exactly (c .gates) .1 (ok .acyclic);
 }

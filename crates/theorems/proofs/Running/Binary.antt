@@ -102,3 +102,5 @@ pub record Ordered (c : Circuit) : Type 0 where
   pub gates-in : Binary (inner c) (c .gates)
   pub next-in : Bounded (inner c + length (c .gates)) (nexts (c .latches))
   pub output-in : Bounded (inner c + length (c .gates)) (c .outputs)
+  pub bad-in : Bounded (inner c + length (c .gates)) (c .bads)
+  pub constraint-in : Bounded (inner c + length (c .gates)) (c .constraints)

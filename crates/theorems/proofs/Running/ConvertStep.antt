@@ -11,7 +11,7 @@ use Rattle.plan.specs.Literals.{varOf, signOf}
 use Rattle.plan.specs.Circuit.{Circuit, lefts, nexts}
 use Rattle.plan.specs.Depends.{find}
 use Rattle.plan.specs.Convert.{leaves, sorted, numbered, renumber, convert}
-use Rattle.plan.specs.Step.{Value, vx, signedValue, lit, gateValue, leafValue, valuesOf, outputsOf, nextOf}
+use Rattle.plan.specs.Step.{Value, vx, signedValue, lit, gateValue, leafValue, valuesOf, outputsOf, badsOf, constraintsOf, nextOf}
 use Rattle.theorems.proofs.Running.Values.{Solves, unique}
 use Rattle.theorems.proofs.Running.Lists.{distinct-left, has-at, index-at, allIn, in-head, in-tail}
 use Rattle.theorems.proofs.Running.Accepted.{Accepted}
@@ -87,6 +87,12 @@ module _ (c : Circuit) (ok : Accepted c) (s i : List Value) (ls : length s ≡ l
 
   pub convert-outputs : outputsOf (convert c) s i ≡ outputsOf c s i
   convert-outputs = lits-renumber (c .outputs) (ok .used-output)
+
+  pub convert-bads : badsOf (convert c) s i ≡ badsOf c s i
+  convert-bads = lits-renumber (c .bads) (ok .used-bad)
+
+  pub convert-constraints : constraintsOf (convert c) s i ≡ constraintsOf c s i
+  convert-constraints = lits-renumber (c .constraints) (ok .used-constraint)
 
   pub convert-next : nextOf (convert c) s i ≡ nextOf c s i
   convert-next = ap (map (lit (valuesOf (convert c) s i))) (nexts-convert c) ∙ lits-renumber (nexts (c .latches)) (ok .used-next)

@@ -86,4 +86,8 @@ module _ (c : Circuit) (ok : Accepted c) where
         (rw (nexts-convert c) (bounded (nexts (c .latches)) (ok .used-next)));
     output-in = subst (λ (n : ℕ). Bounded (n + length (convert c .gates)) (map (renumber (numbered c)) (c .outputs)))
         (sym (inner-convert c)) (bounded (c .outputs) (ok .used-output));
+    bad-in = subst (λ (n : ℕ). Bounded (n + length (convert c .gates)) (map (renumber (numbered c)) (c .bads)))
+        (sym (inner-convert c)) (bounded (c .bads) (ok .used-bad));
+    constraint-in = subst (λ (n : ℕ). Bounded (n + length (convert c .gates)) (map (renumber (numbered c)) (c .constraints)))
+        (sym (inner-convert c)) (bounded (c .constraints) (ok .used-constraint));
   }

@@ -1,4 +1,4 @@
--- Conversion keeps the counts but M, which is then I + L + A; reduction keeps I, L and O. So a tail suits them as it suited the circuit.
+-- Conversion keeps the counts but M, which is then I + L + A; reduction keeps I, L, O, B and C. So a tail suits them as it suited the circuit.
 use Prim.Native.Nat.{ℕ, _+_}
 use mathlib.Core.Path.{_≡_, refl, sym, ap₂, _∙_}
 use mathlib.Core.Bool.{Bool, cond, not, _&&_}
@@ -6,6 +6,7 @@ use mathlib.Core.List.{List, [], _∷_}
 use lib.Dec.{eqb, ltb}
 use lib.ListN.{length, length-map}
 use Rattle.plan.specs.declared.Counts.{Counts}
+use Rattle.plan.specs.declared.Version.{Version}
 use Rattle.plan.specs.Circuit.{Circuit, countsOf}
 use Rattle.plan.specs.Tail.{Symbol, isKind, named, fits, isName, symbolsOk, TailOk}
 use Rattle.plan.specs.Reading.{WellFormed}
@@ -21,6 +22,8 @@ pub counts-convert : (c : Circuit) → WellFormed c → countsOf (convert c) ≡
   L = length (c .latches);
   O = length (c .outputs);
   A = length (c .gates);
+  B = length (c .bads);
+  C = length (c .constraints);
 }
 counts-convert c w = λ i. record {
   M = length (c .inputs) + length (c .latches) + length (c .gates);
@@ -28,6 +31,8 @@ counts-convert c w = λ i. record {
   L = latches-convert c i;
   O = length-map (c .outputs) (renumber (numbered c)) i;
   A = gates-convert c w i;
+  B = length-map (c .bads) (renumber (numbered c)) i;
+  C = length-map (c .constraints) (renumber (numbered c)) i;
 }
 
 pub counts-reduce : (c : Circuit) → countsOf (reduce c) ≡ record {
@@ -36,6 +41,8 @@ pub counts-reduce : (c : Circuit) → countsOf (reduce c) ≡ record {
   L = length (c .latches);
   O = length (c .outputs);
   A = length (reduce c .gates);
+  B = length (c .bads);
+  C = length (c .constraints);
 }
 counts-reduce c = λ i. record {
   M = length (c .inputs) + length (c .latches) + length (reduce c .gates);
@@ -43,20 +50,23 @@ counts-reduce c = λ i. record {
   L = length-map (c .latches) (latchBecomes (reduced c .became)) i;
   O = length-map (c .outputs) (becomes (reduced c .became)) i;
   A = length (reduce c .gates);
+  B = length-map (c .bads) (becomes (reduced c .became)) i;
+  C = length-map (c .constraints) (becomes (reduced c .became)) i;
 }
 
--- a tail knows I, L and O alone
-module _ (n m : Counts) (i : n .I ≡ m .I) (l : n .L ≡ m .L) (o : n .O ≡ m .O) where
+-- a tail knows I, L, O, B and C alone
+module _ (v : Version) (n m : Counts) (i : n .I ≡ m .I) (l : n .L ≡ m .L) (o : n .O ≡ m .O) (b : n .B ≡ m .B) (c : n .C ≡ m .C) where
   same-fits : (seen : List Symbol) (s : Symbol) → fits n seen s ≡ fits m seen s
   same-fits seen s =
-      λ j. ltb (s .entry) (cond (eqb (s .kind) 105) (i j) (cond (eqb (s .kind) 108) (l j) (o j))) && not (named s seen)
+      λ j. ltb (s .entry) (cond (eqb (s .kind) 105) (i j) (cond (eqb (s .kind) 108) (l j)
+      (cond (eqb (s .kind) 111) (o j) (cond (eqb (s .kind) 98) (b j) (c j))))) && not (named s seen)
 
-  same-symbols : (seen ss : List Symbol) → symbolsOk n seen ss ≡ symbolsOk m seen ss
+  same-symbols : (seen ss : List Symbol) → symbolsOk v n seen ss ≡ symbolsOk v m seen ss
   same-symbols seen [] = refl
   same-symbols seen (s ∷ ss) =
-      ap₂ (λ (x y : Bool). isKind (s .kind) && (isName (s .name) && (x && y))) (same-fits seen s) (same-symbols (s ∷ seen) ss)
+      ap₂ (λ (x y : Bool). isKind v (s .kind) && (isName (s .name) && (x && y))) (same-fits seen s) (same-symbols (s ∷ seen) ss)
 
-  pub same-tail : (tail : List ℕ) → TailOk n tail → TailOk m tail
+  pub same-tail : (tail : List ℕ) → TailOk v n tail → TailOk v m tail
   same-tail tail t = record {
     symbols = t .symbols;
     rest = t .rest;
@@ -65,13 +75,15 @@ module _ (n m : Counts) (i : n .I ≡ m .I) (l : n .L ≡ m .L) (o : n .O ≡ m 
     remark = t .remark;
   }
 
-module _ (c : Circuit) (tail : List ℕ) where
-  pub tail-convert : TailOk (countsOf c) tail → TailOk (countsOf (convert c)) tail
+module _ (v : Version) (c : Circuit) (tail : List ℕ) where
+  pub tail-convert : TailOk v (countsOf c) tail → TailOk v (countsOf (convert c)) tail
   tail-convert =
-      same-tail (countsOf c) (countsOf (convert c)) (sym (length-lits 1 (length (c .inputs)))) (sym (latches-convert c))
-      (sym (length-map (c .outputs) (renumber (numbered c)))) tail
+      same-tail v (countsOf c) (countsOf (convert c)) (sym (length-lits 1 (length (c .inputs)))) (sym (latches-convert c))
+      (sym (length-map (c .outputs) (renumber (numbered c)))) (sym (length-map (c .bads) (renumber (numbered c))))
+      (sym (length-map (c .constraints) (renumber (numbered c)))) tail
 
-  pub tail-reduce : TailOk (countsOf c) tail → TailOk (countsOf (reduce c)) tail
+  pub tail-reduce : TailOk v (countsOf c) tail → TailOk v (countsOf (reduce c)) tail
   tail-reduce =
-      same-tail (countsOf c) (countsOf (reduce c)) refl (sym (length-map (c .latches) (latchBecomes (reduced c .became))))
-      (sym (length-map (c .outputs) (becomes (reduced c .became)))) tail
+      same-tail v (countsOf c) (countsOf (reduce c)) refl (sym (length-map (c .latches) (latchBecomes (reduced c .became))))
+      (sym (length-map (c .outputs) (becomes (reduced c .became)))) (sym (length-map (c .bads) (becomes (reduced c .became))))
+      (sym (length-map (c .constraints) (becomes (reduced c .became)))) tail

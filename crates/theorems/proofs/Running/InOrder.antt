@@ -7,7 +7,7 @@ use native.Mathlib.Omega.{arith}
 use borrow.Author.Tests.{leb-true, le-leb}
 use lib.ListN.{length}
 use Rattle.plan.specs.Literals.{most, varOf, inRange}
-use Rattle.plan.specs.Circuit.{Gate, Latch, Circuit, oneLine, latchLine, vars, currents, definedIn, usedIn, nexts, roots, rights, has, allNew, inside, allInside}
+use Rattle.plan.specs.Circuit.{Gate, Latch, Circuit, oneLine, latchLine, vars, currents, definedIn, usedIn, nexts, roots, rights, has, allNew, inside, allInside, observed, resetsOk}
 use Rattle.plan.specs.Depends.{Depends}
 use Rattle.plan.specs.Reading.{WellFormed}
 use Rattle.plan.specs.Convert.{leaves}
@@ -103,17 +103,21 @@ module _ (c : Circuit) (b : BinaryOrder c) where
     gates-in = order-binary (inner c) (c .gates) (b .gates);
     next-in = nexts-bounded (c .M) (inner c + length (c .gates)) (c .latches) (omega (arith, b .sum)) (w .latches);
     output-in = outputs-bounded (c .M) (inner c + length (c .gates)) (c .outputs) (omega (arith, b .sum)) (w .outputs);
+    bad-in = outputs-bounded (c .M) (inner c + length (c .gates)) (c .bads) (omega (arith, b .sum)) (w .bads);
+    constraint-in = outputs-bounded (c .M) (inner c + length (c .gates)) (c .constraints) (omega (arith, b .sum)) (w .constraints);
   }
 
-  pub defined-ordered : Bounded (suc (c .M)) (nexts (c .latches)) → Bounded (suc (c .M)) (c .outputs)
+  pub defined-ordered : Bounded (suc (c .M)) (nexts (c .latches)) → Bounded (suc (c .M)) (c .outputs) → Bounded (suc (c .M)) (c .bads)
+      → Bounded (suc (c .M)) (c .constraints)
       → (v : ℕ) → has v (usedIn c) ≡ true → has v (zero ∷ definedIn c) ≡ true
-  defined-ordered n u v h =
+  defined-ordered n u x y v h =
       ap (has v) defined-order ∙ has-up 0 (suc (c .M)) v (omega arith)
       (omega (arith, bounded-has (suc (c .M)) (roots c ++ rights (c .gates)) used v h))
     where
       used : Bounded (suc (c .M)) (roots c ++ rights (c .gates))
       used =
-          bounded-append (suc (c .M)) (roots c) (rights (c .gates)) (bounded-append (suc (c .M)) (nexts (c .latches)) (c .outputs) n u)
+          bounded-append (suc (c .M)) (roots c) (rights (c .gates)) (bounded-append (suc (c .M)) (nexts (c .latches)) (observed c) n
+          (bounded-append (suc (c .M)) (c .outputs) (c .bads ++ c .constraints) u (bounded-append (suc (c .M)) (c .bads) (c .constraints) x y)))
           (rights-bounded (suc (c .M)) (inner c) (c .gates) (b .gates) (omega (arith, b .sum)))
 
   pub acyclic-ordered : (v : ℕ) → ¬ Depends (c .gates) v v
@@ -130,23 +134,29 @@ module _ (c : Circuit) (b : BinaryOrder c) where
           ap₂ (λ (s t : List ℕ). s ++ t) inputs-up
           (ap₂ (λ (s t : List ℕ). s ++ t) latches-up (lefts-gates (inner c) (c .gates) (b .gates)))
 
-  pub well-formed : c .M ≤ most → length (c .outputs) ≤ most → Bounded (suc (c .M)) (nexts (c .latches))
-      → Bounded (suc (c .M)) (c .outputs) → WellFormed c
-  well-formed m o n u = record {
+  pub well-formed : c .M ≤ most → length (c .outputs) ≤ most → length (c .bads) ≤ most → length (c .constraints) ≤ most
+      → resetsOk (c .latches) (c .resets) ≡ true → Bounded (suc (c .M)) (nexts (c .latches)) → Bounded (suc (c .M)) (c .outputs)
+      → Bounded (suc (c .M)) (c .bads) → Bounded (suc (c .M)) (c .constraints) → WellFormed c
+  well-formed m o p q r n u x y = record {
     most-M = m;
     most-I = omega (arith, b .sum);
     most-L = omega (arith, b .sum);
     most-O = o;
     most-A = omega (arith, b .sum);
+    most-B = p;
+    most-C = q;
     sum = omega (arith, b .sum);
     inputs = ap (λ (ls : List ℕ). allInside true (c .M) (map oneLine ls)) (b .inputs)
         ∙ lits-inside (c .M) (length (c .inputs)) 1 (omega arith) (omega (arith, b .sum));
     latches = ap (λ (ls : List Latch). allInside true (c .M) (map latchLine ls)) (b .latches)
         ∙ latches-inside (c .M) (1 + length (c .inputs)) (nexts (c .latches)) (omega arith)
         (omega (arith, b .sum, length-nexts (c .latches))) (bounded-outputs (c .M) (nexts (c .latches)) n);
+    resets = r;
     outputs = bounded-outputs (c .M) (c .outputs) u;
+    bads = bounded-outputs (c .M) (c .bads) x;
+    constraints = bounded-outputs (c .M) (c .constraints) y;
     gates = gates-inside (c .M) (inner c) (c .gates) (b .gates) (omega arith) (omega (arith, b .sum));
     different = different-ordered;
-    defined = defined-ordered n u;
+    defined = defined-ordered n u x y;
     acyclic = acyclic-ordered;
   }

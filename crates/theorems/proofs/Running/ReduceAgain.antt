@@ -84,7 +84,10 @@ reduce-same c w t f =
       M = b .sum i;
       inputs = c .inputs;
       latches = latches-stay (inner c + length (c .gates)) (c .latches) (ordered .next-in) i;
+      resets = c .resets;
       outputs = become-selves (inner c + length (c .gates)) (c .outputs) (ordered .output-in) i;
+      bads = become-selves (inner c + length (c .gates)) (c .bads) (ordered .bad-in) i;
+      constraints = become-selves (inner c + length (c .gates)) (c .constraints) (ordered .constraint-in) i;
       gates = c .gates;
     }
   where
@@ -99,7 +102,10 @@ reduce-same c w t f =
       M = length (c .inputs) + length (c .latches) + length (r .retained);
       inputs = c .inputs;
       latches = map (latchBecomes (r .became)) (c .latches);
+      resets = c .resets;
       outputs = map (becomes (r .became)) (c .outputs);
+      bads = map (becomes (r .became)) (c .bads);
+      constraints = map (becomes (r .became)) (c .constraints);
       gates = r .retained;
     }
 

@@ -9,7 +9,7 @@ use Rattle.plan.specs.Circuit.{Latch, Circuit, currents, nexts}
 use Rattle.plan.specs.Binary.{litsFrom}
 use Rattle.plan.specs.Convert.{leaves, index}
 use Rattle.plan.specs.Reduce.{Reduced, becomes, reduced, latchBecomes, reduce}
-use Rattle.plan.specs.Step.{Value, v0, lit, leafValue, valuesOf, outputsOf, nextOf}
+use Rattle.plan.specs.Step.{Value, v0, lit, leafValue, valuesOf, outputsOf, badsOf, constraintsOf, nextOf}
 use Rattle.theorems.proofs.Reading.Runs.{length-lits}
 use Rattle.theorems.proofs.Running.Refinement.{Le, Les, les-append, les-at}
 use Rattle.theorems.proofs.Running.Values.{value-solves}
@@ -97,6 +97,14 @@ module _ (c : Circuit) (good : Ordered c) (s s′ i i′ : List Value) (hs : Les
   pub reduce-outputs : Les (outputsOf c s i) (outputsOf (reduce c) s′ i′)
   unfolding w w′
   reduce-outputs = becomes-les w w′ (reduced c .became) refines (c .outputs) (rw (length-became c) (good .output-in))
+
+  pub reduce-bads : Les (badsOf c s i) (badsOf (reduce c) s′ i′)
+  unfolding w w′
+  reduce-bads = becomes-les w w′ (reduced c .became) refines (c .bads) (rw (length-became c) (good .bad-in))
+
+  pub reduce-constraints : Les (constraintsOf c s i) (constraintsOf (reduce c) s′ i′)
+  unfolding w w′
+  reduce-constraints = becomes-les w w′ (reduced c .became) refines (c .constraints) (rw (length-became c) (good .constraint-in))
 
   pub reduce-next : Les (nextOf c s i) (nextOf (reduce c) s′ i′)
   unfolding w w′

@@ -22,6 +22,7 @@ use Rattle.theorems.proofs.Running.Binary.{inner, Bounded}
 use Rattle.theorems.proofs.Running.InOrder.{LargerFirst, binary-order, well-formed}
 use Rattle.theorems.proofs.Running.Converted.{length-renumberGates, latches-convert, nexts-convert, inner-convert, gates-binary, convert-ordered}
 use Rattle.theorems.proofs.Running.Scan.{every-gate}
+use Rattle.theorems.proofs.Running.Resets.{resets-become, resets-convert}
 use Rattle.theorems.proofs.Running.Unchanged.{convert-same}
 use Rattle.theorems.proofs.Running.ReduceStep.{nexts-becomes, reduced-ok}
 
@@ -53,8 +54,13 @@ module _ (c : Circuit) (w : WellFormed c) where
   convert-well-formed =
       well-formed (convert c) convert-order (omega (arith, w .sum, w .most-M))
       (omega (arith, w .most-O, length-map (c .outputs) (renumber (numbered c))))
+      (omega (arith, w .most-B, length-map (c .bads) (renumber (numbered c))))
+      (omega (arith, w .most-C, length-map (c .constraints) (renumber (numbered c))))
+      (resets-convert c w (accepted c w))
       (subst (λ (n : ℕ). Bounded n (nexts (convert c .latches))) numbers (convert-ordered c (accepted c w) .next-in))
       (subst (λ (n : ℕ). Bounded n (convert c .outputs)) numbers (convert-ordered c (accepted c w) .output-in))
+      (subst (λ (n : ℕ). Bounded n (convert c .bads)) numbers (convert-ordered c (accepted c w) .bad-in))
+      (subst (λ (n : ℕ). Bounded n (convert c .constraints)) numbers (convert-ordered c (accepted c w) .constraint-in))
     where
       numbers : inner (convert c) + length (convert c .gates) ≡ suc (convert c .M)
       numbers = omega (arith, convert-order .sum)
@@ -129,9 +135,14 @@ module _ (c : Circuit) (w : WellFormed c) (t : binaryOrder c ≡ true) where
   reduce-well-formed =
       well-formed (reduce c) reduce-order (omega (arith, w .sum, w .most-M, reduce-fewer))
       (omega (arith, w .most-O, length-map (c .outputs) (becomes (reduced c .became))))
+      (omega (arith, w .most-B, length-map (c .bads) (becomes (reduced c .became))))
+      (omega (arith, w .most-C, length-map (c .constraints) (becomes (reduced c .became))))
+      (resets-become (reduced c .became) (c .latches) (c .resets) ∙ w .resets)
       (rw (nexts-becomes (reduced c .became) (c .latches))
       (becomes-bounded (suc (reduce c .M)) (reduced c .became) low (nexts (c .latches))))
       (becomes-bounded (suc (reduce c .M)) (reduced c .became) low (c .outputs))
+      (becomes-bounded (suc (reduce c .M)) (reduced c .became) low (c .bads))
+      (becomes-bounded (suc (reduce c .M)) (reduced c .became) low (c .constraints))
     where
       low : (v : ℕ) → varOf (getD (reduced c .became) v 0) < suc (reduce c .M)
       low v = omega (arith, reduced-ok c .low v, reduced-ok c .count)

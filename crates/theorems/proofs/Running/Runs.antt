@@ -16,8 +16,8 @@ use Rattle.theorems.proofs.Running.Monotone.{Replaced, Kept}
 use Rattle.theorems.proofs.Running.Accepted.{Accepted, accepted}
 use Rattle.theorems.proofs.Running.Binary.{Ordered}
 use Rattle.theorems.proofs.Running.InOrder.{well-ordered}
-use Rattle.theorems.proofs.Running.ReduceStep.{reduce-outputs, reduce-next}
-use Rattle.theorems.proofs.Running.ConvertStep.{convert-outputs, convert-next}
+use Rattle.theorems.proofs.Running.ReduceStep.{reduce-outputs, reduce-bads, reduce-constraints, reduce-next}
+use Rattle.theorems.proofs.Running.ConvertStep.{convert-outputs, convert-bads, convert-constraints, convert-next}
 
 -- each vector holds n values
 abbrev pub Sized : ℕ → List (List Value) → Type 0
@@ -33,9 +33,11 @@ module _ (c : Circuit) (ok : Accepted c) where
   run-converted [] z s h = refl
   run-converted (i ∷ is) z s h =
       let o = convert-outputs c ok s i h (z .0) in
+      let b = convert-bads c ok s i h (z .0) in
+      let k = convert-constraints c ok s i h (z .0) in
       let n = convert-next c ok s i h (z .0) in
       let t = ap (λ (x : List Value). run (convert c) x is) n ∙ run-converted is (z .1) (nextOf c s i) (next-length c s i) in
-      λ j. record { state = s; inputs = i; outputs = o j; next = n j } ∷ t j
+      λ j. record { state = s; inputs = i; outputs = o j; bads = b j; constraints = k j; next = n j } ∷ t j
 
 module _ (c : Circuit) (ok : Ordered c) where
   pub run-reduced : (is js : List (List Value)) → Replaced is js → (s s′ : List Value) → Les s s′ → Kept (run c s is) (run (reduce c) s′ js)
@@ -43,8 +45,14 @@ module _ (c : Circuit) (ok : Ordered c) where
   run-reduced [] (j ∷ js) r s s′ h = absurd r
   run-reduced (i ∷ is) [] r s s′ h = absurd r
   run-reduced (i ∷ is) (j ∷ js) r s s′ h =
-      let n = reduce-next c ok s s′ i j h (r .0) in
-      (h, reduce-outputs c ok s s′ i j h (r .0), n, run-reduced is js (r .1) (nextOf c s i) (nextOf (reduce c) s′ j) n)
+      let n = reduce-next c ok s s′ i j h (r .0) in (
+        h,
+        reduce-outputs c ok s s′ i j h (r .0),
+        reduce-bads c ok s s′ i j h (r .0),
+        reduce-constraints c ok s s′ i j h (r .0),
+        n,
+        run-reduced is js (r .1) (nextOf c s i) (nextOf (reduce c) s′ j) n,
+      )
 
 -- conversion changes no step
 pub convert-run : (c : Circuit) → WellFormed c → (is : List (List Value)) → Sized (length (c .inputs)) is → (s : List Value)

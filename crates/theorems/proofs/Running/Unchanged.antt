@@ -17,6 +17,7 @@ use Rattle.theorems.proofs.Reading.Runs.{upFrom, up-append, lefts-gates
 use Rattle.theorems.proofs.Running.Binary.{inner, Bounded}
 use Rattle.theorems.proofs.Running.Upward.{index-up, has-up, up-snoc}
 use Rattle.theorems.proofs.Running.InOrder.{leaves-order, well-ordered}
+use Rattle.theorems.proofs.Running.Resets.{resets-bounded}
 
 order-same : (n : ℕ) (gs : List Gate) → InOrder n gs → order (length gs) (upFrom 0 n) gs ≡ gs
 order-same n [] b = refl
@@ -83,6 +84,15 @@ module _ (c : Circuit) (w : WellFormed c) (b : BinaryOrder c) where
   outputs-same : map (renumber (numbered c)) (c .outputs) ≡ c .outputs
   outputs-same = used-same (c .outputs) (well-ordered c b w .output-in)
 
+  bads-same : map (renumber (numbered c)) (c .bads) ≡ c .bads
+  bads-same = used-same (c .bads) (well-ordered c b w .bad-in)
+
+  constraints-same : map (renumber (numbered c)) (c .constraints) ≡ c .constraints
+  constraints-same = used-same (c .constraints) (well-ordered c b w .constraint-in)
+
+  resets-same : map (renumber (numbered c)) (c .resets) ≡ c .resets
+  resets-same = used-same (c .resets) (resets-bounded c b (w .resets))
+
   latches-same : latchesFrom (1 + length (c .inputs)) (map (renumber (numbered c)) (nexts (c .latches))) ≡ c .latches
   latches-same =
       ap (latchesFrom (1 + length (c .inputs))) (used-same (nexts (c .latches)) (well-ordered c b w .next-in))
@@ -100,7 +110,10 @@ convert-same c w t =
       inputs = sym
           (b .inputs) j;
       latches = latches-same c w b j;
+      resets = resets-same c w b j;
       outputs = outputs-same c w b j;
+      bads = bads-same c w b j;
+      constraints = constraints-same c w b j;
       gates = gates-kept c w b j;
     }
   where

@@ -8,14 +8,15 @@ use mathlib.Core.List.{List, [], _∷_, _++_, map}
 use native.Mathlib.Omega.{arith}
 use borrow.Author.Tests.{le-leb, eq-eqb}
 use lib.Dec.{eqb}
-use lib.ListN.{length, take}
+use lib.ListN.{length}
+use Rattle.plan.specs.declared.Version.the-variants.{V19}
 use Rattle.plan.specs.declared.Counts.{Counts}
 use Rattle.plan.specs.declared.Refusal.{Refusal}
 use Rattle.plan.specs.declared.Written.the-variants as written
 use Rattle.plan.specs.declared.Made.the-variants as made
 use Rattle.plan.specs.declared.Stepped.the-variants as stepped
 use Rattle.plan.specs.Refusals.{firstOf}
-use Rattle.plan.specs.Circuit.{Circuit, Tables, Lent, countsOf, wordsToWork, against, short, lengthsOf, cleared}
+use Rattle.plan.specs.Circuit.{Circuit, Tables, countsOf, wordsToWork, against, short, lengthsOf, cleared}
 use Rattle.plan.specs.Text.{textOf}
 use Rattle.plan.specs.Binary.{binaryOf, binaryOrder}
 use Rattle.plan.specs.Tail.{TailOk}
@@ -25,25 +26,20 @@ use Rattle.plan.specs.Convert.{convert}
 use Rattle.plan.specs.Reduce.{reduce}
 use Rattle.plan.specs.Step.{codeOf, valueOf, outputsOf, nextOf, witnessed}
 use Rattle.plan.specs.Outcome.{FileEntry, writtenBy, writeText, writeBinary, madeBy, conversion, reduction, allCodes, StepEntry, stepStage, steppedBy, step, WitnessEntry, verdictBy, listStage, witness}
-use Rattle.theorems.proofs.Reading.Short.{AllLong, short-none}
+use Rattle.theorems.proofs.Reading.Short.{short-none, long-both}
 use Rattle.theorems.proofs.Reading.Tails.{tail-exactly}
 use Rattle.theorems.proofs.Writing.Nothing.{both-first}
 use Rattle.theorems.proofs.Writing.Fine.{nothing-fine, fine-nothing}
 use Rattle.theorems.proofs.Writing.Holding.{formed-fine}
 use Rattle.theorems.proofs.Writing.Later.{Left}
 
--- tables of two lists are long enough if those of each are
-long-both : (xs ys : List Lent) → AllLong xs → AllLong ys → AllLong (xs ++ ys)
-long-both [] ys h k = k
-long-both (x ∷ xs) ys h k = (h .0, long-both xs ys (h .1) k)
-
 module _ (g : Given) (c : Circuit) (l : Left g c) where
   well : WellFormed c
   well = subst WellFormed (l .holds) (nothing-fine g (lentAlone g) (l .fine) .formed)
 
-  tail-passes : (tail : List ℕ) → TailOk (countsOf c) tail → tailStage g tail ≡ none
+  tail-passes : (tail : List ℕ) → TailOk V19 (countsOf c) tail → tailStage g tail ≡ none
   tail-passes tail t =
-      let r = tail-exactly tail (g .counts) 0 .1 (subst (λ (n : Counts). TailOk n tail) (sym (l .counts)) t) in
+      let r = tail-exactly V19 tail (g .counts) 0 .1 (subst (λ (n : Counts). TailOk V19 n tail) (sym (l .counts)) t) in
       ap refusalOf (r .2)
 
   room-passes : (out bytes : List ℕ) → length bytes ≤ length out → roomStage out bytes ≡ none
@@ -53,7 +49,7 @@ module _ (g : Given) (c : Circuit) (l : Left g c) where
   order-passes o = let e : binaryOrder (given g) ≡ true = ap binaryOrder (l .holds) ∙ o in rw e
 
   -- the writers
-  module _ (tail out : List ℕ) (t : TailOk (countsOf c) tail) where
+  module _ (tail out : List ℕ) (t : TailOk V19 (countsOf c) tail) where
     abbrev entry : FileEntry
     entry = record { circuit = g; tail = tail; out = out }
 
@@ -81,12 +77,12 @@ module _ (g : Given) (c : Circuit) (l : Left g c) where
         ∙ ap (λ (x : List ℕ). written.Bytes (length x)) same
 
   -- conversion and reduction
-  module _ (t : Tables) (long : short (against 1 (take 4 (wordsToWork (countsOf c))) (lengthsOf t)) ≡ none) where
+  module _ (t : Tables) (long : short (against 1 (wordsToWork (countsOf c)) (lengthsOf t (g .scratch))) ≡ none) where
     both-long : firstOf (stages g (lentWith g t)) ≡ none
     both-long =
         let own = short-none (lentAlone g) .0 (nothing-fine g (lentAlone g) (l .fine) .room) in
-        let lent = against 1 (take 4 (wordsToWork (g .counts))) (lengthsOf t) in
-        let more = short-none lent .0 (ap (λ (n : Counts). short (against 1 (take 4 (wordsToWork n)) (lengthsOf t))) (l .counts) ∙ long) in
+        let lent = against 1 (wordsToWork (g .counts)) (lengthsOf t (g .scratch)) in
+        let more = short-none lent .0 (ap (λ (n : Counts). short (against 1 (wordsToWork n) (lengthsOf t (g .scratch)))) (l .counts) ∙ long) in
         let all = short-none (lentAlone g ++ lent) .1 (long-both (lentAlone g) lent own more) in
         fine-nothing g (lentWith g t) (formed-fine g (lentWith g t) c (l .holds) (l .counts) well all)
 

@@ -4,6 +4,7 @@ use mathlib.Core.Path.{_≡_, sym, ap, ap₂, _∙_, subst}
 use mathlib.Core.Bool.{true}
 use mathlib.Core.List.{List, [], _∷_, _++_}
 use lib.ListN.{length, take, drop}
+use Rattle.plan.specs.declared.Version.the-variants.{V19}
 use Rattle.plan.specs.declared.Counts.{Counts}
 use Rattle.plan.specs.declared.Loaded.the-variants as loaded
 use Rattle.plan.specs.declared.Made.the-variants as made
@@ -13,7 +14,7 @@ use Rattle.plan.specs.Circuit.{Circuit, circuitOf, lengthsOf}
 use Rattle.plan.specs.Header.{Head, text, binary, header}
 use Rattle.plan.specs.Text.{textOf}
 use Rattle.plan.specs.Binary.{binaryOf, binaryOrder}
-use Rattle.plan.specs.Reading.{WellFormed, States}
+use Rattle.plan.specs.Reading.{WellFormed, States, Shortest}
 use Rattle.plan.specs.Given.{Given, given}
 use Rattle.plan.specs.Convert.{convert}
 use Rattle.plan.specs.Reduce.{reduce}
@@ -23,11 +24,11 @@ use Rattle.theorems.proofs.Reading.Differences.{Bytes}
 use Rattle.theorems.proofs.Reading.Exactly.{sound, formed, unique}
 use Rattle.theorems.proofs.Running.Monotone.{Replaced, Kept}
 use Rattle.theorems.proofs.Running.Runs.{Sized}
-use Rattle.theorems.proofs.Running.WithoutX.{NoXs}
+use Rattle.theorems.proofs.Running.WithoutX.{NoX, NoXs}
 use Rattle.theorems.proofs.Running.Unchanged.{convert-same}
 use Rattle.theorems.proofs.Running.DemandThree.{demand-three}
 use Rattle.theorems.proofs.Writing.Written.{text-bytes, text-states, binary-bytes, binary-states}
-use Rattle.theorems.proofs.Writing.ThereAndBack.{binary-stated, text-stated}
+use Rattle.theorems.proofs.Writing.ThereAndBack.{binary-stated, binary-shortest, text-shortest}
 use Rattle.theorems.proofs.Writing.Later.{load-left, conversion-left, reduction-left}
 
 -- an accepted read, of bytes; an accepted conversion or reduction; an accepted write
@@ -75,15 +76,15 @@ from-made : (f : MakeEntry → MakeExit) (g : Given) (m : MakeCall f) → FromMa
 from-made f g m h = ap₂ circuitOf (h .0) (h .1)
 
 -- what each leaves
-pub read-states : (r : ReadCall) → States (r .entry .file) (readCircuit r) (readTail r)
+pub read-states : (r : ReadCall) → States V19 (r .entry .file) (readCircuit r) (readTail r)
 read-states r =
     let e = r .entry in
     let l = load-left e (r .bytes) (r .counts) (r .start) (r .accepted) in
-    let s = sound (e .file) (lengthsOf (e .tables) ++ (length (e .scratch) ∷ [])) (r .bytes) (l .0) (r .start) (l .1) in
-    subst (λ (c : Circuit). States (e .file) c (readTail r)) (sym (l .2 .holds)) (s .0)
+    let s = sound V19 (e .file) (lengthsOf (e .tables) (e .scratch)) (r .bytes) (l .0) (r .start) (l .1) in
+    subst (λ (c : Circuit). States V19 (e .file) c (readTail r)) (sym (l .2 .holds)) (s .0)
 
 pub read-formed : (r : ReadCall) → WellFormed (readCircuit r)
-read-formed r = formed (r .entry .file) (readCircuit r) (readTail r) (read-states r)
+read-formed r = formed V19 (r .entry .file) (readCircuit r) (readTail r) (read-states r)
 
 pub converted-is : (m : MakeCall conversion) → madeCircuit conversion m ≡ convert (given (m .entry .circuit))
 converted-is m = conversion-left (m .entry) (m .counts) (m .accepted) .0 .holds
@@ -92,15 +93,16 @@ pub reduced-is : (m : MakeCall reduction) → madeCircuit reduction m ≡ reduce
 reduced-is m = reduction-left (m .entry) (m .counts) (m .accepted) .0 .holds
 
 -- a file that states a circuit and a tail, read: the same circuit and tail
-read-same : (file : List ℕ) (c : Circuit) (tail : List ℕ) → States file c tail → (r : ReadCall) → r .entry .file ≡ file
+read-same : (file : List ℕ) (c : Circuit) (tail : List ℕ) → States V19 file c tail → (r : ReadCall) → r .entry .file ≡ file
     → (readCircuit r ≡ c) × (readTail r ≡ tail)
 read-same file c tail s r e =
-    let u = unique file c (readCircuit r) tail (readTail r) s
-    (subst (λ (x : List ℕ). States x (readCircuit r) (readTail r)) e (read-states r)) in
+    let u = unique V19 file c (readCircuit r) tail (readTail r) s
+    (subst (λ (x : List ℕ). States V19 x (readCircuit r) (readTail r)) e (read-states r)) in
     (sym (u .0), sym (u .1))
 
--- the same bytes there and back
-module _ (r : ReadCall) (h : Head) (at : ℕ) (head : header (r .entry .file) 0 ≡ got h at) where
+-- the same bytes there and back, of a file in the shortest form
+module _ (r : ReadCall) (h : Head) (at : ℕ) (head : header V19 (r .entry .file) 0 ≡ got h at)
+    (short : Shortest (r .entry .file) (readCircuit r) (readTail r)) where
   -- a binary file, read, written as text, read, converted and written as binary
   pub binary-through-text : h .form ≡ binary
       → (t : WriteCall writeText) → FromRead (t .entry .circuit) r → t .entry .tail ≡ readTail r
@@ -109,15 +111,16 @@ module _ (r : ReadCall) (h : Head) (at : ℕ) (head : header (r .entry .file) 0 
       → (b : WriteCall writeBinary) → FromMade conversion (b .entry .circuit) m → b .entry .tail ≡ readTail r′
       → fileOf writeBinary b ≡ r .entry .file
   binary-through-text form t t-given t-tail r′ r′-file m m-given b b-given b-tail =
-      let f = binary-stated (r .entry .file) (readCircuit r) (readTail r) h at head form (read-states r) in
+      let f = binary-shortest (r .entry .file) (readCircuit r) (readTail r) h at head form short in
+      let order = binary-stated (r .entry .file) (readCircuit r) (readTail r) h at head form (read-states r) in
       let same = read-same (fileOf writeText t) (given (t .entry .circuit)) (t .entry .tail)
       (text-states (t .entry) (t .size) (t .accepted)) r′ r′-file in
       let c-is : readCircuit r′ ≡ readCircuit r = same .0 ∙ from-read (t .entry .circuit) r t-given in
       let converted : given (b .entry .circuit) ≡ readCircuit r
       = from-made conversion (b .entry .circuit) m b-given ∙ (converted-is m
-      ∙ (ap convert (from-read (m .entry .circuit) r′ m-given ∙ c-is) ∙ convert-same (readCircuit r) (read-formed r) (f .1))) in
+      ∙ (ap convert (from-read (m .entry .circuit) r′ m-given ∙ c-is) ∙ convert-same (readCircuit r) (read-formed r) order)) in
       binary-bytes (b .entry) (b .size) (b .accepted)
-      ∙ (ap₂ (λ (x : Circuit) (y : List ℕ). binaryOf x ++ y) converted (b-tail ∙ (same .1 ∙ t-tail)) ∙ sym (f .0))
+      ∙ (ap₂ (λ (x : Circuit) (y : List ℕ). binaryOf x ++ y) converted (b-tail ∙ (same .1 ∙ t-tail)) ∙ sym f)
 
   -- a text file in binary order, read, converted, written as binary, read and written as text
   pub text-through-binary : h .form ≡ text → binaryOrder (readCircuit r) ≡ true
@@ -127,7 +130,7 @@ module _ (r : ReadCall) (h : Head) (at : ℕ) (head : header (r .entry .file) 0 
       → (t : WriteCall writeText) → FromRead (t .entry .circuit) r′ → t .entry .tail ≡ readTail r′
       → fileOf writeText t ≡ r .entry .file
   text-through-binary form order m m-given b b-given b-tail r′ r′-file t t-given t-tail =
-      let f = text-stated (r .entry .file) (readCircuit r) (readTail r) h at head form (read-states r) in
+      let f = text-shortest (r .entry .file) (readCircuit r) (readTail r) h at head form short in
       let converted : given (b .entry .circuit) ≡ readCircuit r
       = from-made conversion (b .entry .circuit) m b-given ∙ (converted-is m
       ∙ (ap convert (from-read (m .entry .circuit) r m-given) ∙ convert-same (readCircuit r) (read-formed r) order)) in
@@ -137,17 +140,17 @@ module _ (r : ReadCall) (h : Head) (at : ℕ) (head : header (r .entry .file) 0 
       ∙ (ap₂ (λ (x : Circuit) (y : List ℕ). textOf x ++ y) (from-read (t .entry .circuit) r′ t-given ∙ (same .0 ∙ converted))
       (t-tail ∙ (same .1 ∙ b-tail)) ∙ sym f)
 
--- demand 3 of a read, a conversion and a reduction: whatever replaces x, at every step each output and each latch, before and after,
--- that was 0 or 1 is the same; without x so is every step
+-- demand 3 of a read, a conversion and a reduction: whatever replaces x, at every step each output, bad state, constraint and
+-- latch, before and after, that was 0 or 1 is the same; without x in the list and the resets so is every step
 pub demand-three-calls : (r : ReadCall) (m : MakeCall conversion) → FromRead (m .entry .circuit) r
     → (s : MakeCall reduction) → FromMade conversion (s .entry .circuit) m
     → (is js : List (List Value)) → Sized (length (readCircuit r .inputs)) is → Replaced is js
     → Kept (run (readCircuit r) (first (readCircuit r)) is) (run (madeCircuit reduction s) (first (madeCircuit reduction s)) js)
-    × (NoXs is → run (readCircuit r) (first (readCircuit r)) is ≡ run (madeCircuit reduction s) (first (madeCircuit reduction s)) js)
+    × (NoXs is → NoX (first (readCircuit r)) → run (readCircuit r) (first (readCircuit r)) is ≡ run (madeCircuit reduction s) (first (madeCircuit reduction s)) js)
 demand-three-calls r m m-given s s-given is js sized replaced =
     let c = readCircuit r in
     let d-is : reduce (convert c) ≡ madeCircuit reduction s
     = sym (reduced-is s ∙ ap reduce (from-made conversion (s .entry .circuit) m s-given
     ∙ (converted-is m ∙ ap convert (from-read (m .entry .circuit) r m-given)))) in
-    subst (λ (d : Circuit). Kept (run c (first c) is) (run d (first d) js) × (NoXs is → run c (first c) is ≡ run d (first d) js)) d-is
+    subst (λ (d : Circuit). Kept (run c (first c) is) (run d (first d) js) × (NoXs is → NoX (first c) → run c (first c) is ≡ run d (first d) js)) d-is
     (demand-three c (read-formed r) is js sized replaced)

@@ -7,6 +7,7 @@ use mathlib.Core.List.{List, [], _∷_, _++_}
 use native.Mathlib.Omega.{arith}
 use lib.Dec.{eqb, leb}
 use lib.ListN.{length, getD, drop}
+use Rattle.plan.specs.declared.Version.the-variants.{V19}
 use Rattle.plan.specs.declared.Class.{Class}
 use Rattle.plan.specs.declared.Class.the-variants.{Line, Space, Zero, Digit, Print, Rest}
 use Rattle.plan.specs.declared.Counts.{Counts}
@@ -18,7 +19,7 @@ use Rattle.plan.specs.Binary.{binaryOrder}
 use Rattle.plan.specs.Circuit.{short}
 use Rattle.plan.specs.Header.{text, listOf, over, adds}
 use Rattle.plan.specs.Depends.{undefinedIn, cyclicIn}
-use Rattle.plan.specs.Tail.{Symbol, isKind, fits, symbol, endsLine, tailFrom, tailAt}
+use Rattle.plan.specs.Tail.{Symbol, fits, symbol, endsLine, startsSymbol, tailFrom, tailAt}
 use Rattle.plan.specs.Given.{Given, given, lentAlone, counted, failing, outsideIn, twiceIn, stages, orderStage, refusalOf}
 
 -- a reading that refuses by a number other than 11
@@ -52,17 +53,17 @@ module _ (file : List ℕ) where
   abbrev spelled : ℕ → ℕ → ℕ → Symbol
   spelled at entry name-at = record { kind = getD file at 0; entry = entry; name = span nameClass (drop name-at file) }
 
-  other-tail : (n : Counts) (k : ℕ) (seen : List Symbol) (at : ℕ) → Other (tailFrom file n k seen at)
+  other-tail : (n : Counts) (k : ℕ) (seen : List Symbol) (at : ℕ) → Other (tailFrom V19 file n k seen at)
   other-tail n zero seen at = λ e. omega arith
   other-tail n (suc k) seen at =
       other-cond (leb (length file) at) _ _ tt
-      (other-cond (isKind (getD file at 0)) _ _
+      (other-cond (startsSymbol V19 file at) _ _
       (other-then (symbol file n seen at) _
       (other-then (number file (at + 1)) _ (other-number (at + 1)) (λ entry m1.
       other-then (expect file 32 m1) _ (other-expect 32 m1) (λ _ m2.
       other-then (expect file 10 _) _ (other-expect 10 _) (λ _ m3.
       other-cond (fits n seen (spelled at entry m2)) (got (spelled at entry m2) m3) (refused (BadSymbol at)) tt (λ e. omega arith)))))
-      (λ s m. other-then (tailFrom file n k (s ∷ seen) m) _ (other-tail n k (s ∷ seen) m) (λ ss l. tt)))
+      (λ s m. other-then (tailFrom V19 file n k (s ∷ seen) m) _ (other-tail n k (s ∷ seen) m) (λ ss l. tt)))
       (other-then (expect file 99 at) _ (other-expect 99 at) (λ _ m1.
       other-then (expect file 10 m1) _ (other-expect 10 m1)
       (λ _ m2. other-cond (endsLine file) (got [] (length file)) (refused (WrongByte (length file))) tt (λ e. omega arith)))))
@@ -80,8 +81,8 @@ other-stage : (r : ℕ → Refusal) → ((p : ℕ) → numberOf (r p) ≡ 11 →
 other-stage r h none = tt
 other-stage r h (some p) = h p
 
-pub other-tail-stage : (n : Counts) (tail : List ℕ) → OtherThan11 (refusalOf (tailAt tail n 0))
-other-tail-stage n tail = go (tailAt tail n 0) (other-tail tail n (suc (length tail)) [] 0)
+pub other-tail-stage : (n : Counts) (tail : List ℕ) → OtherThan11 (refusalOf (tailAt V19 tail n 0))
+other-tail-stage n tail = go (tailAt V19 tail n 0) (other-tail tail n (suc (length tail)) [] 0)
   where
     go : (p : Parse (List Symbol)) → Other p → OtherThan11 (refusalOf p)
     go (got ss end) h = tt

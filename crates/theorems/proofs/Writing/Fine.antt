@@ -57,6 +57,12 @@ module _ (g : Given) where
   outputs-least : length (c .outputs) ≤ n .O
   outputs-least = omega (arith, length-take (n .O) (g .tables .outputs))
 
+  bads-least : length (c .bads) ≤ n .B
+  bads-least = omega (arith, length-take (n .B) (g .tables .bads))
+
+  constraints-least : length (c .constraints) ≤ n .C
+  constraints-least = omega (arith, length-take (n .C) (g .tables .constraints))
+
   latches-are : length (c .latches) ≡ n .L
   latches-are = length-map (rowsOf 2 (n .L) (g .tables .latches)) latchOf ∙ length-rows 2 (n .L) (g .tables .latches)
 
@@ -64,14 +70,17 @@ module _ (g : Given) where
   gates-are = length-map (rowsOf 3 (n .A) (g .tables .gates)) gateOf ∙ length-rows 3 (n .A) (g .tables .gates)
 
   -- tables that are long enough hold as many entries as the counts say
-  pub counts-held : n .I ≤ length (g .tables .inputs) → n .O ≤ length (g .tables .outputs) → countsOf (given g) ≡ g .counts
-  counts-held i o =
+  pub counts-held : n .I ≤ length (g .tables .inputs) → n .O ≤ length (g .tables .outputs) → n .B ≤ length (g .tables .bads)
+      → n .C ≤ length (g .tables .constraints) → countsOf (given g) ≡ g .counts
+  counts-held i o b k =
       let few : length (c .inputs) ≡ n .I = length-take-le (n .I) (g .tables .inputs) i in
       let outs : length (c .outputs) ≡ n .O = length-take-le (n .O) (g .tables .outputs) o in
-      λ j. record { M = n .M; I = few j; L = latches-are j; O = outs j; A = gates-are j }
+      let bads : length (c .bads) ≡ n .B = length-take-le (n .B) (g .tables .bads) b in
+      let cons : length (c .constraints) ≡ n .C = length-take-le (n .C) (g .tables .constraints) k in
+      λ j. record { M = n .M; I = few j; L = latches-are j; O = outs j; A = gates-are j; B = bads j; C = cons j }
 
   pub counts-given : short (lentAlone g) ≡ none → countsOf (given g) ≡ g .counts
-  counts-given e = let l = short-none (lentAlone g) .0 e in counts-held (l .0) (l .1 .1 .0)
+  counts-given e = let l = short-none (lentAlone g) .0 e in counts-held (l .0) (l .1 .1 .0) (l .1 .1 .1 .1 .1 .1 .1 .0) (l .1 .1 .1 .1 .1 .1 .1 .1 .0)
 
 module _ (g : Given) (lent : List Lent) where
   pub nothing-fine : firstOf (stages g lent) ≡ none → Fine g lent
@@ -92,10 +101,15 @@ module _ (g : Given) (lent : List Lent) where
           most-L = omega (arith, small .1 .1 .0, latches-are g);
           most-O = omega (arith, small .1 .1 .1 .0, outputs-least g);
           most-A = omega (arith, small .1 .1 .1 .1 .0, gates-are g);
+          most-B = omega (arith, small .1 .1 .1 .1 .1 .0, bads-least g);
+          most-C = omega (arith, small .1 .1 .1 .1 .1 .1 .0, constraints-least g);
           sum = omega (arith, inputs-least g, latches-are g, gates-are g);
           inputs = i .inputs;
           latches = i .latches;
+          resets = i .resets;
           outputs = i .outputs;
+          bads = i .bads;
+          constraints = i .constraints;
           gates = i .gates;
           different = once-different (given g) (stage-none DefinedTwice (twiceIn (given g)) (s .1 .1 .1 .1 .0));
           defined = all-defined (zero ∷ definedIn (given g)) (usedIn (given g))
@@ -111,7 +125,15 @@ module _ (g : Given) (lent : List Lent) where
       = most-none (counted 1 (listOf (g .counts))) (subst AllMost (sym (counted-values 1 (listOf (g .counts)))) (f .small)) in
       let e3 : adds text (g .counts) ≡ true = le-leb _ _ (f .sum) in
       let e5 : outsideIn (given g) ≡ none
-      = inside-none (given g) (record { inputs = w .inputs; latches = w .latches; outputs = w .outputs; gates = w .gates }) in
+      = inside-none (given g) (record {
+        inputs = w .inputs;
+        latches = w .latches;
+        outputs = w .outputs;
+        gates = w .gates;
+        resets = w .resets;
+        bads = w .bads;
+        constraints = w .constraints;
+      }) in
       let e6 : twiceIn (given g) ≡ none = different-once (given g) (w .different) in
       let e7 : undefinedIn (given g) ≡ none = defined-none (zero ∷ definedIn (given g)) (usedIn (given g)) (w .defined) in
       let e8 : cyclicIn (given g) ≡ none = cycle-none (given g .gates) (given g .gates) (w .acyclic) in

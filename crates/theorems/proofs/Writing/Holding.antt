@@ -13,11 +13,20 @@ use Rattle.plan.specs.Given.{Given, given}
 use Rattle.theorems.proofs.Held.{starts-circuit}
 use Rattle.theorems.proofs.Reading.Headers.{AllMost}
 use Rattle.theorems.proofs.Reading.Exactly.{all-most}
+use Rattle.theorems.proofs.Running.Resets.{resets-length}
 use Rattle.theorems.proofs.Writing.Fine.{Fine}
 
-pub holding-circuit : (t : Tables) (c : Circuit) → circuitOf (countsOf c) (holding t c) ≡ c
-holding-circuit t c =
-    starts-circuit (holding t c) c (record { inputs = (_, refl); latches = (_, refl); outputs = (_, refl); gates = (_, refl) })
+pub holding-circuit : (t : Tables) (c : Circuit) → WellFormed c → circuitOf (countsOf c) (holding t c) ≡ c
+holding-circuit t c w =
+    starts-circuit (holding t c) c (resets-length (c .latches) (c .resets) (w .resets)) (record {
+      inputs = (_, refl);
+      latches = (_, refl);
+      outputs = (_, refl);
+      gates = (_, refl);
+      resets = (_, refl);
+      bads = (_, refl);
+      constraints = (_, refl);
+    })
 
 -- the words of latches and gates
 pub length-latch-words : (ls : List Latch) → length (flat (map latchLine ls)) ≡ 2 * length ls
@@ -33,15 +42,18 @@ pub length-filled : (table words : List ℕ) → length words ≤ length table �
 length-filled table words h =
     omega (arith, length-append words (replicate (length table - length words) 0), length-replicate {A = ℕ} (length table - length words) 0)
 
--- four tables are long enough for a circuit
+-- the tables are long enough for a circuit
 pub record Enough (c : Circuit) (t : Tables) : Type 0 where
   pub inputs : length (c .inputs) ≤ length (t .inputs)
   pub latches : 2 * length (c .latches) ≤ length (t .latches)
   pub outputs : length (c .outputs) ≤ length (t .outputs)
   pub gates : 3 * length (c .gates) ≤ length (t .gates)
+  pub resets : length (c .resets) ≤ length (t .resets)
+  pub bads : length (c .bads) ≤ length (t .bads)
+  pub constraints : length (c .constraints) ≤ length (t .constraints)
 
-pub holding-lengths : (t : Tables) (c : Circuit) → Enough c t → lengthsOf (holding t c) ≡ lengthsOf t
-holding-lengths t c h = λ i. ins i ∷ lats i ∷ outs i ∷ gs i ∷ []
+pub holding-lengths : (t : Tables) (c : Circuit) (scratch : List ℕ) → Enough c t → lengthsOf (holding t c) scratch ≡ lengthsOf t scratch
+holding-lengths t c scratch h = λ i. ins i ∷ lats i ∷ outs i ∷ gs i ∷ length scratch ∷ 0 ∷ rs i ∷ bs i ∷ cs i ∷ []
   where
     ins : length (holding t c .inputs) ≡ length (t .inputs)
     ins = length-filled (t .inputs) (c .inputs) (h .inputs)
@@ -51,6 +63,15 @@ holding-lengths t c h = λ i. ins i ∷ lats i ∷ outs i ∷ gs i ∷ []
 
     outs : length (holding t c .outputs) ≡ length (t .outputs)
     outs = length-filled (t .outputs) (c .outputs) (h .outputs)
+
+    rs : length (holding t c .resets) ≡ length (t .resets)
+    rs = length-filled (t .resets) (c .resets) (h .resets)
+
+    bs : length (holding t c .bads) ≡ length (t .bads)
+    bs = length-filled (t .bads) (c .bads) (h .bads)
+
+    cs : length (holding t c .constraints) ≡ length (t .constraints)
+    cs = length-filled (t .constraints) (c .constraints) (h .constraints)
 
     gs : length (holding t c .gates) ≡ length (t .gates)
     gs = length-filled (t .gates) (flat (map gateLine (c .gates))) (omega (arith, h .gates, length-gate-words (c .gates)))

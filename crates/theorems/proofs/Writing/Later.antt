@@ -7,6 +7,7 @@ use mathlib.Core.Option.{Option, none, some}
 use mathlib.Core.List.{List, [], _∷_, _++_}
 use native.Mathlib.Omega.{arith}
 use lib.ListN.{length, length-replicate}
+use Rattle.plan.specs.declared.Version.the-variants.{V19}
 use Rattle.plan.specs.declared.Counts.{Counts}
 use Rattle.plan.specs.declared.Refusal.{Refusal}
 use Rattle.plan.specs.declared.Refusal.the-variants.{NotInOrder}
@@ -14,7 +15,7 @@ use Rattle.plan.specs.declared.Loaded.the-variants as loaded
 use Rattle.plan.specs.declared.Checked.the-variants as checked
 use Rattle.plan.specs.declared.Made.the-variants as made
 use Rattle.plan.specs.Refusals.{Parse, got, refused, firstOf}
-use Rattle.plan.specs.Circuit.{Circuit, Tables, countsOf, wordsToRead, against, short, lengthsOf, holding, cleared}
+use Rattle.plan.specs.Circuit.{Circuit, Tables, countsOf, wordsToRead, wordsToWork, against, short, lengthsOf, holding, cleared}
 use Rattle.plan.specs.Reading.{readFile, WellFormed, Room}
 use Rattle.plan.specs.Binary.{binaryOrder}
 use Rattle.plan.specs.Given.{Given, given, lentAlone, lentWith, failing, stages, orderStage}
@@ -23,9 +24,10 @@ use Rattle.plan.specs.Reduce.{reduce}
 use Rattle.plan.specs.Outcome.{ReadEntry, loadBy, load, checkedBy, check, checkInOrder, MakeEntry, madeBy, conversion, reduction}
 use Rattle.theorems.proofs.Reading.Differences.{Bytes}
 use Rattle.theorems.proofs.Reading.Exactly.{sound, formed}
-use Rattle.theorems.proofs.Reading.Short.{short-none}
+use Rattle.theorems.proofs.Reading.Short.{short-none, first-long, last-long}
 use Rattle.theorems.proofs.Running.Counts.{counts-convert, counts-reduce}
 use Rattle.theorems.proofs.Running.Results.{convert-well-formed, convert-in-order, reduce-well-formed, reduce-in-order, reduce-fewer}
+use Rattle.theorems.proofs.Running.Resets.{resets-length}
 use Rattle.theorems.proofs.Writing.Nothing.{stage-none, failing-none, first-all, first-both, both-first}
 use Rattle.theorems.proofs.Writing.Fine.{Fine, counts-given, nothing-fine, fine-nothing}
 use Rattle.theorems.proofs.Writing.Holding.{Enough, holding-circuit, holding-lengths, formed-fine}
@@ -50,38 +52,50 @@ module _ (c : Circuit) (t : Tables) (scratch : List ℕ) where
   after = record { counts = countsOf c; tables = holding t c; scratch = cleared scratch }
 
   -- the tables are as long as they were
-  after-room : Room c (lengthsOf t ++ (length scratch ∷ [])) → short (lentAlone after) ≡ none
-  after-room room =
-      let l = short-none (against 1 (wordsToRead (countsOf c)) (lengthsOf t ++ (length scratch ∷ []))) .0 room in
-      let enough : Enough c t = record { inputs = l .0; latches = l .1 .0; outputs = l .1 .1 .0; gates = l .1 .1 .1 .0 } in
-      ap₂ (λ (x : List ℕ) (y : ℕ). short (against 1 (wordsToRead (countsOf c)) (x ++ (y ∷ [])))) (holding-lengths t c enough)
-      (length-replicate {A = ℕ} (length scratch) 0)
+  after-room : WellFormed c → Room c (lengthsOf t scratch) → short (lentAlone after) ≡ none
+  after-room w room =
+      let l = short-none (against 1 (wordsToRead (countsOf c)) (lengthsOf t scratch)) .0 room in
+      let enough : Enough c t = record {
+        inputs = l .0;
+        latches = l .1 .0;
+        outputs = l .1 .1 .0;
+        gates = l .1 .1 .1 .0;
+        resets = omega (arith, l .1 .1 .1 .1 .1 .1 .0, resets-length (c .latches) (c .resets) (w .resets));
+        bads = l .1 .1 .1 .1 .1 .1 .1 .0;
+        constraints = l .1 .1 .1 .1 .1 .1 .1 .1 .0;
+      } in
+      ap (λ (x : List ℕ). short (against 1 (wordsToRead (countsOf c)) x))
+      (holding-lengths t c (cleared scratch) enough ∙ same-length (length-replicate {A = ℕ} (length scratch) 0))
       ∙ room
+    where
+      same-length : length (cleared scratch) ≡ length scratch → lengthsOf t (cleared scratch) ≡ lengthsOf t scratch
+      same-length e = λ i. length (t .inputs) ∷ length (t .latches) ∷ length (t .outputs) ∷ length (t .gates) ∷ e i ∷ 0
+          ∷ length (t .resets) ∷ length (t .bads) ∷ length (t .constraints) ∷ []
 
-  left : WellFormed c → Room c (lengthsOf t ++ (length scratch ∷ [])) → Left after c
+  left : WellFormed c → Room c (lengthsOf t scratch) → Left after c
   left w room = record {
-    holds = holding-circuit t c;
+    holds = holding-circuit t c w;
     counts = refl;
-    fine = fine-nothing after (lentAlone after) (formed-fine after (lentAlone after) c (holding-circuit t c) refl w (after-room room));
+    fine = fine-nothing after (lentAlone after) (formed-fine after (lentAlone after) c (holding-circuit t c w) refl w (after-room w room));
   }
 
 -- after reading
 pub load-left : (e : ReadEntry) → Bytes (e .file) → (n : Counts) (start : ℕ) → load e .answer ≡ loaded.Accepted n start
-    → (c : Circuit) × (readFile (e .file) (lengthsOf (e .tables) ++ (length (e .scratch) ∷ [])) ≡ got c start)
+    → (c : Circuit) × (readFile V19 (e .file) (lengthsOf (e .tables) (e .scratch)) ≡ got c start)
     × Left (record { counts = n; tables = load e .tables; scratch = load e .scratch }) c
-load-left e bytes n start a = go (readFile (e .file) (lengthsOf (e .tables) ++ (length (e .scratch) ∷ []))) refl a
+load-left e bytes n start a = go (readFile V19 (e .file) (lengthsOf (e .tables) (e .scratch))) refl a
   where
-    go : (p : Parse Circuit) → readFile (e .file) (lengthsOf (e .tables) ++ (length (e .scratch) ∷ [])) ≡ p
+    go : (p : Parse Circuit) → readFile V19 (e .file) (lengthsOf (e .tables) (e .scratch)) ≡ p
         → loadBy e p .answer ≡ loaded.Accepted n start
         → (c : Circuit) × (p ≡ got c start) × Left (record { counts = n; tables = loadBy e p .tables; scratch = loadBy e p .scratch }) c
     go (got c s) q a =
         let n-is : countsOf c ≡ n = cc in
         let s-is : s ≡ start = cc in
-        let r = sound (e .file) (lengthsOf (e .tables) ++ (length (e .scratch) ∷ [])) bytes c s q in (
+        let r = sound V19 (e .file) (lengthsOf (e .tables) (e .scratch)) bytes c s q in (
           c,
           ap (got c) s-is,
           subst (λ (x : Counts). Left (record { counts = x; tables = holding (e .tables) c; scratch = cleared (e .scratch) }) c) n-is
-              (left c (e .tables) (e .scratch) (formed (e .file) c _ (r .0)) (r .1)),
+              (left c (e .tables) (e .scratch) (formed V19 (e .file) c _ (r .0)) (r .1)),
         )
     go (refused r) q a = let z : _≡_ {A = ℕ} 0 1 = cc in absurd (omega arith)
 
@@ -96,22 +110,27 @@ module _ (e : MakeEntry) (f : firstOf (stages (e .circuit) (lentWith (e .circuit
   counts-are : countsOf (given g) ≡ g .counts
   counts-are =
       let l = short-none (lentWith g (e .written)) .0 (fine .room) in
-      counts-given g (short-none (lentAlone g) .1 (l .0, (l .1 .0, (l .1 .1 .0, (l .1 .1 .1 .0, (l .1 .1 .1 .1 .0, tt))))))
+      counts-given g (short-none (lentAlone g) .1 (first-long (lentAlone g) (against 1 (wordsToWork (g .counts)) (lengthsOf (e .written) (g .scratch))) l))
 
-  -- of a circuit with the same I, L and O, and M and A no larger
+  -- of a circuit with the same I, L, O, B and C, and M and A no larger
   room-for : (c : Circuit) → c .M ≤ g .counts .M → length (c .inputs) ≡ g .counts .I → length (c .latches) ≡ g .counts .L
-      → length (c .outputs) ≡ g .counts .O → length (c .gates) ≤ g .counts .A
-      → Room c (lengthsOf (e .written) ++ (length (g .scratch) ∷ []))
-  room-for c m i l o a =
+      → length (c .outputs) ≡ g .counts .O → length (c .gates) ≤ g .counts .A → length (c .bads) ≡ g .counts .B
+      → length (c .constraints) ≡ g .counts .C
+      → Room c (lengthsOf (e .written) (g .scratch))
+  room-for c m i l o a b k =
       let r = short-none (lentWith g (e .written)) .0 (fine .room) in
-      let s = r .1 .1 .1 .1 in
-      let h1 : length (c .inputs) ≤ length (e .written .inputs) = omega (arith, s .1 .0) in
-      let h2 : 2 * length (c .latches) ≤ length (e .written .latches) = omega (arith, s .1 .1 .0) in
-      let h3 : length (c .outputs) ≤ length (e .written .outputs) = omega (arith, s .1 .1 .1 .0) in
-      let h4 : 3 * length (c .gates) ≤ length (e .written .gates) = omega (arith, s .1 .1 .1 .1 .0) in
-      let h5 : 4 * (c .M + 1) + length (c .outputs) ≤ length (g .scratch) = omega (arith, s .0) in
-      short-none (against 1 (wordsToRead (countsOf c)) (lengthsOf (e .written) ++ (length (g .scratch) ∷ []))) .1
-      (h1, (h2, (h3, (h4, (h5, tt)))))
+      let s = last-long (lentAlone g) (against 1 (wordsToWork (g .counts)) (lengthsOf (e .written) (g .scratch))) r in
+      let h1 : length (c .inputs) ≤ length (e .written .inputs) = omega (arith, s .0) in
+      let h2 : 2 * length (c .latches) ≤ length (e .written .latches) = omega (arith, s .1 .0) in
+      let h3 : length (c .outputs) ≤ length (e .written .outputs) = omega (arith, s .1 .1 .0) in
+      let h4 : 3 * length (c .gates) ≤ length (e .written .gates) = omega (arith, s .1 .1 .1 .0) in
+      let h5 : 4 * (c .M + 1) + length (c .outputs) + length (c .bads) + length (c .constraints) ≤ length (g .scratch)
+      = omega (arith, s .1 .1 .1 .1 .0) in
+      let h7 : length (c .latches) ≤ length (e .written .resets) = omega (arith, s .1 .1 .1 .1 .1 .1 .0) in
+      let h8 : length (c .bads) ≤ length (e .written .bads) = omega (arith, s .1 .1 .1 .1 .1 .1 .1 .0) in
+      let h9 : length (c .constraints) ≤ length (e .written .constraints) = omega (arith, s .1 .1 .1 .1 .1 .1 .1 .1 .0) in
+      short-none (against 1 (wordsToRead (countsOf c)) (lengthsOf (e .written) (g .scratch))) .1
+      (h1, (h2, (h3, (h4, (h5, (omega arith, (h7, (h8, (h9, tt)))))))))
 
 made-left : (o : Option Refusal) (e : MakeEntry) (c : Circuit) (n : Counts) → madeBy o e c .answer ≡ made.Accepted n
     → (o ≡ none → Left (after c (e .written) (e .circuit .scratch)) c)
@@ -136,6 +155,12 @@ outputsOf n = n .O
 abbrev gatesOf : Counts → ℕ
 gatesOf n = n .A
 
+abbrev badsOf : Counts → ℕ
+badsOf n = n .B
+
+abbrev constraintsOf : Counts → ℕ
+constraintsOf n = n .C
+
 pub conversion-left : (e : MakeEntry) (n : Counts) → conversion e .answer ≡ made.Accepted n
     → Left (record { counts = n; tables = conversion e .written; scratch = conversion e .scratch }) (convert (given (e .circuit)))
     × (binaryOrder (convert (given (e .circuit))) ≡ true)
@@ -153,7 +178,8 @@ conversion-left e n a =
         let q = counts-are e f in
         left (convert c) (e .written) (e .circuit .scratch) (convert-well-formed c w)
         (room-for e f (convert c) (omega (arith, w .sum)) (ap inputsOf k ∙ ap inputsOf q) (ap latchesOf k ∙ ap latchesOf q)
-        (ap outputsOf k ∙ ap outputsOf q) (omega (arith, ap gatesOf k, ap gatesOf q)))
+        (ap outputsOf k ∙ ap outputsOf q) (omega (arith, ap gatesOf k, ap gatesOf q)) (ap badsOf k ∙ ap badsOf q)
+        (ap constraintsOf k ∙ ap constraintsOf q))
 
 pub reduction-left : (e : MakeEntry) (n : Counts) → reduction e .answer ≡ made.Accepted n
     → Left (record { counts = n; tables = reduction e .written; scratch = reduction e .scratch }) (reduce (given (e .circuit)))
@@ -182,4 +208,5 @@ reduction-left e n a =
         let fewer = reduce-fewer c w t in
         left (reduce c) (e .written) (e .circuit .scratch) (reduce-well-formed c w t)
         (room-for e f (reduce c) (omega (arith, w .sum, fewer)) (ap inputsOf k ∙ ap inputsOf q) (ap latchesOf k ∙ ap latchesOf q)
-        (ap outputsOf k ∙ ap outputsOf q) (omega (arith, fewer, ap gatesOf q)))
+        (ap outputsOf k ∙ ap outputsOf q) (omega (arith, fewer, ap gatesOf q)) (ap badsOf k ∙ ap badsOf q)
+        (ap constraintsOf k ∙ ap constraintsOf q))

@@ -1,7 +1,7 @@
 -- Stages of checks that find nothing: each of them finds nothing; 5 and 6 over given tables find nothing exactly if all is in its range
 -- and each variable is defined once.
 use Prim.Native.Nat.{ℕ, _+_}
-use mathlib.Core.Path.{_≡_, refl, sym, ap₂, _∙_}
+use mathlib.Core.Path.{_≡_, refl, sym, ap, ap₂, _∙_}
 use mathlib.Core.Bool.{Bool, true, false, not, cond, _&&_}
 use mathlib.Core.Option.{Option, none, some}
 use mathlib.Core.List.{List, [], _∷_, _++_, map}
@@ -9,9 +9,9 @@ use native.Mathlib.Omega.{arith}
 use Rattle.plan.specs.declared.Refusal.{Refusal}
 use Rattle.plan.specs.Refusals.{stage, firstOf}
 use Rattle.plan.specs.Literals.{varOf, inRange}
-use Rattle.plan.specs.Circuit.{Circuit, oneLine, latchLine, gateLine, heads, vars, currents, lefts, definedIn, has, allNew, inside, allInside}
+use Rattle.plan.specs.Circuit.{Circuit, oneLine, latchLine, gateLine, heads, vars, currents, lefts, definedIn, has, allNew, inside, allInside, resetsOk}
 use Rattle.plan.specs.Bytes.{outside}
-use Rattle.plan.specs.Given.{placed, orElse, failing, outsideOf, outsideIn, twiceOf, twiceIn}
+use Rattle.plan.specs.Given.{placed, orElse, failingAt, failing, outsideOf, outsideIn, twiceOf, twiceIn}
 use Rattle.theorems.proofs.Reading.Rows.{Long, map-long, new-both}
 
 pub some-none : {A B : Type 0} (a : A) → _≡_ {A = Option A} (some a) none → B
@@ -22,9 +22,12 @@ pub stage-none : (r : ℕ → Refusal) (o : Option ℕ) → stage r o ≡ none �
 stage-none r none e = refl
 stage-none r (some k) e = some-none (r k) e
 
+pub at-none : (t : ℕ) (b : Bool) → failingAt t b ≡ none → b ≡ true
+at-none t true e = refl
+at-none t false e = some-none t e
+
 pub failing-none : (b : Bool) → failing b ≡ none → b ≡ true
-failing-none true e = refl
-failing-none false e = some-none 0 e
+failing-none b e = at-none 0 b e
 
 abbrev pub AllNone : List (Option Refusal) → Type 0
 AllNone [] = Unit {0}
@@ -93,17 +96,26 @@ pub record Inside (c : Circuit) : Type 0 where
   pub latches : allInside true (c .M) (map latchLine (c .latches)) ≡ true
   pub outputs : allInside false (c .M) (map oneLine (c .outputs)) ≡ true
   pub gates : allInside true (c .M) (map gateLine (c .gates)) ≡ true
+  pub resets : resetsOk (c .latches) (c .resets) ≡ true
+  pub bads : allInside false (c .M) (map oneLine (c .bads)) ≡ true
+  pub constraints : allInside false (c .M) (map oneLine (c .constraints)) ≡ true
 
 pub none-inside : (c : Circuit) → outsideIn c ≡ none → Inside c
 none-inside c e =
     let h1 = or-none _ _ e in
     let h2 = or-none _ _ (h1 .1) in
     let h3 = or-none _ _ (h2 .1) in
+    let h4 = or-none _ _ (h3 .1) in
+    let h7 = or-none _ _ (h4 .1) in
+    let h8 = or-none _ _ (h7 .1) in
     record {
       inputs = rows-inside 1 true (c .M) (map oneLine (c .inputs)) (h1 .0);
       latches = rows-inside 2 true (c .M) (map latchLine (c .latches)) (h2 .0);
       outputs = rows-inside 3 false (c .M) (map oneLine (c .outputs)) (h3 .0);
-      gates = rows-inside 4 true (c .M) (map gateLine (c .gates)) (h3 .1);
+      gates = rows-inside 4 true (c .M) (map gateLine (c .gates)) (h4 .0);
+      resets = at-none 7 (resetsOk (c .latches) (c .resets)) (h7 .0);
+      bads = rows-inside 8 false (c .M) (map oneLine (c .bads)) (h8 .0);
+      constraints = rows-inside 9 false (c .M) (map oneLine (c .constraints)) (h8 .1);
     }
 
 pub inside-none : (c : Circuit) → Inside c → outsideIn c ≡ none
@@ -111,8 +123,11 @@ inside-none c h =
     ap₂ orElse (rows-place 1 true (c .M) (map oneLine (c .inputs)))
     (ap₂ orElse (rows-place 2 true (c .M) (map latchLine (c .latches)))
     (ap₂ orElse (rows-place 3 false (c .M) (map oneLine (c .outputs)))
-    (rows-place 4 true (c .M) (map gateLine (c .gates)))))
-    ∙ rw (h .inputs, h .latches, h .outputs, h .gates)
+    (ap₂ orElse (rows-place 4 true (c .M) (map gateLine (c .gates)))
+    (ap₂ orElse (ap (failingAt 7) (h .resets))
+    (ap₂ orElse (rows-place 8 false (c .M) (map oneLine (c .bads)))
+    (rows-place 9 false (c .M) (map oneLine (c .constraints))))))))
+    ∙ rw (h .inputs, h .latches, h .outputs, h .gates, h .bads, h .constraints)
 
 -- 6: lines that define a variable each
 none-new : (k t : ℕ) (seen : List ℕ) (rows : List (List ℕ)) → Long (1 + k) rows → twiceOf t seen rows ≡ none

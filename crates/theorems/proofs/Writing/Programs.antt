@@ -9,12 +9,13 @@ use native.Mathlib.Omega.{arith}
 use borrow.Author.Tests.{le-leb}
 use lib.ListN.{length, drop}
 use lib.Seq.{drop-append-seam}
+use Rattle.plan.specs.declared.Version.the-variants.{V19}
 use Rattle.plan.specs.declared.Counts.{Counts}
 use Rattle.plan.specs.Refusals.{got, _then_}
 use Rattle.plan.specs.Circuit.{Circuit, countsOf, wordsToRead, against, short}
 use Rattle.plan.specs.Binary.{binaryOf, binaryOrder}
 use Rattle.plan.specs.Tail.{TailOk}
-use Rattle.plan.specs.Reading.{readFile, WellFormed, States, asText, asBinary, Room}
+use Rattle.plan.specs.Reading.{readFile, WellFormed, States, shortBinary, Room}
 use Rattle.plan.specs.Convert.{convert}
 use Rattle.plan.specs.Reduce.{reduce}
 use Rattle.plan.specs.Programs.{lentWords, input, fitting, printed, reducer, stimulus, stepLines, tracer}
@@ -28,20 +29,26 @@ use Rattle.theorems.proofs.Running.Results.{convert-well-formed, conver
 use Rattle.theorems.proofs.Running.Counts.{counts-convert, counts-reduce, tail-convert, tail-reduce}
 use Rattle.theorems.proofs.Running.ReduceAgain.{reduce-again}
 use Rattle.theorems.proofs.Writing.Back.{binary-back}
-use Rattle.theorems.proofs.Writing.ThereAndBack.{BackAgain, states-back}
+use Rattle.theorems.proofs.Writing.ThereAndBack.{BackAgain, stated-tail, shortest-back}
 
--- a circuit with the same I, L and O, and M and A no larger, has room where the first has
-room-less : (n m : Counts) (lengths : List ℕ) → m .M ≤ n .M → m .I ≡ n .I → m .L ≡ n .L → m .O ≡ n .O → m .A ≤ n .A
+-- a circuit with the same I, L, O, B and C, and M and A no larger, has room where the first has
+room-less : (n m : Counts) (lengths : List ℕ) → m .M ≤ n .M → m .I ≡ n .I → m .L ≡ n .L → m .O ≡ n .O → m .A ≤ n .A → m .B ≡ n .B
+    → m .C ≡ n .C
     → short (against 1 (wordsToRead n) lengths) ≡ none → short (against 1 (wordsToRead m) lengths) ≡ none
-room-less n m lengths hm hi hl ho ha r =
+room-less n m lengths hm hi hl ho ha hb hc r =
     let l = short-none (against 1 (wordsToRead n) lengths) .0 r in
+    let h1 = l .1 .1 .1 .1 in
+    let h7 = h1 .1 .1 in
     short-none (against 1 (wordsToRead m) lengths) .1 (
       omega (arith, l .0),
       (
         omega (arith, l .1 .0),
         (
           omega (arith, l .1 .1 .0),
-          (omega (arith, l .1 .1 .1 .0), (omega (arith, l .1 .1 .1 .1 .0), tt)),
+          (
+            omega (arith, l .1 .1 .1 .0),
+            (omega (arith, h1 .0), (omega arith, (omega (arith, h7 .0), (omega (arith, h7 .1 .0), (omega (arith, h7 .1 .1 .0), tt))))),
+          ),
         ),
       ),
     )
@@ -51,40 +58,36 @@ module _ (c : Circuit) (w : WellFormed c) (lengths : List ℕ) (room : Room c le
   room-convert =
       let k = counts-convert c w in
       room-less (countsOf c) (countsOf (convert c)) lengths (w .sum) (ap (λ (n : Counts). n .I) k) (ap (λ (n : Counts). n .L) k)
-      (ap (λ (n : Counts). n .O) k) (omega (arith, ap (λ (n : Counts). n .A) k)) room
+      (ap (λ (n : Counts). n .O) k) (omega (arith, ap (λ (n : Counts). n .A) k)) (ap (λ (n : Counts). n .B) k) (ap (λ (n : Counts). n .C) k) room
 
   pub room-reduce : binaryOrder c ≡ true → Room (reduce c) lengths
   room-reduce t =
       let k = counts-reduce c in
       let fewer = reduce-fewer c w t in
       room-less (countsOf c) (countsOf (reduce c)) lengths (omega (arith, w .sum, fewer)) (ap (λ (n : Counts). n .I) k)
-      (ap (λ (n : Counts). n .L) k) (ap (λ (n : Counts). n .O) k) fewer room
-
-stated-tail : (file : List ℕ) (c : Circuit) (tail : List ℕ) → States file c tail → TailOk (countsOf c) tail
-stated-tail file c tail (asText e w t) = t
-stated-tail file c tail (asBinary e o w t) = t
+      (ap (λ (n : Counts). n .L) k) (ap (λ (n : Counts). n .O) k) fewer (ap (λ (n : Counts). n .B) k) (ap (λ (n : Counts). n .C) k) room
 
 -- of an accepted file
-module _ (file lengths : List ℕ) (bytes : Bytes file) (c : Circuit) (start : ℕ) (accepted : readFile file lengths ≡ got c start) where
+module _ (file lengths : List ℕ) (bytes : Bytes file) (c : Circuit) (start : ℕ) (accepted : readFile V19 file lengths ≡ got c start) where
   abbrev tail : List ℕ
   tail = drop start file
 
   abbrev less : Circuit
   less = reduce (convert c)
 
-  stated : States file c tail × Room c lengths
-  stated = sound file lengths bytes c start accepted
+  stated : States V19 file c tail × Room c lengths
+  stated = sound V19 file lengths bytes c start accepted
 
   well : WellFormed c
-  well = formed file c tail (stated .0)
+  well = formed V19 file c tail (stated .0)
 
-  tail-ok : TailOk (countsOf (convert c)) tail
-  tail-ok = tail-convert c tail (stated-tail file c tail (stated .0))
+  tail-ok : TailOk V19 (countsOf (convert c)) tail
+  tail-ok = tail-convert V19 c tail (stated-tail file c tail (stated .0))
 
   room : Room (convert c) lengths
   room = room-convert c well lengths (stated .1)
 
-  pub converted-accepted : readFile (binaryOf (convert c) ++ tail) lengths ≡ got (convert c) (length (binaryOf (convert c)))
+  pub converted-accepted : readFile V19 (binaryOf (convert c) ++ tail) lengths ≡ got (convert c) (length (binaryOf (convert c)))
   converted-accepted = binary-back (convert c) tail lengths (convert-well-formed c well) tail-ok room (convert-in-order c well)
 
   pub reduced-well-formed : WellFormed (reduce (convert c))
@@ -93,10 +96,10 @@ module _ (file lengths : List ℕ) (bytes : Bytes file) (c : Circuit) (start : �
   pub reduced-in-order : binaryOrder (reduce (convert c)) ≡ true
   reduced-in-order = reduce-in-order (convert c) (convert-well-formed c well) (convert-in-order c well)
 
-  pub reduced-accepted : readFile (binaryOf (reduce (convert c)) ++ tail) lengths
+  pub reduced-accepted : readFile V19 (binaryOf (reduce (convert c)) ++ tail) lengths
       ≡ got (reduce (convert c)) (length (binaryOf (reduce (convert c))))
   reduced-accepted =
-      binary-back less tail lengths reduced-well-formed (tail-reduce (convert c) tail tail-ok)
+      binary-back less tail lengths reduced-well-formed (tail-reduce V19 (convert c) tail tail-ok)
       (room-reduce (convert c) (convert-well-formed c well) lengths room (convert-in-order c well)) reduced-in-order
 
   -- converted and reduced again it is the same
@@ -106,7 +109,7 @@ module _ (file lengths : List ℕ) (bytes : Bytes file) (c : Circuit) (start : �
       ∙ reduce-again (convert c) (convert-well-formed c well) (convert-in-order c well)
 
 -- the programs on an accepted file, where files are as long as an input may be
-module _ (file : List ℕ) (bytes : Bytes file) (c : Circuit) (start : ℕ) (accepted : readFile file lentWords ≡ got c start)
+module _ (file : List ℕ) (bytes : Bytes file) (c : Circuit) (start : ℕ) (accepted : readFile V19 file lentWords ≡ got c start)
     (short-enough : length file ≤ 65536) where
   abbrev converted : List ℕ
   converted = binaryOf (convert c) ++ drop start file
@@ -135,8 +138,7 @@ module _ (file : List ℕ) (bytes : Bytes file) (c : Circuit) (start : ℕ) (acc
   converted-back =
       let w = well file lentWords bytes c start accepted in
       let t = tail-ok file lentWords bytes c start accepted in
-      states-back converted lentWords (convert c) (drop start file)
-      (asBinary refl (convert-in-order c w) (convert-well-formed c w) t)
+      shortest-back converted lentWords (convert c) (drop start file) (convert-well-formed c w) t (shortBinary refl)
       (room file lentWords bytes c start accepted) (convert-in-order c w)
 
   -- the tracer gives the same lines for the converted file

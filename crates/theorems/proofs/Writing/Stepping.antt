@@ -8,7 +8,7 @@ use Rattle.plan.specs.declared.Stepped.the-variants as stepped
 use Rattle.plan.specs.Circuit.{Circuit, cleared}
 use Rattle.plan.specs.Binary.{binaryOrder}
 use Rattle.plan.specs.Given.{Given}
-use Rattle.plan.specs.Step.{Value, v0, v1, vx, codeOf, valueOf, outputsOf, nextOf, Step, stepOf, run}
+use Rattle.plan.specs.Step.{Value, v0, v1, vx, codeOf, valueOf, outputsOf, badsOf, constraintsOf, nextOf, Step, stepOf, run}
 use Rattle.plan.specs.Outcome.{allCodes, StepExit, step}
 use Rattle.theorems.proofs.Running.Runs.{Sized, next-length}
 use Rattle.theorems.proofs.Writing.Later.{Left}
@@ -53,7 +53,7 @@ module _ (g : Given) (c : Circuit) (left : Left g c) (order : binaryOrder c ≡ 
   one-step state ins ls li =
       step-done g c left order (map codeOf state) (map codeOf ins) outs (length-map state codeOf ∙ ls) (all-codes state)
       (length-map ins codeOf ∙ li) (all-codes ins) room
-      ∙ ap₂ (λ (s i : List Value). exitOf g (record { state = state; inputs = ins; outputs = outputsOf c s i; next = nextOf c s i }))
+      ∙ ap₂ (λ (s i : List Value). exitOf g (record { state = state; inputs = ins; outputs = outputsOf c s i; bads = badsOf c state ins; constraints = constraintsOf c state ins; next = nextOf c s i }))
       (codes-values state) (codes-values ins)
 
   pub steps-run : (list : List (List Value)) → Sized (length (c .inputs)) list → (state : List Value) → length state ≡ length (c .latches)

@@ -5,6 +5,7 @@ use mathlib.Core.Option.{Option, none, some}
 use mathlib.Core.List.{List, [], _∷_, _++_}
 use native.Mathlib.Omega.{arith}
 use lib.ListN.{length, take}
+use Rattle.plan.specs.declared.Version.the-variants.{V19}
 use Rattle.plan.specs.declared.Counts.{Counts}
 use Rattle.plan.specs.declared.Refusal.{Refusal}
 use Rattle.plan.specs.declared.Refusal.the-variants.{NotInOrder}
@@ -15,21 +16,22 @@ use Rattle.plan.specs.Header.{listOf}
 use Rattle.plan.specs.Text.{textOf}
 use Rattle.plan.specs.Binary.{binaryOf, binaryOrder}
 use Rattle.plan.specs.Tail.{Symbol, tailAt, TailOk}
-use Rattle.plan.specs.Reading.{WellFormed, States, asText, asBinary, Room}
+use Rattle.plan.specs.Reading.{WellFormed, States, Room, Shortest, shortText, shortBinary}
 use Rattle.plan.specs.Given.{Given, given, lentAlone, failing, stages, orderStage, refusalOf, tailStage, roomStage}
 use Rattle.plan.specs.Outcome.{ReadEntry, ReadExit, read, FileEntry, writtenBy, writeText, writeBinary}
 use Rattle.theorems.proofs.Put.{put-first}
 use Rattle.theorems.proofs.Reading.Exactly.{Accepts, complete}
+use Rattle.theorems.proofs.Reading.Shortest.{states-text, states-binary}
 use Rattle.theorems.proofs.Reading.Tails.{tail-exactly}
 use Rattle.theorems.proofs.Writing.Nothing.{some-none, stage-none, failing-none, first-all, first-both}
 use Rattle.theorems.proofs.Writing.Fine.{counts-given, nothing-fine}
 
 -- a tail that its stage lets pass
-pub passed-tail : (n : Counts) (tail : List ℕ) → refusalOf (tailAt tail n 0) ≡ none → TailOk n tail
-passed-tail n tail e = go (tailAt tail n 0) refl e
+pub passed-tail : (n : Counts) (tail : List ℕ) → refusalOf (tailAt V19 tail n 0) ≡ none → TailOk V19 n tail
+passed-tail n tail e = go (tailAt V19 tail n 0) refl e
   where
-    go : (p : Parse (List Symbol)) → tailAt tail n 0 ≡ p → refusalOf p ≡ none → TailOk n tail
-    go (got ss end) q e = tail-exactly tail n 0 .0 (ss, end, q)
+    go : (p : Parse (List Symbol)) → tailAt V19 tail n 0 ≡ p → refusalOf p ≡ none → TailOk V19 n tail
+    go (got ss end) q e = tail-exactly V19 tail n 0 .0 (ss, end, q)
     go (refused r) q e = some-none r e
 
 -- an answer in bytes: no stage refused, and the first bytes of the buffer are the file
@@ -46,10 +48,10 @@ module _ (e : FileEntry) (k : ℕ) where
 
   -- the stages of the circuit and of the tail
   passed : firstOf (stages g (lentAlone g)) ≡ none → tailStage g (e .tail) ≡ none
-      → WellFormed (given g) × TailOk (countsOf (given g)) (e .tail)
+      → WellFormed (given g) × TailOk V19 (countsOf (given g)) (e .tail)
   passed s t =
       let f = nothing-fine g (lentAlone g) s in
-      (f .formed, subst (λ (n : Counts). TailOk n (e .tail)) (sym (counts-given g (f .room))) (passed-tail (g .counts) (e .tail) t))
+      (f .formed, subst (λ (n : Counts). TailOk V19 n (e .tail)) (sym (counts-given g (f .room))) (passed-tail (g .counts) (e .tail) t))
 
   abbrev text-file : List ℕ
   text-file = textOf (given g) ++ e .tail
@@ -65,11 +67,15 @@ module _ (e : FileEntry) (k : ℕ) where
     pub text-bytes : take k (writeText e .out) ≡ textOf (given (e .circuit)) ++ e .tail
     text-bytes = text-wrote .2
 
-    pub text-states : States (take k (writeText e .out)) (given (e .circuit)) (e .tail)
+    pub text-states : States V19 (take k (writeText e .out)) (given (e .circuit)) (e .tail)
     text-states =
         let s = first-both (stages g (lentAlone g)) text-last (text-wrote .0) in
         let p = passed (s .0) (first-all text-last (s .1) .0) in
-        asText text-bytes (p .0) (p .1)
+        states-text (take k (writeText e .out)) (given g) (e .tail) (p .0) (p .1) text-bytes
+
+    -- whatever spelling the circuit was read from, it is written in the shortest form
+    pub text-is-shortest : Shortest (take k (writeText e .out)) (given (e .circuit)) (e .tail)
+    text-is-shortest = shortText text-bytes
 
   abbrev binary-file : List ℕ
   binary-file = binaryOf (given g) ++ e .tail
@@ -86,26 +92,29 @@ module _ (e : FileEntry) (k : ℕ) where
     pub binary-bytes : take k (writeBinary e .out) ≡ binaryOf (given (e .circuit)) ++ e .tail
     binary-bytes = binary-wrote .2
 
-    pub binary-states : States (take k (writeBinary e .out)) (given (e .circuit)) (e .tail)
+    pub binary-states : States V19 (take k (writeBinary e .out)) (given (e .circuit)) (e .tail)
     binary-states =
         let s = first-both (stages g (lentAlone g)) binary-last (binary-wrote .0) in
         let all = first-all binary-last (s .1) in
         let p = passed (s .0) (all .1 .0) in
         let o = failing-none (binaryOrder (given g)) (stage-none NotInOrder (failing (binaryOrder (given g))) (all .0)) in
-        asBinary binary-bytes o (p .0) (p .1)
+        states-binary (take k (writeBinary e .out)) (given g) (e .tail) (p .0) (p .1) binary-bytes o
+
+    pub binary-is-shortest : Shortest (take k (writeBinary e .out)) (given (e .circuit)) (e .tail)
+    binary-is-shortest = shortBinary binary-bytes
 
 -- read with tables that have room, it is the circuit and the tail again
 module _ (e : FileEntry) (k : ℕ) (lengths : List ℕ) (room : Room (given (e .circuit)) lengths) where
-  pub text-read-back : writeText e .answer ≡ written.Bytes k → Accepts (take k (writeText e .out)) lengths (given (e .circuit)) (e .tail)
-  text-read-back a = complete (take k (writeText e .out)) lengths (given (e .circuit)) (e .tail) (text-states e k a) room
+  pub text-read-back : writeText e .answer ≡ written.Bytes k → Accepts V19 (take k (writeText e .out)) lengths (given (e .circuit)) (e .tail)
+  text-read-back a = complete V19 (take k (writeText e .out)) lengths (given (e .circuit)) (e .tail) (text-states e k a) room
 
   pub binary-read-back : writeBinary e .answer ≡ written.Bytes k
-      → Accepts (take k (writeBinary e .out)) lengths (given (e .circuit)) (e .tail)
-  binary-read-back a = complete (take k (writeBinary e .out)) lengths (given (e .circuit)) (e .tail) (binary-states e k a) room
+      → Accepts V19 (take k (writeBinary e .out)) lengths (given (e .circuit)) (e .tail)
+  binary-read-back a = complete V19 (take k (writeBinary e .out)) lengths (given (e .circuit)) (e .tail) (binary-states e k a) room
 
 -- what `read` answers and leaves where the reader accepts
 pub read-accepts : (r : ReadEntry) (c : Circuit) (tail : List ℕ)
-    → Accepts (r .file) (lengthsOf (r .tables) ++ (length (r .scratch) ∷ [])) c tail
+    → Accepts V19 (r .file) (lengthsOf (r .tables) (r .scratch)) c tail
     → read r ≡ record { answer = 0 ∷ 0 ∷ listOf (countsOf c); tail = tail; tables = holding (r .tables) c; scratch = cleared (r .scratch) }
 read-accepts r c tail a = rw (a .1) (λ i. record {
   answer = 0 ∷ 0 ∷ listOf (countsOf c);
@@ -116,7 +125,7 @@ read-accepts r c tail a = rw (a .1) (λ i. record {
 
 -- written and read: the same counts, the same tail, tables that hold the circuit
 module _ (e : FileEntry) (k : ℕ) (t : Tables) (scratch : List ℕ)
-    (room : Room (given (e .circuit)) (lengthsOf t ++ (length scratch ∷ []))) where
+    (room : Room (given (e .circuit)) (lengthsOf t scratch)) where
   abbrev again : ReadExit
   again = record {
     answer = 0 ∷ 0 ∷ listOf (countsOf (given (e .circuit)));
@@ -129,10 +138,10 @@ module _ (e : FileEntry) (k : ℕ) (t : Tables) (scratch : List ℕ)
       → read (record { file = take k (writeText e .out); tables = t; scratch = scratch }) ≡ again
   written-text-is-read a =
       read-accepts (record { file = take k (writeText e .out); tables = t; scratch = scratch }) (given (e .circuit)) (e .tail)
-      (text-read-back e k (lengthsOf t ++ (length scratch ∷ [])) room a)
+      (text-read-back e k (lengthsOf t scratch) room a)
 
   pub written-binary-is-read : writeBinary e .answer ≡ written.Bytes k
       → read (record { file = take k (writeBinary e .out); tables = t; scratch = scratch }) ≡ again
   written-binary-is-read a =
       read-accepts (record { file = take k (writeBinary e .out); tables = t; scratch = scratch }) (given (e .circuit)) (e .tail)
-      (binary-read-back e k (lengthsOf t ++ (length scratch ∷ [])) room a)
+      (binary-read-back e k (lengthsOf t scratch) room a)
