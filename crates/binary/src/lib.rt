@@ -1,21 +1,25 @@
-// What follows the header of the binary form: a next state for each latch and the outputs as lines, then the gates as differences
-// (AIGER report, sections 11 and 12).
+// What follows the header of the binary form: a next state for each latch, possibly with a reset, and what is observed as lines, then the
+// gates as differences (AIGER report, sections 11 and 12).
 ghost use mathlib.Core.Path.{_≡_};
 ghost use Prim.Native.Nat.{_+_, _*_, _<_, _≤_};
 ghost use lib.ListN.{length};
 ghost use Rattle.plan.specs.Literals.{most};
+ghost use Rattle.plan.specs.Circuit.{seven};
 ghost use Rattle.plan.specs.Binary.{binaryBody};
 ghost use Rattle.theorems.proofs.Held.{BodySays};
 use gates::read_gates;
 use gates::run_on;
-use gates::spread;
-use lines::read_lines;
+use latches::more_resets;
+use latches::read_latches;
+use observed::read_observed;
 use plan::Counts;
 use plan::Passed;
+use plan::Version;
 
-// Reads the body into tables 1 to 4. Nothing is defined twice here, so marks of any content will do: they are lent only because
+// Reads the body into tables 1 to 4 and 7 to 9. Nothing is defined twice here, so marks of any content will do: they are lent only because
 // lines are read by one reader. After a refusal nothing is promised of the tables: the caller clears them.
 pub fn read_binary(
+    version: Version,
     file: &[u8],
     at: usize,
     n: Counts,
@@ -23,6 +27,9 @@ pub fn read_binary(
     latches: &mut [u32],
     outputs: &mut [u32],
     gates: &mut [u32],
+    resets: &mut [u32],
+    bads: &mut [u32],
+    constraints: &mut [u32],
     marks: &mut [u32],
 ) -> Passed
     requires { ⌜ n .M ≤ most ⌝ }
@@ -31,28 +38,29 @@ pub fn read_binary(
     requires { ⌜ 2 * n .L ≤ length (now latches) ⌝ }
     requires { ⌜ n .O ≤ length (now outputs) ⌝ }
     requires { ⌜ 3 * n .A ≤ length (now gates) ⌝ }
+    requires { ⌜ n .L ≤ length (now resets) ⌝ }
+    requires { ⌜ n .B ≤ length (now bads) ⌝ }
+    requires { ⌜ n .C ≤ length (now constraints) ⌝ }
     requires { ⌜ n .M < length (now marks) ⌝ }
     ensures { λ r. ⌜ BodySays
-        (record { inputs = now (inputs .entry); latches = now (latches .entry); outputs = now (outputs .entry); gates = now (gates .entry) })
-        (binaryBody (now (file .entry)) n at)
+        (seven (now (inputs .entry)) (now (latches .entry)) (now (outputs .entry)) (now (gates .entry))
+        (now (resets .entry)) (now (bads .entry)) (now (constraints .entry)))
+        (binaryBody version (now (file .entry)) n at)
         r
-        (record { inputs = now (inputs .exit); latches = now (latches .exit); outputs = now (outputs .exit); gates = now (gates .exit) }) ⌝ }
+        (seven (now (inputs .exit)) (now (latches .exit)) (now (outputs .exit)) (now (gates .exit))
+        (now (resets .exit)) (now (bads .exit)) (now (constraints .exit))) ⌝ }
 {
     let m = n.M as u32;
-    let first_latch = 1 + n.I as u32;
-    let first_gate = first_latch + n.L as u32;
-    match read_lines(file, at, 1, false, m, n.L, latches, marks) {
-        Passed::Refused(r) => Passed::Refused(r),
-        Passed::To(second) => match read_lines(file, second, 1, false, m, n.O, outputs, marks) {
-            Passed::Refused(r) => Passed::Refused(r),
-            Passed::To(third) => match read_gates(file, third, first_gate, n.A, gates) {
-                Passed::Refused(r) => Passed::Refused(r),
-                Passed::To(end) => {
-                    run_on(inputs, 1, n.I);
-                    spread(latches, first_latch, n.L);
-                    Passed::To(end)
-                }
-            },
-        },
-    }
+    let more = more_resets(version);
+    let first = 1 + n.I as u32;
+    let read = read_latches(file, at, false, m, more, first, n.L, latches, resets, marks);
+    let Passed::To(second) = read else {
+        return read;
+    };
+    let read = read_observed(file, second, n, outputs, bads, constraints, marks);
+    let Passed::To(third) = read else {
+        return read;
+    };
+    run_on(inputs, 1, n.I);
+    read_gates(file, third, first + n.L as u32, n.A, gates)
 }

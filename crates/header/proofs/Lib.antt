@@ -1,5 +1,4 @@
 pub mod Accepted
-pub mod FiveCounts
+pub mod Counted
 pub mod FourBytes
-pub mod Limit
 pub mod Sizes

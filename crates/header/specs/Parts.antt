@@ -1,16 +1,16 @@
--- The header in its parts: the first four bytes, then the five counts.
-use Prim.Native.Nat.{ℕ, _-_, _^_}
-use mathlib.Core.Bool.{Bool, true, false, cond, _&&_}
+-- The header in its parts: the first four bytes, then the counts.
+use Prim.Native.Nat.{ℕ, _+_, _-_, _^_, _≤_, _<_}
+use mathlib.Core.Bool.{Bool, true, false, cond, _&&_, _||_}
 use mathlib.Core.List.{List}
 use lib.Dec.{eqb, leb}
-use lib.ListN.{getD}
+use lib.ListN.{getD, drop}
 use Rattle.plan.specs.declared.Counts.{Counts}
-use Rattle.plan.specs.declared.Refusal.{Refusal}
-use Rattle.plan.specs.declared.Refusal.the-variants.{WrongByte, LargeCount, WrongSum}
-use Rattle.plan.specs.Refusals.{numberOf, placeOf, Parse, got, refused, _then_, unless}
+use Rattle.plan.specs.declared.Version.{Version}
+use Rattle.plan.specs.declared.Refusal.the-variants.{WrongByte, LargeCount, WrongSum, Justice}
+use Rattle.plan.specs.Refusals.{Parse, got, refused, _then_, unless}
 use Rattle.plan.specs.Circuit.{wordsToRead}
 use Rattle.plan.specs.Bytes.{numbers, values}
-use Rattle.plan.specs.Header.{Form, text, binary, countsFrom, over, adds, Head}
+use Rattle.plan.specs.Header.{moreCounts, Form, text, binary, countsFrom, over, above0, adds, Head}
 use Rattle.header.specs.declared.Magic.{Magic}
 use Rattle.header.specs.declared.Magic.the-variants.{Text, Binary, Wrong}
 
@@ -30,21 +30,25 @@ magic file =
     (cond (eqb (getD file 1 0) 105) (magicEnd file Binary) (Wrong 1)))
     (Wrong 0)
 
--- the five counts, from offset 4 on: by 1, then 2, then 3
-abbrev pub counted : List ℕ → Form → Parse Head
-counted file form =
-    numbers file 5 4 then λ xs next.
+-- the counts, from offset 4 on: by 1, then 2, then 21, then 3
+abbrev pub counted : Version → List ℕ → Form → Parse Head
+counted v file form =
+    numbers file 5 (5 + moreCounts v) 4 then λ xs next.
     unless (over xs) LargeCount
-    (cond (adds form (countsFrom (values xs))) (got (record { form = form; counts = countsFrom (values xs) }) next) (refused (WrongSum 0)))
+    (unless (above0 (drop 7 xs)) Justice
+    (cond (adds form (countsFrom (values xs))) (got (record { form = form; counts = countsFrom (values xs) }) next) (refused (WrongSum 0))))
 
-abbrev pub headedFrom : List ℕ → Magic → Parse Head
-headedFrom file Text = counted file text
-headedFrom file Binary = counted file binary
-headedFrom file (Wrong place) = refused (WrongByte place)
+abbrev pub headedFrom : Version → List ℕ → Magic → Parse Head
+headedFrom v file Text = counted v file text
+headedFrom v file Binary = counted v file binary
+headedFrom v file (Wrong place) = refused (WrongByte place)
 
--- what a line of literals tells as 5 is 2 in the header
-abbrev pub ofCount : Refusal → Refusal
-ofCount r = cond (eqb (numberOf r) 5) (LargeCount (placeOf r)) r
+-- the first of nine words, from one on, that is above a limit
+pub record Above (words : List ℕ) (from limit r : ℕ) : Type 0 where
+  pub within : r ≤ 9
+  pub from-on : from ≤ r
+  pub before : (k : ℕ) → from ≤ k → k < r → getD words k 0 ≤ limit
+  pub found : r < 9 → limit < getD words r 0
 
 -- I + L + A against M
 abbrev pub sums : Bool → ℕ → ℕ → Bool
@@ -53,4 +57,4 @@ sums false sum m = leb sum m
 
 -- the words of table t
 abbrev pub wordsOf : Counts → ℕ → ℕ
-wordsOf n t = cond (leb 1 t && leb t 5) (getD (wordsToRead n) (t - 1) 0) (2 ^ 64 - 1)
+wordsOf n t = cond ((leb 1 t && leb t 5) || (leb 7 t && leb t 9)) (getD (wordsToRead n) (t - 1) 0) (2 ^ 64 - 1)

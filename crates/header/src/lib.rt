@@ -1,15 +1,17 @@
 // The header of both forms (AIGER report, section 5), and the desk's question how many words a table needs.
 ghost use mathlib.Core.Path.{_≡_};
-ghost use Rattle.plan.specs.Header.{header, wordsFor, listOf};
+ghost use Prim.Native.Nat.{_≤_};
+ghost use Rattle.plan.specs.Header.{moreCounts, header, wordsFor, listOf};
 ghost use Rattle.plan.specs.Outcome.{headedBy};
 ghost use Rattle.theorems.proofs.Reading.Headers.{AllMost};
-ghost use Rattle.header.specs.Parts.{formOf, magicEnd, magic, counted, ofCount, sums, wordsOf};
+ghost use Rattle.header.specs.Parts.{formOf, magicEnd, magic, Above, counted, sums, wordsOf};
 use classes::stands;
-use lines::read_row;
+use lines::read_numbers;
 use plan::Counts;
 use plan::Headed;
 use plan::Passed;
 use plan::Refusal;
+use plan::Version;
 
 // No table has this number, or the file no header.
 const NONE: u64 = 18446744073709551615;
@@ -49,16 +51,6 @@ fn read_magic(file: &[u8]) -> Magic
     Magic::Wrong(1)
 }
 
-// A count over the limit, which the reader of lines tells as a literal out of its range.
-fn of_count(r: Refusal) -> Refusal
-    ensures { λ q. ⌜ q ≡ ofCount r ⌝ }
-{
-    if let Refusal::OutOfRange(place) = r {
-        return Refusal::LargeCount(place);
-    }
-    r
-}
-
 // In text variables may be left over, in binary not (AIGER report, section 11).
 fn adds_up(binary: bool, sum: usize, m: usize) -> bool
     ensures { λ r. ⌜ r ≡ sums binary sum m ⌝ }
@@ -69,19 +61,53 @@ fn adds_up(binary: bool, sum: usize, m: usize) -> bool
     sum <= m
 }
 
-// The five counts by the reader of a line of literals: under M = 524,287 a literal is at most 1,048,575, the limit of a count.
-fn read_counts(file: &[u8], binary: bool) -> Headed
-    ensures { λ r. ⌜ r ≡ headedBy (counted (now (file .entry)) (formOf binary)) ⌝ }
+// How many counts may follow the five of 2007.
+fn more_counts(version: Version) -> usize
+    ensures { λ r. ⌜ r ≡ moreCounts version ⌝ }
 {
-    let mut five: [u32; 5] = [0; 5];
-    match read_row(file, 4, 5, false, 524287, &mut five, 0) {
-        Passed::Refused(r) => Headed::Refused(of_count(r)),
+    match version {
+        Version::V2007 => 0,
+        Version::V19 => 4,
+    }
+}
+
+// The first of nine counts, from one on, that is above a limit; 9 if none is.
+fn first_above(words: &[u32; 9], from: usize, limit: u32) -> usize
+    requires { ⌜ from ≤ 9 ⌝ }
+    ensures { λ r. ⌜ Above (now (words .entry)) from limit r ⌝ }
+{
+    let mut i = from;
+    while i < 9 {
+        if words[i] > limit {
+            return i;
+        }
+        i += 1;
+    }
+    i
+}
+
+// The counts by the reader of a line of numbers, those left off being 0: by 1, then 2, then 21 for J and F, then 3.
+fn read_counts(version: Version, file: &[u8], binary: bool) -> Headed
+    ensures { λ r. ⌜ r ≡ headedBy (counted version (now (file .entry)) (formOf binary)) ⌝ }
+{
+    let mut words: [u32; 9] = [0; 9];
+    let mut places: [usize; 9] = [0; 9];
+    let more = more_counts(version);
+    match read_numbers(file, 4, 5, 5 + more, &mut words, &mut places, 0) {
+        Passed::Refused(r) => Headed::Refused(r),
         Passed::To(next) => {
-            let m = five[0] as usize;
-            let i = five[1] as usize;
-            let l = five[2] as usize;
-            let o = five[3] as usize;
-            let a = five[4] as usize;
+            let large = first_above(&words, 0, 1048575);
+            if large < 9 {
+                return Headed::Refused(Refusal::LargeCount(places[large]));
+            }
+            let justice = first_above(&words, 7, 0);
+            if justice < 9 {
+                return Headed::Refused(Refusal::Justice(places[justice]));
+            }
+            let m = words[0] as usize;
+            let i = words[1] as usize;
+            let l = words[2] as usize;
+            let a = words[4] as usize;
             if !adds_up(binary, i + l + a, m) {
                 return Headed::Refused(Refusal::WrongSum(0));
             }
@@ -89,22 +115,24 @@ fn read_counts(file: &[u8], binary: bool) -> Headed
                 M: m,
                 I: i,
                 L: l,
-                O: o,
+                O: words[3] as usize,
                 A: a,
+                B: words[5] as usize,
+                C: words[6] as usize,
             };
             Headed::Accepted(binary, n, next)
         }
     }
 }
 
-// The whole line by 1, then 2, then 3.
-pub fn read_header(file: &[u8]) -> Headed
-    ensures { λ r. ⌜ r ≡ headedBy (header (now (file .entry)) 0) ⌝ }
+// The whole line by 1, then 2, then 21, then 3.
+pub fn read_header(version: Version, file: &[u8]) -> Headed
+    ensures { λ r. ⌜ r ≡ headedBy (header version (now (file .entry)) 0) ⌝ }
 {
     match read_magic(file) {
         Magic::Wrong(place) => Headed::Refused(Refusal::WrongByte(place)),
-        Magic::Text => read_counts(file, false),
-        Magic::Binary => read_counts(file, true),
+        Magic::Text => read_counts(version, file, false),
+        Magic::Binary => read_counts(version, file, true),
     }
 }
 
@@ -118,7 +146,10 @@ fn words_of(n: Counts, table: u64) -> u64
         2 => 2 * (n.L as u64),
         3 => n.O as u64,
         4 => 3 * (n.A as u64),
-        5 => 4 * (n.M as u64 + 1) + n.O as u64,
+        5 => 4 * (n.M as u64 + 1) + n.O as u64 + n.B as u64 + n.C as u64,
+        7 => n.L as u64,
+        8 => n.B as u64,
+        9 => n.C as u64,
         _ => NONE,
     }
 }
@@ -127,7 +158,7 @@ fn words_of(n: Counts, table: u64) -> u64
 pub fn words(file: &[u8], table: u64) -> u64
     ensures { λ r. ⌜ r ≡ wordsFor (now (file .entry)) table ⌝ }
 {
-    match read_header(file) {
+    match read_header(Version::V19, file) {
         Headed::Refused(_) => NONE,
         Headed::Accepted(_, n, _) => words_of(n, table),
     }

@@ -19,6 +19,7 @@ use Rattle.plan.specs.Given.{orElse}
 use Rattle.theorems.proofs.Reading.Common.{then-got, unless-got, got-value, and-left, and-right}
 use Rattle.theorems.proofs.Reading.Cut.{cut}
 use Rattle.theorems.proofs.Reading.Lines.{outside-none}
+use Rattle.theorems.proofs.Reading.Steps.{numbers-exactly}
 use Rattle.lines.specs.Rows.{row}
 
 -- the literals ls were read, the first out of its range stands at o, and the rest is p
@@ -31,17 +32,17 @@ later none false place b = refl
 later (some p) t place b = refl
 
 module _ (file : List ℕ) (d : Bool) (m : ℕ) (ls : List ℕ) (o : Option ℕ) (l pos : ℕ) where
-  pub judge-wrong : (r : Refusal) → number file pos ≡ refused r → judged ls o d m (numbers file (suc l) pos) ≡ refused r
-  judge-wrong r e = rw e
+  pub judge-wrong : (r : Refusal) → number file pos ≡ refused r → judged ls o d m (numbers file (suc l) (suc l) pos) ≡ refused r
+  judge-wrong r e = rw (numbers-exactly file l pos, e)
 
   module _ (v next : ℕ) (e : number file pos ≡ got v next) where
-    pub judge-cut : eqb (getD file next 0) (endOf l) ≡ false → judged ls o d m (numbers file (suc l) pos) ≡ refused (WrongByte next)
-    judge-cut h = rw (e, h)
+    pub judge-cut : eqb (getD file next 0) (endOf l) ≡ false → judged ls o d m (numbers file (suc l) (suc l) pos) ≡ refused (WrongByte next)
+    judge-cut h = rw (numbers-exactly file l pos, e, h)
 
     pub judge-turn : eqb (getD file next 0) (endOf l) ≡ true
-        → judged ls o d m (numbers file (suc l) pos)
-        ≡ judged (ls ++ (v ∷ [])) (orElse o (cond (inRange d m v) none (some pos))) false m (numbers file l (next + 1))
-    judge-turn h = rw (e, h) (go (numbers file l (next + 1)))
+        → judged ls o d m (numbers file (suc l) (suc l) pos)
+        ≡ judged (ls ++ (v ∷ [])) (orElse o (cond (inRange d m v) none (some pos))) false m (numbers file l l (next + 1))
+    judge-turn h = rw (numbers-exactly file l pos, e, h) (go (numbers file l l (next + 1)))
       where
         go : (p : Parse (List Placed))
             → judged ls o d m (p then λ ns last. got (record { value = v; place = pos } ∷ ns) last)
@@ -51,7 +52,7 @@ module _ (file : List ℕ) (d : Bool) (m : ℕ) (ls : List ℕ) (o : Option ℕ)
         go (refused r) = refl
 
 pub judge-done : (file : List ℕ) (d : Bool) (m : ℕ) (ls : List ℕ) (o : Option ℕ) (pos : ℕ)
-    → judged ls o d m (numbers file zero pos) ≡ unless o OutOfRange (got ls pos)
+    → judged ls o d m (numbers file zero zero pos) ≡ unless o OutOfRange (got ls pos)
 judge-done file d m ls none pos = ap (λ (x : List ℕ). got x pos) (append-nil ls)
 judge-done file d m ls (some place) pos = refl
 
@@ -68,7 +69,7 @@ inside-small d m (v ∷ ls) h e =
 
 pub row-inside : (file : List ℕ) (k : ℕ) (d : Bool) (m at : ℕ) (ls : List ℕ) (next : ℕ) → row file k d m at ≡ got ls next → inside d m ls ≡ true
 row-inside file k d m at ls next e =
-    let t = then-got (numbers file k at) _ ls next e in
+    let t = then-got (numbers file k k at) _ ls next e in
     let u = unless-got (outside d m (t .0)) _ _ ls next (t .3) in
     let r-is : values (t .0) ≡ ls = got-value _ ls (t .1) next (u .1) in
     rw r-is at (outside-none d m (t .0) (u .0))

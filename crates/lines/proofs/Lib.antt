@@ -4,3 +4,4 @@ pub mod Marks
 pub mod LinesLoop
 pub mod OneLine
 pub mod RowLoop
+pub mod Numbers

@@ -15,16 +15,17 @@ use Rattle.plan.specs.Bytes.{number, expect, endOf, Placed, numbers, values, ou
 use Rattle.theorems.proofs.Ranges.{first-var}
 use Rattle.theorems.proofs.Reading.Common.{then-got, unless-got, got-value, got-next}
 use Rattle.theorems.proofs.Reading.Lines.{numbers-took}
+use Rattle.theorems.proofs.Reading.Steps.{numbers-exactly}
 use Rattle.lines.specs.Rows.{row}
 use Rattle.lines.proofs.Judge.{row-inside}
 
 -- the first number of a line stands at its start
-first-placed : (file : List ℕ) (k at : ℕ) (xs : List Placed) (n : ℕ) → numbers file (suc k) at ≡ got xs n
+first-placed : (file : List ℕ) (k at : ℕ) (xs : List Placed) (n : ℕ) → numbers file (suc k) (suc k) at ≡ got xs n
     → (v : ℕ) × (ys : List Placed) × (record { value = v; place = at } ∷ ys ≡ xs)
 first-placed file k at xs n e =
-    let t1 = then-got (number file at) _ xs n e in
+    let t1 = then-got (number file at) _ xs n (sym (numbers-exactly file k at) ∙ e) in
     let t2 = then-got (expect file (endOf k) (t1 .1)) _ xs n (t1 .3) in
-    let t3 = then-got (numbers file k (t2 .1)) _ xs n (t2 .3) in
+    let t3 = then-got (numbers file k k (t2 .1)) _ xs n (t2 .3) in
     (t1 .0, t3 .0, got-value _ xs (t3 .1) n (t3 .3))
 
 judge-twice : (d : Bool) (seen : List ℕ) (v at : ℕ) (ys : List Placed) (p : Parse (List ℕ))
@@ -42,7 +43,7 @@ module _ (file : List ℕ) (d : Bool) (m : ℕ) (seen : List ℕ) where
       → line file k d m seen at ≡ cond (d && has (varOf (literalOf ls)) seen) (refused (DefinedTwice at)) (got ls next)
   line-row zero at ls next h e = absurd (omega arith)
   line-row (suc k) at ls next h e =
-      let t = then-got (numbers file (suc k) at) _ ls next e in
+      let t = then-got (numbers file (suc k) (suc k) at) _ ls next e in
       let u = unless-got (outside d m (t .0)) _ _ ls next (t .3) in
       let f = first-placed file k at (t .0) (t .1) (t .2) in
       let ls-is : values (t .0) ≡ ls = got-value _ ls (t .1) next (u .1) in
@@ -55,7 +56,7 @@ module _ (file : List ℕ) (d : Bool) (m : ℕ) (seen : List ℕ) where
       ∙ ap₂ (λ (x : List ℕ) (y : ℕ). cond (d && has (varOf (literalOf ls)) seen) (refused (DefinedTwice at)) (got x y)) ls-is n-is)))
 
   pub line-refused : (k at : ℕ) (r : Refusal) → row file k d m at ≡ refused r → line file k d m seen at ≡ refused r
-  line-refused k at r e = go (numbers file k at) e
+  line-refused k at r e = go (numbers file k k at) e
     where
       go : (p : Parse (List Placed))
           → (p then λ xs next. unless (outside d m xs) OutOfRange (got (values xs) next)) ≡ refused r
@@ -71,9 +72,11 @@ module _ (file : List ℕ) (d : Bool) (m : ℕ) (seen : List ℕ) where
 -- the line has k literals, and the variable of the first is at most M
 pub row-long : (file : List ℕ) (k : ℕ) (d : Bool) (m at : ℕ) (ls : List ℕ) (next : ℕ) → row file k d m at ≡ got ls next → length ls ≡ k
 row-long file k d m at ls next e =
-    let t = then-got (numbers file k at) _ ls next e in
+    let t = then-got (numbers file k k at) _ ls next e in
     let u = unless-got (outside d m (t .0)) _ _ ls next (t .3) in
-    ap length (sym (got-value _ ls (t .1) next (u .1))) ∙ numbers-took file k at (t .0) (t .1) (t .2) .1
+    let took = numbers-took file k k at (t .0) (t .1) (omega arith) (t .2) in
+    let size : length (values (t .0)) ≡ k = omega (arith, took .1, took .2) in
+    ap length (sym (got-value _ ls (t .1) next (u .1))) ∙ size
 
 pub row-var : (file : List ℕ) (k : ℕ) (d : Bool) (m at : ℕ) (ls : List ℕ) (next : ℕ) → 0 < k → row file k d m at ≡ got ls next → varOf (literalOf ls) ≤ m
 row-var file k d m at ls next h e = go ls (row-long file k d m at ls next e) (row-inside file k d m at ls next e)

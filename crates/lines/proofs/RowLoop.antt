@@ -33,7 +33,7 @@ pub record Scan (file : List ℕ) (k : ℕ) (defines : Bool) (m at : ℕ) (t₀ 
   pub left : ℕ
   pub sum : j + left ≡ k
   pub count : length ls ≡ j
-  pub whole : row file k defines m at ≡ judged ls (foundOf bad) d m (numbers file left pos)
+  pub whole : row file k defines m at ≡ judged ls (foundOf bad) d m (numbers file left left pos)
   pub table : t ≡ put t₀ base (map cut ls)
 
 pub begins : (file : List ℕ) (k : ℕ) (d : Bool) (m at : ℕ) (t : List ℕ) (base : ℕ) (bad : Found) → foundOf bad ≡ none → Scan file k d m at t base t at d bad 0
@@ -42,12 +42,12 @@ begins file k d m at t base bad e = record {
   left = k;
   sum = zero-add k;
   count = refl;
-  whole = ap (λ (o : Option ℕ). judged [] o d m (numbers file k at)) (sym e);
+  whole = ap (λ (o : Option ℕ). judged [] o d m (numbers file k k at)) (sym e);
   table = sym (put-none t base);
 }
 
 -- one word more
-put-more : (t₀ : List ℕ) (base : ℕ) (ls : List ℕ) (v : ℕ) → base + length ls < length t₀
+pub put-more : (t₀ : List ℕ) (base : ℕ) (ls : List ℕ) (v : ℕ) → base + length ls < length t₀
     → set (put t₀ base ls) (base + length ls) v ≡ put t₀ base (ls ++ (v ∷ []))
 put-more t₀ base ls v h =
     let size : length (ls ++ (v ∷ [])) ≡ length ls + 1 = length-append ls (v ∷ []) in
@@ -82,7 +82,7 @@ module _ {file : List ℕ} {k : ℕ} {defines : Bool} {m at : ℕ} {t₀ : List 
   pub wrong-number : (place : ℕ) → j < k → Wrong place ≡ numberAt file pos → Refused (WrongByte place) ≡ passedBy (row file k defines m at)
   wrong-number place h e =
       let l = rest h in
-      ap passedBy (sym (s .whole ∙ ap (λ (n : ℕ). judged (s .ls) (foundOf bad) d m (numbers file n pos)) (l .1)
+      ap passedBy (sym (s .whole ∙ ap (λ (n : ℕ). judged (s .ls) (foundOf bad) d m (numbers file n n pos)) (l .1)
       ∙ judge-wrong file d m (s .ls) (foundOf bad) (l .0) pos (WrongByte place) (wrong-is file pos place e)))
 
   module _ (v next : ℕ) (h : j < k) (e : Value v next ≡ numberAt file pos) where
@@ -90,7 +90,7 @@ module _ {file : List ℕ} {k : ℕ} {defines : Bool} {m at : ℕ} {t₀ : List 
     wrong-end b =
         let l = rest h in
         let w = value-is (number file pos) v next e in
-        ap passedBy (sym (s .whole ∙ ap (λ (n : ℕ). judged (s .ls) (foundOf bad) d m (numbers file n pos)) (l .1)
+        ap passedBy (sym (s .whole ∙ ap (λ (n : ℕ). judged (s .ls) (foundOf bad) d m (numbers file n n pos)) (l .1)
         ∙ judge-cut file d m (s .ls) (foundOf bad) (l .0) pos (w .0) next (w .1) (ap (eqb (getD file next 0)) (sym (end-is j k (l .0) (l .2))) ∙ b)))
 
     pub turns : (bad′ : Found) (fine : Bool) → m ≤ most → base + k ≤ length t₀ → eqb (getD file next 0) (endFor (eqb (j + 1) k)) ≡ true
@@ -108,9 +108,9 @@ module _ {file : List ℕ} {k : ℕ} {defines : Bool} {m at : ℕ} {t₀ : List 
           left = l .0;
           sum = l .2;
           count = length-append (s .ls) (w .0 ∷ []) ∙ ap (λ (n : ℕ). n + 1) (s .count);
-          whole = s .whole ∙ ap (λ (n : ℕ). judged (s .ls) (foundOf bad) d m (numbers file n pos)) (l .1)
+          whole = s .whole ∙ ap (λ (n : ℕ). judged (s .ls) (foundOf bad) d m (numbers file n n pos)) (l .1)
               ∙ judge-turn file d m (s .ls) (foundOf bad) (l .0) pos (w .0) next (w .1) (ap (eqb (getD file next 0)) (sym (end-is j k (l .0) (l .2))) ∙ b)
-              ∙ ap (λ (x : Option ℕ). judged (s .ls ++ (w .0 ∷ [])) x false m (numbers file (l .0) (next + 1))) o-is;
+              ∙ ap (λ (x : Option ℕ). judged (s .ls ++ (w .0 ∷ [])) x false m (numbers file (l .0) (l .0) (next + 1))) o-is;
           table = ap₂ (λ (x : List ℕ) (n : ℕ). set x (base + n) v) (s .table) (sym size)
               ∙ put-more t₀ base (map cut (s .ls)) v (omega arith)
               ∙ ap (put t₀ base) (ap (λ (x : ℕ). map cut (s .ls) ++ (x ∷ [])) (w .2) ∙ sym (map-append cut (s .ls) (w .0 ∷ [])));
@@ -121,7 +121,7 @@ module _ {file : List ℕ} {k : ℕ} {defines : Bool} {m at : ℕ} {t₀ : List 
     none-left = omega (arith, s .sum)
 
     ended : row file k defines m at ≡ unless (foundOf bad) OutOfRange (got (s .ls) pos)
-    ended = s .whole ∙ ap (λ (n : ℕ). judged (s .ls) (foundOf bad) d m (numbers file n pos)) none-left ∙ judge-done file d m (s .ls) (foundOf bad) pos
+    ended = s .whole ∙ ap (λ (n : ℕ). judged (s .ls) (foundOf bad) d m (numbers file n n pos)) none-left ∙ judge-done file d m (s .ls) (foundOf bad) pos
 
     pub all-fine : foundOf bad ≡ none → To pos ≡ passedBy (row file k defines m at)
     all-fine e = ap passedBy (sym (ended ∙ ap (λ (o : Option ℕ). unless o OutOfRange (got (s .ls) pos)) e))

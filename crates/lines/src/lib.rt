@@ -1,5 +1,5 @@
-// Lines of literals: the one reader of inputs, latches, outputs and gates of the text form, of next states and outputs of the binary form,
-// and of the header's counts.
+// Lines of literals: the one reader of inputs and gates of the text form, and of outputs, bad states and constraints of both forms. Lines of
+// numbers of which some may be left off: the one reader of the header's counts and of a latch with its reset.
 ghost use mathlib.Core.Path.{_≡_};
 ghost use mathlib.Core.Bool.{cond};
 ghost use mathlib.Core.Option.{none, some};
@@ -9,11 +9,11 @@ ghost use lib.Dec.{eqb};
 ghost use lib.ListN.{length, getD};
 ghost use Rattle.plan.specs.Literals.{most, varOf, wordOf};
 ghost use Rattle.plan.specs.Refusals.{got};
-ghost use Rattle.plan.specs.Bytes.{lines};
+ghost use Rattle.plan.specs.Bytes.{Placed, numbers, lines};
 ghost use Rattle.plan.specs.Given.{orElse};
 ghost use Rattle.plan.specs.Outcome.{passedBy, put};
 ghost use Rattle.theorems.proofs.Marks.{Agrees};
-ghost use Rattle.lines.specs.Rows.{endFor, foundOf, row, marked, marking, LinesSay};
+ghost use Rattle.lines.specs.Rows.{endFor, going, foundOf, row, marked, marking, LinesSay, Numbered};
 use classes::class_of;
 use numbers::read_number;
 use plan::Class;
@@ -23,9 +23,16 @@ use plan::Passed;
 use plan::Refusal;
 
 // The place of the first literal of a line that is out of its range.
-enum Found {
+pub enum Found {
     Nothing,
     At(usize),
+}
+
+// What stands after a number of a line: its end, the space before the next number, or neither where it can stand.
+enum Going {
+    Stop,
+    On,
+    Wrong,
 }
 
 // Whether a number of a line ends here: with a new line after the last, with a space before the next.
@@ -73,7 +80,8 @@ pub fn read_row(
     requires { ⌜ m ≤ most ⌝ }
     requires { ⌜ base + k ≤ length (now table) ⌝ }
     ensures { λ r. ⌜ r ≡ passedBy (row (now (file .entry)) k defines m at) ⌝ }
-    ensures { λ _. ⌜ ((ls : List ℕ) (next : ℕ) → row (now (file .entry)) k defines m at ≡ got ls next → now (table .exit) ≡ put (now (table .entry)) base ls) ⌝ }
+    ensures { λ _. ⌜ ((ls : List ℕ) (next : ℕ) → row (now (file .entry)) k defines m at ≡ got ls next
+        → now (table .exit) ≡ put (now (table .entry)) base ls) ⌝ }
 {
     let mut pos = at;
     let mut d = defines;
@@ -103,7 +111,7 @@ pub fn read_row(
 }
 
 // Marks the variable of a literal that defines; whether it was marked already.
-fn defined_before(defines: bool, l: Lit, marks: &mut [u32]) -> bool
+pub fn defined_before(defines: bool, l: Lit, marks: &mut [u32]) -> bool
     requires { ⌜ varOf (wordOf l) < length (now marks) ⌝ }
     ensures { λ r. ⌜ r ≡ marked defines (varOf (wordOf l)) (now (marks .entry)) ⌝ }
     ensures { λ r. ⌜ now (marks .exit) ≡ marking defines r (varOf (wordOf l)) (now (marks .entry)) ⌝ }
@@ -134,7 +142,9 @@ pub fn read_lines(
     requires { ⌜ 0 < k ⌝ }
     requires { ⌜ n * k ≤ length (now table) ⌝ }
     requires { ⌜ m < length (now marks) ⌝ }
-    ensures { λ r. ⌜ ((seen : List ℕ) → Agrees m seen (now (marks .entry)) → LinesSay defines m seen (now (table .entry)) (lines (now (file .entry)) k defines m n seen at) r (now (table .exit)) (now (marks .exit))) ⌝ }
+    ensures { λ r. ⌜ ((seen : List ℕ) → Agrees m seen (now (marks .entry))
+        → LinesSay defines m seen (now (table .entry)) (lines (now (file .entry)) k defines m n seen at)
+        r (now (table .exit)) (now (marks .exit))) ⌝ }
 {
     let mut pos = at;
     let mut base = 0;
@@ -153,6 +163,78 @@ pub fn read_lines(
         }
         base += k;
         i += 1;
+    }
+    Passed::To(pos)
+}
+
+// What stands after a number, where more of them must follow or may.
+fn goes_on(file: &[u8], at: usize, must: bool, may: bool) -> Going
+    ensures { λ r. ⌜ r ≡ going must may (getD (now (file .entry)) at 0) ⌝ }
+{
+    if file.len() <= at {
+        return Going::Wrong;
+    }
+    match class_of(file[at]) {
+        Class::Line => {
+            if must {
+                return Going::Wrong;
+            }
+            Going::Stop
+        }
+        Class::Space => {
+            if may {
+                return Going::On;
+            }
+            Going::Wrong
+        }
+        Class::Zero => Going::Wrong,
+        Class::Digit => Going::Wrong,
+        Class::Print => Going::Wrong,
+        Class::Rest => Going::Wrong,
+    }
+}
+
+// A line of numbers, of which some must stand there and no more than some may: their words and their places from `base` on, by 1.
+pub fn read_numbers(
+    file: &[u8],
+    at: usize,
+    must: usize,
+    may: usize,
+    words: &mut [u32],
+    places: &mut [usize],
+    base: usize,
+) -> Passed
+    requires { ⌜ must ≤ may ⌝ }
+    requires { ⌜ base + may ≤ length (now words) ⌝ }
+    requires { ⌜ base + may ≤ length (now places) ⌝ }
+    ensures { λ r. ⌜ r ≡ passedBy (numbers (now (file .entry)) must may at) ⌝ }
+    ensures { λ _. ⌜ ((xs : List Placed) (next : ℕ) → numbers (now (file .entry)) must may at ≡ got xs next
+        → Numbered xs base (now (words .entry)) (now (places .entry)) (now (words .exit)) (now (places .exit))) ⌝ }
+{
+    let mut pos = at;
+    let mut j = 0;
+    while j < may {
+        match read_number(file, pos) {
+            Number::Wrong(place) => {
+                return Passed::Refused(Refusal::WrongByte(place));
+            }
+            Number::Value(v, next) => {
+                words[base + j] = v;
+                places[base + j] = pos;
+                match goes_on(file, next, j + 1 < must, j + 1 < may) {
+                    Going::Wrong => {
+                        return Passed::Refused(Refusal::WrongByte(next));
+                    }
+                    Going::Stop => {
+                        return Passed::To(next + 1);
+                    }
+                    Going::On => {
+                        pos = next + 1;
+                    }
+                }
+            }
+        }
+        j += 1;
     }
     Passed::To(pos)
 }

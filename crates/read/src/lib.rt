@@ -3,29 +3,33 @@ ghost use mathlib.Core.Path.{_≡_};
 ghost use mathlib.Core.Bool.{true};
 ghost use Prim.Native.Nat.{ℕ};
 ghost use lib.ListN.{getD};
-ghost use Rattle.plan.specs.Header.{binary, adds};
+ghost use Rattle.plan.specs.Circuit.{seven, lengthsOf};
+ghost use Rattle.plan.specs.Header.{adds};
 ghost use Rattle.plan.specs.Reading.{readFile};
-ghost use Rattle.plan.specs.Outcome.{Says, load, read};
+ghost use Rattle.plan.specs.Outcome.{Says, loadAs, readAs};
 ghost use Rattle.theorems.proofs.Held.{BodySays};
 ghost use Rattle.header.specs.Parts.{formOf};
-ghost use Rattle.rest.specs.Rest.{rest, Room, lengths, LoadedSays};
+ghost use Rattle.rest.specs.Rest.{rest, Room, LoadedSays};
 use header::read_header;
 use plan::Counts;
 use plan::Headed;
 use plan::Loaded;
 use plan::Passed;
 use plan::Refusal;
+use plan::Version;
 use refusals::told_number;
 use refusals::told_place;
 use rest::rest_of_binary;
 use rest::rest_of_text;
 use tables::clear;
-use tables::clear_four;
+use tables::clear_all;
+use tables::lengths;
 use tables::too_short;
 use told::no_counts;
 use told::tell;
 
 fn rest_of(
+    version: Version,
     binary: bool,
     file: &[u8],
     at: usize,
@@ -34,51 +38,85 @@ fn rest_of(
     latches: &mut [u32],
     outputs: &mut [u32],
     gates: &mut [u32],
+    resets: &mut [u32],
+    bads: &mut [u32],
+    constraints: &mut [u32],
     scratch: &mut [u32],
 ) -> Passed
-    requires { ⌜ Room n (record { inputs = now inputs; latches = now latches; outputs = now outputs; gates = now gates }) (now scratch) ⌝ }
+    requires { ⌜ Room n
+        (seven (now inputs) (now latches) (now outputs) (now gates) (now resets) (now bads) (now constraints)) (now scratch) ⌝ }
     requires { ⌜ adds (formOf binary) n ≡ true ⌝ }
     ensures { λ r. ⌜ BodySays
-        (record { inputs = now (inputs .entry); latches = now (latches .entry); outputs = now (outputs .entry); gates = now (gates .entry) })
-        (rest (now (file .entry)) (formOf binary) n at) r
-        (record { inputs = now (inputs .exit); latches = now (latches .exit); outputs = now (outputs .exit); gates = now (gates .exit) }) ⌝ }
+        (seven (now (inputs .entry)) (now (latches .entry)) (now (outputs .entry)) (now (gates .entry))
+        (now (resets .entry)) (now (bads .entry)) (now (constraints .entry)))
+        (rest version (now (file .entry)) (formOf binary) n at) r
+        (seven (now (inputs .exit)) (now (latches .exit)) (now (outputs .exit)) (now (gates .exit))
+        (now (resets .exit)) (now (bads .exit)) (now (constraints .exit))) ⌝ }
 {
     if binary {
-        return rest_of_binary(file, at, n, inputs, latches, outputs, gates, scratch);
+        return rest_of_binary(
+            version,
+            file,
+            at,
+            n,
+            inputs,
+            latches,
+            outputs,
+            gates,
+            resets,
+            bads,
+            constraints,
+            scratch,
+        );
     }
-    rest_of_text(file, at, n, inputs, latches, outputs, gates, scratch)
+    rest_of_text(
+        version,
+        file,
+        at,
+        n,
+        inputs,
+        latches,
+        outputs,
+        gates,
+        resets,
+        bads,
+        constraints,
+        scratch,
+    )
 }
 
-// The header by 1, 2, 3, then 4, then the file in order, then 7, then 8. After a refusal the tables hold what was read before it.
+// The header by 1, 2, 21, 3, then 4, then the file in order, then 7, then 8. After a refusal the tables hold what was read before it.
 fn fill(
+    version: Version,
     file: &[u8],
     inputs: &mut [u32],
     latches: &mut [u32],
     outputs: &mut [u32],
     gates: &mut [u32],
+    resets: &mut [u32],
+    bads: &mut [u32],
+    constraints: &mut [u32],
     scratch: &mut [u32],
 ) -> Loaded
     requires { ⌜ ((i : ℕ) → getD (now scratch) i 0 ≡ 0) ⌝ }
     ensures { λ r. ⌜ LoadedSays
-        (record { inputs = now (inputs .entry); latches = now (latches .entry); outputs = now (outputs .entry); gates = now (gates .entry) })
-        (readFile (now (file .entry)) (lengths (record { inputs = now (inputs .entry); latches = now (latches .entry); outputs = now (outputs .entry); gates = now (gates .entry) }) (now (scratch .entry)))) r
-        (record { inputs = now (inputs .exit); latches = now (latches .exit); outputs = now (outputs .exit); gates = now (gates .exit) }) ⌝ }
+        (seven (now (inputs .entry)) (now (latches .entry)) (now (outputs .entry)) (now (gates .entry))
+        (now (resets .entry)) (now (bads .entry)) (now (constraints .entry)))
+        (readFile version (now (file .entry)) (lengthsOf (seven (now (inputs .entry)) (now (latches .entry)) (now (outputs .entry)) (now (gates .entry))
+        (now (resets .entry)) (now (bads .entry)) (now (constraints .entry))) (now (scratch .entry)))) r
+        (seven (now (inputs .exit)) (now (latches .exit)) (now (outputs .exit)) (now (gates .exit))
+        (now (resets .exit)) (now (bads .exit)) (now (constraints .exit))) ⌝ }
 {
-    match read_header(file) {
+    match read_header(version, file) {
         Headed::Refused(r) => Loaded::Refused(r),
         Headed::Accepted(binary, n, at) => {
-            let short = too_short(
-                n,
-                inputs.len(),
-                latches.len(),
-                outputs.len(),
-                gates.len(),
-                scratch.len(),
-            );
+            let to = lengths(inputs, latches, outputs, gates, resets, bads, constraints);
+            let short = too_short(n, to, scratch.len());
             if short != 0 {
                 return Loaded::Refused(Refusal::ShortTable(short));
             }
             match rest_of(
+                version,
                 binary,
                 file,
                 at,
@@ -87,6 +125,9 @@ fn fill(
                 latches,
                 outputs,
                 gates,
+                resets,
+                bads,
+                constraints,
                 scratch,
             ) {
                 Passed::Refused(r) => Loaded::Refused(r),
@@ -96,46 +137,98 @@ fn fill(
     }
 }
 
-// Reads a file into tables 1 to 4, whatever they hold on entry: the counts and where the tail starts, or a refusal.
+// Reads a file by a version of the report into tables 1 to 4 and 7 to 9, whatever they hold on entry: the counts and where the tail starts, or
+// a refusal. In 2007 resets are 0, and there are no bad states and no constraints.
 pub fn load(
+    version: Version,
     file: &[u8],
     inputs: &mut [u32],
     latches: &mut [u32],
     outputs: &mut [u32],
     gates: &mut [u32],
+    resets: &mut [u32],
+    bads: &mut [u32],
+    constraints: &mut [u32],
     scratch: &mut [u32],
 ) -> Loaded
-    ensures { λ r. ⌜ Says load
-        (record { file = now (file .entry); tables = (record { inputs = now (inputs .entry); latches = now (latches .entry); outputs = now (outputs .entry); gates = now (gates .entry) }); scratch = now (scratch .entry) })
-        (record { answer = r; tables = (record { inputs = now (inputs .exit); latches = now (latches .exit); outputs = now (outputs .exit); gates = now (gates .exit) }); scratch = now (scratch .exit) }) ⌝ }
+    ensures { λ r. ⌜ Says (loadAs version)
+        (record {
+          file = now (file .entry);
+          tables = (seven (now (inputs .entry)) (now (latches .entry)) (now (outputs .entry)) (now (gates .entry))
+              (now (resets .entry)) (now (bads .entry)) (now (constraints .entry)));
+          scratch = now (scratch .entry);
+        })
+        (record {
+          answer = r;
+          tables = (seven (now (inputs .exit)) (now (latches .exit)) (now (outputs .exit)) (now (gates .exit))
+              (now (resets .exit)) (now (bads .exit)) (now (constraints .exit)));
+          scratch = now (scratch .exit);
+        }) ⌝ }
 {
-    clear_four(inputs, latches, outputs, gates);
+    clear_all(inputs, latches, outputs, gates, resets, bads, constraints);
     clear(scratch);
-    let read = fill(file, inputs, latches, outputs, gates, scratch);
+    let read = fill(
+        version,
+        file,
+        inputs,
+        latches,
+        outputs,
+        gates,
+        resets,
+        bads,
+        constraints,
+        scratch,
+    );
     tables::clear(scratch);
     if let Loaded::Refused(r) = read {
-        clear_four(inputs, latches, outputs, gates);
+        clear_all(inputs, latches, outputs, gates, resets, bads, constraints);
         return Loaded::Refused(r);
     }
     read
 }
 
-// Reads a file into tables 1 to 4 and hands back its tail, which is empty after a refusal. The answer is the number, 0 if the file is
-// accepted, the place and the counts.
+// Reads a file by a version of the report into tables 1 to 4 and 7 to 9 and hands back its tail, which is empty after a refusal. The answer is
+// the number, 0 if the file is accepted, the place and the counts.
 pub fn read<'a>(
+    version: Version,
     file: &'a [u8],
     inputs: &mut [u32],
     latches: &mut [u32],
     outputs: &mut [u32],
     gates: &mut [u32],
+    resets: &mut [u32],
+    bads: &mut [u32],
+    constraints: &mut [u32],
     scratch: &mut [u32],
-    answer: &mut [u64; 7],
+    answer: &mut [u64; 9],
 ) -> &'a [u8]
-    ensures { λ r. ⌜ Says read
-        (record { file = now (file .entry); tables = (record { inputs = now (inputs .entry); latches = now (latches .entry); outputs = now (outputs .entry); gates = now (gates .entry) }); scratch = now (scratch .entry) })
-        (record { answer = now (answer .exit); tail = now r; tables = (record { inputs = now (inputs .exit); latches = now (latches .exit); outputs = now (outputs .exit); gates = now (gates .exit) }); scratch = now (scratch .exit) }) ⌝ }
+    ensures { λ r. ⌜ Says (readAs version)
+        (record {
+          file = now (file .entry);
+          tables = (seven (now (inputs .entry)) (now (latches .entry)) (now (outputs .entry)) (now (gates .entry))
+              (now (resets .entry)) (now (bads .entry)) (now (constraints .entry)));
+          scratch = now (scratch .entry);
+        })
+        (record {
+          answer = now (answer .exit);
+          tail = now r;
+          tables = (seven (now (inputs .exit)) (now (latches .exit)) (now (outputs .exit)) (now (gates .exit))
+              (now (resets .exit)) (now (bads .exit)) (now (constraints .exit)));
+          scratch = now (scratch .exit);
+        }) ⌝ }
 {
-    match load(file, inputs, latches, outputs, gates, scratch) {
+    match load(
+        version,
+        file,
+        inputs,
+        latches,
+        outputs,
+        gates,
+        resets,
+        bads,
+        constraints,
+        scratch,
+    ) {
         Loaded::Accepted(n, start) => {
             tell(answer, 0, 0, n);
             &file[start..]

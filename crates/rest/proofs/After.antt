@@ -5,6 +5,7 @@ use mathlib.Core.Option.{Option, none, some}
 use mathlib.Core.List.{List, [], _∷_}
 use native.Mathlib.Omega.{arith}
 use Rattle.plan.specs.declared.Counts.{Counts}
+use Rattle.plan.specs.declared.Version.{Version}
 use Rattle.plan.specs.declared.Refusal.{Refusal}
 use Rattle.plan.specs.declared.Refusal.the-variants.{NotDefined, Cyclic}
 use Rattle.plan.specs.declared.Passed.{Passed}
@@ -45,50 +46,50 @@ tail-bad : (p : Parse (List Symbol)) (r : Refusal) → checked.Refused r ≡ che
 tail-bad (got ss n) r e = let z : _≡_ {A = ℕ} 0 1 = cc in absurd (omega arith)
 tail-bad (refused q) r e = let same : q ≡ r = cc in ap refused same
 
-module _ (file : List ℕ) (n : Counts) (p : Parse Circuit) where
-  pub refused-body : (r : Refusal) → p ≡ refused r → after file n p ≡ refused r
+module _ (v : Version) (file : List ℕ) (n : Counts) (p : Parse Circuit) where
+  pub refused-body : (r : Refusal) → p ≡ refused r → after v file n p ≡ refused r
   refused-body r e = rw e
 
   module _ (c : Circuit) (next : ℕ) (e : p ≡ got c next) where
-    pub refused-tail : (r : Refusal) → checked.Refused r ≡ checkedBy (refusalOf (tailAt file n next)) → after file n p ≡ refused r
-    refused-tail r h = rw (e, tail-bad (tailAt file n next) r h)
+    pub refused-tail : (r : Refusal) → checked.Refused r ≡ checkedBy (refusalOf (tailAt v file n next)) → after v file n p ≡ refused r
+    refused-tail r h = rw (e, tail-bad (tailAt v file n next) r h)
 
-    module _ (h : checked.Good ≡ checkedBy (refusalOf (tailAt file n next))) where
-      pub past-tail : after file n p ≡ unless (undefinedIn c) NotDefined (unless (cyclicIn c) Cyclic (got c next))
-      past-tail = let t = tail-good (tailAt file n next) h in rw (e, t .2)
+    module _ (h : checked.Good ≡ checkedBy (refusalOf (tailAt v file n next))) where
+      pub past-tail : after v file n p ≡ unless (undefinedIn c) NotDefined (unless (cyclicIn c) Cyclic (got c next))
+      past-tail = let t = tail-good (tailAt v file n next) h in rw (e, t .2)
 
-      pub accepted : undefinedIn c ≡ none → cyclicIn c ≡ none → after file n p ≡ got c next
+      pub accepted : undefinedIn c ≡ none → cyclicIn c ≡ none → after v file n p ≡ got c next
       accepted q k = past-tail ∙ rw (q, k)
 
 -- the answer from a body's answer on
-module _ (file : List ℕ) (n : Counts) (p : Parse Circuit) (t t′ : Tables) (r : Passed) (h : BodySays t p r t′) where
-  pub stops : (k : Refusal) → r ≡ Refused k → BodySays t (after file n p) r t′
+module _ (v : Version) (file : List ℕ) (n : Counts) (p : Parse Circuit) (t t′ : Tables) (r : Passed) (h : BodySays t p r t′) where
+  pub stops : (k : Refusal) → r ≡ Refused k → BodySays t (after v file n p) r t′
   stops k e =
-      subst (λ (x : Passed). BodySays t (after file n p) x t′) (sym e)
-      (says-refused t t′ (after file n p) k (refused-body file n p k (body-refused t p k t′ (subst (λ (x : Passed). BodySays t p x t′) e h))))
+      subst (λ (x : Passed). BodySays t (after v file n p) x t′) (sym e)
+      (says-refused t t′ (after v file n p) k (refused-body v file n p k (body-refused t p k t′ (subst (λ (x : Passed). BodySays t p x t′) e h))))
 
   module _ (next : ℕ) (e : r ≡ To next) where
     pub read-as : (c : Circuit) × (p ≡ got c next) × Holds t c t′
     read-as = body-passed t p next t′ (subst (λ (x : Passed). BodySays t p x t′) e h)
 
-    module _ (q : Checked) (w : q ≡ checkedBy (refusalOf (tailAt file n next))) where
-      pub tail-told : (k : Refusal) → q ≡ checked.Refused k → BodySays t (after file n p) (Refused k) t′
-      tail-told k v = says-refused t t′ (after file n p) k (refused-tail file n p (read-as .0) next (read-as .1) k (sym v ∙ w))
+    module _ (q : Checked) (w : q ≡ checkedBy (refusalOf (tailAt v file n next))) where
+      pub tail-told : (k : Refusal) → q ≡ checked.Refused k → BodySays t (after v file n p) (Refused k) t′
+      tail-told k u = says-refused t t′ (after v file n p) k (refused-tail v file n p (read-as .0) next (read-as .1) k (sym u ∙ w))
 
-      pub accepted-as : q ≡ checked.Good → undefinedIn (read-as .0) ≡ none → cyclicIn (read-as .0) ≡ none → BodySays t (after file n p) (To next) t′
-      accepted-as v a b =
-          says-accepted t t′ (after file n p) (read-as .0) next (accepted file n p (read-as .0) next (read-as .1) (sym v ∙ w) a b) (read-as .2)
+      pub accepted-as : q ≡ checked.Good → undefinedIn (read-as .0) ≡ none → cyclicIn (read-as .0) ≡ none → BodySays t (after v file n p) (To next) t′
+      accepted-as u a b =
+          says-accepted t t′ (after v file n p) (read-as .0) next (accepted v file n p (read-as .0) next (read-as .1) (sym u ∙ w) a b) (read-as .2)
 
-      pub good : q ≡ checked.Good → ((c : Circuit) → p ≡ got c next → (undefinedIn c ≡ none) × (cyclicIn c ≡ none)) → BodySays t (after file n p) (To next) t′
-      good v f =
+      pub good : q ≡ checked.Good → ((c : Circuit) → p ≡ got c next → (undefinedIn c ≡ none) × (cyclicIn c ≡ none)) → BodySays t (after v file n p) (To next) t′
+      good u f =
           let g = f (read-as .0) (read-as .1) in
-          accepted-as v (g .0) (g .1)
+          accepted-as u (g .0) (g .1)
 
       -- 7 and 8 of the circuit that was read
-      pub closing-told : q ≡ checked.Good → (k : Refusal) → checked.Refused k ≡ checkedBy (closed (read-as .0)) → BodySays t (after file n p) (Refused k) t′
-      closing-told v k u =
-          says-refused t t′ (after file n p) k
-          (past-tail file n p (read-as .0) next (read-as .1) (sym v ∙ w) ∙ go (undefinedIn (read-as .0)) (cyclicIn (read-as .0)) u)
+      pub closing-told : q ≡ checked.Good → (k : Refusal) → checked.Refused k ≡ checkedBy (closed (read-as .0)) → BodySays t (after v file n p) (Refused k) t′
+      closing-told y k u =
+          says-refused t t′ (after v file n p) k
+          (past-tail v file n p (read-as .0) next (read-as .1) (sym y ∙ w) ∙ go (undefinedIn (read-as .0)) (cyclicIn (read-as .0)) u)
         where
           go : (a b : Option ℕ) → checked.Refused k ≡ checkedBy (firstOf (stage NotDefined a ∷ stage Cyclic b ∷ []))
               → unless a NotDefined (unless b Cyclic (got (read-as .0) next)) ≡ refused k

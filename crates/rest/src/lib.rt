@@ -1,19 +1,21 @@
 // What follows a file's header: the body, the tail, then 7 and 8 (the paper, the order of checks).
 ghost use mathlib.Core.Path.{_≡_};
 ghost use Prim.Native.Nat.{_+_, _≤_};
+ghost use Rattle.plan.specs.Circuit.{seven};
 ghost use Rattle.plan.specs.Header.{text, binary};
-ghost use Rattle.plan.specs.Outcome.{read};
 ghost use Rattle.theorems.proofs.Held.{BodySays};
 ghost use Rattle.rest.specs.Rest.{rest, Room};
 use binary::read_binary;
 use plan::Checked;
 use plan::Counts;
 use plan::Passed;
+use plan::Version;
 use text::read_text;
 
 // What follows the header of a text file: the body, the tail, then 7 and 8. Marks of symbols stand at the start of the scratch, marks of
 // variables after them.
 pub fn rest_of_text(
+    version: Version,
     file: &[u8],
     at: usize,
     n: Counts,
@@ -21,17 +23,24 @@ pub fn rest_of_text(
     latches: &mut [u32],
     outputs: &mut [u32],
     gates: &mut [u32],
+    resets: &mut [u32],
+    bads: &mut [u32],
+    constraints: &mut [u32],
     scratch: &mut [u32],
 ) -> Passed
-    requires { ⌜ Room n (record { inputs = now inputs; latches = now latches; outputs = now outputs; gates = now gates }) (now scratch) ⌝ }
+    requires { ⌜ Room n
+        (seven (now inputs) (now latches) (now outputs) (now gates) (now resets) (now bads) (now constraints)) (now scratch) ⌝ }
     requires { ⌜ n .I + n .L + n .A ≤ n .M ⌝ }
     ensures { λ r. ⌜ BodySays
-        (record { inputs = now (inputs .entry); latches = now (latches .entry); outputs = now (outputs .entry); gates = now (gates .entry) })
-        (rest (now (file .entry)) text n at) r
-        (record { inputs = now (inputs .exit); latches = now (latches .exit); outputs = now (outputs .exit); gates = now (gates .exit) }) ⌝ }
+        (seven (now (inputs .entry)) (now (latches .entry)) (now (outputs .entry)) (now (gates .entry))
+        (now (resets .entry)) (now (bads .entry)) (now (constraints .entry)))
+        (rest version (now (file .entry)) text n at) r
+        (seven (now (inputs .exit)) (now (latches .exit)) (now (outputs .exit)) (now (gates .exit))
+        (now (resets .exit)) (now (bads .exit)) (now (constraints .exit))) ⌝ }
 {
-    let base = n.I + n.L + n.O;
+    let base = n.I + n.L + n.O + n.B + n.C;
     let read = read_text(
+        version,
         file,
         at,
         n,
@@ -39,12 +48,15 @@ pub fn rest_of_text(
         latches,
         outputs,
         gates,
+        resets,
+        bads,
+        constraints,
         &mut scratch[base..],
     );
     let Passed::To(next) = read else {
         return read;
     };
-    match tail::check(file, next, n, &mut scratch[0..base]) {
+    match tail::check(version, file, next, n, &mut scratch[0..base]) {
         Checked::Refused(r) => Passed::Refused(r),
         Checked::Good => match closing::check(
             n,
@@ -52,6 +64,8 @@ pub fn rest_of_text(
             latches,
             outputs,
             gates,
+            bads,
+            constraints,
             scratch,
             base,
             false,
@@ -65,6 +79,7 @@ pub fn rest_of_text(
 // What follows the header of a binary file: the body and the tail. Marks of symbols stand at the start of the scratch. The order of its
 // variables leaves nothing to 7 and 8.
 pub fn rest_of_binary(
+    version: Version,
     file: &[u8],
     at: usize,
     n: Counts,
@@ -72,17 +87,24 @@ pub fn rest_of_binary(
     latches: &mut [u32],
     outputs: &mut [u32],
     gates: &mut [u32],
+    resets: &mut [u32],
+    bads: &mut [u32],
+    constraints: &mut [u32],
     scratch: &mut [u32],
 ) -> Passed
-    requires { ⌜ Room n (record { inputs = now inputs; latches = now latches; outputs = now outputs; gates = now gates }) (now scratch) ⌝ }
+    requires { ⌜ Room n
+        (seven (now inputs) (now latches) (now outputs) (now gates) (now resets) (now bads) (now constraints)) (now scratch) ⌝ }
     requires { ⌜ n .I + n .L + n .A ≡ n .M ⌝ }
     ensures { λ r. ⌜ BodySays
-        (record { inputs = now (inputs .entry); latches = now (latches .entry); outputs = now (outputs .entry); gates = now (gates .entry) })
-        (rest (now (file .entry)) binary n at) r
-        (record { inputs = now (inputs .exit); latches = now (latches .exit); outputs = now (outputs .exit); gates = now (gates .exit) }) ⌝ }
+        (seven (now (inputs .entry)) (now (latches .entry)) (now (outputs .entry)) (now (gates .entry))
+        (now (resets .entry)) (now (bads .entry)) (now (constraints .entry)))
+        (rest version (now (file .entry)) binary n at) r
+        (seven (now (inputs .exit)) (now (latches .exit)) (now (outputs .exit)) (now (gates .exit))
+        (now (resets .exit)) (now (bads .exit)) (now (constraints .exit))) ⌝ }
 {
-    let base = n.I + n.L + n.O;
+    let base = n.I + n.L + n.O + n.B + n.C;
     let read = read_binary(
+        version,
         file,
         at,
         n,
@@ -90,12 +112,15 @@ pub fn rest_of_binary(
         latches,
         outputs,
         gates,
+        resets,
+        bads,
+        constraints,
         &mut scratch[base..],
     );
     let Passed::To(end) = read else {
         return read;
     };
-    match tail::check(file, end, n, &mut scratch[0..base]) {
+    match tail::check(version, file, end, n, &mut scratch[0..base]) {
         Checked::Refused(r) => Passed::Refused(r),
         Checked::Good => Passed::To(end),
     }

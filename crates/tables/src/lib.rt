@@ -2,16 +2,19 @@
 ghost use mathlib.Core.Path.{_≡_};
 ghost use Prim.Native.Nat.{_≤_, min};
 ghost use Rattle.plan.specs.Literals.{most};
-ghost use Rattle.plan.specs.Circuit.{cleared, allCleared, wordsToRead, against, short};
-ghost use Rattle.tables.specs.Lengths.{five, tableOf};
+ghost use Rattle.plan.specs.Circuit.{seven, cleared, allCleared, wordsToRead, against, short};
+ghost use Rattle.tables.specs.Lengths.{lengthsIn, sizesOf, shorterOf, tableOf};
 use plan::Counts;
 
-// The words of tables 1 to 4.
+// The words of tables 1 to 4 and 7 to 9.
 pub struct Sizes {
     pub inputs: usize,
     pub latches: usize,
     pub outputs: usize,
     pub gates: usize,
+    pub resets: usize,
+    pub bads: usize,
+    pub constraints: usize,
 }
 
 // Zero throughout.
@@ -25,52 +28,108 @@ pub fn clear(table: &mut [u32])
     }
 }
 
-// Tables 1 to 4, zero throughout.
-pub fn clear_four(inputs: &mut [u32], latches: &mut [u32], outputs: &mut [u32], gates: &mut [u32])
-    ensures { λ _. ⌜ record { inputs = now (inputs .exit); latches = now (latches .exit); outputs = now (outputs .exit); gates = now (gates .exit) } ≡ allCleared (record { inputs = now (inputs .entry); latches = now (latches .entry); outputs = now (outputs .entry); gates = now (gates .entry) }) ⌝ }
+// Tables 1 to 4 and 7 to 9, zero throughout.
+pub fn clear_all(
+    inputs: &mut [u32],
+    latches: &mut [u32],
+    outputs: &mut [u32],
+    gates: &mut [u32],
+    resets: &mut [u32],
+    bads: &mut [u32],
+    constraints: &mut [u32],
+)
+    ensures { λ _. ⌜ seven (now (inputs .exit)) (now (latches .exit)) (now (outputs .exit)) (now (gates .exit)) (now (resets .exit)) (now (bads .exit))
+        (now (constraints .exit))
+        ≡ allCleared (seven (now (inputs .entry)) (now (latches .entry)) (now (outputs .entry)) (now (gates .entry)) (now (resets .entry))
+        (now (bads .entry)) (now (constraints .entry))) ⌝ }
 {
     clear(inputs);
     clear(latches);
     clear(outputs);
     clear(gates);
+    clear(resets);
+    clear(bads);
+    clear(constraints);
 }
 
-// Refusal 4: the least of tables 1 to 5 that is shorter than the counts ask, or 0. Tables are looked at in the order of their numbers.
-pub fn too_short(
-    n: Counts,
-    inputs: usize,
-    latches: usize,
-    outputs: usize,
-    gates: usize,
-    scratch: usize,
-) -> usize
-    requires { ⌜ (n .M ≤ most) × (n .L ≤ most) × (n .O ≤ most) × (n .A ≤ most) ⌝ }
-    ensures { λ r. ⌜ tableOf r ≡ short (against 1 (wordsToRead n) (five inputs latches outputs gates scratch)) ⌝ }
+// The lengths of lent tables.
+pub fn lengths(
+    inputs: &[u32],
+    latches: &[u32],
+    outputs: &[u32],
+    gates: &[u32],
+    resets: &[u32],
+    bads: &[u32],
+    constraints: &[u32],
+) -> Sizes
+    ensures { λ r. ⌜ r ≡ sizesOf (seven (now (inputs .entry)) (now (latches .entry)) (now (outputs .entry)) (now (gates .entry))
+        (now (resets .entry)) (now (bads .entry)) (now (constraints .entry))) ⌝ }
 {
-    if inputs < n.I {
+    Sizes {
+        inputs: inputs.len(),
+        latches: latches.len(),
+        outputs: outputs.len(),
+        gates: gates.len(),
+        resets: resets.len(),
+        bads: bads.len(),
+        constraints: constraints.len(),
+    }
+}
+
+// Refusal 4: the least of tables 1 to 5 and 7 to 9 that is shorter than the counts ask, or 0. Tables are looked at in the order of
+// their numbers.
+pub fn too_short(n: Counts, to: Sizes, scratch: usize) -> usize
+    requires { ⌜ (n .M ≤ most) × (n .L ≤ most) × (n .O ≤ most) × (n .A ≤ most) × (n .B ≤ most) × (n .C ≤ most) ⌝ }
+    ensures { λ r. ⌜ tableOf r ≡ short (against 1 (wordsToRead n) (lengthsIn to scratch)) ⌝ }
+{
+    if to.inputs < n.I {
         return 1;
     }
-    if latches < 2 * n.L {
+    if to.latches < 2 * n.L {
         return 2;
     }
-    if outputs < n.O {
+    if to.outputs < n.O {
         return 3;
     }
-    if gates < 3 * n.A {
+    if to.gates < 3 * n.A {
         return 4;
     }
-    if scratch < 4 * (n.M + 1) + n.O {
+    if scratch < 4 * (n.M + 1) + n.O + n.B + n.C {
         return 5;
+    }
+    if to.resets < n.L {
+        return 7;
+    }
+    if to.bads < n.B {
+        return 8;
+    }
+    if to.constraints < n.C {
+        return 9;
     }
     0
 }
 
-// The shorter of two tables that bear one number.
-pub fn shorter(a: usize, b: usize) -> usize
+// The lesser of two lengths.
+pub fn lesser(a: usize, b: usize) -> usize
     ensures { λ r. ⌜ r ≡ min a b ⌝ }
 {
     if a < b {
         return a;
     }
     b
+}
+
+// Of two tables that bear one number the shorter.
+pub fn shorter(a: Sizes, b: Sizes) -> Sizes
+    ensures { λ r. ⌜ r ≡ shorterOf a b ⌝ }
+{
+    Sizes {
+        inputs: lesser(a.inputs, b.inputs),
+        latches: lesser(a.latches, b.latches),
+        outputs: lesser(a.outputs, b.outputs),
+        gates: lesser(a.gates, b.gates),
+        resets: lesser(a.resets, b.resets),
+        bads: lesser(a.bads, b.bads),
+        constraints: lesser(a.constraints, b.constraints),
+    }
 }

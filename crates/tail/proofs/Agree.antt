@@ -10,6 +10,7 @@ use lib.Dec.{eqb, ltb}
 use lib.ListN.{length, getD, set}
 use lib.Seq.{getD-set-same, getD-set-other}
 use Rattle.plan.specs.declared.Counts.{Counts}
+use Rattle.plan.specs.declared.Version.the-variants.{V19}
 use Rattle.plan.specs.declared.Refusal.the-variants.{BadSymbol}
 use Rattle.plan.specs.Refusals.{Parse, got, refused, _then_}
 use Rattle.plan.specs.Bytes.{number, expect}
@@ -20,45 +21,68 @@ use Rattle.tail.proofs.Lines.{kind-is}
 use Rattle.tail.proofs.Names.{nameEnd}
 use Rattle.tail.proofs.Words.{word-in}
 
--- an entry of one of the three lists and its word
+-- an entry of one of the five lists and its word
 data Place (n : Counts) (b e w : ℕ) : Type 0 where
   input : b ≡ 105 → w ≡ e → e < n .I → Place n b e w
   latch : b ≡ 108 → w ≡ n .I + e → e < n .L → Place n b e w
-  output : b ≡ 111 → w ≡ n .I + n .L + e → Place n b e w
+  output : b ≡ 111 → w ≡ n .I + n .L + e → e < n .O → Place n b e w
+  bad : b ≡ 98 → w ≡ n .I + n .L + n .O + e → e < n .B → Place n b e w
+  constraint : b ≡ 99 → w ≡ n .I + n .L + n .O + n .B + e → Place n b e w
 
-place : (n : Counts) (s : Symbol) → isKind (s .kind) ≡ true → s .entry < countOf n (s .kind) → Place n (s .kind) (s .entry) (wordOf n s)
-place n s k h = go (eqb (s .kind) 105) (eqb (s .kind) 108) (eqb (s .kind) 111) refl refl refl k h
+place : (n : Counts) (s : Symbol) → isKind V19 (s .kind) ≡ true → s .entry < countOf n (s .kind) → Place n (s .kind) (s .entry) (wordOf n s)
+place n s k h =
+    go (eqb (s .kind) 105) (eqb (s .kind) 108) (eqb (s .kind) 111) (eqb (s .kind) 98) (eqb (s .kind) 99) refl refl refl refl refl k h
   where
-    go : (t u v : Bool) → eqb (s .kind) 105 ≡ t → eqb (s .kind) 108 ≡ u → eqb (s .kind) 111 ≡ v → (t || (u || v)) ≡ true
-        → s .entry < cond t (n .I) (cond u (n .L) (n .O))
-        → Place n (s .kind) (s .entry) (cond t 0 (cond u (n .I) (n .I + n .L)) + s .entry)
-    go true u v p q r k h = input (eqb-true _ _ p) (omega arith) h
-    go false true v p q r k h = latch (eqb-true _ _ q) refl h
-    go false false true p q r k h = output (eqb-true _ _ r) refl
-    go false false false p q r k h = absurd (false≢true k)
+    go : (t u v w x : Bool) → eqb (s .kind) 105 ≡ t → eqb (s .kind) 108 ≡ u → eqb (s .kind) 111 ≡ v → eqb (s .kind) 98 ≡ w → eqb (s .kind) 99 ≡ x
+        → (t || (u || (v || (w || x)))) ≡ true
+        → s .entry < cond t (n .I) (cond u (n .L) (cond v (n .O) (cond w (n .B) (n .C))))
+        → Place n (s .kind) (s .entry)
+        (cond t 0 (cond u (n .I) (cond v (n .I + n .L) (cond w (n .I + n .L + n .O) (n .I + n .L + n .O + n .B)))) + s .entry)
+    go true u v w x p q r y z k h = input (eqb-true _ _ p) (omega arith) h
+    go false true v w x p q r y z k h = latch (eqb-true _ _ q) refl h
+    go false false true w x p q r y z k h = output (eqb-true _ _ r) refl h
+    go false false false true x p q r y z k h = bad (eqb-true _ _ y) refl h
+    go false false false false true p q r y z k h = constraint (eqb-true _ _ z) refl
+    go false false false false false p q r y z k h = absurd (false≢true k)
 
 -- no two entries have one word
 one-entry : (n : Counts) (b e c d w : ℕ) → Place n b e w → Place n c d w → (b ≡ c) × (e ≡ d)
 one-entry n b e c d w (input p q r) (input p′ q′ r′) = (omega arith, omega arith)
 one-entry n b e c d w (input p q r) (latch p′ q′ r′) = absurd (omega arith)
-one-entry n b e c d w (input p q r) (output p′ q′) = absurd (omega arith)
+one-entry n b e c d w (input p q r) (output p′ q′ r′) = absurd (omega arith)
+one-entry n b e c d w (input p q r) (bad p′ q′ r′) = absurd (omega arith)
+one-entry n b e c d w (input p q r) (constraint p′ q′) = absurd (omega arith)
 one-entry n b e c d w (latch p q r) (input p′ q′ r′) = absurd (omega arith)
 one-entry n b e c d w (latch p q r) (latch p′ q′ r′) = (omega arith, omega arith)
-one-entry n b e c d w (latch p q r) (output p′ q′) = absurd (omega arith)
-one-entry n b e c d w (output p q) (input p′ q′ r′) = absurd (omega arith)
-one-entry n b e c d w (output p q) (latch p′ q′ r′) = absurd (omega arith)
-one-entry n b e c d w (output p q) (output p′ q′) = (omega arith, omega arith)
+one-entry n b e c d w (latch p q r) (output p′ q′ r′) = absurd (omega arith)
+one-entry n b e c d w (latch p q r) (bad p′ q′ r′) = absurd (omega arith)
+one-entry n b e c d w (latch p q r) (constraint p′ q′) = absurd (omega arith)
+one-entry n b e c d w (output p q r) (input p′ q′ r′) = absurd (omega arith)
+one-entry n b e c d w (output p q r) (latch p′ q′ r′) = absurd (omega arith)
+one-entry n b e c d w (output p q r) (output p′ q′ r′) = (omega arith, omega arith)
+one-entry n b e c d w (output p q r) (bad p′ q′ r′) = absurd (omega arith)
+one-entry n b e c d w (output p q r) (constraint p′ q′) = absurd (omega arith)
+one-entry n b e c d w (bad p q r) (input p′ q′ r′) = absurd (omega arith)
+one-entry n b e c d w (bad p q r) (latch p′ q′ r′) = absurd (omega arith)
+one-entry n b e c d w (bad p q r) (output p′ q′ r′) = absurd (omega arith)
+one-entry n b e c d w (bad p q r) (bad p′ q′ r′) = (omega arith, omega arith)
+one-entry n b e c d w (bad p q r) (constraint p′ q′) = absurd (omega arith)
+one-entry n b e c d w (constraint p q) (input p′ q′ r′) = absurd (omega arith)
+one-entry n b e c d w (constraint p q) (latch p′ q′ r′) = absurd (omega arith)
+one-entry n b e c d w (constraint p q) (output p′ q′ r′) = absurd (omega arith)
+one-entry n b e c d w (constraint p q) (bad p′ q′ r′) = absurd (omega arith)
+one-entry n b e c d w (constraint p q) (constraint p′ q′) = (omega arith, omega arith)
 
 -- a word is 0 exactly if no symbol seen has its entry
 abbrev pub Agrees : Counts → List Symbol → List ℕ → Type 0
 Agrees n seen marks =
-    (s : Symbol) → isKind (s .kind) ≡ true → s .entry < countOf n (s .kind) → eqb (getD marks (wordOf n s) 0) 0 ≡ not (named s seen)
+    (s : Symbol) → isKind V19 (s .kind) ≡ true → s .entry < countOf n (s .kind) → eqb (getD marks (wordOf n s) 0) 0 ≡ not (named s seen)
 
 pub none-seen : (n : Counts) (marks : List ℕ) → Holds n marks → Blank n marks → Agrees n [] marks
 none-seen n marks h b s k l = eq-eqb _ 0 (b (wordOf n s) (word-in n marks h (s .kind) (s .entry) l))
 
 module _ (n : Counts) (seen : List Symbol) (marks : List ℕ) (agrees : Agrees n seen marks) where
-  judges-same : (s : Symbol) → isKind (s .kind) ≡ true → fits n seen s ≡ free n marks s
+  judges-same : (s : Symbol) → isKind V19 (s .kind) ≡ true → fits n seen s ≡ free n marks s
   judges-same s k = go (ltb (s .entry) (countOf n (s .kind))) refl
     where
       go : (t : Bool) → ltb (s .entry) (countOf n (s .kind)) ≡ t
@@ -67,7 +91,7 @@ module _ (n : Counts) (seen : List Symbol) (marks : List ℕ) (agrees : Agrees n
       go false e = refl
 
   -- one more symbol, marked
-  pub one-more : (t : Symbol) → Holds n marks → isKind (t .kind) ≡ true → free n marks t ≡ true
+  pub one-more : (t : Symbol) → Holds n marks → isKind V19 (t .kind) ≡ true → free n marks t ≡ true
       → Agrees n (t ∷ seen) (set marks (wordOf n t) 1)
   one-more t h k f s k′ l′ =
       let l : t .entry < countOf n (t .kind) = ltb-true _ _ (and-left (ltb (t .entry) (countOf n (t .kind))) _ f) in
@@ -126,7 +150,7 @@ symbol-splits file n seen at = by-number (number file (at + 1))
     by-number (refused r) = refl
 
 pub marked-same : (file : List ℕ) (n : Counts) (seen : List Symbol) (marks : List ℕ) (at : ℕ) → Agrees n seen marks
-    → isKind (getD file at 0) ≡ true → symbol file n seen at ≡ markedSymbol file n marks at
+    → isKind V19 (getD file at 0) ≡ true → symbol file n seen at ≡ markedSymbol file n marks at
 marked-same file n seen marks at agrees k = symbol-splits file n seen at ∙ go (symbolLine file at) refl
   where
     go : (p : Parse Symbol) → symbolLine file at ≡ p
@@ -134,5 +158,5 @@ marked-same file n seen marks at agrees k = symbol-splits file n seen at ∙ go 
         ≡ (p then λ s next. cond (free n marks s) (got s next) (refused (BadSymbol at)))
     go (got s next) e =
         ap (λ (t : Bool). cond t (got s next) (refused (BadSymbol at)))
-        (judges-same n seen marks agrees s (ap isKind (sym (kind-is file at s next e)) ∙ k))
+        (judges-same n seen marks agrees s (ap (isKind V19) (sym (kind-is file at s next e)) ∙ k))
     go (refused r) e = refl

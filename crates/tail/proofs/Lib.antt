@@ -4,3 +4,4 @@ pub mod Lines
 pub mod Words
 pub mod Agree
 pub mod Turns
+pub mod Letters

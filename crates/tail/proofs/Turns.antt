@@ -8,32 +8,35 @@ use native.Mathlib.Omega.{arith}
 use borrow.Author.Tests.{le-leb, lt-leb}
 use lib.ListN.{length, getD, set, length-set}
 use Rattle.plan.specs.declared.Counts.{Counts}
+use Rattle.plan.specs.declared.Version.{Version}
+use Rattle.plan.specs.declared.Version.the-variants.{V2007, V19}
 use Rattle.plan.specs.declared.Refusal.{Refusal}
 use Rattle.plan.specs.declared.Passed.the-variants as passed
 use Rattle.plan.specs.declared.Checked.{Checked}
 use Rattle.plan.specs.declared.Checked.the-variants as checked
 use Rattle.plan.specs.Refusals.{Parse, got, refused, _then_}
-use Rattle.plan.specs.Tail.{Symbol, isKind, symbol, comment, tailFrom, tailAt}
+use Rattle.plan.specs.Tail.{Symbol, isKind, symbol, comment, startsSymbol, tailFrom, tailAt}
 use Rattle.plan.specs.Given.{refusalOf}
 use Rattle.plan.specs.Outcome.{passedBy, checkedBy}
-use Rattle.theorems.proofs.Reading.Common.{then-got, cond-got, got-value}
+use Rattle.theorems.proofs.Reading.Common.{then-got, cond-got, got-value, and-left}
 use Rattle.theorems.proofs.Reading.Tails.{symbol-past}
 use Rattle.tail.specs.Marks.{symbolLine, wordOf, free, markedSymbol, marksAfter, Holds, Blank}
+use Rattle.tail.proofs.Letters.{kind-19}
 use Rattle.tail.proofs.Lines.{kind-is}
 use Rattle.tail.proofs.Agree.{Agrees, none-seen, one-more, marked-same}
 
 -- the symbols seen and the lines that may still come
-pub record Turn (file : List ℕ) (n : Counts) (at size : ℕ) (marks : List ℕ) (pos : ℕ) : Type 0 where
+pub record Turn (v : Version) (file : List ℕ) (n : Counts) (at size : ℕ) (marks : List ℕ) (pos : ℕ) : Type 0 where
   pub seen : List Symbol
   pub fuel : ℕ
   pub agrees : Agrees n seen marks
   pub holds : Holds n marks
   pub same : length marks ≡ size
   pub enough : length file - pos < fuel
-  pub answer : refusalOf (tailAt file n at) ≡ refusalOf (tailFrom file n fuel seen pos)
+  pub answer : refusalOf (tailAt v file n at) ≡ refusalOf (tailFrom v file n fuel seen pos)
 
-pub starts : (file : List ℕ) (n : Counts) (at : ℕ) (marks : List ℕ) → Holds n marks → Blank n marks → Turn file n at (length marks) marks at
-starts file n at marks h b =
+pub starts : (v : Version) (file : List ℕ) (n : Counts) (at : ℕ) (marks : List ℕ) → Holds n marks → Blank n marks → Turn v file n at (length marks) marks at
+starts v file n at marks h b =
     record {
       seen = [];
       fuel = suc (length file);
@@ -57,39 +60,42 @@ later : (s : Symbol) (p : Parse (List Symbol)) → refusalOf (p then λ ss last.
 later s (got ss last) = refl
 later s (refused r) = refl
 
-module _ {file : List ℕ} {n : Counts} {at size : ℕ} {marks : List ℕ} {pos : ℕ} (t : Turn file n at size marks pos) where
+module _ {v : Version} {file : List ℕ} {n : Counts} {at size : ℕ} {marks : List ℕ} {pos : ℕ} (t : Turn v file n at size marks pos) where
   -- the answer as its first line decides it
   here : (k : ℕ) → t .fuel ≡ suc k → pos < length file
-      → refusalOf (tailAt file n at)
-      ≡ refusalOf (cond (isKind (getD file pos 0))
-      (symbol file n (t .seen) pos then λ s next. tailFrom file n k (s ∷ t .seen) next then λ ss last. got (s ∷ ss) last)
+      → refusalOf (tailAt v file n at)
+      ≡ refusalOf (cond (startsSymbol v file pos)
+      (symbol file n (t .seen) pos then λ s next. tailFrom v file n k (s ∷ t .seen) next then λ ss last. got (s ∷ ss) last)
       (comment file pos))
-  here k e h = t .answer ∙ (ap (λ (f : ℕ). refusalOf (tailFrom file n f (t .seen) pos)) e ∙ rw (lt-leb _ _ h))
+  here k e h = t .answer ∙ (ap (λ (f : ℕ). refusalOf (tailFrom v file n f (t .seen) pos)) e ∙ rw (lt-leb _ _ h))
 
   more : pos < length file → t .fuel ≡ suc (t .fuel - 1)
   more h = omega (arith, t .enough)
 
-  pub ends : length file ≤ pos → checked.Good ≡ checkedBy (refusalOf (tailAt file n at))
+  pub ends : length file ≤ pos → checked.Good ≡ checkedBy (refusalOf (tailAt v file n at))
   ends h =
       let e : t .fuel ≡ suc (t .fuel - 1) = omega (arith, t .enough) in
-      let over : refusalOf (tailAt file n at) ≡ none
-      = t .answer ∙ (ap (λ (f : ℕ). refusalOf (tailFrom file n f (t .seen) pos)) e ∙ rw (le-leb _ _ h)) in
+      let over : refusalOf (tailAt v file n at) ≡ none
+      = t .answer ∙ (ap (λ (f : ℕ). refusalOf (tailFrom v file n f (t .seen) pos)) e ∙ rw (le-leb _ _ h)) in
       ap checkedBy (sym over)
 
-  pub remarks : (r : Checked) → pos < length file → isKind (getD file pos 0) ≡ false → r ≡ checkedBy (refusalOf (comment file pos))
-      → r ≡ checkedBy (refusalOf (tailAt file n at))
+  pub remarks : (r : Checked) → pos < length file → startsSymbol v file pos ≡ false → r ≡ checkedBy (refusalOf (comment file pos))
+      → r ≡ checkedBy (refusalOf (tailAt v file n at))
   remarks r h k e =
-      let told : refusalOf (tailAt file n at) ≡ refusalOf (comment file pos) = here (t .fuel - 1) (more h) h ∙ rw k in
+      let told : refusalOf (tailAt v file n at) ≡ refusalOf (comment file pos) = here (t .fuel - 1) (more h) h ∙ rw k in
       e ∙ ap checkedBy (sym told)
 
-  module _ (h : pos < length file) (k : isKind (getD file pos 0) ≡ true) where
+  module _ (h : pos < length file) (k : startsSymbol v file pos ≡ true) where
+    kind : isKind v (getD file pos 0) ≡ true
+    kind = and-left (isKind v (getD file pos 0)) _ k
+
     same-symbol : symbol file n (t .seen) pos ≡ markedSymbol file n marks pos
-    same-symbol = marked-same file n (t .seen) marks pos (t .agrees) k
+    same-symbol = marked-same file n (t .seen) marks pos (t .agrees) (kind-19 v (getD file pos 0) kind)
 
     pub stops : (r : Refusal) → passed.Refused r ≡ passedBy (markedSymbol file n marks pos)
-        → checked.Refused r ≡ checkedBy (refusalOf (tailAt file n at))
+        → checked.Refused r ≡ checkedBy (refusalOf (tailAt v file n at))
     stops r e =
-        let told : refusalOf (tailAt file n at) ≡ some r
+        let told : refusalOf (tailAt v file n at) ≡ some r
         = here (t .fuel - 1) (more h) h ∙ rw (k, same-symbol ∙ passed-not (markedSymbol file n marks pos) r e) in
         ap checkedBy (sym told)
 
@@ -97,24 +103,24 @@ module _ {file : List ℕ} {n : Counts} {at size : ℕ} {marks : List ℕ} {pos 
       pub falls : length file - next < length file - pos
       falls =
           let p = passed-to (markedSymbol file n marks pos) next e in
-          omega (arith, symbol-past file n (t .seen) pos (p .0) next k (same-symbol ∙ p .1))
+          omega (arith, symbol-past v file n (t .seen) pos (p .0) next kind (same-symbol ∙ p .1))
 
       -- the symbol fits, and its letter is the line's
-      fitting : (s : Symbol) → markedSymbol file n marks pos ≡ got s next → (isKind (s .kind) ≡ true) × (free n marks s ≡ true)
+      fitting : (s : Symbol) → markedSymbol file n marks pos ≡ got s next → (isKind V19 (s .kind) ≡ true) × (free n marks s ≡ true)
       fitting s p =
           let q = then-got (symbolLine file pos) _ s next p in
           let c = cond-got (free n marks (q .0)) _ _ s next (q .3) in
           let s-is : q .0 ≡ s = got-value (q .0) s (q .1) next (c .1) in
-          subst (λ (x : Symbol). (isKind (x .kind) ≡ true) × (free n marks x ≡ true)) s-is
-          (ap isKind (sym (kind-is file pos (q .0) (q .1) (q .2))) ∙ k, c .0)
+          subst (λ (x : Symbol). (isKind V19 (x .kind) ≡ true) × (free n marks x ≡ true)) s-is
+          (ap (isKind V19) (sym (kind-is file pos (q .0) (q .1) (q .2))) ∙ kind-19 v (getD file pos 0) kind, c .0)
 
-      pub turns : (marks′ : List ℕ) → marks′ ≡ marksAfter n marks (markedSymbol file n marks pos) → Turn file n at size marks′ next
+      pub turns : (marks′ : List ℕ) → marks′ ≡ marksAfter n marks (markedSymbol file n marks pos) → Turn v file n at size marks′ next
       turns marks′ m =
           let p = passed-to (markedSymbol file n marks pos) next e in
           let s = p .0 in
           let f = fitting s (p .1) in
           let long : length (set marks (wordOf n s) 1) ≡ length marks = length-set marks (wordOf n s) 1 in
-          subst (λ (x : List ℕ). Turn file n at size x next) (sym (m ∙ ap (marksAfter n marks) (p .1)))
+          subst (λ (x : List ℕ). Turn v file n at size x next) (sym (m ∙ ap (marksAfter n marks) (p .1)))
           (record {
             seen = s ∷ t .seen;
             fuel = t .fuel - 1;
@@ -123,11 +129,13 @@ module _ {file : List ℕ} {n : Counts} {at size : ℕ} {marks : List ℕ} {pos 
               most-I = t .holds .most-I;
               most-L = t .holds .most-L;
               most-O = t .holds .most-O;
+              most-B = t .holds .most-B;
+              most-C = t .holds .most-C;
               words = omega (arith, t .holds .words);
             };
             same = long ∙ t .same;
             enough = omega (arith, falls, t .enough);
             answer =
                 here (t .fuel - 1) (more h) h
-                ∙ rw (k, same-symbol ∙ p .1) (later s (tailFrom file n (t .fuel - 1) (s ∷ t .seen) next));
+                ∙ rw (k, same-symbol ∙ p .1) (later s (tailFrom v file n (t .fuel - 1) (s ∷ t .seen) next));
           })

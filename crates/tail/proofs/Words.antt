@@ -16,26 +16,31 @@ use Rattle.plan.specs.Literals.{most, beyond}
 use Rattle.plan.specs.Refusals.{Parse, got, refused, _then_}
 use Rattle.plan.specs.Tail.{Symbol, countOf}
 use Rattle.plan.specs.Outcome.{cutNumber, passedBy}
-use Rattle.tail.specs.Marks.{symbolLine, entryOf, firstWord, wordOf, free, markedSymbol, marksAfter, Holds}
+use Rattle.tail.specs.Marks.{symbolLine, entryOf, firstWord, entries, wordOf, free, markedSymbol, marksAfter, Holds}
 use Rattle.tail.proofs.Lines.{line-value, line-wrong, kind-is}
 
 -- every count is small, and an entry's word stands among the marks
 module _ (n : Counts) (marks : List ℕ) (h : Holds n marks) (b : ℕ) where
   pub few : countOf n b ≤ most
-  few = go (eqb b 105) (eqb b 108)
+  few = go (eqb b 105) (eqb b 108) (eqb b 111) (eqb b 98)
     where
-      go : (t u : Bool) → cond t (n .I) (cond u (n .L) (n .O)) ≤ most
-      go true u = h .most-I
-      go false true = h .most-L
-      go false false = h .most-O
+      go : (t u v w : Bool) → cond t (n .I) (cond u (n .L) (cond v (n .O) (cond w (n .B) (n .C)))) ≤ most
+      go true u v w = h .most-I
+      go false true v w = h .most-L
+      go false false true w = h .most-O
+      go false false false true = h .most-B
+      go false false false false = h .most-C
 
-  pub word-in : (e : ℕ) → e < countOf n b → firstWord n b + e < n .I + n .L + n .O
-  word-in e k = go (eqb b 105) (eqb b 108) k
+  pub word-in : (e : ℕ) → e < countOf n b → firstWord n b + e < entries n
+  word-in e k = go (eqb b 105) (eqb b 108) (eqb b 111) (eqb b 98) k
     where
-      go : (t u : Bool) → e < cond t (n .I) (cond u (n .L) (n .O)) → cond t 0 (cond u (n .I) (n .I + n .L)) + e < n .I + n .L + n .O
-      go true u k = omega arith
-      go false true k = omega arith
-      go false false k = omega arith
+      go : (t u v w : Bool) → e < cond t (n .I) (cond u (n .L) (cond v (n .O) (cond w (n .B) (n .C))))
+          → cond t 0 (cond u (n .I) (cond v (n .I + n .L) (cond w (n .I + n .L + n .O) (n .I + n .L + n .O + n .B)))) + e < entries n
+      go true u v w k = omega arith
+      go false true v w k = omega arith
+      go false false true w k = omega arith
+      go false false false true k = omega arith
+      go false false false false k = omega arith
 
 -- what reading a symbol leaves
 abbrev pub Leaves : List ℕ → Counts → List ℕ → ℕ → Passed → List ℕ → Type 0

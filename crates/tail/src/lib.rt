@@ -1,13 +1,14 @@
 // The one check of a symbol and comment part, of a whole file and of a tail alone (the paper, symbols and comments; AIGER report,
 // section 12).
 ghost use mathlib.Core.Path.{_≡_};
-ghost use Prim.Native.Nat.{_+_, _<_, _^_};
+ghost use Prim.Native.Nat.{_+_, _≤_, _<_};
 ghost use lib.ListN.{length, drop};
 ghost use Rattle.plan.specs.Bytes.{nameClass, span};
-ghost use Rattle.plan.specs.Tail.{isKind, countOf, comment as commentAt, tailAt};
+ghost use Rattle.plan.specs.Literals.{most};
+ghost use Rattle.plan.specs.Tail.{isKind, countOf, comment as commentAt, startsSymbol, tailAt};
 ghost use Rattle.plan.specs.Given.{refusalOf};
 ghost use Rattle.plan.specs.Outcome.{cutNumber, passedBy, checkedBy};
-ghost use Rattle.tail.specs.Marks.{symbolLine, entryOf, firstWord, markedSymbol, marksAfter, Holds, Blank};
+ghost use Rattle.tail.specs.Marks.{later, symbolLine, entryOf, firstWord, markedSymbol, marksAfter, Holds, Blank};
 use classes::class_of;
 use classes::stands;
 use numbers::read_number;
@@ -17,6 +18,7 @@ use plan::Counts;
 use plan::Number;
 use plan::Passed;
 use plan::Refusal;
+use plan::Version;
 
 // Whether bytes of a class stand in a name.
 fn in_name(c: Class) -> bool
@@ -67,16 +69,43 @@ fn read_line(file: &[u8], at: usize) -> Number
     }
 }
 
-// Whether a line that starts with this letter is a symbol line.
-fn is_kind(b: u8) -> bool
-    ensures { λ r. ⌜ r ≡ isKind b ⌝ }
+// Whether a version has what came after 2007.
+fn is_later(version: Version) -> bool
+    ensures { λ r. ⌜ r ≡ later version ⌝ }
+{
+    match version {
+        Version::V2007 => false,
+        Version::V19 => true,
+    }
+}
+
+// Whether a letter is one of a version's lists.
+fn is_kind(version: Version, b: u8) -> bool
+    ensures { λ r. ⌜ r ≡ isKind version b ⌝ }
 {
     match b {
         105 => true,
         108 => true,
         111 => true,
+        98 => is_later(version),
+        99 => is_later(version),
         _ => false,
     }
+}
+
+// Whether a symbol line starts here: "c" with a new line opens the comment.
+fn starts_symbol(version: Version, file: &[u8], at: usize) -> bool
+    requires { ⌜ at < length (now file) ⌝ }
+    ensures { λ r. ⌜ r ≡ startsSymbol version (now (file .entry)) at ⌝ }
+{
+    let b = file[at];
+    if !is_kind(version, b) {
+        return false;
+    }
+    if b != 99 {
+        return true;
+    }
+    !stands(file, at + 1, 10)
 }
 
 // The count of a letter's list.
@@ -86,19 +115,23 @@ fn count_of(n: Counts, b: u8) -> usize
     match b {
         105 => n.I,
         108 => n.L,
-        _ => n.O,
+        111 => n.O,
+        98 => n.B,
+        _ => n.C,
     }
 }
 
-// The first word of a letter's list: inputs, then latches, then outputs.
+// The first word of a letter's list: inputs, then latches, outputs, bad states and constraints.
 fn first_word(n: Counts, b: u8) -> usize
-    requires { ⌜ n .I + n .L < 2 ^ 64 ⌝ }
+    requires { ⌜ (n .I ≤ most) × (n .L ≤ most) × (n .O ≤ most) × (n .B ≤ most) ⌝ }
     ensures { λ r. ⌜ r ≡ firstWord n b ⌝ }
 {
     match b {
         105 => 0,
         108 => n.I,
-        _ => n.I + n.L,
+        111 => n.I + n.L,
+        98 => n.I + n.L + n.O,
+        _ => n.I + n.L + n.O + n.B,
     }
 }
 
@@ -145,16 +178,16 @@ fn comment(file: &[u8], at: usize) -> Checked
     Checked::Good
 }
 
-// The tail that starts at a position: symbol lines in order, then the end of the file or a comment. `marks` has a word for each input,
-// latch and output, all 0; what it holds after is left open.
-pub fn check(file: &[u8], at: usize, n: Counts, marks: &mut [u32]) -> Checked
+// The tail that starts at a position: symbol lines in order, then the end of the file or a comment. `marks` has a word for each entry of the
+// five lists, all 0; what it holds after is left open.
+pub fn check(version: Version, file: &[u8], at: usize, n: Counts, marks: &mut [u32]) -> Checked
     requires { ⌜ Holds n (now marks) ⌝ }
     requires { ⌜ Blank n (now marks) ⌝ }
-    ensures { λ r. ⌜ r ≡ checkedBy (refusalOf (tailAt (now (file .entry)) n at)) ⌝ }
+    ensures { λ r. ⌜ r ≡ checkedBy (refusalOf (tailAt version (now (file .entry)) n at)) ⌝ }
 {
     let mut pos = at;
     while pos < file.len() {
-        if !is_kind(file[pos]) {
+        if !starts_symbol(version, file, pos) {
             return comment(file, pos);
         }
         match read_symbol(file, pos, n, marks) {

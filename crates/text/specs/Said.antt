@@ -3,6 +3,7 @@ use Prim.Native.Nat.{ℕ}
 use mathlib.Core.Path.{_≡_}
 use mathlib.Core.List.{List}
 use Rattle.plan.specs.declared.Counts.{Counts}
+use Rattle.plan.specs.declared.Version.{Version}
 use Rattle.plan.specs.declared.Passed.{Passed}
 use Rattle.plan.specs.Refusals.{got}
 use Rattle.plan.specs.Circuit.{Circuit, Tables, definedIn}
@@ -11,6 +12,6 @@ use Rattle.theorems.proofs.Held.{BodySays}
 use Rattle.theorems.proofs.Marks.{Agrees}
 
 -- the answer and the tables; of a body that is accepted, marks of all that it defines
-pub record TextSays (file : List ℕ) (n : Counts) (at : ℕ) (t : Tables) (r : Passed) (t′ : Tables) (marks : List ℕ) : Type 0 where
-  pub body : BodySays t (textBody file n at) r t′
-  pub marked : (c : Circuit) (next : ℕ) → textBody file n at ≡ got c next → Agrees (n .M) (definedIn c) marks
+pub record TextSays (v : Version) (file : List ℕ) (n : Counts) (at : ℕ) (t : Tables) (r : Passed) (t′ : Tables) (marks : List ℕ) : Type 0 where
+  pub body : BodySays t (textBody v file n at) r t′
+  pub marked : (c : Circuit) (next : ℕ) → textBody v file n at ≡ got c next → Agrees (n .M) (definedIn c) marks

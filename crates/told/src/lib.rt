@@ -12,8 +12,8 @@ use plan::Written;
 use refusals::told_number;
 use refusals::told_place;
 
-// M, I, L, O, A.
-pub fn counts(words: &[u64; 5]) -> Counts
+// M, I, L, O, A, B, C.
+pub fn counts(words: &[u64; 7]) -> Counts
     ensures { λ r. ⌜ r ≡ countsFrom (now (words .entry)) ⌝ }
 {
     Counts {
@@ -22,6 +22,8 @@ pub fn counts(words: &[u64; 5]) -> Counts
         L: words[2] as usize,
         O: words[3] as usize,
         A: words[4] as usize,
+        B: words[5] as usize,
+        C: words[6] as usize,
     }
 }
 
@@ -52,8 +54,8 @@ pub fn written(r: Written, answer: &mut [u64; 3])
     }
 }
 
-// Number, place, M, I, L, O, A.
-pub fn tell(answer: &mut [u64; 7], number: u64, place: u64, n: Counts)
+// Number, place, M, I, L, O, A, B, C.
+pub fn tell(answer: &mut [u64; 9], number: u64, place: u64, n: Counts)
     ensures { λ _. ⌜ now (answer .exit) ≡ number ∷ place ∷ listOf n ⌝ }
 {
     *answer = [
@@ -64,12 +66,14 @@ pub fn tell(answer: &mut [u64; 7], number: u64, place: u64, n: Counts)
         n.L as u64,
         n.O as u64,
         n.A as u64,
+        n.B as u64,
+        n.C as u64,
     ];
 }
 
 // The counts after a refusal.
 pub fn no_counts() -> Counts
-    ensures { λ r. ⌜ listOf r ≡ 0 ∷ 0 ∷ 0 ∷ 0 ∷ 0 ∷ [] ⌝ }
+    ensures { λ r. ⌜ listOf r ≡ 0 ∷ 0 ∷ 0 ∷ 0 ∷ 0 ∷ 0 ∷ 0 ∷ [] ⌝ }
 {
     Counts {
         M: 0,
@@ -77,11 +81,13 @@ pub fn no_counts() -> Counts
         L: 0,
         O: 0,
         A: 0,
+        B: 0,
+        C: 0,
     }
 }
 
-// The values are M, I, L, O, A of the circuit made.
-pub fn made(r: Made, answer: &mut [u64; 7])
+// The values are M, I, L, O, A, B, C of the circuit made.
+pub fn made(r: Made, answer: &mut [u64; 9])
     ensures { λ _. ⌜ now (answer .exit) ≡ madeValues r ⌝ }
 {
     match r {

@@ -25,19 +25,19 @@ read-counts-requires-2 c κs = search needs
 
 returns : tie.Need-returns
 returns c =
-    by-magic (c .before .before .before .before .before .args .file .now) _
+    by-magic (c .before .before .before .before .before .args .version) (c .before .before .before .before .before .args .file .now) _
     (sym (c .before .place .given .1) ∙ c .before .before .before .read-magic .ensures)
 
 returns-2 : tie.Need-returns-2
 returns-2 c =
     c .read-counts .ensures
-    ∙ by-magic (c .before .before .before .before .before .args .file .now) _
+    ∙ by-magic (c .before .before .before .before .before .args .version) (c .before .before .before .before .before .args .file .now) _
     (sym (c .before .enum-told .given .1) ∙ c .before .before .before .read-magic .ensures)
 
 returns-3 : tie.Need-returns-3
 returns-3 c =
     c .read-counts2 .ensures
-    ∙ by-magic (c .before .before .before .before .before .args .file .now) _
+    ∙ by-magic (c .before .before .before .before .before .args .version) (c .before .before .before .before .before .args .file .now) _
     (sym (c .before .enum-told2 .given .1) ∙ c .before .before .before .read-magic .ensures)
 
 pub read-header-spec : {M : Type 1} → statement M

@@ -1,6 +1,7 @@
 -- An accepted header has counts at most the limit, so no sum is too large.
 use mathlib.Core.Path.{sym, ap, _∙_}
 use borrow.Author.Needs.{needs}
+use Rattle.plan.specs.declared.Version.the-variants.{V19}
 use Rattle.plan.specs.Header.{wordsBy}
 use Rattle.header.proofs.Accepted.{accepted, not-accepted}
 use Rattle.header.proofs.words.Statement.{statement}
@@ -17,19 +18,19 @@ enum-known-n c = search needs
 
 words-of-requires : tie.Need-words-of-requires
 words-of-requires c κs =
-    accepted (c .before .before .before .before .before .args .file .now) _ _ _
+    accepted V19 (c .before .before .before .before .before .args .file .now) _ _ _
     (sym (c .before .n .given .1) ∙ c .before .before .before .read-header .ensures) .small
 
 returns : tie.Need-returns
 returns c =
     let a = c .before .before .before .before .args in
-    sym (ap (wordsBy (a .table)) (not-accepted (a .file .now) _ (sym (c .enum-told .given .1) ∙ c .before .before .read-header .ensures)))
+    sym (ap (wordsBy (a .table)) (not-accepted V19 (a .file .now) _ (sym (c .enum-told .given .1) ∙ c .before .before .read-header .ensures)))
 
 returns-2 : tie.Need-returns-2
 returns-2 c =
     let start = c .before .before .before .before .before .before in
     let a = start .args in
-    let took = accepted (a .file .now) _ _ _ (sym (c .before .before .n .given .1) ∙ c .before .before .before .before .read-header .ensures) in
+    let took = accepted V19 (a .file .now) _ _ _ (sym (c .before .before .n .given .1) ∙ c .before .before .before .before .read-header .ensures) in
     c .words-of .ensures ∙ sym (ap (wordsBy (a .table)) (took .head))
 
 pub words-spec : {M : Type 1} → statement M

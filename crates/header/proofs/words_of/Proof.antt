@@ -1,23 +1,29 @@
--- Each arm answers its table.
 use native.Mathlib.Omega.{arith}
 use Rattle.header.proofs.Sizes.{no-table}
+use borrow.Author.Needs.{needs}
 use Rattle.header.proofs.words_of.Statement.{statement}
 use Rattle.header.proofs.words_of.Tie as tie
 
 mul-result : tie.Need-mul-result
-mul-result c = omega arith
+mul-result c = search needs
 
 mul-result-2 : tie.Need-mul-result-2
-mul-result-2 c = omega arith
+mul-result-2 c = search needs
 
 add-result : tie.Need-add-result
 add-result c = omega arith
 
 mul-result-3 : tie.Need-mul-result-3
-mul-result-3 c = omega arith
+mul-result-3 c = search needs
 
 add-result-2 : tie.Need-add-result-2
 add-result-2 c = omega arith
+
+add-result-3 : tie.Need-add-result-3
+add-result-3 c = omega arith
+
+add-result-4 : tie.Need-add-result-4
+add-result-4 c = omega arith
 
 returns : tie.Need-returns
 returns c = rw (c .match .keys1)
@@ -35,7 +41,17 @@ returns-5 : tie.Need-returns-5
 returns-5 c = rw (c .match .keys5)
 
 returns-6 : tie.Need-returns-6
-returns-6 c = let a = c .before .args in let r = c .match .rest in no-table (a .n) (a .table) (r .0 .0 .0 .0 .1) (r .0 .0 .0 .1) (r .0 .0 .1) (r .0 .1) (r .1)
+returns-6 c = rw (c .match .keys6)
+
+returns-7 : tie.Need-returns-7
+returns-7 c = rw (c .match .keys7)
+
+returns-8 : tie.Need-returns-8
+returns-8 c = rw (c .match .keys8)
+
+returns-9 : tie.Need-returns-9
+returns-9 c =
+    let a = c .before .args in let r = c .match .rest in no-table (a .n) (a .table) (r .0 .0 .0 .0 .0 .0 .0 .1) (r .0 .0 .0 .0 .0 .0 .1) (r .0 .0 .0 .0 .0 .1) (r .0 .0 .0 .0 .1) (r .0 .0 .0 .1) (r .0 .0 .1) (r .0 .1) (r .1)
 
 pub words-of-spec : {M : Type 1} → statement M
 words-of-spec =
@@ -46,9 +62,14 @@ words-of-spec =
     add-result
     mul-result-3
     add-result-2
+    add-result-3
+    add-result-4
     returns
     returns-2
     returns-3
     returns-4
     returns-5
-    returns-6)
+    returns-6
+    returns-7
+    returns-8
+    returns-9)

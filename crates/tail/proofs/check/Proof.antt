@@ -9,38 +9,35 @@ use Rattle.tail.proofs.check.Statement.{statement}
 use Rattle.tail.proofs.check.Tie as tie
 
 abbrev Inv-loop : tie.InvT-loop
-Inv-loop file at n marks₀ pos₀ marks pos = Turn file n at (length marks₀) marks pos
+Inv-loop version file at n marks₀ pos₀ marks pos = Turn version file n at (length marks₀) marks pos
 
 abbrev μ-loop : tie.MeasureT-loop
-μ-loop file at n marks₀ pos₀ marks pos = length file - pos
+μ-loop version file at n marks₀ pos₀ marks pos = length file - pos
 
 loop-holds : tie.Need-loop-holds Inv-loop μ-loop
 loop-holds c =
     let s = c .before .before in
-    starts (s .args .file .now) (s .args .n) (s .args .at) (s .args .marks .now) (s .pre .0) (s .pre .1)
+    starts (s .args .version) (s .args .file .now) (s .args .n) (s .args .at) (s .args .marks .now) (s .pre .0) (s .pre .1)
 
-shared-slice-read-is-kind : tie.Need-shared-slice-read-is-kind Inv-loop μ-loop
-shared-slice-read-is-kind c = search needs
-
-is-kind-requires : tie.Need-is-kind-requires Inv-loop μ-loop
-is-kind-requires c κs = search needs
+starts-symbol-requires : tie.Need-starts-symbol-requires Inv-loop μ-loop
+starts-symbol-requires c κs = search needs
 
 comment-requires : tie.Need-comment-requires Inv-loop μ-loop
 comment-requires c κs = search needs
 
 same-length : tie.Need-same-length Inv-loop μ-loop
-same-length c = c .before .before .before .before .before .loop .inv .same
+same-length c = c .before .before .before .before .loop .inv .same
 
 returns : tie.Need-returns Inv-loop μ-loop
 returns c =
     let k = c .before .before in
-    remarks (k .before .before .before .loop .inv) _ (k .before .before .loop-test .taken)
-    (sym (k .is-kind .ensures) ∙ not-true _ (c .before .if1 .taken))
+    remarks (k .before .before .loop .inv) _ (k .before .loop-test .taken)
+    (sym (k .starts-symbol .ensures) ∙ not-true _ (c .before .if1 .taken))
     (c .comment .ensures)
 
 read-symbol-requires : tie.Need-read-symbol-requires Inv-loop μ-loop
 read-symbol-requires c κs =
-    let t = c .before .before .before .before in
+    let t = c .before .before .before in
     (t .loop-test .taken, t .before .loop .inv .holds)
 
 enum-known-r : tie.Need-enum-known-r Inv-loop μ-loop
@@ -54,8 +51,8 @@ returns-2 c =
     let g = c .before .r .given in
     let w = c .before .before .before .before .before in
     let k = w .before .before .before in
-    stops (k .before .before .before .loop .inv) (k .before .before .loop-test .taken)
-    (sym (k .is-kind .ensures) ∙ not-false _ (w .before .before .if1 .left)) (g .0 .0)
+    stops (k .before .before .loop .inv) (k .before .loop-test .taken)
+    (sym (k .starts-symbol .ensures) ∙ not-false _ (w .before .before .if1 .left)) (g .0 .0)
     (sym (g .1) ∙ w .read-symbol .ensures .0)
 
 enum-known-next : tie.Need-enum-known-next Inv-loop μ-loop
@@ -66,8 +63,8 @@ loop-less c =
     let g = c .before .next .given in
     let w = c .before .before .before .before .before in
     let k = w .before .before .before in
-    falls (k .before .before .before .loop .inv) (k .before .before .loop-test .taken)
-    (sym (k .is-kind .ensures) ∙ not-false _ (w .before .before .if1 .left)) (g .0 .0)
+    falls (k .before .before .loop .inv) (k .before .loop-test .taken)
+    (sym (k .starts-symbol .ensures) ∙ not-false _ (w .before .before .if1 .left)) (g .0 .0)
     (sym (g .1) ∙ w .read-symbol .ensures .0)
 
 loop-again : tie.Need-loop-again Inv-loop μ-loop
@@ -75,8 +72,8 @@ loop-again c =
     let g = c .before .next .given in
     let w = c .before .before .before .before .before in
     let k = w .before .before .before in
-    turns (k .before .before .before .loop .inv) (k .before .before .loop-test .taken)
-    (sym (k .is-kind .ensures) ∙ not-false _ (w .before .before .if1 .left)) (g .0 .0)
+    turns (k .before .before .loop .inv) (k .before .loop-test .taken)
+    (sym (k .starts-symbol .ensures) ∙ not-false _ (w .before .before .if1 .left)) (g .0 .0)
     (sym (g .1) ∙ w .read-symbol .ensures .0) _ (w .read-symbol .ensures .1)
 
 same-length-3 : tie.Need-same-length-3 Inv-loop μ-loop
@@ -92,8 +89,7 @@ check-spec =
     Inv-loop
     μ-loop
     loop-holds
-    shared-slice-read-is-kind
-    is-kind-requires
+    starts-symbol-requires
     comment-requires
     same-length
     returns
