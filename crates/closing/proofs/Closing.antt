@@ -30,27 +30,28 @@ use Rattle.order.specs.Numbers.{InTable, InRange}
 use Rattle.order.specs.Waiting.{Room, Known, Fresh, Blank}
 use Rattle.order.proofs.Spaces.{all-places, words-enough, gates-inside}
 use Rattle.order.proofs.Settling.{small-words}
+use Rattle.used.specs.Reach.{WordsUpTo, InReach}
 use Rattle.closing.specs.Leaves.{leavesOf, Leaves, Numbered}
 use Rattle.tables.specs.Held.{circuitIn}
 use Rattle.closing.specs.Read.{closing, Read}
 use Rattle.closing.proofs.Leaving.{leaves-count}
 
-module _ {n : Counts} {inputs latches outputs gates scratch : List ℕ} {base : ℕ} (p : Read n inputs latches outputs gates scratch base) where
+module _ {n : Counts} {inputs latches outputs gates bads constraints scratch : List ℕ} {base : ℕ}
+    (p : Read n inputs latches outputs gates bads constraints scratch base) where
   abbrev c : Circuit
-  c = circuitIn n inputs latches outputs gates
+  c = circuitIn n inputs latches outputs gates [] bads constraints
 
   -- 7: the used literals at their places, and the marks
-  pub next-up : (i : ℕ) → i < n .L → varOf (getD latches (2 * i + 1) 0) ≤ n .M
+  next-up : (i : ℕ) → i < n .L → varOf (getD latches (2 * i + 1) 0) ≤ n .M
   next-up i h =
       second-var true (n .M) (getD latches (2 * i) 0) (getD latches (2 * i + 1) 0) []
       (inside-at latchLine true (n .M) (latchAt latches) (n .L) (rw (← latches-rows latches (n .L)) (p .latches-inside)) i h)
 
-  pub output-up : (i : ℕ) → i < n .O → varOf (getD outputs i 0) ≤ n .M
-  output-up i h =
-      first-var false (n .M) (getD outputs i 0) []
-      (inside-at oneLine false (n .M) (λ k. getD outputs k 0) (n .O)
-      (subst (λ (ls : List ℕ). allInside false (n .M) (map oneLine ls) ≡ true) (words-take outputs (n .O) (p .outputs-long)) (p .outputs-inside))
-      i h)
+  words-up : (t : List ℕ) (k : ℕ) → k ≤ length t → allInside false (n .M) (map oneLine (take k t)) ≡ true → WordsUpTo (n .M) t k
+  words-up t k long e i h =
+      first-var false (n .M) (getD t i 0) []
+      (inside-at oneLine false (n .M) (λ j. getD t j 0) k
+      (subst (λ (ls : List ℕ). allInside false (n .M) (map oneLine ls) ≡ true) (words-take t k long) e) i h)
 
   gates-in : AllG (InTable (n .M + 1)) (c .gates)
   gates-in = gates-inside (n .M) (c .gates) (p .gates-inside)
@@ -59,14 +60,33 @@ module _ {n : Counts} {inputs latches outputs gates scratch : List ℕ} {base : 
   gate-up =
       all-places (InTable (n .M + 1)) (gateAt gates) (n .A) (subst (AllG (InTable (n .M + 1))) (gates-rows gates (n .A)) gates-in)
 
-  pub first-up : (i : ℕ) → i < n .A → varOf (getD gates (3 * i + 1) 0) ≤ n .M
+  first-up : (i : ℕ) → i < n .A → varOf (getD gates (3 * i + 1) 0) ≤ n .M
   first-up i h = omega (arith, gate-up i h .1)
 
-  pub second-up : (i : ℕ) → i < n .A → varOf (getD gates (3 * i + 2) 0) ≤ n .M
+  second-up : (i : ℕ) → i < n .A → varOf (getD gates (3 * i + 2) 0) ≤ n .M
   second-up i h = omega (arith, gate-up i h .2)
 
-  pub part-long : n .M < length (take (length scratch - base) (drop base scratch))
+  part-long : n .M < length (take (length scratch - base) (drop base scratch))
   part-long = omega (arith, p .marks-long, length-take (length scratch - base) (drop base scratch), length-drop base scratch)
+
+  pub in-reach : InReach n latches outputs gates bads constraints (take (length scratch - base) (drop base scratch))
+  in-reach = record {
+    most-M = p .most-M;
+    latches-long = p .latches-long;
+    gates-long = p .gates-long;
+    nexts-up = next-up;
+    firsts-up = first-up;
+    seconds-up = second-up;
+    observed = record {
+      marks-long = part-long;
+      outputs-long = p .outputs-long;
+      bads-long = p .bads-long;
+      constraints-long = p .constraints-long;
+      outputs-up = words-up outputs (n .O) (p .outputs-long) (p .outputs-inside);
+      bads-up = words-up bads (n .B) (p .bads-long) (p .bads-inside);
+      constraints-up = words-up constraints (n .C) (p .constraints-long) (p .constraints-inside);
+    };
+  }
 
   pub part-marked : Agrees (n .M) (definedIn c) (take (length scratch - base) (drop base scratch))
   part-marked =

@@ -2,7 +2,7 @@
 // defined twice.
 ghost use mathlib.Core.Path.{_≡_};
 ghost use mathlib.Core.Bool.{true, false};
-ghost use mathlib.Core.List.{map};
+ghost use mathlib.Core.List.{List, map};
 ghost use Prim.Native.Nat.{ℕ, _+_, _*_, _<_, _≤_};
 ghost use lib.ListN.{length};
 ghost use Rattle.plan.specs.declared.Checked.the-variants.{Good};
@@ -60,23 +60,27 @@ fn needs_no_order(numbers: bool, gates: &[u32], a: usize) -> bool
     order::ascending(gates, a)
 }
 
-// 7, then 8. Where numbers are asked, those of all variables stand in the scratch if nothing is refused.
+// 7, then 8, in which resets have no part. Where numbers are asked, those of all variables stand in the scratch if nothing is refused.
 pub fn check(
     n: Counts,
     inputs: &[u32],
     latches: &[u32],
     outputs: &[u32],
     gates: &[u32],
+    bads: &[u32],
+    constraints: &[u32],
     scratch: &mut [u32],
     base: usize,
     numbers: bool,
 ) -> Checked
-    requires { ⌜ Read n (now inputs) (now latches) (now outputs) (now gates) (now scratch) base ⌝ }
-    ensures { λ r. ⌜ r ≡ checkedBy (closing (circuitIn n (now (inputs .entry)) (now (latches .entry)) (now (outputs .entry)) (now (gates .entry)))) ⌝ }
-    ensures { λ r. ⌜ (numbers ≡ true → r ≡ Good → AllNumbered n (now (inputs .entry)) (now (latches .entry)) (now (gates .entry)) (now (scratch .exit))) ⌝ }
+    requires { ⌜ Read n (now inputs) (now latches) (now outputs) (now gates) (now bads) (now constraints) (now scratch) base ⌝ }
+    ensures { λ r. ⌜ ((resets : List ℕ) → r ≡ checkedBy (closing (circuitIn n (now (inputs .entry)) (now (latches .entry)) (now (outputs .entry))
+        (now (gates .entry)) resets (now (bads .entry)) (now (constraints .entry))))) ⌝ }
+    ensures { λ r. ⌜ (numbers ≡ true → r ≡ Good
+        → AllNumbered n (now (inputs .entry)) (now (latches .entry)) (now (gates .entry)) (now (scratch .exit))) ⌝ }
 {
     let marks = &scratch[base..];
-    match used::undefined(latches, n.L, outputs, n.O, gates, n.A, n.M as u32, marks) {
+    match used::undefined(n, latches, outputs, gates, bads, constraints, marks) {
         Missing::Least(v) => Checked::Refused(Refusal::NotDefined(v)),
         Missing::Nothing => {
             if needs_no_order(numbers, gates, n.A) {

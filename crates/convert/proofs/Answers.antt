@@ -3,7 +3,7 @@ use Prim.Native.Nat.{ℕ, _+_, _≤_}
 use mathlib.Core.Path.{_≡_, sym, ap, _∙_, subst}
 use mathlib.Core.Bool.{false}
 use mathlib.Core.Option.{Option}
-use mathlib.Core.List.{List, [], _∷_}
+use mathlib.Core.List.{List}
 use native.Mathlib.Omega.{arith}
 use lib.ListN.{length, length-replicate}
 use Rattle.plan.specs.declared.Counts.{Counts}
@@ -12,24 +12,47 @@ use Rattle.plan.specs.declared.Checked.the-variants as checked
 use Rattle.plan.specs.declared.Made.the-variants as made
 use Rattle.plan.specs.Literals.{most}
 use Rattle.plan.specs.Refusals.{firstOf}
-use Rattle.plan.specs.Circuit.{Tables, countsOf, lengthsOf, cleared, allCleared}
+use Rattle.plan.specs.Circuit.{Circuit, Tables, countsOf, cleared, allCleared}
 use Rattle.plan.specs.Given.{Given, given, lentWith}
 use Rattle.plan.specs.Convert.{convert}
 use Rattle.plan.specs.Outcome.{MakeEntry, MakeExit, madeBy, conversion, checkedBy}
 use Rattle.theorems.proofs.Held.{Holds, holds-filled}
 use Rattle.theorems.proofs.Running.Counts.{counts-convert}
+use Rattle.tables.specs.Lengths.{sizesOf}
 use Rattle.closing.specs.Leaves.{AllNumbered}
 use Rattle.given.specs.Judged.{allStages}
-use Rattle.given.proofs.Sound.{good-none, refused-some, good-with}
-use Rattle.convert.specs.Ready.{Ready}
+use Rattle.given.proofs.Sound.{Good, Wide, good-none, refused-some, good-with}
+use Rattle.convert.specs.Ready.{Ready, First, FirstHeld, Last, LastHeld}
 
 length-cleared : (t : List ℕ) → length (cleared t) ≡ length t
 length-cleared t = length-replicate (length t) 0
 
-pub lengths-cleared : (t t′ : Tables) → t′ ≡ allCleared t → lengthsOf t ≡ lengthsOf t′
-lengths-cleared t t′ e =
-    sym (ap lengthsOf e ∙ λ i. length-cleared (t .inputs) i ∷ length-cleared (t .latches) i ∷ length-cleared (t .outputs) i
-    ∷ length-cleared (t .gates) i ∷ [])
+pub sizes-cleared : (t t′ : Tables) → t′ ≡ allCleared t → sizesOf t′ ≡ sizesOf t
+sizes-cleared t t′ e =
+    ap sizesOf e
+    ∙ λ i. record {
+      inputs = length-cleared (t .inputs) i;
+      latches = length-cleared (t .latches) i;
+      outputs = length-cleared (t .outputs) i;
+      gates = length-cleared (t .gates) i;
+      resets = length-cleared (t .resets) i;
+      bads = length-cleared (t .bads) i;
+      constraints = length-cleared (t .constraints) i;
+    }
+
+-- tables 1 to 4 and tables 7 to 9 together
+pub all-hold : (c : Circuit) (w w′ : Tables)
+    → FirstHeld c (w .inputs) (w .latches) (w .outputs) (w .gates) (w′ .inputs) (w′ .latches) (w′ .outputs) (w′ .gates)
+    → LastHeld c (w .resets) (w .bads) (w .constraints) (w′ .resets) (w′ .bads) (w′ .constraints) → Holds w c w′
+all-hold c w w′ f l = record {
+  inputs = f .inputs-held;
+  latches = f .latches-held;
+  outputs = f .outputs-held;
+  gates = f .gates-held;
+  resets = l .resets-held;
+  bads = l .bads-held;
+  constraints = l .constraints-held;
+}
 
 module _ (e : MakeEntry) where
   abbrev g : Given
@@ -51,43 +74,54 @@ module _ (e : MakeEntry) where
 
   -- nothing is found
   module _ (h : checked.Good ≡ checkedBy found) where
-    pub ready : (w : Tables) (t : List ℕ) → w ≡ allCleared (e .written) → length t ≡ length (g .scratch)
-        → AllNumbered n (g .tables .inputs) (g .tables .latches) (g .tables .gates) t
-        → Ready n (g .tables .inputs) (g .tables .latches) (g .tables .outputs) (g .tables .gates) t w
-    ready w t p same numbers =
-        let both = good-with false g (e .written) (good-none found h) in
-        let fits = both .0 .fits in
-        let wide = both .1 in
-        record {
-          fits = fits;
-          good = both .0 .formed;
-          numbers-long = omega (arith, both .0 .scratch, same);
-          numbers = numbers;
-          room = record {
-            most-M = fits .most-M;
-            most-O = fits .most-O;
-            sum = fits .sum;
-            inputs-long = omega (arith, wide .inputs, ap (λ (t : Tables). length (t .inputs)) p, length-cleared (e .written .inputs));
-            latches-long = omega (arith, wide .latches, ap (λ (t : Tables). length (t .latches)) p, length-cleared (e .written .latches));
-            outputs-long = omega (arith, wide .outputs, ap (λ (t : Tables). length (t .outputs)) p, length-cleared (e .written .outputs));
-            gates-long = omega (arith, wide .gates, ap (λ (t : Tables). length (t .gates)) p, length-cleared (e .written .gates));
-          };
+    passed : Good false g × Wide n (e .written)
+    passed = good-with false g (e .written) (good-none found h)
+
+    module _ (t : List ℕ) (same : length t ≡ length (g .scratch))
+        (numbers : AllNumbered n (g .tables .inputs) (g .tables .latches) (g .tables .gates) t) where
+      pub ready : Ready n (g .tables) t
+      ready = record {
+        fits = passed .0 .fits;
+        good = passed .0 .formed;
+        numbers-long = omega (arith, passed .0 .scratch, same);
+        numbers = numbers;
+      }
+
+      -- the tables to write are as long as they were
+      module _ (w : Tables) (p : w ≡ allCleared (e .written)) where
+        pub first-asks : First n (g .tables .latches) (g .tables .outputs) (g .tables .gates) t (w .inputs) (w .latches) (w .outputs) (w .gates)
+        first-asks = record {
+          others = g .tables;
+          ready = record { fits = ready .fits; good = ready .good; numbers-long = ready .numbers-long; numbers = ready .numbers };
+          inputs-long = omega (arith, passed .1 .inputs, ap (λ (x : Tables). length (x .inputs)) p, length-cleared (e .written .inputs));
+          latches-long = omega (arith, passed .1 .latches, ap (λ (x : Tables). length (x .latches)) p, length-cleared (e .written .latches));
+          outputs-long = omega (arith, passed .1 .outputs, ap (λ (x : Tables). length (x .outputs)) p, length-cleared (e .written .outputs));
+          gates-long = omega (arith, passed .1 .gates, ap (λ (x : Tables). length (x .gates)) p, length-cleared (e .written .gates));
+        }
+
+        pub last-asks : Last n (g .tables .resets) (g .tables .bads) (g .tables .constraints) t (w .resets) (w .bads) (w .constraints)
+        last-asks = record {
+          others = g .tables;
+          ready = record { fits = ready .fits; good = ready .good; numbers-long = ready .numbers-long; numbers = ready .numbers };
+          resets-long = omega (arith, passed .1 .resets, ap (λ (x : Tables). length (x .resets)) p, length-cleared (e .written .resets));
+          bads-long = omega (arith, passed .1 .bads, ap (λ (x : Tables). length (x .bads)) p, length-cleared (e .written .bads));
+          constraints-long =
+              omega (arith, passed .1 .constraints, ap (λ (x : Tables). length (x .constraints)) p, length-cleared (e .written .constraints));
         }
 
     pub few : n .I + n .L + n .A ≤ most
-    few = let f = good-with false g (e .written) (good-none found h) .0 .fits in omega (arith, f .sum, f .most-M)
+    few = let f = passed .0 .fits in omega (arith, f .sum, f .most-M)
 
     -- the counts of the converted circuit
-    counts-are : record { M = n .I + n .L + n .A; I = n .I; L = n .L; O = n .O; A = n .A } ≡ countsOf (convert (given g))
+    counts-are : record { M = n .I + n .L + n .A; I = n .I; L = n .L; O = n .O; A = n .A; B = n .B; C = n .C } ≡ countsOf (convert (given g))
     counts-are =
-        let both = good-with false g (e .written) (good-none found h) in
-        ap (λ (m : Counts). record { M = m .I + m .L + m .A; I = m .I; L = m .L; O = m .O; A = m .A }) (sym (both .0 .counts))
-        ∙ sym (counts-convert (given g) (both .0 .formed))
+        ap (λ (m : Counts). record { M = m .I + m .L + m .A; I = m .I; L = m .L; O = m .O; A = m .A; B = m .B; C = m .C }) (sym (passed .0 .counts))
+        ∙ sym (counts-convert (given g) (passed .0 .formed))
 
     pub accepted : (w w′ : Tables) (scratch′ : List ℕ) → w ≡ allCleared (e .written) → Holds w (convert (given g)) w′
         → scratch′ ≡ cleared (g .scratch)
         → _≡_ {A = MakeExit} (record {
-          answer = made.Accepted (record { M = n .I + n .L + n .A; I = n .I; L = n .L; O = n .O; A = n .A });
+          answer = made.Accepted (record { M = n .I + n .L + n .A; I = n .I; L = n .L; O = n .O; A = n .A; B = n .B; C = n .C });
           written = w′;
           scratch = scratch′;
         }) (conversion e)

@@ -4,5 +4,6 @@ pub mod Places
 pub mod Known
 pub mod Made
 pub mod Whole
+pub mod Resets
 pub mod Filling
 pub mod Answers

@@ -1,10 +1,8 @@
 // Conversion: the same circuit in binary order. Inputs get the variables from 1 on, in list order, latches the next, then gates.
-ghost use Prim.Native.Nat.{_+_};
+ghost use Rattle.plan.specs.Circuit.{Tables, circuitOf, seven};
 ghost use Rattle.plan.specs.Convert.{convert};
 ghost use Rattle.plan.specs.Outcome.{Says, conversion};
-ghost use Rattle.theorems.proofs.Held.{Holds};
-ghost use Rattle.tables.specs.Held.{circuitIn};
-ghost use Rattle.convert.specs.Ready.{Ready};
+ghost use Rattle.convert.specs.Ready.{Ready, withFirst, withLast, First, FirstHeld, Last, LastHeld};
 use gates::run_on;
 use gates::spread;
 use given::number;
@@ -13,14 +11,13 @@ use plan::Counts;
 use plan::Made;
 use renumber::place_gates;
 use renumber::renumber_column;
-use tables::Sizes;
 use tables::clear;
-use tables::clear_four;
+use tables::clear_all;
+use tables::lengths;
 
-// Writes the converted circuit, from the numbers t of all variables.
+// Writes tables 1 to 4 of the converted circuit, from the numbers t of all variables.
 fn fill(
     n: Counts,
-    inputs: &[u32],
     latches: &[u32],
     outputs: &[u32],
     gates: &[u32],
@@ -30,22 +27,12 @@ fn fill(
     to_gates: &mut [u32],
     t: &[u32],
 )
-    requires { ⌜ Ready n (now inputs) (now latches) (now outputs) (now gates) (now t)
-        (record { inputs = now «to_inputs»; latches = now «to_latches»; outputs = now «to_outputs»; gates = now «to_gates» }) ⌝ }
-    ensures { λ _. ⌜ Holds
-        (record {
-          inputs = now («to_inputs» .entry);
-          latches = now («to_latches» .entry);
-          outputs = now («to_outputs» .entry);
-          gates = now («to_gates» .entry);
-        })
-        (convert (circuitIn n (now (inputs .entry)) (now (latches .entry)) (now (outputs .entry)) (now (gates .entry))))
-        (record {
-          inputs = now («to_inputs» .exit);
-          latches = now («to_latches» .exit);
-          outputs = now («to_outputs» .exit);
-          gates = now («to_gates» .exit);
-        }) ⌝ }
+    requires { ⌜ First n (now latches) (now outputs) (now gates) (now t) (now «to_inputs») (now «to_latches») (now «to_outputs»)
+        (now «to_gates») ⌝ }
+    ensures { λ _. ⌜ ((x : Tables) → Ready n (withFirst x (now (latches .entry)) (now (outputs .entry)) (now (gates .entry))) (now (t .entry))
+        → FirstHeld (convert (circuitOf n (withFirst x (now (latches .entry)) (now (outputs .entry)) (now (gates .entry)))))
+        (now («to_inputs» .entry)) (now («to_latches» .entry)) (now («to_outputs» .entry)) (now («to_gates» .entry))
+        (now («to_inputs» .exit)) (now («to_latches» .exit)) (now («to_outputs» .exit)) (now («to_gates» .exit))) ⌝ }
 {
     let first_latch = 1 + n.I;
     let first_gate = first_latch + n.L;
@@ -56,6 +43,28 @@ fn fill(
     place_gates(gates, first_gate, n.A, t, to_gates);
 }
 
+// Writes tables 7 to 9: resets, bad states and constraints under their variables' numbers.
+fn fill_last(
+    n: Counts,
+    resets: &[u32],
+    bads: &[u32],
+    constraints: &[u32],
+    to_resets: &mut [u32],
+    to_bads: &mut [u32],
+    to_constraints: &mut [u32],
+    t: &[u32],
+)
+    requires { ⌜ Last n (now resets) (now bads) (now constraints) (now t) (now «to_resets») (now «to_bads») (now «to_constraints») ⌝ }
+    ensures { λ _. ⌜ ((x : Tables) → Ready n (withLast x (now (resets .entry)) (now (bads .entry)) (now (constraints .entry))) (now (t .entry))
+        → LastHeld (convert (circuitOf n (withLast x (now (resets .entry)) (now (bads .entry)) (now (constraints .entry)))))
+        (now («to_resets» .entry)) (now («to_bads» .entry)) (now («to_constraints» .entry))
+        (now («to_resets» .exit)) (now («to_bads» .exit)) (now («to_constraints» .exit))) ⌝ }
+{
+    renumber_column(resets, 1, 0, n.L, t, to_resets);
+    renumber_column(bads, 1, 0, n.B, t, to_bads);
+    renumber_column(constraints, 1, 0, n.C, t, to_constraints);
+}
+
 // The same circuit in binary order, or the first refusal of the given tables, after which the written tables are zero throughout.
 // Scratch is zero afterwards.
 pub fn convert(
@@ -64,55 +73,70 @@ pub fn convert(
     latches: &[u32],
     outputs: &[u32],
     gates: &[u32],
+    resets: &[u32],
+    bads: &[u32],
+    constraints: &[u32],
     to_inputs: &mut [u32],
     to_latches: &mut [u32],
     to_outputs: &mut [u32],
     to_gates: &mut [u32],
+    to_resets: &mut [u32],
+    to_bads: &mut [u32],
+    to_constraints: &mut [u32],
     scratch: &mut [u32],
 ) -> Made
     ensures { λ r. ⌜ Says conversion
         (record {
           circuit = (record {
             counts = n;
-            tables = (record {
-              inputs = now (inputs .entry);
-              latches = now (latches .entry);
-              outputs = now (outputs .entry);
-              gates = now (gates .entry);
-            });
+            tables = seven (now (inputs .entry)) (now (latches .entry)) (now (outputs .entry)) (now (gates .entry)) (now (resets .entry))
+                (now (bads .entry)) (now (constraints .entry));
             scratch = now (scratch .entry);
           });
-          written = (record {
-            inputs = now («to_inputs» .entry);
-            latches = now («to_latches» .entry);
-            outputs = now («to_outputs» .entry);
-            gates = now («to_gates» .entry);
-          });
+          written = seven (now («to_inputs» .entry)) (now («to_latches» .entry)) (now («to_outputs» .entry)) (now («to_gates» .entry))
+              (now («to_resets» .entry)) (now («to_bads» .entry)) (now («to_constraints» .entry));
         })
         (record {
           answer = r;
-          written = (record {
-            inputs = now («to_inputs» .exit);
-            latches = now («to_latches» .exit);
-            outputs = now («to_outputs» .exit);
-            gates = now («to_gates» .exit);
-          });
+          written = seven (now («to_inputs» .exit)) (now («to_latches» .exit)) (now («to_outputs» .exit)) (now («to_gates» .exit))
+              (now («to_resets» .exit)) (now («to_bads» .exit)) (now («to_constraints» .exit));
           scratch = now (scratch .exit);
         }) ⌝ }
 {
-    clear_four(to_inputs, to_latches, to_outputs, to_gates);
-    let to = Sizes {
-        inputs: to_inputs.len(),
-        latches: to_latches.len(),
-        outputs: to_outputs.len(),
-        gates: to_gates.len(),
-    };
-    match number(n, inputs, latches, outputs, gates, scratch, to) {
+    clear_all(
+        to_inputs,
+        to_latches,
+        to_outputs,
+        to_gates,
+        to_resets,
+        to_bads,
+        to_constraints,
+    );
+    let to = lengths(
+        to_inputs,
+        to_latches,
+        to_outputs,
+        to_gates,
+        to_resets,
+        to_bads,
+        to_constraints,
+    );
+    match number(
+        n,
+        inputs,
+        latches,
+        outputs,
+        gates,
+        resets,
+        bads,
+        constraints,
+        scratch,
+        to,
+    ) {
         Checked::Refused(r) => Made::Refused(r),
         Checked::Good => {
             fill(
                 n,
-                inputs,
                 latches,
                 outputs,
                 gates,
@@ -120,6 +144,16 @@ pub fn convert(
                 to_latches,
                 to_outputs,
                 to_gates,
+                scratch,
+            );
+            fill_last(
+                n,
+                resets,
+                bads,
+                constraints,
+                to_resets,
+                to_bads,
+                to_constraints,
                 scratch,
             );
             clear(scratch);
@@ -130,6 +164,8 @@ pub fn convert(
                 L: n.L,
                 O: n.O,
                 A: n.A,
+                B: n.B,
+                C: n.C,
             })
         }
     }

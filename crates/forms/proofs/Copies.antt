@@ -1,15 +1,14 @@
--- The loops that copy words one by one: the tail, and the next states of the latches.
-use Prim.Native.Nat.{ℕ, suc, zero, _+_, _*_, _<_, _≤_}
+-- The loop that copies words one by one.
+use Prim.Native.Nat.{ℕ, _+_, _<_, _≤_}
 use mathlib.Core.Path.{_≡_, refl, sym, ap, ap₂, _∙_}
-use mathlib.Core.List.{List, [], _∷_, _++_, map}
+use mathlib.Core.List.{List, [], _∷_, _++_}
 use native.Mathlib.Numerals.{add-one}
 use native.Mathlib.Omega.{arith}
 use lib.ListN.{length, getD, set, length-append}
 use lib.Seq.{take-length}
-use Rattle.plan.specs.Circuit.{Latch, latchOf, rowsOf, nexts}
 use Rattle.plan.specs.Outcome.{put}
 use Rattle.theorems.proofs.Put.{put-none, put-one, put-put, put-length}
-use Rattle.theorems.proofs.Tables.{firsts, length-firsts, latchAt, latches-rows, words-take}
+use Rattle.theorems.proofs.Tables.{firsts, length-firsts, words-take}
 
 -- the first i of n words are copied from a position on
 pub record Copied (word : ℕ → ℕ) (n : ℕ) (t₀ : List ℕ) (at : ℕ) (t : List ℕ) (i : ℕ) : Type 0 where
@@ -50,20 +49,3 @@ wordsOf t i = getD t i 0
 
 pub all-words : (t : List ℕ) → firsts (wordsOf t) (length t) ≡ t
 all-words t = sym (words-take t (length t) (omega arith)) ∙ take-length t
-
--- the next states are words 1, 3, 5 .. of their table
-abbrev pub nextAt : List ℕ → ℕ → ℕ
-nextAt t i = getD t (2 * i + 1) 0
-
-nexts-append : (a b : List Latch) → nexts (a ++ b) ≡ nexts a ++ nexts b
-nexts-append [] b = refl
-nexts-append (l ∷ a) b = ap (λ (x : List ℕ). l .next ∷ x) (nexts-append a b)
-
-nexts-firsts : (t : List ℕ) (n : ℕ) → nexts (firsts (latchAt t) n) ≡ firsts (nextAt t) n
-nexts-firsts t zero = refl
-nexts-firsts t (suc n) =
-    nexts-append (firsts (latchAt t) n) (latchAt t n ∷ [])
-    ∙ ap (λ (x : List ℕ). x ++ (nextAt t n ∷ [])) (nexts-firsts t n)
-
-pub nexts-words : (t : List ℕ) (n : ℕ) → firsts (nextAt t) n ≡ nexts (map latchOf (rowsOf 2 n t))
-nexts-words t n = sym (ap nexts (latches-rows t n) ∙ nexts-firsts t n)

@@ -32,6 +32,9 @@ last-filled x f w =
     let g = part-filled f x [] _ _ (sym (append-nil x)) (w .1) (w .0) in
     (omega (arith, all-ends g refl), all-filled g refl)
 
+pub three-parts : (x y z : List ℕ) {a b c : ℕ} → a ≡ length x → b ≡ length y → c ≡ length z → a + b + c ≡ length (x ++ (y ++ z))
+three-parts x y z h i j = omega (arith, length-append x (y ++ z), length-append y z)
+
 pub four-parts : (x y z w : List ℕ) {a b c d : ℕ} → a ≡ length x → b ≡ length y → c ≡ length z → d ≡ length w
     → a + b + c + d ≡ length (x ++ (y ++ (z ++ w)))
 four-parts x y z w h i j k = omega (arith, length-append x (y ++ (z ++ w)), length-append y (z ++ w), length-append z w)

@@ -1,106 +1,103 @@
--- A buffer that a form is written into part by part: each part has room, and after the last one the form stands there.
+-- A buffer that parts are written into one after another: each has room, and after the last one all of them stand there.
 use Prim.Native.Nat.{ℕ, _+_, _≤_}
-use mathlib.Core.Path.{_≡_}
-use mathlib.Core.List.{List, map}
+use mathlib.Core.Path.{_≡_, refl, sym}
+use mathlib.Core.List.{List, [], _++_, append-nil}
 use native.Mathlib.Omega.{arith}
 use lib.ListN.{length}
-use Rattle.plan.specs.declared.Counts.{Counts}
-use Rattle.plan.specs.Circuit.{rowsOf, gateOf}
-use Rattle.plan.specs.Bytes.{linesOf}
-use Rattle.plan.specs.Binary.{gateBytes}
 use Rattle.plan.specs.Outcome.{put}
-use Rattle.print.proofs.Filling.{Filling}
-use Rattle.forms.specs.Forms.{headBytes, textOutputs, textLatches, textInputs, textBytes, binaryOutputs, binaryNexts, binaryBytes}
+use Rattle.print.proofs.Filling.{Filling, none-filled, part-room, part-filled, all-filled, all-ends}
 use Rattle.forms.proofs.Filled.{Puts, first-fits, first-filled, next-fits, next-filled, last-filled}
 
--- the header, then the lines of inputs, latches, outputs, gates
-module _ (n : Counts) (inputs latches outputs gates out : List ℕ)
-    (fits : length (textBytes n inputs latches outputs gates) ≤ length out) where
-  abbrev rest : List ℕ
-  rest = textInputs n inputs latches outputs gates
+-- three parts from a position on
+module _ (out : List ℕ) (at : ℕ) (x y z : List ℕ) (fits : at + length (x ++ (y ++ z)) ≤ length out) where
+  start : Filling out at (x ++ (y ++ z)) out at (x ++ (y ++ z))
+  start = none-filled out at (x ++ (y ++ z)) fits
 
-  pub text-header-fits : length (headBytes 97 n) ≤ length out
-  text-header-fits = omega (arith, first-fits (headBytes 97 n) rest out fits)
+  pub fits-1 : at + length x ≤ length out
+  fits-1 = next-fits x (y ++ z) start
 
-  module _ {p1 : ℕ} {out1 : List ℕ} (w1 : (p1 ≡ length (headBytes 97 n)) × (out1 ≡ put out 0 (headBytes 97 n))) where
-    abbrev inputLines : List ℕ
-    inputLines = linesOf (rowsOf 1 (n .I) inputs)
+  module _ {p1 : ℕ} {out1 : List ℕ} (w1 : Puts out at x p1 out1) where
+    f1 : Filling out at (x ++ (y ++ z)) out1 p1 (y ++ z)
+    f1 = next-filled x (y ++ z) start w1
 
-    f1 : Filling out 0 (textBytes n inputs latches outputs gates) out1 p1 rest
-    f1 = first-filled (headBytes 97 n) rest out fits w1
+    pub fits-2 : p1 + length y ≤ length out1
+    fits-2 = next-fits y z f1
 
-    pub inputs-fit : p1 + length inputLines ≤ length out1
-    inputs-fit = next-fits inputLines (textLatches n latches outputs gates) f1
+    module _ {p2 : ℕ} {out2 : List ℕ} (w2 : Puts out1 p1 y p2 out2) where
+      f2 : Filling out at (x ++ (y ++ z)) out2 p2 z
+      f2 = next-filled y z f1 w2
 
-    module _ {p2 : ℕ} {out2 : List ℕ} (w2 : Puts out1 p1 inputLines p2 out2) where
-      abbrev latchLines : List ℕ
-      latchLines = linesOf (rowsOf 2 (n .L) latches)
+      pub fits-3 : p2 + length z ≤ length out2
+      fits-3 = f2 .room
 
-      f2 : Filling out 0 (textBytes n inputs latches outputs gates) out2 p2 (textLatches n latches outputs gates)
-      f2 = next-filled inputLines (textLatches n latches outputs gates) f1 w2
+      pub three-filled : {p3 : ℕ} {out3 : List ℕ} → Puts out2 p2 z p3 out3
+          → (p3 ≡ at + length (x ++ (y ++ z))) × (out3 ≡ put out at (x ++ (y ++ z)))
+      three-filled w3 =
+          let g = part-filled f2 z [] _ _ (sym (append-nil z)) (w3 .1) (w3 .0) in
+          (all-ends g refl, all-filled g refl)
 
-      pub latches-fit : p2 + length latchLines ≤ length out2
-      latches-fit = next-fits latchLines (textOutputs n outputs gates) f2
+-- a header, and then four parts or three
+module _ (out head x y z v : List ℕ) (fits : length (head ++ (x ++ (y ++ (z ++ v)))) ≤ length out) where
+  pub five-fits-0 : length head ≤ length out
+  five-fits-0 = omega (arith, first-fits head (x ++ (y ++ (z ++ v))) out fits)
 
-      module _ {p3 : ℕ} {out3 : List ℕ} (w3 : Puts out2 p2 latchLines p3 out3) where
-        abbrev outputLines : List ℕ
-        outputLines = linesOf (rowsOf 1 (n .O) outputs)
+  module _ {p0 : ℕ} {out0 : List ℕ} (w0 : (p0 ≡ length head) × (out0 ≡ put out 0 head)) where
+    g0 : Filling out 0 (head ++ (x ++ (y ++ (z ++ v)))) out0 p0 (x ++ (y ++ (z ++ v)))
+    g0 = first-filled head (x ++ (y ++ (z ++ v))) out fits w0
 
-        abbrev gateLines : List ℕ
-        gateLines = linesOf (rowsOf 3 (n .A) gates)
+    pub five-fits-1 : p0 + length x ≤ length out0
+    five-fits-1 = next-fits x (y ++ (z ++ v)) g0
 
-        f3 : Filling out 0 (textBytes n inputs latches outputs gates) out3 p3 (textOutputs n outputs gates)
-        f3 = next-filled latchLines (textOutputs n outputs gates) f2 w3
+    module _ {p1 : ℕ} {out1 : List ℕ} (w1 : Puts out0 p0 x p1 out1) where
+      g1 : Filling out 0 (head ++ (x ++ (y ++ (z ++ v)))) out1 p1 (y ++ (z ++ v))
+      g1 = next-filled x (y ++ (z ++ v)) g0 w1
 
-        pub outputs-fit : p3 + length outputLines ≤ length out3
-        outputs-fit = next-fits outputLines gateLines f3
+      pub five-fits-2 : p1 + length y ≤ length out1
+      five-fits-2 = next-fits y (z ++ v) g1
 
-        module _ {p4 : ℕ} {out4 : List ℕ} (w4 : Puts out3 p3 outputLines p4 out4) where
-          f4 : Filling out 0 (textBytes n inputs latches outputs gates) out4 p4 gateLines
-          f4 = next-filled outputLines gateLines f3 w4
+      module _ {p2 : ℕ} {out2 : List ℕ} (w2 : Puts out1 p1 y p2 out2) where
+        g2 : Filling out 0 (head ++ (x ++ (y ++ (z ++ v)))) out2 p2 (z ++ v)
+        g2 = next-filled y (z ++ v) g1 w2
 
-          pub gates-fit : p4 + length gateLines ≤ length out4
-          gates-fit = f4 .room
+        pub five-fits-3 : p2 + length z ≤ length out2
+        five-fits-3 = next-fits z v g2
 
-          pub text-filled : {p5 : ℕ} {out5 : List ℕ} → Puts out4 p4 gateLines p5 out5
-              → (p5 ≡ length (textBytes n inputs latches outputs gates)) × (out5 ≡ put out 0 (textBytes n inputs latches outputs gates))
-          text-filled w5 = last-filled gateLines f4 w5
+        module _ {p3 : ℕ} {out3 : List ℕ} (w3 : Puts out2 p2 z p3 out3) where
+          g3 : Filling out 0 (head ++ (x ++ (y ++ (z ++ v)))) out3 p3 v
+          g3 = next-filled z v g2 w3
 
--- the header, then the lines of next states and outputs, then the gates
-module _ (n : Counts) (nexts outputs gates out : List ℕ) (fits : length (binaryBytes n nexts outputs gates) ≤ length out) where
-  pub binary-header-fits : length (headBytes 105 n) ≤ length out
-  binary-header-fits = omega (arith, first-fits (headBytes 105 n) (binaryNexts n nexts outputs gates) out fits)
+          pub five-fits-4 : p3 + length v ≤ length out3
+          five-fits-4 = g3 .room
 
-  module _ {p1 : ℕ} {out1 : List ℕ} (w1 : (p1 ≡ length (headBytes 105 n)) × (out1 ≡ put out 0 (headBytes 105 n))) where
-    abbrev nextLines : List ℕ
-    nextLines = linesOf (rowsOf 1 (n .L) nexts)
+          pub five-filled : {p4 : ℕ} {out4 : List ℕ} → Puts out3 p3 v p4 out4
+              → (p4 ≡ length (head ++ (x ++ (y ++ (z ++ v))))) × (out4 ≡ put out 0 (head ++ (x ++ (y ++ (z ++ v)))))
+          five-filled w4 = last-filled v g3 w4
 
-    g1 : Filling out 0 (binaryBytes n nexts outputs gates) out1 p1 (binaryNexts n nexts outputs gates)
-    g1 = first-filled (headBytes 105 n) (binaryNexts n nexts outputs gates) out fits w1
+module _ (out head x y z : List ℕ) (fits : length (head ++ (x ++ (y ++ z))) ≤ length out) where
+  pub four-fits-0 : length head ≤ length out
+  four-fits-0 = omega (arith, first-fits head (x ++ (y ++ z)) out fits)
 
-    pub nexts-fit : p1 + length nextLines ≤ length out1
-    nexts-fit = next-fits nextLines (binaryOutputs n outputs gates) g1
+  module _ {p0 : ℕ} {out0 : List ℕ} (w0 : (p0 ≡ length head) × (out0 ≡ put out 0 head)) where
+    h0 : Filling out 0 (head ++ (x ++ (y ++ z))) out0 p0 (x ++ (y ++ z))
+    h0 = first-filled head (x ++ (y ++ z)) out fits w0
 
-    module _ {p2 : ℕ} {out2 : List ℕ} (w2 : Puts out1 p1 nextLines p2 out2) where
-      abbrev outLines : List ℕ
-      outLines = linesOf (rowsOf 1 (n .O) outputs)
+    pub four-fits-1 : p0 + length x ≤ length out0
+    four-fits-1 = next-fits x (y ++ z) h0
 
-      abbrev allGates : List ℕ
-      allGates = gateBytes (map gateOf (rowsOf 3 (n .A) gates))
+    module _ {p1 : ℕ} {out1 : List ℕ} (w1 : Puts out0 p0 x p1 out1) where
+      h1 : Filling out 0 (head ++ (x ++ (y ++ z))) out1 p1 (y ++ z)
+      h1 = next-filled x (y ++ z) h0 w1
 
-      g2 : Filling out 0 (binaryBytes n nexts outputs gates) out2 p2 (binaryOutputs n outputs gates)
-      g2 = next-filled nextLines (binaryOutputs n outputs gates) g1 w2
+      pub four-fits-2 : p1 + length y ≤ length out1
+      four-fits-2 = next-fits y z h1
 
-      pub binary-outputs-fit : p2 + length outLines ≤ length out2
-      binary-outputs-fit = next-fits outLines allGates g2
+      module _ {p2 : ℕ} {out2 : List ℕ} (w2 : Puts out1 p1 y p2 out2) where
+        h2 : Filling out 0 (head ++ (x ++ (y ++ z))) out2 p2 z
+        h2 = next-filled y z h1 w2
 
-      module _ {p3 : ℕ} {out3 : List ℕ} (w3 : Puts out2 p2 outLines p3 out3) where
-        g3 : Filling out 0 (binaryBytes n nexts outputs gates) out3 p3 allGates
-        g3 = next-filled outLines allGates g2 w3
+        pub four-fits-3 : p2 + length z ≤ length out2
+        four-fits-3 = h2 .room
 
-        pub binary-gates-fit : p3 + length allGates ≤ length out3
-        binary-gates-fit = g3 .room
-
-        pub binary-filled : {p4 : ℕ} {out4 : List ℕ} → Puts out3 p3 allGates p4 out4
-            → (p4 ≡ length (binaryBytes n nexts outputs gates)) × (out4 ≡ put out 0 (binaryBytes n nexts outputs gates))
-        binary-filled w4 = last-filled allGates g3 w4
+        pub four-filled : {p3 : ℕ} {out3 : List ℕ} → Puts out2 p2 z p3 out3
+            → (p3 ≡ length (head ++ (x ++ (y ++ z)))) × (out3 ≡ put out 0 (head ++ (x ++ (y ++ z))))
+        four-filled w3 = last-filled z h2 w3

@@ -1,38 +1,61 @@
-// The two forms of a file, written into a buffer that has room, and how long they are (the paper, text form and binary form; AIGER report,
-// sections 7, 11 and 12).
+// The two forms of a file in the shortest form, written into a buffer that has room, and how long they are (the paper, text form and
+// binary form; AIGER report, sections 7, 11 and 12; AIGER 1.9, section 4).
 ghost use mathlib.Core.Path.{_≡_};
-ghost use mathlib.Core.List.{map};
-ghost use Prim.Native.Nat.{_+_, _*_, _≤_};
-ghost use lib.ListN.{length};
-ghost use Rattle.plan.specs.Literals.{most};
-ghost use Rattle.plan.specs.Circuit.{latchOf, rowsOf, nexts};
-ghost use Rattle.plan.specs.Header.{listOf};
+ghost use mathlib.Core.List.{_++_};
+ghost use Prim.Native.Nat.{_+_, _*_, _<_, _≤_};
+ghost use lib.ListN.{length, take};
+ghost use Rattle.plan.specs.Header.{listOf, shortCounts};
 ghost use Rattle.plan.specs.Outcome.{put};
 ghost use Rattle.theorems.proofs.Reading.Headers.{AllMost};
 ghost use Rattle.tables.specs.Held.{Fits};
-ghost use Rattle.forms.specs.Forms.{headBytes, textBytes, binaryBytes, Printable};
+ghost use Rattle.forms.specs.Forms.{headBytes, observedBytes, textBytes, binaryBytes, Observable, Printable};
 use plan::Counts;
 use print::gates_length;
+use print::latches_length;
 use print::lines_length;
 use print::write_gates;
+use print::write_latches;
 use print::write_lines;
 
-// The counts as the header's line has them.
-fn five(n: Counts) -> [u32; 5]
+// All counts, in the order of the header.
+fn seven(n: Counts) -> [u32; 7]
     requires { ⌜ AllMost (listOf n) ⌝ }
     ensures { λ r. ⌜ r ≡ listOf n ⌝ }
 {
-    [n.M as u32, n.I as u32, n.L as u32, n.O as u32, n.A as u32]
+    [
+        n.M as u32,
+        n.I as u32,
+        n.L as u32,
+        n.O as u32,
+        n.A as u32,
+        n.B as u32,
+        n.C as u32,
+    ]
+}
+
+// How many of them the header's line has: trailing zeros after A are left off.
+fn counts_told(n: Counts) -> usize
+    ensures { λ r. ⌜ (0 < r) × (r ≤ 7) ⌝ }
+    ensures { λ r. ⌜ take r (listOf n) ≡ shortCounts n ⌝ }
+{
+    if n.C > 0 {
+        return 7;
+    }
+    if n.B > 0 {
+        return 6;
+    }
+    5
 }
 
 // The bytes of a header, which are as many in both forms.
 fn header_length(n: Counts) -> usize
     requires { ⌜ AllMost (listOf n) ⌝ }
     ensures { λ r. ⌜ r ≡ length (headBytes 97 n) ⌝ }
-    ensures { λ r. ⌜ r ≤ 59 ⌝ }
+    ensures { λ r. ⌜ r ≤ 81 ⌝ }
 {
-    let words = five(n);
-    4 + lines_length(&words, 5, 1)
+    let words = seven(n);
+    let k = counts_told(n);
+    4 + lines_length(&words, k, 1)
 }
 
 // The header with the letter of a form, from the start of a buffer; the position after it.
@@ -46,8 +69,38 @@ fn write_header(out: &mut [u8], letter: u8, n: Counts) -> usize
     out[1] = letter;
     out[2] = b'g';
     out[3] = b' ';
-    let words = five(n);
-    write_lines(out, 4, &words, 5, 1)
+    let words = seven(n);
+    let k = counts_told(n);
+    write_lines(out, 4, &words, k, 1)
+}
+
+// The bytes of the lines of outputs, bad states and constraints.
+fn observed_length(n: Counts, outputs: &[u32], bads: &[u32], constraints: &[u32]) -> usize
+    requires { ⌜ Observable n (now outputs) (now bads) (now constraints) ⌝ }
+    ensures { λ r. ⌜ r ≡ length (observedBytes n (now (outputs .entry)) (now (bads .entry)) (now (constraints .entry))) ⌝ }
+    ensures { λ r. ⌜ r ≤ 34603008 ⌝ }
+{
+    lines_length(outputs, 1, n.O) + lines_length(bads, 1, n.B) + lines_length(constraints, 1, n.C)
+}
+
+// The lines of outputs, bad states and constraints from a position on; the position after them.
+fn write_observed(
+    out: &mut [u8],
+    at: usize,
+    n: Counts,
+    outputs: &[u32],
+    bads: &[u32],
+    constraints: &[u32],
+) -> usize
+    requires { ⌜ Observable n (now outputs) (now bads) (now constraints) ⌝ }
+    requires { ⌜ at + length (observedBytes n (now outputs) (now bads) (now constraints)) ≤ length (now out) ⌝ }
+    ensures { λ r. ⌜ r ≡ at + length (observedBytes n (now (outputs .entry)) (now (bads .entry)) (now (constraints .entry))) ⌝ }
+    ensures { λ _. ⌜ now (out .exit) ≡ put (now (out .entry)) at
+        (observedBytes n (now (outputs .entry)) (now (bads .entry)) (now (constraints .entry))) ⌝ }
+{
+    let first_bad = write_lines(out, at, outputs, 1, n.O);
+    let first_constraint = write_lines(out, first_bad, bads, 1, n.B);
+    write_lines(out, first_constraint, constraints, 1, n.C)
 }
 
 // The bytes of the text form.
@@ -57,18 +110,23 @@ pub fn text_length(
     latches: &[u32],
     outputs: &[u32],
     gates: &[u32],
+    resets: &[u32],
+    bads: &[u32],
+    constraints: &[u32],
 ) -> usize
-    requires { ⌜ Fits n (now inputs) (now latches) (now outputs) (now gates) ⌝ }
-    ensures { λ r. ⌜ r ≡ length (textBytes n (now (inputs .entry)) (now (latches .entry)) (now (outputs .entry)) (now (gates .entry))) ⌝ }
+    requires { ⌜ Fits n (now inputs) (now latches) (now outputs) (now gates) (now resets) (now bads) (now constraints) ⌝ }
+    ensures { λ r. ⌜ r ≡ length (textBytes n (now (inputs .entry)) (now (latches .entry)) (now (outputs .entry)) (now (gates .entry))
+        (now (resets .entry)) (now (bads .entry)) (now (constraints .entry))) ⌝ }
 {
     header_length(n)
         + lines_length(inputs, 1, n.I)
-        + lines_length(latches, 2, n.L)
-        + lines_length(outputs, 1, n.O)
+        + latches_length(false, latches, resets, n.L)
+        + observed_length(n, outputs, bads, constraints)
         + lines_length(gates, 3, n.A)
 }
 
-// The text form from the start of a buffer that has room: I lines of one literal, L of two, O of one, A of three. The position after it.
+// The text form from the start of a buffer that has room: I lines of one literal, L of two and possibly a reset, O, B and C of one, A of
+// three. The position after it.
 pub fn fill_text(
     out: &mut [u8],
     n: Counts,
@@ -76,61 +134,70 @@ pub fn fill_text(
     latches: &[u32],
     outputs: &[u32],
     gates: &[u32],
+    resets: &[u32],
+    bads: &[u32],
+    constraints: &[u32],
 ) -> usize
-    requires { ⌜ Fits n (now inputs) (now latches) (now outputs) (now gates) ⌝ }
-    requires { ⌜ length (textBytes n (now inputs) (now latches) (now outputs) (now gates)) ≤ length (now out) ⌝ }
-    ensures { λ r. ⌜ r ≡ length (textBytes n (now (inputs .entry)) (now (latches .entry)) (now (outputs .entry)) (now (gates .entry))) ⌝ }
+    requires { ⌜ Fits n (now inputs) (now latches) (now outputs) (now gates) (now resets) (now bads) (now constraints) ⌝ }
+    requires { ⌜ length (textBytes n (now inputs) (now latches) (now outputs) (now gates) (now resets) (now bads) (now constraints))
+        ≤ length (now out) ⌝ }
+    ensures { λ r. ⌜ r ≡ length (textBytes n (now (inputs .entry)) (now (latches .entry)) (now (outputs .entry)) (now (gates .entry))
+        (now (resets .entry)) (now (bads .entry)) (now (constraints .entry))) ⌝ }
     ensures { λ _. ⌜ now (out .exit) ≡ put (now (out .entry)) 0
-        (textBytes n (now (inputs .entry)) (now (latches .entry)) (now (outputs .entry)) (now (gates .entry))) ⌝ }
+        (textBytes n (now (inputs .entry)) (now (latches .entry)) (now (outputs .entry)) (now (gates .entry))
+        (now (resets .entry)) (now (bads .entry)) (now (constraints .entry))) ⌝ }
 {
     let first_input = write_header(out, b'a', n);
     let first_latch = write_lines(out, first_input, inputs, 1, n.I);
-    let first_output = write_lines(out, first_latch, latches, 2, n.L);
-    let first_gate = write_lines(out, first_output, outputs, 1, n.O);
+    let first_output = write_latches(out, first_latch, false, latches, resets, n.L);
+    let first_gate = write_observed(out, first_output, n, outputs, bads, constraints);
     write_lines(out, first_gate, gates, 3, n.A)
 }
 
-// The next states of n latches, at the start of a table: binary form leaves the current states out.
-pub fn gather(latches: &[u32], n: usize, into: &mut [u32])
-    requires { ⌜ (n ≤ most) × (2 * n ≤ length (now latches)) × (n ≤ length (now into)) ⌝ }
-    ensures { λ _. ⌜ now (into .exit) ≡ put (now (into .entry)) 0 (nexts (map latchOf (rowsOf 2 n (now (latches .entry))))) ⌝ }
-{
-    let mut i = 0;
-    while i < n {
-        into[i] = latches[2 * i + 1];
-        i += 1;
-    }
-}
-
-// The bytes of the binary form of a circuit in binary order, from the next states of its latches.
-pub fn binary_length(n: Counts, nexts: &[u32], outputs: &[u32], gates: &[u32]) -> usize
-    requires { ⌜ Printable n (now nexts) (now outputs) (now gates) ⌝ }
-    ensures { λ r. ⌜ r ≡ length (binaryBytes n (now (nexts .entry)) (now (outputs .entry)) (now (gates .entry))) ⌝ }
+// The bytes of the binary form of a circuit in binary order.
+pub fn binary_length(
+    n: Counts,
+    latches: &[u32],
+    outputs: &[u32],
+    gates: &[u32],
+    resets: &[u32],
+    bads: &[u32],
+    constraints: &[u32],
+) -> usize
+    requires { ⌜ Printable n (now latches) (now outputs) (now gates) (now resets) (now bads) (now constraints) ⌝ }
+    ensures { λ r. ⌜ r ≡ length (binaryBytes n (now (latches .entry)) (now (outputs .entry)) (now (gates .entry))
+        (now (resets .entry)) (now (bads .entry)) (now (constraints .entry))) ⌝ }
 {
     header_length(n)
-        + lines_length(nexts, 1, n.L)
-        + lines_length(outputs, 1, n.O)
+        + latches_length(true, latches, resets, n.L)
+        + observed_length(n, outputs, bads, constraints)
         + gates_length(gates, n.A)
 }
 
-// The binary form from the start of a buffer that has room: L lines of a next state, O lines of an output, A gates. The position
-// after it.
+// The binary form from the start of a buffer that has room: L lines of a next state and possibly a reset, O, B and C of one literal, A
+// gates. The position after it.
 pub fn fill_binary(
     out: &mut [u8],
     n: Counts,
-    nexts: &[u32],
+    latches: &[u32],
     outputs: &[u32],
     gates: &[u32],
+    resets: &[u32],
+    bads: &[u32],
+    constraints: &[u32],
 ) -> usize
-    requires { ⌜ Printable n (now nexts) (now outputs) (now gates) ⌝ }
-    requires { ⌜ length (binaryBytes n (now nexts) (now outputs) (now gates)) ≤ length (now out) ⌝ }
-    ensures { λ r. ⌜ r ≡ length (binaryBytes n (now (nexts .entry)) (now (outputs .entry)) (now (gates .entry))) ⌝ }
+    requires { ⌜ Printable n (now latches) (now outputs) (now gates) (now resets) (now bads) (now constraints) ⌝ }
+    requires { ⌜ length (binaryBytes n (now latches) (now outputs) (now gates) (now resets) (now bads) (now constraints))
+        ≤ length (now out) ⌝ }
+    ensures { λ r. ⌜ r ≡ length (binaryBytes n (now (latches .entry)) (now (outputs .entry)) (now (gates .entry))
+        (now (resets .entry)) (now (bads .entry)) (now (constraints .entry))) ⌝ }
     ensures { λ _. ⌜ now (out .exit) ≡ put (now (out .entry)) 0
-        (binaryBytes n (now (nexts .entry)) (now (outputs .entry)) (now (gates .entry))) ⌝ }
+        (binaryBytes n (now (latches .entry)) (now (outputs .entry)) (now (gates .entry))
+        (now (resets .entry)) (now (bads .entry)) (now (constraints .entry))) ⌝ }
 {
     let first_next = write_header(out, b'i', n);
-    let first_output = write_lines(out, first_next, nexts, 1, n.L);
-    let first_gate = write_lines(out, first_output, outputs, 1, n.O);
+    let first_output = write_latches(out, first_next, true, latches, resets, n.L);
+    let first_gate = write_observed(out, first_output, n, outputs, bads, constraints);
     write_gates(out, first_gate, gates, n.A)
 }
 

@@ -10,30 +10,33 @@ use lib.ListN.{length, getD, length-replicate}
 use Rattle.plan.specs.declared.Counts.{Counts}
 use Rattle.plan.specs.declared.Checked.{Checked}
 use Rattle.plan.specs.declared.Checked.the-variants as checked
-use Rattle.plan.specs.declared.Refusal.the-variants.{OutOfRange, DefinedTwice, NotDefined, Cyclic}
+use Rattle.plan.specs.declared.Refusal.the-variants.{LargeCount, WrongSum, ShortTable, OutOfRange, DefinedTwice, NotDefined, Cyclic}
 use Rattle.plan.specs.Refusals.{stage, firstOf}
 use Rattle.plan.specs.Literals.{most}
-use Rattle.plan.specs.Circuit.{Tables, circuitOf, definedIn, short, cleared}
+use Rattle.plan.specs.Circuit.{Tables, Lent, circuitOf, definedIn, short, cleared}
 use Rattle.plan.specs.Header.{text, listOf, over, adds}
 use Rattle.plan.specs.Depends.{undefinedIn, cyclicIn}
 use Rattle.plan.specs.Binary.{binaryOrder}
-use Rattle.plan.specs.Given.{Given, counted, outsideIn, twiceIn}
+use Rattle.plan.specs.Given.{counted, failing, outsideIn, twiceIn}
 use Rattle.plan.specs.Outcome.{checkedBy}
 use Rattle.theorems.proofs.Marks.{Agrees, zeros}
-use Rattle.theorems.proofs.Reading.Short.{short-none}
+use Rattle.theorems.proofs.Reading.Headers.{AllMost}
+use Rattle.theorems.proofs.Reading.Short.{AllLong, short-none}
 use Rattle.theorems.proofs.Running.NoSixToEight.{no-six-to-eight}
-use Rattle.theorems.proofs.Writing.Nothing.{Inside, none-inside, once-different}
+use Rattle.theorems.proofs.Writing.Nothing.{Inside, stage-none, failing-none, first-all, none-inside, once-different}
 use Rattle.theorems.proofs.Writing.Fine.{counts-most}
 use Rattle.tables.specs.declared.Sizes.{Sizes}
+use Rattle.tables.specs.Lengths.{lengthsIn, sizesOf, shorterOf}
 use Rattle.tables.specs.Held.{Fits, Scratch}
 use Rattle.once.specs.Twice.{Ranged}
 use Rattle.sequence.specs.Tables.{Long}
 use Rattle.closing.specs.Read.{Read, closing}
-use Rattle.given.specs.Judged.{circuitStages, lentShorter, unordered}
+use Rattle.given.specs.Judged.{givenAt, lentStages, circuitStages, lentShorter, unordered}
 
 -- what 15 is asked of
-pub long-tables : (n : Counts) (inputs latches outputs gates : List ℕ) → Fits n inputs latches outputs gates → Long n inputs latches gates
-long-tables n inputs latches outputs gates f = record {
+pub long-tables : {n : Counts} {inputs latches outputs gates resets bads constraints : List ℕ}
+    → Fits n inputs latches outputs gates resets bads constraints → Long n inputs latches gates
+long-tables f = record {
   most-M = f .most-M;
   most-I = omega (arith, f .sum, f .most-M);
   most-L = omega (arith, f .sum, f .most-M);
@@ -54,7 +57,7 @@ module _ (ordered : Bool) (n : Counts) (t : Tables) where
 
     pub in-order : binaryOrder (circuitOf n t) ≡ true → checked.Good ≡ checkedBy (firstOf (circuitStages ordered n t))
     in-order b =
-        let never = no-six-to-eight (circuitOf n t) b (inside .latches) (inside .outputs) in
+        let never = no-six-to-eight (circuitOf n t) b (inside .latches) (inside .outputs) (inside .bads) (inside .constraints) in
         go ordered (never .0) (never .1) (never .2)
       where
         go : (ordered : Bool) → twiceIn (circuitOf n t) ≡ none → undefinedIn (circuitOf n t) ≡ none → cyclicIn (circuitOf n t) ≡ none
@@ -79,7 +82,8 @@ module _ (ordered : Bool) (n : Counts) (t : Tables) where
         go true b (some v) e7 o8 e8 = sym (rw (e5, e6, e7))
         go false b (some v) e7 o8 e8 = sym (rw (e5, e6, e7))
 
-    module _ (scratch : List ℕ) (f : Fits n (t .inputs) (t .latches) (t .outputs) (t .gates)) (s : Scratch n scratch) where
+    module _ (scratch : List ℕ) (f : Fits n (t .inputs) (t .latches) (t .outputs) (t .gates) (t .resets) (t .bads) (t .constraints))
+        (s : Scratch n scratch) where
       pub ranged : ((i : ℕ) → getD scratch i 0 ≡ 0) → Ranged n (t .inputs) (t .latches) (t .gates) scratch
       ranged blank = record {
         most-M = f .most-M;
@@ -93,8 +97,8 @@ module _ (ordered : Bool) (n : Counts) (t : Tables) where
         blank = λ v h. blank v;
       }
 
-      pub judged : twiceIn (circuitOf n t) ≡ none → (scratch′ : List ℕ) → length scratch′ ≡ length scratch → Agrees (n .M) (definedIn (circuitOf n t)) scratch′
-          → Read n (t .inputs) (t .latches) (t .outputs) (t .gates) scratch′ 0
+      pub judged : twiceIn (circuitOf n t) ≡ none → (scratch′ : List ℕ) → length scratch′ ≡ length scratch
+          → Agrees (n .M) (definedIn (circuitOf n t)) scratch′ → Read n (t .inputs) (t .latches) (t .outputs) (t .gates) (t .bads) (t .constraints) scratch′ 0
       judged e scratch′ l a = record {
         most-M = f .most-M;
         sum = f .sum;
@@ -102,12 +106,16 @@ module _ (ordered : Bool) (n : Counts) (t : Tables) where
         latches-long = f .latches-long;
         outputs-long = f .outputs-long;
         gates-long = f .gates-long;
+        bads-long = f .bads-long;
+        constraints-long = f .constraints-long;
         scratch-long = omega (arith, s);
         marks-long = omega (arith, s);
         inputs-inside = inside .inputs;
         latches-inside = inside .latches;
         outputs-inside = inside .outputs;
         gates-inside = inside .gates;
+        bads-inside = inside .bads;
+        constraints-inside = inside .constraints;
         different = once-different (circuitOf n t) e;
         marked = a;
       }
@@ -139,24 +147,45 @@ pub cleared-zero : (scratch scratch′ : List ℕ) → scratch′ ≡ cleared sc
 cleared-zero scratch scratch′ e i = ap (λ (l : List ℕ). getD l i 0) e ∙ zeros (length scratch) i
 
 -- counts that 2 lets pass are within the limit
-pub small-counts : (n : Counts) → over (counted 1 (listOf n)) ≡ none → (n .M ≤ most) × (n .L ≤ most) × (n .O ≤ most) × (n .A ≤ most)
-small-counts n e = let m = counts-most n e in (m .0, m .1 .1 .0, m .1 .1 .1 .0, m .1 .1 .1 .1 .0)
+pub small-counts : (n : Counts) → over (counted 1 (listOf n)) ≡ none
+    → (n .M ≤ most) × (n .L ≤ most) × (n .O ≤ most) × (n .A ≤ most) × (n .B ≤ most) × (n .C ≤ most)
+small-counts n e =
+    let m = counts-most n e in
+    (m .0, m .1 .1 .0, m .1 .1 .1 .0, m .1 .1 .1 .1 .0, m .1 .1 .1 .1 .1 .0, m .1 .1 .1 .1 .1 .1 .0)
 
 -- tables that 2, 3 and 4 let pass
-module _ (g : Given) (to : Sizes) (e2 : over (counted 1 (listOf (g .counts))) ≡ none) (e3 : adds text (g .counts) ≡ true)
-    (e4 : short (lentShorter g to) ≡ none) where
-  pub fits : Fits (g .counts) (g .tables .inputs) (g .tables .latches) (g .tables .outputs) (g .tables .gates)
-  fits =
-      let l = short-none (lentShorter g to) .0 e4 in
-      record {
-        most-M = small-counts (g .counts) e2 .0;
-        most-O = small-counts (g .counts) e2 .2;
-        sum = leb-true _ _ e3;
-        inputs-long = omega (arith, l .0);
-        latches-long = omega (arith, l .1 .0);
-        outputs-long = omega (arith, l .1 .1 .0);
-        gates-long = omega (arith, l .1 .1 .1 .0);
-      }
+module _ (n : Counts) (t : Tables) (scratch : List ℕ) (to : Sizes)
+    (e : firstOf (lentStages n (lengthsIn (shorterOf (sizesOf t) to) (length scratch))) ≡ none) where
+  abbrev lengths : List ℕ
+  lengths = lengthsIn (shorterOf (sizesOf t) to) (length scratch)
 
-  pub fits-scratch : Scratch (g .counts) (g .scratch)
-  fits-scratch = short-none (lentShorter g to) .0 e4 .1 .1 .1 .1 .0
+  abbrev lent : List Lent
+  lent = lentShorter (givenAt n t scratch) to
+
+  small : AllMost (listOf n)
+  small = counts-most n (stage-none LargeCount (over (counted 1 (listOf n))) (first-all (lentStages n lengths) e .0))
+
+  adding : adds text n ≡ true
+  adding = failing-none (adds text n) (stage-none WrongSum (failing (adds text n)) (first-all (lentStages n lengths) e .1 .0))
+
+  long : AllLong lent
+  long = short-none lent .0 (stage-none ShortTable (short lent) (first-all (lentStages n lengths) e .1 .1 .0))
+
+  pub fits : Fits n (t .inputs) (t .latches) (t .outputs) (t .gates) (t .resets) (t .bads) (t .constraints)
+  fits = record {
+    most-M = small .0;
+    most-O = small .1 .1 .1 .0;
+    most-B = small .1 .1 .1 .1 .1 .0;
+    most-C = small .1 .1 .1 .1 .1 .1 .0;
+    sum = leb-true _ _ adding;
+    inputs-long = omega (arith, long .0);
+    latches-long = omega (arith, long .1 .0);
+    outputs-long = omega (arith, long .1 .1 .0);
+    gates-long = omega (arith, long .1 .1 .1 .0);
+    resets-long = omega (arith, long .1 .1 .1 .1 .1 .1 .0);
+    bads-long = omega (arith, long .1 .1 .1 .1 .1 .1 .1 .0);
+    constraints-long = omega (arith, long .1 .1 .1 .1 .1 .1 .1 .1 .0);
+  }
+
+  pub fits-scratch : Scratch n scratch
+  fits-scratch = long .1 .1 .1 .1 .0

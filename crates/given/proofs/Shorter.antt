@@ -1,111 +1,101 @@
 -- 4 over given and written tables, of which those of one number are judged by the shorter.
-use Prim.Native.Nat.{ℕ, _*_, _<_, _≤_, min}
-use mathlib.Core.Path.{_≡_, sym, ap, _∙_}
-use mathlib.Core.Logic.{_⊎_, inl, inr}
+use Prim.Native.Nat.{ℕ, suc, _+_, _<_, _≤_, min}
+use mathlib.Core.Path.{_≡_, ap, _∙_}
+use mathlib.Core.Logic.{_⊎_, inl, inr, ⊎-elim}
 use mathlib.Core.List.{List, [], _∷_, _++_}
 use native.Mathlib.Omega.{arith}
 use native.Mathlib.Decide.{decLe}
 use lib.ListN.{length}
-use Rattle.plan.specs.declared.Counts.{Counts}
 use Rattle.plan.specs.Circuit.{Tables, Lent, against, short, wordsToWork, lengthsOf}
 use Rattle.plan.specs.Given.{Given, lentAlone, lentWith}
 use Rattle.theorems.proofs.Reading.Short.{ShortIn, same-short}
 use Rattle.tables.specs.declared.Sizes.{Sizes}
-use Rattle.tables.specs.Lengths.{five}
-use Rattle.given.specs.Judged.{lentShorter, sizesOf}
+use Rattle.tables.specs.Lengths.{sizesOf}
+use Rattle.given.specs.Judged.{lentShorter}
 
-either : (a b n : ℕ) → min a b < n → (a < n) ⊎ (b < n)
-either a b n h = go (decLe n a)
-  where
-    go : Dec (n ≤ a) → (a < n) ⊎ (b < n)
-    go (yes l) = inr (omega arith)
-    go (no l) = inl (omega arith)
+-- a table among those of two lists
+module _ (k : ℕ) where
+  in-left : (xs ys : List Lent) → ShortIn k xs → ShortIn k (xs ++ ys)
+  in-left [] ys h = absurd h
+  in-left (x ∷ xs) ys (inl h) = inl h
+  in-left (x ∷ xs) ys (inr h) = inr (in-left xs ys h)
 
-module _ (n : Counts) (a b c d a′ b′ c′ d′ e : ℕ) where
-  abbrev alone : List Lent
-  alone = against 1 (wordsToWork n) (five a b c d e)
+  in-right : (xs ys : List Lent) → ShortIn k ys → ShortIn k (xs ++ ys)
+  in-right [] ys h = h
+  in-right (x ∷ xs) ys h = inr (in-right xs ys h)
 
-  abbrev both : List Lent
-  both = alone ++ against 1 (n .I ∷ 2 * n .L ∷ n .O ∷ 3 * n .A ∷ []) (a′ ∷ b′ ∷ c′ ∷ d′ ∷ [])
+  in-either : (xs ys : List Lent) → ShortIn k (xs ++ ys) → ShortIn k xs ⊎ ShortIn k ys
+  in-either [] ys h = inr h
+  in-either (x ∷ xs) ys (inl h) = inl (inl h)
+  in-either (x ∷ xs) ys (inr h) = later (in-either xs ys h)
+    where
+      later : ShortIn k xs ⊎ ShortIn k ys → ShortIn k (x ∷ xs) ⊎ ShortIn k ys
+      later (inl q) = inl (inr q)
+      later (inr q) = inr q
 
-  abbrev shorts : List Lent
-  shorts = against 1 (wordsToWork n) (five (min a a′) (min b b′) (min c c′) (min d d′) e)
+-- of two lengths each the lesser
+abbrev lesserOf : List ℕ → List ℕ → List ℕ
+lesserOf [] b = []
+lesserOf (x ∷ a) [] = []
+lesserOf (x ∷ a) (y ∷ b) = min x y ∷ lesserOf a b
 
-  to-shorts : (t : ℕ) → ShortIn t both → ShortIn t shorts
-  to-shorts t (inl k) = inl (k .0, omega (arith, k .1))
-  to-shorts t (inr (inl k)) = inr (inl (k .0, omega (arith, k .1)))
-  to-shorts t (inr (inr (inl k))) = inr (inr (inl (k .0, omega (arith, k .1))))
-  to-shorts t (inr (inr (inr (inl k)))) = inr (inr (inr (inl (k .0, omega (arith, k .1)))))
-  to-shorts t (inr (inr (inr (inr (inl k))))) = inr (inr (inr (inr (inl k))))
-  to-shorts t (inr (inr (inr (inr (inr (inl k)))))) = inl (k .0, omega (arith, k .1))
-  to-shorts t (inr (inr (inr (inr (inr (inr (inl k))))))) = inr (inl (k .0, omega (arith, k .1)))
-  to-shorts t (inr (inr (inr (inr (inr (inr (inr (inl k)))))))) = inr (inr (inl (k .0, omega (arith, k .1))))
-  to-shorts t (inr (inr (inr (inr (inr (inr (inr (inr (inl k))))))))) = inr (inr (inr (inl (k .0, omega (arith, k .1)))))
-  to-shorts t (inr (inr (inr (inr (inr (inr (inr (inr (inr k))))))))) = absurd k
+module _ (k : ℕ) where
+  from-lesser : (t : ℕ) (needs a b : List ℕ) → ShortIn k (against t needs (lesserOf a b)) → ShortIn k (against t needs a) ⊎ ShortIn k (against t needs b)
+  from-lesser t [] a b h = absurd h
+  from-lesser t (n ∷ needs) [] b h = inl h
+  from-lesser t (n ∷ needs) (x ∷ a) [] h = inr h
+  from-lesser t (n ∷ needs) (x ∷ a) (y ∷ b) (inl h) = by (decLe n x)
+    where
+      by : Dec (n ≤ x) → ShortIn k (against t (n ∷ needs) (x ∷ a)) ⊎ ShortIn k (against t (n ∷ needs) (y ∷ b))
+      by (yes l) = inr (inl (h .0, omega (arith, h .1)))
+      by (no l) = inl (inl (h .0, omega arith))
+  from-lesser t (n ∷ needs) (x ∷ a) (y ∷ b) (inr h) = later (from-lesser (t + 1) needs a b h)
+    where
+      later : ShortIn k (against (t + 1) needs a) ⊎ ShortIn k (against (t + 1) needs b)
+          → ShortIn k (against t (n ∷ needs) (x ∷ a)) ⊎ ShortIn k (against t (n ∷ needs) (y ∷ b))
+      later (inl q) = inl (inr q)
+      later (inr q) = inr (inr q)
 
-  from-first : (t : ℕ) → 1 ≡ t → (a < n .I) ⊎ (a′ < n .I) → ShortIn t both
-  from-first t e (inl h) = inl (e, h)
-  from-first t e (inr h) = inr (inr (inr (inr (inr (inl (e, h))))))
+  first-lesser : (t : ℕ) (needs a b : List ℕ) → length a ≡ length b → ShortIn k (against t needs a) → ShortIn k (against t needs (lesserOf a b))
+  first-lesser t [] a b l h = absurd h
+  first-lesser t (n ∷ needs) [] b l h = h
+  first-lesser t (n ∷ needs) (x ∷ a) [] l h = absurd (omega (arith, l))
+  first-lesser t (n ∷ needs) (x ∷ a) (y ∷ b) l (inl h) = inl (h .0, omega (arith, h .1))
+  first-lesser t (n ∷ needs) (x ∷ a) (y ∷ b) l (inr h) = inr (first-lesser (t + 1) needs a b (omega (arith, l)) h)
 
-  from-second : (t : ℕ) → 2 ≡ t → (b < 2 * n .L) ⊎ (b′ < 2 * n .L) → ShortIn t both
-  from-second t e (inl h) = inr (inl (e, h))
-  from-second t e (inr h) = inr (inr (inr (inr (inr (inr (inl (e, h)))))))
+  second-lesser : (t : ℕ) (needs a b : List ℕ) → length a ≡ length b → ShortIn k (against t needs b) → ShortIn k (against t needs (lesserOf a b))
+  second-lesser t [] a b l h = absurd h
+  second-lesser t (n ∷ needs) [] [] l h = h
+  second-lesser t (n ∷ needs) [] (y ∷ b) l h = absurd (omega (arith, l))
+  second-lesser t (n ∷ needs) (x ∷ a) [] l h = absurd (omega (arith, l))
+  second-lesser t (n ∷ needs) (x ∷ a) (y ∷ b) l (inl h) = inl (h .0, omega (arith, h .1))
+  second-lesser t (n ∷ needs) (x ∷ a) (y ∷ b) l (inr h) = inr (second-lesser (t + 1) needs a b (omega (arith, l)) h)
 
-  from-third : (t : ℕ) → 3 ≡ t → (c < n .O) ⊎ (c′ < n .O) → ShortIn t both
-  from-third t e (inl h) = inr (inr (inl (e, h)))
-  from-third t e (inr h) = inr (inr (inr (inr (inr (inr (inr (inl (e, h))))))))
-
-  from-fourth : (t : ℕ) → 4 ≡ t → (d < 3 * n .A) ⊎ (d′ < 3 * n .A) → ShortIn t both
-  from-fourth t e (inl h) = inr (inr (inr (inl (e, h))))
-  from-fourth t e (inr h) = inr (inr (inr (inr (inr (inr (inr (inr (inl (e, h)))))))))
-
-  from-shorts : (t : ℕ) → ShortIn t shorts → ShortIn t both
-  from-shorts t (inl k) = from-first t (k .0) (either a a′ (n .I) (k .1))
-  from-shorts t (inr (inl k)) = from-second t (k .0) (either b b′ (2 * n .L) (k .1))
-  from-shorts t (inr (inr (inl k))) = from-third t (k .0) (either c c′ (n .O) (k .1))
-  from-shorts t (inr (inr (inr (inl k)))) = from-fourth t (k .0) (either d d′ (3 * n .A) (k .1))
-  from-shorts t (inr (inr (inr (inr (inl k))))) = inr (inr (inr (inr (inl k))))
-  from-shorts t (inr (inr (inr (inr (inr k))))) = absurd k
-
-  short-both : short shorts ≡ short both
-  short-both = same-short shorts both from-shorts to-shorts
+short-both : (t : ℕ) (needs a b : List ℕ) → length a ≡ length b
+    → short (against t needs (lesserOf a b)) ≡ short (against t needs a ++ against t needs b)
+short-both t needs a b l =
+    same-short (against t needs (lesserOf a b)) (against t needs a ++ against t needs b)
+    (λ k h. ⊎-elim (in-left k (against t needs a) (against t needs b)) (in-right k (against t needs a) (against t needs b))
+    (from-lesser k t needs a b h))
+    (λ k h. ⊎-elim (first-lesser k t needs a b l) (second-lesser k t needs a b l)
+    (in-either k (against t needs a) (against t needs b) h))
 
 -- with written tables of these sizes
-pub short-with : (g : Given) (to : Sizes) (t : Tables) → lengthsOf t ≡ sizesOf to → short (lentShorter g to) ≡ short (lentWith g t)
+pub short-with : (g : Given) (to : Sizes) (t : Tables) → to ≡ sizesOf t → short (lentShorter g to) ≡ short (lentWith g t)
 short-with g to t e =
     let own = g .tables in
-    short-both (g .counts) (length (own .inputs)) (length (own .latches)) (length (own .outputs)) (length (own .gates)) (to .inputs) (to .latches) (to .outputs) (to .gates)
-    (length (g .scratch))
-    ∙ ap (λ (l : List ℕ). short (lentAlone g ++ against 1 (g .counts .I ∷ 2 * g .counts .L ∷ g .counts .O ∷ 3 * g .counts .A ∷ []) l)) (sym e)
+    let once : length (g .scratch) ≡ min (length (g .scratch)) (length (g .scratch)) = omega arith in
+    ap (λ (x : Sizes). short (lentShorter g x)) e
+    ∙ (ap (λ (n : ℕ). short (against 1 (wordsToWork (g .counts))
+    (min (length (own .inputs)) (length (t .inputs)) ∷ min (length (own .latches)) (length (t .latches))
+    ∷ min (length (own .outputs)) (length (t .outputs)) ∷ min (length (own .gates)) (length (t .gates)) ∷ n ∷ 0
+    ∷ min (length (own .resets)) (length (t .resets)) ∷ min (length (own .bads)) (length (t .bads))
+    ∷ min (length (own .constraints)) (length (t .constraints)) ∷ []))) once
+    ∙ short-both 1 (wordsToWork (g .counts)) (lengthsOf own (g .scratch)) (lengthsOf t (g .scratch)) (omega arith))
 
 -- given tables alone
 pub short-alone : (g : Given) → short (lentWith g (g .tables)) ≡ short (lentAlone g)
 short-alone g =
-    same-short (lentWith g (g .tables)) (lentAlone g) drops keeps
-  where
-    drops : (t : ℕ) → ShortIn t (lentWith g (g .tables)) → ShortIn t (lentAlone g)
-    drops t (inl k) = inl k
-    drops t (inr (inl k)) = inr (inl k)
-    drops t (inr (inr (inl k))) = inr (inr (inl k))
-    drops t (inr (inr (inr (inl k)))) = inr (inr (inr (inl k)))
-    drops t (inr (inr (inr (inr (inl k))))) = inr (inr (inr (inr (inl k))))
-    drops t (inr (inr (inr (inr (inr (inl k)))))) = inl k
-    drops t (inr (inr (inr (inr (inr (inr (inl k))))))) = inr (inl k)
-    drops t (inr (inr (inr (inr (inr (inr (inr (inl k)))))))) = inr (inr (inl k))
-    drops t (inr (inr (inr (inr (inr (inr (inr (inr (inl k))))))))) = inr (inr (inr (inl k)))
-    drops t (inr (inr (inr (inr (inr (inr (inr (inr (inr k))))))))) = absurd k
-
-    keeps : (t : ℕ) → ShortIn t (lentAlone g) → ShortIn t (lentWith g (g .tables))
-    keeps t (inl k) = inl k
-    keeps t (inr (inl k)) = inr (inl k)
-    keeps t (inr (inr (inl k))) = inr (inr (inl k))
-    keeps t (inr (inr (inr (inl k)))) = inr (inr (inr (inl k)))
-    keeps t (inr (inr (inr (inr (inl k))))) = inr (inr (inr (inr (inl k))))
-    keeps t (inr (inr (inr (inr (inr k))))) = absurd k
-
--- lengths that are told as the shorter ones
-pub shorter-lent : (g : Given) (to : Sizes) (a b c d : ℕ) → a ≡ min (length (g .tables .inputs)) (to .inputs)
-    → b ≡ min (length (g .tables .latches)) (to .latches) → c ≡ min (length (g .tables .outputs)) (to .outputs)
-    → d ≡ min (length (g .tables .gates)) (to .gates)
-    → short (against 1 (wordsToWork (g .counts)) (five a b c d (length (g .scratch)))) ≡ short (lentShorter g to)
-shorter-lent g to a b c d p q r s = λ i. short (against 1 (wordsToWork (g .counts)) (five (p i) (q i) (r i) (s i) (length (g .scratch))))
+    same-short (lentWith g (g .tables)) (lentAlone g)
+    (λ k h. ⊎-elim (λ q. q) (λ q. q) (in-either k (lentAlone g) (lentAlone g) h))
+    (λ k h. in-left k (lentAlone g) (lentAlone g) h)

@@ -12,12 +12,12 @@ use Rattle.plan.specs.declared.Checked.the-variants as checked
 use Rattle.plan.specs.declared.Refusal.{Refusal}
 use Rattle.plan.specs.declared.Refusal.the-variants.{NotInOrder}
 use Rattle.plan.specs.Refusals.{firstOf}
-use Rattle.plan.specs.Circuit.{Tables, Lent, countsOf, circuitOf}
+use Rattle.plan.specs.Circuit.{Tables, Lent, countsOf, circuitOf, lengthsOf, wordsToWork, against}
 use Rattle.plan.specs.Binary.{binaryOrder}
 use Rattle.plan.specs.Reading.{WellFormed}
 use Rattle.plan.specs.Given.{Given, given, failing, lentAlone, lentWith, stages, orderStage}
 use Rattle.plan.specs.Outcome.{checkedBy}
-use Rattle.theorems.proofs.Reading.Short.{AllLong, short-none}
+use Rattle.theorems.proofs.Reading.Short.{AllLong, first-long, last-long, short-none}
 use Rattle.theorems.proofs.Writing.Nothing.{stage-none, failing-none, first-all, first-both}
 use Rattle.theorems.proofs.Writing.Fine.{Fine, nothing-fine, counts-held}
 use Rattle.tables.specs.Held.{Fits, Scratch}
@@ -38,12 +38,15 @@ refused-some r none e = let z : _≡_ {A = ℕ} 0 1 = cc in absurd (omega arith)
 refused-some r (some s) e = ap some (sym (ap (refusalIn s) e))
 
 -- the counts of the circuit in tables that fit
-pub held-counts : (n : Counts) (t : Tables) → Fits n (t .inputs) (t .latches) (t .outputs) (t .gates) → countsOf (circuitOf n t) ≡ n
-held-counts n t f = counts-held (record { counts = n; tables = t; scratch = [] }) (f .inputs-long) (f .outputs-long)
+pub held-counts : (n : Counts) (t : Tables) → Fits n (t .inputs) (t .latches) (t .outputs) (t .gates) (t .resets) (t .bads) (t .constraints)
+    → countsOf (circuitOf n t) ≡ n
+held-counts n t f =
+    counts-held (record { counts = n; tables = t; scratch = [] }) (f .inputs-long) (f .outputs-long) (f .bads-long) (f .constraints-long)
 
 -- nothing is found, and where 15 is asked the tables are in binary order
 pub record Good (ordered : Bool) (g : Given) : Type 0 where
-  pub fits : Fits (g .counts) (g .tables .inputs) (g .tables .latches) (g .tables .outputs) (g .tables .gates)
+  pub fits : let t = g .tables in
+      Fits (g .counts) (t .inputs) (t .latches) (t .outputs) (t .gates) (t .resets) (t .bads) (t .constraints)
   pub scratch : Scratch (g .counts) (g .scratch)
   pub counts : countsOf (given g) ≡ g .counts
   pub formed : WellFormed (given g)
@@ -66,14 +69,19 @@ module _ (ordered : Bool) (g : Given) (lent : List Lent) (e : firstOf (allStages
     fits = record {
       most-M = fine .small .0;
       most-O = fine .small .1 .1 .1 .0;
+      most-B = fine .small .1 .1 .1 .1 .1 .0;
+      most-C = fine .small .1 .1 .1 .1 .1 .1 .0;
       sum = fine .sum;
       inputs-long = l .0;
       latches-long = l .1 .0;
       outputs-long = l .1 .1 .0;
       gates-long = l .1 .1 .1 .0;
+      resets-long = l .1 .1 .1 .1 .1 .1 .0;
+      bads-long = l .1 .1 .1 .1 .1 .1 .1 .0;
+      constraints-long = l .1 .1 .1 .1 .1 .1 .1 .1 .0;
     };
     scratch = l .1 .1 .1 .1 .0;
-    counts = counts-held g (l .0) (l .1 .1 .0);
+    counts = counts-held g (l .0) (l .1 .1 .0) (l .1 .1 .1 .1 .1 .1 .1 .0) (l .1 .1 .1 .1 .1 .1 .1 .1 .0);
     formed = fine .formed;
     order = order-stage ordered g (first-both (stages g lent) (thenOrder ordered g) e .1);
   }
@@ -87,11 +95,23 @@ pub record Wide (n : Counts) (t : Tables) : Type 0 where
   pub latches : 2 * n .L ≤ length (t .latches)
   pub outputs : n .O ≤ length (t .outputs)
   pub gates : 3 * n .A ≤ length (t .gates)
+  pub resets : n .L ≤ length (t .resets)
+  pub bads : n .B ≤ length (t .bads)
+  pub constraints : n .C ≤ length (t .constraints)
 
 pub good-with : (ordered : Bool) (g : Given) (t : Tables) → firstOf (allStages ordered g (lentWith g t)) ≡ none → Good ordered g × Wide (g .counts) t
 good-with ordered g t e =
     let l = all-long ordered g (lentWith g t) e in
-    let more = l .1 .1 .1 .1 .1 in (
-      good ordered g (lentWith g t) e (l .0, (l .1 .0, (l .1 .1 .0, (l .1 .1 .1 .0, (l .1 .1 .1 .1 .0, tt))))),
-      record { inputs = more .0; latches = more .1 .0; outputs = more .1 .1 .0; gates = more .1 .1 .1 .0 },
+    let to = against 1 (wordsToWork (g .counts)) (lengthsOf t (g .scratch)) in
+    let more = last-long (lentAlone g) to l in (
+      good ordered g (lentWith g t) e (first-long (lentAlone g) to l),
+      record {
+        inputs = more .0;
+        latches = more .1 .0;
+        outputs = more .1 .1 .0;
+        gates = more .1 .1 .1 .0;
+        resets = more .1 .1 .1 .1 .1 .1 .0;
+        bads = more .1 .1 .1 .1 .1 .1 .1 .0;
+        constraints = more .1 .1 .1 .1 .1 .1 .1 .1 .0;
+      },
     )

@@ -3,20 +3,19 @@ ghost use mathlib.Core.Path.{_≡_};
 ghost use mathlib.Core.Bool.{true, false, not, _&&_};
 ghost use mathlib.Core.List.{List};
 ghost use Prim.Native.Nat.{ℕ};
-ghost use lib.ListN.{length};
 ghost use Rattle.plan.specs.declared.Refusal.{Refusal};
 ghost use Rattle.plan.specs.declared.Checked.the-variants.{Good, Refused};
 ghost use Rattle.plan.specs.Refusals.{firstOf};
-ghost use Rattle.plan.specs.Circuit.{Tables, lengthsOf, cleared};
+ghost use Rattle.plan.specs.Circuit.{Tables, seven, cleared};
 ghost use Rattle.plan.specs.Binary.{binaryOrder};
 ghost use Rattle.plan.specs.Header.{listOf, over, text, adds};
 ghost use Rattle.plan.specs.Given.{counted, lentWith};
 ghost use Rattle.plan.specs.Outcome.{Says, check, checkInOrder, checkBy, checkedBy, CheckExit};
-ghost use Rattle.tables.specs.Lengths.{tableOf};
+ghost use Rattle.tables.specs.Lengths.{tableOf, lengthsIn, sizesOf};
 ghost use Rattle.tables.specs.Held.{circuitIn, Fits, Scratch};
 ghost use Rattle.sequence.specs.Tables.{Long};
 ghost use Rattle.closing.specs.Leaves.{AllNumbered};
-ghost use Rattle.given.specs.Judged.{allStages, circuitStages, lentShorter, sizesOf, unordered};
+ghost use Rattle.given.specs.Judged.{givenAt, lentStages, allStages, circuitStages, lentShorter, unordered};
 use once::defined_twice;
 use plan::Checked;
 use plan::Counts;
@@ -25,13 +24,14 @@ use ranges::out_of_range;
 use sequence::in_binary_order;
 use tables::Sizes;
 use tables::clear;
+use tables::lengths;
 use tables::shorter;
 use tables::too_short;
 
-// The limit of M, I, L, O and A.
+// The limit of every count.
 const MOST: usize = 1048575;
 
-// Refusal 2: which of M, I, L, O, A, numbered from 1, is the first over the limit, or 0.
+// Refusal 2: which of M, I, L, O, A, B, C, numbered from 1, is the first over the limit, or 0.
 pub fn large_count(n: Counts) -> usize
     ensures { λ r. ⌜ tableOf r ≡ over (counted 1 (listOf n)) ⌝ }
 {
@@ -49,6 +49,12 @@ pub fn large_count(n: Counts) -> usize
     }
     if MOST < n.A {
         return 5;
+    }
+    if MOST < n.B {
+        return 6;
+    }
+    if MOST < n.C {
+        return 7;
     }
     0
 }
@@ -85,13 +91,31 @@ fn unordered(answer: Checked, ordered: bool) -> Checked
 // Whether the tables are found to be in binary order. Where numbers are asked nobody looks: in any order the gates get theirs.
 fn found_in_order(numbers: bool, n: Counts, inputs: &[u32], latches: &[u32], gates: &[u32]) -> bool
     requires { ⌜ Long n (now inputs) (now latches) (now gates) ⌝ }
-    ensures { λ r. ⌜ ((outputs : List ℕ)
-        → r ≡ (not numbers && binaryOrder (circuitIn n (now (inputs .entry)) (now (latches .entry)) outputs (now (gates .entry))))) ⌝ }
+    ensures { λ r. ⌜ ((outputs resets bads constraints : List ℕ) → r ≡ (not numbers
+        && binaryOrder (circuitIn n (now (inputs .entry)) (now (latches .entry)) outputs (now (gates .entry)) resets bads constraints))) ⌝ }
 {
     if numbers {
         return false;
     }
     in_binary_order(n, inputs, latches, gates)
+}
+
+// 2, 3, then 4: the least of lent tables of these sizes, with scratch, that is too short.
+fn lent_enough(n: Counts, to: Sizes, scratch: usize) -> Checked
+    ensures { λ r. ⌜ r ≡ checkedBy (firstOf (lentStages n (lengthsIn to scratch))) ⌝ }
+{
+    let large = large_count(n);
+    if large != 0 {
+        return Checked::Refused(Refusal::LargeCount(large));
+    }
+    if !adds_up(n) {
+        return Checked::Refused(Refusal::WrongSum(0));
+    }
+    let short = too_short(n, to, scratch);
+    if short != 0 {
+        return Checked::Refused(Refusal::ShortTable(short));
+    }
+    Checked::Good
 }
 
 // 5, then 6, then 7, then 8, then 15. Tables in binary order whose literals are in range can't meet 6, 7 or 8 (AIGER report,
@@ -103,18 +127,33 @@ fn judge_circuit(
     latches: &[u32],
     outputs: &[u32],
     gates: &[u32],
+    resets: &[u32],
+    bads: &[u32],
+    constraints: &[u32],
     scratch: &mut [u32],
     ordered: bool,
     numbers: bool,
 ) -> Checked
-    requires { ⌜ Fits n (now inputs) (now latches) (now outputs) (now gates) ⌝ }
+    requires { ⌜ Fits n (now inputs) (now latches) (now outputs) (now gates) (now resets) (now bads) (now constraints) ⌝ }
     requires { ⌜ Scratch n (now scratch) ⌝ }
     requires { ⌜ (numbers ≡ true → ordered ≡ false) ⌝ }
-    ensures { λ r. ⌜ r ≡ checkedBy (firstOf (circuitStages ordered n (record { inputs = now (inputs .entry); latches = now (latches .entry); outputs = now (outputs .entry); gates = now (gates .entry) }))) ⌝ }
-    ensures { λ r. ⌜ (numbers ≡ true → r ≡ Good → AllNumbered n (now (inputs .entry)) (now (latches .entry)) (now (gates .entry)) (now (scratch .exit))) ⌝ }
+    ensures { λ r. ⌜ r ≡ checkedBy (firstOf (circuitStages ordered n (seven (now (inputs .entry)) (now (latches .entry)) (now (outputs .entry))
+        (now (gates .entry)) (now (resets .entry)) (now (bads .entry)) (now (constraints .entry))))) ⌝ }
+    ensures { λ r. ⌜ (numbers ≡ true → r ≡ Good
+        → AllNumbered n (now (inputs .entry)) (now (latches .entry)) (now (gates .entry)) (now (scratch .exit))) ⌝ }
 {
     let in_order = found_in_order(numbers, n, inputs, latches, gates);
-    let out = out_of_range(n, inputs, latches, outputs, gates, in_order);
+    let out = out_of_range(
+        n,
+        inputs,
+        latches,
+        outputs,
+        gates,
+        resets,
+        bads,
+        constraints,
+        in_order,
+    );
     if out != 0 {
         return Checked::Refused(Refusal::OutOfRange(out));
     }
@@ -127,7 +166,18 @@ fn judge_circuit(
         return Checked::Refused(Refusal::DefinedTwice(twice));
     }
     unordered(
-        closing::check(n, inputs, latches, outputs, gates, scratch, 0, numbers),
+        closing::check(
+            n,
+            inputs,
+            latches,
+            outputs,
+            gates,
+            bads,
+            constraints,
+            scratch,
+            0,
+            numbers,
+        ),
         ordered,
     )
 }
@@ -139,32 +189,25 @@ fn judge(
     latches: &[u32],
     outputs: &[u32],
     gates: &[u32],
+    resets: &[u32],
+    bads: &[u32],
+    constraints: &[u32],
     scratch: &mut [u32],
     to: Sizes,
     ordered: bool,
     numbers: bool,
 ) -> Checked
     requires { ⌜ (numbers ≡ true → ordered ≡ false) ⌝ }
-    ensures { λ r. ⌜ r ≡ checkedBy (firstOf (allStages ordered (record { counts = n; tables = (record { inputs = now (inputs .entry); latches = now (latches .entry); outputs = now (outputs .entry); gates = now (gates .entry) }); scratch = now (scratch .entry) }) (lentShorter (record { counts = n; tables = (record { inputs = now (inputs .entry); latches = now (latches .entry); outputs = now (outputs .entry); gates = now (gates .entry) }); scratch = now (scratch .entry) }) to))) ⌝ }
-    ensures { λ r. ⌜ (numbers ≡ true → r ≡ Good → AllNumbered n (now (inputs .entry)) (now (latches .entry)) (now (gates .entry)) (now (scratch .exit))) ⌝ }
+    ensures { λ r. ⌜ (let g = givenAt n (seven (now (inputs .entry)) (now (latches .entry)) (now (outputs .entry)) (now (gates .entry))
+        (now (resets .entry)) (now (bads .entry)) (now (constraints .entry))) (now (scratch .entry)) in
+        r ≡ checkedBy (firstOf (allStages ordered g (lentShorter g to)))) ⌝ }
+    ensures { λ r. ⌜ (numbers ≡ true → r ≡ Good
+        → AllNumbered n (now (inputs .entry)) (now (latches .entry)) (now (gates .entry)) (now (scratch .exit))) ⌝ }
 {
-    let large = large_count(n);
-    if large != 0 {
-        return Checked::Refused(Refusal::LargeCount(large));
-    }
-    if !adds_up(n) {
-        return Checked::Refused(Refusal::WrongSum(0));
-    }
-    let short = too_short(
-        n,
-        shorter(inputs.len(), to.inputs),
-        shorter(latches.len(), to.latches),
-        shorter(outputs.len(), to.outputs),
-        shorter(gates.len(), to.gates),
-        scratch.len(),
-    );
-    if short != 0 {
-        return Checked::Refused(Refusal::ShortTable(short));
+    let own = lengths(inputs, latches, outputs, gates, resets, bads, constraints);
+    let lent = lent_enough(n, shorter(own, to), scratch.len());
+    if let Checked::Refused(r) = lent {
+        return Checked::Refused(r);
     }
     judge_circuit(
         n,
@@ -172,6 +215,9 @@ fn judge(
         latches,
         outputs,
         gates,
+        resets,
+        bads,
+        constraints,
         scratch,
         ordered,
         numbers,
@@ -185,13 +231,17 @@ pub fn check_to_make(
     latches: &[u32],
     outputs: &[u32],
     gates: &[u32],
+    resets: &[u32],
+    bads: &[u32],
+    constraints: &[u32],
     scratch: &mut [u32],
     to: Sizes,
     ordered: bool,
 ) -> Checked
-    ensures { λ r. ⌜ ((t : Tables) → lengthsOf t ≡ sizesOf to
-        → _≡_ {A = CheckExit} (record { answer = r; scratch = now (scratch .exit) })
-        (checkBy (allStages ordered (record { counts = n; tables = (record { inputs = now (inputs .entry); latches = now (latches .entry); outputs = now (outputs .entry); gates = now (gates .entry) }); scratch = now (scratch .entry) }) (lentWith (record { counts = n; tables = (record { inputs = now (inputs .entry); latches = now (latches .entry); outputs = now (outputs .entry); gates = now (gates .entry) }); scratch = now (scratch .entry) }) t)) (record { counts = n; tables = (record { inputs = now (inputs .entry); latches = now (latches .entry); outputs = now (outputs .entry); gates = now (gates .entry) }); scratch = now (scratch .entry) }))) ⌝ }
+    ensures { λ r. ⌜ (let g = givenAt n (seven (now (inputs .entry)) (now (latches .entry)) (now (outputs .entry)) (now (gates .entry))
+        (now (resets .entry)) (now (bads .entry)) (now (constraints .entry))) (now (scratch .entry)) in
+        ((t : Tables) → to ≡ sizesOf t → _≡_ {A = CheckExit} (record { answer = r; scratch = now (scratch .exit) })
+        (checkBy (allStages ordered g (lentWith g t)) g))) ⌝ }
 {
     let answer = judge(
         n,
@@ -199,6 +249,9 @@ pub fn check_to_make(
         latches,
         outputs,
         gates,
+        resets,
+        bads,
+        constraints,
         scratch,
         to,
         ordered,
@@ -215,32 +268,38 @@ pub fn number(
     latches: &[u32],
     outputs: &[u32],
     gates: &[u32],
+    resets: &[u32],
+    bads: &[u32],
+    constraints: &[u32],
     scratch: &mut [u32],
     to: Sizes,
 ) -> Checked
-    ensures { λ r. ⌜ ((t : Tables) → lengthsOf t ≡ sizesOf to
-        → r ≡ checkedBy (firstOf (allStages false (record { counts = n; tables = (record { inputs = now (inputs .entry); latches = now (latches .entry); outputs = now (outputs .entry); gates = now (gates .entry) }); scratch = now (scratch .entry) }) (lentWith (record { counts = n; tables = (record { inputs = now (inputs .entry); latches = now (latches .entry); outputs = now (outputs .entry); gates = now (gates .entry) }); scratch = now (scratch .entry) }) t)))) ⌝ }
-    ensures { λ r. ⌜ (r ≡ Good → AllNumbered n (now (inputs .entry)) (now (latches .entry)) (now (gates .entry)) (now (scratch .exit))) ⌝ }
+    ensures { λ r. ⌜ (let g = givenAt n (seven (now (inputs .entry)) (now (latches .entry)) (now (outputs .entry)) (now (gates .entry))
+        (now (resets .entry)) (now (bads .entry)) (now (constraints .entry))) (now (scratch .entry)) in
+        ((t : Tables) → to ≡ sizesOf t → r ≡ checkedBy (firstOf (allStages false g (lentWith g t))))) ⌝ }
+    ensures { λ r. ⌜ (r ≡ Good
+        → AllNumbered n (now (inputs .entry)) (now (latches .entry)) (now (gates .entry)) (now (scratch .exit))) ⌝ }
     ensures { λ r. ⌜ ((q : Refusal) → r ≡ Refused q → now (scratch .exit) ≡ cleared (now (scratch .entry))) ⌝ }
 {
-    let answer = judge(n, inputs, latches, outputs, gates, scratch, to, false, true);
+    let answer = judge(
+        n,
+        inputs,
+        latches,
+        outputs,
+        gates,
+        resets,
+        bads,
+        constraints,
+        scratch,
+        to,
+        false,
+        true,
+    );
     if let Checked::Refused(r) = answer {
         clear(scratch);
         return Checked::Refused(r);
     }
     answer
-}
-
-// The sizes of the given tables alone.
-fn sizes(inputs: &[u32], latches: &[u32], outputs: &[u32], gates: &[u32]) -> Sizes
-    ensures { λ r. ⌜ r ≡ (record { inputs = length (now (inputs .entry)); latches = length (now (latches .entry)); outputs = length (now (outputs .entry)); gates = length (now (gates .entry)) }) ⌝ }
-{
-    Sizes {
-        inputs: inputs.len(),
-        latches: latches.len(),
-        outputs: outputs.len(),
-        gates: gates.len(),
-    }
 }
 
 // Whether given tables hold a circuit that a reader could have accepted, or the first refusal. Scratch is zero afterwards.
@@ -250,14 +309,30 @@ pub fn check(
     latches: &[u32],
     outputs: &[u32],
     gates: &[u32],
+    resets: &[u32],
+    bads: &[u32],
+    constraints: &[u32],
     scratch: &mut [u32],
 ) -> Checked
     ensures { λ r. ⌜ Says check
-        (record { counts = n; tables = (record { inputs = now (inputs .entry); latches = now (latches .entry); outputs = now (outputs .entry); gates = now (gates .entry) }); scratch = now (scratch .entry) })
+        (givenAt n (seven (now (inputs .entry)) (now (latches .entry)) (now (outputs .entry)) (now (gates .entry))
+        (now (resets .entry)) (now (bads .entry)) (now (constraints .entry))) (now (scratch .entry)))
         (record { answer = r; scratch = now (scratch .exit) }) ⌝ }
 {
-    let own = sizes(inputs, latches, outputs, gates);
-    check_to_make(n, inputs, latches, outputs, gates, scratch, own, false)
+    let own = lengths(inputs, latches, outputs, gates, resets, bads, constraints);
+    check_to_make(
+        n,
+        inputs,
+        latches,
+        outputs,
+        gates,
+        resets,
+        bads,
+        constraints,
+        scratch,
+        own,
+        false,
+    )
 }
 
 // The same, then 15.
@@ -267,14 +342,30 @@ pub fn check_in_order(
     latches: &[u32],
     outputs: &[u32],
     gates: &[u32],
+    resets: &[u32],
+    bads: &[u32],
+    constraints: &[u32],
     scratch: &mut [u32],
 ) -> Checked
     ensures { λ r. ⌜ Says checkInOrder
-        (record { counts = n; tables = (record { inputs = now (inputs .entry); latches = now (latches .entry); outputs = now (outputs .entry); gates = now (gates .entry) }); scratch = now (scratch .entry) })
+        (givenAt n (seven (now (inputs .entry)) (now (latches .entry)) (now (outputs .entry)) (now (gates .entry))
+        (now (resets .entry)) (now (bads .entry)) (now (constraints .entry))) (now (scratch .entry)))
         (record { answer = r; scratch = now (scratch .exit) }) ⌝ }
 {
-    let own = sizes(inputs, latches, outputs, gates);
-    check_to_make(n, inputs, latches, outputs, gates, scratch, own, true)
+    let own = lengths(inputs, latches, outputs, gates, resets, bads, constraints);
+    check_to_make(
+        n,
+        inputs,
+        latches,
+        outputs,
+        gates,
+        resets,
+        bads,
+        constraints,
+        scratch,
+        own,
+        true,
+    )
 }
 
 // The same answer. After a refusal scratch is zero; where nothing is refused it is left as it comes, for the caller to clear.
@@ -284,13 +375,30 @@ pub fn judge_in_order(
     latches: &[u32],
     outputs: &[u32],
     gates: &[u32],
+    resets: &[u32],
+    bads: &[u32],
+    constraints: &[u32],
     scratch: &mut [u32],
 ) -> Checked
-    ensures { λ r. ⌜ r ≡ checkInOrder (record { counts = n; tables = (record { inputs = now (inputs .entry); latches = now (latches .entry); outputs = now (outputs .entry); gates = now (gates .entry) }); scratch = now (scratch .entry) }) .answer ⌝ }
+    ensures { λ r. ⌜ r ≡ checkInOrder (givenAt n (seven (now (inputs .entry)) (now (latches .entry)) (now (outputs .entry)) (now (gates .entry))
+        (now (resets .entry)) (now (bads .entry)) (now (constraints .entry))) (now (scratch .entry))) .answer ⌝ }
     ensures { λ r. ⌜ ((q : Refusal) → r ≡ Refused q → now (scratch .exit) ≡ cleared (now (scratch .entry))) ⌝ }
 {
-    let to = sizes(inputs, latches, outputs, gates);
-    let answer = judge(n, inputs, latches, outputs, gates, scratch, to, true, false);
+    let to = lengths(inputs, latches, outputs, gates, resets, bads, constraints);
+    let answer = judge(
+        n,
+        inputs,
+        latches,
+        outputs,
+        gates,
+        resets,
+        bads,
+        constraints,
+        scratch,
+        to,
+        true,
+        false,
+    );
     if let Checked::Refused(_) = answer {
         clear(scratch);
         return answer;

@@ -40,9 +40,10 @@ module _ {n : Counts} {inputs latches gates marks : List ℕ} (p : Ranged n inpu
   zs = lefts (map gateOf (rowsOf 3 (n .A) gates))
 
   -- a table of 6 is named, so nothing is said of the marks
-  found : (t : ℕ) (u : List ℕ) → ((outputs : List ℕ) → tableOf t ≡ twiceIn (circuitIn n inputs latches outputs gates)) → (tableOf t ≡ none → ⊥)
-      → TwiceSays n inputs latches gates t u
-  found t u e some-table = record { told = e; marked = λ outputs q. absurd (some-table (e outputs ∙ q)) }
+  found : (t : ℕ) (u : List ℕ)
+      → ((outputs resets bads constraints : List ℕ) → tableOf t ≡ twiceIn (circuitIn n inputs latches outputs gates resets bads constraints))
+      → (tableOf t ≡ none → ⊥) → TwiceSays n inputs latches gates t u
+  found t u e some-table = record { told = e; marked = λ outputs resets bads constraints q. absurd (some-table (e outputs resets bads constraints ∙ q)) }
 
   module _ (r₁ : Bool) (u₁ : List ℕ) (by-inputs : RowsDo inputs 1 (n .I) marks r₁ u₁) where
     inputs-say : RowsSay (n .M) [] xs r₁ u₁
@@ -52,7 +53,7 @@ module _ {n : Counts} {inputs latches gates marks : List ℕ} (p : Ranged n inpu
 
     pub told-inputs : r₁ ≡ true → TwiceSays n inputs latches gates 1 u₁
     told-inputs e =
-        found 1 u₁ (λ outputs. in-inputs (circuitIn n inputs latches outputs gates) (again inputs-say e))
+        found 1 u₁ (λ outputs resets bads constraints. in-inputs (circuitIn n inputs latches outputs gates resets bads constraints) (again inputs-say e))
         (λ q. let z : _≡_ {A = ℕ} 0 1 = cc in omega arith)
 
     module _ (first : r₁ ≡ false) (r₂ : Bool) (u₂ : List ℕ) (by-latches : RowsDo latches 2 (n .L) u₁ r₂ u₂) where
@@ -63,7 +64,9 @@ module _ {n : Counts} {inputs latches gates marks : List ℕ} (p : Ranged n inpu
 
       pub told-latches : r₂ ≡ true → TwiceSays n inputs latches gates 2 u₂
       told-latches e =
-          found 2 u₂ (λ outputs. in-latches (circuitIn n inputs latches outputs gates) (new inputs-say first) (again latches-say e))
+          found 2 u₂
+          (λ outputs resets bads constraints. in-latches (circuitIn n inputs latches outputs gates resets bads constraints) (new inputs-say first)
+          (again latches-say e))
           (λ q. let z : _≡_ {A = ℕ} 0 1 = cc in omega arith)
 
       module _ (second : r₂ ≡ false) (r₃ : Bool) (u₃ : List ℕ) (by-gates : RowsDo gates 3 (n .A) u₂ r₃ u₃) where
@@ -75,11 +78,13 @@ module _ {n : Counts} {inputs latches gates marks : List ℕ} (p : Ranged n inpu
         pub told-gates : r₃ ≡ true → TwiceSays n inputs latches gates 4 u₃
         told-gates e =
             found 4 u₃
-            (λ outputs. in-gates (circuitIn n inputs latches outputs gates) (new inputs-say first) (new latches-say second) (again gates-say e))
+            (λ outputs resets bads constraints. in-gates (circuitIn n inputs latches outputs gates resets bads constraints) (new inputs-say first)
+            (new latches-say second) (again gates-say e))
             (λ q. let z : _≡_ {A = ℕ} 0 1 = cc in omega arith)
 
         pub told-none : r₃ ≡ false → TwiceSays n inputs latches gates 0 u₃
         told-none e = record {
-          told = λ outputs. nowhere (circuitIn n inputs latches outputs gates) (new inputs-say first) (new latches-say second) (new gates-say e);
-          marked = λ outputs q. subst (λ (l : List ℕ). Agrees (n .M) l u₃) (append-assoc xs ys zs) (gates-say .marked e);
+          told = λ outputs resets bads constraints. nowhere (circuitIn n inputs latches outputs gates resets bads constraints) (new inputs-say first)
+              (new latches-say second) (new gates-say e);
+          marked = λ outputs resets bads constraints q. subst (λ (l : List ℕ). Agrees (n .M) l u₃) (append-assoc xs ys zs) (gates-say .marked e);
         }

@@ -31,8 +31,8 @@ pub record Ranged (n : Counts) (inputs latches gates marks : List ℕ) : Type 0 
   pub gates-inside : allInside true (n .M) (map gateLine (map gateOf (rowsOf 3 (n .A) gates))) ≡ true
   pub blank : (v : ℕ) → v ≤ n .M → getD marks v 0 ≡ 0
 
--- 6 names the table that is answered, whatever the outputs are; without 6, each variable that is defined has a mark
+-- 6 names the table that is answered, whatever the other tables are; without 6, each variable that is defined has a mark
 pub record TwiceSays (n : Counts) (inputs latches gates : List ℕ) (r : ℕ) (marks′ : List ℕ) : Type 0 where
-  pub told : (outputs : List ℕ) → tableOf r ≡ twiceIn (circuitIn n inputs latches outputs gates)
-  pub marked : (outputs : List ℕ) → twiceIn (circuitIn n inputs latches outputs gates) ≡ none
-      → Agrees (n .M) (definedIn (circuitIn n inputs latches outputs gates)) marks′
+  pub told : (outputs resets bads constraints : List ℕ) → tableOf r ≡ twiceIn (circuitIn n inputs latches outputs gates resets bads constraints)
+  pub marked : (outputs resets bads constraints : List ℕ) → twiceIn (circuitIn n inputs latches outputs gates resets bads constraints) ≡ none
+      → Agrees (n .M) (definedIn (circuitIn n inputs latches outputs gates resets bads constraints)) marks′

@@ -33,7 +33,7 @@ fn mark_rows(table: &[u32], stride: usize, n: usize, marks: &mut [u32]) -> bool
 }
 
 // The table, 1, 2 or 4, of the first definition of a variable that is defined before it, in the order of the tables; 0 if there is
-// none. Outputs, table 3, define nothing.
+// none. The other tables define nothing.
 pub fn defined_twice(
     n: Counts,
     inputs: &[u32],

@@ -5,3 +5,4 @@ pub mod Sizes
 pub mod Begun
 pub mod Turns
 pub mod Gates
+pub mod Latches

@@ -1,2 +1,3 @@
 -- What the writing of lines and gates is stated with.
 pub mod Words
+pub mod Latches

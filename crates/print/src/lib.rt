@@ -1,4 +1,4 @@
-// Lines of literals and gates of the binary form, written into a buffer that has room (the paper, writing; AIGER report,
+// Lines of literals and of latches, and gates of the binary form, written into a buffer that has room (the paper, writing; AIGER report,
 // sections 7 and 12). A writer asks for the length first, so that nothing is written where the buffer is too short.
 ghost use mathlib.Core.Path.{_≡_};
 ghost use mathlib.Core.List.{map};
@@ -10,6 +10,7 @@ ghost use Rattle.plan.specs.Binary.{gateBytes};
 ghost use Rattle.plan.specs.Difference.{groupsOf};
 ghost use Rattle.plan.specs.Outcome.{put};
 ghost use Rattle.print.specs.Words.{Begun, following, wordBytes, sidesBytes};
+ghost use Rattle.print.specs.Latches.{nextLine, latchBytes, latchRows};
 use plan::Lit;
 
 // What stands after a number: a space if more follow in its line, the new line after the last.
@@ -78,6 +79,108 @@ pub fn write_lines(out: &mut [u8], at: usize, table: &[u32], k: usize, n: usize)
     while i < words {
         next = write_word(out, next, table[i], left);
         left = following(last, left);
+        i += 1;
+    }
+    next
+}
+
+// The bytes of a latch's next state and of its reset, which is left off if it is 0.
+fn next_length(next: u32, reset: u32) -> usize
+    ensures { λ r. ⌜ r ≡ length (nextLine next reset) ⌝ }
+    ensures { λ r. ⌜ r ≤ 22 ⌝ }
+{
+    let first = numbers::digits_in(next as usize) + 1;
+    if reset == 0 {
+        return first;
+    }
+    first + numbers::digits_in(reset as usize) + 1
+}
+
+// The bytes of a latch's line; binary form leaves the current state out.
+fn latch_length(binary: bool, current: u32, next: u32, reset: u32) -> usize
+    ensures { λ r. ⌜ r ≡ length (latchBytes binary current next reset) ⌝ }
+    ensures { λ r. ⌜ r ≤ 33 ⌝ }
+{
+    let last = next_length(next, reset);
+    if binary {
+        return last;
+    }
+    numbers::digits_in(current as usize) + 1 + last
+}
+
+// The bytes of the lines of n latches, in binary form or in text form.
+pub fn latches_length(binary: bool, latches: &[u32], resets: &[u32], n: usize) -> usize
+    requires { ⌜ 2 * n ≤ length (now latches) ⌝ }
+    requires { ⌜ n ≤ length (now resets) ⌝ }
+    requires { ⌜ n ≤ 16777216 ⌝ }
+    ensures { λ r. ⌜ r ≡ length (linesOf (latchRows binary n (now (latches .entry)) (now (resets .entry)))) ⌝ }
+    ensures { λ r. ⌜ r ≤ 33 * n ⌝ }
+{
+    let mut sum: usize = 0;
+    let mut i = 0;
+    while i < n {
+        let k = 2 * i;
+        sum += latch_length(binary, latches[k], latches[k + 1], resets[i]);
+        i += 1;
+    }
+    sum
+}
+
+// A latch's next state and its reset; the position after them.
+fn write_next(out: &mut [u8], at: usize, next: u32, reset: u32) -> usize
+    requires { ⌜ at + length (nextLine next reset) ≤ length (now out) ⌝ }
+    ensures { λ r. ⌜ r ≡ at + length (nextLine next reset) ⌝ }
+    ensures { λ _. ⌜ now (out .exit) ≡ put (now (out .entry)) at (nextLine next reset) ⌝ }
+{
+    if reset == 0 {
+        return write_word(out, at, next, 0);
+    }
+    let second = write_word(out, at, next, 1);
+    write_word(out, second, reset, 0)
+}
+
+// A latch's line; the position after it.
+fn write_latch(
+    out: &mut [u8],
+    at: usize,
+    binary: bool,
+    current: u32,
+    next: u32,
+    reset: u32,
+) -> usize
+    requires { ⌜ at + length (latchBytes binary current next reset) ≤ length (now out) ⌝ }
+    ensures { λ r. ⌜ r ≡ at + length (latchBytes binary current next reset) ⌝ }
+    ensures { λ _. ⌜ now (out .exit) ≡ put (now (out .entry)) at (latchBytes binary current next reset) ⌝ }
+{
+    if binary {
+        return write_next(out, at, next, reset);
+    }
+    let second = write_word(out, at, current, 1);
+    write_next(out, second, next, reset)
+}
+
+// The lines of n latches from a position on, in binary form or in text form; the position after them.
+pub fn write_latches(
+    out: &mut [u8],
+    at: usize,
+    binary: bool,
+    latches: &[u32],
+    resets: &[u32],
+    n: usize,
+) -> usize
+    requires { ⌜ 2 * n ≤ length (now latches) ⌝ }
+    requires { ⌜ n ≤ length (now resets) ⌝ }
+    requires { ⌜ n ≤ 16777216 ⌝ }
+    requires { ⌜ at + length (linesOf (latchRows binary n (now latches) (now resets))) ≤ length (now out) ⌝ }
+    ensures { λ r. ⌜ r ≡ at + length (linesOf (latchRows binary n (now (latches .entry)) (now (resets .entry)))) ⌝ }
+    ensures { λ _. ⌜ now (out .exit) ≡ put (now (out .entry)) at
+        (linesOf (latchRows binary n (now (latches .entry)) (now (resets .entry)))) ⌝ }
+{
+    let mut next = at;
+    let mut i = 0;
+    while i < n {
+        let k = 2 * i;
+        next = write_latch(out, next, binary, latches[k], latches[k + 1], resets[i]);
         i += 1;
     }
     next

@@ -1,15 +1,15 @@
 -- A row without its first word, and rows without their first.
 use Prim.Native.Nat.{ℕ, zero, suc, _+_, _-_, _*_, _≤_, _<_}
-use mathlib.Core.Path.{_≡_, ap, _∙_}
+use mathlib.Core.Path.{_≡_, ap, ap₂, _∙_}
 use mathlib.Core.Bool.{Bool, true, false, _&&_}
-use mathlib.Core.List.{List}
+use mathlib.Core.List.{List, map}
 use native.Mathlib.Nat.{mul-suc}
 use native.Mathlib.Numerals.{add-one}
 use native.Mathlib.Omega.{arith}
 use lib.ListN.{length, getD, take, drop}
-use lib.Seq.{drop-cons, drop-drop}
-use Rattle.plan.specs.Literals.{inRange}
-use Rattle.plan.specs.Circuit.{inside, allInside, rowsOf}
+use lib.Seq.{drop-cons, drop-drop, getD-take, getD-drop}
+use Rattle.plan.specs.Literals.{inRange, isReset}
+use Rattle.plan.specs.Circuit.{latchOf, resetsOk, inside, allInside, rowsOf}
 
 module _ (d : Bool) (m : ℕ) (t : List ℕ) where
   -- the word at a place decides, then the words after it
@@ -51,3 +51,30 @@ row-room k at zero size p h = absurd (omega arith)
 row-room k at (suc left) size p h =
     let less : suc left - 1 ≡ left = omega arith in
     rw less (omega (arith, mul-suc k left))
+
+-- the latch at a place and the reset at its own decide, then those after them
+module _ (t rs : List ℕ) where
+  abbrev pub resetsFrom : ℕ → ℕ → ℕ → Bool
+  resetsFrom at i left = resetsOk (map latchOf (rowsOf 2 left (drop at t))) (take left (drop i rs))
+
+  reset-first : (at i left : ℕ) → 0 < left → i + left ≤ length rs
+      → resetsFrom at i left ≡ (isReset (getD t at 0) (getD rs i 0) && resetsFrom (at + 2) (i + 1) (left - 1))
+  reset-first at i zero p h = absurd (omega arith)
+  reset-first at i (suc left) p h =
+      let there : i < length rs = omega arith in
+      let less : suc left - 1 ≡ left = omega arith in
+      let z : at + 0 ≡ at = omega arith in
+      let own : getD (take 2 (drop at t)) 0 0 ≡ getD t at 0
+      = getD-take 2 (drop at t) 0 0 (omega arith) ∙ getD-drop at t 0 0 ∙ ap (λ (k : ℕ). getD t k 0) z in
+      ap (λ (l : List ℕ). resetsOk (map latchOf (rowsOf 2 (suc left) (drop at t))) (take (suc left) l)) (drop-cons rs i 0 there)
+      ∙ ap₂ (λ (o : ℕ) (l : List ℕ). isReset o (getD rs i 0) && resetsOk (map latchOf (rowsOf 2 left l)) (take left (drop (suc i) rs))) own
+      (drop-drop 2 at t)
+      ∙ rw (add-one, less)
+
+  pub reset-inside : (at i left : ℕ) → 0 < left → i + left ≤ length rs → isReset (getD t at 0) (getD rs i 0) ≡ true
+      → resetsFrom at i left ≡ resetsFrom (at + 2) (i + 1) (left - 1)
+  reset-inside at i left p h e = reset-first at i left p h ∙ ap (λ (b : Bool). b && resetsFrom (at + 2) (i + 1) (left - 1)) e
+
+  pub reset-outside : (at i left : ℕ) → 0 < left → i + left ≤ length rs → isReset (getD t at 0) (getD rs i 0) ≡ false
+      → resetsFrom at i left ≡ false
+  reset-outside at i left p h e = reset-first at i left p h ∙ ap (λ (b : Bool). b && resetsFrom (at + 2) (i + 1) (left - 1)) e

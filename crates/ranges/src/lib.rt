@@ -1,14 +1,16 @@
 // Refusal 5 over given tables: each literal must be in its range (the paper, order of checks; AIGER report, section 6).
 ghost use mathlib.Core.Path.{_≡_};
 ghost use mathlib.Core.Bool.{true};
+ghost use mathlib.Core.List.{[], map};
 ghost use Prim.Native.Nat.{_+_, _*_, _≤_};
 ghost use lib.ListN.{length, take, drop};
-ghost use Rattle.plan.specs.Literals.{most, inRange};
-ghost use Rattle.plan.specs.Circuit.{circuitOf, rowsOf, inside, allInside};
+ghost use Rattle.plan.specs.Literals.{inRange, isReset};
+ghost use Rattle.plan.specs.Circuit.{latchOf, rowsOf, resetsOk, inside, allInside};
 ghost use Rattle.plan.specs.Binary.{binaryOrder};
 ghost use Rattle.plan.specs.Given.{outsideIn};
-ghost use Rattle.tables.specs.Held.{circuitIn};
+ghost use Rattle.tables.specs.Held.{circuitIn, Fits};
 ghost use Rattle.tables.specs.Lengths.{tableOf};
+ghost use Rattle.ranges.specs.Parts.{outsideFirst, outsideLast, FirstRoom, LastRoom};
 use plan::Counts;
 use plan::Lit;
 
@@ -67,9 +69,42 @@ fn known_within(known: bool, table: &[u32], k: usize, n: usize, defines: bool, m
     rows_within(table, k, n, defines, m)
 }
 
+// Whether a word is a latch's reset: 0, 1 or the latch's own literal.
+fn resets_to(own: u32, reset: u32) -> bool
+    ensures { λ r. ⌜ r ≡ isReset own reset ⌝ }
+{
+    if reset == 0 {
+        return true;
+    }
+    if reset == 1 {
+        return true;
+    }
+    reset == own
+}
+
+// Whether the first n latches have a reset each.
+fn resets_within(latches: &[u32], resets: &[u32], n: usize) -> bool
+    requires { ⌜ 2 * n ≤ length (now latches) ⌝ }
+    requires { ⌜ n ≤ length (now resets) ⌝ }
+    ensures { λ r. ⌜ r ≡ resetsOk (map latchOf (rowsOf 2 n (now (latches .entry)))) (take n (now (resets .entry))) ⌝ }
+{
+    let mut at = 0;
+    let mut i = 0;
+    let mut left = n;
+    while left > 0 {
+        if !resets_to(latches[at], resets[i]) {
+            return false;
+        }
+        at += 2;
+        i += 1;
+        left -= 1;
+    }
+    true
+}
+
 // The first of tables 1 to 4 with a literal out of its range, or 0. Inputs, latches and gates define, outputs do not. Binary order
 // leaves no input and no gate out of range.
-pub fn out_of_range(
+fn first_tables(
     n: Counts,
     inputs: &[u32],
     latches: &[u32],
@@ -77,18 +112,10 @@ pub fn out_of_range(
     gates: &[u32],
     in_order: bool,
 ) -> usize
-    requires { ⌜ n .M ≤ most ⌝ }
-    requires { ⌜ n .I ≤ length (now inputs) ⌝ }
-    requires { ⌜ 2 * n .L ≤ length (now latches) ⌝ }
-    requires { ⌜ n .O ≤ length (now outputs) ⌝ }
-    requires { ⌜ 3 * n .A ≤ length (now gates) ⌝ }
-    requires { ⌜ («in_order» ≡ true → binaryOrder (circuitIn n (now inputs) (now latches) (now outputs) (now gates)) ≡ true) ⌝ }
-    ensures { λ r. ⌜ tableOf r ≡ outsideIn (circuitOf n (record {
-      inputs = now (inputs .entry);
-      latches = now (latches .entry);
-      outputs = now (outputs .entry);
-      gates = now (gates .entry);
-    })) ⌝ }
+    requires { ⌜ FirstRoom n (now inputs) (now latches) (now outputs) (now gates) ⌝ }
+    requires { ⌜ («in_order» ≡ true → binaryOrder (circuitIn n (now inputs) (now latches) (now outputs) (now gates) [] [] []) ≡ true) ⌝ }
+    ensures { λ r. ⌜ tableOf r
+        ≡ outsideFirst (circuitIn n (now (inputs .entry)) (now (latches .entry)) (now (outputs .entry)) (now (gates .entry)) [] [] []) ⌝ }
 {
     let m = n.M as u32;
     if !known_within(in_order, inputs, 1, n.I, true, m) {
@@ -104,4 +131,54 @@ pub fn out_of_range(
         return 4;
     }
     0
+}
+
+// The first of tables 7 to 9 with a reset that is none or a literal out of its range, or 0.
+fn last_tables(
+    n: Counts,
+    latches: &[u32],
+    resets: &[u32],
+    bads: &[u32],
+    constraints: &[u32],
+) -> usize
+    requires { ⌜ LastRoom n (now latches) (now resets) (now bads) (now constraints) ⌝ }
+    ensures { λ r. ⌜ tableOf r
+        ≡ outsideLast (circuitIn n [] (now (latches .entry)) [] [] (now (resets .entry)) (now (bads .entry)) (now (constraints .entry))) ⌝ }
+{
+    let m = n.M as u32;
+    if !resets_within(latches, resets, n.L) {
+        return 7;
+    }
+    if !rows_within(bads, 1, n.B, false, m) {
+        return 8;
+    }
+    if !rows_within(constraints, 1, n.C, false, m) {
+        return 9;
+    }
+    0
+}
+
+// The first of the tables with a literal out of its range, or 0, in the order of their numbers.
+pub fn out_of_range(
+    n: Counts,
+    inputs: &[u32],
+    latches: &[u32],
+    outputs: &[u32],
+    gates: &[u32],
+    resets: &[u32],
+    bads: &[u32],
+    constraints: &[u32],
+    in_order: bool,
+) -> usize
+    requires { ⌜ Fits n (now inputs) (now latches) (now outputs) (now gates) (now resets) (now bads) (now constraints) ⌝ }
+    requires { ⌜ («in_order» ≡ true
+        → binaryOrder (circuitIn n (now inputs) (now latches) (now outputs) (now gates) (now resets) (now bads) (now constraints)) ≡ true) ⌝ }
+    ensures { λ r. ⌜ tableOf r ≡ outsideIn (circuitIn n (now (inputs .entry)) (now (latches .entry)) (now (outputs .entry)) (now (gates .entry))
+        (now (resets .entry)) (now (bads .entry)) (now (constraints .entry))) ⌝ }
+{
+    let first = first_tables(n, inputs, latches, outputs, gates, in_order);
+    if first != 0 {
+        return first;
+    }
+    last_tables(n, latches, resets, bads, constraints)
 }

@@ -20,13 +20,31 @@ use Rattle.plan.specs.Outcome.{CheckExit, MakeExit, checkedBy, checkBy, madeBy,
 use Rattle.theorems.proofs.Held.{Holds, holds-filled}
 use Rattle.theorems.proofs.Marks.{zeros}
 use Rattle.theorems.proofs.Running.Results.{reduce-fewer}
+use Rattle.tables.specs.Lengths.{sizesOf}
 use Rattle.given.specs.Judged.{allStages}
 use Rattle.given.proofs.Sound.{Good, Wide, good-none, refused-some, good-with}
-use Rattle.reduce.specs.Ready.{Ready, Written}
+use Rattle.reduce.proofs.Reducing.{Ready, Written}
 
 -- the counts of a circuit of which k gates are retained
 abbrev countsWith : Counts → ℕ → Counts
-countsWith n k = record { M = n .I + n .L + k; I = n .I; L = n .L; O = n .O; A = k }
+countsWith n k = record { M = n .I + n .L + k; I = n .I; L = n .L; O = n .O; A = k; B = n .B; C = n .C }
+
+-- cleared tables are as long as they were
+blank-long : (l : List ℕ) → length (cleared l) ≡ length l
+blank-long l = length-replicate (length l) 0
+
+pub sizes-cleared : (t t′ : Tables) → t′ ≡ allCleared t → sizesOf t′ ≡ sizesOf t
+sizes-cleared t t′ e =
+    ap sizesOf e
+    ∙ λ i. record {
+      inputs = blank-long (t .inputs) i;
+      latches = blank-long (t .latches) i;
+      outputs = blank-long (t .outputs) i;
+      gates = blank-long (t .gates) i;
+      resets = blank-long (t .resets) i;
+      bads = blank-long (t .bads) i;
+      constraints = blank-long (t .constraints) i;
+    }
 
 module _ (g : Given) (t : Tables) where
   abbrev first : Option Refusal
@@ -80,35 +98,42 @@ module _ (g : Given) (t : Tables) where
           latches = omega (arith, wide .latches, length-replicate {A = ℕ} (length (t .latches)) 0);
           outputs = omega (arith, wide .outputs, length-replicate {A = ℕ} (length (t .outputs)) 0);
           gates = omega (arith, wide .gates, length-replicate {A = ℕ} (length (t .gates)) 0);
+          resets = omega (arith, wide .resets, length-replicate {A = ℕ} (length (t .resets)) 0);
+          bads = omega (arith, wide .bads, length-replicate {A = ℕ} (length (t .bads)) 0);
+          constraints = omega (arith, wide .constraints, length-replicate {A = ℕ} (length (t .constraints)) 0);
         });
         to-blank = λ i. ap (λ (x : Tables). getD (x .gates) i 0) cleared-is ∙ zeros (length (t .gates)) i;
         scratch-blank = λ i. ap (λ (l : List ℕ). getD l i 0) scratch-is ∙ zeros (length (g .scratch)) i;
       }
 
-      module _ (to₀ to : Tables) (k : ℕ) (cleared-is : to₀ ≡ allCleared t) (written : Written (given g) to₀ to k) where
-        pub few : g .counts .I + g .counts .L + k ≤ most
-        few =
-            omega (
-              arith,
-              written .count,
-              reduce-fewer (given g) (passed .formed) (passed .order refl),
-              passed .fits .sum,
-              passed .fits .most-M,
-              ap (λ (m : Counts). m .A) (passed .counts),
-            )
+      pub few : (k : ℕ) → k ≡ length (reduced (given g) .retained) → g .counts .I + g .counts .L + k ≤ most
+      few k count =
+          omega (
+            arith,
+            count,
+            reduce-fewer (given g) (passed .formed) (passed .order refl),
+            passed .fits .sum,
+            passed .fits .most-M,
+            ap (λ (m : Counts). m .A) (passed .counts),
+          )
 
+      module _ (to₀ to : Tables) (k : ℕ) (cleared-is : to₀ ≡ allCleared t) (written : Written (given g) to₀ to k) where
         counts-are : countsWith (g .counts) k ≡ countsOf (reduce (given g))
         counts-are =
             let c = given g in
             let i : g .counts .I ≡ length (c .inputs) = sym (ap (λ (m : Counts). m .I) (passed .counts)) in
             let l : g .counts .L ≡ length (c .latches) = sym (ap (λ (m : Counts). m .L) (passed .counts)) in
             let o : g .counts .O ≡ length (c .outputs) = sym (ap (λ (m : Counts). m .O) (passed .counts)) in
+            let b : g .counts .B ≡ length (c .bads) = sym (ap (λ (m : Counts). m .B) (passed .counts)) in
+            let k : g .counts .C ≡ length (c .constraints) = sym (ap (λ (m : Counts). m .C) (passed .counts)) in
             λ j. record {
               M = i j + l j + written .count j;
               I = i j;
               L = (l ∙ sym (length-map (c .latches) (latchBecomes (reduced c .became)))) j;
               O = (o ∙ sym (length-map (c .outputs) (becomes (reduced c .became)))) j;
               A = written .count j;
+              B = (b ∙ sym (length-map (c .bads) (becomes (reduced c .became)))) j;
+              C = (k ∙ sym (length-map (c .constraints) (becomes (reduced c .became)))) j;
             }
 
         tables-are : to ≡ holding t (reduce (given g))

@@ -1,18 +1,21 @@
 -- A constant, an input and a latch became themselves: a table of which a row starts with a leaf is replaced whole.
 use Prim.Native.Nat.{ℕ, zero, suc, _+_, _*_, _%_, _/_, _<_, _≤_}
 use mathlib.Core.Path.{_≡_, refl, sym, ap, ap₂, _∙_}
+use mathlib.Core.Bool.{true, false≢true}
 use mathlib.Core.Option.{Option, none, some}
 use mathlib.Core.List.{List, [], _∷_, map}
 use native.Mathlib.Omega.{arith}
 use lib.ListN.{length, getD, take, length-append, List·getD-append}
 use lib.Seq.{getD-take}
-use Rattle.plan.specs.Literals.{litOf, varOf, signOf, signed}
-use Rattle.plan.specs.Circuit.{Gate, Circuit, latchLine, flat, latchOf, rowsOf}
+use Rattle.plan.specs.Literals.{litOf, varOf, signOf, negOf, signed, isReset}
+use Rattle.plan.specs.Circuit.{Gate, Circuit, latchLine, flat, latchOf, rowsOf, resetsOk}
 use Rattle.plan.specs.Binary.{litsFrom, latchesFrom}
 use Rattle.plan.specs.Reduce.{Reduced, becomes, standIn, retain, reduceGate, reduceGates, reduced, latchBecomes}
+use Rattle.theorems.proofs.Reading.Common.{and-left, and-right}
 use Rattle.theorems.proofs.Reading.Runs.{length-lits}
 use Rattle.theorems.proofs.Running.Binary.{inner, Bounded}
 use Rattle.theorems.proofs.Running.Upward.{lits-at}
+use Rattle.theorems.proofs.Running.Resets.{by-reset}
 
 -- what variables became stays
 retain-stays : (r : Reduced) (a b : ℕ) (o : Option ℕ) (v : ℕ) → v < length (r .became)
@@ -60,6 +63,17 @@ module _ (m : List ℕ) (k : ℕ) (stay : (v : ℕ) → v < k → becomes m (lit
   currents-stay v [] h = refl
   currents-stay v (l ∷ ls) h =
       ap₂ (λ (x : ℕ) (xs : List ℕ). x ∷ becomes m l ∷ xs) (stay v (omega arith)) (currents-stay (suc v) ls (omega arith))
+
+  -- a reset is a constant or its latch's own literal
+  pub resets-stay : 0 < k → (v : ℕ) (ns rs : List ℕ) → resetsOk (latchesFrom v ns) rs ≡ true → v + length ns ≤ k → map (becomes m) rs ≡ rs
+  resets-stay p v [] [] h q = refl
+  resets-stay p v [] (r ∷ rs) h q = absurd (false≢true h)
+  resets-stay p v (x ∷ ns) [] h q = absurd (false≢true h)
+  resets-stay p v (x ∷ ns) (r ∷ rs) h q =
+      ap₂ (λ (y : ℕ) (ys : List ℕ). y ∷ ys)
+      (by-reset (litOf v) r (λ (y : ℕ). becomes m y ≡ y) (and-left (isReset (litOf v) r) _ h) (stay 0 p) (ap negOf (stay 0 p))
+      (stay v (omega arith)))
+      (resets-stay p (suc v) ns rs (and-right (isReset (litOf v) r) _ h) (omega arith))
 
 -- and their bounds
 pub lits-bounded : (k v n : ℕ) → v + n ≤ k → Bounded k (litsFrom v n)

@@ -1,27 +1,40 @@
 -- The reduced circuit, table by table, from gates that were folded and literals that were replaced.
 use Prim.Native.Nat.{ℕ, _+_, _*_, _≤_}
 use mathlib.Core.Path.{_≡_, refl, sym, ap, ap₂, _∙_, subst}
+use mathlib.Core.Bool.{true}
 use mathlib.Core.List.{List, [], map}
 use native.Mathlib.Omega.{arith}
-use lib.ListN.{length, take}
+use lib.ListN.{length, getD, take}
 use Rattle.plan.specs.declared.Counts.{Counts}
-use Rattle.plan.specs.Circuit.{Gate, Latch, Circuit, Tables, latchLine, gateLine, flat, nexts}
+use Rattle.plan.specs.Circuit.{Gate, Latch, Circuit, Tables, latchLine, gateLine, flat, nexts, resetsOk}
 use Rattle.plan.specs.Binary.{litsFrom, latchesFrom}
 use Rattle.plan.specs.Given.{Given, given}
 use Rattle.plan.specs.Reduce.{Reduced, becomes, reduceGates, reduced, latchBecomes, reduce}
 use Rattle.plan.specs.Outcome.{put}
+use Rattle.theorems.proofs.Held.{Holds}
 use Rattle.theorems.proofs.Reading.Runs.{BinaryOrder, order-exactly, length-nexts}
 use Rattle.theorems.proofs.Tables.{gatesAt, gates-rows}
 use Rattle.theorems.proofs.Running.Binary.{Binary, inner, Bounded, Ordered}
 use Rattle.theorems.proofs.Running.Sides.{sides-below}
 use Rattle.theorems.proofs.Running.InOrder.{well-ordered}
+use Rattle.theorems.proofs.Running.Resets.{resets-bounded}
 use Rattle.folding.specs.Folded.{folded, Foldable, Done}
-use Rattle.reduce.specs.Ready.{Ready, Written}
-use Rattle.reduce.proofs.Leaves.{leaf-stays, inputs-stay, currents-stay, lits-bounded, latches-bounded, bounded-more}
+use Rattle.given.proofs.Sound.{Good, Wide}
+use Rattle.reduce.specs.Becoming.{Replaceable, replaced}
+use Rattle.reduce.proofs.Leaves.{leaf-stays, inputs-stay, currents-stay, resets-stay, lits-bounded, latches-bounded, bounded-more}
 use Rattle.reduce.proofs.Leaves.{becomes-front, latches-words}
 
-abbrev pub tablesOf : List ℕ → List ℕ → List ℕ → List ℕ → Tables
-tablesOf inputs latches outputs gates = record { inputs = inputs; latches = latches; outputs = outputs; gates = gates }
+-- tables that the checks let pass, with 15, room in the tables lent for writing, and a table of gates and a scratch that are zero
+pub record Ready (g : Given) (to : Tables) : Type 0 where
+  pub good : Good true g
+  pub wide : Wide (g .counts) to
+  pub to-blank : (s : ℕ) → getD (to .gates) s 0 ≡ 0
+  pub scratch-blank : (s : ℕ) → getD (g .scratch) s 0 ≡ 0
+
+-- the reduced circuit stands first in the tables, and r gates of it were retained
+pub record Written (c : Circuit) (to₀ to : Tables) (r : ℕ) : Type 0 where
+  pub count : r ≡ length (reduced c .retained)
+  pub holds : Holds to₀ (reduce c) to
 
 module _ (g : Given) (to : Tables) (ready : Ready g to) where
   abbrev n : Counts
@@ -107,50 +120,88 @@ module _ (g : Given) (to : Tables) (ready : Ready g to) where
   outputs-low : Bounded top (take (n .O) (g .tables .outputs))
   outputs-low = subst (λ (k : ℕ). Bounded k (c .outputs)) top-is (ordered .output-in)
 
+  resets-low : Bounded top (take (n .L) (g .tables .resets))
+  resets-low = subst (λ (k : ℕ). Bounded k (c .resets)) top-is (resets-bounded c order (ready .good .formed .resets))
+
+  bads-low : Bounded top (take (n .B) (g .tables .bads))
+  bads-low = subst (λ (k : ℕ). Bounded k (c .bads)) top-is (ordered .bad-in)
+
+  constraints-low : Bounded top (take (n .C) (g .tables .constraints))
+  constraints-low = subst (λ (k : ℕ). Bounded k (c .constraints)) top-is (ordered .constraint-in)
+
   -- and so of words of a scratch as long as the given one
-  module _ (k : ℕ) (size : k ≡ length (g .scratch)) where
-    long : top ≤ k
-    long = omega (arith, size, foldable .scratch-long)
+  module _ (became : List ℕ) (size : length became ≡ length (g .scratch)) where
+    open-to : (k : ℕ) (table into : List ℕ) → k ≤ length table → k ≤ length into → Bounded top (take k table) → Replaceable k table became into
+    open-to k table into long wide b = record {
+      table-long = long;
+      to-long = wide;
+      low = bounded-more top (length became) (take k table) (omega (arith, size, foldable .scratch-long)) b;
+    }
 
-    pub inputs-in : Bounded k (take (n .I) (g .tables .inputs))
-    inputs-in = bounded-more top k (take (n .I) (g .tables .inputs)) long inputs-low
+    pub inputs-in : Replaceable (n .I) (g .tables .inputs) became (to .inputs)
+    inputs-in = open-to (n .I) (g .tables .inputs) (to .inputs) (ready .good .fits .inputs-long) (ready .wide .inputs) inputs-low
 
-    pub latches-in : Bounded k (take (2 * n .L) (g .tables .latches))
-    latches-in = bounded-more top k (take (2 * n .L) (g .tables .latches)) long latches-low
+    pub latches-in : Replaceable (2 * n .L) (g .tables .latches) became (to .latches)
+    latches-in = open-to (2 * n .L) (g .tables .latches) (to .latches) (ready .good .fits .latches-long) (ready .wide .latches) latches-low
 
-    pub outputs-in : Bounded k (take (n .O) (g .tables .outputs))
-    outputs-in = bounded-more top k (take (n .O) (g .tables .outputs)) long outputs-low
+    pub outputs-in : Replaceable (n .O) (g .tables .outputs) became (to .outputs)
+    outputs-in = open-to (n .O) (g .tables .outputs) (to .outputs) (ready .good .fits .outputs-long) (ready .wide .outputs) outputs-low
+
+    pub resets-in : Replaceable (n .L) (g .tables .resets) became (to .resets)
+    resets-in = open-to (n .L) (g .tables .resets) (to .resets) (ready .good .fits .resets-long) (ready .wide .resets) resets-low
+
+    pub bads-in : Replaceable (n .B) (g .tables .bads) became (to .bads)
+    bads-in = open-to (n .B) (g .tables .bads) (to .bads) (ready .good .fits .bads-long) (ready .wide .bads) bads-low
+
+    pub constraints-in : Replaceable (n .C) (g .tables .constraints) became (to .constraints)
+    constraints-in =
+        open-to (n .C) (g .tables .constraints) (to .constraints) (ready .good .fits .constraints-long) (ready .wide .constraints) constraints-low
 
   -- after the gates
   module _ (gates scratch : List ℕ) (r : ℕ) (done : Done (g .tables .gates) (to .gates) gates scratch base (n .A) r) where
     became : take top scratch ≡ reduced c .became
     became = done .became ∙ ap (λ (x : Reduced). x .became) folded-is
 
-    replaced : (ls : List ℕ) → Bounded top ls → map (becomes scratch) ls ≡ map (becomes (reduced c .became)) ls
-    replaced ls b = becomes-front scratch top ls b ∙ ap (λ (m : List ℕ). map (becomes m) ls) became
+    follow : (ls : List ℕ) → Bounded top ls → map (becomes scratch) ls ≡ map (becomes (reduced c .became)) ls
+    follow ls b = becomes-front scratch top ls b ∙ ap (λ (m : List ℕ). map (becomes m) ls) became
 
     inputs-are : map (becomes scratch) (take (n .I) (g .tables .inputs)) ≡ c .inputs
     inputs-are =
-        replaced (take (n .I) (g .tables .inputs)) inputs-low ∙ ap (map (becomes (reduced c .became))) (order .inputs)
+        follow (take (n .I) (g .tables .inputs)) inputs-low ∙ ap (map (becomes (reduced c .became))) (order .inputs)
         ∙ inputs-stay (reduced c .became) (inner c) (leaf-stays c) 1 (length (c .inputs)) (omega arith) ∙ sym (order .inputs)
 
     latches-are : map (becomes scratch) (take (2 * n .L) (g .tables .latches)) ≡ flat (map latchLine (reduce c .latches))
     latches-are =
-        replaced (take (2 * n .L) (g .tables .latches)) latches-low ∙ ap (map (becomes (reduced c .became))) words-of-latches
+        follow (take (2 * n .L) (g .tables .latches)) latches-low ∙ ap (map (becomes (reduced c .became))) words-of-latches
         ∙ currents-stay (reduced c .became) (inner c) (leaf-stays c) (1 + length (c .inputs)) (nexts (c .latches))
         (omega (arith, length-nexts (c .latches)))
         ∙ ap (λ (ls : List Latch). flat (map latchLine (map (latchBecomes (reduced c .became)) ls))) (sym (order .latches))
 
-    pub written : (to′ : Tables) → to′ .inputs ≡ put (to .inputs) 0 (map (becomes scratch) (take (n .I) (g .tables .inputs)))
-        → to′ .latches ≡ put (to .latches) 0 (map (becomes scratch) (take (2 * n .L) (g .tables .latches)))
-        → to′ .outputs ≡ put (to .outputs) 0 (map (becomes scratch) (take (n .O) (g .tables .outputs))) → to′ .gates ≡ gates
-        → Written c to to′ r
-    written to′ i l o gs = record {
-      count = done .count ∙ ap (λ (x : Reduced). length (x .retained)) folded-is;
+    resets-are : map (becomes scratch) (take (n .L) (g .tables .resets)) ≡ c .resets
+    resets-are =
+        follow (take (n .L) (g .tables .resets)) resets-low
+        ∙ resets-stay (reduced c .became) (inner c) (leaf-stays c) (omega arith) (1 + length (c .inputs)) (nexts (c .latches)) (c .resets)
+        (ap (λ (ls : List Latch). resetsOk ls (c .resets)) (sym (order .latches)) ∙ ready .good .formed .resets)
+        (omega (arith, length-nexts (c .latches)))
+
+    pub count : r ≡ length (reduced c .retained)
+    count = done .count ∙ ap (λ (x : Reduced). length (x .retained)) folded-is
+
+    pub written : (to′ : Tables) → to′ .inputs ≡ replaced (n .I) (g .tables .inputs) scratch (to .inputs)
+        → to′ .latches ≡ replaced (2 * n .L) (g .tables .latches) scratch (to .latches)
+        → to′ .outputs ≡ replaced (n .O) (g .tables .outputs) scratch (to .outputs) → to′ .gates ≡ gates
+        → to′ .resets ≡ replaced (n .L) (g .tables .resets) scratch (to .resets)
+        → to′ .bads ≡ replaced (n .B) (g .tables .bads) scratch (to .bads)
+        → to′ .constraints ≡ replaced (n .C) (g .tables .constraints) scratch (to .constraints) → Written c to to′ r
+    written to′ i l o gs rs bs cs = record {
+      count = count;
       holds = record {
         inputs = i ∙ ap (put (to .inputs) 0) inputs-are;
         latches = l ∙ ap (put (to .latches) 0) latches-are;
-        outputs = o ∙ ap (put (to .outputs) 0) (replaced (take (n .O) (g .tables .outputs)) outputs-low);
+        outputs = o ∙ ap (put (to .outputs) 0) (follow (take (n .O) (g .tables .outputs)) outputs-low);
         gates = gs ∙ done .retained ∙ ap (λ (x : Reduced). put (to .gates) 0 (flat (map gateLine (x .retained)))) folded-is;
+        resets = rs ∙ ap (put (to .resets) 0) resets-are;
+        bads = bs ∙ ap (put (to .bads) 0) (follow (take (n .B) (g .tables .bads)) bads-low);
+        constraints = cs ∙ ap (put (to .constraints) 0) (follow (take (n .C) (g .tables .constraints)) constraints-low);
       };
     }

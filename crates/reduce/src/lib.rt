@@ -1,13 +1,9 @@
 // Reduction: folds gates in order, and writes what is left of the circuit into tables lent for writing (the paper, reduction).
 ghost use mathlib.Core.Path.{_≡_};
-ghost use mathlib.Core.List.{map};
-ghost use Prim.Native.Nat.{_≤_};
-ghost use lib.ListN.{length, take};
-ghost use Rattle.plan.specs.Reduce.{becomes};
-ghost use Rattle.plan.specs.Outcome.{put, Says, reduction};
-ghost use Rattle.theorems.proofs.Running.Binary.{Bounded};
-ghost use Rattle.tables.specs.Held.{circuitIn};
-ghost use Rattle.reduce.specs.Ready.{Ready, Written};
+ghost use Rattle.plan.specs.Circuit.{seven};
+ghost use Rattle.plan.specs.Outcome.{Says, reduction};
+ghost use Rattle.given.specs.Judged.{givenAt};
+ghost use Rattle.reduce.specs.Becoming.{Replaceable, replaced};
 use folding::becomes;
 use folding::fold_gates;
 use given::check_to_make;
@@ -15,15 +11,14 @@ use plan::Checked;
 use plan::Counts;
 use plan::Lit;
 use plan::Made;
-use tables::Sizes;
 use tables::clear;
-use tables::clear_four;
+use tables::clear_all;
+use tables::lengths;
 
 // The first n literals of a table, each replaced by what it became.
 fn all_become(table: &[u32], n: usize, became: &[u32], to: &mut [u32])
-    requires { ⌜ (n ≤ length (now table)) × (n ≤ length (now to)) ⌝ }
-    requires { ⌜ Bounded (length (now became)) (take n (now table)) ⌝ }
-    ensures { λ _. ⌜ now (to .exit) ≡ put (now (to .entry)) 0 (map (becomes (now (became .entry))) (take n (now (table .entry)))) ⌝ }
+    requires { ⌜ Replaceable n (now table) (now became) (now to) ⌝ }
+    ensures { λ _. ⌜ now (to .exit) ≡ replaced n (now (table .entry)) (now (became .entry)) (now (to .entry)) ⌝ }
 {
     let mut i = 0;
     while i < n {
@@ -32,113 +27,123 @@ fn all_become(table: &[u32], n: usize, became: &[u32], to: &mut [u32])
     }
 }
 
-// Gates first, in order; then latches and outputs follow. An input and a latch became themselves, so that a table is replaced whole.
-fn write_reduced(
-    n: Counts,
-    inputs: &[u32],
-    latches: &[u32],
-    outputs: &[u32],
-    gates: &[u32],
-    to_inputs: &mut [u32],
-    to_latches: &mut [u32],
-    to_outputs: &mut [u32],
-    to_gates: &mut [u32],
-    scratch: &mut [u32],
-) -> usize
-    requires { ⌜ Ready
-        (record {
-          counts = n;
-          tables = (record { inputs = now inputs; latches = now latches; outputs = now outputs; gates = now gates });
-          scratch = now scratch;
-        })
-        (record { inputs = now «to_inputs»; latches = now «to_latches»; outputs = now «to_outputs»; gates = now «to_gates» }) ⌝ }
-    ensures { λ r. ⌜ Written
-        (circuitIn n (now (inputs .entry)) (now (latches .entry)) (now (outputs .entry)) (now (gates .entry)))
-        (record {
-          inputs = now («to_inputs» .entry);
-          latches = now («to_latches» .entry);
-          outputs = now («to_outputs» .entry);
-          gates = now («to_gates» .entry);
-        })
-        (record {
-          inputs = now («to_inputs» .exit);
-          latches = now («to_latches» .exit);
-          outputs = now («to_outputs» .exit);
-          gates = now («to_gates» .exit);
-        }) r ⌝ }
+// The same of three tables.
+fn three_become(
+    a: &[u32],
+    i: usize,
+    b: &[u32],
+    j: usize,
+    c: &[u32],
+    k: usize,
+    became: &[u32],
+    to_a: &mut [u32],
+    to_b: &mut [u32],
+    to_c: &mut [u32],
+)
+    requires { ⌜ Replaceable i (now a) (now became) (now «to_a») ⌝ }
+    requires { ⌜ Replaceable j (now b) (now became) (now «to_b») ⌝ }
+    requires { ⌜ Replaceable k (now c) (now became) (now «to_c») ⌝ }
+    ensures { λ _. ⌜ now («to_a» .exit) ≡ replaced i (now (a .entry)) (now (became .entry)) (now («to_a» .entry)) ⌝ }
+    ensures { λ _. ⌜ now («to_b» .exit) ≡ replaced j (now (b .entry)) (now (became .entry)) (now («to_b» .entry)) ⌝ }
+    ensures { λ _. ⌜ now («to_c» .exit) ≡ replaced k (now (c .entry)) (now (became .entry)) (now («to_c» .entry)) ⌝ }
 {
-    let retained = fold_gates(gates, 1 + n.I + n.L, n.A, to_gates, scratch);
-    all_become(inputs, n.I, scratch, to_inputs);
-    all_become(latches, 2 * n.L, scratch, to_latches);
-    all_become(outputs, n.O, scratch, to_outputs);
-    retained
+    all_become(a, i, became, to_a);
+    all_become(b, j, became, to_b);
+    all_become(c, k, became, to_c);
 }
 
 // The reduced circuit in the tables lent for writing, which are zero past it, and its counts; or the first refusal, with 15, after which
-// they are zero throughout. Scratch is zero afterwards.
+// they are zero throughout. Scratch is zero afterwards. Gates come first, in order, and the literals of the other tables follow; a
+// constant, an input and a latch became themselves, so that a table is replaced whole.
 pub fn reduce(
     n: Counts,
     inputs: &[u32],
     latches: &[u32],
     outputs: &[u32],
     gates: &[u32],
+    resets: &[u32],
+    bads: &[u32],
+    constraints: &[u32],
     to_inputs: &mut [u32],
     to_latches: &mut [u32],
     to_outputs: &mut [u32],
     to_gates: &mut [u32],
+    to_resets: &mut [u32],
+    to_bads: &mut [u32],
+    to_constraints: &mut [u32],
     scratch: &mut [u32],
 ) -> Made
     ensures { λ r. ⌜ Says reduction
         (record {
-          circuit = (record {
-            counts = n;
-            tables = (record {
-              inputs = now (inputs .entry);
-              latches = now (latches .entry);
-              outputs = now (outputs .entry);
-              gates = now (gates .entry);
-            });
-            scratch = now (scratch .entry);
-          });
-          written = (record {
-            inputs = now («to_inputs» .entry);
-            latches = now («to_latches» .entry);
-            outputs = now («to_outputs» .entry);
-            gates = now («to_gates» .entry);
-          });
+          circuit = givenAt n (seven (now (inputs .entry)) (now (latches .entry)) (now (outputs .entry)) (now (gates .entry))
+              (now (resets .entry)) (now (bads .entry)) (now (constraints .entry))) (now (scratch .entry));
+          written = seven (now («to_inputs» .entry)) (now («to_latches» .entry)) (now («to_outputs» .entry)) (now («to_gates» .entry))
+              (now («to_resets» .entry)) (now («to_bads» .entry)) (now («to_constraints» .entry));
         })
         (record {
           answer = r;
-          written = (record {
-            inputs = now («to_inputs» .exit);
-            latches = now («to_latches» .exit);
-            outputs = now («to_outputs» .exit);
-            gates = now («to_gates» .exit);
-          });
+          written = seven (now («to_inputs» .exit)) (now («to_latches» .exit)) (now («to_outputs» .exit)) (now («to_gates» .exit))
+              (now («to_resets» .exit)) (now («to_bads» .exit)) (now («to_constraints» .exit));
           scratch = now (scratch .exit);
         }) ⌝ }
 {
-    clear_four(to_inputs, to_latches, to_outputs, to_gates);
-    let to = Sizes {
-        inputs: to_inputs.len(),
-        latches: to_latches.len(),
-        outputs: to_outputs.len(),
-        gates: to_gates.len(),
-    };
-    match check_to_make(n, inputs, latches, outputs, gates, scratch, to, true) {
+    clear_all(
+        to_inputs,
+        to_latches,
+        to_outputs,
+        to_gates,
+        to_resets,
+        to_bads,
+        to_constraints,
+    );
+    let to = lengths(
+        to_inputs,
+        to_latches,
+        to_outputs,
+        to_gates,
+        to_resets,
+        to_bads,
+        to_constraints,
+    );
+    match check_to_make(
+        n,
+        inputs,
+        latches,
+        outputs,
+        gates,
+        resets,
+        bads,
+        constraints,
+        scratch,
+        to,
+        true,
+    ) {
         Checked::Refused(r) => Made::Refused(r),
         Checked::Good => {
-            let retained = write_reduced(
-                n,
+            let retained = fold_gates(gates, 1 + n.I + n.L, n.A, to_gates, scratch);
+            three_become(
                 inputs,
+                n.I,
                 latches,
+                2 * n.L,
                 outputs,
-                gates,
+                n.O,
+                scratch,
                 to_inputs,
                 to_latches,
                 to_outputs,
-                to_gates,
+            );
+            three_become(
+                resets,
+                n.L,
+                bads,
+                n.B,
+                constraints,
+                n.C,
                 scratch,
+                to_resets,
+                to_bads,
+                to_constraints,
             );
             clear(scratch);
             Made::Accepted(Counts {
@@ -147,6 +152,8 @@ pub fn reduce(
                 L: n.L,
                 O: n.O,
                 A: retained,
+                B: n.B,
+                C: n.C,
             })
         }
     }

@@ -54,11 +54,11 @@ module _ (n : Counts) (inputs latches gates : List ℕ) (long : Long n inputs la
   abbrev pub fallGates : Bool
   fallGates = falls (map gateOf (rowsOf 3 (n .A) gates))
 
-  pub order-parts : (outputs : List ℕ) → binaryOrder (circuitIn n inputs latches outputs gates)
+  pub order-parts : (outputs resets bads constraints : List ℕ) → binaryOrder (circuitIn n inputs latches outputs gates resets bads constraints)
       ≡ inAll sums runInputs runLatches runGates fallGates
-  order-parts outputs =
+  order-parts outputs resets bads constraints =
       ap₂ (λ (s r : Bool). s && (r && fallGates)) counted
-      (all-runs (circuitIn n inputs latches outputs gates)
+      (all-runs (circuitIn n inputs latches outputs gates resets bads constraints)
       ∙ ap₂ (λ (x y : Bool). x && y) first (ap₂ (λ (x y : Bool). x && y) second third))
     where
       counted : eqb (length (take (n .I) inputs) + length (map latchOf (rowsOf 2 (n .L) latches))
@@ -84,16 +84,16 @@ module _ (n : Counts) (inputs latches gates : List ℕ) (long : Long n inputs la
           ∙ runs-through gateOf gateLine (λ row. refl) (1 + n .I + n .L) (rowsOf 3 (n .A) gates)
 
   -- what is answered where the first test to fail is that of the sum, of the inputs, of the latches; where none is
-  module _ (outputs : List ℕ) where
+  module _ (outputs resets bads constraints : List ℕ) where
     abbrev answer : Bool
-    answer = binaryOrder (circuitIn n inputs latches outputs gates)
+    answer = binaryOrder (circuitIn n inputs latches outputs gates resets bads constraints)
 
     pub ends-sum : (n .I + n .L + n .A ≡ n .M → ⊥) → false ≡ answer
-    ends-sum h = sym (order-parts outputs ∙ ap (λ (s : Bool). inAll s runInputs runLatches runGates fallGates) (ne-eqb _ _ h))
+    ends-sum h = sym (order-parts outputs resets bads constraints ∙ ap (λ (s : Bool). inAll s runInputs runLatches runGates fallGates) (ne-eqb _ _ h))
 
     module _ (sum : n .I + n .L + n .A ≡ n .M) where
       summed : answer ≡ inAll true runInputs runLatches runGates fallGates
-      summed = order-parts outputs ∙ ap (λ (s : Bool). inAll s runInputs runLatches runGates fallGates) (eq-eqb _ _ sum)
+      summed = order-parts outputs resets bads constraints ∙ ap (λ (s : Bool). inAll s runInputs runLatches runGates fallGates) (eq-eqb _ _ sum)
 
       pub ends-inputs : runInputs ≡ false → false ≡ answer
       ends-inputs h = sym (summed ∙ ap (λ (x : Bool). inAll true x runLatches runGates fallGates) h)

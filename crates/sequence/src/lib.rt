@@ -86,11 +86,11 @@ fn gates_in_order(gates: &[u32], n: usize, first: u32) -> bool
     true
 }
 
-// Outputs have no order to keep.
+// Outputs, bad states and constraints have no order to keep.
 pub fn in_binary_order(n: Counts, inputs: &[u32], latches: &[u32], gates: &[u32]) -> bool
     requires { ⌜ Long n (now inputs) (now latches) (now gates) ⌝ }
-    ensures { λ r. ⌜ ((outputs : List ℕ)
-        → r ≡ binaryOrder (circuitIn n (now (inputs .entry)) (now (latches .entry)) outputs (now (gates .entry)))) ⌝ }
+    ensures { λ r. ⌜ ((outputs resets bads constraints : List ℕ)
+        → r ≡ binaryOrder (circuitIn n (now (inputs .entry)) (now (latches .entry)) outputs (now (gates .entry)) resets bads constraints)) ⌝ }
 {
     if n.I + n.L + n.A != n.M {
         return false;

@@ -1,16 +1,18 @@
 -- The used literals of a circuit, where its tables hold them.
 use Prim.Native.Nat.{ℕ, zero, suc, _+_, _*_, _≤_, _<_}
 use mathlib.Core.Path.{_≡_, refl, sym, ap, ap₂, _∙_, subst}
-use mathlib.Core.List.{List, [], _∷_, _++_, map}
+use mathlib.Core.List.{List, [], _∷_, _++_}
 use mathlib.Core.Option.{none, some}
 use native.Mathlib.Omega.{arith}
 use lib.ListN.{length, getD, take}
+use Rattle.plan.specs.declared.Counts.{Counts}
 use Rattle.plan.specs.Literals.{varOf}
-use Rattle.plan.specs.Circuit.{Latch, Circuit, latchOf, gateOf, rowsOf, nexts, roots, rights, vars, definedIn}
+use Rattle.plan.specs.Circuit.{Latch, Circuit, seven, circuitOf, nexts, roots, rights, vars, definedIn}
 use Rattle.plan.specs.Depends.{leastMissing, undefinedIn}
 use Rattle.theorems.proofs.Marks.{Agrees}
 use Rattle.theorems.proofs.Tables.{firsts, gateAt, gatesAt, latchAt, gates-rows, latches-rows, words-take}
-use Rattle.used.specs.Least.{every, lowest}
+use Rattle.used.specs.Least.{every, words, lowest}
+use Rattle.used.specs.Reach.{WordsUpTo, Observed, InReach}
 use Rattle.used.proofs.Lowest.{lowest-append, rights-snoc}
 use Rattle.used.proofs.Named.{UpTo, none-named, one-named}
 
@@ -49,56 +51,75 @@ one-word t i = let at : i ≡ 1 * i + 0 = omega arith in ap (λ (n : ℕ). getD 
 words-every : (t : List ℕ) (n : ℕ) → n ≤ length t → take n t ≡ every t 0 1 n
 words-every t n h = words-take t n h ∙ ap (λ (at : ℕ → ℕ). firsts at n) (λ j i. one-word t i j)
 
--- the three walks, one after the other, over tables with room for used literals in range
-pub record Walks (lt : List ℕ) (l : ℕ) (ot : List ℕ) (o : ℕ) (gt : List ℕ) (a m : ℕ) (marks : List ℕ) (r : ℕ) : Type 0 where
-  pub room : o ≤ length ot
-  pub up-next : (i : ℕ) → i < l → varOf (getD lt (2 * i + 1) 0) ≤ m
-  pub up-output : (i : ℕ) → i < o → varOf (getD ot i 0) ≤ m
-  pub up-first : (i : ℕ) → i < a → varOf (getD gt (3 * i + 1) 0) ≤ m
-  pub up-second : (i : ℕ) → i < a → varOf (getD gt (3 * i + 2) 0) ≤ m
-  pub r₁ : ℕ
-  pub r₂ : ℕ
-  pub by-latches : r₁ ≡ lowest marks (m + 1) (every lt 1 2 l)
-  pub by-outputs : r₂ ≡ lowest marks r₁ (every ot 0 1 o)
-  pub by-gates : r ≡ lowest marks r₂ (rights (gatesAt gt a))
+pub word-in-marks : (m : ℕ) (t : List ℕ) (n : ℕ) (marks : List ℕ) → m < length marks → WordsUpTo m t n
+    → (i : ℕ) → i < n → varOf (getD t (1 * i + 0) 0) < length marks
+word-in-marks m t n marks long up i h = rw (← one-word t i) (omega (arith, up i h))
 
-module _ {lt : List ℕ} {l : ℕ} {ot : List ℕ} {o : ℕ} {gt : List ℕ} {a m : ℕ} {marks : List ℕ} {r : ℕ}
-    (w : Walks lt l ot o gt a m marks r) where
+-- the walks over what is observed, and all walks, one after the other
+module _ {n : Counts} {ot bt ct marks : List ℕ} (p : Observed n ot bt ct marks) where
+  abbrev pub observedIn : List ℕ
+  observedIn = words ot (n .O) ++ (words bt (n .B) ++ words ct (n .C))
+
+  pub observed-walked : (k r₁ r₂ r : ℕ) → r₁ ≡ lowest marks k (words ot (n .O)) → r₂ ≡ lowest marks r₁ (words bt (n .B))
+      → r ≡ lowest marks r₂ (words ct (n .C)) → r ≡ lowest marks k observedIn
+  observed-walked k r₁ r₂ r e f g =
+      g ∙ ap (λ (x : ℕ). lowest marks x (words ct (n .C))) f
+      ∙ sym (lowest-append marks r₁ (words bt (n .B)) (words ct (n .C)))
+      ∙ ap (λ (x : ℕ). lowest marks x (words bt (n .B) ++ words ct (n .C))) e
+      ∙ sym (lowest-append marks k (words ot (n .O)) (words bt (n .B) ++ words ct (n .C)))
+
+  words-up : (t : List ℕ) (k : ℕ) → WordsUpTo (n .M) t k → UpTo (n .M) (words t k)
+  words-up t k h = up-firsts (n .M) _ k (λ i q. rw (← one-word t i) (h i q))
+
+  observed-up : UpTo (n .M) observedIn
+  observed-up =
+      up-append (n .M) (words ot (n .O)) (words bt (n .B) ++ words ct (n .C)) (words-up ot (n .O) (p .outputs-up))
+      (up-append (n .M) (words bt (n .B)) (words ct (n .C)) (words-up bt (n .B) (p .bads-up)) (words-up ct (n .C) (p .constraints-up)))
+
+module _ {n : Counts} {lt ot gt bt ct marks : List ℕ} (p : InReach n lt ot gt bt ct marks) (r₁ r₂ r : ℕ)
+    (by-latches : r₁ ≡ lowest marks (n .M + 1) (every lt 1 2 (n .L))) (by-observed : r₂ ≡ lowest marks r₁ (observedIn (p .observed)))
+    (by-gates : r ≡ lowest marks r₂ (rights (gatesAt gt (n .A)))) where
+  abbrev seen : List ℕ
+  seen = every lt 1 2 (n .L) ++ observedIn (p .observed)
+
   abbrev literals : List ℕ
-  literals = (every lt 1 2 l ++ every ot 0 1 o) ++ rights (gatesAt gt a)
+  literals = seen ++ rights (gatesAt gt (n .A))
 
-  literals-up : UpTo m literals
+  literals-up : UpTo (n .M) literals
   literals-up =
-      up-append m (every lt 1 2 l ++ every ot 0 1 o) (rights (gatesAt gt a))
-      (up-append m (every lt 1 2 l) (every ot 0 1 o) (up-firsts m _ l (w .up-next))
-      (up-firsts m _ o (λ i h. rw (← one-word ot i) (w .up-output i h))))
-      (up-sides m gt a (w .up-first) (w .up-second))
+      up-append (n .M) seen (rights (gatesAt gt (n .A)))
+      (up-append (n .M) (every lt 1 2 (n .L)) (observedIn (p .observed)) (up-firsts (n .M) _ (n .L) (p .nexts-up)) (observed-up (p .observed)))
+      (up-sides (n .M) gt (n .A) (p .firsts-up) (p .seconds-up))
 
-  found : r ≡ lowest marks (m + 1) literals
+  found : r ≡ lowest marks (n .M + 1) literals
   found =
-      w .by-gates
-      ∙ ap (λ (k : ℕ). lowest marks k (rights (gatesAt gt a)))
-      (w .by-outputs ∙ ap (λ (k : ℕ). lowest marks k (every ot 0 1 o)) (w .by-latches)
-      ∙ sym (lowest-append marks (m + 1) (every lt 1 2 l) (every ot 0 1 o)))
-      ∙ sym (lowest-append marks (m + 1) (every lt 1 2 l ++ every ot 0 1 o) (rights (gatesAt gt a)))
+      by-gates
+      ∙ ap (λ (k : ℕ). lowest marks k (rights (gatesAt gt (n .A))))
+      (by-observed ∙ ap (λ (k : ℕ). lowest marks k (observedIn (p .observed))) by-latches
+      ∙ sym (lowest-append marks (n .M + 1) (every lt 1 2 (n .L)) (observedIn (p .observed))))
+      ∙ sym (lowest-append marks (n .M + 1) seen (rights (gatesAt gt (n .A))))
 
-  module _ (c : Circuit) (latches : c .latches ≡ map latchOf (rowsOf 2 l lt)) (outputs : c .outputs ≡ take o ot)
-      (gates : c .gates ≡ map gateOf (rowsOf 3 a gt)) (agrees : Agrees m (definedIn c) marks) where
+  module _ (inputs resets : List ℕ) where
+    abbrev c : Circuit
+    c = circuitOf n (seven inputs lt ot gt resets bt ct)
+
     literals-are : literals ≡ roots c ++ rights (c .gates)
     literals-are =
         sym (ap₂ (λ (x : List ℕ) (y : List ℕ). x ++ y)
         (ap₂ (λ (x : List ℕ) (y : List ℕ). x ++ y)
-        (ap nexts (latches ∙ latches-rows lt l) ∙ nexts-firsts lt l)
-        (outputs ∙ words-every ot o (w .room)))
-        (ap rights (gates ∙ gates-rows gt a)))
+        (ap nexts (latches-rows lt (n .L)) ∙ nexts-firsts lt (n .L))
+        (ap₂ (λ (x : List ℕ) (y : List ℕ). x ++ y) (words-every ot (n .O) (p .observed .outputs-long))
+        (ap₂ (λ (x : List ℕ) (y : List ℕ). x ++ y) (words-every bt (n .B) (p .observed .bads-long))
+        (words-every ct (n .C) (p .observed .constraints-long)))))
+        (ap rights (gates-rows gt (n .A))))
 
-    pub nothing-missing : m < r → none ≡ undefinedIn c
-    nothing-missing h =
-        none-named m (definedIn c) marks agrees literals literals-up (omega (arith, found))
+    pub nothing-missing : Agrees (n .M) (definedIn c) marks → n .M < r → none ≡ undefinedIn c
+    nothing-missing agrees h =
+        none-named (n .M) (definedIn c) marks agrees literals literals-up (omega (arith, found))
         ∙ ap (λ (ls : List ℕ). leastMissing (zero ∷ definedIn c) (vars ls)) literals-are
 
-    pub one-missing : r ≤ m → some r ≡ undefinedIn c
-    one-missing h =
+    pub one-missing : Agrees (n .M) (definedIn c) marks → r ≤ n .M → some r ≡ undefinedIn c
+    one-missing agrees h =
         ap some found
-        ∙ (one-named m (definedIn c) marks agrees literals literals-up (omega (arith, found))
+        ∙ (one-named (n .M) (definedIn c) marks agrees literals literals-up (omega (arith, found))
         ∙ ap (λ (ls : List ℕ). leastMissing (zero ∷ definedIn c) (vars ls)) literals-are)

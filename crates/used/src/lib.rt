@@ -1,14 +1,16 @@
 // Refusal 7: each variable that is used must be defined (the paper, text form; AIGER report, section 7).
 ghost use mathlib.Core.Path.{_≡_};
-ghost use mathlib.Core.List.{map};
+ghost use mathlib.Core.List.{List, _++_};
 ghost use Prim.Native.Nat.{ℕ, _+_, _*_, _≤_, _<_};
-ghost use lib.ListN.{length, getD, take};
-ghost use Rattle.plan.specs.Literals.{most, varOf};
-ghost use Rattle.plan.specs.Circuit.{Circuit, latchOf, gateOf, rowsOf, rights, definedIn};
+ghost use lib.ListN.{length, getD};
+ghost use Rattle.plan.specs.Literals.{varOf};
+ghost use Rattle.plan.specs.Circuit.{seven, circuitOf, rights, definedIn};
 ghost use Rattle.plan.specs.Depends.{undefinedIn};
 ghost use Rattle.theorems.proofs.Marks.{Agrees};
 ghost use Rattle.theorems.proofs.Tables.{gatesAt};
-ghost use Rattle.used.specs.Least.{missingOf, every, lower, lowest};
+ghost use Rattle.used.specs.Least.{missingOf, every, words, lower, lowest};
+ghost use Rattle.used.specs.Reach.{Observed, InReach};
+use plan::Counts;
 use plan::Lit;
 
 // The least used variable that is not defined.
@@ -79,38 +81,46 @@ fn least_right(gates: &[u32], n: usize, marks: &[u32], before: u32) -> u32
     low
 }
 
-// The least variable of a next state, an output or a right side that is not defined, from marks of those that are.
-pub fn undefined(
-    latches: &[u32],
-    l: usize,
+// The same over outputs, bad states and constraints, which are observed.
+fn least_observed(
+    n: Counts,
     outputs: &[u32],
-    o: usize,
+    bads: &[u32],
+    constraints: &[u32],
+    marks: &[u32],
+    before: u32,
+) -> u32
+    requires { ⌜ Observed n (now outputs) (now bads) (now constraints) (now marks) ⌝ }
+    ensures { λ r. ⌜ r ≡ lowest (now (marks .entry)) before
+        (words (now (outputs .entry)) (n .O) ++ (words (now (bads .entry)) (n .B) ++ words (now (constraints .entry)) (n .C))) ⌝ }
+{
+    let by_outputs = least(outputs, 0, 1, n.O, marks, before);
+    let by_bads = least(bads, 0, 1, n.B, marks, by_outputs);
+    least(constraints, 0, 1, n.C, marks, by_bads)
+}
+
+// The least variable of a next state, of what is observed or of a right side that is not defined, from marks of those that are.
+pub fn undefined(
+    n: Counts,
+    latches: &[u32],
+    outputs: &[u32],
     gates: &[u32],
-    a: usize,
-    m: u32,
+    bads: &[u32],
+    constraints: &[u32],
     marks: &[u32],
 ) -> Missing
-    requires { ⌜ m ≤ most ⌝ }
-    requires { ⌜ m < length (now marks) ⌝ }
-    requires { ⌜ 2 * l ≤ length (now latches) ⌝ }
-    requires { ⌜ o ≤ length (now outputs) ⌝ }
-    requires { ⌜ 3 * a ≤ length (now gates) ⌝ }
-    requires { ⌜ ((i : ℕ) → i < l → varOf (getD (now latches) (2 * i + 1) 0) ≤ m) ⌝ }
-    requires { ⌜ ((i : ℕ) → i < o → varOf (getD (now outputs) i 0) ≤ m) ⌝ }
-    requires { ⌜ ((i : ℕ) → i < a → varOf (getD (now gates) (3 * i + 1) 0) ≤ m) ⌝ }
-    requires { ⌜ ((i : ℕ) → i < a → varOf (getD (now gates) (3 * i + 2) 0) ≤ m) ⌝ }
-    ensures { λ r. ⌜ ((c : Circuit)
-        → c .latches ≡ map latchOf (rowsOf 2 l (now (latches .entry)))
-        → c .outputs ≡ take o (now (outputs .entry))
-        → c .gates ≡ map gateOf (rowsOf 3 a (now (gates .entry)))
-        → Agrees m (definedIn c) (now (marks .entry))
-        → missingOf r ≡ undefinedIn c) ⌝ }
+    requires { ⌜ InReach n (now latches) (now outputs) (now gates) (now bads) (now constraints) (now marks) ⌝ }
+    ensures { λ r. ⌜ ((inputs resets : List ℕ)
+        → let c = circuitOf n (seven inputs (now (latches .entry)) (now (outputs .entry)) (now (gates .entry)) resets (now (bads .entry))
+        (now (constraints .entry))) in
+        Agrees (n .M) (definedIn c) (now (marks .entry)) → missingOf r ≡ undefinedIn c) ⌝ }
 {
+    let m = n.M as u32;
     // One more than M: above every variable.
     let none = m + 1;
-    let by_latches = least(latches, 1, 2, l, marks, none);
-    let by_outputs = least(outputs, 0, 1, o, marks, by_latches);
-    let by_gates = least_right(gates, a, marks, by_outputs);
+    let by_latches = least(latches, 1, 2, n.L, marks, none);
+    let by_observed = least_observed(n, outputs, bads, constraints, marks, by_latches);
+    let by_gates = least_right(gates, n.A, marks, by_observed);
     if by_gates > m {
         return Missing::Nothing;
     }

@@ -49,6 +49,8 @@ module _ (ordered : Bool) (g : Given) (good : Good ordered g) (marks : List ℕ)
         most-I = omega (arith, f .most-M, f .sum);
         most-L = omega (arith, f .most-M, f .sum);
         most-O = f .most-O;
+        most-B = f .most-B;
+        most-C = f .most-C;
         words = omega (arith, f .sum);
       }
 

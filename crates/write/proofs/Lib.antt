@@ -3,4 +3,3 @@ pub mod Parts
 pub mod Answers
 pub mod Judging
 pub mod Writing
-pub mod Wiped

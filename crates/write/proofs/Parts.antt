@@ -1,75 +1,89 @@
 -- The forms of the circuit that tables hold are written from the words of the tables.
 use Prim.Native.Nat.{ℕ, _≤_}
-use mathlib.Core.Path.{_≡_, sym, ap, ap₂, _∙_}
-use mathlib.Core.List.{List, _++_, map}
+use mathlib.Core.Path.{_≡_, sym, ap, _∙_}
+use mathlib.Core.Bool.{true, false}
+use mathlib.Core.List.{List, _++_, map, append-assoc}
 use native.Mathlib.Omega.{arith}
 use lib.ListN.{length, take}
-use lib.Seq.{take-length}
 use Rattle.plan.specs.declared.Counts.{Counts}
-use Rattle.plan.specs.Circuit.{countsOf, latchOf, gateOf, oneLine, latchLine, gateLine, rowsOf, nexts}
+use Rattle.plan.specs.Circuit.{seven, countsOf, gateOf, oneLine, gateLine, rowsOf}
 use Rattle.plan.specs.Bytes.{linesOf}
 use Rattle.plan.specs.Header.{listOf}
 use Rattle.plan.specs.Text.{textOf}
-use Rattle.plan.specs.Binary.{binaryOf, gateBytes}
-use Rattle.plan.specs.Outcome.{put}
-use Rattle.theorems.proofs.Put.{put-first}
+use Rattle.plan.specs.Binary.{binaryOf}
 use Rattle.theorems.proofs.Reading.Headers.{AllMost}
-use Rattle.theorems.proofs.Tables.{length-firsts, one-rows, latch-rows, gate-rows}
+use Rattle.theorems.proofs.Tables.{one-rows, gate-rows}
 use Rattle.tables.specs.Held.{circuitIn, Fits}
 use Rattle.given.proofs.Sound.{held-counts}
-use Rattle.forms.specs.Forms.{headBytes, textBytes, binaryBytes, binaryOutputs, Printable}
-use Rattle.forms.proofs.Copies.{nextAt, nexts-words}
+use Rattle.print.specs.Latches.{latchRows}
+use Rattle.forms.specs.Forms.{headBytes, oneLines, observedBytes, gateLines, gateGroups, textBytes, binaryBytes, Printable}
 
-nexts-count : (latches : List ℕ) (n : ℕ) → length (nexts (map latchOf (rowsOf 2 n latches))) ≡ n
-nexts-count latches n = ap length (sym (nexts-words latches n)) ∙ length-firsts (nextAt latches) n
+one-lines : (n : ℕ) (table : List ℕ) → n ≤ length table → oneLines n table ≡ linesOf (map oneLine (take n table))
+one-lines n table h = ap linesOf (sym (one-rows n table h))
 
--- the next states of n latches as lines of one word
-next-rows : (latches : List ℕ) (n : ℕ) →
-    let ns = nexts (map latchOf (rowsOf 2 n latches)) in
-    map oneLine ns ≡ rowsOf 1 n ns
-next-rows latches n =
-    let ns : List ℕ = nexts (map latchOf (rowsOf 2 n latches)) in
-    let many : length ns ≡ n = nexts-count latches n in
-    ap (map oneLine) (sym (take-length ns) ∙ ap (λ (k : ℕ). take k ns) many) ∙ one-rows n ns (omega arith)
+-- outputs, bad states and constraints, and then the rest
+observed-first : (n : Counts) (outputs bads constraints rest : List ℕ) → observedBytes n outputs bads constraints ++ rest
+    ≡ oneLines (n .O) outputs ++ (oneLines (n .B) bads ++ (oneLines (n .C) constraints ++ rest))
+observed-first n outputs bads constraints rest =
+    append-assoc (oneLines (n .O) outputs) (oneLines (n .B) bads ++ oneLines (n .C) constraints) rest
+    ∙ ap (λ (l : List ℕ). oneLines (n .O) outputs ++ l) (append-assoc (oneLines (n .B) bads) (oneLines (n .C) constraints) rest)
 
--- a table that starts with them has the same lines
-pub gathered : (n : Counts) (latches outputs gates table table' : List ℕ) → n .L ≤ length table' →
-    let ns = nexts (map latchOf (rowsOf 2 (n .L) latches)) in
-    table' ≡ put table 0 ns → binaryBytes n table' outputs gates ≡ binaryBytes n ns outputs gates
-gathered n latches outputs gates table table' long e =
-    let ns : List ℕ = nexts (map latchOf (rowsOf 2 (n .L) latches)) in
-    let many : length ns ≡ n .L = nexts-count latches (n .L) in
-    let first : take (n .L) table' ≡ ns = ap₂ take (sym many) e ∙ put-first table ns in
-    ap (λ (rows : List (List ℕ)). headBytes 105 n ++ (linesOf rows ++ binaryOutputs n outputs gates))
-    (sym (one-rows (n .L) table' long) ∙ (ap (map oneLine) first ∙ next-rows latches (n .L)))
-
-module _ (n : Counts) (inputs latches outputs gates : List ℕ) (f : Fits n inputs latches outputs gates) where
+module _ (n : Counts) (inputs latches outputs gates resets bads constraints : List ℕ)
+    (f : Fits n inputs latches outputs gates resets bads constraints) where
   counts-most : AllMost (listOf n)
-  counts-most = (f .most-M, (omega arith, (omega arith, (f .most-O, (omega arith, tt)))))
+  counts-most = (f .most-M, (omega arith, (omega arith, (f .most-O, (omega arith, (f .most-B, (f .most-C, tt)))))))
 
-  pub printable : (table : List ℕ) → n .L ≤ length table → Printable n table outputs gates
-  printable table h = record { counts-most = counts-most; nexts-long = h; outputs-long = f .outputs-long; gates-long = f .gates-long }
+  pub printable : Printable n latches outputs gates resets bads constraints
+  printable = record {
+    counts-most = counts-most;
+    latches-long = f .latches-long;
+    gates-long = f .gates-long;
+    resets-long = f .resets-long;
+    observable = (record {
+      most-O = f .most-O;
+      most-B = f .most-B;
+      most-C = f .most-C;
+      outputs-long = f .outputs-long;
+      bads-long = f .bads-long;
+      constraints-long = f .constraints-long;
+    });
+  }
 
-  counts-are : n ≡ countsOf (circuitIn n inputs latches outputs gates)
-  counts-are = sym (held-counts n (record { inputs = inputs; latches = latches; outputs = outputs; gates = gates }) f)
+  counts-are : n ≡ countsOf (circuitIn n inputs latches outputs gates resets bads constraints)
+  counts-are = sym (held-counts n (seven inputs latches outputs gates resets bads constraints) f)
 
-  input-lines : linesOf (rowsOf 1 (n .I) inputs) ≡ linesOf (map oneLine (take (n .I) inputs))
-  input-lines = ap linesOf (sym (one-rows (n .I) inputs (f .inputs-long)))
+  input-lines : oneLines (n .I) inputs ≡ linesOf (map oneLine (take (n .I) inputs))
+  input-lines = one-lines (n .I) inputs (f .inputs-long)
 
-  latch-lines : linesOf (rowsOf 2 (n .L) latches) ≡ linesOf (map latchLine (map latchOf (rowsOf 2 (n .L) latches)))
-  latch-lines = ap linesOf (sym (latch-rows (n .L) latches (f .latches-long)))
+  output-lines : oneLines (n .O) outputs ≡ linesOf (map oneLine (take (n .O) outputs))
+  output-lines = one-lines (n .O) outputs (f .outputs-long)
 
-  output-lines : linesOf (rowsOf 1 (n .O) outputs) ≡ linesOf (map oneLine (take (n .O) outputs))
-  output-lines = ap linesOf (sym (one-rows (n .O) outputs (f .outputs-long)))
+  bad-lines : oneLines (n .B) bads ≡ linesOf (map oneLine (take (n .B) bads))
+  bad-lines = one-lines (n .B) bads (f .bads-long)
 
-  gate-lines : linesOf (rowsOf 3 (n .A) gates) ≡ linesOf (map gateLine (map gateOf (rowsOf 3 (n .A) gates)))
+  constraint-lines : oneLines (n .C) constraints ≡ linesOf (map oneLine (take (n .C) constraints))
+  constraint-lines = one-lines (n .C) constraints (f .constraints-long)
+
+  gate-lines : gateLines n gates ≡ linesOf (map gateLine (map gateOf (rowsOf 3 (n .A) gates)))
   gate-lines = ap linesOf (sym (gate-rows (n .A) gates (f .gates-long)))
 
-  pub text-parts : textBytes n inputs latches outputs gates ≡ textOf (circuitIn n inputs latches outputs gates)
-  text-parts i = headBytes 97 (counts-are i) ++ (input-lines i ++ (latch-lines i ++ (output-lines i ++ gate-lines i)))
+  abbrev textLats : List ℕ
+  textLats = linesOf (latchRows false (n .L) latches resets)
 
-  pub binary-parts : binaryBytes n (nexts (map latchOf (rowsOf 2 (n .L) latches))) outputs gates
-      ≡ binaryOf (circuitIn n inputs latches outputs gates)
-  binary-parts i =
-      headBytes 105 (counts-are i) ++ (linesOf (sym (next-rows latches (n .L)) i)
-      ++ (output-lines i ++ gateBytes (map gateOf (rowsOf 3 (n .A) gates))))
+  abbrev binaryLats : List ℕ
+  binaryLats = linesOf (latchRows true (n .L) latches resets)
+
+  pub text-parts : textBytes n inputs latches outputs gates resets bads constraints
+      ≡ textOf (circuitIn n inputs latches outputs gates resets bads constraints)
+  text-parts =
+      ap (λ (l : List ℕ). headBytes 97 n ++ (oneLines (n .I) inputs ++ (textLats ++ l)))
+      (observed-first n outputs bads constraints (gateLines n gates))
+      ∙ (λ i. headBytes 97 (counts-are i) ++ (input-lines i ++ (textLats ++ (output-lines i ++ (bad-lines i
+      ++ (constraint-lines i ++ gate-lines i))))))
+
+  pub binary-parts : binaryBytes n latches outputs gates resets bads constraints
+      ≡ binaryOf (circuitIn n inputs latches outputs gates resets bads constraints)
+  binary-parts =
+      ap (λ (l : List ℕ). headBytes 105 n ++ (binaryLats ++ l)) (observed-first n outputs bads constraints (gateGroups n gates))
+      ∙ (λ i. headBytes 105 (counts-are i) ++ (binaryLats ++ (output-lines i ++ (bad-lines i
+      ++ (constraint-lines i ++ gateGroups n gates)))))

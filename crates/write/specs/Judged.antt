@@ -5,12 +5,14 @@ use mathlib.Core.Option.{Option}
 use mathlib.Core.List.{List, [], _∷_, _++_}
 use Rattle.plan.specs.declared.Counts.{Counts}
 use Rattle.plan.specs.declared.Refusal.{Refusal}
+use Rattle.plan.specs.Circuit.{seven}
 use Rattle.plan.specs.Given.{Given, lentAlone, tailStage}
-use Rattle.given.specs.Judged.{allStages}
+use Rattle.given.specs.Judged.{givenAt, allStages}
 
-abbrev pub givenIn : Counts → List ℕ → List ℕ → List ℕ → List ℕ → List ℕ → Given
-givenIn n inputs latches outputs gates scratch =
-    record { counts = n; tables = record { inputs = inputs; latches = latches; outputs = outputs; gates = gates }; scratch = scratch }
+-- what is given, table by table
+abbrev pub givenIn : Counts → List ℕ → List ℕ → List ℕ → List ℕ → List ℕ → List ℕ → List ℕ → List ℕ → Given
+givenIn n inputs latches outputs gates resets bads constraints scratch =
+    givenAt n (seven inputs latches outputs gates resets bads constraints) scratch
 
 -- 2 to 8, and 15 where it is asked
 abbrev pub tableStages : Bool → Given → List (Option Refusal)

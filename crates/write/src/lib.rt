@@ -1,11 +1,9 @@
 // Writing given tables in text form or binary form, and their tail (the paper, text form, binary form, and the order of checks; AIGER
-// report, sections 7, 11 and 12).
+// report, sections 7, 11 and 12; AIGER 1.9, section 4).
 ghost use mathlib.Core.Path.{_≡_};
-ghost use mathlib.Core.List.{map, _++_};
-ghost use Prim.Native.Nat.{_*_, _≤_};
-ghost use lib.ListN.{length};
+ghost use mathlib.Core.List.{_++_};
 ghost use Rattle.plan.specs.Refusals.{firstOf};
-ghost use Rattle.plan.specs.Circuit.{latchOf, rowsOf, nexts, cleared};
+ghost use Rattle.plan.specs.Circuit.{cleared};
 ghost use Rattle.plan.specs.Outcome.{Says, putBytes, checkedBy, writeText, writeBinary};
 ghost use Rattle.tables.specs.Held.{Fits};
 ghost use Rattle.forms.specs.Forms.{textBytes, binaryBytes, Printable};
@@ -14,11 +12,11 @@ use forms::append;
 use forms::binary_length;
 use forms::fill_binary;
 use forms::fill_text;
-use forms::gather;
 use forms::text_length;
 use plan::Checked;
 use plan::Counts;
 use plan::Refusal;
+use plan::Version;
 use plan::Written;
 use tables::clear;
 
@@ -29,43 +27,66 @@ fn put_text(
     latches: &[u32],
     outputs: &[u32],
     gates: &[u32],
+    resets: &[u32],
+    bads: &[u32],
+    constraints: &[u32],
     tail: &[u8],
     out: &mut [u8],
 ) -> Written
-    requires { ⌜ Fits n (now inputs) (now latches) (now outputs) (now gates) ⌝ }
+    requires { ⌜ Fits n (now inputs) (now latches) (now outputs) (now gates) (now resets) (now bads) (now constraints) ⌝ }
     ensures { λ r. ⌜ record { answer = r; out = now (out .exit) } ≡ putBytes (now (out .entry)) 0
-        (textBytes n (now (inputs .entry)) (now (latches .entry)) (now (outputs .entry)) (now (gates .entry)) ++ now (tail .entry)) ⌝ }
+        (textBytes n (now (inputs .entry)) (now (latches .entry)) (now (outputs .entry)) (now (gates .entry)) (now (resets .entry))
+        (now (bads .entry)) (now (constraints .entry)) ++ now (tail .entry)) ⌝ }
 {
-    let text = text_length(n, inputs, latches, outputs, gates);
+    let text = text_length(
+        n,
+        inputs,
+        latches,
+        outputs,
+        gates,
+        resets,
+        bads,
+        constraints,
+    );
     if !room::holds(out.len(), text, tail.len()) {
         return Written::Refused(Refusal::ShortBuffer(room::needed(text, tail.len())));
     }
-    let end = fill_text(out, n, inputs, latches, outputs, gates);
+    let end = fill_text(
+        out,
+        n,
+        inputs,
+        latches,
+        outputs,
+        gates,
+        resets,
+        bads,
+        constraints,
+    );
     Written::Bytes(append(out, end, tail))
 }
 
-// The same for the binary form. The next states of the latches stand at the start of the scratch.
+// The same for the binary form.
 fn put_binary(
     n: Counts,
     latches: &[u32],
     outputs: &[u32],
     gates: &[u32],
-    scratch: &mut [u32],
+    resets: &[u32],
+    bads: &[u32],
+    constraints: &[u32],
     tail: &[u8],
     out: &mut [u8],
 ) -> Written
-    requires { ⌜ Printable n (now scratch) (now outputs) (now gates) ⌝ }
-    requires { ⌜ 2 * n .L ≤ length (now latches) ⌝ }
+    requires { ⌜ Printable n (now latches) (now outputs) (now gates) (now resets) (now bads) (now constraints) ⌝ }
     ensures { λ r. ⌜ record { answer = r; out = now (out .exit) } ≡ putBytes (now (out .entry)) 0
-        (binaryBytes n (nexts (map latchOf (rowsOf 2 (n .L) (now (latches .entry))))) (now (outputs .entry)) (now (gates .entry))
-        ++ now (tail .entry)) ⌝ }
+        (binaryBytes n (now (latches .entry)) (now (outputs .entry)) (now (gates .entry)) (now (resets .entry)) (now (bads .entry))
+        (now (constraints .entry)) ++ now (tail .entry)) ⌝ }
 {
-    gather(latches, n.L, scratch);
-    let binary = binary_length(n, scratch, outputs, gates);
+    let binary = binary_length(n, latches, outputs, gates, resets, bads, constraints);
     if !room::holds(out.len(), binary, tail.len()) {
         return Written::Refused(Refusal::ShortBuffer(room::needed(binary, tail.len())));
     }
-    let end = fill_binary(out, n, scratch, outputs, gates);
+    let end = fill_binary(out, n, latches, outputs, gates, resets, bads, constraints);
     Written::Bytes(append(out, end, tail))
 }
 
@@ -76,17 +97,41 @@ fn check_tables(
     latches: &[u32],
     outputs: &[u32],
     gates: &[u32],
+    resets: &[u32],
+    bads: &[u32],
+    constraints: &[u32],
     scratch: &mut [u32],
     ordered: bool,
 ) -> Checked
     ensures { λ r. ⌜ r ≡ checkedBy (firstOf (tableStages ordered
-        (givenIn n (now (inputs .entry)) (now (latches .entry)) (now (outputs .entry)) (now (gates .entry)) (now (scratch .entry))))) ⌝ }
+        (givenIn n (now (inputs .entry)) (now (latches .entry)) (now (outputs .entry)) (now (gates .entry)) (now (resets .entry)) (now (bads .entry))
+        (now (constraints .entry)) (now (scratch .entry))))) ⌝ }
     ensures { λ _. ⌜ now (scratch .exit) ≡ cleared (now (scratch .entry)) ⌝ }
 {
     if ordered {
-        return given::check_in_order(n, inputs, latches, outputs, gates, scratch);
+        return given::check_in_order(
+            n,
+            inputs,
+            latches,
+            outputs,
+            gates,
+            resets,
+            bads,
+            constraints,
+            scratch,
+        );
     }
-    given::check(n, inputs, latches, outputs, gates, scratch)
+    given::check(
+        n,
+        inputs,
+        latches,
+        outputs,
+        gates,
+        resets,
+        bads,
+        constraints,
+        scratch,
+    )
 }
 
 // The same, then the tail by 1 and 10, whose offsets count from the tail's start. Scratch holds its marks and is zero afterwards.
@@ -96,19 +141,33 @@ fn judge(
     latches: &[u32],
     outputs: &[u32],
     gates: &[u32],
+    resets: &[u32],
+    bads: &[u32],
+    constraints: &[u32],
     scratch: &mut [u32],
     tail: &[u8],
     ordered: bool,
 ) -> Checked
     ensures { λ r. ⌜ r ≡ checkedBy (firstOf (writerStages ordered
-        (givenIn n (now (inputs .entry)) (now (latches .entry)) (now (outputs .entry)) (now (gates .entry)) (now (scratch .entry)))
-        (now (tail .entry)))) ⌝ }
+        (givenIn n (now (inputs .entry)) (now (latches .entry)) (now (outputs .entry)) (now (gates .entry)) (now (resets .entry)) (now (bads .entry))
+        (now (constraints .entry)) (now (scratch .entry))) (now (tail .entry)))) ⌝ }
     ensures { λ _. ⌜ now (scratch .exit) ≡ cleared (now (scratch .entry)) ⌝ }
 {
-    match check_tables(n, inputs, latches, outputs, gates, scratch, ordered) {
+    match check_tables(
+        n,
+        inputs,
+        latches,
+        outputs,
+        gates,
+        resets,
+        bads,
+        constraints,
+        scratch,
+        ordered,
+    ) {
         Checked::Refused(r) => Checked::Refused(r),
         Checked::Good => {
-            let answer = tail::check(tail, 0, n, scratch);
+            let answer = tail::check(Version::V19, tail, 0, n, scratch);
             clear(scratch);
             answer
         }
@@ -123,30 +182,48 @@ pub fn write_text(
     latches: &[u32],
     outputs: &[u32],
     gates: &[u32],
+    resets: &[u32],
+    bads: &[u32],
+    constraints: &[u32],
     scratch: &mut [u32],
     tail: &[u8],
     out: &mut [u8],
 ) -> Written
     ensures { λ r. ⌜ Says writeText
         (record {
-          circuit = (record {
-            counts = n;
-            tables = (record {
-              inputs = now (inputs .entry);
-              latches = now (latches .entry);
-              outputs = now (outputs .entry);
-              gates = now (gates .entry);
-            });
-            scratch = now (scratch .entry);
-          });
+          circuit = givenIn n (now (inputs .entry)) (now (latches .entry)) (now (outputs .entry)) (now (gates .entry)) (now (resets .entry))
+              (now (bads .entry)) (now (constraints .entry)) (now (scratch .entry));
           tail = now (tail .entry);
           out = now (out .entry);
         })
         (record { answer = r; scratch = now (scratch .exit); out = now (out .exit) }) ⌝ }
 {
-    match judge(n, inputs, latches, outputs, gates, scratch, tail, false) {
+    match judge(
+        n,
+        inputs,
+        latches,
+        outputs,
+        gates,
+        resets,
+        bads,
+        constraints,
+        scratch,
+        tail,
+        false,
+    ) {
         Checked::Refused(r) => Written::Refused(r),
-        Checked::Good => put_text(n, inputs, latches, outputs, gates, tail, out),
+        Checked::Good => put_text(
+            n,
+            inputs,
+            latches,
+            outputs,
+            gates,
+            resets,
+            bads,
+            constraints,
+            tail,
+            out,
+        ),
     }
 }
 
@@ -158,34 +235,46 @@ pub fn write_binary(
     latches: &[u32],
     outputs: &[u32],
     gates: &[u32],
+    resets: &[u32],
+    bads: &[u32],
+    constraints: &[u32],
     scratch: &mut [u32],
     tail: &[u8],
     out: &mut [u8],
 ) -> Written
     ensures { λ r. ⌜ Says writeBinary
         (record {
-          circuit = (record {
-            counts = n;
-            tables = (record {
-              inputs = now (inputs .entry);
-              latches = now (latches .entry);
-              outputs = now (outputs .entry);
-              gates = now (gates .entry);
-            });
-            scratch = now (scratch .entry);
-          });
+          circuit = givenIn n (now (inputs .entry)) (now (latches .entry)) (now (outputs .entry)) (now (gates .entry)) (now (resets .entry))
+              (now (bads .entry)) (now (constraints .entry)) (now (scratch .entry));
           tail = now (tail .entry);
           out = now (out .entry);
         })
         (record { answer = r; scratch = now (scratch .exit); out = now (out .exit) }) ⌝ }
 {
-    match judge(n, inputs, latches, outputs, gates, scratch, tail, true) {
+    match judge(
+        n,
+        inputs,
+        latches,
+        outputs,
+        gates,
+        resets,
+        bads,
+        constraints,
+        scratch,
+        tail,
+        true,
+    ) {
         Checked::Refused(r) => Written::Refused(r),
-        Checked::Good => {
-            let l = n.L;
-            let answer = put_binary(n, latches, outputs, gates, &mut scratch[0..l], tail, out);
-            clear(&mut scratch[0..l]);
-            answer
-        }
+        Checked::Good => put_binary(
+            n,
+            latches,
+            outputs,
+            gates,
+            resets,
+            bads,
+            constraints,
+            tail,
+            out,
+        ),
     }
 }

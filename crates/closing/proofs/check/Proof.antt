@@ -3,7 +3,7 @@ use Prim.Native.Nat.{ℕ}
 use mathlib.Core.Path.{_≡_, refl, sym, ap, _∙_}
 use mathlib.Core.Bool.{false≢true}
 use mathlib.Core.Option.{Option, none}
-use mathlib.Core.List.{List}
+use mathlib.Core.List.{List, []}
 use native.Mathlib.Omega.{arith}
 use borrow.Author.Needs.{needs}
 use lib.ListN.{length, getD}
@@ -18,17 +18,19 @@ use Rattle.used.specs.Least.{missingOf}
 use Rattle.closing.specs.Leaves.{Leaves}
 use Rattle.tables.specs.Held.{circuitIn}
 use Rattle.closing.proofs.Leaving.{leaves-count}
-use Rattle.closing.proofs.Closing.{next-up, output-up, first-up, second-up, part-long, part-marked, once, used, leaves-ask, room, fresh, blank-rest, known, by-missing, by-cycle, not-good}
+use Rattle.closing.proofs.Closing.{in-reach, part-marked, once, used, leaves-ask, room, fresh, blank-rest, known, by-missing, by-cycle, not-good}
 use Rattle.closing.proofs.check.Statement.{statement}
 use Rattle.closing.proofs.check.Tie as tie
 
 -- the circuit of the tables
 abbrev circuit : tie.Start → Circuit
-circuit s = circuitIn (s .args .n) (s .args .inputs .now) (s .args .latches .now) (s .args .outputs .now) (s .args .gates .now)
+circuit s =
+    let a = s .args in
+    circuitIn (a .n) (a .inputs .now) (a .latches .now) (a .outputs .now) (a .gates .now) [] (a .bads .now) (a .constraints .now)
 
 -- back to the start, where nothing is missing, and from where the table is cleared
 abbrev start : tie.After-enum-told → tie.Start
-start c = c .before .before .before .before .before .before .before .before .before .before .before
+start c = c .before .before .before .before .before .before .before .before .before .before .before .before
 
 abbrev told : tie.After-scratch2 → tie.After-enum-told
 told c = c .before .before .before .before .before
@@ -36,7 +38,7 @@ told c = c .before .before .before .before .before
 all-named : (c : tie.After-enum-told) → none ≡ undefinedIn (circuit (start c))
 all-named c =
     sym (ap missingOf (c .enum-told .given .1))
-    ∙ c .before .before .undefined .ensures (circuit (start c)) refl refl refl (part-marked (start c .pre))
+    ∙ c .before .before .undefined .ensures (start c .args .inputs .now) [] (part-marked (start c .pre))
 
 -- the table is blank
 blank : (c : tie.After-scratch2) (v : ℕ) → getD (c .before .clear .last .0) v 0 ≡ 0
@@ -57,13 +59,9 @@ part-marks-start c = search needs
 part-marks-end : tie.Need-part-marks-end
 part-marks-end c = search needs
 
-cast-undefined : tie.Need-cast-undefined
-cast-undefined c = search needs
-
 undefined-requires : tie.Need-undefined-requires
 undefined-requires c κs =
-    let p = c .before .before .before .before .before .before .before .before .pre in
-    (p .most-M, (part-long p, (p .latches-long, (p .outputs-long, (p .gates-long, (next-up p, (output-up p, (first-up p, second-up p))))))))
+    in-reach (c .before .before .before .before .before .before .before .before .before .pre)
 
 enum-known-v : tie.Need-enum-known-v
 enum-known-v c = search needs
@@ -81,7 +79,7 @@ returns : tie.Need-returns
 returns c =
     let n = c .before .before in
     let known = c .before .needs-no-order .ensures (c .if1 .taken) in (
-      by-cycle (circuit (start n)) _ (all-named n)
+      λ resets. by-cycle (circuit (start n)) _ (all-named n)
           (sym (ap (λ (o : Option ℕ). checkedBy (stage Cyclic o)) (ascends-none (circuit (start n)) (known .1)))),
       λ asked good. absurd (false≢true (sym (known .0) ∙ asked)),
     )
@@ -132,10 +130,10 @@ same-length-2 c = search needs
 
 returns-2 : tie.Need-returns-2
 returns-2 c =
-    let s = c .before .before .before .before .before .before .before .before .before .before .before .before in (
-      by-missing (circuit s) _
+    let s = c .before .before .before .before .before .before .before .before .before .before .before .before .before in (
+      λ resets. by-missing (circuit s) _
           (sym (ap missingOf (c .before .v .given .1))
-          ∙ c .before .before .before .undefined .ensures (circuit s) refl refl refl (part-marked (s .pre))),
+          ∙ c .before .before .before .undefined .ensures (s .args .inputs .now) [] (part-marked (s .pre))),
       λ asked good. not-good _ good,
     )
 
@@ -149,7 +147,7 @@ returns-3 c =
     let s = start (told e) in
     let named = all-named (told e) in
     let leaves = d .before .number-leaves .ensures .numbers in (
-      by-cycle (circuit s) _ named
+      λ resets. by-cycle (circuit s) _ named
           (c .before .before .cycle .ensures .0 (circuit s) refl (once (s .pre)) (used (s .pre) named) leaves (leaves-count (asked e))),
       λ wanted good. c .before .before .cycle .ensures .1 _ leaves refl (leaves-count (asked e)),
     )
@@ -162,7 +160,6 @@ check-spec =
     sub-marks
     part-marks-start
     part-marks-end
-    cast-undefined
     undefined-requires
     enum-known-v
     enum-told

@@ -1,13 +1,13 @@
--- Each table is written from the numbers.
+-- Each of tables 1 to 4 is written from the numbers.
 use native.Mathlib.Omega.{arith}
 use borrow.Author.Needs.{needs}
-use Rattle.convert.proofs.Filling.{nexts-known, outputs-known, gates-placeable, all-hold}
+use Rattle.convert.proofs.Filling.{nexts-known, outputs-known, gates-placeable, first-held}
 use Rattle.convert.proofs.fill.Statement.{statement}
 use Rattle.convert.proofs.fill.Tie as tie
 
 -- back to the start from where inputs are written
 abbrev start : tie.After-run-on → tie.Start
-start c = c .before .before .before .before .before .before .before .before .before .before .before .before .before
+start c = c .before .before .before .before .before .before .before .before .before .before .before .before
 
 -- from the last part: to where outputs are written, next states, and inputs
 abbrev written : tie.After-place-gates → tie.After-renumber-column2
@@ -27,33 +27,33 @@ add-first-gate c = search needs
 
 run-on-requires : tie.Need-run-on-requires
 run-on-requires c κs =
-    let p = c .before .before .before .before .before .before .before .before .before .before .before .before .pre in
-    (p .room .inputs-long, omega (arith, p .fits .sum, p .fits .most-M))
+    let p = c .before .before .before .before .before .before .before .before .before .before .before .pre in
+    (p .inputs-long, omega (arith, p .ready .fits .sum, p .ready .fits .most-M))
 
 renumber-column-requires : tie.Need-renumber-column-requires
 renumber-column-requires c κs =
     let p = start (c .before .before .before) .pre in
-    (omega arith, (p .fits .latches-long, (omega (arith, p .room .latches-long), nexts-known p)))
+    (omega arith, (p .ready .fits .latches-long, (omega (arith, p .latches-long), nexts-known (p .ready))))
 
 cast-spread : tie.Need-cast-spread
 cast-spread c =
     let p = start (running (c .before .before .before)) .pre in
-    record { fits = omega (arith, p .fits .sum, p .fits .most-M) }
+    record { fits = omega (arith, p .ready .fits .sum, p .ready .fits .most-M) }
 
 spread-requires : tie.Need-spread-requires
 spread-requires c κs =
     let p = start (running (c .before .before .before)) .pre in
-    (omega (arith, p .room .latches-long, c .before .before .to-latches .given), omega (arith, p .fits .sum, p .fits .most-M))
+    (omega (arith, p .latches-long, c .before .before .to-latches .given), omega (arith, p .ready .fits .sum, p .ready .fits .most-M))
 
 renumber-column-requires-2 : tie.Need-renumber-column-requires-2
 renumber-column-requires-2 c κs =
     let p = start (running (c .before .before .before .before .before .before .before)) .pre in
-    (omega arith, (omega (arith, p .fits .outputs-long), (p .room .outputs-long, outputs-known p)))
+    (omega arith, (omega (arith, p .ready .fits .outputs-long), (p .outputs-long, outputs-known (p .ready))))
 
 place-gates-requires : tie.Need-place-gates-requires
 place-gates-requires c κs =
     let p = start (running (spreading (c .before .before .before))) .pre in
-    ((p .fits .gates-long, p .room .gates-long), gates-placeable p)
+    ((p .ready .fits .gates-long, p .gates-long), gates-placeable (p .ready))
 
 same-length : tie.Need-same-length
 same-length c = search needs
@@ -68,13 +68,13 @@ same-length-4 : tie.Need-same-length-4
 same-length-4 c = search needs
 
 returns : tie.Need-returns
-returns c =
+returns c = λ others ready.
     let o = written (c .before .before) in
     let s = o .before .before .before .before in
     let f = spreading o in
     let r = running f in
-    all-hold (start r .pre) _ _ _ _ _ (r .run-on .ensures) (f .renumber-column .ensures) (s .spread .ensures) (o .renumber-column2 .ensures)
-    (c .before .before .place-gates .ensures)
+    first-held ready _ _ _ _ (start r .pre .gates-long) _ _ _ _ _ (r .run-on .ensures) (f .renumber-column .ensures) (s .spread .ensures)
+    (o .renumber-column2 .ensures) (c .before .before .place-gates .ensures)
 
 pub fill-spec : {M : Type 1} → statement M
 fill-spec =

@@ -1,14 +1,17 @@
--- Four bytes and one line of five words.
+-- Four bytes and one line of words.
 use mathlib.Core.Path.{ap}
 use native.Mathlib.Omega.{arith}
 use lib.ListN.{length}
+use Rattle.forms.proofs.Headers.{line-of-counts}
 use borrow.Author.Needs.{needs}
-use Rattle.forms.proofs.Headers.{line-of-five}
 use Rattle.forms.proofs.header_length.Statement.{statement}
 use Rattle.forms.proofs.header_length.Tie as tie
 
-five-requires : tie.Need-five-requires
-five-requires c κs = search needs
+seven-requires : tie.Need-seven-requires
+seven-requires c κs = search needs
+
+counts-told-requires : tie.Need-counts-told-requires
+counts-told-requires c κs = search needs
 
 slice-aggregate-lines-length : tie.Need-slice-aggregate-lines-length
 slice-aggregate-lines-length c = search needs
@@ -21,10 +24,17 @@ add-result c = search needs
 
 returns : tie.Need-returns
 returns c =
-    let line = ap length (line-of-five _ _ (c .before .before .five .ensures)) in
+    let told = c .before .before .counts-told in
+    let line = ap length (line-of-counts _ (told .result) (c .before .before .before .before .args .n) (c .before .before .before .seven .ensures) (told .ensures .1)) in
     (omega (arith, line), search needs)
 
 pub header-length-spec : {M : Type 1} → statement M
 header-length-spec =
     tie.close
-    (tie.spec five-requires slice-aggregate-lines-length lines-length-requires add-result returns)
+    (tie.spec
+    seven-requires
+    counts-told-requires
+    slice-aggregate-lines-length
+    lines-length-requires
+    add-result
+    returns)

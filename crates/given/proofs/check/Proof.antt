@@ -1,16 +1,24 @@
 -- The given tables' own sizes.
-use mathlib.Core.Path.{sym, ap, _∙_}
-use mathlib.Core.Bool.{false}
 use borrow.Author.Needs.{needs}
-use Rattle.plan.specs.Circuit.{Tables}
+use mathlib.Core.Path.{_∙_}
+use mathlib.Core.Bool.{false}
+use Rattle.plan.specs.Circuit.{Tables, seven}
 use Rattle.plan.specs.Given.{Given}
-use Rattle.given.specs.Judged.{sizesOf}
+use Rattle.given.specs.Judged.{givenAt}
 use Rattle.given.proofs.Stages.{alone-answer}
 use Rattle.given.proofs.check.Statement.{statement}
 use Rattle.given.proofs.check.Tie as tie
 
-sizes-requires : tie.Need-sizes-requires
-sizes-requires c κs = search needs
+abbrev tables : tie.Start → Tables
+tables s =
+    let a = s .args in
+    seven (a .inputs .now) (a .latches .now) (a .outputs .now) (a .gates .now) (a .resets .now) (a .bads .now) (a .constraints .now)
+
+abbrev entry : tie.Start → Given
+entry s = givenAt (s .args .n) (tables s) (s .args .scratch .now)
+
+lengths-requires : tie.Need-lengths-requires
+lengths-requires c κs = search needs
 
 check-to-make-requires : tie.Need-check-to-make-requires
 check-to-make-requires c κs = search needs
@@ -20,11 +28,8 @@ same-length c = search needs
 
 returns : tie.Need-returns
 returns c =
-    let start = c .before .before .before .before .before .before .before .before .before .before in
-    let a = start .args in
-    let t : Tables = record { inputs = a .inputs .now; latches = a .latches .now; outputs = a .outputs .now; gates = a .gates .now } in
-    let g : Given = record { counts = a .n; tables = t; scratch = a .scratch .now } in
-    c .before .before .check-to-make .ensures t (ap sizesOf (sym (c .before .before .before .before .sizes .ensures))) ∙ alone-answer false g
+    let s = c .before .before .before .before .before .before .before .before .before .before .before .before .before in
+    c .before .before .check-to-make .ensures (tables s) (c .before .before .before .before .lengths .ensures) ∙ alone-answer false (entry s)
 
 pub check-spec : {M : Type 1} → statement M
-check-spec = tie.close (tie.spec sizes-requires check-to-make-requires same-length returns)
+check-spec = tie.close (tie.spec lengths-requires check-to-make-requires same-length returns)

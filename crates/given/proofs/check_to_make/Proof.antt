@@ -1,14 +1,23 @@
 -- Scratch is cleared afterwards.
+use borrow.Author.Needs.{needs}
 use Prim.Native.Nat.{ℕ}
 use mathlib.Core.Path.{ap, _∙_}
 use mathlib.Core.Bool.{false≢true}
-use borrow.Author.Needs.{needs}
 use lib.ListN.{replicate}
-use Rattle.plan.specs.Circuit.{Tables}
+use Rattle.plan.specs.Circuit.{Tables, seven}
 use Rattle.plan.specs.Given.{Given}
+use Rattle.given.specs.Judged.{givenAt}
 use Rattle.given.proofs.Stages.{same-answer}
 use Rattle.given.proofs.check_to_make.Statement.{statement}
 use Rattle.given.proofs.check_to_make.Tie as tie
+
+abbrev tables : tie.Start → Tables
+tables s =
+    let a = s .args in
+    seven (a .inputs .now) (a .latches .now) (a .outputs .now) (a .gates .now) (a .resets .now) (a .bads .now) (a .constraints .now)
+
+abbrev entry : tie.Start → Given
+entry s = givenAt (s .args .n) (tables s) (s .args .scratch .now)
 
 judge-requires : tie.Need-judge-requires
 judge-requires c κs = λ asked. absurd (false≢true asked)
@@ -20,13 +29,12 @@ same-length : tie.Need-same-length
 same-length c = search needs
 
 returns : tie.Need-returns
-returns c t′ sizes =
-    let a = c .before .before .before .before .before .before .before .before .before .before .before .before .before .args in
-    let t : Tables = record { inputs = a .inputs .now; latches = a .latches .now; outputs = a .outputs .now; gates = a .gates .now } in
-    let g : Given = record { counts = a .n; tables = t; scratch = a .scratch .now } in
+returns c =
+    λ t sizes.
+    let s = c .before .before .before .before .before .before .before .before .before .before .before .before .before .before .before .before in
     let judged = c .before .before .before .before .before .before .judge in
-    let answer = judged .ensures .0 ∙ same-answer g (a .to) t′ sizes (a .ordered) in
-    let cleared = c .before .before .clear .ensures ∙ ap (λ (k : ℕ). replicate k 0) (judged .kept .1 .1 .1 .1 .1 .0) in
+    let answer = judged .ensures .0 ∙ same-answer (entry s) (s .args .to) t sizes (s .args .ordered) in
+    let cleared = c .before .before .clear .ensures ∙ ap (λ (k : ℕ). replicate k 0) (judged .kept .1 .1 .1 .1 .1 .1 .1 .1 .0) in
     λ i. record { answer = answer i; scratch = cleared i }
 
 pub check-to-make-spec : {M : Type 1} → statement M

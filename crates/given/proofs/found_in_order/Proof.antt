@@ -1,17 +1,17 @@
-use mathlib.Core.Path.{_∙_}
 use borrow.Author.Needs.{needs}
+use mathlib.Core.Path.{_∙_}
 use Rattle.given.proofs.Judging.{not-looked, looked}
 use Rattle.given.proofs.found_in_order.Statement.{statement}
 use Rattle.given.proofs.found_in_order.Tie as tie
 
 returns : tie.Need-returns
-returns c outputs = not-looked _ _ (c .if1 .taken)
+returns c = λ outputs resets bads constraints. not-looked _ _ (c .if1 .taken)
 
 in-binary-order-requires : tie.Need-in-binary-order-requires
 in-binary-order-requires c κs = search needs
 
 returns-2 : tie.Need-returns-2
-returns-2 c outputs = c .in-binary-order .ensures outputs ∙ looked _ _ (c .before .if1 .left)
+returns-2 c = λ outputs resets bads constraints. c .in-binary-order .ensures outputs resets bads constraints ∙ looked _ _ (c .before .if1 .left)
 
 pub found-in-order-spec : {M : Type 1} → statement M
 found-in-order-spec = tie.close (tie.spec returns in-binary-order-requires returns-2)

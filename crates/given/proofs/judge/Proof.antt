@@ -1,105 +1,91 @@
--- 2, 3 and 4 one after the other, then the circuit.
-use mathlib.Core.Path.{sym, ap, _∙_}
+-- 2, 3 and 4, then the circuit.
 use borrow.Author.Needs.{needs}
-use borrow.Author.Tests.{not-true, not-false}
-use Rattle.plan.specs.Circuit.{Tables}
-use Rattle.plan.specs.Given.{Given}
+use mathlib.Core.Path.{_≡_, sym, ap, _∙_}
+use mathlib.Core.Option.{none}
+use mathlib.Core.List.{List}
+use Prim.Native.Nat.{ℕ}
+use lib.ListN.{length}
+use Rattle.plan.specs.declared.Checked.the-variants.{Good}
+use Rattle.plan.specs.Refusals.{firstOf}
+use Rattle.plan.specs.Circuit.{Tables, seven}
 use Rattle.plan.specs.Outcome.{checkedBy}
-use Rattle.tables.proofs.Told.{some-table, no-table}
+use Rattle.tables.specs.declared.Sizes.{Sizes}
+use Rattle.tables.specs.Lengths.{lengthsIn, sizesOf, shorterOf}
 use Rattle.closing.proofs.Closing.{not-good}
-use Rattle.given.specs.Judged.{lentShorter}
-use Rattle.given.proofs.Judging.{small-counts, fits, fits-scratch}
-use Rattle.given.proofs.Shorter.{shorter-lent}
-use Rattle.given.proofs.Stages.{at-two, at-three, at-four, past-four}
+use Rattle.given.specs.Judged.{lentStages}
+use Rattle.given.proofs.Judging.{fits, fits-scratch}
+use Rattle.given.proofs.Sound.{good-none, refused-some}
+use Rattle.given.proofs.Stages.{lent-refuses, lent-passes}
 use Rattle.given.proofs.judge.Statement.{statement}
 use Rattle.given.proofs.judge.Tie as tie
 
-large-count-requires : tie.Need-large-count-requires
-large-count-requires c κs = search needs
+abbrev tables : tie.Start → Tables
+tables s =
+    let a = s .args in
+    seven (a .inputs .now) (a .latches .now) (a .outputs .now) (a .gates .now) (a .resets .now) (a .bads .now) (a .constraints .now)
 
-returns : tie.Need-returns
-returns c =
-    let a = c .before .before .before .before .before .before .before .args in
-    let t : Tables = record { inputs = a .inputs .now; latches = a .latches .now; outputs = a .outputs .now; gates = a .gates .now } in
-    let g : Given = record { counts = a .n; tables = t; scratch = a .scratch .now } in
-    (sym (ap checkedBy (at-two (a .ordered) g (lentShorter g (a .to)) _ (some-table _ _ (c .if1 .taken) (c .before .large-count .ensures)))), λ asked good. not-good _ good)
+-- the lengths that count
+abbrev shorters : tie.Start → List ℕ
+shorters s = lengthsIn (shorterOf (sizesOf (tables s)) (s .args .to)) (length (s .args .scratch .now))
 
-adds-up-requires : tie.Need-adds-up-requires
-adds-up-requires c κs = search needs
+told : (d : tie.After-lent-enough)
+    → let s = d .before .before .before .before .before .before .before .before .before .before .before in
+    d .lent-enough .result ≡ checkedBy (firstOf (lentStages (s .args .n) (shorters s)))
+told d =
+    let s = d .before .before .before .before .before .before .before .before .before .before .before in
+    d .lent-enough .ensures
+    ∙ ap (λ (x : Sizes). checkedBy (firstOf (lentStages (s .args .n) (lengthsIn x (length (s .args .scratch .now))))))
+    (d .before .shorter .ensures ∙ ap (λ (x : Sizes). shorterOf x (s .args .to)) (d .before .before .lengths .ensures))
 
-returns-2 : tie.Need-returns-2
-returns-2 c =
-    let start = c .before .before .before .before .before .before .before .before .before in
-    let a = start .args in
-    let t : Tables = record { inputs = a .inputs .now; latches = a .latches .now; outputs = a .outputs .now; gates = a .gates .now } in
-    let g : Given = record { counts = a .n; tables = t; scratch = a .scratch .now } in
-    let e2 = no-table _ _ (c .before .before .if1 .left) (c .before .before .before .large-count .ensures) in
-    (sym (ap checkedBy (at-three (a .ordered) g (lentShorter g (a .to)) e2 (sym (c .before .adds-up .ensures) ∙ not-true _ (c .if2 .taken)))), λ asked good. not-good _ good)
+passed : (d : tie.After-lent-enough) → d .lent-enough .result ≡ Good
+    → let s = d .before .before .before .before .before .before .before .before .before .before .before in
+    firstOf (lentStages (s .args .n) (shorters s)) ≡ none
+passed d good = good-none _ (sym good ∙ told d)
+
+lengths-requires : tie.Need-lengths-requires
+lengths-requires c κs = search needs
 
 shorter-requires : tie.Need-shorter-requires
 shorter-requires c κs = search needs
 
-shorter-requires-2 : tie.Need-shorter-requires-2
-shorter-requires-2 c κs = search needs
+lent-enough-requires : tie.Need-lent-enough-requires
+lent-enough-requires c κs = search needs
 
-shorter-requires-3 : tie.Need-shorter-requires-3
-shorter-requires-3 c κs = search needs
+enum-known-lent : tie.Need-enum-known-lent
+enum-known-lent c = search needs
 
-shorter-requires-4 : tie.Need-shorter-requires-4
-shorter-requires-4 c κs = search needs
+returns : tie.Need-returns
+returns c =
+    let d = c .before .before .before in
+    let s = d .before .before .before .before .before .before .before .before .before .before .before in
+    let a = s .args in (
+      sym (ap checkedBy (lent-refuses (a .ordered) (a .n) (tables s) (a .scratch .now) (shorters s) _
+          (refused-some _ _ (sym (c .before .lent .given .1) ∙ told d)))),
+      λ asked good. not-good _ good,
+    )
 
-too-short-requires : tie.Need-too-short-requires
-too-short-requires c κs =
-    let start = c .before .before .before .before .before .before .before .before .before .before .before .before .before in
-    small-counts (start .args .n) (no-table _ _ (c .before .before .before .before .before .before .if1 .left) (c .before .before .before .before .before .before .before .large-count .ensures))
-
-returns-3 : tie.Need-returns-3
-returns-3 c =
-    let start = c .before .before .before .before .before .before .before .before .before .before .before .before .before .before .before in
-    let large-count = c .before .before .before .before .before .before .before .before .before .large-count in
-    let a = start .args in
-    let t : Tables = record { inputs = a .inputs .now; latches = a .latches .now; outputs = a .outputs .now; gates = a .gates .now } in
-    let g : Given = record { counts = a .n; tables = t; scratch = a .scratch .now } in
-    let e2 = no-table _ _ (c .before .before .before .before .before .before .before .before .if1 .left) (large-count .ensures) in
-    let e3 = sym (c .before .before .before .before .before .before .before .adds-up .ensures) ∙ not-false _ (c .before .before .before .before .before .before .if2 .left) in
-    let lent = shorter-lent g (a .to) _ _ _ _ (c .before .before .before .before .before .shorter .ensures) (c .before .before .before .before .shorter2 .ensures) (c .before .before .before .shorter3 .ensures)
-    (c .before .before .shorter4 .ensures) in
-    (sym (ap checkedBy (at-four (a .ordered) g (lentShorter g (a .to)) e2 e3 _ (some-table _ _ (c .if3 .taken) (c .before .too-short .ensures ∙ lent)))), λ asked good. not-good _ good)
+enum-told : tie.Need-enum-told
+enum-told c = search needs
 
 judge-circuit-requires : tie.Need-judge-circuit-requires
 judge-circuit-requires c κs =
-    let start = c .before .before .before .before .before .before .before .before .before .before .before .before .before .before .before .before in
-    let large-count = c .before .before .before .before .before .before .before .before .before .before .large-count in
-    let adds-up = c .before .before .before .before .before .before .before .before .adds-up in
-    let a = start .args in
-    let t : Tables = record { inputs = a .inputs .now; latches = a .latches .now; outputs = a .outputs .now; gates = a .gates .now } in
-    let g : Given = record { counts = a .n; tables = t; scratch = a .scratch .now } in
-    let e2 = no-table _ _ (c .before .before .before .before .before .before .before .before .before .if1 .left) (large-count .ensures) in
-    let e3 = sym (adds-up .ensures) ∙ not-false _ (c .before .before .before .before .before .before .before .if2 .left) in
-    let lent = shorter-lent g (a .to) _ _ _ _ (c .before .before .before .before .before .before .shorter .ensures) (c .before .before .before .before .before .shorter2 .ensures) (c .before .before .before .before .shorter3 .ensures)
-    (c .before .before .before .shorter4 .ensures) in
-    let e4 = no-table _ _ (c .before .if3 .left) (c .before .before .too-short .ensures ∙ lent) in
-    (fits g (a .to) e2 e3 e4, (fits-scratch g (a .to) e2 e3 e4, start .pre))
+    let d = c .before .before .before in
+    let s = d .before .before .before .before .before .before .before .before .before .before .before in
+    let a = s .args in
+    let e = passed d (c .before .enum-told .given .1) in
+    (fits (a .n) (tables s) (a .scratch .now) (a .to) e, (fits-scratch (a .n) (tables s) (a .scratch .now) (a .to) e, s .pre))
 
 same-length : tie.Need-same-length
 same-length c = search needs
 
-returns-4 : tie.Need-returns-4
-returns-4 c =
-    let start = c .before .before .before .before .before .before .before .before .before .before .before .before .before .before .before .before .before .before .before in
-    let large-count = c .before .before .before .before .before .before .before .before .before .before .before .before .before .large-count in
-    let adds-up = c .before .before .before .before .before .before .before .before .before .before .before .adds-up in
-    let shorter = c .before .before .before .before .before .before .before .before .before .shorter in
-    let shorter2 = c .before .before .before .before .before .before .before .before .shorter2 in
-    let a = start .args in
-    let t : Tables = record { inputs = a .inputs .now; latches = a .latches .now; outputs = a .outputs .now; gates = a .gates .now } in
-    let g : Given = record { counts = a .n; tables = t; scratch = a .scratch .now } in
-    let e2 = no-table _ _ (c .before .before .before .before .before .before .before .before .before .before .before .before .if1 .left) (large-count .ensures) in
-    let e3 = sym (adds-up .ensures) ∙ not-false _ (c .before .before .before .before .before .before .before .before .before .before .if2 .left) in
-    let lent = shorter-lent g (a .to) _ _ _ _ (shorter .ensures) (shorter2 .ensures) (c .before .before .before .before .before .before .before .shorter3 .ensures)
-    (c .before .before .before .before .before .before .shorter4 .ensures) in
-    let e4 = no-table _ _ (c .before .before .before .before .if3 .left) (c .before .before .before .before .before .too-short .ensures ∙ lent) in (
-      c .before .before .judge-circuit .ensures .0 ∙ sym (ap checkedBy (past-four (a .ordered) g (lentShorter g (a .to)) e2 e3 e4)),
+returns-2 : tie.Need-returns-2
+returns-2 c =
+    let d = c .before .before .before .before .before .before in
+    let s = d .before .before .before .before .before .before .before .before .before .before .before in
+    let a = s .args in (
+      c .before .before .judge-circuit .ensures .0
+          ∙ sym (ap checkedBy (lent-passes (a .ordered) (a .n) (tables s) (a .scratch .now) (shorters s)
+          (passed d (c .before .before .before .before .enum-told .given .1)))),
       c .before .before .judge-circuit .ensures .1,
     )
 
@@ -107,16 +93,12 @@ pub judge-spec : {M : Type 1} → statement M
 judge-spec =
     tie.close
     (tie.spec
-    large-count-requires
-    returns
-    adds-up-requires
-    returns-2
+    lengths-requires
     shorter-requires
-    shorter-requires-2
-    shorter-requires-3
-    shorter-requires-4
-    too-short-requires
-    returns-3
+    lent-enough-requires
+    enum-known-lent
+    returns
+    enum-told
     judge-circuit-requires
     same-length
-    returns-4)
+    returns-2)

@@ -1,36 +1,36 @@
 -- The given tables' own sizes; scratch is cleared where something is refused.
+use borrow.Author.Needs.{needs}
 use Prim.Native.Nat.{ℕ}
 use mathlib.Core.Path.{_≡_, sym, ap, _∙_}
 use mathlib.Core.Bool.{true, false≢true}
-use borrow.Author.Needs.{needs}
 use lib.ListN.{replicate}
+use Rattle.plan.specs.Circuit.{Tables, seven}
 use Rattle.plan.specs.Given.{Given}
+use Rattle.given.specs.Judged.{givenAt}
 use Rattle.plan.specs.Outcome.{CheckExit, checkInOrder}
 use Rattle.closing.proofs.Closing.{not-good}
-use Rattle.given.specs.Judged.{sizesOf}
 use Rattle.given.proofs.Stages.{same-answer, alone-answer}
 use Rattle.given.proofs.judge_in_order.Statement.{statement}
 use Rattle.given.proofs.judge_in_order.Tie as tie
 
--- what is handed over, and what was judged
-abbrev entry : tie.After-judge → Given
-entry d =
-    let a = d .before .before .before .before .before .before .before .before .args in
-    record {
-      counts = a .n;
-      tables = record { inputs = a .inputs .now; latches = a .latches .now; outputs = a .outputs .now; gates = a .gates .now };
-      scratch = a .scratch .now;
-    }
+abbrev tables : tie.Start → Tables
+tables s =
+    let a = s .args in
+    seven (a .inputs .now) (a .latches .now) (a .outputs .now) (a .gates .now) (a .resets .now) (a .bads .now) (a .constraints .now)
 
-told : (d : tie.After-judge) → d .judge .result ≡ checkInOrder (entry d) .answer
+abbrev entry : tie.Start → Given
+entry s = givenAt (s .args .n) (tables s) (s .args .scratch .now)
+
+told : (d : tie.After-judge)
+    → d .judge .result ≡ checkInOrder (entry (d .before .before .before .before .before .before .before .before .before .before .before)) .answer
 told d =
-    let own = d .before .before .sizes in
+    let g = entry (d .before .before .before .before .before .before .before .before .before .before .before) in
     d .judge .ensures .0
-    ∙ (same-answer (entry d) (own .result) (entry d .tables) (ap sizesOf (sym (own .ensures))) true
-    ∙ ap (λ (x : CheckExit). x .answer) (alone-answer true (entry d)))
+    ∙ (same-answer g (d .before .before .lengths .result) (g .tables) (d .before .before .lengths .ensures) true
+    ∙ ap (λ (x : CheckExit). x .answer) (alone-answer true g))
 
-sizes-requires : tie.Need-sizes-requires
-sizes-requires c κs = search needs
+lengths-requires : tie.Need-lengths-requires
+lengths-requires c κs = search needs
 
 judge-requires : tie.Need-judge-requires
 judge-requires c κs = λ asked. absurd (false≢true asked)
@@ -47,7 +47,7 @@ same-length c = search needs
 returns : tie.Need-returns
 returns c =
     let d = c .before .before .before .before .before .before .before .before in
-    (told d, λ q refused. c .before .before .clear .ensures ∙ ap (λ (k : ℕ). replicate k 0) (d .judge .kept .1 .1 .1 .1 .1 .0))
+    (told d, λ q refused. c .before .before .clear .ensures ∙ ap (λ (k : ℕ). replicate k 0) (d .judge .kept .1 .1 .1 .1 .1 .1 .1 .1 .0))
 
 enum-told-2 : tie.Need-enum-told-2
 enum-told-2 c = search needs
@@ -56,14 +56,13 @@ same-length-2 : tie.Need-same-length-2
 same-length-2 c = search needs
 
 returns-2 : tie.Need-returns-2
-returns-2 c =
-    (told (c .before .before .before .before), λ q refused. not-good q (sym refused ∙ c .enum-told2 .given .1))
+returns-2 c = (told (c .before .before .before .before), λ q refused. not-good q (sym refused ∙ c .enum-told2 .given .1))
 
 pub judge-in-order-spec : {M : Type 1} → statement M
 judge-in-order-spec =
     tie.close
     (tie.spec
-    sizes-requires
+    lengths-requires
     judge-requires
     enum-told
     clear-requires

@@ -1,15 +1,24 @@
 -- Numbers stay where nothing is refused; else scratch is cleared.
+use borrow.Author.Needs.{needs}
 use Prim.Native.Nat.{ℕ}
 use mathlib.Core.Path.{refl, sym, ap, _∙_}
 use mathlib.Core.Bool.{false}
-use borrow.Author.Needs.{needs}
 use lib.ListN.{replicate}
-use Rattle.plan.specs.Circuit.{Tables}
+use Rattle.plan.specs.Circuit.{Tables, seven}
 use Rattle.plan.specs.Given.{Given}
+use Rattle.given.specs.Judged.{givenAt}
 use Rattle.closing.proofs.Closing.{not-good}
 use Rattle.given.proofs.Stages.{same-answer}
 use Rattle.given.proofs.number.Statement.{statement}
 use Rattle.given.proofs.number.Tie as tie
+
+abbrev tables : tie.Start → Tables
+tables s =
+    let a = s .args in
+    seven (a .inputs .now) (a .latches .now) (a .outputs .now) (a .gates .now) (a .resets .now) (a .bads .now) (a .constraints .now)
+
+abbrev entry : tie.Start → Given
+entry s = givenAt (s .args .n) (tables s) (s .args .scratch .now)
 
 judge-requires : tie.Need-judge-requires
 judge-requires c κs = λ asked. refl
@@ -25,16 +34,13 @@ same-length c = search needs
 
 returns : tie.Need-returns
 returns c =
-    let start = c .before .before .before .before .before .before .before .before .before .before .before .before .before .before .before .before in
-    let judge = c .before .before .before .before .before .before .before .before .before .judge in
-    let a = start .args in
-    let t : Tables = record { inputs = a .inputs .now; latches = a .latches .now; outputs = a .outputs .now; gates = a .gates .now } in
-    let g : Given = record { counts = a .n; tables = t; scratch = a .scratch .now } in
-    let judged = judge in (
-      λ t′ sizes. sym (c .before .before .before .before .before .answer .given .1) ∙ (judged .ensures .0 ∙ same-answer g (a .to) t′ sizes false),
+    let d = c .before .before .before .before .before .before .before .before .before in
+    let s = d .before .before .before .before .before .before .before .before .before .before in
+    let judged = d .judge in (
+      λ t sizes. sym (c .before .before .before .before .before .answer .given .1) ∙ (judged .ensures .0 ∙ same-answer (entry s) (s .args .to) t sizes false),
       (
         λ good. not-good _ good,
-        λ q told. c .before .before .clear .ensures ∙ ap (λ (k : ℕ). replicate k 0) (judged .kept .1 .1 .1 .1 .1 .0),
+        λ q told. c .before .before .clear .ensures ∙ ap (λ (k : ℕ). replicate k 0) (judged .kept .1 .1 .1 .1 .1 .1 .1 .1 .0),
       ),
     )
 
@@ -46,12 +52,9 @@ same-length-2 c = search needs
 
 returns-2 : tie.Need-returns-2
 returns-2 c =
-    let start = c .before .before .before .before .before .before .before .before .before .before .before in
-    let a = start .args in
-    let t : Tables = record { inputs = a .inputs .now; latches = a .latches .now; outputs = a .outputs .now; gates = a .gates .now } in
-    let g : Given = record { counts = a .n; tables = t; scratch = a .scratch .now } in
+    let s = c .before .before .before .before .before .before .before .before .before .before .before .before .before .before in
     let judged = c .before .before .before .before .judge in (
-      λ t′ sizes. judged .ensures .0 ∙ same-answer g (a .to) t′ sizes false,
+      λ t sizes. judged .ensures .0 ∙ same-answer (entry s) (s .args .to) t sizes false,
       (λ good. judged .ensures .1 refl good, λ q told. not-good q (sym told ∙ c .enum-told .given .1)),
     )
 

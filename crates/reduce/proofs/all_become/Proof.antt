@@ -35,8 +35,8 @@ becomes-requires c κs =
     let s = c .before .before .before .before .before .before .before in
     let a = s .args in
     let i = c .before .before .before .loop .i in
-    let low = bounded-at (length (a .became .now)) (take (a .n) (a .table .now)) (s .pre .1) i
-    (omega (arith, length-take-le (a .n) (a .table .now) (s .pre .0 .0))) in
+    let low = bounded-at (length (a .became .now)) (take (a .n) (a .table .now)) (s .pre .low) i
+    (omega (arith, length-take-le (a .n) (a .table .now) (s .pre .table-long))) in
     omega (arith, ap (λ (l : Lit). varOf (wordOf l)) (c .at .ensures), low, ap varOf (getD-take (a .n) (a .table .now) i 0 (omega arith)))
 
 word-requires : tie.Need-word-requires Inv-loop μ-loop

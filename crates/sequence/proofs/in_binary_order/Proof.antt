@@ -27,20 +27,20 @@ add-if1-2 : tie.Need-add-if1-2
 add-if1-2 c = search needs
 
 returns : tie.Need-returns
-returns c outputs =
+returns c outputs resets bads constraints =
     let s = c .before .before .before .before .before .before .before in
     let a = s .args in
-    ends-sum (a .n) (a .inputs .now) (a .latches .now) (a .gates .now) (s .pre) outputs (c .if1 .taken)
+    ends-sum (a .n) (a .inputs .now) (a .latches .now) (a .gates .now) (s .pre) outputs resets bads constraints (c .if1 .taken)
 
 runs-on-requires : tie.Need-runs-on-requires
 runs-on-requires c κs = search needs
 
 returns-2 : tie.Need-returns-2
-returns-2 c outputs =
+returns-2 c outputs resets bads constraints =
     let e = c .before .before in
     let s = e .before .before .before .before .before .before .before in
     let a = s .args in
-    ends-inputs (a .n) (a .inputs .now) (a .latches .now) (a .gates .now) (s .pre) outputs (e .if1 .left)
+    ends-inputs (a .n) (a .inputs .now) (a .latches .now) (a .gates .now) (s .pre) outputs resets bads constraints (e .if1 .left)
     (sym (c .before .runs-on .ensures) ∙ not-true _ (c .if2 .taken))
 
 add-runs-on : tie.Need-add-runs-on
@@ -53,12 +53,12 @@ runs-on-requires-2 : tie.Need-runs-on-requires-2
 runs-on-requires-2 c κs = search needs
 
 returns-3 : tie.Need-returns-3
-returns-3 c outputs =
+returns-3 c outputs resets bads constraints =
     let f = c .before .before .before in
     let e = f .before .before in
     let s = e .before .before .before .before .before .before .before in
     let a = s .args in
-    ends-latches (a .n) (a .inputs .now) (a .latches .now) (a .gates .now) (s .pre) outputs (e .if1 .left) (inputs-run f)
+    ends-latches (a .n) (a .inputs .now) (a .latches .now) (a .gates .now) (s .pre) outputs resets bads constraints (e .if1 .left) (inputs-run f)
     (sym (c .before .runs-on2 .ensures) ∙ not-true _ (c .if3 .taken))
 
 add-gates-in-order : tie.Need-add-gates-in-order
@@ -74,14 +74,14 @@ gates-in-order-requires : tie.Need-gates-in-order-requires
 gates-in-order-requires c κs = search needs
 
 returns-4 : tie.Need-returns-4
-returns-4 c outputs =
+returns-4 c outputs resets bads constraints =
     let g = c .before .before .before in
     let f = g .before .before .before in
     let e = f .before .before in
     let s = e .before .before .before .before .before .before .before in
     let a = s .args in
     c .gates-in-order .ensures
-    ∙ ends (a .n) (a .inputs .now) (a .latches .now) (a .gates .now) (s .pre) outputs (e .if1 .left) (inputs-run f) (latches-run g)
+    ∙ ends (a .n) (a .inputs .now) (a .latches .now) (a .gates .now) (s .pre) outputs resets bads constraints (e .if1 .left) (inputs-run f) (latches-run g)
 
 pub in-binary-order-spec : {M : Type 1} → statement M
 in-binary-order-spec =

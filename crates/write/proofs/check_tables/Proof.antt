@@ -1,10 +1,10 @@
 -- The stages with 15, or without.
 use mathlib.Core.Path.{sym, ap, _∙_}
 use mathlib.Core.Bool.{Bool}
-use borrow.Author.Needs.{needs}
 use Rattle.plan.specs.Refusals.{firstOf}
 use Rattle.plan.specs.Outcome.{CheckExit, checkedBy}
 use Rattle.write.specs.Judged.{givenIn, tableStages}
+use borrow.Author.Needs.{needs}
 use Rattle.write.proofs.check_tables.Statement.{statement}
 use Rattle.write.proofs.check_tables.Tie as tie
 
@@ -18,8 +18,9 @@ returns : tie.Need-returns
 returns c =
     let checked = c .before .before in
     let test = checked .before .before in
-    let a = test .before .before .before .before .before .before .args in
-    let g = givenIn (a .n) (a .inputs .now) (a .latches .now) (a .outputs .now) (a .gates .now) (a .scratch .now) in
+    let a = test .before .before .before .before .before .before .before .before .before .args in
+    let g = givenIn (a .n) (a .inputs .now) (a .latches .now) (a .outputs .now) (a .gates .now) (a .resets .now) (a .bads .now) (a .constraints .now)
+    (a .scratch .now) in
     let exit = checked .check-in-order .ensures in (
       ap (λ (x : CheckExit). x .answer) exit
           ∙ ap (λ (ordered : Bool). checkedBy (firstOf (tableStages ordered g))) (sym (test .if1 .taken)),
@@ -36,8 +37,9 @@ returns-2 : tie.Need-returns-2
 returns-2 c =
     let checked = c .before .before in
     let test = checked .before .before in
-    let a = test .before .before .before .before .before .before .args in
-    let g = givenIn (a .n) (a .inputs .now) (a .latches .now) (a .outputs .now) (a .gates .now) (a .scratch .now) in
+    let a = test .before .before .before .before .before .before .before .before .before .args in
+    let g = givenIn (a .n) (a .inputs .now) (a .latches .now) (a .outputs .now) (a .gates .now) (a .resets .now) (a .bads .now) (a .constraints .now)
+    (a .scratch .now) in
     let exit = checked .check .ensures in (
       ap (λ (x : CheckExit). x .answer) exit
           ∙ ap (λ (ordered : Bool). checkedBy (firstOf (tableStages ordered g))) (sym (test .if1 .left)),

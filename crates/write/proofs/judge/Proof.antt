@@ -2,11 +2,11 @@
 use Prim.Native.Nat.{ℕ}
 use mathlib.Core.Path.{sym, ap, _∙_}
 use lib.ListN.{replicate}
-use borrow.Author.Needs.{needs}
 use Rattle.plan.specs.Given.{tailStage}
 use Rattle.plan.specs.Outcome.{checkedBy}
 use Rattle.write.specs.Judged.{givenIn, tableStages}
 use Rattle.write.proofs.Judging.{refused-before, good-before, good-tables, marks-hold, marks-blank}
+use borrow.Author.Needs.{needs}
 use Rattle.write.proofs.judge.Statement.{statement}
 use Rattle.write.proofs.judge.Tie as tie
 
@@ -22,8 +22,9 @@ enum-told c = search needs
 check-requires : tie.Need-check-requires
 check-requires c κs =
     let checked = c .before .before .before .before .before in
-    let a = checked .before .before .before .before .before .before .before .before .args in
-    let g = givenIn (a .n) (a .inputs .now) (a .latches .now) (a .outputs .now) (a .gates .now) (a .scratch .now) in
+    let a = checked .before .before .before .before .before .before .before .before .before .before .before .args in
+    let g = givenIn (a .n) (a .inputs .now) (a .latches .now) (a .outputs .now) (a .gates .now) (a .resets .now) (a .bads .now) (a .constraints .now)
+    (a .scratch .now) in
     let says = checked .check-tables .ensures .0 in
     let blank = checked .check-tables .ensures .1 in
     let good = good-tables (a .ordered) g says (c .before .enum-told .given .1) in
@@ -38,8 +39,9 @@ same-length c = search needs
 returns : tie.Need-returns
 returns c =
     let checked = c .before .before .before .before .before in
-    let a = checked .before .before .before .before .before .before .before .before .args in
-    let g = givenIn (a .n) (a .inputs .now) (a .latches .now) (a .outputs .now) (a .gates .now) (a .scratch .now) in
+    let a = checked .before .before .before .before .before .before .before .before .before .before .before .args in
+    let g = givenIn (a .n) (a .inputs .now) (a .latches .now) (a .outputs .now) (a .gates .now) (a .resets .now) (a .bads .now) (a .constraints .now)
+    (a .scratch .now) in
     let says = checked .check-tables .ensures .0 in
     let blank = checked .check-tables .ensures .1 in
     (sym (ap checkedBy (refused-before (tableStages (a .ordered) g) (tailStage g (a .tail .now)) says _ (c .before .r .given .1))), blank)
@@ -53,14 +55,15 @@ returns-2 c =
     let tailed = cleared .before .before .before .before in
     let good = tailed .before .before in
     let checked = good .before .before .before .before in
-    let a = checked .before .before .before .before .before .before .before .before .args in
-    let g = givenIn (a .n) (a .inputs .now) (a .latches .now) (a .outputs .now) (a .gates .now) (a .scratch .now) in
+    let a = checked .before .before .before .before .before .before .before .before .before .before .before .args in
+    let g = givenIn (a .n) (a .inputs .now) (a .latches .now) (a .outputs .now) (a .gates .now) (a .resets .now) (a .bads .now) (a .constraints .now)
+    (a .scratch .now) in
     let says = checked .check-tables .ensures .0 in
     let blank = checked .check-tables .ensures .1 in (
       tailed .check .ensures
           ∙ sym (ap checkedBy (good-before (tableStages (a .ordered) g) (tailStage g (a .tail .now)) says (good .enum-told .given .1))),
       cleared .clear .ensures ∙ ap (λ (k : ℕ). replicate k 0)
-          (tailed .check .kept .1 .1 .1 .0 ∙ checked .check-tables .kept .1 .1 .1 .1 .1 .0),
+          (tailed .check .kept .1 .1 .1 .1 .0 ∙ checked .check-tables .kept .1 .1 .1 .1 .1 .1 .1 .1 .0),
     )
 
 pub judge-spec : {M : Type 1} → statement M

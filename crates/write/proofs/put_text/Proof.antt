@@ -1,8 +1,8 @@
 -- No room, or the text form and then the tail.
-use borrow.Author.Needs.{needs}
 use borrow.Author.Tests.{not-true, not-false}
 use Rattle.forms.specs.Forms.{textBytes}
 use Rattle.write.proofs.Answers.{no-room, form-fits, tail-fits, all-put}
+use borrow.Author.Needs.{needs}
 use Rattle.write.proofs.put_text.Statement.{statement}
 use Rattle.write.proofs.put_text.Tie as tie
 
@@ -19,8 +19,8 @@ returns : tie.Need-returns
 returns c =
     let test = c .before in
     let counted = test .before .before in
-    let a = counted .before .before .before .before .before .before .before .args in
-    let bytes = textBytes (a .n) (a .inputs .now) (a .latches .now) (a .outputs .now) (a .gates .now) in
+    let a = counted .before .before .before .before .before .before .before .before .before .before .args in
+    let bytes = textBytes (a .n) (a .inputs .now) (a .latches .now) (a .outputs .now) (a .gates .now) (a .resets .now) (a .bads .now) (a .constraints .now) in
     no-room bytes (a .tail .now) (a .out .now) (counted .text-length .ensures) (test .before .holds .ensures)
     (not-true _ (test .if1 .taken)) (c .needed .ensures)
 
@@ -28,20 +28,20 @@ fill-text-requires : tie.Need-fill-text-requires
 fill-text-requires c κs =
     let test = c .before in
     let counted = test .before .before in
-    let a = counted .before .before .before .before .before .before .before .args in
-    let bytes = textBytes (a .n) (a .inputs .now) (a .latches .now) (a .outputs .now) (a .gates .now) in (
-      search needs,
-      form-fits bytes (a .tail .now) (a .out .now) (counted .text-length .ensures) (test .before .holds .ensures)
-          (not-false _ (test .if1 .left)),
-    )
+    let start = counted .before .before .before .before .before .before .before .before .before .before in
+    let a = start .args in
+    let bytes = textBytes (a .n) (a .inputs .now) (a .latches .now) (a .outputs .now) (a .gates .now) (a .resets .now) (a .bads .now) (a .constraints .now) in
+    let fits = form-fits bytes (a .tail .now) (a .out .now) (counted .text-length .ensures) (test .before .holds .ensures)
+    (not-false _ (test .if1 .left)) in
+    (start .pre, fits)
 
 append-requires : tie.Need-append-requires
 append-requires c κs =
     let filled = c .before .before .before in
     let test = filled .before .before in
     let counted = test .before .before in
-    let a = counted .before .before .before .before .before .before .before .args in
-    let bytes = textBytes (a .n) (a .inputs .now) (a .latches .now) (a .outputs .now) (a .gates .now) in
+    let a = counted .before .before .before .before .before .before .before .before .before .before .args in
+    let bytes = textBytes (a .n) (a .inputs .now) (a .latches .now) (a .outputs .now) (a .gates .now) (a .resets .now) (a .bads .now) (a .constraints .now) in
     tail-fits bytes (a .tail .now) (a .out .now) (counted .text-length .ensures) (test .before .holds .ensures)
     (not-false _ (test .if1 .left))
     (filled .fill-text .ensures)
@@ -55,8 +55,8 @@ returns-2 c =
     let filled = appended .before .before .before .before in
     let test = filled .before .before in
     let counted = test .before .before in
-    let a = counted .before .before .before .before .before .before .before .args in
-    let bytes = textBytes (a .n) (a .inputs .now) (a .latches .now) (a .outputs .now) (a .gates .now) in
+    let a = counted .before .before .before .before .before .before .before .before .before .before .args in
+    let bytes = textBytes (a .n) (a .inputs .now) (a .latches .now) (a .outputs .now) (a .gates .now) (a .resets .now) (a .bads .now) (a .constraints .now) in
     all-put bytes (a .tail .now) (a .out .now) (counted .text-length .ensures) (test .before .holds .ensures)
     (not-false _ (test .if1 .left))
     (filled .fill-text .ensures) (appended .append .ensures)

@@ -3,7 +3,6 @@ use Prim.Native.Nat.{ℕ}
 use mathlib.Core.Path.{ap, _∙_}
 use mathlib.Core.Bool.{false}
 use mathlib.Core.List.{List, _++_}
-use borrow.Author.Needs.{needs}
 use Rattle.plan.specs.Text.{textOf}
 use Rattle.plan.specs.Given.{given, roomStage}
 use Rattle.plan.specs.Outcome.{FileEntry, putBytes}
@@ -11,6 +10,7 @@ use Rattle.write.specs.Judged.{givenIn, writerStages}
 use Rattle.write.proofs.Parts.{text-parts}
 use Rattle.write.proofs.Judging.{refused-before, good-before, good-judged}
 use Rattle.write.proofs.Writing.{refused-file, written-file}
+use borrow.Author.Needs.{needs}
 use Rattle.write.proofs.write_text.Statement.{statement}
 use Rattle.write.proofs.write_text.Tie as tie
 
@@ -26,9 +26,11 @@ enum-told c = search needs
 put-text-requires : tie.Need-put-text-requires
 put-text-requires c κs =
     let judged = c .before .before .before .before .before in
-    let a = judged .before .before .before .before .before .before .before .before .before .args in
-    let g = givenIn (a .n) (a .inputs .now) (a .latches .now) (a .outputs .now) (a .gates .now) (a .scratch .now) in
-    good-judged false g (a .tail .now) (judged .judge .ensures .0) (c .before .enum-told .given .1) .fits
+    let a = judged .before .before .before .before .before .before .before .before .before .before .before .before .args in
+    let g = givenIn (a .n) (a .inputs .now) (a .latches .now) (a .outputs .now) (a .gates .now) (a .resets .now) (a .bads .now) (a .constraints .now)
+    (a .scratch .now) in
+    let good = good-judged false g (a .tail .now) (judged .judge .ensures .0) (c .before .enum-told .given .1) in
+    good .fits
 
 same-length : tie.Need-same-length
 same-length c = search needs
@@ -36,8 +38,9 @@ same-length c = search needs
 returns : tie.Need-returns
 returns c =
     let judged = c .before .before .before .before .before in
-    let a = judged .before .before .before .before .before .before .before .before .before .args in
-    let g = givenIn (a .n) (a .inputs .now) (a .latches .now) (a .outputs .now) (a .gates .now) (a .scratch .now) in
+    let a = judged .before .before .before .before .before .before .before .before .before .before .before .before .args in
+    let g = givenIn (a .n) (a .inputs .now) (a .latches .now) (a .outputs .now) (a .gates .now) (a .resets .now) (a .bads .now) (a .constraints .now)
+    (a .scratch .now) in
     let e : FileEntry = record { circuit = g; tail = a .tail .now; out = a .out .now } in
     let bytes = textOf (given g) ++ a .tail .now in
     let says = judged .judge .ensures in
@@ -55,8 +58,9 @@ returns-2 c =
     let wrote = c .before .before in
     let told = wrote .before .before in
     let judged = told .before .before .before .before in
-    let a = judged .before .before .before .before .before .before .before .before .before .args in
-    let g = givenIn (a .n) (a .inputs .now) (a .latches .now) (a .outputs .now) (a .gates .now) (a .scratch .now) in
+    let a = judged .before .before .before .before .before .before .before .before .before .before .before .before .args in
+    let g = givenIn (a .n) (a .inputs .now) (a .latches .now) (a .outputs .now) (a .gates .now) (a .resets .now) (a .bads .now) (a .constraints .now)
+    (a .scratch .now) in
     let e : FileEntry = record { circuit = g; tail = a .tail .now; out = a .out .now } in
     let bytes = textOf (given g) ++ a .tail .now in
     let says = judged .judge .ensures in
@@ -65,7 +69,8 @@ returns-2 c =
     (good-before (writerStages false g (a .tail .now)) (roomStage (a .out .now) bytes) (says .0) (told .enum-told .given .1))
     (wrote .put-text .ensures
     ∙ ap (λ (form : List ℕ). putBytes (a .out .now) 0 (form ++ a .tail .now))
-    (text-parts (a .n) (a .inputs .now) (a .latches .now) (a .outputs .now) (a .gates .now) (good .fits)))
+    (text-parts (a .n) (a .inputs .now) (a .latches .now) (a .outputs .now) (a .gates .now) (a .resets .now) (a .bads .now) (a .constraints .now)
+    (good .fits)))
 
 pub write-text-spec : {M : Type 1} → statement M
 write-text-spec =

@@ -1,0 +1,57 @@
+use borrow.Author.Needs.{needs}
+use mathlib.Core.Path.{sym, ap, _∙_}
+use borrow.Author.Tests.{not-true, not-false}
+use Rattle.plan.specs.Outcome.{checkedBy}
+use Rattle.tables.specs.Lengths.{lengthsIn}
+use Rattle.tables.proofs.Told.{some-table, no-table}
+use Rattle.given.proofs.Judging.{small-counts}
+use Rattle.given.proofs.Stages.{at-two, at-three, at-four, past-four}
+use Rattle.given.proofs.lent_enough.Statement.{statement}
+use Rattle.given.proofs.lent_enough.Tie as tie
+
+large-count-requires : tie.Need-large-count-requires
+large-count-requires c κs = search needs
+
+returns : tie.Need-returns
+returns c =
+    let a = c .before .before .args in
+    sym (ap checkedBy (at-two (a .n) (lengthsIn (a .to) (a .scratch)) _ (some-table _ _ (c .if1 .taken) (c .before .large-count .ensures))))
+
+adds-up-requires : tie.Need-adds-up-requires
+adds-up-requires c κs = search needs
+
+returns-2 : tie.Need-returns-2
+returns-2 c =
+    let a = c .before .before .before .before .args in
+    let e2 = no-table _ _ (c .before .before .if1 .left) (c .before .before .before .large-count .ensures) in
+    sym (ap checkedBy (at-three (a .n) (lengthsIn (a .to) (a .scratch)) e2 (sym (c .before .adds-up .ensures) ∙ not-true _ (c .if2 .taken))))
+
+too-short-requires : tie.Need-too-short-requires
+too-short-requires c κs =
+    small-counts (c .before .before .before .before .args .n) (no-table _ _ (c .before .before .if1 .left) (c .before .before .before .large-count .ensures))
+
+returns-3 : tie.Need-returns-3
+returns-3 c =
+    let a = c .before .before .before .before .before .before .args in
+    let e2 = no-table _ _ (c .before .before .before .before .if1 .left) (c .before .before .before .before .before .large-count .ensures) in
+    let e3 = sym (c .before .before .before .adds-up .ensures) ∙ not-false _ (c .before .before .if2 .left) in
+    sym (ap checkedBy (at-four (a .n) (lengthsIn (a .to) (a .scratch)) e2 e3 _ (some-table _ _ (c .if3 .taken) (c .before .too-short .ensures))))
+
+returns-4 : tie.Need-returns-4
+returns-4 c =
+    let a = c .before .before .before .before .before .before .args in
+    let e2 = no-table _ _ (c .before .before .before .before .if1 .left) (c .before .before .before .before .before .large-count .ensures) in
+    let e3 = sym (c .before .before .before .adds-up .ensures) ∙ not-false _ (c .before .before .if2 .left) in
+    sym (ap checkedBy (past-four (a .n) (lengthsIn (a .to) (a .scratch)) e2 e3 (no-table _ _ (c .if3 .left) (c .before .too-short .ensures))))
+
+pub lent-enough-spec : {M : Type 1} → statement M
+lent-enough-spec =
+    tie.close
+    (tie.spec
+    large-count-requires
+    returns
+    adds-up-requires
+    returns-2
+    too-short-requires
+    returns-3
+    returns-4)
