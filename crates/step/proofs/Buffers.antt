@@ -52,7 +52,7 @@ module _ {n : Counts} {latches outputs gates scratch : List ℕ} (b : Room n lat
 
   pub ready : Ready n latches outputs gates t2
   ready = record {
-    inputs = b .inputs;
+    others = b .others;
     state = s;
     ins = i;
     runs = b .runs;

@@ -34,14 +34,14 @@ module _ (g : Given) (last : Option Refusal) where
       pub past-check : answer ≡ firstOf (last ∷ [])
       past-check = both-first (allStages true g (lentAlone g)) (last ∷ []) all-none
 
-      pub runs : Runs (g .counts) (g .tables .inputs) (g .tables .latches) (g .tables .outputs) (g .tables .gates)
+      pub runs : Runs (g .counts) (g .tables)
       runs =
           let p = good-alone true g all-none in
           record { fits = p .fits; counts = p .counts; formed = p .formed; order = p .order refl }
 
       pub room : (s : List ℕ) → length s ≡ length (g .scratch) → Room (g .counts) (g .tables .latches) (g .tables .outputs) (g .tables .gates) s
       room s count = record {
-        inputs = g .tables .inputs;
-        runs = runs;
+        others = g .tables;
+        runs = record { fits = runs .fits; counts = runs .counts; formed = runs .formed; order = runs .order };
         scratch-long = omega (arith, good-alone true g all-none .scratch, count);
       }

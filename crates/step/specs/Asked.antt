@@ -5,14 +5,14 @@ use mathlib.Core.Path.{_≡_}
 use mathlib.Core.List.{List, map}
 use lib.ListN.{length}
 use Rattle.plan.specs.declared.Counts.{Counts}
-use Rattle.plan.specs.Circuit.{Circuit}
+use Rattle.plan.specs.Circuit.{Circuit, Tables}
 use Rattle.plan.specs.Step.{codeOf, valueOf, outputsOf, nextOf}
 use Rattle.tables.specs.Held.{Scratch}
-use Rattle.sweep.specs.Running.{Runs}
+use Rattle.sweep.specs.Running.{these, Runs}
 
 pub record Room (n : Counts) (latches outputs gates scratch : List ℕ) : Type 0 where
-  pub inputs : List ℕ
-  pub runs : Runs n inputs latches outputs gates
+  pub others : Tables
+  pub runs : Runs n (these others latches outputs gates)
   pub scratch-long : Scratch n scratch
 
 -- a state, inputs and outputs

@@ -1,9 +1,7 @@
 // A step in three values, from vectors of bytes into vectors of bytes (the paper, stepping).
-ghost use mathlib.Core.List.{List};
-ghost use Prim.Native.Nat.{ℕ};
+ghost use Rattle.plan.specs.Circuit.{Tables, circuitOf, seven};
 ghost use Rattle.plan.specs.Outcome.{Says, step};
-ghost use Rattle.tables.specs.Held.{circuitIn};
-ghost use Rattle.sweep.specs.Running.{Runs};
+ghost use Rattle.sweep.specs.Running.{these, Runs};
 ghost use Rattle.step.specs.Asked.{Room, Vectors, Leaves};
 use codes::bad_vector;
 use given::judge_in_order;
@@ -30,8 +28,8 @@ fn step_vectors(
 )
     requires { ⌜ Room n (now latches) (now outputs) (now gates) (now scratch) ⌝ }
     requires { ⌜ Vectors n (now state) (now ins) (now outs) ⌝ }
-    ensures { λ _. ⌜ ((inputs : List ℕ) → Runs n inputs (now (latches .entry)) (now (outputs .entry)) (now (gates .entry))
-        → Leaves (circuitIn n inputs (now (latches .entry)) (now (outputs .entry)) (now (gates .entry)))
+    ensures { λ _. ⌜ ((x : Tables) → Runs n (these x (now (latches .entry)) (now (outputs .entry)) (now (gates .entry)))
+        → Leaves (circuitOf n (these x (now (latches .entry)) (now (outputs .entry)) (now (gates .entry))))
         (now (state .entry)) (now (ins .entry)) (now (state .exit)) (now (outs .exit))) ⌝ }
 {
     // the constant
@@ -51,6 +49,9 @@ pub fn step(
     latches: &[u32],
     outputs: &[u32],
     gates: &[u32],
+    resets: &[u32],
+    bads: &[u32],
+    constraints: &[u32],
     scratch: &mut [u32],
     state: &mut [u8],
     ins: &[u8],
@@ -60,12 +61,8 @@ pub fn step(
         (record {
           circuit = (record {
             counts = n;
-            tables = (record {
-              inputs = now (inputs .entry);
-              latches = now (latches .entry);
-              outputs = now (outputs .entry);
-              gates = now (gates .entry);
-            });
+            tables = seven (now (inputs .entry)) (now (latches .entry)) (now (outputs .entry)) (now (gates .entry)) (now (resets .entry))
+                (now (bads .entry)) (now (constraints .entry));
             scratch = now (scratch .entry);
           });
           state = now (state .entry);
@@ -74,7 +71,17 @@ pub fn step(
         })
         (record { answer = r; scratch = now (scratch .exit); state = now (state .exit); outputs = now (outs .exit) }) ⌝ }
 {
-    match judge_in_order(n, inputs, latches, outputs, gates, scratch) {
+    match judge_in_order(
+        n,
+        inputs,
+        latches,
+        outputs,
+        gates,
+        resets,
+        bads,
+        constraints,
+        scratch,
+    ) {
         Checked::Refused(refusal) => Stepped::Refused(refusal),
         Checked::Good => {
             let bad = bad_vector(n, state, ins, outs.len());

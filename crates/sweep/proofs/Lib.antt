@@ -6,3 +6,4 @@ pub mod Literals
 pub mod Settling
 pub mod Stepping
 pub mod Loading
+pub mod Seeing

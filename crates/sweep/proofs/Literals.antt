@@ -4,16 +4,15 @@ use mathlib.Core.Path.{_≡_, refl, sym, ap, ap₂, _∙_, subst}
 use mathlib.Core.Bool.{true, false}
 use mathlib.Core.List.{List, [], _∷_, _++_, map, map-append}
 use native.Mathlib.Omega.{arith}
-use lib.ListN.{getD}
+use lib.ListN.{length, getD, take}
 use Rattle.plan.specs.declared.Counts.{Counts}
 use Rattle.plan.specs.Literals.{varOf}
-use Rattle.plan.specs.Circuit.{Latch, Circuit, oneLine, latchLine, nexts, allInside}
+use Rattle.plan.specs.Circuit.{Latch, Circuit, Tables, circuitOf, oneLine, latchLine, nexts, allInside}
 use Rattle.theorems.proofs.Ranges.{first-var, second-var, inside-at}
 use Rattle.theorems.proofs.Tables.{firsts, latchAt, latches-rows, words-take}
 use Rattle.used.specs.Least.{every}
 use Rattle.used.proofs.Walked.{one-word}
 use Rattle.values.proofs.Filling.{map-firsts}
-use Rattle.tables.specs.Held.{circuitIn}
 use Rattle.sweep.specs.Running.{Runs}
 
 nexts-map : (ls : List Latch) → nexts ls ≡ map (λ (l : Latch). l .next) ls
@@ -29,28 +28,33 @@ firsts-agree f g at (suc n) h =
     ∙ (ap₂ (λ x y. x ++ (y ∷ [])) (firsts-agree f g at n (λ i k. h i (omega arith))) (h n (omega arith))
     ∙ sym (map-append g (firsts at n) (at n ∷ [])))
 
-module _ {n : Counts} {inputs latches outputs gates : List ℕ} (r : Runs n inputs latches outputs gates) where
+-- a literal of a table that is observed
+pub literal-up : (m : ℕ) (table : List ℕ) (n : ℕ) → n ≤ length table → allInside false m (map oneLine (take n table)) ≡ true
+    → (i : ℕ) → i < n → varOf (getD table i 0) ≤ m
+literal-up m table n long ok i h =
+    first-var false m (getD table i 0) []
+    (inside-at oneLine false m (λ k. getD table k 0) n
+    (subst (λ (ls : List ℕ). allInside false m (map oneLine ls) ≡ true) (words-take table n long) ok)
+    i h)
+
+module _ {n : Counts} {x : Tables} (r : Runs n x) where
   abbrev c : Circuit
-  c = circuitIn n inputs latches outputs gates
+  c = circuitOf n x
 
-  pub outputs-every : c .outputs ≡ every outputs 0 1 (n .O)
+  pub outputs-every : c .outputs ≡ every (x .outputs) 0 1 (n .O)
   outputs-every =
-      words-take outputs (n .O) (r .fits .outputs-long) ∙ ap (λ (at : ℕ → ℕ). firsts at (n .O)) (λ j i. one-word outputs i j)
+      words-take (x .outputs) (n .O) (r .fits .outputs-long) ∙ ap (λ (at : ℕ → ℕ). firsts at (n .O)) (λ j i. one-word (x .outputs) i j)
 
-  pub nexts-every : nexts (c .latches) ≡ every latches 1 2 (n .L)
+  pub nexts-every : nexts (c .latches) ≡ every (x .latches) 1 2 (n .L)
   nexts-every =
-      nexts-map (c .latches) ∙ (ap (map (λ (l : Latch). l .next)) (latches-rows latches (n .L)) ∙ map-firsts _ (latchAt latches) (n .L))
+      nexts-map (c .latches) ∙ (ap (map (λ (l : Latch). l .next)) (latches-rows (x .latches) (n .L)) ∙ map-firsts _ (latchAt (x .latches)) (n .L))
 
-  pub output-up : (i : ℕ) → i < n .O → varOf (getD outputs (1 * i + 0) 0) ≤ n .M
+  pub output-up : (i : ℕ) → i < n .O → varOf (getD (x .outputs) (1 * i + 0) 0) ≤ n .M
   output-up i h =
-      subst (λ (l : ℕ). varOf l ≤ n .M) (one-word outputs i)
-      (first-var false (n .M) (getD outputs i 0) []
-      (inside-at oneLine false (n .M) (λ k. getD outputs k 0) (n .O)
-      (subst (λ (ls : List ℕ). allInside false (n .M) (map oneLine ls) ≡ true) (words-take outputs (n .O) (r .fits .outputs-long))
-      (r .formed .outputs))
-      i h))
+      subst (λ (l : ℕ). varOf l ≤ n .M) (one-word (x .outputs) i)
+      (literal-up (n .M) (x .outputs) (n .O) (r .fits .outputs-long) (r .formed .outputs) i h)
 
-  pub next-up : (i : ℕ) → i < n .L → varOf (getD latches (2 * i + 1) 0) ≤ n .M
+  pub next-up : (i : ℕ) → i < n .L → varOf (getD (x .latches) (2 * i + 1) 0) ≤ n .M
   next-up i h =
-      second-var true (n .M) (getD latches (2 * i) 0) (getD latches (2 * i + 1) 0) []
-      (inside-at latchLine true (n .M) (latchAt latches) (n .L) (rw (← latches-rows latches (n .L)) (r .formed .latches)) i h)
+      second-var true (n .M) (getD (x .latches) (2 * i) 0) (getD (x .latches) (2 * i + 1) 0) []
+      (inside-at latchLine true (n .M) (latchAt (x .latches)) (n .L) (rw (← latches-rows (x .latches) (n .L)) (r .formed .latches)) i h)

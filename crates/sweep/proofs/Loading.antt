@@ -1,10 +1,10 @@
 -- Words of vectors before a step: a state beside the constant, and inputs beside a state.
-use Prim.Native.Nat.{ℕ, suc, _+_, _≤_, _<_}
+use Prim.Native.Nat.{ℕ, _+_, _≤_, _<_}
 use mathlib.Core.Path.{_≡_, refl, sym, ap, ap₂, _∙_}
-use mathlib.Core.List.{List, [], _∷_, _++_, map-append, append-assoc}
+use mathlib.Core.List.{List, [], _∷_, _++_, map-append}
 use native.Mathlib.Omega.{arith}
-use lib.ListN.{length, take, drop, set, replicate, length-map, length-replicate, replicate-append-replicate}
-use lib.Seq.{take-add, take-at, drop-at}
+use lib.ListN.{length, take, drop, set, length-map}
+use lib.Seq.{take-add}
 use Rattle.plan.specs.declared.Counts.{Counts}
 use Rattle.plan.specs.Step.{Value, v0}
 use Rattle.plan.specs.Outcome.{put}
@@ -12,37 +12,6 @@ use Rattle.theorems.proofs.Running.Upward.{given}
 use Rattle.values.specs.Words.{word, words}
 use Rattle.values.proofs.Parts.{front-stays, back-stays, part-put}
 use Rattle.sweep.specs.Running.{Rests, Stands}
-
--- the values 0 in the leaves' words: the constant, and the state that is all "0"
-module _ (n : Counts) where
-  abbrev zeros : List Value
-  zeros = replicate (1 + n .I) v0
-
-  abbrev state : List Value
-  state = replicate (n .L) v0
-
-  count : (k : ℕ) → length (words (replicate k v0)) ≡ k
-  count k = length-map (replicate k v0) word ∙ length-replicate k v0
-
-  pub rests-first : (base t : List ℕ) → t ≡ put base 0 (words (replicate (1 + n .I + n .L) v0)) → Rests n (replicate (n .L) v0) t
-  rests-first base t e = record {
-    zero = ap (take 1) there ∙ ap (λ (k : ℕ). take 1 (words (replicate k v0) ++ (words state ++ past))) one;
-    state =
-        ap (λ (l : List ℕ). take (n .L) (drop (1 + n .I) l)) there
-        ∙ (ap (take (n .L)) (drop-at (words zeros) (words state ++ past) (1 + n .I) (count (1 + n .I)))
-        ∙ take-at (words state) past (n .L) (count (n .L)));
-  }
-    where
-      past : List ℕ
-      past = drop (0 + length (words (replicate (1 + n .I + n .L) v0))) base
-
-      one : 1 + n .I ≡ suc (n .I)
-      one = omega arith
-
-      there : t ≡ words zeros ++ (words state ++ past)
-      there =
-          e ∙ (ap (λ (l : List Value). words l ++ past) (sym (replicate-append-replicate (1 + n .I) (n .L) v0))
-          ∙ (ap (λ (l : List ℕ). l ++ past) (map-append word zeros state) ∙ append-assoc (words zeros) (words state) past))
 
 -- where the constant is set, all else as it comes
 pub constant-set : (l : List ℕ) → 0 < length l → take 1 (set l 0 (word v0)) ≡ words (v0 ∷ [])

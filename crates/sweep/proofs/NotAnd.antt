@@ -1,12 +1,16 @@
 -- The bits "may be 0" and "may be 1" of a value: of a negation and of an And, and of the word that holds both.
-use Prim.Native.Nat.{ℕ, _+_, _*_, _/_, _%_}
-use mathlib.Core.Path.{_≡_, refl, sym, ap, _∙_}
+use Prim.Native.Nat.{ℕ, _+_, _*_, _/_, _%_, _≤_}
+use mathlib.Core.Path.{_≡_, refl, sym, ap, ap₂, _∙_}
+use mathlib.Core.List.{List}
+use native.Mathlib.Omega.{arith}
 use lib.Bits.{bitAnd, bitOr}
-use Rattle.plan.specs.Literals.{negOf}
+use lib.ListN.{getD}
+use Rattle.plan.specs.Literals.{varOf, negOf}
 use Rattle.plan.specs.Step.{Value, v0, v1, vx, inv, and, lit}
 use Rattle.theorems.proofs.Running.Signs.{lit-neg}
 use Rattle.values.specs.Words.{may0, may1, word, told, Coded}
 use Rattle.values.proofs.Codes.{word-coded}
+use Rattle.sweep.specs.Lookup.{wordAt}
 
 -- "may be 0" and "may be 1" exchange
 pub may-not : (a : Value) → may1 (inv a) ≡ may0 a
@@ -65,3 +69,10 @@ high-bit w h = ap (λ (k : ℕ). k / 2) h ∙ high-value (told w)
 
 pub low-bit : (w : ℕ) → Coded w → bitAnd w 1 ≡ may0 (told w)
 low-bit w h = ap (λ (k : ℕ). bitAnd k 1) h ∙ low-value (told w)
+
+-- the word of a literal, by both its words
+pub word-there : (lits : ℕ) (t : List ℕ) (w : ℕ → Value) (m : ℕ) → ((l : ℕ) → varOf l ≤ m → getD t (lits + l) 0 ≡ may1 (lit w l))
+    → (l : ℕ) → varOf l ≤ m → wordAt lits t l ≡ word (lit w l)
+word-there lits t w m h l up =
+    let half : varOf (negOf l) ≡ varOf l = omega arith in
+    ap₂ (λ (x y : ℕ). bitOr x (y * 2 % 4294967296)) (h (negOf l) (omega arith) ∙ negated-may w l) (h l up) ∙ both-bits (lit w l)

@@ -8,7 +8,7 @@ use lib.ListN.{length, getD, take, length-append}
 use lib.Seq.{getD-take}
 use Rattle.plan.specs.declared.Counts.{Counts}
 use Rattle.plan.specs.Literals.{varOf, signOf}
-use Rattle.plan.specs.Circuit.{Gate, Circuit}
+use Rattle.plan.specs.Circuit.{Gate, Circuit, Tables, circuitOf}
 use Rattle.plan.specs.Step.{Value, v0, signedValue, lit, valuesOf}
 use Rattle.plan.specs.Outcome.{put}
 use Rattle.theorems.proofs.Put.{put-over}
@@ -18,27 +18,23 @@ use Rattle.theorems.proofs.Running.Binary.{Binary, inner}
 use Rattle.theorems.proofs.Running.InOrder.{order-binary}
 use Rattle.theorems.proofs.Running.Upward.{given}
 use Rattle.theorems.proofs.Running.Sweep.{sweep, at, length-sweep, sweep-step}
-use Rattle.tables.specs.Held.{circuitIn, Scratch}
+use Rattle.tables.specs.Held.{Scratch}
 use Rattle.values.specs.Words.{may1, word, words, told, Coded, valuesAt}
 use Rattle.values.proofs.Codes.{told-words}
 use Rattle.values.proofs.Parts.{front-stays}
 use Rattle.sweep.specs.Lookup.{litWords, Spreads, spread, Sweeps, swept}
-use Rattle.sweep.specs.Running.{Runs, Stands}
+use Rattle.sweep.specs.Running.{Runs, Stands, litsOf}
 use Rattle.sweep.proofs.NotAnd.{is-coded}
 use Rattle.sweep.proofs.Spreading.{Spread, literal-word}
-
--- where the literals' words start
-abbrev pub litsOf : Counts → ℕ
-litsOf n = n .M + 1 + n .O
 
 word-at : (l : List Value) (v : ℕ) → v < length l → getD (words l) v 0 ≡ word (getD l v v0)
 word-at [] v h = absurd (not-suc-le-zero h)
 word-at (a ∷ l) zero h = refl
 word-at (a ∷ l) (suc v) h = word-at l v (omega arith)
 
-module _ {n : Counts} {inputs latches outputs gates : List ℕ} (r : Runs n inputs latches outputs gates) where
+module _ {n : Counts} {x : Tables} (r : Runs n x) where
   abbrev c : Circuit
-  c = circuitIn n inputs latches outputs gates
+  c = circuitOf n x
 
   in-order : BinaryOrder c
   in-order = order-exactly c .0 (r .order)
@@ -56,10 +52,10 @@ module _ {n : Counts} {inputs latches outputs gates : List ℕ} (r : Runs n inpu
       let a = ap (λ (m : Counts). m .A) (r .counts) in
       omega (arith, in-order .sum, i, l, a)
 
-  gates-binary : Binary leaves (gatesAt gates (n .A))
+  gates-binary : Binary leaves (gatesAt (x .gates) (n .A))
   gates-binary =
-      subst (λ (k : ℕ). Binary k (gatesAt gates (n .A))) all-leaves
-      (subst (λ (gs : List Gate). Binary (inner c) gs) (gates-rows gates (n .A)) (order-binary (inner c) (c .gates) (in-order .gates)))
+      subst (λ (k : ℕ). Binary k (gatesAt (x .gates) (n .A))) all-leaves
+      (subst (λ (gs : List Gate). Binary (inner c) gs) (gates-rows (x .gates) (n .A)) (order-binary (inner c) (c .gates) (in-order .gates)))
 
   module _ {s i : List Value} {t : List ℕ} (room : Scratch n t) (b : Stands n s i t) where
     pub literals-long : litsOf n + 2 * (n .M + 1) ≤ length t
@@ -90,12 +86,12 @@ module _ {n : Counts} {inputs latches outputs gates : List ℕ} (r : Runs n inpu
       leaves-stay : valuesAt t1 0 leaves ≡ valuesAt t 0 leaves
       leaves-stay = ap (map told) (front-one leaves (omega (arith, r .fits .sum)))
 
-      pub sweeps : Sweeps gates (n .A) leaves (litsOf n) t1
+      pub sweeps : Sweeps (x .gates) (n .A) leaves (litsOf n) t1
       sweeps = record {
         gates-long = r .fits .gates-long;
         table-long = omega (arith, literals-long, same, all-variables);
         ordered = gates-binary;
-        there = sym (ap₂ (λ (x : List ℕ) (l : List Value). put x (litsOf n) (litWords l)) e leaves-stay
+        there = sym (ap₂ (λ (y : List ℕ) (l : List Value). put y (litsOf n) (litWords l)) e leaves-stay
             ∙ (put-over t (litsOf n) w w (omega (arith, literals-long)) (omega arith) ∙ sym e));
       }
         where
@@ -103,25 +99,25 @@ module _ {n : Counts} {inputs latches outputs gates : List ℕ} (r : Runs n inpu
           w = litWords (valuesAt t 0 leaves)
 
       -- t2: after the sweep
-      module _ {t2 : List ℕ} (same2 : length t2 ≡ length t1) (e2 : t2 ≡ swept gates (n .A) leaves (litsOf n) t1) where
+      module _ {t2 : List ℕ} (same2 : length t2 ≡ length t1) (e2 : t2 ≡ swept (x .gates) (n .A) leaves (litsOf n) t1) where
         abbrev settled : List Value
-        settled = sweep (given s i) (gatesAt gates (n .A))
+        settled = sweep (given s i) (gatesAt (x .gates) (n .A))
 
         settled-there : Spread (litsOf n) settled t1 t2
         settled-there = record {
           same = same2;
-          put-there = e2 ∙ ap (λ (l : List Value). put t1 (litsOf n) (litWords (sweep l (gatesAt gates (n .A)))))
+          put-there = e2 ∙ ap (λ (l : List Value). put t1 (litsOf n) (litWords (sweep l (gatesAt (x .gates) (n .A)))))
               (leaves-stay ∙ (ap (map told) (b .leaves) ∙ told-words (given s i)));
         }
 
         settled-length : length settled ≡ n .M + 1
         settled-length =
-            length-sweep (given s i) (gatesAt gates (n .A))
-            ∙ omega (arith, given-length, length-firsts (gateAt gates) (n .A), all-variables)
+            length-sweep (given s i) (gatesAt (x .gates) (n .A))
+            ∙ omega (arith, given-length, length-firsts (gateAt (x .gates)) (n .A), all-variables)
 
         settled-value : (v : ℕ) → at settled v ≡ valuesOf c s i v
         settled-value v =
-            ap (λ (gs : List Gate). at (sweep (given s i) gs) v) (sym (gates-rows gates (n .A)))
+            ap (λ (gs : List Gate). at (sweep (given s i) gs) v) (sym (gates-rows (x .gates) (n .A)))
             ∙ sweep-step c in-order s i (b .state-length ∙ sym (ap (λ (m : Counts). m .L) (r .counts)))
             (b .inputs-length ∙ sym (ap (λ (m : Counts). m .I) (r .counts))) v
 

@@ -11,7 +11,7 @@ use Rattle.theorems.proofs.Tables.{gatesAt}
 use Rattle.theorems.proofs.Running.Binary.{Binary}
 use Rattle.theorems.proofs.Running.Sweep.{sweep}
 use Rattle.used.specs.Least.{every}
-use Rattle.values.specs.Words.{may0, may1, Coded, valuesAt}
+use Rattle.values.specs.Words.{may0, may1, told, Coded, valuesAt}
 
 -- the words of literals 0, 1 .., by the values of variables 0, 1 ..: whether the literal may be 1. So a variable's value has two words: that of
 -- its own literal tells whether it may be 1, that of the negated one whether it may be 0
@@ -71,3 +71,12 @@ pub record Looks (table : List ℕ) (start stride n lits first : ℕ) (t : List 
 
 abbrev pub looked : List ℕ → ℕ → ℕ → ℕ → ℕ → List ℕ → List ℕ
 looked table start stride n lits t = map (wordAt lits t) (every table start stride n)
+
+-- n literals of a table, whose words are read
+pub record Sees (table : List ℕ) (n lits : ℕ) (t : List ℕ) : Type 0 where
+  pub literals-long : n ≤ length table
+  pub inside : (i : ℕ) → i < n → Inside lits t (getD table i 0)
+
+-- the values of literals
+abbrev pub seen : ℕ → List ℕ → List ℕ → List Value
+seen lits t ls = map (λ l. told (wordAt lits t l)) ls

@@ -1,17 +1,20 @@
 // A step in three values over tables in binary order: one sweep over the gates gives each literal's value (the paper, stepping).
 ghost use mathlib.Core.Path.{_≡_};
-ghost use mathlib.Core.List.{List, [], _∷_};
-ghost use Prim.Native.Nat.{ℕ, _+_, _<_, _≤_};
-ghost use lib.ListN.{length, getD};
+ghost use mathlib.Core.List.{List, [], _∷_, map};
+ghost use Prim.Native.Nat.{_+_, _<_, _≤_};
+ghost use lib.ListN.{length, getD, take};
 ghost use Rattle.plan.specs.Literals.{wordOf, negOf};
-ghost use Rattle.plan.specs.Step.{Value};
+ghost use Rattle.plan.specs.Circuit.{Tables, circuitOf};
+ghost use Rattle.plan.specs.Step.{Value, resetValue, any1, all1};
 ghost use Rattle.plan.specs.Outcome.{put};
-ghost use Rattle.tables.specs.Held.{circuitIn};
 ghost use Rattle.values.specs.Words.{told, Coded};
-ghost use Rattle.sweep.specs.Lookup.{litWords, andWords, wordAt, Inside, Spreads, spread, Gated, Settles, Sweeps, swept, Looks, looked};
-ghost use Rattle.sweep.specs.Running.{Runs, Stands, Stepped, Ready};
+ghost use Rattle.sweep.specs.Lookup.{litWords, andWords, wordAt, Inside, Spreads, spread, Gated, Settles, Sweeps, swept, Looks, looked, Sees, seen};
+ghost use Rattle.sweep.specs.Running.{these, Runs, Rests, Stands, Stepped, Ready};
 use plan::Counts;
 use plan::Lit;
+use values::MAY0;
+use values::MAY1;
+use values::load_resets;
 
 // Whether a literal may be 1: one read, whatever its sign, as each literal has a word of its own.
 fn may_be_1(t: &[u32], lits: usize, l: Lit) -> u32
@@ -129,10 +132,10 @@ fn look_up(
 // which no look up changes, so that all latches take their next values at once.
 pub fn step_values(n: Counts, latches: &[u32], outputs: &[u32], gates: &[u32], t: &mut [u32])
     requires { ⌜ Ready n (now latches) (now outputs) (now gates) (now t) ⌝ }
-    ensures { λ _. ⌜ ((inputs : List ℕ) (s i : List Value)
-        → Runs n inputs (now (latches .entry)) (now (outputs .entry)) (now (gates .entry))
+    ensures { λ _. ⌜ ((x : Tables) (s i : List Value)
+        → Runs n (these x (now (latches .entry)) (now (outputs .entry)) (now (gates .entry)))
         → Stands n s i (now (t .entry))
-        → Stepped n (circuitIn n inputs (now (latches .entry)) (now (outputs .entry)) (now (gates .entry))) s i (now (t .exit))) ⌝ }
+        → Stepped n (circuitOf n (these x (now (latches .entry)) (now (outputs .entry)) (now (gates .entry)))) s i (now (t .exit))) ⌝ }
 {
     let state = 1 + n.I;
     let out = n.M + 1;
@@ -141,4 +144,43 @@ pub fn step_values(n: Counts, latches: &[u32], outputs: &[u32], gates: &[u32], t
     sweep_gates(gates, n.A, state + n.L, lits, t);
     look_up(outputs, 0, 1, n.O, lits, out, t);
     look_up(latches, 1, 2, n.L, lits, state, t);
+}
+
+// The constant and the state of the resets, from which a run starts. Of the words it asks the length alone.
+pub fn start_values(n: Counts, resets: &[u32], t: &mut [u32])
+    requires { ⌜ (n .L ≤ length (now resets)) × (1 + n .I + n .L ≤ length (now t)) ⌝ }
+    ensures { λ _. ⌜ Rests n (map resetValue (take (n .L) (now (resets .entry)))) (now (t .exit)) ⌝ }
+{
+    t[0] = MAY0;
+    load_resets(resets, n.L, 1 + n.I, t);
+}
+
+// Whether one of the first n literals of a table is 1 after a step.
+pub fn any_lit(table: &[u32], n: usize, lits: usize, t: &[u32]) -> bool
+    requires { ⌜ Sees (now table) n lits (now t) ⌝ }
+    ensures { λ r. ⌜ r ≡ any1 (seen lits (now (t .entry)) (take n (now (table .entry)))) ⌝ }
+{
+    let mut i = 0;
+    while i < n {
+        if value_of(t, lits, Lit::at(table[i])) == MAY1 {
+            return true;
+        }
+        i += 1;
+    }
+    false
+}
+
+// Whether all of them are.
+pub fn all_lits(table: &[u32], n: usize, lits: usize, t: &[u32]) -> bool
+    requires { ⌜ Sees (now table) n lits (now t) ⌝ }
+    ensures { λ r. ⌜ r ≡ all1 (seen lits (now (t .entry)) (take n (now (table .entry)))) ⌝ }
+{
+    let mut i = 0;
+    while i < n {
+        if value_of(t, lits, Lit::at(table[i])) != MAY1 {
+            return false;
+        }
+        i += 1;
+    }
+    true
 }

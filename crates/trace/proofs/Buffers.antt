@@ -21,7 +21,7 @@ module _ {n : Counts} {latches outputs gates scratch : List ℕ} (b : Room n lat
 
   pub state-resting : length t1 ≡ length (set scratch 0 1) → Resting n latches outputs gates t1
   state-resting same = record {
-    inputs = b .inputs;
+    others = b .others;
     state = s;
     runs = b .runs;
     scratch-long = omega (arith, b .scratch-long, same, length-set scratch 0 1);

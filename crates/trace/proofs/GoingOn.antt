@@ -13,7 +13,7 @@ use Rattle.plan.specs.declared.Counts.{Counts}
 use Rattle.plan.specs.declared.Refusal.{Refusal}
 use Rattle.plan.specs.declared.Traced.the-variants.{Lines}
 use Rattle.plan.specs.Refusals.{firstOf}
-use Rattle.plan.specs.Circuit.{Tables, lengthsOf, wordsToWork, against}
+use Rattle.plan.specs.Circuit.{Tables, wordsToWork, against}
 use Rattle.plan.specs.Step.{Value, codeOf, valueOf}
 use Rattle.plan.specs.Given.{given, lentAlone}
 use Rattle.plan.specs.Outcome.{allCodes}
@@ -22,6 +22,7 @@ use Rattle.plan.specs.Whole.{TraceEntry, TraceExit, traceStage, lineWidth, next
 use Rattle.theorems.proofs.Reading.Common.{and-left, and-right, and-intro}
 use Rattle.theorems.proofs.Writing.Nothing.{both-first}
 use Rattle.theorems.proofs.Writing.Stepping.{all-codes}
+use Rattle.tables.specs.Lengths.{lengthsIn, sizesOf}
 use Rattle.codes.proofs.Places.{codesIn}
 use Rattle.given.specs.Judged.{allStages}
 use Rattle.step.proofs.Checks.{answer}
@@ -80,7 +81,7 @@ module _ (e : TraceEntry) (k : ℕ) (said : trace e .answer ≡ Lines k) (out : 
 
   stages-again : firstOf (allStages true (next .circuit) (lentAlone (next .circuit))) ≡ none
   stages-again =
-      ap (λ (m : ℕ). firstOf (allStages true (e .circuit) (against 1 (wordsToWork n) (lengthsOf t ++ (m ∷ []))))) scratch-again
+      ap (λ (m : ℕ). firstOf (allStages true (e .circuit) (against 1 (wordsToWork n) (lengthsIn (sizesOf t) m)))) scratch-again
       ∙ stages-none e k said .0
 
   nothing-again : answer (next .circuit) (traceStage next) ≡ none

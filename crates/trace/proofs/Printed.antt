@@ -1,25 +1,27 @@
 -- What the tracer prints: the count of lines tells every refusal of standard input, and the calls on an accepted file print the run.
-use Prim.Native.Nat.{ℕ, zero, suc, _≤_}
+use Prim.Native.Nat.{ℕ, _≤_}
 use mathlib.Core.Path.{_≡_, refl, sym, ap, ap₂, _∙_}
 use mathlib.Core.Bool.{Bool, true, false, cond}
 use mathlib.Core.Option.{Option, none, some}
-use mathlib.Core.List.{List, _∷_, map}
+use mathlib.Core.List.{List, map}
 use native.Mathlib.Omega.{arith}
 use borrow.Author.Tests.{le-leb}
 use lib.Dec.{leb}
-use lib.ListN.{length, replicate}
+use lib.ListN.{length}
 use Rattle.plan.specs.declared.Counts.{Counts}
 use Rattle.plan.specs.declared.Refusal.{Refusal}
 use Rattle.plan.specs.declared.Refusal.the-variants.{WrongByte, BadVector, LongInput}
+use Rattle.plan.specs.declared.Version.the-variants.{V19}
 use Rattle.plan.specs.declared.Traced.{Traced}
 use Rattle.plan.specs.declared.Traced.the-variants.{Lines, Refused}
 use Rattle.plan.specs.Refusals.{Parse, got, refused, _then_}
 use Rattle.plan.specs.Circuit.{Circuit, Tables, circuitOf}
 use Rattle.plan.specs.Reading.{readFile}
 use Rattle.plan.specs.Convert.{convert}
-use Rattle.plan.specs.Step.{Value, v0, valueOf, run, first}
+use Rattle.plan.specs.Step.{Value, codeOf, valueOf, run, first}
 use Rattle.plan.specs.Programs.{lentWords, refusalLine, printed, input, linesIn, allVectors, stimulus, stepLines, tracer}
 use Rattle.plan.specs.Whole.{countedBy, countLines}
+use Rattle.theorems.proofs.Writing.Stepping.{codes-values}
 use Rattle.stimulus.specs.Scan.{ended}
 use Rattle.trace.proofs.InParts.{values, Calls, calls-print}
 
@@ -56,7 +58,7 @@ module _ {A B : Type 0} (f : List ℕ → Parse A) (g : A → ℕ → Parse B) w
   input-then none = refl
   input-then (some bytes) = then-cond (leb (length bytes) 65536) (f bytes) (LongInput 65536)
 
-module _ (file : List ℕ) (c : Circuit) (start : ℕ) (short : length file ≤ 65536) (reads : readFile file lentWords ≡ got c start)
+module _ (file : List ℕ) (c : Circuit) (start : ℕ) (short : length file ≤ 65536) (reads : readFile V19 file lentWords ≡ got c start)
     (source : Option (List ℕ)) where
   abbrev width : ℕ
   width = length (c .inputs)
@@ -66,7 +68,7 @@ module _ (file : List ℕ) (c : Circuit) (start : ℕ) (short : length file ≤ 
 
   accepted : tracer (some file) source ≡ of-lines c (input source (stimulus width))
   accepted =
-      ap (λ (t : Bool). printed (cond t (readFile file lentWords then after-file) (refused (LongInput 65536))))
+      ap (λ (t : Bool). printed (cond t (readFile V19 file lentWords then after-file) (refused (LongInput 65536))))
       (le-leb (length file) 65536 short)
       ∙ (ap (λ (p : Parse Circuit). printed (p then after-file)) reads
       ∙ ap printed (input-then (stimulus width) (tracedLines c) source))
@@ -85,18 +87,13 @@ module _ (file : List ℕ) (c : Circuit) (start : ℕ) (short : length file ≤ 
       (ended bytes) (allVectors width (linesIn bytes)) (ap (λ (o : Option (List ℕ)). countLines o width) (sym is) ∙ e) in
       accepted ∙ ap (of-lines c) whole
 
--- the state that is all "0"
-zeros-first : (n : ℕ) → map valueOf (replicate n 48) ≡ replicate n v0
-zeros-first zero = refl
-zeros-first (suc n) = ap (λ (l : List Value). v0 ∷ l) (zeros-first n)
-
--- calls on the converted circuit, from that state on, print what the tracer prints
-pub calls-trace : (file : List ℕ) (c : Circuit) (start : ℕ) → length file ≤ 65536 → readFile file lentWords ≡ got c start
+-- calls on the converted circuit, from the codes of its first state on, print what the tracer prints
+pub calls-trace : (file : List ℕ) (c : Circuit) (start : ℕ) → length file ≤ 65536 → readFile V19 file lentWords ≡ got c start
     → (bytes : List ℕ) (k : ℕ) → countLines (some bytes) (length (c .inputs)) ≡ Lines k
     → (n : Counts) (t : Tables) → circuitOf n t ≡ convert c → (scratch out : List ℕ)
-    → Calls n t scratch (replicate (length (convert c .latches)) 48) bytes out
+    → Calls n t scratch (map codeOf (first (convert c))) bytes out
     → out ≡ tracer (some file) (some bytes)
 calls-trace file c start short reads bytes k counted n t holds scratch out calls =
     calls-print calls
-    ∙ (ap₂ (λ (d : Circuit) (s : List Value). stepLines (run d s (values bytes))) holds (zeros-first (length (convert c .latches)))
+    ∙ (ap₂ (λ (d : Circuit) (s : List Value). stepLines (run d s (values bytes))) holds (codes-values (first (convert c)))
     ∙ sym (tracer-prints file c start short reads (some bytes) bytes refl k counted))

@@ -8,7 +8,7 @@ use borrow.Rule.Slice.PartMut.{midOf, mid-len}
 use lib.ListN.{length, take, drop, length-map, length-append, length-drop}
 use lib.Seq.{drop-drop}
 use Rattle.plan.specs.declared.Counts.{Counts}
-use Rattle.plan.specs.Circuit.{Circuit}
+use Rattle.plan.specs.Circuit.{Circuit, Tables, circuitOf}
 use Rattle.plan.specs.Step.{Value, valueOf, nextOf, stepOf, run}
 use Rattle.plan.specs.Outcome.{put}
 use Rattle.plan.specs.Programs.{linesIn, allVectors, stepLine, stepLines}
@@ -16,7 +16,6 @@ use Rattle.plan.specs.Whole.{lineWidth, stateAfter}
 use Rattle.theorems.proofs.Put.{put-none, put-put}
 use Rattle.theorems.proofs.Running.Runs.{next-length}
 use Rattle.theorems.proofs.Tables.{row-ends}
-use Rattle.tables.specs.Held.{circuitIn}
 use Rattle.sweep.specs.Running.{Runs, Rests}
 use Rattle.trace.specs.Tracing.{Wrote, Listed, firstOnes, Ran}
 use Rattle.trace.proofs.Lines.{NextLine, next-line}
@@ -84,13 +83,13 @@ module _ {n : Counts} {number : ℕ} {vectors : List ℕ} {k at : ℕ} (l : Lini
       ap₂ (λ (m : ℕ) (rows : List (List ℕ)). map (map valueOf) (take m rows)) one lines-left
       ∙ ap (λ (m : ℕ). map valueOf (take m (drop at vectors)) ∷ firstOnes (number - (k + 1)) (drop (at + n .I + 1) vectors)) only
 
-  module _ {inputs latches outputs gates : List ℕ} (r : Runs n inputs latches outputs gates)
+  module _ {x : Tables} (r : Runs n x)
       {s₀ : List Value} {t out₀ out : List ℕ} {to : ℕ}
-      (g : Going n (circuitIn n inputs latches outputs gates) s₀ number vectors t out₀ out k at to)
+      (g : Going n (circuitOf n x) s₀ number vectors t out₀ out k at to)
       (fits : to + lineWidth n ≤ length out₀) {t′ out′ : List ℕ}
-      (w : Wrote n (circuitIn n inputs latches outputs gates) (g .state) ins t′ out to out′) where
+      (w : Wrote n (circuitOf n x) (g .state) ins t′ out to out′) where
     abbrev c : Circuit
-    c = circuitIn n inputs latches outputs gates
+    c = circuitOf n x
 
     abbrev line : List ℕ
     line = stepLine (stepOf c (g .state) ins)

@@ -5,13 +5,13 @@ use mathlib.Core.List.{List, [], _∷_, _++_, map, append-assoc, append-nil}
 use native.Mathlib.Omega.{arith}
 use lib.ListN.{length, take, drop, length-map, length-append}
 use Rattle.plan.specs.declared.Counts.{Counts}
-use Rattle.plan.specs.Circuit.{Circuit}
-use Rattle.plan.specs.Step.{Value, codeOf, valueOf, outputsOf, nextOf, stepOf}
+use Rattle.plan.specs.Circuit.{Circuit, Tables, circuitOf}
+use Rattle.plan.specs.Step.{Value, codeOf, valueOf, outputsOf, badsOf, constraintsOf, nextOf, stepOf}
 use Rattle.plan.specs.Outcome.{put}
 use Rattle.plan.specs.Programs.{stepLine}
 use Rattle.plan.specs.Whole.{lineWidth}
 use Rattle.theorems.proofs.Running.Runs.{next-length}
-use Rattle.tables.specs.Held.{circuitIn, Scratch}
+use Rattle.tables.specs.Held.{Scratch}
 use Rattle.print.proofs.Filling.{Filling, none-filled, part-filled, all-filled}
 use Rattle.values.specs.Words.{word, words}
 use Rattle.values.proofs.Parts.{part-put}
@@ -32,9 +32,9 @@ part-is : (t : List ℕ) (first n last : ℕ) (l : List Value) → take n (drop 
 part-is t first n last l e = ap (λ (x : List Value). ended x last) (told-part t first n n l refl e)
 
 -- a line is its four parts
-four : (s i o x : List Value) → ended s 32 ++ (ended i 32 ++ (ended o 32 ++ ended x 10))
-    ≡ stepLine (record { state = s; inputs = i; outputs = o; next = x })
-four s i o x = simp append-assoc
+four : (s i o b k x : List Value) → ended s 32 ++ (ended i 32 ++ (ended o 32 ++ ended x 10))
+    ≡ stepLine (record { state = s; inputs = i; outputs = o; bads = b; constraints = k; next = x })
+four s i o b k x = simp append-assoc
 
 four-length : (s i o x : List Value) (n : Counts) → length s ≡ n .L → length i ≡ n .I → length o ≡ n .O → length x ≡ n .L
     → length (ended s 32 ++ (ended i 32 ++ (ended o 32 ++ ended x 10))) ≡ lineWidth n
@@ -53,18 +53,18 @@ four-length s i o x n es ei eo ex =
 pub line-length : (c : Circuit) (n : Counts) (s i : List Value) → length s ≡ n .L → length i ≡ n .I → length (c .outputs) ≡ n .O
     → length (c .latches) ≡ n .L → length (stepLine (stepOf c s i)) ≡ lineWidth n
 line-length c n s i es ei eo el =
-    ap length (sym (four s i (outputsOf c s i) (nextOf c s i)))
+    ap length (sym (four s i (outputsOf c s i) (badsOf c s i) (constraintsOf c s i) (nextOf c s i)))
     ∙ four-length s i (outputsOf c s i) (nextOf c s i) n es ei (length-map (c .outputs) _ ∙ eo) (next-length c s i ∙ el)
 
 -- the inputs beside the state
-module _ {n : Counts} {inputs latches outputs gates : List ℕ} (r : Runs n inputs latches outputs gates) (s : List Value)
+module _ {n : Counts} {tb : Tables} (r : Runs n tb) (s : List Value)
     (ins : List ℕ) {t t1 : List ℕ} (ls : length s ≡ n .L) (rests : Rests n s t) (room : Scratch n t) (li : length ins ≡ n .I)
     (e1 : t1 ≡ put t 1 (words (map valueOf ins))) where
   abbrev i : List Value
   i = map valueOf ins
 
   abbrev c : Circuit
-  c = circuitIn n inputs latches outputs gates
+  c = circuitOf n tb
 
   ins-length : length i ≡ n .I
   ins-length = length-map ins valueOf ∙ li
@@ -72,12 +72,12 @@ module _ {n : Counts} {inputs latches outputs gates : List ℕ} (r : Runs n inpu
   pub line-stands : Stands n s i t1
   line-stands = stands-loaded n s i t t1 rests ls ins-length (omega (arith, r .fits .sum)) e1
 
-  pub line-ready : length t1 ≡ length t → Ready n latches outputs gates t1
+  pub line-ready : length t1 ≡ length t → Ready n (tb .latches) (tb .outputs) (tb .gates) t1
   line-ready same = record {
-    inputs = inputs;
+    others = tb;
     state = s;
     ins = i;
-    runs = r;
+    runs = record { fits = r .fits; counts = r .counts; formed = r .formed; order = r .order };
     scratch = omega (arith, room);
     stands = line-stands;
   }
@@ -136,5 +136,5 @@ module _ {n : Counts} {inputs latches outputs gates : List ℕ} (r : Runs n inpu
     pub line-wrote : Wrote n c s i t2 out at o4
     line-wrote = record {
       rests = p .rests;
-      line = all-filled put4 refl ∙ ap (put out at) (four s i o x);
+      line = all-filled put4 refl ∙ ap (put out at) (four s i o (badsOf c s i) (constraintsOf c s i) x);
     }

@@ -8,14 +8,14 @@ use Rattle.plan.specs.declared.Counts.{Counts}
 use Rattle.plan.specs.declared.Refusal.the-variants.{BadVector}
 use Rattle.plan.specs.declared.Traced.{Traced}
 use Rattle.plan.specs.declared.Traced.the-variants.{Lines, Refused}
-use Rattle.plan.specs.Circuit.{Circuit}
+use Rattle.plan.specs.Circuit.{Circuit, Tables}
 use Rattle.plan.specs.Step.{Value, codeOf, valueOf, nextOf, stepOf, run}
 use Rattle.plan.specs.Outcome.{put}
 use Rattle.plan.specs.Programs.{linesIn, allVectors, stepLine, stepLines}
 use Rattle.plan.specs.Whole.{lineWidth, stateAfter}
 use Rattle.tables.specs.Held.{Scratch}
 use Rattle.values.specs.Words.{valuesAt}
-use Rattle.sweep.specs.Running.{Runs, Rests}
+use Rattle.sweep.specs.Running.{these, Runs, Rests}
 
 -- the codes of words, and the byte that ends a part of a line
 abbrev pub part : List ℕ → ℕ → ℕ → ℕ → List ℕ
@@ -23,9 +23,9 @@ part t first count last = map codeOf (valuesAt t first count) ++ (last ∷ [])
 
 -- tables that hold an accepted circuit in binary order, and scratch that holds a state between two steps
 pub record Resting (n : Counts) (latches outputs gates scratch : List ℕ) : Type 0 where
-  pub inputs : List ℕ
+  pub others : Tables
   pub state : List Value
-  pub runs : Runs n inputs latches outputs gates
+  pub runs : Runs n (these others latches outputs gates)
   pub scratch-long : Scratch n scratch
   pub state-length : length state ≡ n .L
   pub rests : Rests n state scratch

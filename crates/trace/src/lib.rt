@@ -2,16 +2,16 @@
 ghost use mathlib.Core.Path.{_≡_};
 ghost use mathlib.Core.Bool.{_&&_};
 ghost use mathlib.Core.List.{List, map};
-ghost use Prim.Native.Nat.{ℕ, _+_, _/_, _≤_, _<_, min};
+ghost use Prim.Native.Nat.{_+_, _/_, _≤_, _<_, min};
 ghost use lib.Dec.{eqb};
 ghost use lib.ListN.{length};
 ghost use Rattle.plan.specs.Literals.{most};
+ghost use Rattle.plan.specs.Circuit.{Tables, circuitOf, seven};
 ghost use Rattle.plan.specs.Step.{Value, valueOf};
 ghost use Rattle.plan.specs.Outcome.{Says, put, allCodes};
 ghost use Rattle.plan.specs.Programs.{linesIn, allVectors};
 ghost use Rattle.plan.specs.Whole.{lineWidth, trace};
-ghost use Rattle.tables.specs.Held.{circuitIn};
-ghost use Rattle.sweep.specs.Running.{Runs, Rests};
+ghost use Rattle.sweep.specs.Running.{these, Runs, Rests};
 ghost use Rattle.step.specs.Asked.{Room};
 ghost use Rattle.stimulus.specs.Scan.{ended};
 ghost use Rattle.trace.specs.Tracing.{part, Resting, Wrote, Listed, firstOnes, Ran, Left, judged};
@@ -57,9 +57,10 @@ fn write_line(
     requires { ⌜ length (now ins) ≡ n .I ⌝ }
     requires { ⌜ at + lineWidth n ≤ length (now out) ⌝ }
     ensures { λ r. ⌜ r ≡ at + lineWidth n ⌝ }
-    ensures { λ _. ⌜ ((inputs : List ℕ) (s : List Value) → Runs n inputs (now (latches .entry)) (now (outputs .entry)) (now (gates .entry))
+    ensures { λ _. ⌜ ((x : Tables) (s : List Value)
+        → Runs n (these x (now (latches .entry)) (now (outputs .entry)) (now (gates .entry)))
         → length s ≡ n .L → Rests n s (now (scratch .entry))
-        → Wrote n (circuitIn n inputs (now (latches .entry)) (now (outputs .entry)) (now (gates .entry))) s (map valueOf (now (ins .entry)))
+        → Wrote n (circuitOf n (these x (now (latches .entry)) (now (outputs .entry)) (now (gates .entry)))) s (map valueOf (now (ins .entry)))
         (now (scratch .exit)) (now (out .entry)) at (now (out .exit))) ⌝ }
 {
     let inputs_at = put_part(scratch, 1 + n.I, n.L, b' ', out, at);
@@ -84,9 +85,10 @@ fn trace_lines(
 )
     requires { ⌜ Resting n (now latches) (now outputs) (now gates) (now scratch) ⌝ }
     requires { ⌜ Listed n number (now vectors) (now out) ⌝ }
-    ensures { λ _. ⌜ ((inputs : List ℕ) (s : List Value) → Runs n inputs (now (latches .entry)) (now (outputs .entry)) (now (gates .entry))
+    ensures { λ _. ⌜ ((x : Tables) (s : List Value)
+        → Runs n (these x (now (latches .entry)) (now (outputs .entry)) (now (gates .entry)))
         → length s ≡ n .L → Rests n s (now (scratch .entry))
-        → Ran n (circuitIn n inputs (now (latches .entry)) (now (outputs .entry)) (now (gates .entry))) s
+        → Ran n (circuitOf n (these x (now (latches .entry)) (now (outputs .entry)) (now (gates .entry)))) s
         (firstOnes number (now (vectors .entry))) (now (scratch .exit)) (now (out .entry)) (now (out .exit))) ⌝ }
 {
     let mut at = 0;
@@ -125,8 +127,8 @@ fn trace_from(
     requires { ⌜ Room n (now latches) (now outputs) (now gates) (now scratch) ⌝ }
     requires { ⌜ length (now state) ≡ n .L ⌝ }
     requires { ⌜ Listed n number (now vectors) (now out) ⌝ }
-    ensures { λ _. ⌜ ((inputs : List ℕ) → Runs n inputs (now (latches .entry)) (now (outputs .entry)) (now (gates .entry))
-        → Left (circuitIn n inputs (now (latches .entry)) (now (outputs .entry)) (now (gates .entry))) (now (state .entry))
+    ensures { λ _. ⌜ ((x : Tables) → Runs n (these x (now (latches .entry)) (now (outputs .entry)) (now (gates .entry)))
+        → Left (circuitOf n (these x (now (latches .entry)) (now (outputs .entry)) (now (gates .entry)))) (now (state .entry))
         (firstOnes number (now (vectors .entry))) (now (state .exit)) (now (out .entry)) (now (out .exit))) ⌝ }
 {
     // the constant
@@ -170,16 +172,39 @@ pub fn trace(
     latches: &[u32],
     outputs: &[u32],
     gates: &[u32],
+    resets: &[u32],
+    bads: &[u32],
+    constraints: &[u32],
     scratch: &mut [u32],
     state: &mut [u8],
     vectors: &[u8],
     out: &mut [u8],
 ) -> Traced
     ensures { λ r. ⌜ Says trace
-        (record { circuit = (record { counts = n; tables = (record { inputs = now (inputs .entry); latches = now (latches .entry); outputs = now (outputs .entry); gates = now (gates .entry) }); scratch = now (scratch .entry) }); state = now (state .entry); vectors = now (vectors .entry); out = now (out .entry) })
+        (record {
+          circuit = (record {
+            counts = n;
+            tables = seven (now (inputs .entry)) (now (latches .entry)) (now (outputs .entry)) (now (gates .entry)) (now (resets .entry))
+                (now (bads .entry)) (now (constraints .entry));
+            scratch = now (scratch .entry);
+          });
+          state = now (state .entry);
+          vectors = now (vectors .entry);
+          out = now (out .entry);
+        })
         (record { answer = r; scratch = now (scratch .exit); state = now (state .exit); out = now (out .exit) }) ⌝ }
 {
-    match judge_in_order(n, inputs, latches, outputs, gates, scratch) {
+    match judge_in_order(
+        n,
+        inputs,
+        latches,
+        outputs,
+        gates,
+        resets,
+        bads,
+        constraints,
+        scratch,
+    ) {
         Checked::Refused(refusal) => Traced::Refused(refusal),
         Checked::Good => match judge(n, state, vectors) {
             Traced::Refused(refusal) => {

@@ -4,12 +4,12 @@ use mathlib.Core.Path.{_≡_, refl, sym, ap, ap₂, _∙_}
 use mathlib.Core.Bool.{Bool, true, false, _||_}
 use mathlib.Core.List.{List, [], _∷_, _++_, map, append-nil}
 use native.Mathlib.Omega.{arith}
-use lib.ListN.{length, getD, take, replicate, drop-of-length-le}
+use lib.ListN.{length, getD, take, drop-of-length-le}
 use lib.Seq.{take-length, drop-cons}
-use Rattle.plan.specs.Step.{Value, v0, v1, vx, codeOf, valueOf, is1, any1}
+use Rattle.plan.specs.Step.{Value, v0, v1, vx, codeOf, valueOf, resetValue, is1, any1}
 use Rattle.plan.specs.Outcome.{put}
 use Rattle.theorems.proofs.Tables.{firsts, length-firsts, words-take}
-use Rattle.values.specs.Words.{word, told, Coded, words, valuesAt}
+use Rattle.values.specs.Words.{word, told, Coded, words, valuesAt, startCodes}
 use Rattle.values.proofs.Filling.{map-firsts, part-firsts}
 
 pub told-word : (a : Value) → told (word a) ≡ a
@@ -32,14 +32,26 @@ told-x (suc zero) h k = absurd (h refl)
 told-x (suc (suc zero)) h k = absurd (k refl)
 told-x (suc (suc (suc w))) h k = refl
 
--- the words that `set_zeros` puts
-pub zeros : (n : ℕ) → firsts (λ i. word v0) n ≡ words (replicate n v0)
-zeros zero = refl
-zeros (suc n) = ap (λ (l : List ℕ). l ++ (word v0 ∷ [])) (zeros n) ∙ one-more n
+-- the words that `load_resets` puts, and the codes that `first_state` fills a state with
+pub resets-loaded : (resets : List ℕ) (n : ℕ) → n ≤ length resets
+    → firsts (λ i. word (resetValue (getD resets i 0))) n ≡ words (map resetValue (take n resets))
+resets-loaded resets n h =
+    sym (ap (λ (l : List ℕ). words (map resetValue l)) (words-take resets n h)
+    ∙ (ap words (map-firsts resetValue (λ i. getD resets i 0) n) ∙ map-firsts word (λ i. resetValue (getD resets i 0)) n))
+
+-- the codes of a first state fill it; where a table holds all resets, they are those of its values
+pub state-filled : (resets state : List ℕ) → put state 0 (startCodes resets (length state)) ≡ startCodes resets (length state)
+state-filled resets state =
+    let x = startCodes resets (length state) in
+    ap (λ (l : List ℕ). x ++ l) (drop-of-length-le state {i = 0 + length x} (omega (arith, length-firsts at (length state)))) ∙ append-nil x
   where
-    one-more : (n : ℕ) → words (replicate n v0) ++ (word v0 ∷ []) ≡ words (replicate (suc n) v0)
-    one-more zero = refl
-    one-more (suc n) = ap (λ (l : List ℕ). word v0 ∷ l) (one-more n)
+    at : ℕ → ℕ
+    at i = codeOf (resetValue (getD resets i 0))
+
+pub start-values : (resets : List ℕ) (n : ℕ) → n ≤ length resets → startCodes resets n ≡ map codeOf (map resetValue (take n resets))
+start-values resets n h =
+    sym (ap (λ (l : List ℕ). map codeOf (map resetValue l)) (words-take resets n h)
+    ∙ (ap (map codeOf) (map-firsts resetValue (λ i. getD resets i 0) n) ∙ map-firsts codeOf (λ i. resetValue (getD resets i 0)) n))
 
 -- the words that `load` puts, and the codes that `store` fills a vector with
 pub loaded : (codes : List ℕ) → firsts (λ i. word (valueOf (getD codes i 0))) (length codes) ≡ words (map valueOf codes)
@@ -63,10 +75,10 @@ stored t first n codes e h =
     x = firsts at n
 
 -- the words that are left to look at: the next one, and the rest
-is-one : (w : ℕ) → w ≡ word v1 → is1 (told w) ≡ true
+pub is-one : (w : ℕ) → w ≡ word v1 → is1 (told w) ≡ true
 is-one w e = ap (λ (k : ℕ). is1 (told k)) e
 
-no-one : (w : ℕ) → (w ≡ word v1 → ⊥) → is1 (told w) ≡ false
+pub no-one : (w : ℕ) → (w ≡ word v1 → ⊥) → is1 (told w) ≡ false
 no-one zero h = refl
 no-one (suc zero) h = refl
 no-one (suc (suc zero)) h = absurd (h refl)

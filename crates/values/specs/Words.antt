@@ -2,8 +2,9 @@
 use Prim.Native.Nat.{ℕ, zero, suc, _+_, _*_}
 use mathlib.Core.Path.{_≡_}
 use mathlib.Core.List.{List, map}
-use lib.ListN.{take, drop}
-use Rattle.plan.specs.Step.{Value, v0, v1, vx}
+use lib.ListN.{getD, take, drop}
+use Rattle.plan.specs.Step.{Value, v0, v1, vx, codeOf, resetValue}
+use Rattle.theorems.proofs.Tables.{firsts}
 
 abbrev pub may0 : Value → ℕ
 may0 v0 = 1
@@ -34,3 +35,7 @@ words l = map word l
 -- the values of n words from a position on
 abbrev pub valuesAt : List ℕ → ℕ → ℕ → List Value
 valuesAt t from n = map told (take n (drop from t))
+
+-- the codes of a run's first state, latch by latch; a reset that no table holds is 0
+abbrev pub startCodes : List ℕ → ℕ → List ℕ
+startCodes resets n = firsts (λ i. codeOf (resetValue (getD resets i 0))) n

@@ -3,10 +3,10 @@
 ghost use mathlib.Core.Path.{_≡_};
 ghost use mathlib.Core.List.{map};
 ghost use Prim.Native.Nat.{_+_, _≤_};
-ghost use lib.ListN.{length, replicate};
-ghost use Rattle.plan.specs.Step.{v0, codeOf, valueOf, any1};
+ghost use lib.ListN.{length, getD, take};
+ghost use Rattle.plan.specs.Step.{codeOf, valueOf, resetValue, any1};
 ghost use Rattle.plan.specs.Outcome.{put};
-ghost use Rattle.values.specs.Words.{word, told, words, valuesAt};
+ghost use Rattle.values.specs.Words.{word, told, words, valuesAt, startCodes};
 
 // The bits "may be 0" and "may be 1": a value that may be both is x.
 pub const MAY0: u32 = 1;
@@ -38,14 +38,49 @@ fn code_of(word: u32) -> u8
     b'x'
 }
 
-// The value 0 goes into the first n words.
-pub fn set_zeros(n: usize, t: &mut [u32])
-    requires { ⌜ n ≤ length (now t) ⌝ }
-    ensures { λ _. ⌜ now (t .exit) ≡ put (now (t .entry)) 0 (words (replicate n v0)) ⌝ }
+// The word of a latch's value at the start, by its reset: its own literal is x.
+fn word_of_reset(reset: u32) -> u32
+    ensures { λ r. ⌜ r ≡ word (resetValue reset) ⌝ }
+{
+    if reset == 0 {
+        return MAY0;
+    }
+    if reset == 1 {
+        return MAY1;
+    }
+    MAY1 | MAY0
+}
+
+// The values of n resets go into words from `first` on.
+pub fn load_resets(resets: &[u32], n: usize, first: usize, t: &mut [u32])
+    requires { ⌜ n ≤ length (now resets) ⌝ }
+    requires { ⌜ first + n ≤ length (now t) ⌝ }
+    ensures { λ _. ⌜ now (t .exit) ≡ put (now (t .entry)) first (words (map resetValue (take n (now (resets .entry))))) ⌝ }
 {
     let mut i = 0;
     while i < n {
-        t[i] = MAY0;
+        t[first + i] = word_of_reset(resets[i]);
+        i += 1;
+    }
+}
+
+// The reset of latch i, 0 past the end.
+fn reset_at(resets: &[u32], i: usize) -> u32
+    ensures { λ r. ⌜ r ≡ getD (now (resets .entry)) i 0 ⌝ }
+{
+    if i < resets.len() {
+        return resets[i];
+    }
+    0
+}
+
+// The values of as many resets fill a state: the first one of a run.
+pub fn first_state(resets: &[u32], state: &mut [u8])
+    ensures { λ _. ⌜ now (state .exit) ≡ startCodes (now (resets .entry)) (length (now (state .entry))) ⌝ }
+{
+    let mut i = 0;
+    while i < state.len() {
+        state[i] = code_of(word_of_reset(reset_at(resets, i)));
         i += 1;
     }
 }

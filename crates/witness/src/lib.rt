@@ -1,51 +1,75 @@
-// The witness question: a list of input vectors is stepped from the state that is all "0" (the paper, stepping).
+// The witness question: a list of input vectors is stepped from the state of the resets (the paper, stepping).
 ghost use mathlib.Core.Path.{_≡_};
+ghost use mathlib.Core.Bool.{_||_};
 ghost use mathlib.Core.List.{List};
-ghost use Prim.Native.Nat.{ℕ, _*_};
-ghost use lib.ListN.{length};
-ghost use Rattle.plan.specs.Step.{witnessed};
+ghost use Prim.Native.Nat.{ℕ, _+_, _*_};
+ghost use lib.ListN.{length, take};
+ghost use Rattle.plan.specs.Circuit.{circuitOf, seven};
+ghost use Rattle.plan.specs.Step.{Value, any1};
 ghost use Rattle.plan.specs.Outcome.{Says, witness};
-ghost use Rattle.tables.specs.Held.{circuitIn};
-ghost use Rattle.sweep.specs.Running.{Runs};
-ghost use Rattle.step.specs.Asked.{Room};
+ghost use Rattle.values.specs.Words.{valuesAt};
+ghost use Rattle.sweep.specs.Lookup.{seen};
+ghost use Rattle.sweep.specs.Running.{Runs, Rests, litsOf};
+ghost use Rattle.witness.specs.Listing.{Shown, Starts, showsFrom};
 use codes::whole_list;
 use given::check_in_order;
 use plan::Checked;
 use plan::Counts;
 use plan::Refusal;
 use plan::Verdict;
+use sweep::all_lits;
+use sweep::any_lit;
+use sweep::start_values;
 use sweep::step_values;
 use tables::clear;
 use values::any_one;
 use values::load;
-use values::set_zeros;
 
-// Whether a list, whose bytes are good, shows 1 on some output. Between two steps the state stays in scratch, and the first 1 ends it. Of
-// scratch it asks the length alone: every word is written before it is read.
+// Whether one of the outputs or of the bad states is 1 after a step.
+fn shown(n: Counts, bads: &[u32], t: &[u32]) -> bool
+    requires { ⌜ Shown n (now bads) (now t) ⌝ }
+    ensures { λ r. ⌜ r ≡ (any1 (valuesAt (now (t .entry)) (n .M + 1) (n .O))
+        || any1 (seen (litsOf n) (now (t .entry)) (take (n .B) (now (bads .entry))))) ⌝ }
+{
+    let out = n.M + 1;
+    if any_one(t, out, n.O) {
+        return true;
+    }
+    any_lit(bads, n.B, out + n.O, t)
+}
+
+// Whether a list, whose bytes are good, shows 1 on some output or bad state from the state that scratch holds, every constraint being 1
+// there and at all steps before. Between two steps the state stays in scratch; the first 1 ends it, and the first constraint that is not.
 fn shows_one(
     n: Counts,
     latches: &[u32],
     outputs: &[u32],
     gates: &[u32],
+    bads: &[u32],
+    constraints: &[u32],
     scratch: &mut [u32],
     number: usize,
     bytes: &[u8],
 ) -> bool
-    requires { ⌜ Room n (now latches) (now outputs) (now gates) (now scratch) ⌝ }
+    requires { ⌜ Starts n (now latches) (now outputs) (now gates) (now bads) (now constraints) (now scratch) ⌝ }
     requires { ⌜ length (now bytes) ≡ number * n .I ⌝ }
-    ensures { λ r. ⌜ ((inputs : List ℕ) → Runs n inputs (now (latches .entry)) (now (outputs .entry)) (now (gates .entry))
-        → r ≡ witnessed (circuitIn n inputs (now (latches .entry)) (now (outputs .entry)) (now (gates .entry))) number
-        (now (bytes .entry))) ⌝ }
+    ensures { λ r. ⌜ ((inputs resets : List ℕ) (s : List Value)
+        → Runs n (seven inputs (now (latches .entry)) (now (outputs .entry)) (now (gates .entry)) resets (now (bads .entry)) (now (constraints .entry)))
+        → length s ≡ n .L → Rests n s (now (scratch .entry))
+        → r ≡ showsFrom (circuitOf n (seven inputs (now (latches .entry)) (now (outputs .entry)) (now (gates .entry)) resets (now (bads .entry))
+        (now (constraints .entry)))) s number (now (bytes .entry))) ⌝ }
 {
-    // the constant and the first state
-    set_zeros(1 + n.I + n.L, scratch);
+    let lits = n.M + 1 + n.O;
     let mut at = 0;
     let mut k = 0;
     while k < number {
         let end = at + n.I;
         load(&bytes[at..end], 1, scratch);
         step_values(n, latches, outputs, gates, scratch);
-        if any_one(scratch, n.M + 1, n.O) {
+        if !all_lits(constraints, n.C, lits, scratch) {
+            return false;
+        }
+        if shown(n, bads, scratch) {
             return true;
         }
         at = end;
@@ -54,14 +78,18 @@ fn shows_one(
     false
 }
 
-// The witness question: whether stepping a list of `number` vectors from the state that is all "0" gives 1 on some output at some step.
-// The circuit is checked once, and the whole list judged before the first step. Scratch is zero afterwards.
+// The witness question: whether stepping a list of `number` vectors from the resets gives 1 on some output or bad state at some step,
+// every constraint being 1 there and at all steps before. The circuit is checked once, and the whole list judged before the first step.
+// Scratch is zero afterwards.
 pub fn witness(
     n: Counts,
     inputs: &[u32],
     latches: &[u32],
     outputs: &[u32],
     gates: &[u32],
+    resets: &[u32],
+    bads: &[u32],
+    constraints: &[u32],
     scratch: &mut [u32],
     number: usize,
     bytes: &[u8],
@@ -70,12 +98,8 @@ pub fn witness(
         (record {
           circuit = (record {
             counts = n;
-            tables = (record {
-              inputs = now (inputs .entry);
-              latches = now (latches .entry);
-              outputs = now (outputs .entry);
-              gates = now (gates .entry);
-            });
+            tables = seven (now (inputs .entry)) (now (latches .entry)) (now (outputs .entry)) (now (gates .entry)) (now (resets .entry))
+                (now (bads .entry)) (now (constraints .entry));
             scratch = now (scratch .entry);
           });
           number = number;
@@ -83,13 +107,34 @@ pub fn witness(
         })
         (record { answer = r; scratch = now (scratch .exit) }) ⌝ }
 {
-    match check_in_order(n, inputs, latches, outputs, gates, scratch) {
+    match check_in_order(
+        n,
+        inputs,
+        latches,
+        outputs,
+        gates,
+        resets,
+        bads,
+        constraints,
+        scratch,
+    ) {
         Checked::Refused(refusal) => Verdict::Refused(refusal),
         Checked::Good => {
             if !whole_list(bytes, number, n.I) {
                 return Verdict::Refused(Refusal::BadVector(2));
             }
-            let shown = shows_one(n, latches, outputs, gates, scratch, number, bytes);
+            start_values(n, resets, scratch);
+            let shown = shows_one(
+                n,
+                latches,
+                outputs,
+                gates,
+                bads,
+                constraints,
+                scratch,
+                number,
+                bytes,
+            );
             clear(scratch);
             if shown {
                 return Verdict::Yes;

@@ -2,6 +2,7 @@ use Prim.Native.Nat.{ℕ}
 use mathlib.Core.Path.{_≡_, ap, _∙_}
 use lib.ListN.{length, replicate}
 use Rattle.plan.specs.declared.Checked.the-variants.{Good}
+use Rattle.plan.specs.Circuit.{seven}
 use Rattle.plan.specs.Outcome.{StepEntry, checkInOrder, stepStage}
 use Rattle.tables.proofs.Told.{some-table, no-table}
 use Rattle.step.proofs.Checks.{refused-by, past-check, runs, room}
@@ -17,7 +18,7 @@ entry s =
     record {
       circuit = record {
         counts = a .n;
-        tables = record { inputs = a .inputs .now; latches = a .latches .now; outputs = a .outputs .now; gates = a .gates .now };
+        tables = seven (a .inputs .now) (a .latches .now) (a .outputs .now) (a .gates .now) (a .resets .now) (a .bads .now) (a .constraints .now);
         scratch = a .scratch .now;
       };
       state = a .state .now;
@@ -27,7 +28,7 @@ entry s =
 
 -- back to the start, where the tables are good, and what was said of them there
 abbrev start : tie.After-enum-told → tie.Start
-start d = d .before .before .before .before .before .before .before .before .before .before .before .before .before .before
+start d = d .before .before .before .before .before .before .before .before .before .before .before .before .before .before .before .before .before
 
 abbrev checked : tie.After-enum-told → tie.After-judge-in-order
 checked d = d .before .before .before .before
@@ -39,7 +40,7 @@ says : (d : tie.After-enum-told) → checked d .judge-in-order .result ≡ check
 says d = checked d .judge-in-order .ensures .0
 
 -- scratch stays as long as it was
-same : (d : tie.After-enum-told) → length (checked d .judge-in-order .last .1 .1 .1 .1 .1 .0) ≡ length (start d .args .scratch .now)
+same : (d : tie.After-enum-told) → length (checked d .judge-in-order .last .1 .1 .1 .1 .1 .1 .1 .1 .0) ≡ length (start d .args .scratch .now)
 same d = d .before .before .before .scratch .given
 
 judge-in-order-requires : tie.Need-judge-in-order-requires
@@ -90,7 +91,7 @@ same-length-3 c = search needs
 returns-2 : tie.Need-returns-2
 returns-2 c =
     let x = c .before .before .before .before .before in
-    let e = entry (x .before .before .before .before .before .before .before .before .before .before) in
+    let e = entry (x .before .before .before .before .before .before .before .before .before .before .before .before .before) in
     let refused = c .before .refusal .given .1 in
     refused-step e _ (x .judge-in-order .ensures .1 _ refused) _
     (refused-by (e .circuit) (stepStage e) (x .judge-in-order .ensures .0) _ refused)
@@ -113,7 +114,7 @@ returns-3 c =
     let zero = c .before .before .clear2 .ensures ∙ ap (λ (k : ℕ). replicate k 0) (s .scratch3 .given ∙ same d) in
     done-step e _ zero (past-check (e .circuit) (stepStage e) (says d) (told d))
     (no-table _ _ (f .if1 .left) (f .before .bad-vector .ensures)) _ _
-    (s .before .step-vectors .ensures (e .circuit .tables .inputs) (runs (e .circuit) (stepStage e) (says d) (told d)))
+    (s .before .step-vectors .ensures (e .circuit .tables) (runs (e .circuit) (stepStage e) (says d) (told d)))
 
 pub step-spec : {M : Type 1} → statement M
 step-spec =

@@ -3,8 +3,8 @@ use mathlib.Core.List.{map}
 use native.Mathlib.Omega.{arith}
 use lib.ListN.{length, length-set}
 use Rattle.plan.specs.Step.{valueOf}
-use Rattle.tables.specs.Held.{circuitIn}
-use Rattle.sweep.specs.Running.{Stands, Ready}
+use Rattle.plan.specs.Circuit.{circuitOf}
+use Rattle.sweep.specs.Running.{these, Stands, Ready}
 use Rattle.step.proofs.Buffers.{stands, ready, stored}
 use borrow.Author.Needs.{needs}
 use Rattle.step.proofs.step_vectors.Statement.{statement}
@@ -99,15 +99,15 @@ same-length-3 : tie.Need-same-length-3
 same-length-3 c = search needs
 
 returns : tie.Need-returns
-returns c = λ inputs r.
+returns c = λ others r.
     let f = c .before .before .before .before .before .before .before in
     let d = f .before .before .before .before .before .before in
     let b = second d in
     let a = first b in
     let n = start a .args in
     stored (start a .pre .0) (start a .pre .1) (a .before .load .ensures) (a .scratch .given) (b .before .load2 .ensures)
-    (b .scratch2 .given) (circuitIn (n .n) inputs (n .latches .now) (n .outputs .now) (n .gates .now)) _ _ _
-    (d .before .step-values .ensures inputs _ _ r (stand b)) (f .before .store .ensures) (c .before .before .store2 .ensures)
+    (b .scratch2 .given) (circuitOf (n .n) (these others (n .latches .now) (n .outputs .now) (n .gates .now))) _ _ _
+    (d .before .step-values .ensures others _ _ r (stand b)) (f .before .store .ensures) (c .before .before .store2 .ensures)
 
 pub step-vectors-spec : {M : Type 1} → statement M
 step-vectors-spec =

@@ -61,7 +61,7 @@ same-length : tie.Need-same-length
 same-length c = search needs
 
 returns : tie.Need-returns
-returns c = λ inputs s i r stands.
+returns c = λ others s i r stands.
     let d = c .before .before .before .before .before in
     let b = second d in
     let a = first b in

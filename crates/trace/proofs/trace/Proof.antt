@@ -3,6 +3,7 @@ use mathlib.Core.Path.{_≡_, ap, _∙_}
 use native.Mathlib.Omega.{arith}
 use lib.ListN.{length, replicate}
 use Rattle.plan.specs.declared.Checked.the-variants.{Good}
+use Rattle.plan.specs.Circuit.{seven}
 use Rattle.plan.specs.Outcome.{checkInOrder}
 use Rattle.plan.specs.Whole.{TraceEntry, traceStage}
 use Rattle.step.proofs.Checks.{refused-by, past-check, runs, room}
@@ -18,7 +19,7 @@ entry s =
     record {
       circuit = record {
         counts = a .n;
-        tables = record { inputs = a .inputs .now; latches = a .latches .now; outputs = a .outputs .now; gates = a .gates .now };
+        tables = seven (a .inputs .now) (a .latches .now) (a .outputs .now) (a .gates .now) (a .resets .now) (a .bads .now) (a .constraints .now);
         scratch = a .scratch .now;
       };
       state = a .state .now;
@@ -31,7 +32,7 @@ abbrev checking : tie.After-judge-arg → tie.After-judge-in-order
 checking d = d .before .before .before .before .before
 
 abbrev start : tie.After-judge-in-order → tie.Start
-start d = d .before .before .before .before .before .before .before .before .before .before
+start d = d .before .before .before .before .before .before .before .before .before .before .before .before .before
 
 told : (d : tie.After-judge-arg) → checking d .judge-in-order .result ≡ Good
 told d = d .before .enum-told .given .1
@@ -41,7 +42,7 @@ says d = checking d .judge-in-order .ensures .0
 
 -- scratch stays as long as it was
 same : (d : tie.After-judge-arg)
-    → length (checking d .judge-in-order .last .1 .1 .1 .1 .1 .0) ≡ length (start (checking d) .args .scratch .now)
+    → length (checking d .judge-in-order .last .1 .1 .1 .1 .1 .1 .1 .1 .0) ≡ length (start (checking d) .args .scratch .now)
 same d = d .before .before .before .before .scratch .given
 
 -- from the end back to where the vectors were judged
@@ -134,7 +135,7 @@ returns-3 c =
     let e = entry (start (checking d)) in
     let p = c .before .before .before .before .before .before .before .before .before in
     let zero = c .before .before .clear2 .ensures ∙ ap (λ (k : ℕ). replicate k 0) (p .scratch3 .given ∙ same d) in
-    let left = p .before .trace-from .ensures (e .circuit .tables .inputs) (runs (e .circuit) (traceStage e) (says d) (told d)) in
+    let left = p .before .trace-from .ensures (e .circuit .tables) (runs (e .circuit) (traceStage e) (says d) (told d)) in
     done-trace e _ (judging f .judge .ensures) _ zero (past-check (e .circuit) (traceStage e) (says d) (told d)) _
     (f .before .before .before .before .before .lines .given .1) _ (f .before .before .before .fitting .ensures) _ _ left
 

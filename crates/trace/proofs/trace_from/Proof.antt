@@ -66,7 +66,7 @@ same-length-3 : tie.Need-same-length-3
 same-length-3 c = search needs
 
 returns : tie.Need-returns
-returns c = λ inputs r.
+returns c = λ others r.
     let d = c .before .before .before in
     let l = loaded (storing d) in
     let q = start l in
@@ -75,7 +75,7 @@ returns c = λ inputs r.
     let long = q .pre .1 .0 in
     let e1 = l .before .load .ensures in
     let lines = d .before .before .before .before .before .before .before .trace-lines .ensures in
-    state-left b state long e1 _ _ _ _ _ _ (lines inputs _ r (state-long b state long e1) (state-rests b state long e1))
+    state-left b state long e1 _ _ _ _ _ _ (lines others _ r (state-long b state long e1) (state-rests b state long e1))
     (c .before .before .store .ensures)
 
 pub trace-from-spec : {M : Type 1} → statement M

@@ -7,8 +7,8 @@ use lib.ListN.{length}
 use Rattle.plan.specs.Step.{Value}
 use Rattle.plan.specs.Whole.{lineWidth}
 use Rattle.theorems.proofs.Tables.{next-row}
-use Rattle.tables.specs.Held.{circuitIn}
-use Rattle.sweep.specs.Running.{Runs, Rests}
+use Rattle.plan.specs.Circuit.{Tables, circuitOf}
+use Rattle.sweep.specs.Running.{these, Runs, Rests}
 use Rattle.trace.specs.Tracing.{Resting}
 use Rattle.trace.proofs.Running.{Lining, lining-first, lining-next, line-fits, line-inside, ins-long}
 use Rattle.trace.proofs.Running.{Going, going-first, going-at, going-on, all-gone}
@@ -19,8 +19,8 @@ use Rattle.trace.proofs.trace_lines.Tie as tie
 abbrev Inv-loop : tie.InvT-loop
 Inv-loop n latches outputs gates scratch₀ number vectors out₀ at₀ to₀ k₀ scratch out at to k =
     Lining n number vectors k at × (to ≡ lineWidth n * k) × (length scratch ≡ length scratch₀) × (length out ≡ length out₀)
-    × ((inputs : List ℕ) (s : List Value) → Runs n inputs latches outputs gates → length s ≡ n .L → Rests n s scratch₀
-    → Going n (circuitIn n inputs latches outputs gates) s number vectors scratch out₀ out k at to)
+    × ((x : Tables) (s : List Value) → Runs n (these x latches outputs gates) → length s ≡ n .L → Rests n s scratch₀
+    → Going n (circuitOf n (these x latches outputs gates)) s number vectors scratch out₀ out k at to)
 
 abbrev μ-loop : tie.MeasureT-loop
 μ-loop n latches outputs gates scratch₀ number vectors out₀ at₀ to₀ k₀ scratch out at to k = number - k
@@ -39,9 +39,9 @@ resting : (c : tie.In-loop Inv-loop μ-loop) → let a = start c .args in
     Resting (a .n) (a .latches .now) (a .outputs .now) (a .gates .now) (c .before .loop .scratch)
 resting c =
     let b = start c .pre .0 in
-    let g = c .before .loop .inv .4 (b .inputs) (b .state) (b .runs) (b .state-length) (b .rests) in
+    let g = c .before .loop .inv .4 (b .others) (b .state) (b .runs) (b .state-length) (b .rests) in
     record {
-      inputs = b .inputs;
+      others = b .others;
       state = g .state;
       runs = b .runs;
       scratch-long = omega (arith, b .scratch-long, c .before .loop .inv .2);
@@ -57,7 +57,7 @@ loop-holds c =
       sym (mul-zero (lineWidth (a .n))),
       refl,
       refl,
-      λ inputs x r e rests. going-first (a .n) _ x (a .number) (a .vectors .now) (a .scratch .now) (a .out .now) e rests,
+      λ others x r e rests. going-first (a .n) _ x (a .number) (a .vectors .now) (a .scratch .now) (a .out .now) e rests,
     )
 
 add-end : tie.Need-add-end Inv-loop μ-loop
@@ -99,10 +99,10 @@ loop-again c =
       write .ensures .0 ∙ next-row (lineWidth (start i .args .n)) (w .k) (w .to) (w .inv .1),
       c .before .before .before .scratch .given ∙ w .inv .2,
       c .before .out .given ∙ w .inv .3,
-      λ inputs s r e rests.
-          let g = w .inv .4 inputs s r e rests in
+      λ others s r e rests.
+          let g = w .inv .4 others s r e rests in
           going-at (write .ensures .0)
-          (going-on (w .inv .0) (i .loop-test .taken) r g (fits i) (write .ensures .1 inputs (g .state) r (g .state-length) (g .rests))),
+          (going-on (w .inv .0) (i .loop-test .taken) r g (fits i) (write .ensures .1 others (g .state) r (g .state-length) (g .rests))),
     )
 
 same-length : tie.Need-same-length Inv-loop μ-loop
@@ -112,11 +112,11 @@ same-length-2 : tie.Need-same-length-2 Inv-loop μ-loop
 same-length-2 c = c .before .loop .inv .3
 
 returns : tie.Need-returns Inv-loop μ-loop
-returns c = λ inputs s r e rests.
+returns c = λ others s r e rests.
     let a = c .before .before .before .before .before .before .before .before .args in
     let w = c .before .loop in
     all-gone (a .n) _ s (a .number) (a .vectors .now) (a .scratch .now) (a .out .now) (w .scratch) (w .out) (w .k) (w .at) (w .to)
-    (c .loop-test .left) (w .inv .4 inputs s r e rests)
+    (c .loop-test .left) (w .inv .4 others s r e rests)
 
 pub trace-lines-spec : {M : Type 1} → statement M
 trace-lines-spec =

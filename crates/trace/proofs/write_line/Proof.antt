@@ -109,10 +109,10 @@ returns c =
     let w4 = c .before .before .put-part4 .ensures in
     let e1 = loaded d .before .load .ensures in (
       omega (arith, w1 .0, w2 .0, w3 .0, w4 .0),
-      λ inputs s r ls rests.
+      λ others s r ls rests.
           let room = q .pre .0 .scratch-long in
           let stands = line-stands r s (a .ins .now) ls rests room (q .pre .1 .0) e1 in
-          let step = f .before .before .before .before .before .step-values .ensures inputs _ _ r stands in
+          let step = f .before .before .before .before .before .step-values .ensures others _ _ r stands in
           line-wrote r s (a .ins .now) ls rests room (q .pre .1 .0) e1 step (a .out .now) (a .at) (q .pre .1 .1)
           (w1 .1) (w1 .0) (w2 .1) (w2 .0) (w3 .1) (w3 .0) (w4 .1) (w4 .0),
     )
