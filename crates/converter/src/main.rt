@@ -8,10 +8,16 @@ fn main() {
     let mut latches = [0u32; 4096];
     let mut outputs = [0u32; 4096];
     let mut gates = [0u32; 4096];
+    let mut resets = [0u32; 4096];
+    let mut bads = [0u32; 4096];
+    let mut constraints = [0u32; 4096];
     let mut made_inputs = [0u32; 4096];
     let mut made_latches = [0u32; 4096];
     let mut made_outputs = [0u32; 4096];
     let mut made_gates = [0u32; 4096];
+    let mut made_resets = [0u32; 4096];
+    let mut made_bads = [0u32; 4096];
+    let mut made_constraints = [0u32; 4096];
     let mut scratch = [0u32; 16384];
     let mut out = [0u8; 65536];
     let answer = converting::convert_whole(
@@ -21,10 +27,16 @@ fn main() {
         &mut latches,
         &mut outputs,
         &mut gates,
+        &mut resets,
+        &mut bads,
+        &mut constraints,
         &mut made_inputs,
         &mut made_latches,
         &mut made_outputs,
         &mut made_gates,
+        &mut made_resets,
+        &mut made_bads,
+        &mut made_constraints,
         &mut scratch,
         &mut out,
     );

@@ -9,7 +9,8 @@ use lib.ListN.{length, drop, length-drop, drop-of-length-le}
 use lib.Seq.{drop-length}
 use Rattle.plan.specs.declared.Loaded.{Loaded}
 use Rattle.plan.specs.declared.Loaded.the-variants.{Accepted, Refused}
-use Rattle.plan.specs.Outcome.{ReadEntry, ReadExit, load, read, tailOf}
+use Rattle.plan.specs.declared.Version.{Version}
+use Rattle.plan.specs.Outcome.{ReadEntry, ReadExit, loadAs, readAs, tailOf}
 
 drop-back : (l : List ℕ) (start : ℕ) → drop (length l - length (drop start l)) l ≡ drop start l
 drop-back l start = go (decLe start (length l))
@@ -29,15 +30,20 @@ pub shorter : (file : List ℕ) (r : Loaded) → length (tailOf file r) ≤ leng
 shorter file (Accepted n start) = omega (arith, length-drop start file)
 shorter file (Refused r) = omega arith
 
-module _ (e : ReadEntry) (x : ReadExit) (said : x ≡ read e) where
-  tail-is : x .tail ≡ tailOf (e .file) (load e .answer)
+module _ (v : Version) (e : ReadEntry) (x : ReadExit) (said : x ≡ readAs v e) where
+  tail-is : x .tail ≡ tailOf (e .file) (loadAs v e .answer)
   tail-is = ap (λ (y : ReadExit). y .tail) said
 
   pub tail-shorter : length (x .tail) ≤ length (e .file)
-  tail-shorter = omega (arith, ap length tail-is, shorter (e .file) (load e .answer))
+  tail-shorter = omega (arith, ap length tail-is, shorter (e .file) (loadAs v e .answer))
 
-  pub tail-starts : record { answer = x .answer; tail = drop (length (e .file) - length (x .tail)) (e .file); tables = x .tables; scratch = x .scratch } ≡ read e
+  pub tail-starts : record {
+    answer = x .answer;
+    tail = drop (length (e .file) - length (x .tail)) (e .file);
+    tables = x .tables;
+    scratch = x .scratch;
+  } ≡ readAs v e
   tail-starts =
       let here : drop (length (e .file) - length (x .tail)) (e .file) ≡ x .tail
-      = ap (λ (t : List ℕ). drop (length (e .file) - length t) (e .file)) tail-is ∙ (starts (e .file) (load e .answer) ∙ sym tail-is) in
+      = ap (λ (t : List ℕ). drop (length (e .file) - length t) (e .file)) tail-is ∙ (starts (e .file) (loadAs v e .answer) ∙ sym tail-is) in
       (λ i. record { answer = x .answer; tail = here i; tables = x .tables; scratch = x .scratch }) ∙ said

@@ -1,11 +1,14 @@
 // What C calls: numbers and slices only. The header for C is desk/golvanzo.h.
 ghost use mathlib.Core.Path.{_≡_};
 ghost use lib.ListN.{drop};
+ghost use Rattle.plan.specs.Circuit.{seven};
 ghost use Rattle.plan.specs.Header.{wordsFor, countsFrom};
-ghost use Rattle.plan.specs.Outcome.{Says, read};
+ghost use Rattle.plan.specs.Outcome.{Says, read, read2007};
+ghost use Rattle.given.specs.Judged.{givenAt};
 ghost use Rattle.desk.specs.Told.{check, writeText, writeBinary, conversion, reduction, step, witness};
+use plan::Version;
 
-// How many words table 1 to 5 needs for the file's header, or 2^64 - 1.
+// How many words table 1 to 5 or 7 to 9 needs for the file's header, or 2^64 - 1.
 #[no_mangle]
 pub extern "C" fn golvanzo_words(file: &[u8], table: u64) -> u64
     ensures { λ r. ⌜ r ≡ wordsFor (now (file .entry)) table ⌝ }
@@ -13,7 +16,7 @@ pub extern "C" fn golvanzo_words(file: &[u8], table: u64) -> u64
     header::words(file, table)
 }
 
-// Reads a file into the tables; where its tail starts, which after a refusal is the file's length.
+// Reads a file of AIGER 1.9 into the tables; where its tail starts, which after a refusal is the file's length.
 #[no_mangle]
 pub extern "C" fn golvanzo_read(
     file: &[u8],
@@ -21,99 +24,248 @@ pub extern "C" fn golvanzo_read(
     latches: &mut [u32],
     outputs: &mut [u32],
     gates: &mut [u32],
+    resets: &mut [u32],
+    bads: &mut [u32],
+    constraints: &mut [u32],
     scratch: &mut [u32],
-    answer: &mut [u64; 7],
+    answer: &mut [u64; 9],
 ) -> u64
     ensures { λ r. ⌜ Says read
-        (record { file = now (file .entry); tables = (record { inputs = now (inputs .entry); latches = now (latches .entry); outputs = now (outputs .entry); gates = now (gates .entry) }); scratch = now (scratch .entry) })
-        (record { answer = now (answer .exit); tail = drop r (now (file .entry)); tables = (record { inputs = now (inputs .exit); latches = now (latches .exit); outputs = now (outputs .exit); gates = now (gates .exit) }); scratch = now (scratch .exit) }) ⌝ }
+        (record {
+          file = now (file .entry);
+          tables = (seven (now (inputs .entry)) (now (latches .entry)) (now (outputs .entry)) (now (gates .entry)) (now (resets .entry)) (now (bads .entry))
+              (now (constraints .entry)));
+          scratch = now (scratch .entry);
+        })
+        (record {
+          answer = now (answer .exit);
+          tail = drop r (now (file .entry));
+          tables = (seven (now (inputs .exit)) (now (latches .exit)) (now (outputs .exit)) (now (gates .exit)) (now (resets .exit)) (now (bads .exit))
+              (now (constraints .exit)));
+          scratch = now (scratch .exit);
+        }) ⌝ }
 {
-    let tail = read::read(file, inputs, latches, outputs, gates, scratch, answer);
+    let tail = read::read(
+        Version::V19,
+        file,
+        inputs,
+        latches,
+        outputs,
+        gates,
+        resets,
+        bads,
+        constraints,
+        scratch,
+        answer,
+    );
+    (file.len() - tail.len()) as u64
+}
+
+// The same by the report of 2007: resets are 0, and there are no bad states and no constraints.
+#[no_mangle]
+pub extern "C" fn golvanzo_read2007(
+    file: &[u8],
+    inputs: &mut [u32],
+    latches: &mut [u32],
+    outputs: &mut [u32],
+    gates: &mut [u32],
+    resets: &mut [u32],
+    bads: &mut [u32],
+    constraints: &mut [u32],
+    scratch: &mut [u32],
+    answer: &mut [u64; 9],
+) -> u64
+    ensures { λ r. ⌜ Says read2007
+        (record {
+          file = now (file .entry);
+          tables = (seven (now (inputs .entry)) (now (latches .entry)) (now (outputs .entry)) (now (gates .entry)) (now (resets .entry)) (now (bads .entry))
+              (now (constraints .entry)));
+          scratch = now (scratch .entry);
+        })
+        (record {
+          answer = now (answer .exit);
+          tail = drop r (now (file .entry));
+          tables = (seven (now (inputs .exit)) (now (latches .exit)) (now (outputs .exit)) (now (gates .exit)) (now (resets .exit)) (now (bads .exit))
+              (now (constraints .exit)));
+          scratch = now (scratch .exit);
+        }) ⌝ }
+{
+    let tail = read::read(
+        Version::V2007,
+        file,
+        inputs,
+        latches,
+        outputs,
+        gates,
+        resets,
+        bads,
+        constraints,
+        scratch,
+        answer,
+    );
     (file.len() - tail.len()) as u64
 }
 
 // Whether given tables hold a circuit that a reader could have accepted: number (0: they do) and place.
 #[no_mangle]
 pub extern "C" fn golvanzo_check(
-    counts: &[u64; 5],
+    counts: &[u64; 7],
     inputs: &[u32],
     latches: &[u32],
     outputs: &[u32],
     gates: &[u32],
+    resets: &[u32],
+    bads: &[u32],
+    constraints: &[u32],
     scratch: &mut [u32],
     answer: &mut [u64; 2],
 )
     ensures { λ _. ⌜ Says check
-        (record { counts = countsFrom (now (counts .entry)); tables = (record { inputs = now (inputs .entry); latches = now (latches .entry); outputs = now (outputs .entry); gates = now (gates .entry) }); scratch = now (scratch .entry) })
+        (givenAt (countsFrom (now (counts .entry)))
+        (seven (now (inputs .entry)) (now (latches .entry)) (now (outputs .entry)) (now (gates .entry)) (now (resets .entry)) (now (bads .entry))
+        (now (constraints .entry)))
+        (now (scratch .entry)))
         (record { answer = now (answer .exit); scratch = now (scratch .exit) }) ⌝ }
 {
     let n = told::counts(counts);
-    let r = given::check(n, inputs, latches, outputs, gates, scratch);
+    let r = given::check(
+        n,
+        inputs,
+        latches,
+        outputs,
+        gates,
+        resets,
+        bads,
+        constraints,
+        scratch,
+    );
     told::checked(r, answer);
 }
 
 // Writes the text form of given tables and the tail: number (0: written), place and the number of bytes.
 #[no_mangle]
 pub extern "C" fn golvanzo_write_text(
-    counts: &[u64; 5],
+    counts: &[u64; 7],
     inputs: &[u32],
     latches: &[u32],
     outputs: &[u32],
     gates: &[u32],
+    resets: &[u32],
+    bads: &[u32],
+    constraints: &[u32],
     scratch: &mut [u32],
     tail: &[u8],
     out: &mut [u8],
     answer: &mut [u64; 3],
 )
     ensures { λ _. ⌜ Says writeText
-        (record { circuit = (record { counts = countsFrom (now (counts .entry)); tables = (record { inputs = now (inputs .entry); latches = now (latches .entry); outputs = now (outputs .entry); gates = now (gates .entry) }); scratch = now (scratch .entry) }); tail = now (tail .entry); out = now (out .entry) })
+        (record {
+          circuit = givenAt (countsFrom (now (counts .entry)))
+              (seven (now (inputs .entry)) (now (latches .entry)) (now (outputs .entry)) (now (gates .entry)) (now (resets .entry)) (now (bads .entry))
+              (now (constraints .entry)))
+              (now (scratch .entry));
+          tail = now (tail .entry);
+          out = now (out .entry);
+        })
         (record { answer = now (answer .exit); scratch = now (scratch .exit); out = now (out .exit) }) ⌝ }
 {
     let n = told::counts(counts);
-    let r = write::write_text(n, inputs, latches, outputs, gates, scratch, tail, out);
+    let r = write::write_text(
+        n,
+        inputs,
+        latches,
+        outputs,
+        gates,
+        resets,
+        bads,
+        constraints,
+        scratch,
+        tail,
+        out,
+    );
     told::written(r, answer);
 }
 
 // The same in binary form.
 #[no_mangle]
 pub extern "C" fn golvanzo_write_binary(
-    counts: &[u64; 5],
+    counts: &[u64; 7],
     inputs: &[u32],
     latches: &[u32],
     outputs: &[u32],
     gates: &[u32],
+    resets: &[u32],
+    bads: &[u32],
+    constraints: &[u32],
     scratch: &mut [u32],
     tail: &[u8],
     out: &mut [u8],
     answer: &mut [u64; 3],
 )
     ensures { λ _. ⌜ Says writeBinary
-        (record { circuit = (record { counts = countsFrom (now (counts .entry)); tables = (record { inputs = now (inputs .entry); latches = now (latches .entry); outputs = now (outputs .entry); gates = now (gates .entry) }); scratch = now (scratch .entry) }); tail = now (tail .entry); out = now (out .entry) })
+        (record {
+          circuit = givenAt (countsFrom (now (counts .entry)))
+              (seven (now (inputs .entry)) (now (latches .entry)) (now (outputs .entry)) (now (gates .entry)) (now (resets .entry)) (now (bads .entry))
+              (now (constraints .entry)))
+              (now (scratch .entry));
+          tail = now (tail .entry);
+          out = now (out .entry);
+        })
         (record { answer = now (answer .exit); scratch = now (scratch .exit); out = now (out .exit) }) ⌝ }
 {
     let n = told::counts(counts);
-    let r = write::write_binary(n, inputs, latches, outputs, gates, scratch, tail, out);
+    let r = write::write_binary(
+        n,
+        inputs,
+        latches,
+        outputs,
+        gates,
+        resets,
+        bads,
+        constraints,
+        scratch,
+        tail,
+        out,
+    );
     told::written(r, answer);
 }
 
-// Converts the circuit in given tables into written ones: number (0: converted), place and the counts M, I, L, O, A.
+// Converts the circuit in given tables into written ones: number (0: converted), place and the counts M, I, L, O, A, B, C.
 #[no_mangle]
 pub extern "C" fn golvanzo_convert(
-    counts: &[u64; 5],
+    counts: &[u64; 7],
     inputs: &[u32],
     latches: &[u32],
     outputs: &[u32],
     gates: &[u32],
+    resets: &[u32],
+    bads: &[u32],
+    constraints: &[u32],
     to_inputs: &mut [u32],
     to_latches: &mut [u32],
     to_outputs: &mut [u32],
     to_gates: &mut [u32],
+    to_resets: &mut [u32],
+    to_bads: &mut [u32],
+    to_constraints: &mut [u32],
     scratch: &mut [u32],
-    answer: &mut [u64; 7],
+    answer: &mut [u64; 9],
 )
     ensures { λ _. ⌜ Says conversion
-        (record { circuit = (record { counts = countsFrom (now (counts .entry)); tables = (record { inputs = now (inputs .entry); latches = now (latches .entry); outputs = now (outputs .entry); gates = now (gates .entry) }); scratch = now (scratch .entry) }); written = (record { inputs = now («to_inputs» .entry); latches = now («to_latches» .entry); outputs = now («to_outputs» .entry); gates = now («to_gates» .entry) }) })
-        (record { answer = now (answer .exit); written = (record { inputs = now («to_inputs» .exit); latches = now («to_latches» .exit); outputs = now («to_outputs» .exit); gates = now («to_gates» .exit) }); scratch = now (scratch .exit) }) ⌝ }
+        (record {
+          circuit = givenAt (countsFrom (now (counts .entry)))
+              (seven (now (inputs .entry)) (now (latches .entry)) (now (outputs .entry)) (now (gates .entry)) (now (resets .entry)) (now (bads .entry))
+              (now (constraints .entry)))
+              (now (scratch .entry));
+          written = (seven (now («to_inputs» .entry)) (now («to_latches» .entry)) (now («to_outputs» .entry)) (now («to_gates» .entry))
+              (now («to_resets» .entry)) (now («to_bads» .entry)) (now («to_constraints» .entry)));
+        })
+        (record {
+          answer = now (answer .exit);
+          written = (seven (now («to_inputs» .exit)) (now («to_latches» .exit)) (now («to_outputs» .exit)) (now («to_gates» .exit)) (now («to_resets» .exit))
+              (now («to_bads» .exit)) (now («to_constraints» .exit)));
+          scratch = now (scratch .exit);
+        }) ⌝ }
 {
     let n = told::counts(counts);
     let r = convert::convert(
@@ -122,10 +274,16 @@ pub extern "C" fn golvanzo_convert(
         latches,
         outputs,
         gates,
+        resets,
+        bads,
+        constraints,
         to_inputs,
         to_latches,
         to_outputs,
         to_gates,
+        to_resets,
+        to_bads,
+        to_constraints,
         scratch,
     );
     told::made(r, answer);
@@ -134,21 +292,39 @@ pub extern "C" fn golvanzo_convert(
 // Reduces the circuit in given tables, which are in binary order, into written ones: the same answer.
 #[no_mangle]
 pub extern "C" fn golvanzo_reduce(
-    counts: &[u64; 5],
+    counts: &[u64; 7],
     inputs: &[u32],
     latches: &[u32],
     outputs: &[u32],
     gates: &[u32],
+    resets: &[u32],
+    bads: &[u32],
+    constraints: &[u32],
     to_inputs: &mut [u32],
     to_latches: &mut [u32],
     to_outputs: &mut [u32],
     to_gates: &mut [u32],
+    to_resets: &mut [u32],
+    to_bads: &mut [u32],
+    to_constraints: &mut [u32],
     scratch: &mut [u32],
-    answer: &mut [u64; 7],
+    answer: &mut [u64; 9],
 )
     ensures { λ _. ⌜ Says reduction
-        (record { circuit = (record { counts = countsFrom (now (counts .entry)); tables = (record { inputs = now (inputs .entry); latches = now (latches .entry); outputs = now (outputs .entry); gates = now (gates .entry) }); scratch = now (scratch .entry) }); written = (record { inputs = now («to_inputs» .entry); latches = now («to_latches» .entry); outputs = now («to_outputs» .entry); gates = now («to_gates» .entry) }) })
-        (record { answer = now (answer .exit); written = (record { inputs = now («to_inputs» .exit); latches = now («to_latches» .exit); outputs = now («to_outputs» .exit); gates = now («to_gates» .exit) }); scratch = now (scratch .exit) }) ⌝ }
+        (record {
+          circuit = givenAt (countsFrom (now (counts .entry)))
+              (seven (now (inputs .entry)) (now (latches .entry)) (now (outputs .entry)) (now (gates .entry)) (now (resets .entry)) (now (bads .entry))
+              (now (constraints .entry)))
+              (now (scratch .entry));
+          written = (seven (now («to_inputs» .entry)) (now («to_latches» .entry)) (now («to_outputs» .entry)) (now («to_gates» .entry))
+              (now («to_resets» .entry)) (now («to_bads» .entry)) (now («to_constraints» .entry)));
+        })
+        (record {
+          answer = now (answer .exit);
+          written = (seven (now («to_inputs» .exit)) (now («to_latches» .exit)) (now («to_outputs» .exit)) (now («to_gates» .exit)) (now («to_resets» .exit))
+              (now («to_bads» .exit)) (now («to_constraints» .exit)));
+          scratch = now (scratch .exit);
+        }) ⌝ }
 {
     let n = told::counts(counts);
     let r = reduce::reduce(
@@ -157,10 +333,16 @@ pub extern "C" fn golvanzo_reduce(
         latches,
         outputs,
         gates,
+        resets,
+        bads,
+        constraints,
         to_inputs,
         to_latches,
         to_outputs,
         to_gates,
+        to_resets,
+        to_bads,
+        to_constraints,
         scratch,
     );
     told::made(r, answer);
@@ -169,11 +351,14 @@ pub extern "C" fn golvanzo_reduce(
 // One step of the circuit in given tables, which are in binary order: number (0: stepped) and place.
 #[no_mangle]
 pub extern "C" fn golvanzo_step(
-    counts: &[u64; 5],
+    counts: &[u64; 7],
     inputs: &[u32],
     latches: &[u32],
     outputs: &[u32],
     gates: &[u32],
+    resets: &[u32],
+    bads: &[u32],
+    constraints: &[u32],
     scratch: &mut [u32],
     state: &mut [u8],
     ins: &[u8],
@@ -181,7 +366,15 @@ pub extern "C" fn golvanzo_step(
     answer: &mut [u64; 2],
 )
     ensures { λ _. ⌜ Says step
-        (record { circuit = (record { counts = countsFrom (now (counts .entry)); tables = (record { inputs = now (inputs .entry); latches = now (latches .entry); outputs = now (outputs .entry); gates = now (gates .entry) }); scratch = now (scratch .entry) }); state = now (state .entry); inputs = now (ins .entry); outputs = now (outs .entry) })
+        (record {
+          circuit = givenAt (countsFrom (now (counts .entry)))
+              (seven (now (inputs .entry)) (now (latches .entry)) (now (outputs .entry)) (now (gates .entry)) (now (resets .entry)) (now (bads .entry))
+              (now (constraints .entry)))
+              (now (scratch .entry));
+          state = now (state .entry);
+          inputs = now (ins .entry);
+          outputs = now (outs .entry);
+        })
         (record { answer = now (answer .exit); scratch = now (scratch .exit); state = now (state .exit); outputs = now (outs .exit) }) ⌝ }
 {
     let n = told::counts(counts);
@@ -191,6 +384,9 @@ pub extern "C" fn golvanzo_step(
         latches,
         outputs,
         gates,
+        resets,
+        bads,
+        constraints,
         scratch,
         state,
         ins,
@@ -202,18 +398,28 @@ pub extern "C" fn golvanzo_step(
 // The witness question on a list of vectors: number (0: answered), place, and 1 for yes or 0 for no.
 #[no_mangle]
 pub extern "C" fn golvanzo_witness(
-    counts: &[u64; 5],
+    counts: &[u64; 7],
     inputs: &[u32],
     latches: &[u32],
     outputs: &[u32],
     gates: &[u32],
+    resets: &[u32],
+    bads: &[u32],
+    constraints: &[u32],
     scratch: &mut [u32],
     number: u64,
     bytes: &[u8],
     answer: &mut [u64; 3],
 )
     ensures { λ _. ⌜ Says witness
-        (record { circuit = (record { counts = countsFrom (now (counts .entry)); tables = (record { inputs = now (inputs .entry); latches = now (latches .entry); outputs = now (outputs .entry); gates = now (gates .entry) }); scratch = now (scratch .entry) }); number = number; bytes = now (bytes .entry) })
+        (record {
+          circuit = givenAt (countsFrom (now (counts .entry)))
+              (seven (now (inputs .entry)) (now (latches .entry)) (now (outputs .entry)) (now (gates .entry)) (now (resets .entry)) (now (bads .entry))
+              (now (constraints .entry)))
+              (now (scratch .entry));
+          number = number;
+          bytes = now (bytes .entry);
+        })
         (record { answer = now (answer .exit); scratch = now (scratch .exit) }) ⌝ }
 {
     let n = told::counts(counts);
@@ -223,6 +429,9 @@ pub extern "C" fn golvanzo_witness(
         latches,
         outputs,
         gates,
+        resets,
+        bads,
+        constraints,
         scratch,
         number as usize,
         bytes,

@@ -1,19 +1,19 @@
 -- A form of a well-formed circuit is far shorter than 2 ^ 64 bytes: at most 11 for each number of a line, 10 for each gate.
-use Prim.Native.Nat.{ℕ, suc, _+_, _-_, _*_, _^_, _<_, _≤_}
-use mathlib.Core.Path.{_≡_}
-use mathlib.Core.Bool.{Bool, true, false}
+use Prim.Native.Nat.{ℕ, suc, zero, _+_, _-_, _*_, _^_, _<_, _≤_}
+use mathlib.Core.Path.{_≡_, refl}
+use mathlib.Core.Bool.{Bool, true, false, _||_}
 use mathlib.Core.List.{List, [], _∷_, _++_, map}
 use native.Mathlib.Omega.{arith}
-use borrow.Author.Tests.{leb-true}
+use borrow.Author.Tests.{leb-true, eqb-true}
 use lib.Dec.{eqb, leb}
 use lib.ListN.{length, length-append}
-use Rattle.plan.specs.Literals.{most, signOf, inRange}
-use Rattle.plan.specs.Circuit.{Circuit, Latch, Gate, countsOf, oneLine, latchLine, gateLine, nexts, inside, allInside}
-use Rattle.plan.specs.Bytes.{digits, endOf, lineOf, linesOf}
+use Rattle.plan.specs.Literals.{most, signOf, inRange, isReset}
+use Rattle.plan.specs.Circuit.{Circuit, Latch, Gate, countsOf, oneLine, latchLine, gateLine, nexts, inside, allInside, resetsOk}
+use Rattle.plan.specs.Bytes.{digits, endOf, lineOf, linesOf, withResets, unlessZero, shortest}
 use Rattle.plan.specs.Difference.{groupsOf}
-use Rattle.plan.specs.Header.{Form, text, binary, headerOf, listOf}
-use Rattle.plan.specs.Text.{textOf, textLines}
-use Rattle.plan.specs.Binary.{gateBytes, binaryOf, binaryLines}
+use Rattle.plan.specs.Header.{Form, text, binary, headerOf, shortCounts}
+use Rattle.plan.specs.Text.{textOf, textLines, textLatches}
+use Rattle.plan.specs.Binary.{gateBytes, binaryOf, binaryLines, binaryLatches}
 use Rattle.plan.specs.Reading.{WellFormed}
 use Rattle.theorems.proofs.Reading.Common.{and-left, and-right}
 use Rattle.print.proofs.Sizes.{digits-ten, groups-five}
@@ -51,18 +51,43 @@ module _ (m : ℕ) (small : m ≤ most) where
       let e = length-append (lineOf (oneLine l)) (linesOf (map oneLine ls)) in
       omega (arith, e, line-most (oneLine l) (words d (oneLine l) first), ones-most d ls rest)
 
-  latches-most : (ls : List Latch) → allInside true m (map latchLine ls) ≡ true
-      → (length (linesOf (map latchLine ls)) ≤ 22 * length ls) × (length (linesOf (map oneLine (nexts ls))) ≤ 11 * length ls)
-  latches-most [] h = (omega arith, omega arith)
-  latches-most (l ∷ ls) h =
+  -- a reset is 0, 1 or the latch's own literal
+  reset-word : (own r : ℕ) → own < 2 ^ 32 → isReset own r ≡ true → r < 2 ^ 32
+  reset-word own r h e = go (eqb r 0) (eqb r 1) (eqb r own) refl refl refl e
+    where
+      go : (a b c : Bool) → eqb r 0 ≡ a → eqb r 1 ≡ b → eqb r own ≡ c → (a || (b || c)) ≡ true → r < 2 ^ 32
+      go true b c p q k t = omega (arith, eqb-true r 0 p)
+      go false true c p q k t = omega (arith, eqb-true r 1 q)
+      go false false true p q k t = omega (arith, eqb-true r own k)
+      go false false false p q k t = let z : _≡_ {A = ℕ} 0 1 = cc in absurd (omega arith)
+
+  -- the shortest line of a latch has at most one number more than its literals
+  next-most : (next r : ℕ) → next < 2 ^ 32 → r < 2 ^ 32 → length (lineOf (next ∷ unlessZero r [])) ≤ 22
+  next-most next zero h k = omega (arith, line-most (next ∷ []) (h, tt))
+  next-most next (suc r) h k = omega (arith, line-most (next ∷ suc r ∷ []) (h, (k, tt)))
+
+  current-most : (current next r : ℕ) → current < 2 ^ 32 → next < 2 ^ 32 → r < 2 ^ 32
+      → length (lineOf (current ∷ next ∷ unlessZero r [])) ≤ 33
+  current-most current next r g h k =
+      let e : length (lineOf (current ∷ next ∷ unlessZero r [])) ≡ length (digits current) + suc (length (lineOf (next ∷ unlessZero r [])))
+      = length-append (digits current) (32 ∷ lineOf (next ∷ unlessZero r [])) in
+      omega (arith, digits-ten current g, next-most next r h k)
+
+  latches-most : (ls : List Latch) (rs : List ℕ) → allInside true m (map latchLine ls) ≡ true → resetsOk ls rs ≡ true
+      → (length (linesOf (map (shortest 2) (withResets (map latchLine ls) rs))) ≤ 33 * length ls)
+      × (length (linesOf (map (shortest 1) (withResets (map oneLine (nexts ls)) rs))) ≤ 22 * length ls)
+  latches-most [] rs h k = (omega arith, omega arith)
+  latches-most (l ∷ ls) [] h k = let z : _≡_ {A = ℕ} 0 1 = cc in absurd (omega arith)
+  latches-most (l ∷ ls) (r ∷ rs) h k =
       let first = and-left (inside true m (latchLine l)) (allInside true m (map latchLine ls)) h in
       let rest = and-right (inside true m (latchLine l)) (allInside true m (map latchLine ls)) h in
       let w = words true (latchLine l) first in
-      let ih = latches-most ls rest in
-      let e = length-append (lineOf (latchLine l)) (linesOf (map latchLine ls)) in
-      let f = length-append (lineOf (oneLine (l .next))) (linesOf (map oneLine (nexts ls))) in (
-        omega (arith, e, line-most (latchLine l) w, ih .0),
-        omega (arith, f, line-most (oneLine (l .next)) (w .1 .0, tt), ih .1),
+      let q = reset-word (l .current) r (w .0) (and-left (isReset (l .current) r) (resetsOk ls rs) k) in
+      let ih = latches-most ls rs rest (and-right (isReset (l .current) r) (resetsOk ls rs) k) in
+      let e = length-append (lineOf (l .current ∷ l .next ∷ unlessZero r [])) (linesOf (map (shortest 2) (withResets (map latchLine ls) rs))) in
+      let f = length-append (lineOf (l .next ∷ unlessZero r [])) (linesOf (map (shortest 1) (withResets (map oneLine (nexts ls)) rs))) in (
+        omega (arith, e, current-most (l .current) (l .next) r (w .0) (w .1 .0) q, ih .0),
+        omega (arith, f, next-most (l .next) r (w .1 .0) q, ih .1),
       )
 
   gates-most : (gs : List Gate) → allInside true m (map gateLine gs) ≡ true
@@ -82,67 +107,95 @@ module _ (m : ℕ) (small : m ≤ most) where
         omega (arith, f, f′, groups-five (g .lhs - g .rhs0) a, groups-five (g .rhs0 - g .rhs1) b, ih .1),
       )
 
+-- trailing zeros left off
+last-most : (n b c : ℕ) → n < 2 ^ 32 → b < 2 ^ 32 → c < 2 ^ 32 → length (lineOf (n ∷ unlessZero b (unlessZero c []))) ≤ 33
+last-most n zero zero h i j = omega (arith, line-most (n ∷ []) (h, tt))
+last-most n zero (suc c) h i j = omega (arith, line-most (n ∷ 0 ∷ suc c ∷ []) (h, (i, (j, tt))))
+last-most n (suc b) zero h i j = omega (arith, line-most (n ∷ suc b ∷ []) (h, (i, tt)))
+last-most n (suc b) (suc c) h i j = omega (arith, line-most (n ∷ suc b ∷ suc c ∷ []) (h, (i, (j, tt))))
+
+one-more : (n : ℕ) (l : List ℕ) (k : ℕ) → n < 2 ^ 32 → length (lineOf l) ≤ k → length (lineOf (n ∷ l)) ≤ 11 + k
+one-more n l k h few =
+    let e : length (lineOf (n ∷ l)) ≡ length (digits n) + suc (length (lineOf l)) = length-append (digits n) (endOf (length l) ∷ lineOf l) in
+    omega (arith, digits-ten n h)
+
 module _ (c : Circuit) (w : WellFormed c) where
-  header-most : (f : Form) → length (headerOf f (countsOf c)) ≤ 59
+  header-most : (f : Form) → length (headerOf f (shortCounts (countsOf c))) ≤ 81
   header-most f =
       let word : (n : ℕ) → n ≤ most → n < 2 ^ 32 = λ n h. omega arith in
-      omega (
-        arith,
-        line-most (listOf (countsOf c)) (
-          word _ (w .most-M),
-          (
-            word _ (w .most-I),
-            (word _ (w .most-L), (word _ (w .most-O), (word _ (w .most-A), tt))),
-          ),
-        ),
-      )
+      let n = countsOf c in
+      let a = last-most (n .A) (n .B) (n .C) (word _ (w .most-A)) (word _ (w .most-B)) (word _ (w .most-C)) in
+      let t = n .A ∷ unlessZero (n .B) (unlessZero (n .C) []) in
+      let o = one-more (n .O) t 33 (word _ (w .most-O)) a in
+      let l = one-more (n .L) (n .O ∷ t) 44 (word _ (w .most-L)) o in
+      let i = one-more (n .I) (n .L ∷ n .O ∷ t) 55 (word _ (w .most-I)) l in
+      let m = one-more (n .M) (n .I ∷ n .L ∷ n .O ∷ t) 66 (word _ (w .most-M)) i in
+      omega (arith, m)
 
   abbrev m : ℕ
   m = c .M
 
-  pub text-most : length (textOf c) ≤ 100000000
+  pub text-most : length (textOf c) ≤ 200000000
   text-most =
-      let lats = latches-most m (w .most-M) (c .latches) (w .latches) in
+      let lats = latches-most m (w .most-M) (c .latches) (c .resets) (w .latches) (w .resets) in
       let gs = gates-most m (w .most-M) (c .gates) (w .gates) in
-      let head = headerOf text (countsOf c) in
+      let rows = map (shortest 2) (textLatches c) in
+      let head = headerOf text (shortCounts (countsOf c)) in
       let l1 = linesOf (map oneLine (c .inputs)) in
-      let l2 = linesOf (map latchLine (c .latches)) in
+      let l2 = linesOf rows in
       let l3 = linesOf (map oneLine (c .outputs)) in
-      let l4 = linesOf (map gateLine (c .gates)) in
+      let l4 = linesOf (map oneLine (c .bads)) in
+      let l5 = linesOf (map oneLine (c .constraints)) in
+      let l6 = linesOf (map gateLine (c .gates)) in
       omega (
         arith,
-        length-append head (textLines c),
-        length-append l1 (l2 ++ (l3 ++ l4)),
-        length-append l2 (l3 ++ l4),
-        length-append l3 l4,
+        length-append head (textLines rows c),
+        length-append l1 (l2 ++ (l3 ++ (l4 ++ (l5 ++ l6)))),
+        length-append l2 (l3 ++ (l4 ++ (l5 ++ l6))),
+        length-append l3 (l4 ++ (l5 ++ l6)),
+        length-append l4 (l5 ++ l6),
+        length-append l5 l6,
         header-most text,
         ones-most m (w .most-M) true (c .inputs) (w .inputs),
         lats .0,
         ones-most m (w .most-M) false (c .outputs) (w .outputs),
+        ones-most m (w .most-M) false (c .bads) (w .bads),
+        ones-most m (w .most-M) false (c .constraints) (w .constraints),
         gs .0,
         w .most-I,
         w .most-L,
         w .most-O,
         w .most-A,
+        w .most-B,
+        w .most-C,
       )
 
-  pub binary-most : length (binaryOf c) ≤ 100000000
+  pub binary-most : length (binaryOf c) ≤ 200000000
   binary-most =
-      let lats = latches-most m (w .most-M) (c .latches) (w .latches) in
+      let lats = latches-most m (w .most-M) (c .latches) (c .resets) (w .latches) (w .resets) in
       let gs = gates-most m (w .most-M) (c .gates) (w .gates) in
-      let head = headerOf binary (countsOf c) in
-      let l1 = linesOf (map oneLine (nexts (c .latches))) in
+      let rows = map (shortest 1) (binaryLatches c) in
+      let head = headerOf binary (shortCounts (countsOf c)) in
+      let l1 = linesOf rows in
       let l2 = linesOf (map oneLine (c .outputs)) in
+      let l3 = linesOf (map oneLine (c .bads)) in
+      let l4 = linesOf (map oneLine (c .constraints)) in
       omega (
         arith,
-        length-append head (binaryLines c),
-        length-append l1 (l2 ++ gateBytes (c .gates)),
-        length-append l2 (gateBytes (c .gates)),
+        length-append head (binaryLines rows c),
+        length-append l1 (l2 ++ (l3 ++ (l4 ++ gateBytes (c .gates)))),
+        length-append l2 (l3 ++ (l4 ++ gateBytes (c .gates))),
+        length-append l3 (l4 ++ gateBytes (c .gates)),
+        length-append l4 (gateBytes (c .gates)),
         header-most binary,
         lats .1,
         ones-most m (w .most-M) false (c .outputs) (w .outputs),
+        ones-most m (w .most-M) false (c .bads) (w .bads),
+        ones-most m (w .most-M) false (c .constraints) (w .constraints),
         gs .1,
         w .most-L,
         w .most-O,
         w .most-A,
+        w .most-B,
+        w .most-C,
       )

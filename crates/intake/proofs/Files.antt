@@ -3,10 +3,11 @@ use Prim.Native.Nat.{ℕ, _-_}
 use mathlib.Core.Path.{_≡_, refl, sym, ap, ap₂, _∙_, subst}
 use mathlib.Core.Bool.{Bool, true, false, cond}
 use mathlib.Core.Option.{Option, none, some}
-use mathlib.Core.List.{List, [], _∷_, _++_}
+use mathlib.Core.List.{List, _++_}
 use borrow.Rule.Slice.PartMut.{midOf}
 use lib.Dec.{leb}
 use lib.ListN.{length, drop}
+use Rattle.plan.specs.declared.Version.the-variants.{V19}
 use Rattle.plan.specs.declared.Refusal.{Refusal}
 use Rattle.plan.specs.declared.Refusal.the-variants.{ShortBuffer, LongInput, Unreadable}
 use Rattle.plan.specs.declared.Written.the-variants as written
@@ -21,6 +22,8 @@ use Rattle.plan.specs.Reduce.{reduce}
 use Rattle.plan.specs.Programs.{input, otherForm}
 use Rattle.plan.specs.Outcome.{WriteExit, putBy, putBytes, isBinary, headedBy}
 use Rattle.plan.specs.Whole.{WholeEntry, WholeExit, inputOf, fittingIn, wholeBy}
+use Rattle.tables.specs.declared.Sizes.{Sizes}
+use Rattle.tables.specs.Lengths.{sizesOf}
 use Rattle.header.specs.Parts.{formOf}
 use Rattle.read.proofs.Answers.{part-from}
 use Rattle.theorems.proofs.Reading.Common.{not-got, then-got, cond-got}
@@ -51,13 +54,13 @@ form-back binary = refl
 
 module _ (readable : Bool) (file : List ℕ) (read made : Tables) (scratch out : List ℕ) where
   abbrev e : OpenEntry
-  e = record { readable = readable; file = file; tables = read; scratch = scratch; made = lengthsOf made }
+  e = record { readable = readable; file = file; tables = read; scratch = scratch; made = sizesOf made }
 
   abbrev w : WholeEntry
   w = record { plan = inputOf readable file; read = read; made = made; scratch = scratch; out = out }
 
   abbrev otherWith : Circuit → ℕ → Parse (List ℕ)
-  otherWith c start = header file 0 then λ h _. fittingIn out (otherForm (h .form) c ++ drop start file)
+  otherWith c start = header V19 file 0 then λ h _. fittingIn out (otherForm (h .form) c ++ drop start file)
 
   abbrev lessWith : Circuit → ℕ → Parse (List ℕ)
   lessWith c start = fittingIn out (binaryOf (reduce (convert c)) ++ drop start file)
@@ -65,7 +68,7 @@ module _ (readable : Bool) (file : List ℕ) (read made : Tables) (scratch out :
   converted-by : convertedFile w ≡ opened e then otherWith
   converted-by =
       after-input readable file (opening e)
-      (λ l c start. header l 0 then λ h _. fittingIn out (otherForm (h .form) c ++ drop start l))
+      (λ l c start. header V19 l 0 then λ h _. fittingIn out (otherForm (h .form) c ++ drop start l))
 
   reduced-by : reducedFile w ≡ opened e then lessWith
   reduced-by = after-input readable file (opening e) (λ l c start. fittingIn out (binaryOf (reduce (convert c)) ++ drop start l))
@@ -81,16 +84,16 @@ module _ (readable : Bool) (file : List ℕ) (read made : Tables) (scratch out :
 
   -- the header of a file that was opened
   headed : (b : Bool) (c : Circuit) (start : ℕ) → input (inputOf b file) (opening e) ≡ got c start
-      → (h : Head) × (at : ℕ) × (header file 0 ≡ got h at)
+      → (h : Head) × (at : ℕ) × (header V19 file 0 ≡ got h at)
   headed false c start q = absurd (not-got (Unreadable 0) c start q)
   headed true c start q =
       let p = cond-got (leb (length file) 65536) (opening e file) (LongInput 65536) c start q in
-      let r = then-got (readFile file (lengthsOf read ++ (length scratch ∷ []))) _ c start (p .1) in
-      let s = then-got (header file 0) _ (r .0) (r .1) (r .2) in
+      let r = then-got (readFile V19 file (lengthsOf read scratch)) _ c start (p .1) in
+      let s = then-got (header V19 file 0) _ (r .0) (r .1) (r .2) in
       (s .0, s .1, s .2)
 
   module _ (c : Circuit) (start : ℕ) (q : opened e ≡ got c start) where
-    pub converted : (b : Bool) → b ≡ binaryBy (headedBy (header file 0)) → (x : WriteExit)
+    pub converted : (b : Bool) → b ≡ binaryBy (headedBy (header V19 file 0)) → (x : WriteExit)
         → x ≡ putBytes out 0 (otherForm (formOf b) c ++ midOf start (length file - start) file) → x ≡ toldBy out (convertedFile w)
     converted b b-is x said =
         let h = headed readable c start q in
@@ -112,7 +115,7 @@ module _ (readable : Bool) (file : List ℕ) (read made : Tables) (scratch out :
         ∙ sym (ap (toldBy out) (reduced-by ∙ ap (λ (p : Parse Circuit). p then lessWith) q))))
 
 -- the tail that is lent is the rest of the file
-pub rest-ready : (g : Given) (start : ℕ) (file made : List ℕ) → Ready g (drop start file) made
+pub rest-ready : (g : Given) (start : ℕ) (file : List ℕ) (made : Sizes) → Ready g (drop start file) made
     → Ready g (midOf start (length file - start) file) made
 rest-ready g start file made r = subst (λ (tail : List ℕ). Ready g tail made) (sym (part-from start file)) r
 

@@ -1,19 +1,20 @@
 -- Opening a file: 14, 13, the reader's refusals, 4; and the tables then hold the circuit.
-use Prim.Native.Nat.{ℕ, _+_, _*_, _<_, _≤_}
+use Prim.Native.Nat.{ℕ, _<_, _≤_}
 use mathlib.Core.Path.{_≡_, sym, ap, ap₂, _∙_, subst}
 use mathlib.Core.Bool.{Bool, true, false, cond}
 use mathlib.Core.Option.{Option, some}
-use mathlib.Core.List.{List, [], _∷_, _++_}
+use mathlib.Core.List.{List}
 use native.Mathlib.Omega.{arith}
 use borrow.Author.Tests.{le-leb, lt-leb}
-use lib.ListN.{length, take, drop}
+use lib.ListN.{length, drop, length-replicate}
 use Rattle.plan.specs.declared.Counts.{Counts}
+use Rattle.plan.specs.declared.Version.the-variants.{V19}
 use Rattle.plan.specs.declared.Refusal.{Refusal}
 use Rattle.plan.specs.declared.Refusal.the-variants.{ShortTable, LongInput, Unreadable}
 use Rattle.plan.specs.declared.Loaded.the-variants as loaded
 use Rattle.plan.specs.Literals.{most}
 use Rattle.plan.specs.Refusals.{Parse, got, refused, _then_, unless}
-use Rattle.plan.specs.Circuit.{Circuit, countsOf, lengthsOf, wordsToRead, wordsToWork, against, short}
+use Rattle.plan.specs.Circuit.{Circuit, countsOf, lengthsOf, wordsToWork, against, short}
 use Rattle.plan.specs.Tail.{TailOk}
 use Rattle.plan.specs.Reading.{readFile, States, asText, asBinary}
 use Rattle.plan.specs.Given.{Given, given, lentAlone}
@@ -23,19 +24,18 @@ use Rattle.plan.specs.Whole.{inputOf}
 use Rattle.theorems.proofs.Reading.Differences.{Bytes}
 use Rattle.theorems.proofs.Reading.Exactly.{sound}
 use Rattle.theorems.proofs.Reading.Places.{start-within}
-use Rattle.theorems.proofs.Reading.Short.{short-none}
 use Rattle.theorems.proofs.Writing.Fine.{Fine, nothing-fine}
 use Rattle.theorems.proofs.Writing.Later.{Left, load-left}
-use Rattle.tables.specs.Lengths.{five, tableOf}
+use Rattle.tables.specs.Lengths.{lengthsIn, tableOf}
 use Rattle.tables.proofs.Told.{some-table, no-table}
-use Rattle.intake.specs.Opening.{OpenEntry, opening, opened, Opens}
+use Rattle.intake.specs.Opening.{OpenEntry, shortIn, opening, opened, Opens}
 
 abbrev reading : OpenEntry → ReadEntry
 reading e = record { file = e .file; tables = e .tables; scratch = e .scratch }
 
 module _ (e : OpenEntry) where
   abbrev parse : Parse Circuit
-  parse = readFile (e .file) (lengthsOf (e .tables) ++ (length (e .scratch) ∷ []))
+  parse = readFile V19 (e .file) (lengthsOf (e .tables) (e .scratch))
 
   pub not-readable : e .readable ≡ false → opened e ≡ refused (Unreadable 0)
   not-readable h = ap (λ (b : Bool). input (inputOf b (e .file)) λ file. opening e file) h
@@ -60,7 +60,15 @@ module _ (e : OpenEntry) where
         not-read r a =
             let p = by-parse parse r (ap (λ (y : LoadExit). y .answer) (sym said) ∙ a) in
             here ∙ ap (λ (q : Parse Circuit). q then λ c start.
-            unless (short (against 1 (take 4 (wordsToWork (countsOf c))) (e .made))) ShortTable (got c start)) p
+            unless (shortIn (countsOf c) (e .made) (e .scratch)) ShortTable (got c start)) p
+
+        -- scratch is as long as before
+        scratch-kept : length (x .scratch) ≡ length (e .scratch)
+        scratch-kept = ap (λ (y : LoadExit). length (y .scratch)) said ∙ go parse
+          where
+            go : (p : Parse Circuit) → length (loadBy (reading e) p .scratch) ≡ length (e .scratch)
+            go (got c s) = length-replicate (length (e .scratch)) 0
+            go (refused k) = length-replicate (length (e .scratch)) 0
 
         module _ (bytes : Bytes (e .file)) (n : Counts) (start : ℕ) (a : x .answer ≡ loaded.Accepted n start) where
           abbrev g : Given
@@ -78,53 +86,46 @@ module _ (e : OpenEntry) where
           fine : Fine g (lentAlone g)
           fine = nothing-fine g (lentAlone g) (read-is .2 .fine)
 
-          pub limits : (n .M ≤ most) × (n .L ≤ most) × (n .O ≤ most) × (n .A ≤ most)
-          limits = let s = fine .small in (s .0, s .1 .1 .0, s .1 .1 .1 .0, s .1 .1 .1 .1 .0)
+          pub limits : (n .M ≤ most) × (n .L ≤ most) × (n .O ≤ most) × (n .A ≤ most) × (n .B ≤ most) × (n .C ≤ most)
+          limits =
+              let s = fine .small in
+              (s .0, s .1 .1 .0, s .1 .1 .1 .0, s .1 .1 .1 .1 .0, s .1 .1 .1 .1 .1 .0, s .1 .1 .1 .1 .1 .1 .0)
 
-          scratch-long : 4 * (n .M + 1) + n .O ≤ length (x .scratch)
-          scratch-long = short-none (lentAlone g) .0 (fine .room) .1 .1 .1 .1 .0
-
-          opens-to : opened e ≡ unless (short (against 1 (take 4 (wordsToWork n)) (e .made))) ShortTable (got (given g) start)
+          opens-to : opened e ≡ unless (shortIn n (e .made) (e .scratch)) ShortTable (got (given g) start)
           opens-to =
               let c = read-is .0 in
               let l = read-is .2 in
               here ∙ (ap (λ (q : Parse Circuit). q then λ c start.
-              unless (short (against 1 (take 4 (wordsToWork (countsOf c))) (e .made))) ShortTable (got c start)) (read-is .1)
-              ∙ ap₂ (λ (m : Counts) (d : Circuit). unless (short (against 1 (take 4 (wordsToWork m)) (e .made))) ShortTable (got d start))
+              unless (shortIn (countsOf c) (e .made) (e .scratch)) ShortTable (got c start)) (read-is .1)
+              ∙ ap₂ (λ (m : Counts) (d : Circuit). unless (shortIn m (e .made) (e .scratch)) ShortTable (got d start))
               (sym (l .counts)) (sym (l .holds)))
 
-          -- the answer on five tables, of which scratch is long enough
-          module _ (i l o a4 : ℕ) (made-is : e .made ≡ i ∷ l ∷ o ∷ a4 ∷ []) (k : ℕ)
-              (told : tableOf k ≡ short (against 1 (wordsToRead n) (five i l o a4 (length (x .scratch))))) where
-            four : short (against 1 (wordsToRead n) (five i l o a4 (length (x .scratch)))) ≡ short (against 1 (take 4 (wordsToWork n)) (e
-                .made))
-            four =
-                let first : short (against 1 (wordsToRead n) (five i l o a4 (length (x .scratch))))
-                ≡ short (against 1 (take 4 (wordsToWork n)) (i ∷ l ∷ o ∷ a4 ∷ []))
-                = rw (le-leb (4 * (n .M + 1) + n .O) (length (x .scratch)) scratch-long) in
-                first ∙ ap (λ (m : List ℕ). short (against 1 (take 4 (wordsToWork n)) m)) (sym made-is)
+          -- the answer on tables of these sizes, and scratch as it is now
+          module _ (k : ℕ) (told : tableOf k ≡ shortIn n (e .made) (x .scratch)) where
+            told-before : tableOf k ≡ shortIn n (e .made) (e .scratch)
+            told-before = told ∙ ap (λ (m : ℕ). short (against 1 (wordsToWork n) (lengthsIn (e .made) m))) scratch-kept
 
             pub made-short : (k ≡ 0 → ⊥) → opened e ≡ refused (ShortTable k)
             made-short h =
                 opens-to ∙ ap (λ (s : Option ℕ). unless s ShortTable (got (given g) start))
-                (some-table k (short (against 1 (take 4 (wordsToWork n)) (e .made))) h (told ∙ four))
+                (some-table k (shortIn n (e .made) (e .scratch)) h told-before)
 
-            stated-tail : (c : Circuit) (tail : List ℕ) → States (e .file) c tail → TailOk (countsOf c) tail
-            stated-tail c tail (asText q w t) = t
-            stated-tail c tail (asBinary q b w t) = t
+            stated-tail : (c : Circuit) (tail : List ℕ) → States V19 (e .file) c tail → TailOk V19 (countsOf c) tail
+            stated-tail c tail (asText s q w t) = t
+            stated-tail c tail (asBinary s q b w t) = t
 
             pub made-long : k ≡ 0 → Opens e (loaded.Accepted n start) (x .tables) (x .scratch)
             made-long h =
-                let long = no-table k (short (against 1 (take 4 (wordsToWork n)) (e .made))) h (told ∙ four) in
+                let long = no-table k (shortIn n (e .made) (e .scratch)) h told-before in
                 let c = read-is .0 in
-                let words = lengthsOf (e .tables) ++ (length (e .scratch) ∷ []) in
-                let s = sound (e .file) words bytes c start (read-is .1) in (
+                let words = lengthsOf (e .tables) (e .scratch) in
+                let s = sound V19 (e .file) words bytes c start (read-is .1) in (
                   opens-to ∙ ap (λ (s : Option ℕ). unless s ShortTable (got (given g) start)) long,
-                  start-within (e .file) words c start (read-is .1),
+                  start-within (e .file) V19 words c start (read-is .1),
                   record {
                     fine = read-is .2 .fine;
-                    tail-ok = subst (λ (m : Counts). TailOk m (drop start (e .file))) (sym (read-is .2 .counts))
+                    tail-ok = subst (λ (m : Counts). TailOk V19 m (drop start (e .file))) (sym (read-is .2 .counts))
                         (stated-tail c (drop start (e .file)) (s .0));
-                    long = long;
+                    long = no-table k (shortIn n (e .made) (x .scratch)) h told;
                   },
                 )

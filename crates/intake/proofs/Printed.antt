@@ -3,16 +3,17 @@ use Prim.Native.Nat.{ℕ, _+_, _-_, _^_, _<_, _≤_, min}
 use mathlib.Core.Path.{_≡_, refl, ap, ap₂, _∙_}
 use mathlib.Core.Bool.{Bool, true, false, cond}
 use mathlib.Core.Option.{Option, none, some}
-use mathlib.Core.List.{List, [], _∷_, _++_}
+use mathlib.Core.List.{List, _++_}
 use native.Mathlib.Omega.{arith}
 use borrow.Author.Tests.{leb-true}
 use lib.Dec.{leb}
 use lib.ListN.{length, take, drop, length-append, length-drop}
+use Rattle.plan.specs.declared.Version.the-variants.{V19}
 use Rattle.plan.specs.declared.Refusal.{Refusal}
 use Rattle.plan.specs.declared.Refusal.the-variants.{ShortTable, ShortBuffer, LongInput}
 use Rattle.plan.specs.declared.Written.the-variants as written
 use Rattle.plan.specs.Refusals.{Parse, got, refused, _then_, unless}
-use Rattle.plan.specs.Circuit.{Circuit, countsOf, lengthsOf, wordsToRead, wordsToWork, against, short}
+use Rattle.plan.specs.Circuit.{Circuit, countsOf, lengthsOf, wordsToWork, against, short}
 use Rattle.plan.specs.Header.{Form, text, binary, Head, header}
 use Rattle.plan.specs.Text.{textOf}
 use Rattle.plan.specs.Binary.{binaryOf}
@@ -24,15 +25,14 @@ use Rattle.plan.specs.Whole.{WholeEntry, loaded, fittingIn, wholeBy, convertWho
 use Rattle.theorems.proofs.Put.{put-first}
 use Rattle.theorems.proofs.Reading.Differences.{Bytes}
 use Rattle.theorems.proofs.Reading.Exactly.{sound, formed}
-use Rattle.theorems.proofs.Reading.Short.{short-none}
 use Rattle.theorems.proofs.Running.Results.{convert-well-formed, convert-in-order, reduce-well-formed}
 use Rattle.intake.specs.Parts.{convertedFile, reducedFile}
 use Rattle.intake.proofs.Bounds.{text-most, binary-most}
 
 -- what the programs lend, and an input of bytes
 pub record Lends (e : WholeEntry) : Type 0 where
-  pub words : lengthsOf (e .read) ++ (length (e .scratch) ∷ []) ≡ lentWords
-  pub made : lengthsOf (e .made) ≡ 4096 ∷ 4096 ∷ 4096 ∷ 4096 ∷ []
+  pub words : lengthsOf (e .read) (e .scratch) ≡ lentWords
+  pub made : lengthsOf (e .made) (e .scratch) ≡ lentWords
   pub room : length (e .out) ≡ lentBytes
   pub bytes : (file : List ℕ) → e .plan ≡ some file → Bytes file
 
@@ -52,17 +52,14 @@ fits-alike out bytes e h =
 
 -- what stands in a file that the reader accepts
 module _ (file : List ℕ) (small : length file ≤ 65536) (bytes : Bytes file) (c : Circuit) (start : ℕ)
-    (accepted : readFile file lentWords ≡ got c start) where
+    (accepted : readFile V19 file lentWords ≡ got c start) where
   well : WellFormed c
-  well = formed file c (drop start file) (sound file lentWords bytes c start accepted .0)
+  well = formed V19 file c (drop start file) (sound V19 file lentWords bytes c start accepted .0)
 
-  long : short (against 1 (take 4 (wordsToWork (countsOf c))) (4096 ∷ 4096 ∷ 4096 ∷ 4096 ∷ [])) ≡ none
-  long =
-      let l = short-none (against 1 (wordsToRead (countsOf c)) lentWords) .0 (sound file lentWords bytes c start accepted .1) in
-      short-none (against 1 (take 4 (wordsToWork (countsOf c))) (4096 ∷ 4096 ∷ 4096 ∷ 4096 ∷ [])) .1
-      (l .0, (l .1 .0, (l .1 .1 .0, (l .1 .1 .1 .0, tt))))
+  long : short (against 1 (wordsToWork (countsOf c)) lentWords) ≡ none
+  long = sound V19 file lentWords bytes c start accepted .1
 
-  with-tail : (form : List ℕ) → length form ≤ 100000000 → length (form ++ drop start file) < 2 ^ 64
+  with-tail : (form : List ℕ) → length form ≤ 200000000 → length (form ++ drop start file) < 2 ^ 64
   with-tail form h = omega (arith, length-append form (drop start file), length-drop start file)
 
   other-small : (f : Form) → length (otherForm f c ++ drop start file) < 2 ^ 64
@@ -78,34 +75,34 @@ module _ (file : List ℕ) (small : length file ≤ 65536) (bytes : Bytes file) 
 module _ (e : WholeEntry) (lends : Lends e) where
   module _ (file : List ℕ) (k : Circuit → ℕ → Parse (List ℕ)) (l : Circuit → ℕ → Parse (List ℕ)) (small : length file ≤ 65536)
       (bytes : Bytes file)
-      (same : (c : Circuit) (start : ℕ) → readFile file lentWords ≡ got c start → k c start ≡ l c start) where
-    loaded-alike : (loaded e file then k) ≡ readFile file lentWords then l
+      (same : (c : Circuit) (start : ℕ) → readFile V19 file lentWords ≡ got c start → k c start ≡ l c start) where
+    loaded-alike : (loaded e file then k) ≡ readFile V19 file lentWords then l
     loaded-alike =
-        ap (λ (words : List ℕ). (readFile file words then λ c start.
-        unless (short (against 1 (take 4 (wordsToWork (countsOf c))) (lengthsOf (e .made)))) ShortTable (got c start)) then k) (lends
-        .words)
-        ∙ go (readFile file lentWords) refl
+        ap (λ (words : List ℕ). (readFile V19 file words then λ c start.
+        unless (short (against 1 (wordsToWork (countsOf c)) (lengthsOf (e .made) (e .scratch)))) ShortTable (got c start)) then k)
+        (lends .words)
+        ∙ go (readFile V19 file lentWords) refl
       where
-        go : (p : Parse Circuit) → readFile file lentWords ≡ p
+        go : (p : Parse Circuit) → readFile V19 file lentWords ≡ p
             → ((p then λ c start.
-            unless (short (against 1 (take 4 (wordsToWork (countsOf c))) (lengthsOf (e .made)))) ShortTable (got c start)) then k)
+            unless (short (against 1 (wordsToWork (countsOf c)) (lengthsOf (e .made) (e .scratch)))) ShortTable (got c start)) then k)
             ≡ p then l
         go (refused r) q = refl
         go (got c start) q =
             ap (λ (o : Option ℕ). unless o ShortTable (got c start) then k)
-            (ap (λ (m : List ℕ). short (against 1 (take 4 (wordsToWork (countsOf c))) m)) (lends .made)
+            (ap (λ (m : List ℕ). short (against 1 (wordsToWork (countsOf c)) m)) (lends .made)
             ∙ long file small bytes c start q)
             ∙ same c start q
 
   abbrev otherIn : List ℕ → Circuit → ℕ → Parse (List ℕ)
-  otherIn file c start = header file 0 then λ h _. fitting (otherForm (h .form) c ++ drop start file)
+  otherIn file c start = header V19 file 0 then λ h _. fitting (otherForm (h .form) c ++ drop start file)
 
   abbrev lessIn : List ℕ → Circuit → ℕ → Parse (List ℕ)
   lessIn file c start = fitting (binaryOf (reduce (convert c)) ++ drop start file)
 
-  other-alike : (file : List ℕ) → length file ≤ 65536 → Bytes file → (c : Circuit) (start : ℕ) → readFile file lentWords ≡ got c start
-      → (header file 0 then λ h _. fittingIn (e .out) (otherForm (h .form) c ++ drop start file)) ≡ otherIn file c start
-  other-alike file small bytes c start q = go (header file 0)
+  other-alike : (file : List ℕ) → length file ≤ 65536 → Bytes file → (c : Circuit) (start : ℕ) → readFile V19 file lentWords ≡ got c start
+      → (header V19 file 0 then λ h _. fittingIn (e .out) (otherForm (h .form) c ++ drop start file)) ≡ otherIn file c start
+  other-alike file small bytes c start q = go (header V19 file 0)
     where
       go : (p : Parse Head) → (p then λ h _. fittingIn (e .out) (otherForm (h .form) c ++ drop start file))
           ≡ p then λ h _. fitting (otherForm (h .form) c ++ drop start file)
@@ -124,11 +121,11 @@ module _ (e : WholeEntry) (lends : Lends e) where
       go true s = h file (leb-true (length file) 65536 s) (lends .bytes file q)
       go false s = refl
 
-  converter-file : convertedFile e ≡ input (e .plan) λ file. readFile file lentWords then otherIn file
+  converter-file : convertedFile e ≡ input (e .plan) λ file. readFile V19 file lentWords then otherIn file
   converter-file =
       input-alike _ _ (λ file small bytes. loaded-alike file _ (otherIn file) small bytes (other-alike file small bytes)) (e .plan) refl
 
-  reducer-file : reducedFile e ≡ input (e .plan) λ file. readFile file lentWords then lessIn file
+  reducer-file : reducedFile e ≡ input (e .plan) λ file. readFile V19 file lentWords then lessIn file
   reducer-file =
       input-alike _ _ (λ file small bytes. loaded-alike file _ (lessIn file) small bytes
       (λ c start q. fits-alike (e .out) (binaryOf (reduce (convert c)) ++ drop start file) (lends .room) (less-small file small bytes c

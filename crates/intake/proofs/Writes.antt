@@ -1,12 +1,13 @@
 -- What the calls after a read answer, each handed what the one before left: the form and the tail, or 11.
-use Prim.Native.Nat.{ℕ}
+use Prim.Native.Nat.{ℕ, _+_, _*_, _≤_}
 use mathlib.Core.Path.{_≡_, refl, sym, ap, ap₂, _∙_, subst}
 use mathlib.Core.Bool.{true}
 use mathlib.Core.Option.{Option, none, some}
 use mathlib.Core.List.{List, [], _∷_, _++_}
 use native.Mathlib.Omega.{arith}
-use lib.ListN.{take}
+use lib.ListN.{length, length-replicate}
 use Rattle.plan.specs.declared.Counts.{Counts}
+use Rattle.plan.specs.declared.Version.the-variants.{V19}
 use Rattle.plan.specs.declared.Refusal.{Refusal}
 use Rattle.plan.specs.declared.Refusal.the-variants.{ShortBuffer}
 use Rattle.plan.specs.declared.Made.the-variants as made
@@ -16,10 +17,10 @@ use Rattle.plan.specs.Text.{textOf}
 use Rattle.plan.specs.Binary.{binaryOf, binaryOrder}
 use Rattle.plan.specs.Tail.{TailOk}
 use Rattle.plan.specs.Reading.{WellFormed}
-use Rattle.plan.specs.Given.{Given, given, lentAlone, stages, orderStage, refusalOf, tailStage, room, roomStage}
+use Rattle.plan.specs.Given.{Given, given, lentAlone, lentWith, stages, orderStage, refusalOf, tailStage, room, roomStage}
 use Rattle.plan.specs.Convert.{convert}
 use Rattle.plan.specs.Reduce.{reduce}
-use Rattle.plan.specs.Outcome.{WriteExit, putBy, putBytes, FileEntry, FileExit, writtenBy, writeText, writeBinary, MakeEntry, MakeExit, conversion, reduction}
+use Rattle.plan.specs.Outcome.{WriteExit, putBy, putBytes, FileEntry, FileExit, writtenBy, writeText, writeBinary, MakeEntry, MakeExit, madeBy, conversion, reduction}
 use Rattle.theorems.proofs.Reading.Short.{short-none}
 use Rattle.theorems.proofs.Reading.Tails.{tail-exactly}
 use Rattle.theorems.proofs.Running.Counts.{counts-convert, tail-convert, tail-reduce}
@@ -27,7 +28,9 @@ use Rattle.theorems.proofs.Writing.Nothing.{both-first}
 use Rattle.theorems.proofs.Writing.Fine.{Fine, counts-given, nothing-fine}
 use Rattle.theorems.proofs.Writing.Later.{Left, conversion-left, reduction-left}
 use Rattle.theorems.proofs.Writing.Accepting.{conversion-accepted, reduction-accepted}
-use Rattle.intake.specs.Opening.{Ready}
+use Rattle.tables.specs.declared.Sizes.{Sizes}
+use Rattle.tables.specs.Lengths.{lengthsIn, sizesOf}
+use Rattle.intake.specs.Opening.{shortIn, Ready}
 
 -- a writer's answer and buffer
 abbrev pub shown : FileExit → WriteExit
@@ -42,12 +45,12 @@ put-is e bytes none = refl
 put-is e bytes (some k) = refl
 
 -- the writers, on tables and a tail that pass
-module _ (g : Given) (tail out : List ℕ) (fine : firstOf (stages g (lentAlone g)) ≡ none) (t : TailOk (g .counts) tail) where
+module _ (g : Given) (tail out : List ℕ) (fine : firstOf (stages g (lentAlone g)) ≡ none) (t : TailOk V19 (g .counts) tail) where
   abbrev entry : FileEntry
   entry = record { circuit = g; tail = tail; out = out }
 
   tail-passes : tailStage g tail ≡ none
-  tail-passes = let r = tail-exactly tail (g .counts) 0 .1 t in ap refusalOf (r .2)
+  tail-passes = let r = tail-exactly V19 tail (g .counts) 0 .1 t in ap refusalOf (r .2)
 
   pub text-put : (x : FileExit) → x ≡ writeText entry → shown x ≡ putBytes out 0 (textOf (given g) ++ tail)
   text-put x said =
@@ -77,7 +80,7 @@ after n x = record { counts = n; tables = x .written; scratch = x .scratch }
 
 module _ (y : MakeExit) (d : Circuit) (accepted : y .answer ≡ made.Accepted (countsOf d))
     (lefts : (n : Counts) → y .answer ≡ made.Accepted n → Left (after n y) d × (binaryOrder d ≡ true)) (tail : List ℕ)
-    (t : TailOk (countsOf d) tail) (x : MakeExit) (said : x ≡ y) where
+    (t : TailOk V19 (countsOf d) tail) (x : MakeExit) (said : x ≡ y) where
   not-refused : (r : Refusal) → x .answer ≡ made.Refused r → ⊥
   not-refused r a =
       let b : made.Refused r ≡ made.Accepted (countsOf d) = sym a ∙ (ap (λ (z : MakeExit). z .answer) said ∙ accepted) in
@@ -89,8 +92,8 @@ module _ (y : MakeExit) (d : Circuit) (accepted : y .answer ≡ made.Accepted (c
         subst (λ (z : MakeExit). Left (after n z) d × (binaryOrder d ≡ true)) (sym said)
         (lefts n (ap (λ (z : MakeExit). z .answer) (sym said) ∙ a))
 
-    tail-is : TailOk n tail
-    tail-is = subst (λ (m : Counts). TailOk m tail) (sym (left-is .0 .counts)) t
+    tail-is : TailOk V19 n tail
+    tail-is = subst (λ (m : Counts). TailOk V19 m tail) (sym (left-is .0 .counts)) t
 
     order-is : binaryOrder (given (after n x)) ≡ true
     order-is = ap binaryOrder (left-is .0 .holds) ∙ left-is .1
@@ -102,8 +105,12 @@ module _ (y : MakeExit) (d : Circuit) (accepted : y .answer ≡ made.Accepted (c
         binary-put (after n x) tail out (left-is .0 .fine) tail-is order-is z wrote
         ∙ ap (λ (c : Circuit). putBytes out 0 (binaryOf c ++ tail)) (left-is .0 .holds)
 
+-- as many variables as are defined
+abbrev fewest : Counts → Counts
+fewest n = record { M = n .I + n .L + n .A; I = n .I; L = n .L; O = n .O; A = n .A; B = n .B; C = n .C }
+
 -- tables that stand ready
-module _ (g : Given) (tail made : List ℕ) (ready : Ready g tail made) where
+module _ (g : Given) (tail : List ℕ) (made : Sizes) (ready : Ready g tail made) where
   fine-is : Fine g (lentAlone g)
   fine-is = nothing-fine g (lentAlone g) (ready .fine)
 
@@ -113,43 +120,36 @@ module _ (g : Given) (tail made : List ℕ) (ready : Ready g tail made) where
   left-here : Left g (given g)
   left-here = record { holds = refl; counts = sym counts-are; fine = ready .fine }
 
-  tail-here : TailOk (countsOf (given g)) tail
-  tail-here = subst (λ (m : Counts). TailOk m tail) (sym counts-are) (ready .tail-ok)
+  tail-here : TailOk V19 (countsOf (given g)) tail
+  tail-here = subst (λ (m : Counts). TailOk V19 m tail) (sym counts-are) (ready .tail-ok)
 
-  long-here : short (against 1 (take 4 (wordsToWork (countsOf (given g)))) made) ≡ none
-  long-here = ap (λ (m : Counts). short (against 1 (take 4 (wordsToWork m)) made)) counts-are ∙ ready .long
+  long-here : shortIn (countsOf (given g)) made (g .scratch) ≡ none
+  long-here = ap (λ (m : Counts). shortIn m made (g .scratch)) counts-are ∙ ready .long
 
-  own-long : short (against 1 (take 4 (wordsToWork (g .counts))) (lengthsOf (g .tables))) ≡ none
-  own-long =
+  -- fewer variables ask for less scratch
+  fewest-long : shortIn (fewest (g .counts)) (sizesOf (g .tables)) (g .scratch) ≡ none
+  fewest-long =
       let l = short-none (lentAlone g) .0 (fine-is .room) in
-      short-none (against 1 (take 4 (wordsToWork (g .counts))) (lengthsOf (g .tables))) .1 (
-        l .0,
-        (
-          l .1 .0,
-          (
-            l .1 .1 .0,
-            (
-              l .1 .1 .1 .0,
-              tt,
-            ),
-          ),
-        ),
-      )
+      let sum = fine-is .sum in
+      let less : 4 * (fewest (g .counts) .M + 1) + g .counts .O + g .counts .B + g .counts .C ≤ length (g .scratch)
+      = omega (arith, l .1 .1 .1 .1 .0) in
+      short-none (against 1 (wordsToWork (fewest (g .counts))) (lengthsOf (g .tables) (g .scratch))) .1
+      (l .0, (l .1 .0, (l .1 .1 .0, (l .1 .1 .1 .0, (less, l .1 .1 .1 .1 .1)))))
 
 -- the conversion
-module _ (g : Given) (t : Tables) (tail : List ℕ) (ready : Ready g tail (lengthsOf t)) (x : MakeExit)
+module _ (g : Given) (t : Tables) (tail : List ℕ) (ready : Ready g tail (sizesOf t)) (x : MakeExit)
     (said : x ≡ conversion (record { circuit = g; written = t })) where
   abbrev e : MakeEntry
   e = record { circuit = g; written = t }
 
-  abbrev made-long : List ℕ
-  made-long = lengthsOf t
+  abbrev made-long : Sizes
+  made-long = sizesOf t
 
   took : conversion (record { circuit = g; written = t }) .answer ≡ made.Accepted (countsOf (convert (given g)))
   took = conversion-accepted g (given g) (left-here g tail made-long ready) t (long-here g tail made-long ready)
 
-  converted-tail : TailOk (countsOf (convert (given g))) tail
-  converted-tail = tail-convert (given g) tail (tail-here g tail made-long ready)
+  converted-tail : TailOk V19 (countsOf (convert (given g))) tail
+  converted-tail = tail-convert V19 (given g) tail (tail-here g tail made-long ready)
 
   pub converts : (r : Refusal) → x .answer ≡ made.Refused r → ⊥
   converts = not-refused (conversion e) (convert (given g)) took (conversion-left e) tail converted-tail x said
@@ -169,33 +169,41 @@ module _ (g : Given) (t : Tables) (tail : List ℕ) (ready : Ready g tail (lengt
     converted-in-order = ap binaryOrder converted-is ∙ left-made .1
 
     -- it stands ready to be reduced back into the tables it was read into
-    pub converted-ready : Ready (after n x) tail (lengthsOf (g .tables))
-    converted-ready =
+    counts-now : n ≡ fewest (g .counts)
+    counts-now =
         let w : WellFormed (given g) = fine-is g tail made-long ready .formed in
-        record {
-          fine = left-made .0 .fine;
-          tail-ok = subst (λ (m : Counts). TailOk m tail) (sym (left-made .0 .counts)) converted-tail;
-          long =
-              ap (λ (m : Counts). short (against 1 (take 4 (wordsToWork m)) (lengthsOf (g .tables))))
-              (left-made .0 .counts ∙ counts-convert (given g) w)
-              ∙ (ap (λ (m : Counts). short (against 1 (take 4 (wordsToWork m)) (lengthsOf (g .tables)))) (counts-are g tail made-long ready)
-              ∙ own-long g tail made-long ready);
-        }
+        left-made .0 .counts ∙ (counts-convert (given g) w ∙ ap fewest (counts-are g tail made-long ready))
+
+    scratch-now : length (x .scratch) ≡ length (g .scratch)
+    scratch-now = ap (λ (y : MakeExit). length (y .scratch)) said ∙ go (firstOf (stages g (lentWith g t)))
+      where
+        go : (o : Option Refusal) → length (madeBy o e (convert (given g)) .scratch) ≡ length (g .scratch)
+        go none = length-replicate (length (g .scratch)) 0
+        go (some r) = length-replicate (length (g .scratch)) 0
+
+    pub converted-ready : Ready (after n x) tail (sizesOf (g .tables))
+    converted-ready = record {
+      fine = left-made .0 .fine;
+      tail-ok = subst (λ (m : Counts). TailOk V19 m tail) (sym (left-made .0 .counts)) converted-tail;
+      long =
+          ap₂ (λ (m : Counts) (k : ℕ). short (against 1 (wordsToWork m) (lengthsIn (sizesOf (g .tables)) k))) counts-now scratch-now
+          ∙ fewest-long g tail made-long ready;
+    }
 
 -- the reduction of a circuit in binary order
-module _ (g : Given) (t : Tables) (tail : List ℕ) (ready : Ready g tail (lengthsOf t)) (order : binaryOrder (given g) ≡ true) (x : MakeExit)
+module _ (g : Given) (t : Tables) (tail : List ℕ) (ready : Ready g tail (sizesOf t)) (order : binaryOrder (given g) ≡ true) (x : MakeExit)
     (said : x ≡ reduction (record { circuit = g; written = t })) where
   abbrev f : MakeEntry
   f = record { circuit = g; written = t }
 
-  abbrev into-long : List ℕ
-  into-long = lengthsOf t
+  abbrev into-long : Sizes
+  into-long = sizesOf t
 
   took-too : reduction (record { circuit = g; written = t }) .answer ≡ made.Accepted (countsOf (reduce (given g)))
   took-too = reduction-accepted g (given g) (left-here g tail into-long ready) t (long-here g tail into-long ready) order
 
-  reduced-tail : TailOk (countsOf (reduce (given g))) tail
-  reduced-tail = tail-reduce (given g) tail (tail-here g tail into-long ready)
+  reduced-tail : TailOk V19 (countsOf (reduce (given g))) tail
+  reduced-tail = tail-reduce V19 (given g) tail (tail-here g tail into-long ready)
 
   pub reduces : (r : Refusal) → x .answer ≡ made.Refused r → ⊥
   reduces = not-refused (reduction f) (reduce (given g)) took-too (reduction-left f) tail reduced-tail x said

@@ -2,9 +2,11 @@
 use Prim.Native.Nat.{ℕ, _≤_}
 use mathlib.Core.Path.{_≡_}
 use mathlib.Core.Bool.{Bool}
-use mathlib.Core.Option.{none}
-use mathlib.Core.List.{List, [], _∷_, _++_}
-use lib.ListN.{length, take, drop}
+use mathlib.Core.Option.{Option, none}
+use mathlib.Core.List.{List}
+use lib.ListN.{length, drop}
+use Rattle.plan.specs.declared.Counts.{Counts}
+use Rattle.plan.specs.declared.Version.the-variants.{V19}
 use Rattle.plan.specs.declared.Refusal.the-variants.{ShortTable}
 use Rattle.plan.specs.declared.Loaded.{Loaded}
 use Rattle.plan.specs.declared.Loaded.the-variants as loaded
@@ -16,31 +18,33 @@ use Rattle.plan.specs.Given.{Given, given, lentAlone, stages}
 use Rattle.plan.specs.Programs.{input}
 use Rattle.plan.specs.Whole.{inputOf}
 use Rattle.tables.specs.declared.Sizes.{Sizes}
+use Rattle.tables.specs.Lengths.{lengthsIn}
 
--- a file that can be read or not, the tables to read into, scratch, and the lengths of the tables to make a circuit in
+-- a file that can be read or not, the tables to read into, scratch, and the sizes of the tables to make a circuit in
 pub record OpenEntry : Type 0 where
   pub readable : Bool
   pub file : List ℕ
   pub tables : Tables
   pub scratch : List ℕ
-  pub made : List ℕ
+  pub made : Sizes
 
-abbrev pub wordsIn : Sizes → List ℕ
-wordsIn s = s .inputs ∷ s .latches ∷ s .outputs ∷ s .gates ∷ []
+-- the least of the tables to make a circuit of these counts in, and of scratch, that is too short
+abbrev pub shortIn : Counts → Sizes → List ℕ → Option ℕ
+shortIn n made scratch = short (against 1 (wordsToWork n) (lengthsIn made (length scratch)))
 
 abbrev pub opening : OpenEntry → List ℕ → Parse Circuit
 opening e file =
-    readFile file (lengthsOf (e .tables) ++ (length (e .scratch) ∷ [])) then λ c start.
-    unless (short (against 1 (take 4 (wordsToWork (countsOf c))) (e .made))) ShortTable (got c start)
+    readFile V19 file (lengthsOf (e .tables) (e .scratch)) then λ c start.
+    unless (shortIn (countsOf c) (e .made) (e .scratch)) ShortTable (got c start)
 
 abbrev pub opened : OpenEntry → Parse Circuit
 opened e = input (inputOf (e .readable) (e .file)) λ file. opening e file
 
 -- tables that no check refuses, their tail, and tables long enough to make a circuit in
-pub record Ready (g : Given) (tail made : List ℕ) : Type 0 where
+pub record Ready (g : Given) (tail : List ℕ) (made : Sizes) : Type 0 where
   pub fine : firstOf (stages g (lentAlone g)) ≡ none
-  pub tail-ok : TailOk (g .counts) tail
-  pub long : short (against 1 (take 4 (wordsToWork (g .counts))) made) ≡ none
+  pub tail-ok : TailOk V19 (g .counts) tail
+  pub long : shortIn (g .counts) made (g .scratch) ≡ none
 
 -- the answer, with what stands in the tables and in scratch then
 abbrev pub Opens : OpenEntry → Loaded → Tables → List ℕ → Type 0

@@ -4,6 +4,7 @@ use mathlib.Core.Bool.{Bool, false}
 use mathlib.Core.List.{List, _++_}
 use lib.ListN.{length, drop}
 use Rattle.plan.specs.declared.Written.the-variants as written
+use Rattle.plan.specs.declared.Version.the-variants.{V19}
 use Rattle.plan.specs.declared.Headed.{Headed}
 use Rattle.plan.specs.declared.Headed.the-variants as headed
 use Rattle.plan.specs.Refusals.{Parse, got, refused, _then_}
@@ -20,7 +21,7 @@ abbrev pub convertedFile : WholeEntry → Parse (List ℕ)
 convertedFile e =
     input (e .plan) λ file.
     loaded e file then λ c start.
-    header file 0 then λ h _.
+    header V19 file 0 then λ h _.
     fittingIn (e .out) (otherForm (h .form) c ++ drop start file)
 
 abbrev pub reducedFile : WholeEntry → Parse (List ℕ)

@@ -1,7 +1,9 @@
 // A whole file comes in: from the bytes of an input to tables that hold its circuit (the paper, programs).
-ghost use Rattle.intake.specs.Opening.{wordsIn, Opens};
+ghost use Rattle.plan.specs.Circuit.{seven};
+ghost use Rattle.intake.specs.Opening.{Opens};
 use plan::Loaded;
 use plan::Refusal;
+use plan::Version;
 use read::load;
 use tables::Sizes;
 use tables::too_short;
@@ -17,6 +19,9 @@ pub fn open_file(
     latches: &mut [u32],
     outputs: &mut [u32],
     gates: &mut [u32],
+    resets: &mut [u32],
+    bads: &mut [u32],
+    constraints: &mut [u32],
     scratch: &mut [u32],
     made: Sizes,
 ) -> Loaded
@@ -24,21 +29,14 @@ pub fn open_file(
         (record {
           readable = readable;
           file = now (file .entry);
-          tables = (record {
-            inputs = now (inputs .entry);
-            latches = now (latches .entry);
-            outputs = now (outputs .entry);
-            gates = now (gates .entry);
-          });
+          tables = (seven (now (inputs .entry)) (now (latches .entry)) (now (outputs .entry)) (now (gates .entry)) (now (resets .entry)) (now (bads .entry))
+              (now (constraints .entry)));
           scratch = now (scratch .entry);
-          made = wordsIn made;
+          made = made;
         })
-        r (record {
-          inputs = now (inputs .exit);
-          latches = now (latches .exit);
-          outputs = now (outputs .exit);
-          gates = now (gates .exit);
-        }) (now (scratch .exit)) ⌝ }
+        r (seven (now (inputs .exit)) (now (latches .exit)) (now (outputs .exit)) (now (gates .exit)) (now (resets .exit)) (now (bads .exit))
+        (now (constraints .exit)))
+        (now (scratch .exit)) ⌝ }
 {
     if !readable {
         return Loaded::Refused(Refusal::Unreadable(0));
@@ -46,17 +44,21 @@ pub fn open_file(
     if LONGEST < file.len() {
         return Loaded::Refused(Refusal::LongInput(LONGEST));
     }
-    match load(file, inputs, latches, outputs, gates, scratch) {
+    match load(
+        Version::V19,
+        file,
+        inputs,
+        latches,
+        outputs,
+        gates,
+        resets,
+        bads,
+        constraints,
+        scratch,
+    ) {
         Loaded::Refused(r) => Loaded::Refused(r),
         Loaded::Accepted(n, start) => {
-            let short = too_short(
-                n,
-                made.inputs,
-                made.latches,
-                made.outputs,
-                made.gates,
-                scratch.len(),
-            );
+            let short = too_short(n, made, scratch.len());
             if short != 0 {
                 return Loaded::Refused(Refusal::ShortTable(short));
             }

@@ -7,7 +7,7 @@ ghost use Rattle.office.specs.Came.{couldBeRead, came};
 use libc::STDOUT_FILENO;
 use plan::Refusal;
 use plan::Written;
-use tables::shorter;
+use tables::lesser;
 use telling::tell_refusal;
 
 pub enum Input {
@@ -70,7 +70,7 @@ pub fn size(input: Input) -> usize
 
 // The first n bytes of a buffer, to standard output.
 pub fn print(out: &[u8], n: usize) {
-    let k = shorter(n, out.len());
+    let k = lesser(n, out.len());
     io::write_all(STDOUT_FILENO, &out[0..k]);
 }
 

@@ -8,12 +8,13 @@ use lib.ListN.{length}
 use Rattle.plan.specs.declared.Refusal.{Refusal}
 use Rattle.plan.specs.declared.Made.the-variants as made
 use Rattle.plan.specs.Refusals.{Parse, got, refused, firstOf}
-use Rattle.plan.specs.Circuit.{Circuit, Tables, countsOf, lengthsOf, holding, allCleared, cleared}
+use Rattle.plan.specs.Circuit.{Circuit, Tables, countsOf, holding, allCleared, cleared}
 use Rattle.plan.specs.Given.{Given, given, lentWith, stages}
 use Rattle.plan.specs.Convert.{convert}
 use Rattle.plan.specs.Outcome.{MakeEntry, MakeExit, madeBy, conversion}
 use Rattle.plan.specs.Programs.{input}
 use Rattle.plan.specs.Whole.{WholeEntry, OpenExit, inputOf, loaded, openBy, openWhole}
+use Rattle.tables.specs.Lengths.{sizesOf}
 use Rattle.read.proofs.Loads.{same-cleared}
 use Rattle.intake.specs.Opening.{OpenEntry, opened, Ready}
 use Rattle.intake.proofs.Writes.{converts}
@@ -27,7 +28,7 @@ accepts (some r) e c h = absurd (h r refl)
 
 module _ (readable : Bool) (file : List ℕ) (read lent : Tables) (scratch : List ℕ) where
   abbrev e : OpenEntry
-  e = record { readable = readable; file = file; tables = read; scratch = scratch; made = lengthsOf lent }
+  e = record { readable = readable; file = file; tables = read; scratch = scratch; made = sizesOf lent }
 
   abbrev w : WholeEntry
   w = record { plan = inputOf readable file; read = read; made = lent; scratch = scratch; out = [] }
@@ -43,7 +44,7 @@ module _ (readable : Bool) (file : List ℕ) (read lent : Tables) (scratch : Lis
       ∙ sym (ap leftBy (open-is ∙ ap (openBy w) q))
 
   -- tables that stand ready are converted
-  pub opened-made : (g : Given) (start : ℕ) → opened e ≡ got (given g) start → (tail : List ℕ) → Ready g tail (lengthsOf lent)
+  pub opened-made : (g : Given) (start : ℕ) → opened e ≡ got (given g) start → (tail : List ℕ) → Ready g tail (sizesOf lent)
       → length (g .scratch) ≡ length scratch → (x : MakeExit) → x ≡ conversion (record { circuit = g; written = lent })
       → x ≡ leftBy (openWhole w)
   opened-made g start q tail ready same x said =
@@ -68,3 +69,17 @@ closed w x said read r =
     }) (openBy w p)
     go (got c start) = refl
     go (refused r) = refl
+
+-- tables of the same lengths, zero throughout
+pub all-zero : (t u : Tables) → length (t .inputs) ≡ length (u .inputs) → length (t .latches) ≡ length (u .latches)
+    → length (t .outputs) ≡ length (u .outputs) → length (t .gates) ≡ length (u .gates) → length (t .resets) ≡ length (u .resets)
+    → length (t .bads) ≡ length (u .bads) → length (t .constraints) ≡ length (u .constraints) → allCleared t ≡ allCleared u
+all-zero t u i l o g r b c = λ j. record {
+  inputs = same-cleared (t .inputs) (u .inputs) i j;
+  latches = same-cleared (t .latches) (u .latches) l j;
+  outputs = same-cleared (t .outputs) (u .outputs) o j;
+  gates = same-cleared (t .gates) (u .gates) g j;
+  resets = same-cleared (t .resets) (u .resets) r j;
+  bads = same-cleared (t .bads) (u .bads) b j;
+  constraints = same-cleared (t .constraints) (u .constraints) c j;
+}

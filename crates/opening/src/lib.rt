@@ -1,15 +1,16 @@
 // Opening a whole file: from the bytes of an input to its circuit in binary order (the paper, programs).
 ghost use mathlib.Core.Path.{_≡_};
 ghost use mathlib.Core.List.{[]};
+ghost use Rattle.plan.specs.Circuit.{seven};
 ghost use Rattle.plan.specs.Outcome.{Says};
 ghost use Rattle.plan.specs.Whole.{inputOf, openWhole};
 ghost use Rattle.opening.specs.Leaving.{leftBy};
 use intake::open_file;
 use plan::Loaded;
 use plan::Made;
-use tables::Sizes;
 use tables::clear;
-use tables::clear_four;
+use tables::clear_all;
+use tables::lengths;
 
 // The circuit of a file, converted into the tables to make one in; or a refusal, after which those are zero. The tables that the file was
 // read into hold what was left in them.
@@ -20,31 +21,43 @@ fn open_made(
     latches: &mut [u32],
     outputs: &mut [u32],
     gates: &mut [u32],
+    resets: &mut [u32],
+    bads: &mut [u32],
+    constraints: &mut [u32],
     made_inputs: &mut [u32],
     made_latches: &mut [u32],
     made_outputs: &mut [u32],
     made_gates: &mut [u32],
+    made_resets: &mut [u32],
+    made_bads: &mut [u32],
+    made_constraints: &mut [u32],
     scratch: &mut [u32],
 ) -> Made
     ensures { λ r. ⌜ (record {
       answer = r;
-      written = (record { inputs = now («made_inputs» .exit); latches = now («made_latches» .exit); outputs = now («made_outputs» .exit); gates = now («made_gates» .exit) });
+      written = (seven (now («made_inputs» .exit)) (now («made_latches» .exit)) (now («made_outputs» .exit)) (now («made_gates» .exit))
+          (now («made_resets» .exit)) (now («made_bads» .exit)) (now («made_constraints» .exit)));
       scratch = now (scratch .exit);
     }) ≡ leftBy (openWhole
         (record {
           plan = inputOf readable (now (file .entry));
-          read = (record { inputs = now (inputs .entry); latches = now (latches .entry); outputs = now (outputs .entry); gates = now (gates .entry) });
-          made = (record { inputs = now («made_inputs» .entry); latches = now («made_latches» .entry); outputs = now («made_outputs» .entry); gates = now («made_gates» .entry) });
+          read = (seven (now (inputs .entry)) (now (latches .entry)) (now (outputs .entry)) (now (gates .entry)) (now (resets .entry)) (now (bads .entry))
+              (now (constraints .entry)));
+          made = (seven (now («made_inputs» .entry)) (now («made_latches» .entry)) (now («made_outputs» .entry)) (now («made_gates» .entry))
+              (now («made_resets» .entry)) (now («made_bads» .entry)) (now («made_constraints» .entry)));
           scratch = now (scratch .entry);
           out = [];
         })) ⌝ }
 {
-    let made = Sizes {
-        inputs: made_inputs.len(),
-        latches: made_latches.len(),
-        outputs: made_outputs.len(),
-        gates: made_gates.len(),
-    };
+    let made = lengths(
+        made_inputs,
+        made_latches,
+        made_outputs,
+        made_gates,
+        made_resets,
+        made_bads,
+        made_constraints,
+    );
     match open_file(
         readable,
         file,
@@ -52,11 +65,22 @@ fn open_made(
         latches,
         outputs,
         gates,
+        resets,
+        bads,
+        constraints,
         scratch,
         made,
     ) {
         Loaded::Refused(r) => {
-            clear_four(made_inputs, made_latches, made_outputs, made_gates);
+            clear_all(
+                made_inputs,
+                made_latches,
+                made_outputs,
+                made_gates,
+                made_resets,
+                made_bads,
+                made_constraints,
+            );
             clear(scratch);
             Made::Refused(r)
         }
@@ -66,10 +90,16 @@ fn open_made(
             latches,
             outputs,
             gates,
+            resets,
+            bads,
+            constraints,
             made_inputs,
             made_latches,
             made_outputs,
             made_gates,
+            made_resets,
+            made_bads,
+            made_constraints,
             scratch,
         ),
     }
@@ -84,24 +114,34 @@ pub fn open_whole(
     latches: &mut [u32],
     outputs: &mut [u32],
     gates: &mut [u32],
+    resets: &mut [u32],
+    bads: &mut [u32],
+    constraints: &mut [u32],
     made_inputs: &mut [u32],
     made_latches: &mut [u32],
     made_outputs: &mut [u32],
     made_gates: &mut [u32],
+    made_resets: &mut [u32],
+    made_bads: &mut [u32],
+    made_constraints: &mut [u32],
     scratch: &mut [u32],
 ) -> Made
     ensures { λ r. ⌜ Says openWhole
         (record {
           plan = inputOf readable (now (file .entry));
-          read = (record { inputs = now (inputs .entry); latches = now (latches .entry); outputs = now (outputs .entry); gates = now (gates .entry) });
-          made = (record { inputs = now («made_inputs» .entry); latches = now («made_latches» .entry); outputs = now («made_outputs» .entry); gates = now («made_gates» .entry) });
+          read = (seven (now (inputs .entry)) (now (latches .entry)) (now (outputs .entry)) (now (gates .entry)) (now (resets .entry)) (now (bads .entry))
+              (now (constraints .entry)));
+          made = (seven (now («made_inputs» .entry)) (now («made_latches» .entry)) (now («made_outputs» .entry)) (now («made_gates» .entry))
+              (now («made_resets» .entry)) (now («made_bads» .entry)) (now («made_constraints» .entry)));
           scratch = now (scratch .entry);
           out = [];
         })
         (record {
           answer = r;
-          read = (record { inputs = now (inputs .exit); latches = now (latches .exit); outputs = now (outputs .exit); gates = now (gates .exit) });
-          made = (record { inputs = now («made_inputs» .exit); latches = now («made_latches» .exit); outputs = now («made_outputs» .exit); gates = now («made_gates» .exit) });
+          read = (seven (now (inputs .exit)) (now (latches .exit)) (now (outputs .exit)) (now (gates .exit)) (now (resets .exit)) (now (bads .exit))
+              (now (constraints .exit)));
+          made = (seven (now («made_inputs» .exit)) (now («made_latches» .exit)) (now («made_outputs» .exit)) (now («made_gates» .exit))
+              (now («made_resets» .exit)) (now («made_bads» .exit)) (now («made_constraints» .exit)));
           scratch = now (scratch .exit);
         }) ⌝ }
 {
@@ -112,12 +152,18 @@ pub fn open_whole(
         latches,
         outputs,
         gates,
+        resets,
+        bads,
+        constraints,
         made_inputs,
         made_latches,
         made_outputs,
         made_gates,
+        made_resets,
+        made_bads,
+        made_constraints,
         scratch,
     );
-    clear_four(inputs, latches, outputs, gates);
+    clear_all(inputs, latches, outputs, gates, resets, bads, constraints);
     answer
 }

@@ -2,13 +2,14 @@
 ghost use mathlib.Core.Path.{_≡_};
 ghost use mathlib.Core.Bool.{true};
 ghost use mathlib.Core.List.{_++_};
-ghost use Rattle.plan.specs.Circuit.{lengthsOf};
+ghost use Rattle.plan.specs.Circuit.{seven};
 ghost use Rattle.plan.specs.Binary.{binaryOf, binaryOrder};
 ghost use Rattle.plan.specs.Given.{given};
 ghost use Rattle.plan.specs.Convert.{convert};
 ghost use Rattle.plan.specs.Reduce.{reduce};
 ghost use Rattle.plan.specs.Outcome.{Says, putBytes};
 ghost use Rattle.plan.specs.Whole.{inputOf, reduceWhole};
+ghost use Rattle.tables.specs.Lengths.{sizesOf};
 ghost use Rattle.write.specs.Judged.{givenIn};
 ghost use Rattle.intake.specs.Opening.{Ready};
 ghost use Rattle.intake.specs.Parts.{reducedFile, toldBy};
@@ -17,9 +18,9 @@ use plan::Counts;
 use plan::Loaded;
 use plan::Made;
 use plan::Written;
-use tables::Sizes;
 use tables::clear;
-use tables::clear_four;
+use tables::clear_all;
+use tables::lengths;
 use write::write_binary;
 
 // Reduces a converted circuit back into the tables it was read into, and writes it as binary.
@@ -29,21 +30,29 @@ fn reduce_made(
     latches: &mut [u32],
     outputs: &mut [u32],
     gates: &mut [u32],
+    resets: &mut [u32],
+    bads: &mut [u32],
+    constraints: &mut [u32],
     made_inputs: &[u32],
     made_latches: &[u32],
     made_outputs: &[u32],
     made_gates: &[u32],
+    made_resets: &[u32],
+    made_bads: &[u32],
+    made_constraints: &[u32],
     scratch: &mut [u32],
     tail: &[u8],
     out: &mut [u8],
 ) -> Written
-    requires { ⌜ Ready (givenIn n (now «made_inputs») (now «made_latches») (now «made_outputs») (now «made_gates») (now scratch))
-        (now tail) (lengthsOf (record { inputs = now inputs; latches = now latches; outputs = now outputs; gates = now gates })) ⌝ }
-    requires { ⌜ binaryOrder (given (givenIn n (now «made_inputs») (now «made_latches») (now «made_outputs») (now «made_gates»)
-        (now scratch))) ≡ true ⌝ }
+    requires { ⌜ Ready (givenIn n (now «made_inputs») (now «made_latches») (now «made_outputs») (now «made_gates») (now «made_resets»)
+        (now «made_bads») (now «made_constraints») (now scratch))
+        (now tail) (sizesOf (seven (now inputs) (now latches) (now outputs) (now gates) (now resets) (now bads) (now constraints))) ⌝ }
+    requires { ⌜ binaryOrder (given (givenIn n (now «made_inputs») (now «made_latches») (now «made_outputs») (now «made_gates») (now «made_resets»)
+        (now «made_bads») (now «made_constraints») (now scratch))) ≡ true ⌝ }
     ensures { λ r. ⌜ record { answer = r; out = now (out .exit) } ≡ putBytes (now (out .entry)) 0
         (binaryOf (reduce (given (givenIn n (now («made_inputs» .entry)) (now («made_latches» .entry)) (now («made_outputs» .entry))
-        (now («made_gates» .entry)) (now (scratch .entry))))) ++ now (tail .entry)) ⌝ }
+        (now («made_gates» .entry)) (now («made_resets» .entry)) (now («made_bads» .entry)) (now («made_constraints» .entry))
+        (now (scratch .entry))))) ++ now (tail .entry)) ⌝ }
 {
     match reduce::reduce(
         n,
@@ -51,14 +60,32 @@ fn reduce_made(
         made_latches,
         made_outputs,
         made_gates,
+        made_resets,
+        made_bads,
+        made_constraints,
         inputs,
         latches,
         outputs,
         gates,
+        resets,
+        bads,
+        constraints,
         scratch,
     ) {
         Made::Refused(r) => Written::Refused(r),
-        Made::Accepted(m) => write_binary(m, inputs, latches, outputs, gates, scratch, tail, out),
+        Made::Accepted(m) => write_binary(
+            m,
+            inputs,
+            latches,
+            outputs,
+            gates,
+            resets,
+            bads,
+            constraints,
+            scratch,
+            tail,
+            out,
+        ),
     }
 }
 
@@ -69,24 +96,26 @@ fn write_reduced(
     latches: &mut [u32],
     outputs: &mut [u32],
     gates: &mut [u32],
+    resets: &mut [u32],
+    bads: &mut [u32],
+    constraints: &mut [u32],
     made_inputs: &mut [u32],
     made_latches: &mut [u32],
     made_outputs: &mut [u32],
     made_gates: &mut [u32],
+    made_resets: &mut [u32],
+    made_bads: &mut [u32],
+    made_constraints: &mut [u32],
     scratch: &mut [u32],
     tail: &[u8],
     out: &mut [u8],
 ) -> Written
-    requires { ⌜ Ready (givenIn n (now inputs) (now latches) (now outputs) (now gates) (now scratch)) (now tail)
-        (lengthsOf (record {
-          inputs = now «made_inputs»;
-          latches = now «made_latches»;
-          outputs = now «made_outputs»;
-          gates = now «made_gates»;
-        })) ⌝ }
+    requires { ⌜ Ready (givenIn n (now inputs) (now latches) (now outputs) (now gates) (now resets) (now bads) (now constraints) (now scratch))
+        (now tail) (sizesOf (seven (now «made_inputs») (now «made_latches») (now «made_outputs») (now «made_gates») (now «made_resets»)
+        (now «made_bads») (now «made_constraints»))) ⌝ }
     ensures { λ r. ⌜ record { answer = r; out = now (out .exit) } ≡ putBytes (now (out .entry)) 0
-        (binaryOf (reduce (convert (given (givenIn n (now (inputs .entry)) (now (latches .entry)) (now (outputs .entry))
-        (now (gates .entry)) (now (scratch .entry)))))) ++ now (tail .entry)) ⌝ }
+        (binaryOf (reduce (convert (given (givenIn n (now (inputs .entry)) (now (latches .entry)) (now (outputs .entry)) (now (gates .entry))
+        (now (resets .entry)) (now (bads .entry)) (now (constraints .entry)) (now (scratch .entry)))))) ++ now (tail .entry)) ⌝ }
 {
     match convert::convert(
         n,
@@ -94,10 +123,16 @@ fn write_reduced(
         latches,
         outputs,
         gates,
+        resets,
+        bads,
+        constraints,
         made_inputs,
         made_latches,
         made_outputs,
         made_gates,
+        made_resets,
+        made_bads,
+        made_constraints,
         scratch,
     ) {
         Made::Refused(r) => Written::Refused(r),
@@ -107,10 +142,16 @@ fn write_reduced(
             latches,
             outputs,
             gates,
+            resets,
+            bads,
+            constraints,
             made_inputs,
             made_latches,
             made_outputs,
             made_gates,
+            made_resets,
+            made_bads,
+            made_constraints,
             scratch,
             tail,
             out,
@@ -126,38 +167,39 @@ fn reduce_file(
     latches: &mut [u32],
     outputs: &mut [u32],
     gates: &mut [u32],
+    resets: &mut [u32],
+    bads: &mut [u32],
+    constraints: &mut [u32],
     made_inputs: &mut [u32],
     made_latches: &mut [u32],
     made_outputs: &mut [u32],
     made_gates: &mut [u32],
+    made_resets: &mut [u32],
+    made_bads: &mut [u32],
+    made_constraints: &mut [u32],
     scratch: &mut [u32],
     out: &mut [u8],
 ) -> Written
     ensures { λ r. ⌜ record { answer = r; out = now (out .exit) } ≡ toldBy (now (out .entry)) (reducedFile
         (record {
           plan = inputOf readable (now (file .entry));
-          read = (record {
-            inputs = now (inputs .entry);
-            latches = now (latches .entry);
-            outputs = now (outputs .entry);
-            gates = now (gates .entry);
-          });
-          made = (record {
-            inputs = now («made_inputs» .entry);
-            latches = now («made_latches» .entry);
-            outputs = now («made_outputs» .entry);
-            gates = now («made_gates» .entry);
-          });
+          read = seven (now (inputs .entry)) (now (latches .entry)) (now (outputs .entry)) (now (gates .entry)) (now (resets .entry))
+              (now (bads .entry)) (now (constraints .entry));
+          made = seven (now («made_inputs» .entry)) (now («made_latches» .entry)) (now («made_outputs» .entry)) (now («made_gates» .entry))
+              (now («made_resets» .entry)) (now («made_bads» .entry)) (now («made_constraints» .entry));
           scratch = now (scratch .entry);
           out = now (out .entry);
         })) ⌝ }
 {
-    let made = Sizes {
-        inputs: made_inputs.len(),
-        latches: made_latches.len(),
-        outputs: made_outputs.len(),
-        gates: made_gates.len(),
-    };
+    let made = lengths(
+        made_inputs,
+        made_latches,
+        made_outputs,
+        made_gates,
+        made_resets,
+        made_bads,
+        made_constraints,
+    );
     match open_file(
         readable,
         file,
@@ -165,26 +207,33 @@ fn reduce_file(
         latches,
         outputs,
         gates,
+        resets,
+        bads,
+        constraints,
         scratch,
         made,
     ) {
         Loaded::Refused(r) => Written::Refused(r),
-        Loaded::Accepted(n, tail_at) => {
-            write_reduced(
-                n,
-                inputs,
-                latches,
-                outputs,
-                gates,
-                made_inputs,
-                made_latches,
-                made_outputs,
-                made_gates,
-                scratch,
-                &file[tail_at..],
-                out,
-            )
-        }
+        Loaded::Accepted(n, tail_at) => write_reduced(
+            n,
+            inputs,
+            latches,
+            outputs,
+            gates,
+            resets,
+            bads,
+            constraints,
+            made_inputs,
+            made_latches,
+            made_outputs,
+            made_gates,
+            made_resets,
+            made_bads,
+            made_constraints,
+            scratch,
+            &file[tail_at..],
+            out,
+        ),
     }
 }
 
@@ -196,45 +245,35 @@ pub fn reduce_whole(
     latches: &mut [u32],
     outputs: &mut [u32],
     gates: &mut [u32],
+    resets: &mut [u32],
+    bads: &mut [u32],
+    constraints: &mut [u32],
     made_inputs: &mut [u32],
     made_latches: &mut [u32],
     made_outputs: &mut [u32],
     made_gates: &mut [u32],
+    made_resets: &mut [u32],
+    made_bads: &mut [u32],
+    made_constraints: &mut [u32],
     scratch: &mut [u32],
     out: &mut [u8],
 ) -> Written
     ensures { λ r. ⌜ Says reduceWhole
         (record {
           plan = inputOf readable (now (file .entry));
-          read = (record {
-            inputs = now (inputs .entry);
-            latches = now (latches .entry);
-            outputs = now (outputs .entry);
-            gates = now (gates .entry);
-          });
-          made = (record {
-            inputs = now («made_inputs» .entry);
-            latches = now («made_latches» .entry);
-            outputs = now («made_outputs» .entry);
-            gates = now («made_gates» .entry);
-          });
+          read = seven (now (inputs .entry)) (now (latches .entry)) (now (outputs .entry)) (now (gates .entry)) (now (resets .entry))
+              (now (bads .entry)) (now (constraints .entry));
+          made = seven (now («made_inputs» .entry)) (now («made_latches» .entry)) (now («made_outputs» .entry)) (now («made_gates» .entry))
+              (now («made_resets» .entry)) (now («made_bads» .entry)) (now («made_constraints» .entry));
           scratch = now (scratch .entry);
           out = now (out .entry);
         })
         (record {
           answer = r;
-          read = (record {
-            inputs = now (inputs .exit);
-            latches = now (latches .exit);
-            outputs = now (outputs .exit);
-            gates = now (gates .exit);
-          });
-          made = (record {
-            inputs = now («made_inputs» .exit);
-            latches = now («made_latches» .exit);
-            outputs = now («made_outputs» .exit);
-            gates = now («made_gates» .exit);
-          });
+          read = seven (now (inputs .exit)) (now (latches .exit)) (now (outputs .exit)) (now (gates .exit)) (now (resets .exit)) (now (bads .exit))
+              (now (constraints .exit));
+          made = seven (now («made_inputs» .exit)) (now («made_latches» .exit)) (now («made_outputs» .exit)) (now («made_gates» .exit))
+              (now («made_resets» .exit)) (now («made_bads» .exit)) (now («made_constraints» .exit));
           scratch = now (scratch .exit);
           out = now (out .exit);
         }) ⌝ }
@@ -246,15 +285,29 @@ pub fn reduce_whole(
         latches,
         outputs,
         gates,
+        resets,
+        bads,
+        constraints,
         made_inputs,
         made_latches,
         made_outputs,
         made_gates,
+        made_resets,
+        made_bads,
+        made_constraints,
         scratch,
         out,
     );
-    clear_four(inputs, latches, outputs, gates);
-    clear_four(made_inputs, made_latches, made_outputs, made_gates);
+    clear_all(inputs, latches, outputs, gates, resets, bads, constraints);
+    clear_all(
+        made_inputs,
+        made_latches,
+        made_outputs,
+        made_gates,
+        made_resets,
+        made_bads,
+        made_constraints,
+    );
     clear(scratch);
     answer
 }

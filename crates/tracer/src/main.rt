@@ -33,6 +33,9 @@ fn trace_all(
     latches: &[u32],
     outputs: &[u32],
     gates: &[u32],
+    resets: &[u32],
+    bads: &[u32],
+    constraints: &[u32],
     scratch: &mut [u32],
     state: &mut [u8],
     vectors: &[u8],
@@ -48,6 +51,9 @@ fn trace_all(
             latches,
             outputs,
             gates,
+            resets,
+            bads,
+            constraints,
             scratch,
             state,
             &vectors[at..],
@@ -65,13 +71,50 @@ fn trace_all(
     }
 }
 
-// Standard input, and all of its lines checked before the first is printed. The first state is all "0".
+// The same from the resets.
+fn trace_first(
+    n: Counts,
+    inputs: &[u32],
+    latches: &[u32],
+    outputs: &[u32],
+    gates: &[u32],
+    resets: &[u32],
+    bads: &[u32],
+    constraints: &[u32],
+    scratch: &mut [u32],
+    state: &mut [u8],
+    vectors: &[u8],
+    lines: usize,
+    out: &mut [u8],
+) {
+    values::first_state(resets, state);
+    trace_all(
+        n,
+        inputs,
+        latches,
+        outputs,
+        gates,
+        resets,
+        bads,
+        constraints,
+        scratch,
+        state,
+        vectors,
+        lines,
+        out,
+    );
+}
+
+// Standard input, and all of its lines checked before the first is printed. The first state is that of the resets.
 fn trace_input(
     n: Counts,
     inputs: &[u32],
     latches: &[u32],
     outputs: &[u32],
     gates: &[u32],
+    resets: &[u32],
+    bads: &[u32],
+    constraints: &[u32],
     scratch: &mut [u32],
     out: &mut [u8],
 ) {
@@ -79,15 +122,18 @@ fn trace_input(
     let input = office::read_input(0, &mut bytes);
     let size = office::size(input);
     let mut state = [b'0'; 4096];
-    let wide = tables::shorter(n.L, 4096);
+    let wide = tables::lesser(n.L, 4096);
     match stimulus::count_lines(office::readable(input), &bytes[0..size], n.I) {
         Traced::Refused(r) => office::refuse(r),
-        Traced::Lines(lines) => trace_all(
+        Traced::Lines(lines) => trace_first(
             n,
             inputs,
             latches,
             outputs,
             gates,
+            resets,
+            bads,
+            constraints,
             scratch,
             &mut state[0..wide],
             &bytes[0..size],
@@ -105,10 +151,16 @@ fn main() {
     let mut latches = [0u32; 4096];
     let mut outputs = [0u32; 4096];
     let mut gates = [0u32; 4096];
+    let mut resets = [0u32; 4096];
+    let mut bads = [0u32; 4096];
+    let mut constraints = [0u32; 4096];
     let mut made_inputs = [0u32; 4096];
     let mut made_latches = [0u32; 4096];
     let mut made_outputs = [0u32; 4096];
     let mut made_gates = [0u32; 4096];
+    let mut made_resets = [0u32; 4096];
+    let mut made_bads = [0u32; 4096];
+    let mut made_constraints = [0u32; 4096];
     let mut scratch = [0u32; 16384];
     let mut out = [0u8; 65536];
     match opening::open_whole(
@@ -118,10 +170,16 @@ fn main() {
         &mut latches,
         &mut outputs,
         &mut gates,
+        &mut resets,
+        &mut bads,
+        &mut constraints,
         &mut made_inputs,
         &mut made_latches,
         &mut made_outputs,
         &mut made_gates,
+        &mut made_resets,
+        &mut made_bads,
+        &mut made_constraints,
         &mut scratch,
     ) {
         Made::Refused(r) => office::refuse(r),
@@ -131,6 +189,9 @@ fn main() {
             &made_latches,
             &made_outputs,
             &made_gates,
+            &made_resets,
+            &made_bads,
+            &made_constraints,
             &mut scratch,
             &mut out,
         ),

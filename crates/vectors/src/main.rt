@@ -9,8 +9,9 @@ use plan::Loaded;
 use plan::Made;
 use plan::Refusal;
 use plan::Traced;
+use plan::Version;
 use plan::Written;
-use tables::shorter;
+use tables::lesser;
 
 // No table and no list of examples here is longer.
 const MOST: usize = 1000;
@@ -76,10 +77,10 @@ fn say_counts(n: Counts) {
     say_number(n.A as u64);
 }
 
-// The four tables of a circuit.
+// Tables 1 to 4 of a circuit.
 fn say_circuit(n: Counts, inputs: &[u32], latches: &[u32], outputs: &[u32], gates: &[u32]) {
-    let l = shorter(n.L, MOST);
-    let a = shorter(n.A, MOST);
+    let l = lesser(n.L, MOST);
+    let a = lesser(n.A, MOST);
     say(b" inputs");
     say_table(inputs, n.I);
     say(b" latches");
@@ -90,19 +91,26 @@ fn say_circuit(n: Counts, inputs: &[u32], latches: &[u32], outputs: &[u32], gate
     say_table(gates, a + a + a);
 }
 
-// What the reader leaves: M I L O A, tables 1 to 4, and where the tail starts.
+// What the reader leaves: M I L O A, tables 1 to 4, and where the tail starts; the examples are those of 2007.
 fn show_tables(file: &[u8]) {
     let mut inputs = [0u32; 64];
     let mut latches = [0u32; 64];
     let mut outputs = [0u32; 64];
     let mut gates = [0u32; 64];
+    let mut resets = [0u32; 64];
+    let mut bads = [0u32; 64];
+    let mut constraints = [0u32; 64];
     let mut scratch = [0u32; 256];
     match read::load(
+        Version::V19,
         file,
         &mut inputs,
         &mut latches,
         &mut outputs,
         &mut gates,
+        &mut resets,
+        &mut bads,
+        &mut constraints,
         &mut scratch,
     ) {
         Loaded::Refused(r) => office::refuse(r),
@@ -123,10 +131,16 @@ fn show_converted(file: &[u8]) {
     let mut latches = [0u32; 64];
     let mut outputs = [0u32; 64];
     let mut gates = [0u32; 64];
+    let mut resets = [0u32; 64];
+    let mut bads = [0u32; 64];
+    let mut constraints = [0u32; 64];
     let mut made_inputs = [0u32; 64];
     let mut made_latches = [0u32; 64];
     let mut made_outputs = [0u32; 64];
     let mut made_gates = [0u32; 64];
+    let mut made_resets = [0u32; 64];
+    let mut made_bads = [0u32; 64];
+    let mut made_constraints = [0u32; 64];
     let mut scratch = [0u32; 256];
     let mut out = [0u8; 512];
     let answer = converting::convert_whole(
@@ -136,10 +150,16 @@ fn show_converted(file: &[u8]) {
         &mut latches,
         &mut outputs,
         &mut gates,
+        &mut resets,
+        &mut bads,
+        &mut constraints,
         &mut made_inputs,
         &mut made_latches,
         &mut made_outputs,
         &mut made_gates,
+        &mut made_resets,
+        &mut made_bads,
+        &mut made_constraints,
         &mut scratch,
         &mut out,
     );
@@ -152,10 +172,16 @@ fn show_reduced(file: &[u8]) {
     let mut latches = [0u32; 64];
     let mut outputs = [0u32; 64];
     let mut gates = [0u32; 64];
+    let mut resets = [0u32; 64];
+    let mut bads = [0u32; 64];
+    let mut constraints = [0u32; 64];
     let mut made_inputs = [0u32; 64];
     let mut made_latches = [0u32; 64];
     let mut made_outputs = [0u32; 64];
     let mut made_gates = [0u32; 64];
+    let mut made_resets = [0u32; 64];
+    let mut made_bads = [0u32; 64];
+    let mut made_constraints = [0u32; 64];
     let mut scratch = [0u32; 256];
     let mut out = [0u8; 512];
     let answer = reducing::reduce_whole(
@@ -165,10 +191,16 @@ fn show_reduced(file: &[u8]) {
         &mut latches,
         &mut outputs,
         &mut gates,
+        &mut resets,
+        &mut bads,
+        &mut constraints,
         &mut made_inputs,
         &mut made_latches,
         &mut made_outputs,
         &mut made_gates,
+        &mut made_resets,
+        &mut made_bads,
+        &mut made_constraints,
         &mut scratch,
         &mut out,
     );
@@ -187,25 +219,63 @@ fn before_zero(bytes: &[u8]) -> usize {
     i
 }
 
-// The lines of a converted circuit's steps, from the state of all "0".
+// A part of a run from the resets.
+fn trace_first(
+    n: Counts,
+    inputs: &[u32],
+    latches: &[u32],
+    outputs: &[u32],
+    gates: &[u32],
+    resets: &[u32],
+    bads: &[u32],
+    constraints: &[u32],
+    scratch: &mut [u32],
+    state: &mut [u8],
+    vectors: &[u8],
+    out: &mut [u8],
+) -> Traced {
+    values::first_state(resets, state);
+    trace::trace(
+        n,
+        inputs,
+        latches,
+        outputs,
+        gates,
+        resets,
+        bads,
+        constraints,
+        scratch,
+        state,
+        vectors,
+        out,
+    )
+}
+
+// The lines of a converted circuit's steps, from the resets.
 fn say_lines(
     n: Counts,
     inputs: &[u32],
     latches: &[u32],
     outputs: &[u32],
     gates: &[u32],
+    resets: &[u32],
+    bads: &[u32],
+    constraints: &[u32],
     scratch: &mut [u32],
     vectors: &[u8],
 ) {
     let mut state = [b'0'; 64];
     let mut out = [0u8; 512];
-    let l = shorter(n.L, 64);
-    match trace::trace(
+    let l = lesser(n.L, 64);
+    match trace_first(
         n,
         inputs,
         latches,
         outputs,
         gates,
+        resets,
+        bads,
+        constraints,
         scratch,
         &mut state[0..l],
         vectors,
@@ -224,10 +294,16 @@ fn show_lines(file: &[u8], vectors: &[u8]) {
     let mut latches = [0u32; 64];
     let mut outputs = [0u32; 64];
     let mut gates = [0u32; 64];
+    let mut resets = [0u32; 64];
+    let mut bads = [0u32; 64];
+    let mut constraints = [0u32; 64];
     let mut made_inputs = [0u32; 64];
     let mut made_latches = [0u32; 64];
     let mut made_outputs = [0u32; 64];
     let mut made_gates = [0u32; 64];
+    let mut made_resets = [0u32; 64];
+    let mut made_bads = [0u32; 64];
+    let mut made_constraints = [0u32; 64];
     let mut scratch = [0u32; 256];
     match opening::open_whole(
         true,
@@ -236,10 +312,16 @@ fn show_lines(file: &[u8], vectors: &[u8]) {
         &mut latches,
         &mut outputs,
         &mut gates,
+        &mut resets,
+        &mut bads,
+        &mut constraints,
         &mut made_inputs,
         &mut made_latches,
         &mut made_outputs,
         &mut made_gates,
+        &mut made_resets,
+        &mut made_bads,
+        &mut made_constraints,
         &mut scratch,
     ) {
         Made::Refused(r) => office::refuse(r),
@@ -249,6 +331,9 @@ fn show_lines(file: &[u8], vectors: &[u8]) {
             &made_latches,
             &made_outputs,
             &made_gates,
+            &made_resets,
+            &made_bads,
+            &made_constraints,
             &mut scratch,
             vectors,
         ),
@@ -317,7 +402,7 @@ fn example(k: usize)
 }
 
 fn main() {
-    let count = shorter(os::arg_count() / 3, MOST);
+    let count = lesser(os::arg_count() / 3, MOST);
     let mut k = 0;
     while k < count {
         example(k);

@@ -1,6 +1,9 @@
+use native.Mathlib.Omega.{arith}
 use borrow.Author.Needs.{needs}
+use Rattle.plan.specs.Circuit.{seven}
 use Rattle.plan.specs.Header.{countsFrom}
 use Rattle.plan.specs.Given.{Given}
+use Rattle.given.specs.Judged.{givenAt}
 use Rattle.plan.specs.Outcome.{StepExit}
 use Rattle.desk.proofs.Answers.{step-told}
 use Rattle.desk.proofs.golvanzo_step.Statement.{statement}
@@ -16,31 +19,29 @@ stepped-requires : tie.Need-stepped-requires
 stepped-requires c κs = search needs
 
 same-length : tie.Need-same-length
-same-length c = search needs
+same-length c = omega (arith, c .before .before .before .before .before .before .before .scratch .given)
 
 same-length-2 : tie.Need-same-length-2
-same-length-2 c = search needs
+same-length-2 c = omega (arith, c .before .before .before .before .before .state .given)
 
 same-length-3 : tie.Need-same-length-3
-same-length-3 c = search needs
+same-length-3 c = omega (arith, c .before .before .before .outs .given)
 
 returns : tie.Need-returns
 returns c =
-    let start = c .before .before .before .before .before .before .before .before .before .before .before .before .before .before .before .before .before .before .before .before .before in
+    let s0 = c .before .before .before .before .before .before .before .before .before .before .before .before .before .before .before in
+    let start = s0 .before .before .before .before .before .before .before .before .before in
     let counts′ = c .before .before .before .before .before .before .before .before .before .before .before .before .counts in
-    let step = c .before .before .before .before .before .before .before .before .step in
+    let stepped = c .before .before .before .before .before .before .before .before .step in
     let a = start .args in
-    let stepped = step in
-    let g : Given = record {
-      counts = countsFrom (a .counts .now);
-      tables = record { inputs = a .inputs .now; latches = a .latches .now; outputs = a .outputs .now; gates = a .gates .now };
-      scratch = a .scratch .now;
-    } in
+    let g : Given = givenAt (countsFrom (a .counts .now)) (seven (a .inputs .now) (a .latches .now) (a .outputs .now) (a .gates .now)
+    (a .resets .now) (a .bads .now) (a .constraints .now)) (a .scratch .now) in
+    let l = stepped .last in
     let x : StepExit = record {
       answer = stepped .result;
-      scratch = stepped .last .1 .1 .1 .1 .1 .0;
-      state = stepped .last .1 .1 .1 .1 .1 .1 .0;
-      outputs = stepped .last .1 .1 .1 .1 .1 .1 .1 .1 .0;
+      scratch = l .1 .1 .1 .1 .1 .1 .1 .1 .0;
+      state = l .1 .1 .1 .1 .1 .1 .1 .1 .1 .0;
+      outputs = l .1 .1 .1 .1 .1 .1 .1 .1 .1 .1 .1 .0;
     } in
     step-told g (a .state .now) (a .ins .now) (a .outs .now) _ x _ (counts′ .ensures) (stepped .ensures) (c .stepped .ensures)
 

@@ -1,6 +1,9 @@
+use native.Mathlib.Omega.{arith}
 use borrow.Author.Needs.{needs}
+use Rattle.plan.specs.Circuit.{seven}
 use Rattle.plan.specs.Header.{countsFrom}
 use Rattle.plan.specs.Given.{Given}
+use Rattle.given.specs.Judged.{givenAt}
 use Rattle.plan.specs.Outcome.{WitnessExit}
 use Rattle.desk.proofs.Answers.{witness-told}
 use Rattle.desk.proofs.golvanzo_witness.Statement.{statement}
@@ -16,21 +19,26 @@ verdict-requires : tie.Need-verdict-requires
 verdict-requires c κs = search needs
 
 same-length : tie.Need-same-length
-same-length c = search needs
+same-length c = omega (arith, c .before .before .before .scratch .given)
 
 returns : tie.Need-returns
 returns c =
-    let start = c .before .before .before .before .before .before .before .before .before .before .before .before .before in
-    let a = start .args in
+    let s0 = c .before .before .before .before .before .before .before .before .before .before .before .before .before .before .before in
+    let start = s0 .before in
+    let counts′ = c .before .before .before .before .before .before .counts in
     let asked = c .before .before .before .before .witness in
-    let g : Given = record {
-      counts = countsFrom (a .counts .now);
-      tables = record { inputs = a .inputs .now; latches = a .latches .now; outputs = a .outputs .now; gates = a .gates .now };
-      scratch = a .scratch .now;
-    } in
-    let x : WitnessExit = record { answer = asked .result; scratch = asked .last .1 .1 .1 .1 .1 .0 } in
-    witness-told g (a .number) (a .bytes .now) _ x _ (c .before .before .before .before .before .before .counts .ensures) (asked .ensures) (c .verdict .ensures)
+    let a = start .args in
+    let g : Given = givenAt (countsFrom (a .counts .now)) (seven (a .inputs .now) (a .latches .now) (a .outputs .now) (a .gates .now)
+    (a .resets .now) (a .bads .now) (a .constraints .now)) (a .scratch .now) in
+    let x : WitnessExit = record { answer = asked .result; scratch = asked .last .1 .1 .1 .1 .1 .1 .1 .1 .0 } in
+    witness-told g (a .number) (a .bytes .now) _ x _ (counts′ .ensures) (asked .ensures) (c .verdict .ensures)
 
 pub golvanzo-witness-spec : {M : Type 1} → statement M
 golvanzo-witness-spec =
-    tie.close (tie.spec counts-requires witness-requires verdict-requires same-length returns)
+    tie.close
+    (tie.spec
+    counts-requires
+    witness-requires
+    verdict-requires
+    same-length
+    returns)

@@ -7,11 +7,11 @@ use Rattle.tracer.proofs.trace_all.Statement.{statement}
 use Rattle.tracer.proofs.trace_all.Tie as tie
 
 abbrev Inv-loop : tie.InvT-loop
-Inv-loop n inputs latches outputs gates scratch₀ state₀ vectors lines out₀ at₀ parts₀ scratch state out at parts =
+Inv-loop n inputs latches outputs gates resets bads constraints scratch₀ state₀ vectors lines out₀ at₀ parts₀ scratch state out at parts =
     Kept at vectors scratch₀ state₀ out₀ scratch state out
 
 abbrev μ-loop : tie.MeasureT-loop
-μ-loop n inputs latches outputs gates scratch₀ state₀ vectors lines out₀ at₀ parts₀ scratch state out at parts = parts
+μ-loop n inputs latches outputs gates resets bads constraints scratch₀ state₀ vectors lines out₀ at₀ parts₀ scratch state out at parts = parts
 
 loop-holds : tie.Need-loop-holds Inv-loop μ-loop
 loop-holds c = record { bound = omega arith; same-scratch = refl; same-state = refl; same-out = refl }

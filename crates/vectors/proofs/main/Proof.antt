@@ -13,8 +13,8 @@ abbrev μ-loop : tie.MeasureT-loop
 arg-count-requires : tie.Need-arg-count-requires Inv-loop μ-loop
 arg-count-requires c κs = search needs
 
-shorter-requires : tie.Need-shorter-requires Inv-loop μ-loop
-shorter-requires c κs = search needs
+lesser-requires : tie.Need-lesser-requires Inv-loop μ-loop
+lesser-requires c κs = search needs
 
 loop-holds : tie.Need-loop-holds Inv-loop μ-loop
 loop-holds c = search needs
@@ -41,7 +41,7 @@ main-spec =
     Inv-loop
     μ-loop
     arg-count-requires
-    shorter-requires
+    lesser-requires
     loop-holds
     example-requires
     add-k
