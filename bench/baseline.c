@@ -171,7 +171,7 @@ place decodec(place file, place end, struct circuit *c) {
 /* A whole text file into the tables, without checks. */
 place text(place p, struct circuit *c) {
     p = header(p, c->counts);
-    for (int t = 0; t < CIRCUIT; t++)
+    for (int t = INPUTS; t <= GATES; t++)
         for (size_t i = 0; i < c->length[t]; i++)
             p = number(p, &c->table[t][i]);
     return p;
@@ -454,10 +454,11 @@ static uint8_t *put_header(uint8_t *to, const char *form, const uint64_t *counts
     return to;
 }
 
+/* Every reset is 0, and is left off. */
 size_t print(const struct circuit *c, uint8_t *out) {
-    static const int wide[CIRCUIT] = {1, 2, 1, 3};
+    static const int wide[] = {1, 2, 1, 3};
     uint8_t *to = put_header(out, "aag ", c->counts);
-    for (int t = 0; t < CIRCUIT; t++)
+    for (int t = INPUTS; t <= GATES; t++)
         for (const uint32_t *w = c->table[t], *end = w + c->length[t]; w < end; w += wide[t]) {
             for (int k = 0; k + 1 < wide[t]; k++)
                 to = put_number(to, w[k], ' ');

@@ -39,6 +39,9 @@ struct circuit tables_for(const uint64_t *counts) {
     c.length[LATCHES] = 2 * counts[L];
     c.length[OUTPUTS] = counts[O];
     c.length[GATES] = 3 * counts[A];
+    c.length[RESETS] = counts[L];
+    c.length[BADS] = counts[B];
+    c.length[CONSTRAINTS] = counts[C];
     for (int k = 0; k < CIRCUIT; k++)
         c.table[k] = room(4 * c.length[k]);
     return c;
@@ -52,7 +55,7 @@ void free_circuit(struct circuit *c) {
 /* I = L = O = a fiftieth of the gates, so that a million gates keep M below the limit. */
 static struct circuit begun(uint32_t gates) {
     uint32_t few = gates / 50 < 4 ? 4 : gates / 50;
-    struct circuit c = tables_for((uint64_t[5]){2 * few + gates, few, few, few, gates});
+    struct circuit c = tables_for((uint64_t[COUNTS]){2 * few + gates, few, few, few, gates});
     uint32_t last = 2 * few + gates;
     for (uint32_t i = 0; i < few; i++) {
         c.table[INPUTS][i] = 2 * (i + 1);

@@ -5,11 +5,12 @@
 #include <stddef.h>
 #include <stdint.h>
 
-enum { M, I, L, O, A };
-enum { INPUTS, LATCHES, OUTPUTS, GATES, CIRCUIT };
+enum { M, I, L, O, A, B, C, COUNTS };
+enum { INPUTS, LATCHES, OUTPUTS, GATES, RESETS, BADS, CONSTRAINTS, CIRCUIT };
 
+/* Every reset is 0, and there are no bad states and no constraints. */
 struct circuit {
-    uint64_t counts[5];
+    uint64_t counts[COUNTS];
     uint32_t *table[CIRCUIT];
     size_t length[CIRCUIT];
 };

@@ -36,9 +36,10 @@ static void *lent(size_t bytes) {
 }
 
 static struct circuit lent_circuit(const uint8_t *file, size_t length) {
+    static const uint64_t numbers[CIRCUIT] = {1, 2, 3, 4, 7, 8, 9};
     struct circuit c = {.counts = {0}};
     for (int t = 0; t < CIRCUIT; t++) {
-        c.length[t] = golvanzo_words(file, length, (uint64_t)t + 1);
+        c.length[t] = golvanzo_words(file, length, numbers[t]);
         c.table[t] = lent(4 * c.length[t]);
     }
     return c;
@@ -53,7 +54,7 @@ static void by_desk(const uint8_t *file, size_t length, const char *to) {
     struct circuit c = lent_circuit(file, length), made = lent_circuit(file, length);
     size_t scratch_length = golvanzo_words(file, length, 5);
     uint32_t *scratch = lent(4 * scratch_length);
-    uint64_t answer[7];
+    uint64_t answer[2 + COUNTS];
     golvanzo_read(file, length, TABLES(c), scratch, scratch_length, answer);
     memcpy(c.counts, answer + 2, sizeof c.counts);
     if (answer[0] == 0)

@@ -6,7 +6,7 @@
 struct work work_on(struct circuit given) {
     const uint64_t *n = given.counts;
     struct work w = {.given = given, .made = tables_for(n), .base_made = tables_for(n), .base = base_for(n)};
-    w.scratch_length = 4 * (n[M] + 1) + n[O];
+    w.scratch_length = 4 * (n[M] + 1) + n[O] + n[B] + n[C];
     w.scratch = room(4 * w.scratch_length);
     w.out_length = 100 + 16 * (n[I] + n[L] + n[O]) + 24 * n[A];
     w.file = room(w.out_length);
@@ -112,7 +112,7 @@ void base_steps(struct work *w) {
 }
 
 void desk_file(struct work *w) {
-    uint64_t counts[5];
+    uint64_t counts[COUNTS];
     desk_read(w);
     memcpy(counts, w->answer + 2, sizeof counts);
     golvanzo_convert(counts, TABLES(w->made), TABLES(w->base_made), SCRATCH(w), w->answer);

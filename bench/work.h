@@ -13,12 +13,14 @@ struct work {
     uint32_t *scratch;
     size_t scratch_length, file_length, out_length, base_length;
     uint8_t *file, *out, *state, *ins, *outs;
-    uint64_t answer[7];
+    uint64_t answer[2 + COUNTS];
     struct base base;
 };
 
 #define TABLE(c, t) (c).table[t], (c).length[t]
-#define TABLES(c) TABLE(c, INPUTS), TABLE(c, LATCHES), TABLE(c, OUTPUTS), TABLE(c, GATES)
+#define TABLES(c)                                                                                                      \
+    TABLE(c, INPUTS), TABLE(c, LATCHES), TABLE(c, OUTPUTS), TABLE(c, GATES), TABLE(c, RESETS), TABLE(c, BADS),         \
+        TABLE(c, CONSTRAINTS)
 #define SCRATCH(w) (w)->scratch, (w)->scratch_length
 
 struct work work_on(struct circuit given);

@@ -1,5 +1,10 @@
-/* The desk: Golvanzo for C. A caller owes each call: buffers that do not overlap, aligned and as long as said; no null
-   pointer with a length above 0, and none for `answer`. Lengths of tables are in words. Nothing is kept or allocated. */
+/* The desk: Golvanzo for C, for circuits of AIGER 1.9. A caller owes each call: buffers that do not overlap, aligned
+   and as long as said; no null pointer with a length above 0, and none for `counts` and `answer`. Lengths of tables
+   are in words. Nothing is kept or allocated.
+
+   An answer starts with a refusal's number, 0 if there is none, and its place; what follows is 0 after a refusal.
+   After one every table lent for writing is zero, and no byte of `out`, `state` and `outs` has changed. Scratch
+   is zero after every call, given tables are never changed, and words of written tables past the counts are zero. */
 #ifndef GOLVANZO_H
 #define GOLVANZO_H
 
@@ -10,59 +15,67 @@
 extern "C" {
 #endif
 
-/* How many words table 1 to 5 needs for the file's header; 2^64 - 1 if there is no such table or the header is refused. */
+/* A circuit's tables, each with its length, in the order 1 to 4, 7 to 9: inputs (I words), latches (2L, current then
+   next), outputs (O), gates (3A, left side then the right sides), resets (L; 0, 1 or the latch's own literal, which
+   is x), bad states (B), constraints (C). What is lent for writing is `GOLVANZO_WRITTEN`, what is only read is
+   `GOLVANZO_GIVEN`; tables may be longer than this. `GOLVANZO_SCRATCH` is table 5, 4 * (M + 1) + O + B + C words. */
+#define GOLVANZO_GIVEN                                                                                                 \
+    const uint32_t *inputs, size_t n1, const uint32_t *latches, size_t n2, const uint32_t *outputs, size_t n3,         \
+        const uint32_t *gates, size_t n4, const uint32_t *resets, size_t n7, const uint32_t *bads, size_t n8,          \
+        const uint32_t *constraints, size_t n9
+#define GOLVANZO_WRITTEN                                                                                               \
+    uint32_t *to_inputs, size_t w1, uint32_t *to_latches, size_t w2, uint32_t *to_outputs, size_t w3,                  \
+        uint32_t *to_gates, size_t w4, uint32_t *to_resets, size_t w7, uint32_t *to_bads, size_t w8,                   \
+        uint32_t *to_constraints, size_t w9
+#define GOLVANZO_SCRATCH uint32_t *scratch, size_t n5
+
+/* How many words table 1 to 5 or 7 to 9 needs for the file's header, read by AIGER 1.9; 2^64 - 1 if there is no such
+   table or the header is refused. */
 uint64_t golvanzo_words(const uint8_t *file, size_t file_len, uint64_t table);
 
-/* Reads a file into the tables, `answer` being number (0: accepted), place, M, I, L, O, A; returns the offset where the
-   tail starts (the file's length after a refusal). */
-uint64_t golvanzo_read(const uint8_t *file, size_t file_len, uint32_t *inputs, size_t n1, uint32_t *latches, size_t n2,
-                       uint32_t *outputs, size_t n3, uint32_t *gates, size_t n4, uint32_t *scratch, size_t n5,
-                       uint64_t *answer /* 7 words */);
+/* Read a file of AIGER 1.9 into the tables, whatever they hold, `answer` being number (0: accepted), place, M, I, L, O,
+   A, B, C; return the offset where the tail starts (the file's length after a refusal). The second reads by the report
+   of 2007 alone: it refuses what is newer, and leaves resets that are 0, and B and C that are 0. */
+uint64_t golvanzo_read(const uint8_t *file, size_t file_len, GOLVANZO_WRITTEN, GOLVANZO_SCRATCH,
+                       uint64_t *answer /* 9 words */);
+uint64_t golvanzo_read2007(const uint8_t *file, size_t file_len, GOLVANZO_WRITTEN, GOLVANZO_SCRATCH,
+                           uint64_t *answer /* 9 words */);
 
-/* The calls on tables: `counts` are M, I, L, O, A, of any size. Tables that are only read may hold more words than the
-   counts ask for. */
+/* The calls on tables: `counts` are M, I, L, O, A, B, C, of any size, as an answer has them from its third word
+   on. */
 
-/* Whether the tables hold a circuit, `answer` being number (0: accepted) and place. */
-void golvanzo_check(const uint64_t *counts /* 5 words */, const uint32_t *inputs, size_t n1, const uint32_t *latches,
-                    size_t n2, const uint32_t *outputs, size_t n3, const uint32_t *gates, size_t n4, uint32_t *scratch,
-                    size_t n5, uint64_t *answer /* 2 words */);
+/* Whether the tables hold a circuit that a file could state, `answer` being number (0: they do) and place. */
+void golvanzo_check(const uint64_t *counts /* 7 words */, GOLVANZO_GIVEN, GOLVANZO_SCRATCH,
+                    uint64_t *answer /* 2 words */);
 
-/* Write the tables and the tail as a file into `out`, `answer` being number (0: accepted), place and how many bytes of
-   `out` are written (0 after a refusal, which changes none). Binary needs tables in binary order. */
-void golvanzo_write_text(const uint64_t *counts /* 5 words */, const uint32_t *inputs, size_t n1,
-                         const uint32_t *latches, size_t n2, const uint32_t *outputs, size_t n3, const uint32_t *gates,
-                         size_t n4, uint32_t *scratch, size_t n5, const uint8_t *tail, size_t tail_len, uint8_t *out,
-                         size_t out_len, uint64_t *answer /* 3 words */);
-void golvanzo_write_binary(const uint64_t *counts /* 5 words */, const uint32_t *inputs, size_t n1,
-                           const uint32_t *latches, size_t n2, const uint32_t *outputs, size_t n3,
-                           const uint32_t *gates, size_t n4, uint32_t *scratch, size_t n5, const uint8_t *tail,
+/* Write the tables and the tail (symbols and comment, in the letters of 1.9) as a file into `out`, in the shortest
+   form: zeros at the header's end, after A, and resets that are 0 are left off. `answer` is number (0: written),
+   place and how many bytes of `out` are written; no other byte changes. Binary needs tables in binary order. */
+void golvanzo_write_text(const uint64_t *counts /* 7 words */, GOLVANZO_GIVEN, GOLVANZO_SCRATCH, const uint8_t *tail,
+                         size_t tail_len, uint8_t *out, size_t out_len, uint64_t *answer /* 3 words */);
+void golvanzo_write_binary(const uint64_t *counts /* 7 words */, GOLVANZO_GIVEN, GOLVANZO_SCRATCH, const uint8_t *tail,
                            size_t tail_len, uint8_t *out, size_t out_len, uint64_t *answer /* 3 words */);
 
-/* Write the circuit in binary order, or reduced, to the tables w1 to w4 (as long as the given counts ask), `answer` being
-   number (0: accepted), place, M, I, L, O, A of what is written (0 after a refusal). Reduction needs tables in binary
+/* Write the circuit in binary order, or reduced, to the written tables, which must be as long as the given counts
+   ask; `answer` is number (0: made), place, M, I, L, O, A, B, C of what is written. Reduction needs tables in binary
    order. */
-void golvanzo_convert(const uint64_t *counts /* 5 words */, const uint32_t *inputs, size_t n1, const uint32_t *latches,
-                      size_t n2, const uint32_t *outputs, size_t n3, const uint32_t *gates, size_t n4, uint32_t *w1,
-                      size_t w1_len, uint32_t *w2, size_t w2_len, uint32_t *w3, size_t w3_len, uint32_t *w4,
-                      size_t w4_len, uint32_t *scratch, size_t n5, uint64_t *answer /* 7 words */);
-void golvanzo_reduce(const uint64_t *counts /* 5 words */, const uint32_t *inputs, size_t n1, const uint32_t *latches,
-                     size_t n2, const uint32_t *outputs, size_t n3, const uint32_t *gates, size_t n4, uint32_t *w1,
-                     size_t w1_len, uint32_t *w2, size_t w2_len, uint32_t *w3, size_t w3_len, uint32_t *w4,
-                     size_t w4_len, uint32_t *scratch, size_t n5, uint64_t *answer /* 7 words */);
+void golvanzo_convert(const uint64_t *counts /* 7 words */, GOLVANZO_GIVEN, GOLVANZO_WRITTEN, GOLVANZO_SCRATCH,
+                      uint64_t *answer /* 9 words */);
+void golvanzo_reduce(const uint64_t *counts /* 7 words */, GOLVANZO_GIVEN, GOLVANZO_WRITTEN, GOLVANZO_SCRATCH,
+                     uint64_t *answer /* 9 words */);
 
-/* One step of tables in binary order: takes `state` and `ins`, bytes "0", "1", "x", writes `outs` and the next state over
-   `state`; `answer` is number (0: accepted) and place. */
-void golvanzo_step(const uint64_t *counts /* 5 words */, const uint32_t *inputs, size_t n1, const uint32_t *latches,
-                   size_t n2, const uint32_t *outputs, size_t n3, const uint32_t *gates, size_t n4, uint32_t *scratch,
-                   size_t n5, uint8_t *state, size_t state_len, const uint8_t *ins, size_t ins_len, uint8_t *outs,
-                   size_t outs_len, uint64_t *answer /* 2 words */);
+/* One step of tables in binary order: takes `state` (L bytes) and `ins` (I), bytes "0", "1", "x", writes `outs` (O)
+   and the next state over `state`; `answer` is number (0: stepped) and place. Resets, bad states and constraints are
+   only checked: the caller starts a run, and a latch that is its own reset starts as "x". */
+void golvanzo_step(const uint64_t *counts /* 7 words */, GOLVANZO_GIVEN, GOLVANZO_SCRATCH, uint8_t *state,
+                   size_t state_len, const uint8_t *ins, size_t ins_len, uint8_t *outs, size_t outs_len,
+                   uint64_t *answer /* 2 words */);
 
-/* Whether `number` input vectors, one after another in `bytes`, give 1 on some output when stepped from the state of all
-   "0"; `answer` is number (0: accepted), place and 1 for yes, 0 for no. */
-void golvanzo_witness(const uint64_t *counts /* 5 words */, const uint32_t *inputs, size_t n1, const uint32_t *latches,
-                      size_t n2, const uint32_t *outputs, size_t n3, const uint32_t *gates, size_t n4,
-                      uint32_t *scratch, size_t n5, uint64_t number, const uint8_t *bytes, size_t bytes_len,
-                      uint64_t *answer /* 3 words */);
+/* Whether `number` input vectors, one after another in `bytes` (I bytes each), give 1 on some output or bad state
+   when stepped from the resets, every constraint being 1 at that step and at all before; `answer` is number (0:
+   answered), place and 1 for yes, 0 for no. Tables are in binary order. */
+void golvanzo_witness(const uint64_t *counts /* 7 words */, GOLVANZO_GIVEN, GOLVANZO_SCRATCH, uint64_t number,
+                      const uint8_t *bytes, size_t bytes_len, uint64_t *answer /* 3 words */);
 
 #ifdef __cplusplus
 }

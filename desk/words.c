@@ -23,18 +23,22 @@ static uint8_t *whole_input(size_t *length) {
 }
 
 int main(void) {
-    static const char *const names[] = {"inputs", "latches", "outputs", "gates", "scratch"};
+    static const struct {
+        uint64_t number;
+        const char *name;
+    } tables[] = {{1, "inputs"},  {2, "latches"}, {3, "outputs"}, {4, "gates"},
+                  {5, "scratch"}, {7, "resets"},  {8, "bads"},    {9, "constraints"}};
     size_t length;
     uint8_t *file = whole_input(&length);
-    uint64_t answer[7];
+    uint64_t answer[9];
     if (golvanzo_words(file, length, 1) == UINT64_MAX) {
-        golvanzo_read(file, length, NULL, 0, NULL, 0, NULL, 0, NULL, 0, NULL, 0, answer);
+        golvanzo_read(file, length, NULL, 0, NULL, 0, NULL, 0, NULL, 0, NULL, 0, NULL, 0, NULL, 0, NULL, 0, answer);
         printf("refused %llu at %llu\n", (unsigned long long)answer[0], (unsigned long long)answer[1]);
         return 0;
     }
-    for (uint64_t table = 1; table <= 5; table++)
-        printf("%llu %s %llu\n", (unsigned long long)table, names[table - 1],
-               (unsigned long long)golvanzo_words(file, length, table));
+    for (size_t k = 0; k < sizeof tables / sizeof tables[0]; k++)
+        printf("%llu %s %llu\n", (unsigned long long)tables[k].number, tables[k].name,
+               (unsigned long long)golvanzo_words(file, length, tables[k].number));
     free(file);
     return 0;
 }
