@@ -10,7 +10,10 @@
 
 #include "golvanzo.h"
 
-enum { TABLES = 5, ROOM = 100 };
+enum { TABLES = 8, SCRATCH = 7, ROOM = 100 };
+
+/* The numbers of the tables, in the order in which they are lent. */
+static const uint64_t numbers[TABLES] = {1, 2, 3, 4, 7, 8, 9, 5};
 
 static int passed, failed;
 
@@ -46,15 +49,15 @@ static struct bytes bytes_of(const char *text, size_t length) {
 /* A file given as a string; sizeof counts the 0 at its end. */
 #define FILE_OF(text) bytes_of(text, sizeof(text) - 1)
 
-/* A circuit in tables, with the scratch as the fifth and the answer of the call that wrote it. */
+/* A circuit in tables, with the scratch as the last and the answer of the call that wrote it. */
 struct circuit {
     uint32_t *table[TABLES];
     size_t words[TABLES];
-    uint64_t answer[7], tail;
+    uint64_t answer[9], tail;
 };
 
 #define TABLE(c, t) (c).table[t], (c).words[t]
-#define FOUR(c) TABLE(c, 0), TABLE(c, 1), TABLE(c, 2), TABLE(c, 3)
+#define SEVEN(c) TABLE(c, 0), TABLE(c, 1), TABLE(c, 2), TABLE(c, 3), TABLE(c, 4), TABLE(c, 5), TABLE(c, 6)
 #define COUNTS(c) ((c).answer + 2)
 
 /* The words are not zero before a call, so that the call must make them so. */
@@ -71,11 +74,18 @@ static struct circuit tables_like(const size_t *words) {
 static struct circuit read_file(struct bytes file) {
     size_t words[TABLES];
     for (int t = 0; t < TABLES; t++) {
-        uint64_t asked = golvanzo_words(file.at, file.length, (uint64_t)t + 1);
+        uint64_t asked = golvanzo_words(file.at, file.length, numbers[t]);
         words[t] = asked == UINT64_MAX ? 0 : (size_t)asked;
     }
     struct circuit c = tables_like(words);
-    c.tail = golvanzo_read(file.at, file.length, FOUR(c), TABLE(c, 4), c.answer);
+    c.tail = golvanzo_read(file.at, file.length, SEVEN(c), TABLE(c, SCRATCH), c.answer);
+    return c;
+}
+
+/* The same circuit by the reader of 2007. */
+static struct circuit read_file_2007(struct bytes file) {
+    struct circuit c = tables_like(read_file(file).words);
+    c.tail = golvanzo_read2007(file.at, file.length, SEVEN(c), TABLE(c, SCRATCH), c.answer);
     return c;
 }
 
@@ -91,9 +101,9 @@ static struct bytes written(struct circuit c, int binary, struct bytes tail) {
     uint64_t answer[3];
     struct bytes out = {lend(ROOM), ROOM};
     if (binary)
-        golvanzo_write_binary(COUNTS(c), FOUR(c), TABLE(c, 4), tail.at, tail.length, out.at, out.length, answer);
+        golvanzo_write_binary(COUNTS(c), SEVEN(c), TABLE(c, SCRATCH), tail.at, tail.length, out.at, out.length, answer);
     else
-        golvanzo_write_text(COUNTS(c), FOUR(c), TABLE(c, 4), tail.at, tail.length, out.at, out.length, answer);
+        golvanzo_write_text(COUNTS(c), SEVEN(c), TABLE(c, SCRATCH), tail.at, tail.length, out.at, out.length, answer);
     out.length = answer[0] == 0 ? (size_t)answer[2] : 0;
     return out;
 }
@@ -105,10 +115,10 @@ static int same(struct bytes a, struct bytes b) {
 static struct circuit changed(struct circuit c, int reduce) {
     struct circuit to = tables_like(c.words);
     if (reduce)
-        golvanzo_reduce(COUNTS(c), FOUR(c), FOUR(to), TABLE(to, 4), to.answer);
+        golvanzo_reduce(COUNTS(c), SEVEN(c), SEVEN(to), TABLE(to, SCRATCH), to.answer);
     else
-        golvanzo_convert(COUNTS(c), FOUR(c), FOUR(to), TABLE(to, 4), to.answer);
-    expect(all_zero(to.table[4], to.words[4]), "scratch is zero", reduce ? "reduce" : "convert");
+        golvanzo_convert(COUNTS(c), SEVEN(c), SEVEN(to), TABLE(to, SCRATCH), to.answer);
+    expect(all_zero(to.table[SCRATCH], to.words[SCRATCH]), "scratch is zero", reduce ? "reduce" : "convert");
     return to;
 }
 
@@ -118,21 +128,22 @@ static const char toggle_binary[] = "aig 7 2 1 2 4\n14\n6\n7\n\x02\x04\x03\x04\x
 
 static void sizes(void) {
     struct bytes file = FILE_OF(toggle_text);
-    static const uint64_t words[] = {2, 2, 2, 12, 4 * 8 + 2};
-    for (uint64_t t = 1; t <= TABLES; t++)
-        expect(golvanzo_words(file.at, file.length, t) == words[t - 1], "words of a table", "words");
+    static const uint64_t words[TABLES] = {2, 2, 2, 12, 1, 0, 0, 4 * 8 + 2};
+    for (int t = 0; t < TABLES; t++)
+        expect(golvanzo_words(file.at, file.length, numbers[t]) == words[t], "words of a table", "words");
     expect(golvanzo_words(file.at, file.length, 0) == UINT64_MAX, "no table 0", "words");
     expect(golvanzo_words(file.at, file.length, 6) == UINT64_MAX, "no table 6", "words");
+    expect(golvanzo_words(file.at, file.length, 10) == UINT64_MAX, "no table 10", "words");
     expect(golvanzo_words(NULL, 0, 1) == UINT64_MAX, "an empty file has no header", "words");
 }
 
 static void toggle_both_forms(void) {
     struct bytes text = FILE_OF(toggle_text), binary = FILE_OF(toggle_binary), none = {NULL, 0};
-    static const uint64_t counts[5] = {7, 2, 1, 2, 4};
+    static const uint64_t counts[7] = {7, 2, 1, 2, 4};
     struct circuit c = read_file(text);
     expect(c.answer[0] == 0 && c.tail == text.length, "T is read to its end", "read");
-    expect(memcmp(COUNTS(c), counts, sizeof counts) == 0, "T has the counts 7 2 1 2 4", "read");
-    expect(all_zero(c.table[4], c.words[4]), "scratch is zero", "read");
+    expect(memcmp(COUNTS(c), counts, sizeof counts) == 0, "T has the counts 7 2 1 2 4 0 0", "read");
+    expect(all_zero(c.table[SCRATCH], c.words[SCRATCH]), "scratch is zero", "read");
     expect(same(written(c, 0, none), text), "T is written as it was", "write_text");
     expect(written(c, 1, none).length == 0, "T is not in binary order", "write_binary");
     struct circuit to = changed(c, 0);
@@ -152,11 +163,31 @@ static void tails(void) {
            "write_binary");
 }
 
+/* A latch that starts as x, one that starts as 1, a bad state, a constraint: all of AIGER 1.9 there and back. */
+static const char guard_text[] = "aag 3 1 2 0 0 1 1\n2\n4 2 4\n6 6 1\n4\n6\nb0 p\nc0 q\n";
+static const char guard_binary[] = "aig 3 1 2 0 0 1 1\n2 4\n6 1\n4\n6\nb0 p\nc0 q\n";
+
+static void aiger_19(void) {
+    struct bytes text = FILE_OF(guard_text), binary = FILE_OF(guard_binary), plain = FILE_OF(toggle_text);
+    struct circuit c = read_file(text), old = read_file_2007(text), same_again = read_file_2007(plain);
+    struct bytes tail = {text.at + c.tail, text.length - (size_t)c.tail};
+    expect(c.answer[0] == 0 && c.answer[7] == 1 && c.answer[8] == 1, "B and C are 1", "read");
+    expect(c.table[4][0] == 4 && c.table[4][1] == 1, "the resets are 4 and 1", "read");
+    expect(c.table[5][0] == 4 && c.table[6][0] == 6, "the bad state is 4, the constraint 6", "read");
+    expect(same(written(c, 0, tail), text), "it is written as it was", "write_text");
+    expect(same(written(changed(c, 0), 1, tail), binary), "it converts to its binary form", "convert");
+    expect(old.answer[0] == 1 && old.answer[1] == 13 && old.tail == text.length, "1 at 13", "read2007");
+    expect(same_again.answer[0] == 0 && all_zero(same_again.table[4], 1), "T is read, its reset 0", "read2007");
+    expect(same(written(read_file(FILE_OF("aag 1 0 1 0 0 0 0\n2 3 0\n")), 0, (struct bytes){NULL, 0}),
+                FILE_OF("aag 1 0 1 0 0\n2 3\n")),
+           "zeros are left off", "write_text");
+}
+
 /* Steps once on one input x; gives the output. */
 static uint8_t output_on_x(struct circuit c) {
     struct bytes in = FILE_OF("x"), out = FILE_OF("?");
     uint64_t answer[2];
-    golvanzo_step(COUNTS(c), FOUR(c), TABLE(c, 4), NULL, 0, in.at, 1, out.at, 1, answer);
+    golvanzo_step(COUNTS(c), SEVEN(c), TABLE(c, SCRATCH), NULL, 0, in.at, 1, out.at, 1, answer);
     return answer[0] == 0 ? out.at[0] : '?';
 }
 
@@ -179,7 +210,7 @@ static void trace(void) {
         struct bytes ins = bytes_of(lines[k] + 2, 2);
         char line[10];
         line[0] = (char)state.at[0];
-        golvanzo_step(COUNTS(c), FOUR(c), TABLE(c, 4), state.at, 1, ins.at, 2, outs.at, 2, answer);
+        golvanzo_step(COUNTS(c), SEVEN(c), TABLE(c, SCRATCH), state.at, 1, ins.at, 2, outs.at, 2, answer);
         snprintf(line + 1, sizeof line - 1, " %.2s %.2s %c", (char *)ins.at, (char *)outs.at, state.at[0]);
         expect(answer[0] == 0 && strcmp(line, lines[k]) == 0, lines[k], "step");
     }
@@ -187,7 +218,7 @@ static void trace(void) {
 
 static void witness(struct circuit c, uint64_t number, struct bytes list, uint64_t says, const char *what) {
     uint64_t answer[3];
-    golvanzo_witness(COUNTS(c), FOUR(c), TABLE(c, 4), number, list.at, list.length, answer);
+    golvanzo_witness(COUNTS(c), SEVEN(c), TABLE(c, SCRATCH), number, list.at, list.length, answer);
     expect(answer[0] == 0 && answer[2] == says, what, "witness");
 }
 
@@ -198,8 +229,13 @@ static void witnesses(void) {
     witness(c, 0, FILE_OF(""), 0, "an empty list gives no");
     witness(c, 2, FILE_OF("011x"), 0, "0 and 1, 1 and x: no");
     witness(c, 2, FILE_OF("0111"), 1, "0 and 1, 1 and 1: yes");
-    golvanzo_witness(COUNTS(c), FOUR(c), TABLE(c, 4), 2, odd.at, odd.length, answer);
+    golvanzo_witness(COUNTS(c), SEVEN(c), TABLE(c, SCRATCH), 2, odd.at, odd.length, answer);
     expect(answer[0] == 12 && answer[1] == 2, "three bytes are no two vectors of two", "witness");
+    c = read_file(FILE_OF(guard_binary));
+    witness(c, 2, FILE_OF("01"), 0, "x and 0 are no 1");
+    witness(c, 2, FILE_OF("11"), 1, "the bad state is 1 in the second step");
+    witness(read_file(FILE_OF("aig 2 1 1 0 0 1 1\n3 1\n1\n4\n")), 1, FILE_OF("0"), 1, "the constraint starts as 1");
+    witness(read_file(FILE_OF("aig 2 1 1 0 0 1 1\n3\n1\n4\n")), 2, FILE_OF("00"), 0, "the constraint starts as 0");
 }
 
 static void refused(struct bytes file, uint64_t number, uint64_t place, const char *what) {
@@ -221,6 +257,8 @@ static void refusals(void) {
     refused(FILE_OF("aag 2 0 0 0 2\n2 4 1\n4 2 1\n"), 8, 1, "8 at 1");
     refused(FILE_OF("aig 1 0 0 0 1\n\x82\x00"), 9, 14, "9 at 14");
     refused(FILE_OF("aag 1 1 0 1 0\n2\n2\ni1 p\n"), 10, 18, "10 at 18");
+    refused(FILE_OF("aag 1 0 1 0 0\n2 3 3\n"), 5, 18, "5 at a reset");
+    refused(FILE_OF("aag 0 0 0 0 0 0 0 1\n"), 21, 18, "21 at 18");
 }
 
 /* Refusals of calls on tables: too short a table, buffer and vector, and no binary order. */
@@ -228,16 +266,16 @@ static void table_refusals(void) {
     struct circuit c = read_file(FILE_OF(toggle_text)), b = read_file(FILE_OF(toggle_binary));
     struct bytes out = FILE_OF("unchanged"), in = FILE_OF("12"), state = FILE_OF("0"), outs = FILE_OF("??");
     uint64_t answer[3];
-    golvanzo_check(COUNTS(c), FOUR(c), TABLE(c, 4), answer);
+    golvanzo_check(COUNTS(c), SEVEN(c), TABLE(c, SCRATCH), answer);
     expect(answer[0] == 0, "T is a circuit", "check");
-    golvanzo_check(COUNTS(c), FOUR(c), c.table[4], c.words[4] - 1, answer);
+    golvanzo_check(COUNTS(c), SEVEN(c), c.table[SCRATCH], c.words[SCRATCH] - 1, answer);
     expect(answer[0] == 4 && answer[1] == 5, "4 at 5", "check");
-    golvanzo_write_text(COUNTS(c), FOUR(c), TABLE(c, 4), NULL, 0, out.at, out.length, answer);
+    golvanzo_write_text(COUNTS(c), SEVEN(c), TABLE(c, SCRATCH), NULL, 0, out.at, out.length, answer);
     expect(answer[0] == 11 && answer[1] == sizeof toggle_text - 1, "11 at the length needed", "write_text");
     expect(memcmp(out.at, "unchanged", out.length) == 0, "a refusal changes no byte", "write_text");
-    golvanzo_write_binary(COUNTS(c), FOUR(c), TABLE(c, 4), NULL, 0, out.at, out.length, answer);
+    golvanzo_write_binary(COUNTS(c), SEVEN(c), TABLE(c, SCRATCH), NULL, 0, out.at, out.length, answer);
     expect(answer[0] == 15 && answer[1] == 0, "15 at 0", "write_binary");
-    golvanzo_step(COUNTS(b), FOUR(b), TABLE(b, 4), state.at, 1, in.at, 2, outs.at, 2, answer);
+    golvanzo_step(COUNTS(b), SEVEN(b), TABLE(b, SCRATCH), state.at, 1, in.at, 2, outs.at, 2, answer);
     expect(answer[0] == 12 && answer[1] == 2, "12 at 2", "step");
     expect(state.at[0] == '0' && memcmp(outs.at, "??", 2) == 0, "a refusal changes no byte", "step");
 }
@@ -246,6 +284,7 @@ int main(void) {
     sizes();
     toggle_both_forms();
     tails();
+    aiger_19();
     contradiction();
     trace();
     witnesses();

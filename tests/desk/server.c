@@ -5,16 +5,17 @@
    u32 call     what follows                                              the reply
    0 send       nothing                                                   nothing: all replies are sent now
    1 words      file, u64 n, n times u64 table                            n times u64
-   2 read       file, five tables, answer                                 five tables, answer, u64 tail
-   3 check      counts, five tables, answer                               all of these
-   4 text       counts, five tables, tail, buffer, answer                 all of these
+   2 read       file, tables by number, answer                            these tables, answer, u64 tail
+   3 check      given, answer                                             all of these
+   4 text       given, tail, buffer, answer                               all of these
    5 binary     the same                                                  all of these
-   6 convert    counts, five tables, tables 1 to 4 to write, answer       all of these
+   6 convert    given, a circuit's tables to write, answer                all of these
    7 reduce     the same                                                  all of these
-   8 step       counts, five tables, state, inputs, outputs, answer       all of these
-   9 witness    counts, five tables, u64 number, list, answer             all of these but the number
+   8 step       given, state, inputs, outputs, answer                     all of these
+   9 witness    given, u64 number, list, answer                           all of these but the number
+   10 read2007  as read                                                   as read
 
-   What these are is said in wire.h. */
+   Given are counts, a circuit's tables (1 to 4, 7 to 9) and scratch. What these are is said in wire.h. */
 #include <stdint.h>
 #include <stdio.h>
 
@@ -28,14 +29,18 @@ static void call_words(void) {
     free(file.bytes);
 }
 
-static void call_read(void) {
+typedef uint64_t reader(const uint8_t *, size_t, uint32_t *, size_t, uint32_t *, size_t, uint32_t *, size_t, uint32_t *,
+                        size_t, uint32_t *, size_t, uint32_t *, size_t, uint32_t *, size_t, uint32_t *, size_t,
+                        uint64_t *);
+
+static void call_read(reader *read) {
     struct file file = get_file();
     struct memory t[TABLES];
     for (int k = 0; k < TABLES; k++)
         t[k] = get_table();
     struct memory answer = get_numbers();
-    uint64_t tail = golvanzo_read(file.bytes, file.length, LENT(t[0]), LENT(t[1]), LENT(t[2]), LENT(t[3]), LENT(t[4]),
-                                  answer.lent);
+    uint64_t tail = read(file.bytes, file.length, LENT(t[0]), LENT(t[1]), LENT(t[2]), LENT(t[3]), LENT(t[5]),
+                         LENT(t[6]), LENT(t[7]), LENT(t[4]), answer.lent);
     for (int k = 0; k < TABLES; k++)
         put_memory(t[k]);
     put_memory(answer);
@@ -71,11 +76,9 @@ static void call_change(int reduce) {
         w[k] = get_table();
     struct memory answer = get_numbers();
     if (reduce)
-        golvanzo_reduce(CIRCUIT_OF(given), LENT(w[0]), LENT(w[1]), LENT(w[2]), LENT(w[3]), LENT(given.scratch),
-                        answer.lent);
+        golvanzo_reduce(CIRCUIT_OF(given), LENT_ALL(w), LENT(given.scratch), answer.lent);
     else
-        golvanzo_convert(CIRCUIT_OF(given), LENT(w[0]), LENT(w[1]), LENT(w[2]), LENT(w[3]), LENT(given.scratch),
-                         answer.lent);
+        golvanzo_convert(CIRCUIT_OF(given), LENT_ALL(w), LENT(given.scratch), answer.lent);
     put_given(given);
     for (int k = 0; k < CIRCUIT; k++)
         put_memory(w[k]);
@@ -115,7 +118,7 @@ int main(void) {
             call_words();
             break;
         case 2:
-            call_read();
+            call_read(golvanzo_read);
             break;
         case 3:
             call_check();
@@ -133,6 +136,9 @@ int main(void) {
             break;
         case 9:
             call_witness();
+            break;
+        case 10:
+            call_read(golvanzo_read2007);
             break;
         default:
             give_up("no such call");

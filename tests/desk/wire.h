@@ -8,8 +8,8 @@
 #include <stdio.h>
 #include <stdlib.h>
 
-#define TABLES 5
-#define CIRCUIT 4
+#define TABLES 8
+#define CIRCUIT 7
 
 struct file {
     uint8_t *bytes;
@@ -29,9 +29,11 @@ struct given {
     struct memory counts, table[CIRCUIT], scratch;
 };
 
-/* The first nine arguments of such a call. */
-#define CIRCUIT_OF(given)                                                                                              \
-    (given).counts.lent, LENT((given).table[0]), LENT((given).table[1]), LENT((given).table[2]), LENT((given).table[3])
+/* A circuit's tables as arguments: 1 to 4, then 7 to 9. */
+#define LENT_ALL(t) LENT((t)[0]), LENT((t)[1]), LENT((t)[2]), LENT((t)[3]), LENT((t)[4]), LENT((t)[5]), LENT((t)[6])
+
+/* The first arguments of such a call. */
+#define CIRCUIT_OF(given) (given).counts.lent, LENT_ALL((given).table)
 
 static void give_up(const char *why) {
     fprintf(stderr, "server: %s\n", why);

@@ -2,10 +2,10 @@
 
 pub mod tables;
 
-use crate::aiger::read;
+use crate::aiger::{read, with_scratch, Lengths, Version, TABLES};
 use crate::ensure;
-use crate::generate::Answer;
-use crate::library::{FileQuestion, Library, Question, ReadAnswer, Reply};
+use crate::generate::{Answer, Answers};
+use crate::library::{FileQuestion, Library, Question, ReadAnswer, ReadReply, Reply};
 use crate::memory::Memory;
 
 /// Whether the table holds `start`, then zeros, and its margins are as they were.
@@ -15,29 +15,46 @@ fn holds(table: &Memory<u32>, start: &[u32], junk: u64) -> bool {
 }
 
 /// The table numbers asked of the desk question: all that exist, their neighbours, and some that wrap.
-const ASKED: [u64; 10] = [0, 1, 2, 3, 4, 5, 6, 1 << 32 | 1, 1 << 63, u64::MAX];
+const ASKED: [u64; 15] = [
+    0,
+    1,
+    2,
+    3,
+    4,
+    5,
+    6,
+    7,
+    8,
+    9,
+    10,
+    1 << 32 | 1,
+    1 << 32 | 7,
+    1 << 63,
+    u64::MAX,
+];
 
 pub fn compare(
     library: &dyn Library,
     file: &[u8],
-    lengths: &[u64; 5],
+    lengths: &Lengths,
     junk: u64,
-    answer: &Answer,
+    answers: &Answers,
 ) -> Result<(), String> {
     ask(library, file, lengths, junk);
-    judge(library, file, junk, answer)
+    judge(library, file, junk, answers)
 }
 
 /// The first half of a comparison. Others may come between it and the second, in the same order.
-pub fn ask(library: &dyn Library, file: &[u8], lengths: &[u64; 5], junk: u64) {
+pub fn ask(library: &dyn Library, file: &[u8], lengths: &Lengths, junk: u64) {
     library.ask(Question::File(FileQuestion {
         file: file.to_vec(),
         words: ASKED.to_vec(),
+        readers: &Version::ALL,
         tables: lengths.map(|length| Memory::junk(length, junk)),
     }));
 }
 
-pub fn judge(library: &dyn Library, file: &[u8], junk: u64, answer: &Answer) -> Result<(), String> {
+pub fn judge(library: &dyn Library, file: &[u8], junk: u64, answers: &Answers) -> Result<(), String> {
     let Reply::File(given) = library.reply()? else {
         return Err("the reply to another question".to_string());
     };
@@ -48,18 +65,29 @@ pub fn judge(library: &dyn Library, file: &[u8], junk: u64, answer: &Answer) -> 
             "words of table {table}: expected {expected}, given {given}"
         );
     }
+    for ((version, answer), given) in Version::ALL.iter().zip(answers).zip(&given.reads) {
+        read_as(file, junk, answer, given).map_err(|why| format!("{version:?}: {why}"))?;
+    }
+    Ok(())
+}
+
+/// What one reader left.
+fn read_as(file: &[u8], junk: u64, answer: &Answer, given: &ReadReply) -> Result<(), String> {
     let expected = expected(file, answer);
-    ensure!(given.read == expected, "expected {expected:?}, given {:?}", given.read);
+    ensure!(
+        given.answer == expected,
+        "expected {expected:?}, given {:?}",
+        given.answer
+    );
     let tables = match answer {
         Ok((circuit, _)) => circuit.tables(),
         Err(_) => Default::default(),
     };
-    for (k, memory) in given.tables.iter().enumerate() {
-        let start: &[u32] = tables.get(k).map_or(&[], |table| table);
+    let tables = with_scratch(tables, Vec::new());
+    for ((number, memory), start) in TABLES.iter().zip(&given.tables).zip(&tables) {
         ensure!(
             holds(memory, start, junk),
-            "table {}: expected {start:?} and zeros, given {:?} with margins of {}",
-            k + 1,
+            "table {number}: expected {start:?} and zeros, given {:?} with margins of {}",
             &memory.all[..memory.all.len().min(start.len() + 20)],
             memory.margin
         );
@@ -78,7 +106,7 @@ fn expected(file: &[u8], answer: &Answer) -> ReadAnswer {
         Err(refusal) => ReadAnswer {
             number: refusal.number,
             place: refusal.place,
-            counts: [0; 5],
+            counts: [0; 7],
             tail: file.len() as u64,
         },
     }

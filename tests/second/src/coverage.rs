@@ -1,71 +1,108 @@
 //! Which answers the cases had, so that a generator that misses one counts as failed.
 
 pub mod calls;
+mod places;
 pub mod programs;
 pub mod vectors;
 
-use crate::aiger::{Circuit, Form, MOST};
-use crate::generate::{Answer, Case};
+use crate::aiger::{Circuit, Form, Version, MOST};
+use crate::generate::{Answer, Answers, Case};
+use crate::spelling::Spelling;
 use crate::tally::Tally;
+use places::{PlaceCoverage, OF_FILES};
 
 /// Cases that each refusal of a call must have at least.
 const PER_REFUSAL: u64 = 200;
 
+/// The refusals of the readers.
+const REFUSALS: [&[u64]; 2] = [&[1, 2, 3, 4, 5, 6, 7, 8, 9, 10], &[1, 2, 3, 4, 5, 6, 7, 8, 9, 10, 21]];
+
 #[derive(Default)]
 pub struct Coverage {
     cases: u64,
-    /// For refusals 1 to 10, at number - 1: in text, in binary.
-    refused: [[u64; 2]; 10],
+    /// By version, at the refusal's number: in text, in binary.
+    refused: [[[u64; 2]; 22]; 2],
     /// Those of them whose answer the generator knew.
-    promised: [u64; 10],
+    promised: [[u64; 22]; 2],
     without_gates: [u64; 2],
     with_gates: [u64; 2],
-    /// Accepted with a difference of three bytes.
-    three_bytes: u64,
-    /// Accepted with every table exactly long enough.
-    exact: u64,
-    /// Accepted with M as large as it may be.
-    largest: u64,
+    /// Kinds of accepted files.
+    kinds: [u64; KINDS.len()],
+    /// By version.
+    places: [PlaceCoverage; 2],
+}
+
+/// Kinds of accepted files, and in how many cases there must be one of each.
+const KINDS: [(&str, u64); 11] = [
+    ("a difference of three bytes", 1000),
+    ("tables exactly long enough", 12),
+    ("the largest M", 30_000),
+    ("a reset of 1", 20),
+    ("a reset of x", 20),
+    ("bad states", 12),
+    ("constraints", 12),
+    ("bad states and no outputs", 100),
+    ("zeros that may be left off", 40),
+    ("counts that may be left off", 100),
+    ("a circuit of 2007", 12),
+];
+
+fn kinds(case: &Case, circuit: &Circuit, old: &Answer) -> [bool; KINDS.len()] {
+    let form = form(&case.file);
+    let spelled = Spelling::of(&case.file, circuit.latches.len());
+    [
+        form == Form::Binary && far(circuit),
+        case.lengths == circuit.counts().words(),
+        circuit.m == MOST,
+        circuit.resets.contains(&1),
+        circuit.resets.iter().any(|&reset| reset > 1),
+        !circuit.bads.is_empty(),
+        !circuit.constraints.is_empty(),
+        !circuit.bads.is_empty() && circuit.outputs.is_empty(),
+        !spelled.is_shortest(),
+        spelled.zero_counts,
+        old.is_ok(),
+    ]
+}
+
+fn form(file: &[u8]) -> Form {
+    match file.get(1) {
+        Some(b'i') => Form::Binary,
+        _ => Form::Text,
+    }
 }
 
 impl Coverage {
-    pub fn add(&mut self, case: &Case, answer: &Answer) {
-        let form = usize::from(case.file.get(1) == Some(&b'i'));
+    pub fn add(&mut self, case: &Case, answers: &Answers) {
+        let form = form(&case.file) as usize;
         self.cases += 1;
-        match answer {
-            Ok((circuit, _)) => {
-                let gates = if circuit.gates.is_empty() {
-                    &mut self.without_gates
-                } else {
-                    &mut self.with_gates
-                };
-                gates[form] += 1;
-                self.three_bytes += u64::from(form == 1 && far(circuit));
-                self.exact += u64::from(case.lengths == circuit.counts().words());
-                self.largest += u64::from(circuit.m == MOST);
+        for (version, answer) in answers.iter().enumerate() {
+            if let Err(refusal) = answer {
+                let number = refusal.number as usize;
+                self.refused[version][number][form] += 1;
+                self.promised[version][number] += u64::from(case.promises[version].is_some());
+                self.places[version].add(refusal);
             }
-            Err(refusal) => {
-                let number = refusal.number as usize - 1;
-                self.refused[number][form] += 1;
-                self.promised[number] += u64::from(case.promise.is_some());
+        }
+        if let [old, Ok((circuit, _))] = answers {
+            let gates = if circuit.gates.is_empty() {
+                &mut self.without_gates
+            } else {
+                &mut self.with_gates
+            };
+            gates[form] += 1;
+            for (count, is) in self.kinds.iter_mut().zip(kinds(case, circuit, old)) {
+                *count += u64::from(is);
             }
         }
     }
 
     /// Prints the summary and counts what was missed.
     pub fn report(&self, tally: &mut Tally) {
-        for (k, [text, binary]) in self.refused.iter().enumerate() {
-            let (number, promised) = (k + 1, self.promised[k]);
-            println!(
-                "refused by {number:2}: {:6} ({text} text, {binary} binary; {promised} foretold)",
-                text + binary
-            );
-            tally.check(&format!("refusal {number}"), at_least(text + binary, PER_REFUSAL));
-            tally.check(
-                &format!("refusal {number} foretold"),
-                at_least(promised, PER_REFUSAL / 4),
-            );
+        for version in Version::ALL {
+            self.report_refusals(tally, version);
         }
+        self.places[Version::V19 as usize].report(tally, "read", OF_FILES);
         let [text, binary] = self.with_gates;
         println!(
             "accepted, A > 0: {} ({text} text, {binary} binary) of {} cases",
@@ -73,19 +110,30 @@ impl Coverage {
             self.cases
         );
         println!("accepted, A = 0: {}", self.without_gates.iter().sum::<u64>());
-        println!("accepted with a difference of three bytes: {}", self.three_bytes);
-        println!("accepted with tables exactly long enough: {}", self.exact);
-        println!("accepted with the largest M: {}", self.largest);
         tally.check("accepted, A > 0", at_least(text + binary, self.cases.div_ceil(4)));
         for (form, count) in [(Form::Text, text), (Form::Binary, binary)] {
             tally.check(&format!("accepted, A > 0, {form:?}"), at_least(count, self.cases / 12));
         }
-        tally.check(
-            "differences of three bytes",
-            at_least(self.three_bytes, self.cases / 1000),
-        );
-        tally.check("tables exactly long enough", at_least(self.exact, self.cases / 12));
-        tally.check("the largest M", at_least(self.largest, self.cases / 30_000));
+        for ((kind, share), &count) in KINDS.iter().zip(&self.kinds) {
+            println!("accepted with {kind}: {count}");
+            tally.check(&format!("accepted with {kind}"), at_least(count, self.cases / share));
+        }
+    }
+
+    fn report_refusals(&self, tally: &mut Tally, version: Version) {
+        for &number in REFUSALS[version as usize] {
+            let [text, binary] = self.refused[version as usize][number as usize];
+            let promised = self.promised[version as usize][number as usize];
+            println!(
+                "{version:?}, refused by {number:2}: {:6} ({text} text, {binary} binary; {promised} foretold)",
+                text + binary
+            );
+            let name = format!("{version:?}, refusal {number}");
+            tally.check(&name, at_least(text + binary, PER_REFUSAL));
+            if version == Version::V19 {
+                tally.check(&format!("{name} foretold"), at_least(promised, PER_REFUSAL / 4));
+            }
+        }
     }
 }
 

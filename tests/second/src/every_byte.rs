@@ -1,7 +1,8 @@
-//! Every byte as a value of a state, an input and a list.
+//! Every byte as a value of a state, an input and a list, and where a line of a file may go on or end.
 
 use crate::aiger::tables::Given;
-use crate::aiger::Circuit;
+use crate::aiger::{read, Circuit, Version};
+use crate::compare::compare as compare_file;
 use crate::compare::tables::compare;
 use crate::generate::given;
 use crate::library::{Call, Lent, Library};
@@ -18,6 +19,9 @@ fn circuit() -> Circuit {
         latches: vec![[4, 2]],
         outputs: vec![6],
         gates: vec![[6, 4, 2]],
+        resets: vec![1],
+        bads: vec![4],
+        constraints: vec![1],
     }
 }
 
@@ -30,6 +34,7 @@ fn lent(call: Call, bytes: &[&[u8]]) -> Lent {
 pub fn run(tally: &mut Tally, library: &dyn Library) {
     for byte in 0..=u8::MAX {
         tally.check(&format!("byte {byte} as a value"), values(library, byte));
+        tally.check(&format!("byte {byte} in a file"), files(library, byte));
     }
 }
 
@@ -40,6 +45,33 @@ fn values(library: &dyn Library, byte: u8) -> Result<(), String> {
         let mut question = lent(Call::Witness, &[&[b'1', other, byte]]);
         question.number = Some(3);
         compare(library, Call::Witness, &question)?;
+    }
+    Ok(())
+}
+
+/// What may stand before the byte, and after it.
+const FILES: &[[&[u8]; 2]] = &[
+    [b"aag 0 0 0 0 0", b"\n"],
+    [b"aag 0 0 0 0 0", b"0\n"],
+    [b"aag 0 0 0 0 0 0", b"0 0 0\n"],
+    [b"aag 0 0 0 0 0 0 0 0 ", b"\n"],
+    [b"aag 1 0 1 0 0\n2 3", b"1\n"],
+    [b"aag 1 0 1 0 0\n2 3 ", b"\n"],
+    [b"aig 1 0 1 0 0\n3", b"2\n"],
+    [b"aag 1 0 1 0 0\n2 3 1", b"\n"],
+    [b"aag 0 0 0 0 0 1 1\n1\n1\n", b"0 p\n"],
+    [b"aag 0 0 0 0 0 1 1\n1\n1\nc", b" p\n"],
+    [b"aag 0 0 0 0 0 1 1\n1\n1\nc0", b"p\n"],
+    [b"aag 0 0 0 0 0\nc", b"p\n"],
+    [b"aag 0 0 0 0 0\nc\n", b""],
+];
+
+fn files(library: &dyn Library, byte: u8) -> Result<(), String> {
+    for &[before, after] in FILES {
+        let file = [before, &[byte], after].concat();
+        let lengths = [9; 8];
+        let answers = Version::ALL.map(|version| read::read(&file, &lengths, version));
+        compare_file(library, &file, &lengths, JUNK, &answers)?;
     }
     Ok(())
 }

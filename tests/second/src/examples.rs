@@ -1,12 +1,15 @@
 //! The worked examples below `tests/`: files, each with the answer that the paper or the AIGER report gives beside it.
 
 mod calls;
+mod plans;
 
 use crate::aiger::read::{self, header};
-use crate::aiger::{convert, literal, programs, reduce, tables, write, Circuit, Counts, Form, Refusal};
+use crate::aiger::{
+    convert, literal, programs, reduce, tables, write, Circuit, Counts, Form, Lengths, Refusal, Version, TABLES,
+};
 use crate::compare::compare;
 use crate::ensure;
-use crate::generate::Answer;
+use crate::generate::{Answer, Answers};
 use crate::library::Library;
 use crate::tally::Tally;
 use std::fs;
@@ -15,14 +18,14 @@ use std::path::{Path, PathBuf};
 struct Example {
     path: PathBuf,
     file: Vec<u8>,
-    lengths: [u64; 5],
-    answer: Answer,
-    /// The desk question's answers for tables 1 to 5.
-    words: Option<[u64; 5]>,
+    lengths: Lengths,
+    answers: Answers,
+    /// The desk question's answers for the tables.
+    words: Option<Lengths>,
 }
 
 /// At least so many files must be found, so that a lost folder doesn't pass.
-const FEWEST: usize = 100;
+const FEWEST: usize = 140;
 
 pub fn run(tally: &mut Tally, library: Option<&dyn Library>) {
     let root = Path::new(env!("CARGO_MANIFEST_DIR")).join("..");
@@ -37,13 +40,14 @@ pub fn run(tally: &mut Tally, library: Option<&dyn Library>) {
         let name = path.strip_prefix(&root).unwrap_or(&path).display().to_string();
         tally.check(&name, example(&path).and_then(|example| check(&example, library)));
     }
+    plans::run(tally);
 }
 
 /// All circuits in `accepted` and `refused-NN`.
 fn files(root: &Path) -> Vec<PathBuf> {
     let folders = ["accepted".to_string()]
         .into_iter()
-        .chain((1..=10).map(|number| format!("refused-{number:02}")));
+        .chain((1..=21).map(|number| format!("refused-{number:02}")));
     let entries = folders
         .filter_map(|folder| fs::read_dir(root.join(folder)).ok())
         .flatten();
@@ -59,22 +63,16 @@ fn example(path: &Path) -> Result<Example, String> {
     let expected = fs::read_to_string(path.with_extension("expected")).map_err(|error| error.to_string())?;
     let (first, rest) = expected.split_once('\n').ok_or("no line in .expected")?;
     let lines = Lines(rest);
-    let answer = match first.split(' ').collect::<Vec<_>>()[..] {
-        ["accepted"] => Ok(accepted(&lines)?),
-        ["refused", number, "at", place] => Err(Refusal {
-            number: whole(number)?,
-            place: whole(place)?,
-        }),
-        _ => return Err(format!("no answer: {first}")),
-    };
-    let needed = header(&file).map_or([0; 5], |header| header.counts.words());
+    let new = answer(&lines, first)?;
+    let old = answer(&lines, lines.find("2007").unwrap_or(first))?;
+    let needed = header(&file, Version::V19).map_or([0; 8], |header| header.counts.words());
     let words = match lines.find("words") {
-        Some("none") => Some([u64::MAX; 5]),
-        Some(_) => Some(lines.five("words")?),
+        Some("none") => Some([u64::MAX; 8]),
+        Some(_) => Some(lines.some("words")?),
         None => None,
     };
     let lengths = if lines.find("lent").is_some() {
-        lines.five("lent")?
+        lines.some("lent")?
     } else {
         needed
     };
@@ -82,9 +80,21 @@ fn example(path: &Path) -> Result<Example, String> {
         path: path.to_path_buf(),
         file,
         lengths,
-        answer,
+        answers: [old, new],
         words,
     })
+}
+
+/// The answer that a line tells.
+fn answer(lines: &Lines, line: &str) -> Result<Answer, String> {
+    match line.split(' ').collect::<Vec<_>>()[..] {
+        ["accepted"] => Ok(Ok(accepted(lines)?)),
+        ["refused", number, "at", place] => Ok(Err(Refusal {
+            number: whole(number)?,
+            place: whole(place)?,
+        })),
+        _ => Err(format!("no answer: {line}")),
+    }
 }
 
 /// The lines after the first of an answer, each a name and numbers.
@@ -105,10 +115,10 @@ impl<'a> Lines<'a> {
         }
     }
 
-    fn five(&self, name: &str) -> Result<[u64; 5], String> {
+    fn some<const N: usize>(&self, name: &str) -> Result<[u64; N], String> {
         self.numbers(name)?
             .try_into()
-            .map_err(|_| format!("{name} has not five numbers"))
+            .map_err(|_| format!("{name} has not {N} numbers"))
     }
 }
 
@@ -117,7 +127,7 @@ fn whole(digits: &str) -> Result<u64, String> {
 }
 
 fn accepted(lines: &Lines) -> Result<(Circuit, usize), String> {
-    let counts = Counts::new(lines.five("counts")?);
+    let counts = Counts::new(lines.some("counts")?);
     let table =
         |name| -> Result<Vec<u32>, String> { Ok(lines.numbers(name)?.into_iter().map(|word| word as u32).collect()) };
     let circuit = Circuit {
@@ -126,6 +136,9 @@ fn accepted(lines: &Lines) -> Result<(Circuit, usize), String> {
         latches: table("latches")?.as_chunks().0.to_vec(),
         outputs: table("outputs")?,
         gates: table("gates")?.as_chunks().0.to_vec(),
+        resets: table("resets")?,
+        bads: table("bads")?,
+        constraints: table("constraints")?,
     };
     ensure!(circuit.counts() == counts, "the tables don't fit the counts");
     let tail = lines.numbers("tail")?;
@@ -135,18 +148,20 @@ fn accepted(lines: &Lines) -> Result<(Circuit, usize), String> {
 
 fn check(example: &Example, library: Option<&dyn Library>) -> Result<(), String> {
     let Example {
-        file, lengths, answer, ..
+        file, lengths, answers, ..
     } = example;
-    let given = read::read(file, lengths);
-    ensure!(given == *answer, "expected {answer:?}, given {given:?}");
+    for (version, answer) in Version::ALL.into_iter().zip(answers) {
+        let given = read::read(file, lengths, version);
+        ensure!(given == *answer, "{version:?}: expected {answer:?}, given {given:?}");
+    }
     if let Some(words) = example.words {
-        let given = [1, 2, 3, 4, 5].map(|table| read::words(file, table));
+        let given = TABLES.map(|table| read::words(file, table));
         ensure!(given == words, "words: expected {words:?}, given {given:?}");
     }
     if let Some(library) = library {
-        compare(library, file, lengths, literal(file.len()).into(), answer)?;
+        compare(library, file, lengths, literal(file.len()).into(), answers)?;
     }
-    match answer {
+    match &answers[Version::V19 as usize] {
         Ok((circuit, tail)) => beside(example, circuit, &file[*tail..], library),
         Err(_) => Ok(()),
     }

@@ -2,10 +2,10 @@
 
 mod tables;
 
-use crate::aiger::read;
+use crate::aiger::{read, with_scratch, Version};
 use crate::compare::compare;
 use crate::generate;
-use crate::library::{FileQuestion, FileReply, Library, Question, ReadAnswer, Reply};
+use crate::library::{FileQuestion, FileReply, Library, Question, ReadAnswer, ReadReply, Reply};
 use crate::memory::Memory;
 use crate::tally::Tally;
 use std::cell::RefCell;
@@ -25,9 +25,13 @@ enum Slip {
     PlaceOff,
     WritesBeside,
     WordsOfTheWholeFile,
+    ScratchOf2007,
+    ResetsForgotten,
+    OldReaderReadsNew,
+    NewReaderReadsOld,
 }
 
-const SLIPS: [Slip; 11] = [
+const SLIPS: [Slip; 15] = [
     Slip::RefusesAll,
     Slip::HighGroupFirst,
     Slip::GatesSorted,
@@ -39,6 +43,10 @@ const SLIPS: [Slip; 11] = [
     Slip::PlaceOff,
     Slip::WritesBeside,
     Slip::WordsOfTheWholeFile,
+    Slip::ScratchOf2007,
+    Slip::ResetsForgotten,
+    Slip::OldReaderReadsNew,
+    Slip::NewReaderReadsOld,
 ];
 
 /// A library that answers by a function.
@@ -70,39 +78,56 @@ impl Slip {
         let Question::File(FileQuestion {
             file,
             words,
-            mut tables,
+            readers,
+            tables,
         }) = question
         else {
             return Err("only files are read here".to_string());
         };
         let words = words.into_iter().map(|table| self.words(&file, table)).collect();
-        let read = self.read(&file, tables.each_mut().map(Memory::lent_mut));
+        let reads = readers
+            .iter()
+            .map(|&version| self.reads(&file, version, tables.clone()));
+        let reads = reads.collect();
+        Ok(Reply::File(FileReply { words, reads }))
+    }
+
+    fn reads(self, file: &[u8], version: Version, mut tables: [Memory<u32>; 8]) -> ReadReply {
+        let version = match self {
+            Slip::OldReaderReadsNew => Version::V19,
+            Slip::NewReaderReadsOld => Version::V2007,
+            _ => version,
+        };
+        let answer = self.read(file, version, tables.each_mut().map(Memory::lent_mut));
         if self == Slip::WritesBeside {
             let Memory { all, margin } = &mut tables[0];
             all.iter_mut().rev().take(*margin).for_each(|word| *word = 0);
         }
-        Ok(Reply::File(FileReply { words, read, tables }))
+        ReadReply { answer, tables }
     }
 
     fn words(self, file: &[u8], table: u64) -> u64 {
         let words = read::words(file, table);
-        let refused = words != u64::MAX && read::read(file, &[u64::MAX; 5]).is_err();
+        let refused = words != u64::MAX && read::read(file, &[u64::MAX; 8], Version::V19).is_err();
         match self {
             Slip::WordsOfTheWholeFile if refused => u64::MAX,
+            Slip::ScratchOf2007 if table == 5 && words != u64::MAX => {
+                words - (read::words(file, 8) + read::words(file, 9))
+            }
             _ => words,
         }
     }
 
-    fn read(self, file: &[u8], mut lent: [&mut [u32]; 5]) -> ReadAnswer {
+    fn read(self, file: &[u8], version: Version, mut lent: [&mut [u32]; 8]) -> ReadAnswer {
         let lengths = lent.each_ref().map(|table| table.len() as u64);
-        let answer = read::read(file, &lengths);
+        let answer = read::read(file, &lengths, version);
         let slip = self;
         if slip != Slip::TablesLeftAfterRefusal || answer.is_ok() {
             lent.iter_mut().for_each(|table| table.fill(0));
         }
         match answer {
             Ok((circuit, tail)) if slip != Slip::RefusesAll => {
-                for (lent, table) in lent.iter_mut().zip(circuit.tables()) {
+                for (lent, table) in lent.iter_mut().zip(with_scratch(circuit.tables(), Vec::new())) {
                     lent[..table.len()].copy_from_slice(&table);
                 }
                 let counts = circuit.counts();
@@ -120,9 +145,9 @@ impl Slip {
                     number,
                     place: place + u64::from(slip == Slip::PlaceOff && number == 9),
                     counts: if slip == Slip::CountsAfterRefusal {
-                        [1; 5]
+                        [1; 7]
                     } else {
-                        [0; 5]
+                        [0; 7]
                     },
                     tail: file.len() as u64,
                 }
@@ -132,8 +157,9 @@ impl Slip {
 }
 
 /// Slips in the tables of an accepted file with `a` gates.
-fn spoil(slip: Slip, lent: &mut [&mut [u32]; 5], a: usize) {
+fn spoil(slip: Slip, lent: &mut [&mut [u32]; 8], a: usize) {
     match slip {
+        Slip::ResetsForgotten => lent[5].fill(0),
         Slip::ScratchLeft => *lent[4].last_mut().expect("scratch is never empty") = 7,
         Slip::SpareWordLeft if lent[3].len() > 3 * a => lent[3][3 * a] = 7,
         Slip::GatesSorted => lent[3][..3 * a].as_chunks_mut::<3>().0.sort(),
@@ -174,7 +200,7 @@ fn notices(slip: Slip, seed: u64) -> Option<String> {
     let library = Slipping::new(|question| slip.answers(question));
     (0..CASES).find_map(|number| {
         let case = generate::case(seed, number);
-        let answer = read::read(&case.file, &case.lengths);
-        compare(&library, &case.file, &case.lengths, case.junk, &answer).err()
+        let answers = Version::ALL.map(|version| read::read(&case.file, &case.lengths, version));
+        compare(&library, &case.file, &case.lengths, case.junk, &answers).err()
     })
 }

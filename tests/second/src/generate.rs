@@ -11,21 +11,25 @@ pub mod runs;
 pub mod values;
 
 use crate::aiger::read::header;
-use crate::aiger::{Circuit, Form, Refusal};
+use crate::aiger::{Circuit, Form, Lengths, Refusal, Version, TABLES};
 use crate::random::Random;
 use damage::AIMS;
 use draft::Draft;
 
 pub type Answer = Result<(Circuit, usize), Refusal>;
 
+/// Of each version's reader, in the order of `Version::ALL`.
+pub type Answers = [Answer; 2];
+
+/// The answers that are known from the way a case was made, not from a reader.
+pub type Promises = [Option<Answer>; 2];
+
 pub struct Case {
     pub file: Vec<u8>,
-    /// Of tables 1 to 5.
-    pub lengths: [u64; 5],
+    pub lengths: Lengths,
     /// Fills the lent tables before the call.
     pub junk: u64,
-    /// Known from the way the case was made, not from a reader.
-    pub promise: Option<Answer>,
+    pub promises: Promises,
 }
 
 /// What is done to a well-formed file.
@@ -48,18 +52,26 @@ pub fn case(seed: u64, number: u64) -> Case {
         size.unused = size.unused.max(1);
     }
     let circuit = circuit::circuit(&mut random, form, &size);
-    let draft = Draft::new(&mut random, form, &circuit);
-    let (file, promise) = treat(&mut random, treatment, &circuit, draft);
-    lend(&mut random, treatment, file, promise)
+    let mut draft = Draft::new(&mut random, form, &circuit);
+    if random.once_in(4) {
+        draft.lengthen(&mut random);
+    }
+    let (file, promises) = treat(&mut random, treatment, &circuit, draft);
+    lend(&mut random, treatment, file, promises)
 }
 
-/// A well-formed file, apart from those of the cases.
-pub fn whole(seed: u64, number: u64) -> Vec<u8> {
+/// A well-formed file and its shortest form, apart from those of the cases.
+pub fn whole(seed: u64, number: u64) -> [Vec<u8>; 2] {
     let mut random = Random::new(seed, 1 << 63 | number);
     let form = *random.pick(&[Form::Text, Form::Binary]);
     let size = circuit::size(&mut random, form);
     let circuit = circuit::circuit(&mut random, form, &size);
-    Draft::new(&mut random, form, &circuit).layout().file
+    let mut draft = Draft::new(&mut random, form, &circuit);
+    let shortest = draft.layout().file;
+    if random.once_in(4) {
+        draft.lengthen(&mut random);
+    }
+    [draft.layout().file, shortest]
 }
 
 fn treatment(random: &mut Random) -> Treatment {
@@ -83,24 +95,30 @@ fn form(random: &mut Random, treatment: Treatment) -> Form {
     }
 }
 
-fn treat(random: &mut Random, treatment: Treatment, circuit: &Circuit, mut draft: Draft) -> (Vec<u8>, Option<Answer>) {
+fn treat(random: &mut Random, treatment: Treatment, circuit: &Circuit, mut draft: Draft) -> (Vec<u8>, Promises) {
     let layout = draft.layout();
-    let whole = Some(Ok((circuit.clone(), layout.tail)));
+    let whole = Ok((circuit.clone(), layout.tail));
     match treatment {
-        Treatment::Whole | Treatment::Short => (layout.file, whole),
+        Treatment::Whole | Treatment::Short => {
+            // The reader of 2007 stops at the space before what it doesn't have.
+            let old = draft
+                .first_of_19(&layout)
+                .map_or(whole.clone(), |at| Err(early(at - 1)));
+            (layout.file, [Some(old), Some(whole)])
+        }
         Treatment::Damaged(aim) => match damage::damage(random, aim, circuit, &mut draft) {
             Some(harm) => {
                 let layout = draft.layout();
                 let refusal = harm.refusal(&layout);
-                (layout.file, Some(Err(refusal)))
+                (layout.file, [None, Some(Err(refusal))])
             }
-            None => (draft.layout().file, None),
+            None => (draft.layout().file, [None, None]),
         },
         Treatment::DamagedTwice(aim) => {
             damage::damage(random, aim, circuit, &mut draft);
             let aim = *random.pick(AIMS);
             damage::damage(random, aim, circuit, &mut draft);
-            (draft.layout().file, None)
+            (draft.layout().file, [None, None])
         }
         Treatment::Cut => {
             let mut file = layout.file;
@@ -109,14 +127,14 @@ fn treat(random: &mut Random, treatment: Treatment, circuit: &Circuit, mut draft
             let promise = if cut_stands(&file, layout.tail) {
                 whole
             } else {
-                Some(Err(early(end)))
+                Err(early(end))
             };
-            (file, promise)
+            (file, [None, Some(promise)])
         }
         Treatment::Edited => {
             let mut file = layout.file;
             edit::edit(random, &mut file);
-            (file, None)
+            (file, [None, None])
         }
     }
 }
@@ -136,29 +154,39 @@ fn early(end: usize) -> Refusal {
 /// Above this a case is slow, and only well-formed files are worth it.
 const MANY_WORDS: u64 = 300_000;
 
-fn lend(random: &mut Random, treatment: Treatment, file: Vec<u8>, promise: Option<Answer>) -> Case {
-    let needed = header(&file).ok().map(|header| header.counts.words());
-    let lengths = match (&needed, treatment) {
+fn lend(random: &mut Random, treatment: Treatment, file: Vec<u8>, promises: Promises) -> Case {
+    let needed = Version::ALL.map(|version| header(&file, version).ok().map(|header| header.counts.words()));
+    let lengths = lengths(random, treatment, &needed[1]);
+    // 4 comes after the header and before all else.
+    let mut needed = needed.into_iter();
+    let promises = promises.map(|promise| {
+        let short = needed.next()?.and_then(|needed| short(&needed, &lengths));
+        promise.map(|promise| short.map_or(promise, Err))
+    });
+    Case {
+        file,
+        lengths,
+        junk: random.word(),
+        promises,
+    }
+}
+
+/// 4, from the lengths needed and lent.
+fn short(needed: &Lengths, lent: &Lengths) -> Option<Refusal> {
+    let short = (0..TABLES.len()).find(|&k| lent[k] < needed[k])?;
+    Some(Refusal {
+        number: 4,
+        place: TABLES[short],
+    })
+}
+
+fn lengths(random: &mut Random, treatment: Treatment, needed: &Option<Lengths>) -> Lengths {
+    match (needed, treatment) {
         (None, _) => lend::unrelated(random),
         (Some(needed), Treatment::Whole) => lend::enough(random, needed),
         (Some(needed), _) if needed.iter().sum::<u64>() > MANY_WORDS => lend::unrelated(random),
         (Some(needed), Treatment::Short) => lend::short(random, needed),
         (Some(needed), _) if random.once_in(40) => lend::short(random, needed),
         (Some(needed), _) => lend::enough(random, needed),
-    };
-    // 4 comes after the header and before all else.
-    let short = needed.and_then(|needed| (0..5).find(|&k| lengths[k] < needed[k]));
-    let promise = match (promise, short) {
-        (Some(_), Some(k)) => Some(Err(Refusal {
-            number: 4,
-            place: k as u64 + 1,
-        })),
-        (promise, _) => promise,
-    };
-    Case {
-        file,
-        lengths,
-        junk: random.word(),
-        promise,
     }
 }

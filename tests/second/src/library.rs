@@ -1,5 +1,6 @@
 //! What is compared, seen from the caller's side.
 
+use crate::aiger::Version;
 use crate::memory::Memory;
 
 /// What a read answers beside the tables.
@@ -8,26 +9,32 @@ pub struct ReadAnswer {
     /// 0 if the file is accepted.
     pub number: u64,
     pub place: u64,
-    /// M I L O A.
-    pub counts: [u64; 5],
+    /// M I L O A B C.
+    pub counts: [u64; 7],
     /// Where the tail starts; the file's length after a refusal.
     pub tail: u64,
 }
 
-/// All that is asked about one file: how many words tables need, and to read it.
+/// All that is asked about one file: how many words tables need, and to read it by one reader or both.
 pub struct FileQuestion {
     pub file: Vec<u8>,
     /// The numbers of the tables.
     pub words: Vec<u64>,
-    /// Tables 1 to 5 as they are lent to the read.
-    pub tables: [Memory<u32>; 5],
+    pub readers: &'static [Version],
+    /// The tables by number, as they are lent to each read.
+    pub tables: [Memory<u32>; 8],
 }
 
 pub struct FileReply {
     pub words: Vec<u64>,
-    pub read: ReadAnswer,
+    /// For each reader that was asked.
+    pub reads: Vec<ReadReply>,
+}
+
+pub struct ReadReply {
+    pub answer: ReadAnswer,
     /// As the read left them.
-    pub tables: [Memory<u32>; 5],
+    pub tables: [Memory<u32>; 8],
 }
 
 /// The calls that are given tables.
@@ -90,7 +97,7 @@ impl Call {
         match self {
             Call::Check | Call::Step => 2,
             Call::WriteText | Call::WriteBinary | Call::Witness => 3,
-            Call::Convert | Call::Reduce => 7,
+            Call::Convert | Call::Reduce => 9,
         }
     }
 
@@ -99,7 +106,7 @@ impl Call {
         matches!(self, Call::Step | Call::Witness)
     }
 
-    /// Whether it is lent tables 1 to 4 for writing.
+    /// Whether it is lent a circuit's tables for writing.
     pub fn writes_tables(self) -> bool {
         matches!(self, Call::Convert | Call::Reduce)
     }
@@ -109,10 +116,10 @@ impl Call {
 #[derive(Clone, Debug, PartialEq, Eq)]
 pub struct Lent {
     pub counts: Memory<u64>,
-    /// Tables 1 to 4.
-    pub tables: [Memory<u32>; 4],
+    /// All but scratch.
+    pub tables: [Memory<u32>; 7],
     pub scratch: Memory<u32>,
-    /// Tables 1 to 4 again, of conversion and reduction.
+    /// The same tables again, of conversion and reduction.
     pub written: Vec<Memory<u32>>,
     /// How many vectors, of the witness question.
     pub number: Option<u64>,
@@ -129,7 +136,7 @@ pub enum Question {
 pub enum Reply {
     File(FileReply),
     /// What was lent, as the call left it.
-    Tables(Lent),
+    Tables(Box<Lent>),
 }
 
 /// Questions may run ahead of replies.

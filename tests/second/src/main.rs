@@ -20,14 +20,15 @@ mod programs;
 mod properties;
 mod random;
 mod remote;
+mod spelling;
 mod tally;
 mod trips;
 mod wire;
 mod worked;
 
-use aiger::read;
+use aiger::{read, Version};
 use coverage::Coverage;
-use generate::{Answer, Case};
+use generate::{Answers, Case};
 use library::Library;
 use options::Options;
 use programs::Programs;
@@ -90,7 +91,7 @@ fn all(tally: &mut Tally, options: &Options, library: Option<&dyn Library>, prog
     let mut coverage = Coverage::default();
     let begun = (0..options.cases).map(|number| {
         let next = begin(options, number, library);
-        coverage.add(&next.case, &next.answer);
+        coverage.add(&next.case, &next.answers);
         next
     });
     run_ahead(begun, |begun| begun.finish(tally, options, library));
@@ -122,17 +123,17 @@ fn run_ahead<T>(cases: impl Iterator<Item = T>, mut finish: impl FnMut(T)) {
 struct Begun {
     number: u64,
     case: Case,
-    answer: Answer,
+    answers: Answers,
     outcome: Result<(), String>,
 }
 
 /// One case, which can be made again from the seed and its number.
 fn begin(options: &Options, number: u64, library: Option<&dyn Library>) -> Begun {
     let case = generate::case(options.seed, number);
-    let answer = read::read(&case.file, &case.lengths);
+    let answers = Version::ALL.map(|version| read::read(&case.file, &case.lengths, version));
     // A source apart from the generator's, so that a change of one leaves the other's cases as they are.
     let mut random = Random::new(!options.seed, number);
-    let checked = catch_unwind(AssertUnwindSafe(|| properties::check(&case, &answer, &mut random)));
+    let checked = catch_unwind(AssertUnwindSafe(|| properties::check(&case, &answers, &mut random)));
     let outcome = checked.unwrap_or_else(|_| Err("panicked".to_string()));
     if let (Ok(()), Some(library)) = (&outcome, library) {
         compare::ask(library, &case.file, &case.lengths, case.junk);
@@ -140,7 +141,7 @@ fn begin(options: &Options, number: u64, library: Option<&dyn Library>) -> Begun
     Begun {
         number,
         case,
-        answer,
+        answers,
         outcome,
     }
 }
@@ -150,16 +151,16 @@ impl Begun {
         let Begun {
             number,
             case,
-            answer,
+            answers,
             mut outcome,
         } = self;
         if let (Ok(()), Some(library)) = (&outcome, library) {
-            outcome = compare::judge(library, &case.file, case.junk, &answer);
+            outcome = compare::judge(library, &case.file, case.junk, &answers);
         }
         if let (Err(why), true) = (&outcome, tally.tells()) {
             let told = format!(
                 "lent {:?}, filled from {}\nforetold {:?}\n{why}\n",
-                case.lengths, case.junk, case.promise
+                case.lengths, case.junk, case.promises
             );
             options.keep(
                 &format!("case-{number}"),

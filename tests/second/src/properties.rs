@@ -6,11 +6,12 @@ mod values;
 use crate::aiger::convert::{convert, Converted};
 use crate::aiger::reduce::reduce;
 use crate::aiger::tables::{self, binary_order, Given};
-use crate::aiger::{read, variable, write, Circuit, Form};
+use crate::aiger::{read, variable, write, Circuit, Form, Version, TABLES};
 use crate::ensure;
-use crate::generate::{Answer, Case};
+use crate::generate::{Answer, Answers, Case};
 use crate::naive;
 use crate::random::Random;
+use crate::spelling::Spelling;
 use std::collections::HashSet;
 
 /// The slow definitions are taken only up to so many gates.
@@ -19,10 +20,14 @@ const FEW_GATES: usize = 60;
 /// Above this many variables only reading and writing are checked.
 const MANY_VARIABLES: u64 = 100_000;
 
-pub fn check(case: &Case, answer: &Answer, random: &mut Random) -> Result<(), String> {
-    if let Some(promise) = &case.promise {
-        ensure!(promise == answer, "foretold {promise:?}, given {answer:?}");
+pub fn check(case: &Case, answers: &Answers, random: &mut Random) -> Result<(), String> {
+    for (promise, answer) in case.promises.iter().zip(answers) {
+        if let Some(promise) = promise {
+            ensure!(promise == answer, "foretold {promise:?}, given {answer:?}");
+        }
     }
+    let [old, answer] = answers;
+    versions(case, old, answer)?;
     words(case, answer)?;
     let Ok((circuit, tail)) = answer else {
         return Ok(());
@@ -40,38 +45,56 @@ pub fn check(case: &Case, answer: &Answer, random: &mut Random) -> Result<(), St
     given::check(random, circuit, tail)
 }
 
+/// What the reader of 2007 accepts, that of 1.9 accepts alike; and if the circuit is one of 2007 and its file in the
+/// shortest form, the other way round.
+fn versions(case: &Case, old: &Answer, new: &Answer) -> Result<(), String> {
+    ensure!(old.is_err() || old == new, "2007 gives {old:?}, 1.9 {new:?}");
+    let Ok((circuit, _)) = new else {
+        return Ok(());
+    };
+    let plain = circuit.resets.iter().all(|&reset| reset == 0) && circuit.counts().list()[5..] == [0, 0];
+    let shortest = Spelling::of(&case.file, circuit.latches.len()).is_shortest();
+    ensure!(old.is_ok() == (plain && shortest), "2007 gives {old:?}, 1.9 {new:?}");
+    Ok(())
+}
+
 /// The desk question and the reader judge the same header.
 fn words(case: &Case, answer: &Answer) -> Result<(), String> {
-    let words = [1, 2, 3, 4, 5].map(|table| read::words(&case.file, table));
-    for table in [0, 6, u64::MAX] {
+    let words = TABLES.map(|table| read::words(&case.file, table));
+    for table in [0, 6, 10, u64::MAX] {
         ensure!(read::words(&case.file, table) == u64::MAX, "words of table {table}");
     }
-    let short = (0..5).find(|&k| words[k] > case.lengths[k]);
+    let mut all = TABLES.iter().zip(words).zip(case.lengths);
+    let short = all.find_map(|((table, words), length)| (words > length).then_some(*table));
     match answer {
         Ok((circuit, _)) => ensure!(words == circuit.counts().words(), "words {words:?}"),
-        Err(refusal) if matches!(refusal.number, 2 | 3) => ensure!(words == [u64::MAX; 5], "words {words:?}"),
+        Err(refusal) if matches!(refusal.number, 2 | 3 | 21) => ensure!(words == [u64::MAX; 8], "words {words:?}"),
         Err(refusal) if refusal.number == 4 => {
-            ensure!(short == Some(refusal.place as usize - 1), "4 at {}", refusal.place)
+            ensure!(short == Some(refusal.place), "4 at {}", refusal.place)
         }
-        Err(_) => ensure!(short.is_none() || words == [u64::MAX; 5], "no 4"),
+        Err(_) => ensure!(short.is_none() || words == [u64::MAX; 8], "no 4"),
     }
     Ok(())
 }
 
-/// Both forms leave no choice of bytes, so what was read is written as it was.
+/// The shortest form leaves no choice of bytes, so a file that was read from it is written as it was.
 fn written(case: &Case, circuit: &Circuit, tail: &[u8]) -> Result<(), String> {
     let text = write::file(circuit, Form::Text, tail);
-    let again = read::read(&text, &circuit.counts().words());
+    let again = read::read(&text, &circuit.counts().words(), Version::V19);
     ensure!(
         again == Ok((circuit.clone(), text.len() - tail.len())),
         "read from its text: {again:?}"
     );
-    if case.file.starts_with(b"aag") {
-        ensure!(text == case.file, "written as {:?}", String::from_utf8_lossy(&text));
+    let written = if case.file.starts_with(b"aag") {
+        text
     } else {
         ensure!(binary_order(circuit).is_ok(), "a binary file not in binary order");
-        let binary = write::file(circuit, Form::Binary, tail);
-        ensure!(binary == case.file, "written as {binary:02x?}");
+        write::file(circuit, Form::Binary, tail)
+    };
+    if Spelling::of(&case.file, circuit.latches.len()).is_shortest() {
+        ensure!(written == case.file, "written as {written:02x?}");
+    } else {
+        ensure!(written.len() < case.file.len(), "written as {written:02x?}");
     }
     Ok(())
 }
@@ -95,7 +118,7 @@ fn conversion(old: &Circuit, converted: &Converted, tail: &[u8]) -> Result<(), S
         "changed though in binary order"
     );
     let bytes = write::file(new, Form::Binary, tail);
-    let again = read::read(&bytes, &expected.words());
+    let again = read::read(&bytes, &expected.words(), Version::V19);
     ensure!(
         again == Ok((new.clone(), bytes.len() - tail.len())),
         "read from its binary: {again:?}"
@@ -115,7 +138,7 @@ fn reduction(old: &Circuit, new: &Circuit) -> Result<(), String> {
     );
     ensure!(binary_order(new).is_ok(), "reduced to {new:?}");
     ensure!(
-        new.inputs == old.inputs && new.gates.len() <= old.gates.len(),
+        new.inputs == old.inputs && new.resets == old.resets && new.gates.len() <= old.gates.len(),
         "reduced to {new:?}"
     );
     ensure!(reduce(new) == *new, "reduced twice");

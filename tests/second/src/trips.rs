@@ -1,5 +1,5 @@
-//! Files and circuits that go through several calls of the library, each given what the one before it left. Both forms
-//! leave no choice of bytes, so a file comes back as it was: a round trip. A walk steps a circuit and what it reduces to.
+//! Files and circuits that go through several calls of the library, each given what the one before it left. The shortest
+//! form leaves no choice of bytes, so a file comes back in it: a round trip. A walk steps a circuit and what it reduces to.
 
 mod held;
 mod trip;

@@ -1,6 +1,7 @@
 //! Questions and replies as the bytes that `tests/desk/server.c` reads and writes.
 
-use crate::library::{Call, FileQuestion, FileReply, Lent, Question, ReadAnswer, Reply};
+use crate::aiger::Version;
+use crate::library::{Call, FileQuestion, FileReply, Lent, Question, ReadAnswer, ReadReply, Reply};
 use crate::memory::{Element, Memory};
 use std::io::{self, Read};
 
@@ -33,21 +34,35 @@ fn number(call: Call) -> u32 {
     }
 }
 
+fn reader(version: Version) -> u32 {
+    match version {
+        Version::V19 => 2,
+        Version::V2007 => 10,
+    }
+}
+
 /// The calls words and read.
 fn put_file_question(bytes: &mut Vec<u8>, question: &FileQuestion) {
-    let FileQuestion { file, words, tables } = question;
+    let FileQuestion {
+        file,
+        words,
+        readers,
+        tables,
+    } = question;
     put_call(bytes, 1);
     put_file(bytes, file);
     put_number(bytes, words.len());
     words.iter().for_each(|table| table.put(bytes));
-    put_call(bytes, 2);
-    put_file(bytes, file);
-    tables.iter().for_each(|table| put_memory(bytes, table));
     let answer = Memory {
-        all: vec![UNANSWERED; 7],
+        all: vec![UNANSWERED; 9],
         margin: 0,
     };
-    put_memory(bytes, &answer);
+    for &version in *readers {
+        put_call(bytes, reader(version));
+        put_file(bytes, file);
+        tables.iter().for_each(|table| put_memory(bytes, table));
+        put_memory(bytes, &answer);
+    }
 }
 
 fn put_lent(bytes: &mut Vec<u8>, lent: &Lent) {
@@ -83,7 +98,7 @@ fn put_memory<T: Element>(bytes: &mut Vec<u8>, memory: &Memory<T>) {
 pub fn reply(from: &mut impl Read, question: Question) -> io::Result<Reply> {
     match question {
         Question::File(question) => Ok(Reply::File(get_file_reply(from, question)?)),
-        Question::Tables(_, lent) => Ok(Reply::Tables(get_lent(from, lent)?)),
+        Question::Tables(_, lent) => Ok(Reply::Tables(Box::new(get_lent(from, lent)?))),
     }
 }
 
@@ -99,17 +114,23 @@ fn get_lent(from: &mut impl Read, mut lent: Lent) -> io::Result<Lent> {
 
 fn get_file_reply(from: &mut impl Read, question: FileQuestion) -> io::Result<FileReply> {
     let words = get(from, question.words.len())?;
-    let mut tables = question.tables;
+    let readers = question.readers.iter();
+    let reads = readers.map(|_| get_read(from, question.tables.clone()));
+    let reads = reads.collect::<io::Result<_>>()?;
+    Ok(FileReply { words, reads })
+}
+
+fn get_read(from: &mut impl Read, mut tables: [Memory<u32>; 8]) -> io::Result<ReadReply> {
     tables.iter_mut().try_for_each(|table| get_memory(from, table))?;
-    let answer: Vec<u64> = get(from, 7)?;
+    let answer: Vec<u64> = get(from, 9)?;
     let tail: Vec<u64> = get(from, 1)?;
-    let read = ReadAnswer {
+    let answer = ReadAnswer {
         number: answer[0],
         place: answer[1],
-        counts: [2, 3, 4, 5, 6].map(|k| answer[k]),
+        counts: [2, 3, 4, 5, 6, 7, 8].map(|k| answer[k]),
         tail: tail[0],
     };
-    Ok(FileReply { words, read, tables })
+    Ok(ReadReply { answer, tables })
 }
 
 fn get<T: Element>(from: &mut impl Read, length: usize) -> io::Result<Vec<T>> {

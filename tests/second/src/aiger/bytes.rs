@@ -1,6 +1,7 @@
 //! Numbers, separators and differences, each read at a place in a file.
 
 use super::{refuse, Refusal};
+use std::ops::RangeInclusive;
 
 /// A number and where its first byte stands.
 #[derive(Clone, Copy, Debug)]
@@ -58,13 +59,11 @@ impl<'a> Cursor<'a> {
         Ok(Number { value, place })
     }
 
-    /// A line of numbers with one space between them.
-    pub fn line(&mut self, fields: usize) -> Result<Vec<Number>, Refusal> {
-        let mut numbers = Vec::with_capacity(fields);
-        for field in 0..fields {
-            if field > 0 {
-                self.one_of(b" ")?;
-            }
+    /// A line of so many numbers with one space between them.
+    pub fn line(&mut self, fields: RangeInclusive<usize>) -> Result<Vec<Number>, Refusal> {
+        let mut numbers = vec![self.number()?];
+        while numbers.len() < *fields.end() && (numbers.len() < *fields.start() || self.peek() == Some(b' ')) {
+            self.one_of(b" ")?;
             numbers.push(self.number()?);
         }
         self.one_of(b"\n")?;

@@ -3,7 +3,7 @@
 
 use super::step::{self, Step};
 use super::tables::{self, binary_order, Given};
-use super::{convert, reduce, refuse, tail, write, Circuit, Form, Refusal};
+use super::{convert, reduce, refuse, tail, write, Circuit, Form, Refusal, Version};
 
 pub fn check(given: &Given) -> Result<(), Refusal> {
     tables::check(given).map(drop)
@@ -11,13 +11,13 @@ pub fn check(given: &Given) -> Result<(), Refusal> {
 
 pub fn write_text(given: &Given, tail: &[u8], buffer: u64) -> Result<Vec<u8>, Refusal> {
     let circuit = tables::check(given)?;
-    tail::check(tail, &given.counts)?;
+    tail::check(tail, &given.counts, Version::V19)?;
     write::fits(write::file(&circuit, Form::Text, tail), buffer)
 }
 
 pub fn write_binary(given: &Given, tail: &[u8], buffer: u64) -> Result<Vec<u8>, Refusal> {
     let circuit = in_order(given)?;
-    tail::check(tail, &given.counts)?;
+    tail::check(tail, &given.counts, Version::V19)?;
     write::fits(write::file(&circuit, Form::Binary, tail), buffer)
 }
 
@@ -53,8 +53,7 @@ pub fn witness(given: &Given, number: u64, list: &[u8]) -> Result<bool, Refusal>
     }
     let i = circuit.inputs.len();
     let vectors = (0..number as usize).map(|k| &list[k * i..(k + 1) * i]);
-    let found = step::run(&circuit, vectors).any(|(_, step)| step.output.contains(&b'1'));
-    Ok(found)
+    Ok(step::witness(&circuit, vectors))
 }
 
 fn in_order(given: &Given) -> Result<Circuit, Refusal> {

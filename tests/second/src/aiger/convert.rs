@@ -20,13 +20,8 @@ pub fn convert(old: &Circuit) -> Converted {
         became[variable(defining)] = new;
     }
     let renamed = |old: u32| literal(became[variable(old)]) + old % 2;
-    let circuit = Circuit {
-        m: old.defining().count() as u64,
-        inputs: old.inputs.iter().map(|&input| renamed(input)).collect(),
-        latches: old.latches.iter().map(|latch| latch.map(renamed)).collect(),
-        outputs: old.outputs.iter().map(|&output| renamed(output)).collect(),
-        gates: order.iter().map(|&k| larger_first(old.gates[k].map(renamed))).collect(),
-    };
+    let gates = order.iter().map(|&k| larger_first(old.gates[k].map(renamed))).collect();
+    let circuit = old.renamed(renamed, old.defining().count() as u64, gates);
     Converted { circuit, became }
 }
 

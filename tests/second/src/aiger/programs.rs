@@ -1,7 +1,7 @@
 //! The programs: from `plan.in` and standard input to every byte that they write.
 
 use super::calls::are_values;
-use super::{convert, read, reduce, refuse, step, write, Circuit, Form, Refusal};
+use super::{convert, read, reduce, refuse, step, write, Circuit, Form, Lengths, Refusal, Version};
 
 #[derive(Clone, Copy, Debug, PartialEq, Eq)]
 pub enum Program {
@@ -24,14 +24,14 @@ impl Program {
     /// The refusals that it can give. The tracer writes line by line, so no buffer is too short for it.
     pub fn refusals(self) -> &'static [u64] {
         match self {
-            Program::Converter | Program::Reducer => &[1, 2, 3, 4, 5, 6, 7, 8, 9, 10, 11, 13, 14],
-            Program::Tracer => &[1, 2, 3, 4, 5, 6, 7, 8, 9, 10, 12, 13, 14],
+            Program::Converter | Program::Reducer => &[1, 2, 3, 4, 5, 6, 7, 8, 9, 10, 11, 13, 14, 21],
+            Program::Tracer => &[1, 2, 3, 4, 5, 6, 7, 8, 9, 10, 12, 13, 14, 21],
         }
     }
 }
 
-/// The words that each program lends for tables 1 to 5.
-pub const LENT: [u64; 5] = [4096, 4096, 4096, 4096, 16_384];
+/// The words that each program lends for the tables.
+pub const LENT: Lengths = [4096, 4096, 4096, 4096, 16_384, 4096, 4096, 4096];
 
 /// The longest input, and the bytes lent for a written file.
 pub const LONGEST: usize = 65_536;
@@ -47,7 +47,7 @@ pub fn answer(program: Program, plan: Option<&[u8]>, input: Option<&[u8]>) -> Re
     let converted = || convert::convert(&circuit).circuit;
     let written = |circuit: &Circuit, form| write::fits(write::file(circuit, form, tail), LONGEST as u64);
     match program {
-        Program::Converter => match read::header(file)?.form {
+        Program::Converter => match read::header(file, Version::V19)?.form {
             Form::Text => written(&converted(), Form::Binary),
             Form::Binary => written(&circuit, Form::Text),
         },
@@ -59,7 +59,7 @@ pub fn answer(program: Program, plan: Option<&[u8]>, input: Option<&[u8]>) -> Re
 /// `plan.in`: the file, its circuit and its tail.
 pub fn opened(plan: Option<&[u8]>) -> Result<(&[u8], Circuit, &[u8]), Refusal> {
     let file = bytes(plan)?;
-    let (circuit, tail) = read::read(file, &LENT)?;
+    let (circuit, tail) = read::read(file, &LENT, Version::V19)?;
     Ok((file, circuit, &file[tail..]))
 }
 

@@ -22,18 +22,8 @@ pub fn reduce(old: &Circuit) -> Circuit {
         });
         became.push(stands_for);
     }
-    let renamed = |old: u32| renamed(&became, old);
-    Circuit {
-        m: (sources + retained.len()) as u64,
-        inputs: old.inputs.clone(),
-        latches: old
-            .latches
-            .iter()
-            .map(|&[current, next]| [current, renamed(next)])
-            .collect(),
-        outputs: old.outputs.iter().map(|&output| renamed(output)).collect(),
-        gates: retained,
-    }
+    let m = (sources + retained.len()) as u64;
+    old.renamed(|old| renamed(&became, old), m, retained)
 }
 
 fn renamed(became: &[u32], old: u32) -> u32 {

@@ -67,16 +67,42 @@ pub fn values(circuit: &Circuit, state: &[u8], input: &[u8]) -> Vec<u8> {
 #[derive(Clone, Debug, PartialEq, Eq)]
 pub struct Step {
     pub output: Vec<u8>,
+    pub bad: Vec<u8>,
+    pub constraint: Vec<u8>,
     pub next: Vec<u8>,
+}
+
+impl Step {
+    /// Whether an output or a bad state is "1".
+    pub fn shows(&self) -> bool {
+        self.output.contains(&b'1') || self.bad.contains(&b'1')
+    }
+
+    pub fn keeps_constraints(&self) -> bool {
+        self.constraint.iter().all(|&value| value == b'1')
+    }
 }
 
 /// One step; the next values are all taken from the old state.
 pub fn step(circuit: &Circuit, state: &[u8], input: &[u8]) -> Step {
     let values = values(circuit, state, input);
+    let all = |literals: &[u32]| literals.iter().map(|&literal| value(&values, literal)).collect();
     Step {
-        output: circuit.outputs.iter().map(|&output| value(&values, output)).collect(),
+        output: all(&circuit.outputs),
+        bad: all(&circuit.bads),
+        constraint: all(&circuit.constraints),
         next: circuit.latches.iter().map(|latch| value(&values, latch[1])).collect(),
     }
+}
+
+/// The first state: what the resets say.
+pub fn start(circuit: &Circuit) -> Vec<u8> {
+    let value = |&reset: &u32| match reset {
+        0 => b'0',
+        1 => b'1',
+        _ => b'x',
+    };
+    circuit.resets.iter().map(value).collect()
 }
 
 /// The steps of a list of input vectors from the first state, each with the state it starts from.
@@ -84,9 +110,23 @@ pub fn run<'a>(
     circuit: &'a Circuit,
     inputs: impl Iterator<Item = &'a [u8]> + 'a,
 ) -> impl Iterator<Item = (Vec<u8>, Step)> + 'a {
-    let mut state = vec![b'0'; circuit.latches.len()];
+    run_from(circuit, start(circuit), inputs)
+}
+
+/// The same from another state.
+pub fn run_from<'a>(
+    circuit: &'a Circuit,
+    mut state: Vec<u8>,
+    inputs: impl Iterator<Item = &'a [u8]> + 'a,
+) -> impl Iterator<Item = (Vec<u8>, Step)> + 'a {
     inputs.map(move |input| {
         let step = step(circuit, &state, input);
         (std::mem::replace(&mut state, step.next.clone()), step)
     })
+}
+
+/// The witness question in three values: a "1" counts while every constraint is "1", then and before.
+pub fn witness<'a>(circuit: &'a Circuit, inputs: impl Iterator<Item = &'a [u8]> + 'a) -> bool {
+    let mut kept = run(circuit, inputs).take_while(|(_, step)| step.keeps_constraints());
+    kept.any(|(_, step)| step.shows())
 }

@@ -1,36 +1,39 @@
 //! Given tables: 2, 3, 4, 5, 6, 7, 8, each over the whole circuit; and binary order (15).
 
-use super::{literal, meaning, refuse, variable, Circuit, Counts, Refusal, MOST};
+use super::{
+    apart, literal, meaning, refuse, variable, with_scratch, Circuit, Counts, Lengths, Refusal, CIRCUIT, MOST, TABLES,
+};
 
 /// A circuit as a caller hands it in: counts and tables that need not fit together.
 #[derive(Clone, Debug)]
 pub struct Given {
     pub counts: Counts,
-    pub tables: [Vec<u32>; 4],
+    /// All but scratch.
+    pub tables: [Vec<u32>; 7],
     /// The length of table 5.
     pub scratch: u64,
-    /// The lengths of tables 1 to 4 lent for writing, if the call writes tables.
-    pub written: Option<[u64; 4]>,
+    /// The lengths of the tables lent for writing, if the call writes tables.
+    pub written: Option<[u64; 7]>,
 }
 
 impl Given {
     /// A circuit's own tables, with all that is lent exactly as long as needed.
     pub fn exactly(circuit: &Circuit) -> Given {
-        let words = circuit.counts().words();
+        let (written, scratch) = apart(circuit.counts().words());
         Given {
             counts: circuit.counts(),
             tables: circuit.tables(),
-            scratch: words[4],
-            written: Some([words[0], words[1], words[2], words[3]]),
+            scratch,
+            written: Some(written),
         }
     }
 }
 
 /// 4: the least table shorter than the counts ask.
-pub fn lengths(counts: &Counts, lent: &[u64; 5]) -> Result<(), Refusal> {
+pub fn lengths(counts: &Counts, lent: &Lengths) -> Result<(), Refusal> {
     let needed = counts.words();
-    match (0..5).find(|&k| lent[k] < needed[k]) {
-        Some(short) => refuse(4, short + 1),
+    match (0..TABLES.len()).find(|&k| lent[k] < needed[k]) {
+        Some(short) => refuse(4, TABLES[short] as usize),
         None => Ok(()),
     }
 }
@@ -47,14 +50,13 @@ pub fn in_range(literal: u64, m: u64, defines: bool) -> bool {
 /// The circuit of given tables, or the first refusal from 2 to 8.
 pub fn check(given: &Given) -> Result<Circuit, Refusal> {
     counts(&given.counts)?;
-    let mut lent = given.tables.each_ref().map(|table| table.len() as u64).to_vec();
-    lent.push(given.scratch);
+    let mut lent = given.tables.each_ref().map(|table| table.len() as u64);
     if let Some(written) = &given.written {
         for (lent, &written) in lent.iter_mut().zip(written) {
             *lent = written.min(*lent);
         }
     }
-    lengths(&given.counts, &[lent[0], lent[1], lent[2], lent[3], lent[4]])?;
+    lengths(&given.counts, &with_scratch(lent, given.scratch))?;
     let circuit = circuit(given);
     ranges(&circuit)?;
     definitions(&circuit)?;
@@ -76,35 +78,38 @@ fn counts(counts: &Counts) -> Result<(), Refusal> {
 
 /// The words that the counts speak of; the tables are known to be long enough.
 fn circuit(given: &Given) -> Circuit {
-    let [inputs, latches, outputs, gates] = &given.tables;
-    let Counts { m, i, l, o, a } = given.counts;
-    Circuit {
-        m,
-        inputs: inputs[..i as usize].to_vec(),
-        latches: latches.as_chunks().0[..l as usize].to_vec(),
-        outputs: outputs[..o as usize].to_vec(),
-        gates: gates.as_chunks().0[..a as usize].to_vec(),
+    let (words, _) = apart(given.counts.words());
+    let mut tables = given.tables.clone();
+    for (table, words) in tables.iter_mut().zip(words) {
+        table.truncate(words as usize);
     }
+    Circuit::of_tables(given.counts.m, &tables)
+}
+
+/// 5: whether a latch may start so.
+pub fn resets(reset: u64, current: u32) -> bool {
+    reset <= 1 || reset == u64::from(current)
 }
 
 /// 5, table by table.
 fn ranges(circuit: &Circuit) -> Result<(), Refusal> {
     let fits = |literal: u32, defines| in_range(u64::from(literal), circuit.m, defines);
     let side = |literal: u32| fits(literal, false);
+    let sides = |literals: &[u32]| literals.iter().all(|&literal| side(literal));
+    let mut latches = circuit.latches.iter();
+    let mut started = circuit.latches.iter().zip(&circuit.resets);
+    let mut gates = circuit.gates.iter();
     let good = [
         circuit.inputs.iter().all(|&input| fits(input, true)),
-        circuit
-            .latches
-            .iter()
-            .all(|latch| fits(latch[0], true) && side(latch[1])),
-        circuit.outputs.iter().all(|&output| side(output)),
-        circuit
-            .gates
-            .iter()
-            .all(|gate| fits(gate[0], true) && side(gate[1]) && side(gate[2])),
+        latches.all(|latch| fits(latch[0], true) && side(latch[1])),
+        sides(&circuit.outputs),
+        gates.all(|gate| fits(gate[0], true) && side(gate[1]) && side(gate[2])),
+        started.all(|(latch, &reset)| resets(u64::from(reset), latch[0])),
+        sides(&circuit.bads),
+        sides(&circuit.constraints),
     ];
     match good.iter().position(|good| !good) {
-        Some(table) => refuse(5, table + 1),
+        Some(table) => refuse(5, CIRCUIT[table] as usize),
         None => Ok(()),
     }
 }

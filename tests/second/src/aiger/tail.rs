@@ -1,30 +1,41 @@
 //! The symbol and comment part. Places are offsets within it.
 
 use super::bytes::Cursor;
-use super::{refuse, Counts, Refusal};
+use super::{refuse, Counts, Refusal, Version};
 use std::collections::HashSet;
 
 /// Judges a whole tail, line by line, each symbol line by 1 and then 10.
-pub fn check(tail: &[u8], counts: &Counts) -> Result<(), Refusal> {
+pub fn check(tail: &[u8], counts: &Counts, version: Version) -> Result<(), Refusal> {
     let mut cursor = Cursor::new(tail, 0);
     let mut named = HashSet::new();
     while cursor.peek().is_some() {
         let start = cursor.at;
-        let kind = cursor.one_of(b"iloc")?;
-        if kind == b'c' {
+        let kind = cursor.one_of(letters(version))?;
+        let names = version == Version::V19 && cursor.peek().is_some_and(|byte| byte.is_ascii_digit());
+        if kind == b'c' && !names {
             return comment(&mut cursor);
         }
         let position = symbol(&mut cursor)?;
         let count = match kind {
             b'i' => counts.i,
             b'l' => counts.l,
-            _ => counts.o,
+            b'o' => counts.o,
+            b'b' => counts.b,
+            _ => counts.c,
         };
         if position >= count || !named.insert((kind, position)) {
             return refuse(10, start);
         }
     }
     Ok(())
+}
+
+/// What a line may start with. In 1.9 "c" and a digit is a constraint's symbol.
+fn letters(version: Version) -> &'static [u8] {
+    match version {
+        Version::V2007 => b"iloc",
+        Version::V19 => b"ilobc",
+    }
 }
 
 /// The rest of a symbol line; its position.

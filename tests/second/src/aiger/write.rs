@@ -23,9 +23,29 @@ pub fn fits(bytes: Vec<u8>, buffer: u64) -> Result<Vec<u8>, Refusal> {
     Ok(bytes)
 }
 
+/// Zeros at the end are left off, but never of the first five.
 fn header(name: &str, circuit: &Circuit) -> String {
-    let numbers = circuit.counts().list().map(|count| count.to_string());
-    format!("{name} {}\n", numbers.join(" "))
+    let counts = circuit.counts();
+    let most = match (counts.b, counts.c) {
+        (0, 0) => 5,
+        (_, 0) => 6,
+        _ => 7,
+    };
+    let numbers = counts.list().map(|count| count.to_string());
+    format!("{name} {}\n", numbers[..most].join(" "))
+}
+
+/// The end of a latch's line: a reset of 0 is left off.
+fn reset(reset: u32) -> String {
+    match reset {
+        0 => "\n".to_string(),
+        _ => format!(" {reset}\n"),
+    }
+}
+
+/// The lines of outputs, bad states and constraints.
+fn asked(circuit: &Circuit) -> String {
+    circuit.asked().map(|literal| format!("{literal}\n")).collect()
 }
 
 fn text(circuit: &Circuit) -> Vec<u8> {
@@ -33,12 +53,10 @@ fn text(circuit: &Circuit) -> Vec<u8> {
     for input in &circuit.inputs {
         lines += &format!("{input}\n");
     }
-    for [current, next] in &circuit.latches {
-        lines += &format!("{current} {next}\n");
+    for ([current, next], &start) in circuit.latches.iter().zip(&circuit.resets) {
+        lines += &format!("{current} {next}{}", reset(start));
     }
-    for output in &circuit.outputs {
-        lines += &format!("{output}\n");
-    }
+    lines += &asked(circuit);
     for [lhs, rhs0, rhs1] in &circuit.gates {
         lines += &format!("{lhs} {rhs0} {rhs1}\n");
     }
@@ -48,12 +66,10 @@ fn text(circuit: &Circuit) -> Vec<u8> {
 /// Only for a circuit in binary order.
 fn binary(circuit: &Circuit) -> Vec<u8> {
     let mut lines = header("aig", circuit);
-    for [_, next] in &circuit.latches {
-        lines += &format!("{next}\n");
+    for ([_, next], &start) in circuit.latches.iter().zip(&circuit.resets) {
+        lines += &format!("{next}{}", reset(start));
     }
-    for output in &circuit.outputs {
-        lines += &format!("{output}\n");
-    }
+    lines += &asked(circuit);
     let mut bytes = lines.into_bytes();
     for [lhs, rhs0, rhs1] in &circuit.gates {
         difference(&mut bytes, lhs - rhs0);

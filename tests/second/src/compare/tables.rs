@@ -1,7 +1,7 @@
 //! Holds a library to this program's outcome of a call on tables: the answer, and every element of all that was lent.
 
 use crate::aiger::tables::{self, Given};
-use crate::aiger::{calls, Circuit, Counts, Refusal};
+use crate::aiger::{calls, Circuit, Counts, Refusal, CIRCUIT};
 use crate::library::{Call, Lent, Library, Question, Reply};
 use crate::memory::{Element, Memory};
 
@@ -22,11 +22,11 @@ pub fn judge(library: &dyn Library, expected: &Lent) -> Result<(), String> {
     };
     same("answer", &expected.answer, &given.answer)?;
     same("counts", &expected.counts, &given.counts)?;
-    for (k, (expected, given)) in expected.tables.iter().zip(&given.tables).enumerate() {
-        same(&format!("table {}", k + 1), expected, given)?;
+    for (number, (expected, given)) in CIRCUIT.iter().zip(expected.tables.iter().zip(&given.tables)) {
+        same(&format!("table {number}"), expected, given)?;
     }
-    for (k, (expected, given)) in expected.written.iter().zip(&given.written).enumerate() {
-        same(&format!("written table {}", k + 1), expected, given)?;
+    for (number, (expected, given)) in CIRCUIT.iter().zip(expected.written.iter().zip(&given.written)) {
+        same(&format!("written table {number}"), expected, given)?;
     }
     for (k, (expected, given)) in expected.bytes.iter().zip(&given.bytes).enumerate() {
         same(&format!("byte buffer {}", k + 1), expected, given)?;
@@ -115,7 +115,7 @@ pub fn circuit(lent: &Lent) -> Circuit {
 }
 
 fn given(lent: &Lent) -> Given {
-    let counts = lent.counts.lent().try_into().expect("five counts");
+    let counts = lent.counts.lent().try_into().expect("seven counts");
     let lengths: Vec<u64> = lent.written.iter().map(|table| table.lent().len() as u64).collect();
     Given {
         counts: Counts::new(counts),

@@ -1,5 +1,6 @@
 //! The answers of one call on tables.
 
+use super::places::{PlaceCoverage, OF_TABLES};
 use super::vectors::VectorCoverage;
 use super::{at_least, PER_REFUSAL};
 use crate::compare::tables::outcome;
@@ -11,14 +12,15 @@ pub struct CallCoverage {
     call: Call,
     cases: u64,
     /// At the refusal's number; at 0 accepted.
-    answered: [u64; 16],
+    answered: [u64; 22],
     /// Those of them whose answer the generator knew.
-    promised: [u64; 16],
+    promised: [u64; 22],
     /// Accepted with A > 0.
     with_gates: u64,
     /// Accepted by conversion or reduction, and the gates became others.
     changed: u64,
     vectors: VectorCoverage,
+    places: PlaceCoverage,
 }
 
 impl CallCoverage {
@@ -26,16 +28,19 @@ impl CallCoverage {
         CallCoverage {
             call,
             cases: 0,
-            answered: [0; 16],
-            promised: [0; 16],
+            answered: [0; 22],
+            promised: [0; 22],
             with_gates: 0,
             changed: 0,
             vectors: VectorCoverage::default(),
+            places: PlaceCoverage::default(),
         }
     }
 
     pub fn add(&mut self, case: &TablesCase, after: &Lent) {
-        let number = outcome(after).map_or_else(|refusal| refusal.number as usize, |()| 0);
+        let refusal = outcome(after).err();
+        let number = refusal.map_or(0, |refusal| refusal.number as usize);
+        refusal.iter().for_each(|refusal| self.places.add(refusal));
         self.cases += 1;
         self.answered[number] += 1;
         self.promised[number] += u64::from(case.promise.is_some());
@@ -76,6 +81,7 @@ impl CallCoverage {
             &format!("{name}, accepted with A > 0"),
             at_least(self.with_gates, self.cases.div_ceil(4)),
         );
+        self.places.report(tally, name, OF_TABLES);
         if self.call.writes_tables() {
             println!("{name}: the gates became others in {}", self.changed);
             tally.check(&format!("{name}, changes"), at_least(self.changed, self.cases / 10));

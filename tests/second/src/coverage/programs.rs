@@ -19,7 +19,7 @@ const MANY: usize = 20_000;
 #[derive(Default)]
 pub struct RunCoverage {
     /// By program and the refusal's number; at 0 accepted.
-    answered: [[u64; 16]; 3],
+    answered: [[u64; 22]; 3],
     /// Accepted by program, in text and in binary.
     forms: [[u64; 2]; 3],
     foretold: u64,
@@ -30,7 +30,7 @@ pub struct RunCoverage {
 #[derive(Default)]
 struct Traces {
     /// By the refusal of standard input.
-    refused: [u64; 16],
+    refused: [u64; 22],
     without_lines: u64,
     without_inputs: u64,
     many_lines: u64,
@@ -69,7 +69,7 @@ impl RunCoverage {
         self.traces.report(tally);
     }
 
-    fn report_program(&self, tally: &mut Tally, program: Program, answered: &[u64; 16]) {
+    fn report_program(&self, tally: &mut Tally, program: Program, answered: &[u64; 22]) {
         let name = program.name();
         let [text, binary] = self.forms[program as usize];
         let refusals = program.refusals();

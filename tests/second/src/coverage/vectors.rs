@@ -21,6 +21,38 @@ pub struct VectorCoverage {
     no: u64,
     /// Refused by 12 though the vectors before the wrong byte give a "1".
     too_late: u64,
+    new: NewCoverage,
+}
+
+/// Cases whose answer would be another by the report of 2007.
+#[derive(Default)]
+struct NewCoverage {
+    by_bad_states: u64,
+    lost_to_constraints: u64,
+    by_resets: u64,
+    from_x: u64,
+}
+
+impl NewCoverage {
+    fn add(&mut self, before: &Lent, yes: bool) {
+        let circuit = circuit(before);
+        let otherwise = |change: fn(&mut Circuit)| {
+            let mut other = circuit.clone();
+            change(&mut other);
+            let vectors = list(before, &other);
+            u64::from(step::witness(&other, vectors.into_iter()) != yes)
+        };
+        self.by_bad_states += otherwise(|circuit| circuit.bads.clear());
+        self.lost_to_constraints += otherwise(|circuit| circuit.constraints.clear());
+        self.by_resets += otherwise(|circuit| circuit.resets.fill(0));
+        self.from_x += u64::from(step::start(&circuit).contains(&b'x'));
+    }
+}
+
+/// The vectors of a witness question that is accepted.
+pub fn list<'a>(lent: &'a Lent, circuit: &Circuit) -> Vec<&'a [u8]> {
+    let (i, number) = (circuit.inputs.len(), lent.number.unwrap_or(0) as usize);
+    (0..number).map(|k| &lent.bytes[0].lent()[k * i..(k + 1) * i]).collect()
 }
 
 impl VectorCoverage {
@@ -40,6 +72,7 @@ impl VectorCoverage {
                 let yes = after.answer.lent()[2];
                 self.yes += yes;
                 self.no += 1 - yes;
+                self.new.add(before, yes == 1);
             }
             (Call::Witness, Err(Refusal { number: 12, .. })) => {
                 self.too_late += u64::from(seen(&circuit(before), before.bytes[0].lent()));
@@ -47,8 +80,8 @@ impl VectorCoverage {
             }
             _ => return,
         }
-        let [_, i, l, o, _] = *before.counts.lent() else {
-            unreachable!("five counts");
+        let [_, i, l, o, ..] = *before.counts.lent() else {
+            unreachable!("seven counts");
         };
         let zeros = [i, l, o, before.number.unwrap_or(1)].map(|count| u64::from(count == 0));
         self.without
@@ -67,6 +100,13 @@ impl VectorCoverage {
         if call == Call::Witness {
             kinds.extend([("without vectors", vectors), ("yes", self.yes), ("no", self.no)]);
             kinds.push(("a wrong byte after a 1", self.too_late));
+            let new = &self.new;
+            kinds.extend([
+                ("other without bad states", new.by_bad_states),
+                ("from an x", new.from_x),
+            ]);
+            kinds.push(("other without constraints", new.lost_to_constraints));
+            kinds.push(("other from all 0", new.by_resets));
         } else {
             let [zero, one, x] = self.outputs;
             kinds.extend([("a 0 among the outputs", zero), ("a 1", one), ("an x", x)]);
@@ -81,12 +121,12 @@ impl VectorCoverage {
     }
 }
 
-/// Whether the vectors before the first wrong byte give a "1" on some output.
+/// Whether the vectors before the first wrong byte are a witness.
 pub fn seen(circuit: &Circuit, list: &[u8]) -> bool {
     let wrong = list.iter().position(|byte| !b"01x".contains(byte));
     let (Some(wrong), i @ 1..) = (wrong, circuit.inputs.len()) else {
         return false;
     };
     let good = list[..wrong].chunks_exact(i);
-    step::run(circuit, good).any(|(_, step)| step.output.contains(&b'1'))
+    step::witness(circuit, good)
 }

@@ -27,7 +27,7 @@ fn answers(slip: Slip, question: Question) -> Result<Reply, String> {
     };
     let mut lent = after(call, &before);
     slip(&before, &mut lent);
-    Ok(Reply::Tables(lent))
+    Ok(Reply::Tables(Box::new(lent)))
 }
 
 /// How many of the first cases must do to notice a slip.

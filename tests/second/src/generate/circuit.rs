@@ -6,6 +6,7 @@ use crate::aiger::{literal, negation, variable, Circuit, Form, MOST};
 use crate::random::Random;
 
 /// The size and kind of a circuit to be made.
+#[derive(Default)]
 pub struct Size {
     pub i: usize,
     pub l: usize,
@@ -13,9 +14,26 @@ pub struct Size {
     pub a: usize,
     /// Variables without a definition; only the text form has them.
     pub unused: usize,
+    /// Bad states and constraints.
+    pub b: usize,
+    pub c: usize,
+    /// Whether some resets are not 0.
+    pub starts: bool,
 }
 
 pub fn size(random: &mut Random, form: Form) -> Size {
+    let mut size = plain_size(random, form);
+    // Every third circuit is one of 2007.
+    if !random.once_in(3) {
+        size.b = random.below(5);
+        size.c = random.below(4);
+        size.starts = !random.once_in(3);
+    }
+    size
+}
+
+/// Without bad states, constraints and resets.
+fn plain_size(random: &mut Random, form: Form) -> Size {
     match random.below(3000) {
         0..=1 => extreme(random, form),
         2..=60 => wide(random, form),
@@ -34,6 +52,7 @@ fn up_to(random: &mut Random, most: usize) -> Size {
         o: random.below(few + 1),
         a: if random.once_in(12) { 0 } else { random.between(1, most) },
         unused: if random.once_in(2) { random.below(few + 1) } else { 0 },
+        ..Size::default()
     }
 }
 
@@ -47,7 +66,7 @@ fn wide(random: &mut Random, form: Form) -> Size {
             l,
             o: random.below(5),
             a: random.between(1, 12),
-            unused: 0,
+            ..Size::default()
         },
         Form::Text => Size {
             i: random.below(5),
@@ -55,6 +74,7 @@ fn wide(random: &mut Random, form: Form) -> Size {
             o: random.below(5),
             a: random.between(1, 12),
             unused: sources,
+            ..Size::default()
         },
     }
 }
@@ -69,7 +89,7 @@ fn extreme(random: &mut Random, form: Form) -> Size {
             l,
             o,
             a,
-            unused: 0,
+            ..Size::default()
         },
         Form::Text => Size {
             i: 3,
@@ -77,6 +97,7 @@ fn extreme(random: &mut Random, form: Form) -> Size {
             o,
             a,
             unused: rest - 3,
+            ..Size::default()
         },
     }
 }
@@ -99,13 +120,32 @@ fn in_order(random: &mut Random, size: &Size) -> Circuit {
     let defined = sources + size.a;
     let gates = gates::gates(random, sources, size.a);
     let latches = (size.i + 1..=sources).map(|v| [literal(v), next(random, v, defined)]);
+    let latches: Vec<[u32; 2]> = latches.collect();
     Circuit {
         m: defined as u64,
         inputs: (1..=size.i).map(literal).collect(),
-        latches: latches.collect(),
         outputs: (0..size.o).map(|_| any_literal(random, defined)).collect(),
+        bads: (0..size.b).map(|_| any_literal(random, defined)).collect(),
+        constraints: (0..size.c).map(|_| constraint(random, defined)).collect(),
+        resets: resets(random, size.starts, &latches),
+        latches,
         gates,
     }
+}
+
+/// Often true: literals chosen at random are seldom 1 together.
+fn constraint(random: &mut Random, defined: usize) -> u32 {
+    if random.once_in(2) {
+        1
+    } else {
+        any_literal(random, defined)
+    }
+}
+
+/// What each latch starts with.
+fn resets(random: &mut Random, some: bool, latches: &[[u32; 2]]) -> Vec<u32> {
+    let mut reset = |own: u32| if some { *random.pick(&[0, 1, own]) } else { 0 };
+    latches.iter().map(|latch| reset(latch[0])).collect()
 }
 
 /// A literal of a variable up to `last`, constants included.
@@ -126,11 +166,9 @@ fn next(random: &mut Random, current: usize, defined: usize) -> u32 {
 fn rename(random: &mut Random, circuit: &mut Circuit) {
     let defined = circuit.defining().count();
     let names = names(random, defined, circuit.m as usize);
-    let rename = |old: &mut u32| *old = literal(names[variable(*old)]) + *old % 2;
-    circuit.inputs.iter_mut().for_each(rename);
-    circuit.latches.iter_mut().flatten().for_each(rename);
-    circuit.outputs.iter_mut().for_each(rename);
-    circuit.gates.iter_mut().flatten().for_each(rename);
+    let name = |old: u32| literal(names[variable(old)]) + old % 2;
+    let gates = circuit.gates.iter().map(|gate| gate.map(name)).collect();
+    *circuit = circuit.renamed(name, circuit.m, gates);
 }
 
 /// Different numbers from 1 to `m` for the variables 1 to `defined`; 0 stays.

@@ -1,13 +1,16 @@
 //! Damage to one piece of a draft, with the refusal that the paper gives for it.
 
+mod counts;
 mod differences;
 mod marks;
 pub mod numbers;
+mod resets;
 mod tail;
 
 use super::draft::{Draft, Layout};
 use crate::aiger::{Circuit, Refusal};
 use crate::random::Random;
+use std::ops::RangeInclusive;
 
 /// A number of the header or of a line.
 #[derive(Clone, Copy, Debug)]
@@ -60,27 +63,39 @@ impl Harm {
 /// Damages a draft of the circuit; none if the draft has no place for it.
 type Damage = fn(&mut Random, &Circuit, &mut Draft) -> Option<Harm>;
 
-fn damages(number: u64) -> &'static [Damage] {
+fn damages(random: &mut Random, number: u64) -> &'static [Damage] {
     match number {
         1 => marks::ALL,
-        2 => &[numbers::count_too_large],
-        3 => &[numbers::counts_disagree],
+        2 => &[counts::too_many],
+        3 => &[counts::disagree],
+        5 if random.once_in(3) => resets::ALL,
         5 => numbers::RANGES,
         6 => &[numbers::second_definition],
-        7 => &[numbers::undefined, numbers::undefined, numbers::undefined_and_cycle],
+        7 => &[
+            numbers::undefined,
+            numbers::undefined_bad,
+            numbers::undefined,
+            numbers::undefined_and_cycle,
+        ],
         8 => &[numbers::cycle],
         9 => differences::ALL,
         10 => tail::SYMBOLS,
-        11 => &[numbers::count_changed],
+        11 => &[counts::changed],
+        21 => counts::JUSTICE,
         _ => tail::MARKS,
     }
 }
 
 /// What damage aims at: a refusal; 0 is for 1 in the tail, so that it has its own share; 11 for none in particular.
-pub const AIMS: &[u64] = &[0, 1, 2, 3, 5, 6, 7, 8, 9, 10, 11];
+pub const AIMS: &[u64] = &[0, 1, 2, 3, 5, 6, 7, 8, 9, 10, 11, 21];
 
 pub fn damage(random: &mut Random, aim: u64, circuit: &Circuit, draft: &mut Draft) -> Option<Harm> {
-    random.pick(damages(aim))(random, circuit, draft)
+    let damages = damages(random, aim);
+    random.pick(damages)(random, circuit, draft)
+}
+
+fn digits(number: impl ToString) -> Vec<u8> {
+    number.to_string().into_bytes()
 }
 
 /// Some number of the draft, and its digits.
@@ -100,6 +115,14 @@ fn line_of(draft: &mut Draft, slot: Slot) -> &mut Vec<Vec<u8>> {
     match slot {
         Slot::Count(_) => &mut draft.counts,
         Slot::Field(line, _) => &mut draft.lines[line],
+    }
+}
+
+/// How many numbers its line may have.
+fn fields(draft: &Draft, slot: Slot) -> RangeInclusive<usize> {
+    match slot {
+        Slot::Count(_) => 5..=9,
+        Slot::Field(line, _) => draft.fields(line),
     }
 }
 

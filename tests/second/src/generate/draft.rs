@@ -1,15 +1,21 @@
 //! A file in pieces that can be damaged one by one, and where each piece comes to stand.
 
+mod tail;
+
 use crate::aiger::{Circuit, Form};
 use crate::random::Random;
+use std::ops::{Range, RangeInclusive};
+pub use tail::{lists, symbol};
 
 #[derive(Clone, Debug)]
 pub struct Draft {
     pub name: Vec<u8>,
-    /// M I L O A.
+    /// M I L O A, perhaps B C J F.
     pub counts: Vec<Vec<u8>>,
     /// The numbers of each line after the header.
     pub lines: Vec<Vec<Vec<u8>>>,
+    /// Those of them that are a latch's.
+    pub latches: Range<usize>,
     /// Two for each gate of a binary file.
     pub differences: Vec<Vec<u8>>,
     /// Without their new lines.
@@ -34,37 +40,89 @@ fn digits(number: impl ToString) -> Vec<u8> {
     number.to_string().into_bytes()
 }
 
+/// The numbers of each latch's line, without those before the `from`-th and without a reset of 0.
+fn latches(circuit: &Circuit, from: usize) -> impl Iterator<Item = Vec<Vec<u8>>> + '_ {
+    let latches = circuit.latches.iter().zip(&circuit.resets);
+    latches.map(move |(latch, reset)| {
+        let reset = Some(reset).filter(|&&reset| reset != 0);
+        latch[from..].iter().chain(reset).map(digits).collect()
+    })
+}
+
+/// Counts without the zeros that may be left off.
+fn counts(circuit: &Circuit) -> Vec<Vec<u8>> {
+    let mut counts = circuit.counts().list().to_vec();
+    while counts.len() > 5 && counts.last() == Some(&0) {
+        counts.pop();
+    }
+    counts.into_iter().map(digits).collect()
+}
+
 impl Draft {
+    /// In the shortest form.
     pub fn new(random: &mut Random, form: Form, circuit: &Circuit) -> Draft {
-        let outputs = circuit.outputs.iter().map(|output| vec![digits(output)]);
+        let asked = circuit.asked().map(|literal| vec![digits(literal)]);
         let (name, lines, differences): (_, Vec<_>, _) = match form {
             Form::Text => {
                 let inputs = circuit.inputs.iter().map(|input| vec![digits(input)]);
-                let latches = circuit.latches.iter().map(|latch| latch.map(digits).to_vec());
                 let gates = circuit.gates.iter().map(|gate| gate.map(digits).to_vec());
-                (
-                    "aag",
-                    inputs.chain(latches).chain(outputs).chain(gates).collect(),
-                    Vec::new(),
-                )
+                let lines = inputs.chain(latches(circuit, 0)).chain(asked).chain(gates);
+                ("aag", lines.collect(), Vec::new())
             }
             Form::Binary => {
-                let next = circuit.latches.iter().map(|latch| vec![digits(latch[1])]);
                 let gates = circuit
                     .gates
                     .iter()
                     .flat_map(|[lhs, rhs0, rhs1]| [lhs - rhs0, rhs0 - rhs1]);
-                ("aig", next.chain(outputs).collect(), gates.map(difference).collect())
+                let lines = latches(circuit, 1).chain(asked);
+                ("aig", lines.collect(), gates.map(difference).collect())
             }
+        };
+        let first = match form {
+            Form::Text => circuit.inputs.len(),
+            Form::Binary => 0,
         };
         Draft {
             name: name.as_bytes().to_vec(),
-            counts: circuit.counts().list().map(digits).to_vec(),
+            counts: counts(circuit),
             lines,
+            latches: first..first + circuit.latches.len(),
             differences,
-            symbols: symbols(random, circuit),
-            comment: comment(random),
+            symbols: tail::symbols(random, circuit),
+            comment: tail::comment(random),
         }
+    }
+
+    /// Adds zeros that may be left off: counts, resets or both.
+    pub fn lengthen(&mut self, random: &mut Random) {
+        let kind = random.below(3);
+        if kind > 0 && self.counts.len() < 9 {
+            let counts = random.between(self.counts.len() + 1, 9);
+            self.counts.resize(counts, digits(0));
+        }
+        for line in self.latches.clone() {
+            let least = *self.fields(line).start();
+            if kind < 2 && self.lines[line].len() == least && random.once_in(2) {
+                self.lines[line].push(digits(0));
+            }
+        }
+    }
+
+    /// How many numbers a line may have.
+    pub fn fields(&self, line: usize) -> RangeInclusive<usize> {
+        let fields = self.lines[line].len();
+        match (self.latches.contains(&line), self.is_binary()) {
+            (false, _) => fields..=fields,
+            (true, false) => 2..=3,
+            (true, true) => 1..=2,
+        }
+    }
+
+    /// Where the first number stands that the report of 2007 doesn't have.
+    pub fn first_of_19(&self, layout: &Layout) -> Option<usize> {
+        let mut lines = self.latches.clone();
+        let reset = lines.find_map(|line| layout.fields[line].get(*self.fields(line).start()));
+        layout.counts.get(5).or(reset).copied()
     }
 
     pub fn is_binary(&self) -> bool {
@@ -129,57 +187,4 @@ pub fn difference(value: u32) -> Vec<u8> {
         (0, _) => vec![low | 128, middle],
         _ => vec![low | 128, middle | 128, high],
     }
-}
-
-/// Symbols of some entries in any order.
-fn symbols(random: &mut Random, circuit: &Circuit) -> Vec<Vec<u8>> {
-    let mut symbols = Vec::new();
-    if random.once_in(2) {
-        return symbols;
-    }
-    let lists = [
-        (b'i', circuit.inputs.len()),
-        (b'l', circuit.latches.len()),
-        (b'o', circuit.outputs.len()),
-    ];
-    for (kind, count) in lists {
-        let mut positions: Vec<usize> = (0..count.min(4)).collect();
-        if count > 4 {
-            positions.push(random.between(4, count - 1));
-        }
-        positions.retain(|_| random.once_in(2));
-        symbols.extend(
-            positions
-                .into_iter()
-                .map(|position| symbol(kind, position, &name(random))),
-        );
-    }
-    random.shuffle(&mut symbols);
-    symbols
-}
-
-pub fn symbol(kind: u8, position: impl ToString, name: &[u8]) -> Vec<u8> {
-    let mut symbol = vec![kind];
-    symbol.extend(digits(position));
-    symbol.push(b' ');
-    symbol.extend(name);
-    symbol
-}
-
-/// A name of bytes 32 to 126, sometimes empty.
-fn name(random: &mut Random) -> Vec<u8> {
-    (0..random.below(9)).map(|_| random.between(32, 126) as u8).collect()
-}
-
-/// Every other file has a comment; its bytes may be any, but the last is a new line.
-fn comment(random: &mut Random) -> Vec<u8> {
-    let mut comment = Vec::new();
-    if random.once_in(2) {
-        comment.extend(b"c\n");
-        comment.extend((0..random.below(12)).map(|_| random.byte()));
-        if comment.last() != Some(&b'\n') {
-            comment.push(b'\n');
-        }
-    }
-    comment
 }

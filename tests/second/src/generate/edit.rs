@@ -3,7 +3,7 @@
 use crate::random::Random;
 
 /// Bytes that mean something somewhere.
-const MARKS: &[u8] = b"0123456789 \n\r\tailocg-\0\x7f\x80\x81\xff";
+const MARKS: &[u8] = b"0123456789 \n\r\tailobcg-\0\x7f\x80\x81\xff";
 
 pub fn edit(random: &mut Random, file: &mut Vec<u8>) {
     for _ in 0..random.between(1, 3) {

@@ -9,7 +9,7 @@ mod writing;
 use super::circuit;
 use super::lend::enough;
 use crate::aiger::tables::Given;
-use crate::aiger::{Circuit, Counts, Form, Refusal};
+use crate::aiger::{apart, with_scratch, Circuit, Counts, Form, Refusal};
 use crate::library::{Call, Lent};
 use crate::memory::Memory;
 use crate::random::Random;
@@ -32,7 +32,12 @@ fn damages(number: u64) -> &'static [Damage] {
         4 => &[counts::short, counts::short, counts::more],
         5 => &[words::out_of_range, words::out_of_range, words::out_of_range_and_second],
         6 => words::SECOND,
-        7 => &[words::undefined, words::undefined, words::undefined_and_cycle],
+        7 => &[
+            words::undefined,
+            words::undefined_bad,
+            words::undefined,
+            words::undefined_and_cycle,
+        ],
         8 => &[words::cycle],
         15 => order::ALL,
         _ => &[words::edit],
@@ -52,7 +57,12 @@ pub fn case(call: Call, seed: u64, number: u64) -> TablesCase {
     // The calls' cases are apart from each other and from those of files.
     let mut random = Random::new(seed, (call as u64 + 1) << 40 | number);
     let form = form(&mut random, call);
-    let size = circuit::size(&mut random, form);
+    let mut size = circuit::size(&mut random, form);
+    // Where little is asked, a first state or a constraint decides more often.
+    if call == Call::Witness && random.once_in(2) {
+        size.o = size.o.min(1);
+        size.b = size.b.min(2);
+    }
     let circuit = circuit::circuit(&mut random, form, &size);
     let mut given = Given::exactly(&circuit);
     given.written = given.written.filter(|_| call.writes_tables());
@@ -117,16 +127,14 @@ fn treat(random: &mut Random, call: Call, circuit: &Circuit, given: &mut Given) 
 /// Words past the counts are not looked at, whatever they are.
 fn spare(random: &mut Random, given: &mut Given) {
     let lengths = given.tables.each_ref().map(|table| table.len() as u64);
-    let needed = [lengths[0], lengths[1], lengths[2], lengths[3], given.scratch];
-    let lengths = enough(random, &needed);
+    let (lengths, scratch) = apart(enough(random, &with_scratch(lengths, given.scratch)));
     for (table, length) in given.tables.iter_mut().zip(lengths) {
         let word = *random.pick(&[0, 2, u32::MAX, table.first().copied().unwrap_or(3)]);
         table.resize(length as usize, word);
     }
-    given.scratch = lengths[4];
-    if let Some([one, two, three, four]) = given.written {
-        let [one, two, three, four, _] = enough(random, &[one, two, three, four, 0]);
-        given.written = Some([one, two, three, four]);
+    given.scratch = scratch;
+    if let Some(written) = given.written {
+        given.written = Some(apart(enough(random, &with_scratch(written, 0))).0);
     }
 }
 
@@ -134,11 +142,11 @@ fn spare(random: &mut Random, given: &mut Given) {
 fn unrelated(random: &mut Random, given: &mut Given) {
     let most = *random.pick(&[3, 12, 30]);
     let mut length = || random.below(most + 1);
-    let lengths = [0; 4].map(|_| length());
+    let lengths = [0; 7].map(|_| length());
     given.written = given.written.map(|written| written.map(|_| length() as u64));
-    given.counts = Counts::new([9, 3, 3, 3, 3].map(|most| random.below(most + 1) as u64));
+    given.counts = Counts::new([9, 3, 3, 3, 3, 2, 2].map(|most| random.below(most + 1) as u64));
     given.tables = lengths.map(|length| (0..length).map(|_| random.below(22) as u32).collect());
-    given.scratch = random.between(30, 60) as u64;
+    given.scratch = random.between(30, 70) as u64;
 }
 
 /// All that a call on these tables is lent.

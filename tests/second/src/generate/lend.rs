@@ -1,25 +1,26 @@
 //! The lengths of the lent tables, on both sides of what a file needs.
 
+use crate::aiger::Lengths;
 use crate::random::Random;
 
 /// Lengths that are enough: exactly, or with spare words.
-pub fn enough(random: &mut Random, needed: &[u64; 5]) -> [u64; 5] {
+pub fn enough(random: &mut Random, needed: &Lengths) -> Lengths {
     match random.below(3) {
         0 => *needed,
         1 => needed.map(|words| words + random.below(6) as u64),
         _ => {
             let mut lengths = *needed;
-            lengths[random.below(5)] += random.between(1, 40) as u64;
+            lengths[random.below(8)] += random.between(1, 40) as u64;
             lengths
         }
     }
 }
 
 /// At least one table too short, unless the one chosen needs no words.
-pub fn short(random: &mut Random, needed: &[u64; 5]) -> [u64; 5] {
+pub fn short(random: &mut Random, needed: &Lengths) -> Lengths {
     let mut lengths = enough(random, needed);
     for _ in 0..random.between(1, 2) {
-        let k = random.below(5);
+        let k = random.below(8);
         lengths[k] = match random.below(3) {
             0 => 0,
             1 => needed[k].saturating_sub(1),
@@ -30,7 +31,7 @@ pub fn short(random: &mut Random, needed: &[u64; 5]) -> [u64; 5] {
 }
 
 /// Lengths that have nothing to do with the file.
-pub fn unrelated(random: &mut Random) -> [u64; 5] {
+pub fn unrelated(random: &mut Random) -> Lengths {
     let most = *random.pick(&[0, 3, 30]);
-    [0; 5].map(|_| random.below(most + 1) as u64)
+    [0; 8].map(|_| random.below(most + 1) as u64)
 }

@@ -1,7 +1,7 @@
 //! Calls that are given tables, on both sides of each refusal.
 
 use crate::aiger::tables::{binary_order, check as given_check, Given};
-use crate::aiger::{calls, read, refuse, write, Circuit, Form, Refusal, MOST};
+use crate::aiger::{calls, read, refuse, write, Circuit, Form, Refusal, Version, CIRCUIT, MOST};
 use crate::ensure;
 use crate::random::Random;
 
@@ -26,7 +26,7 @@ fn expect<T: PartialEq + std::fmt::Debug>(
 
 /// 2 and 3.
 fn counts(random: &mut Random, circuit: &Circuit) -> Result<(), String> {
-    let k = random.below(5);
+    let k = random.below(7);
     let mut list = circuit.counts().list();
     list[k] = *random.pick(&[MOST + 1, 1 << 32, 1 << 62, u64::MAX]);
     let mut given = Given::exactly(circuit);
@@ -46,38 +46,52 @@ fn lengths(random: &mut Random, circuit: &Circuit) -> Result<(), String> {
     let exact = Given::exactly(circuit);
     expect("tables", given_check(&exact), Ok(circuit.clone()))?;
     let mut spare = exact.clone();
-    spare.tables[random.below(4)].extend([7, 0, u32::MAX]);
+    spare.tables[random.below(7)].extend([7, 0, u32::MAX]);
     expect("spare words", given_check(&spare), Ok(circuit.clone()))?;
     let mut short = exact.clone();
     short.scratch -= 1;
     expect("short scratch", given_check(&short), refuse(4, 5))?;
-    let k = random.below(4);
+    let k = random.below(7);
+    let number = CIRCUIT[k] as usize;
     if !exact.tables[k].is_empty() {
+        // Scratch is short as well, and the least is named.
         short.tables[k].pop();
-        expect("a short table", given_check(&short), refuse(4, k + 1))?;
+        expect("a short table", given_check(&short), refuse(4, number.min(5)))?;
         let mut short = exact.clone();
         short.written.as_mut().expect("exactly lends for writing")[k] -= 1;
-        expect("a short written table", calls::convert(&short), refuse(4, k + 1))?;
+        expect("a short written table", calls::convert(&short), refuse(4, number))?;
     }
     Ok(())
 }
 
-/// The table whose lines a place of its text stands in.
+/// The table whose entry stands at a place of its text.
 fn table_at(circuit: &Circuit, text: &[u8], place: u64) -> usize {
-    let line = text[..place as usize].iter().filter(|&&byte| byte == b'\n').count() - 1;
-    let counts = [circuit.inputs.len(), circuit.latches.len(), circuit.outputs.len()];
-    let mut before = 0;
-    let passed = counts.iter().take_while(|&&count| {
-        before += count;
-        line >= before
-    });
-    passed.count() + 1
+    let before = &text[..place as usize];
+    let mut line = before.iter().filter(|&&byte| byte == b'\n').count() - 1;
+    let spaces = before.iter().rev().take_while(|&&byte| byte != b'\n');
+    let field = spaces.filter(|&&byte| byte == b' ').count();
+    let counts = circuit.counts();
+    let sections = [
+        (1, counts.i),
+        (2, counts.l),
+        (3, counts.o),
+        (8, counts.b),
+        (9, counts.c),
+    ];
+    for (table, count) in sections {
+        match line.checked_sub(count as usize) {
+            Some(rest) => line = rest,
+            None if (table, field) == (2, 2) => return 7,
+            None => return table,
+        }
+    }
+    4
 }
 
 /// One word of the tables changed: 5 to 8 must be what the text of those tables gives.
 fn words(random: &mut Random, circuit: &Circuit) -> Result<(), String> {
     let mut given = Given::exactly(circuit);
-    let k = random.below(4);
+    let k = random.below(7);
     if given.tables[k].is_empty() {
         return Ok(());
     }
@@ -85,15 +99,9 @@ fn words(random: &mut Random, circuit: &Circuit) -> Result<(), String> {
     let word = *random.pick(&[near, near, near, near, u32::MAX, 0]);
     let at = random.below(given.tables[k].len());
     given.tables[k][at] = word;
-    let changed = Circuit {
-        m: circuit.m,
-        inputs: given.tables[0].clone(),
-        latches: given.tables[1].as_chunks().0.to_vec(),
-        outputs: given.tables[2].clone(),
-        gates: given.tables[3].as_chunks().0.to_vec(),
-    };
+    let changed = Circuit::of_tables(circuit.m, &given.tables);
     let text = write::file(&changed, Form::Text, b"");
-    let expected = match read::read(&text, &circuit.counts().words()) {
+    let expected = match read::read(&text, &circuit.counts().words(), Version::V19) {
         Ok((circuit, _)) => Ok(circuit),
         Err(Refusal {
             number: number @ (5 | 6),
@@ -111,10 +119,10 @@ fn order(circuit: &Circuit) -> Result<(), String> {
         given.tables[0][1] = given.tables[0][0];
         expect("an input twice", given_check(&given), refuse(6, 1))?;
     }
-    for k in (0..4).rev() {
+    for (k, number) in CIRCUIT.into_iter().enumerate().rev() {
         if let Some(word) = given.tables[k].last_mut() {
             *word = 2 * circuit.m as u32 + 2;
-            expect("a word out of range", given_check(&given), refuse(5, k + 1))?;
+            expect("a word out of range", given_check(&given), refuse(5, number as usize))?;
         }
     }
     Ok(())
@@ -154,8 +162,14 @@ fn tails(circuit: &Circuit) -> Result<(), String> {
     expect("a tail", write(b"x"), refuse(1, 0))?;
     expect("a tail", write(b"c"), refuse(1, 1))?;
     expect("a tail", write(b"c\nx"), refuse(1, 3))?;
-    let high = format!("l{} p\n", circuit.latches.len());
-    expect("a tail", write(high.as_bytes()), refuse(10, 0))?;
+    for (letter, count) in [
+        ("l", circuit.latches.len()),
+        ("b", circuit.bads.len()),
+        ("c", circuit.constraints.len()),
+    ] {
+        let high = format!("{letter}{count} p\n");
+        expect("a tail", write(high.as_bytes()), refuse(10, 0))?;
+    }
     if !circuit.inputs.is_empty() {
         expect("a tail", write(b"i0 p\ni0 q\n"), refuse(10, 5))?;
     }

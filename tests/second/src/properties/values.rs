@@ -19,36 +19,55 @@ pub fn check(random: &mut Random, circuit: &Circuit, converted: &Converted, redu
     let list: Vec<Vec<u8>> = (0..STEPS)
         .map(|_| vector(random, unknown, circuit.inputs.len()))
         .collect();
-    let steps = run(circuit, &list);
-    ensure!(follow(&steps), "the states don't follow each other: {steps:?}");
-    ensure!(steps == run(&converted.circuit, &list), "steps differ after conversion");
-    let fewer = run(reduced, &list);
+    let steps = run(circuit, None, &list);
+    ensure!(follow(circuit, &steps), "the states don't follow each other: {steps:?}");
+    ensure!(
+        steps == run(&converted.circuit, None, &list),
+        "steps differ after conversion"
+    );
+    let fewer = run(reduced, None, &list);
     ensure!(refines(&fewer, &steps), "{fewer:?} after reduction, {steps:?} before");
+    // Each x gets a value, of the first state too.
     let grounded: Vec<Vec<u8>> = list.iter().map(|input| ground(random, input)).collect();
-    let known = run(circuit, &grounded);
+    let first = ground(random, &step::start(circuit));
+    let known = run(circuit, Some(&first), &grounded);
     ensure!(
         refines(&known, &steps),
         "{known:?} with values for x, {steps:?} without"
     );
     ensure!(
-        known == run(reduced, &grounded),
+        known == run(reduced, Some(&first), &grounded),
         "without x steps differ after reduction"
     );
-    witness(&converted.circuit, reduced, &list, &steps)?;
+    ensure!(!shown(&steps) || shown(&known), "a witness lost by values for x");
+    witness(&converted.circuit, reduced, &list, shown(&steps))?;
     if circuit.gates.len() <= FEW_GATES {
         slowly(random, circuit, converted, unknown)?;
     }
     Ok(())
 }
 
-fn run(circuit: &Circuit, list: &[Vec<u8>]) -> Vec<(Vec<u8>, Step)> {
-    step::run(circuit, list.iter().map(Vec::as_slice)).collect()
+/// From the resets or from another state.
+fn run(circuit: &Circuit, first: Option<&[u8]>, list: &[Vec<u8>]) -> Vec<(Vec<u8>, Step)> {
+    let first = first.map_or_else(|| step::start(circuit), <[u8]>::to_vec);
+    step::run_from(circuit, first, list.iter().map(Vec::as_slice)).collect()
 }
 
-/// Whether the first state is all "0" and each later one the next state of the step before.
-fn follow(steps: &[(Vec<u8>, Step)]) -> bool {
-    let first = steps[0].0.iter().all(|&value| value == b'0');
-    first && steps.windows(2).all(|pair| pair[1].0 == pair[0].1.next)
+/// Whether the first state is what the resets say and each later one the next state of the step before.
+fn follow(circuit: &Circuit, steps: &[(Vec<u8>, Step)]) -> bool {
+    let reset = |(k, &value): (usize, &u8)| match value {
+        b'0' => circuit.resets[k] == 0,
+        b'1' => circuit.resets[k] == 1,
+        _ => circuit.resets[k] == circuit.latches[k][0],
+    };
+    steps[0].0.iter().enumerate().all(reset) && steps.windows(2).all(|pair| pair[1].0 == pair[0].1.next)
+}
+
+/// Whether at some step an output or a bad state is "1" and no constraint is anything else up to it.
+fn shown(steps: &[(Vec<u8>, Step)]) -> bool {
+    let constraints = |last: usize| steps[..=last].iter().flat_map(|(_, step)| &step.constraint);
+    let asked = |k: usize| steps[k].1.output.iter().chain(&steps[k].1.bad);
+    (0..steps.len()).any(|k| asked(k).any(|&value| value == b'1') && constraints(k).all(|&value| value == b'1'))
 }
 
 /// Whether the one has the other's "0" and "1" at least.
@@ -56,7 +75,11 @@ fn refines(one: &[(Vec<u8>, Step)], other: &[(Vec<u8>, Step)]) -> bool {
     let all = |steps: &[(Vec<u8>, Step)]| -> Vec<u8> {
         steps
             .iter()
-            .flat_map(|(state, step)| [state.as_slice(), &step.output, &step.next].concat())
+            .flat_map(|(state, step)| {
+                [state, &step.output, &step.bad, &step.constraint, &step.next]
+                    .map(Vec::clone)
+                    .concat()
+            })
             .collect()
     };
     let (one, other) = (all(one), all(other));
@@ -64,11 +87,10 @@ fn refines(one: &[(Vec<u8>, Step)], other: &[(Vec<u8>, Step)]) -> bool {
 }
 
 /// The witness question says what stepping shows, and reduction loses no witness.
-fn witness(circuit: &Circuit, reduced: &Circuit, list: &[Vec<u8>], steps: &[(Vec<u8>, Step)]) -> Result<(), String> {
+fn witness(circuit: &Circuit, reduced: &Circuit, list: &[Vec<u8>], shown: bool) -> Result<(), String> {
     let bytes = list.concat();
     let ask =
         |circuit: &Circuit, number: usize, bytes: &[u8]| calls::witness(&Given::exactly(circuit), number as u64, bytes);
-    let shown = steps.iter().any(|(_, step)| step.output.contains(&b'1'));
     let given = ask(circuit, list.len(), &bytes);
     ensure!(given == Ok(shown), "witness: expected {shown}, given {given:?}");
     ensure!(
@@ -100,6 +122,8 @@ fn slowly(random: &mut Random, circuit: &Circuit, converted: &Converted, unknown
     let all = |literals: Vec<u32>| -> Vec<u8> { literals.iter().map(|&literal| step::value(&slow, literal)).collect() };
     let expected = Step {
         output: all(circuit.outputs.clone()),
+        bad: all(circuit.bads.clone()),
+        constraint: all(circuit.constraints.clone()),
         next: all(circuit.latches.iter().map(|latch| latch[1]).collect()),
     };
     ensure!(step::step(circuit, &state, &input) == expected, "a step differs");

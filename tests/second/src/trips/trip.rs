@@ -2,7 +2,7 @@
 
 use super::held::{accepted, Held};
 use crate::aiger::read::{header, words};
-use crate::aiger::{Counts, Form};
+use crate::aiger::{apart, Counts, Form, Version, TABLES};
 use crate::ensure;
 use crate::generate;
 use crate::library::{Call, FileQuestion, Lent, Question, Reply};
@@ -26,7 +26,7 @@ pub struct Trip {
     pub file: Vec<u8>,
     pub form: Form,
     pub outcome: Result<(), String>,
-    /// What must come back.
+    /// What must come back: the shortest form of it.
     home: Vec<u8>,
     /// What was written last.
     bytes: Vec<u8>,
@@ -36,13 +36,13 @@ pub struct Trip {
 
 impl Trip {
     pub fn new(seed: u64, number: u64) -> Trip {
-        let file = generate::whole(seed, number);
-        let header = header(&file).expect("a well-formed file");
+        let [file, home] = generate::whole(seed, number);
+        let header = header(&file, Version::V19).expect("a well-formed file");
         Trip {
             number,
             form: header.form,
             outcome: Ok(()),
-            home: file.clone(),
+            home,
             bytes: file.clone(),
             file,
             held: Held::none(),
@@ -68,8 +68,10 @@ impl Trip {
     pub fn take(&mut self, leg: Leg, reply: Reply) -> Result<(), String> {
         match (leg, reply) {
             (Leg::Read, Reply::File(reply)) => {
-                self.tail = self.bytes[reply.read.tail as usize..].to_vec();
-                self.held = Held::was_read(reply)?;
+                let read = reply.reads.into_iter().next().ok_or("nothing was read")?;
+                let tail = self.bytes.get(read.answer.tail as usize..);
+                self.tail = tail.ok_or("a tail past the end")?.to_vec();
+                self.held = Held::was_read(read)?;
                 Ok(())
             }
             (Leg::Write(_), Reply::Tables(lent)) => self.was_written(&lent),
@@ -79,7 +81,7 @@ impl Trip {
                 Ok(())
             }
             (Leg::Change(_), Reply::Tables(lent)) => {
-                self.held = Held::was_changed(lent)?;
+                self.held = Held::was_changed(*lent)?;
                 Ok(())
             }
             _ => Err("the reply to another question".to_string()),
@@ -91,18 +93,19 @@ impl Trip {
     }
 
     fn read(&self) -> Question {
-        let lengths = [1, 2, 3, 4, 5].map(|table| words(&self.bytes, table));
+        let lengths = TABLES.map(|table| words(&self.bytes, table));
         Question::File(FileQuestion {
             file: self.bytes.clone(),
             words: Vec::new(),
+            readers: &[Version::V19],
             tables: lengths.map(|length| Memory::junk(length, self.junk())),
         })
     }
 
     /// A file of either form has at most eight bytes for each word, a header and the tail.
     fn most(&self) -> u64 {
-        let words = Counts::new(self.held.counts).words();
-        8 * words[..4].iter().sum::<u64>() + 50 + self.tail.len() as u64
+        let (words, _) = apart(Counts::new(self.held.counts).words());
+        8 * words.iter().sum::<u64>() + 60 + self.tail.len() as u64
     }
 
     fn write(&self, call: Call, room: u64) -> Question {

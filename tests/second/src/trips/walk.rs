@@ -3,7 +3,7 @@
 
 use super::held::{accepted, Held};
 use crate::aiger::tables::Given;
-use crate::aiger::Form;
+use crate::aiger::{step, Form};
 use crate::ensure;
 use crate::generate::{circuit, given, values};
 use crate::library::{Call, Lent, Library, Question, Reply};
@@ -17,8 +17,11 @@ struct Run {
     reduced: bool,
     grounded: bool,
     state: Vec<u8>,
+    /// The values of outputs, bad states and constraints.
     output: Vec<u8>,
-    /// Whether some output was 1.
+    /// Whether all constraints were 1 till now.
+    kept: bool,
+    /// Whether, while they were, some output or bad state was.
     seen: bool,
 }
 
@@ -28,7 +31,8 @@ pub struct Walk {
     given: Given,
     converted: Held,
     reduced: Held,
-    /// As it is, and with values for "x".
+    /// The first state and the list as they are, and with values for "x".
+    starts: [Vec<u8>; 2],
     lists: [Vec<Vec<u8>>; 2],
     runs: Vec<Run>,
 }
@@ -43,12 +47,15 @@ impl Walk {
             .map(|_| values::vector(&mut random, unknown, circuit.inputs.len()))
             .collect();
         let grounded = list.iter().map(|vector| values::ground(&mut random, vector)).collect();
+        let start = step::start(&circuit);
+        let starts = [start.clone(), values::ground(&mut random, &start)];
         let kinds = [(false, false), (true, false), (false, true), (true, true)];
         let run = |(reduced, grounded)| Run {
             reduced,
             grounded,
-            state: vec![b'0'; circuit.latches.len()],
+            state: starts[usize::from(grounded)].clone(),
             output: Vec::new(),
+            kept: true,
             seen: false,
         };
         Walk {
@@ -58,6 +65,7 @@ impl Walk {
             given: Given::exactly(&circuit),
             converted: Held::none(),
             reduced: Held::none(),
+            starts,
             lists: [list, grounded],
         }
     }
@@ -84,7 +92,7 @@ impl Walk {
 
     fn step(&self, run: &Run, k: usize) -> Lent {
         let junk = self.junk();
-        let held = self.held(run.reduced);
+        let held = self.held(run.reduced).asked(junk);
         let mut lent = held.lent(Call::Step, junk);
         lent.bytes = vec![
             Memory::around(&run.state, junk),
@@ -96,7 +104,12 @@ impl Walk {
 
     fn witness(&self, run: &Run) -> Lent {
         let junk = self.junk();
-        let mut lent = self.held(run.reduced).lent(Call::Witness, junk);
+        let held = self.held(run.reduced);
+        let mut lent = if run.grounded {
+            held.starting(&self.starts[1], junk).lent(Call::Witness, junk)
+        } else {
+            held.lent(Call::Witness, junk)
+        };
         lent.number = Some(STEPS as u64);
         let list = self.lists[usize::from(run.grounded)].concat();
         lent.bytes = vec![Memory::around(&list, junk)];
@@ -150,11 +163,14 @@ pub fn walk(library: &dyn Library, walks: &mut [Walk]) {
 }
 
 fn stepped(walk: &mut Walk, lents: Vec<Lent>) -> Result<(), String> {
+    let [_, _, _, o, _, b, _] = walk.converted.counts;
     for (run, lent) in walk.runs.iter_mut().zip(lents) {
         accepted(&lent)?;
         run.state = lent.bytes[0].lent().to_vec();
         run.output = lent.bytes[2].lent().to_vec();
-        run.seen |= run.output.contains(&b'1');
+        let (shown, constraints) = run.output.split_at((o + b) as usize);
+        run.kept &= constraints.iter().all(|&value| value == b'1');
+        run.seen |= run.kept && shown.contains(&b'1');
     }
     walk.compare()
 }
@@ -197,7 +213,7 @@ fn pass(
 
 fn tables(reply: Reply) -> Result<Lent, String> {
     match reply {
-        Reply::Tables(lent) => Ok(lent),
+        Reply::Tables(lent) => Ok(*lent),
         Reply::File(_) => Err("the reply to another question".to_string()),
     }
 }

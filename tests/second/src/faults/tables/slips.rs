@@ -114,5 +114,14 @@ pub const CHANGES: &[(&str, Slip)] = &[
         let gates = after.written[3].lent_mut().as_chunks_mut::<3>().0;
         gates.iter_mut().for_each(|gate| gate[1..].sort());
     }),
+    ("resets forgotten", |_, after| after.written[4].lent_mut().fill(0)),
+    ("bad states not renamed", |before, after| {
+        if outcome(after).is_ok() {
+            let bads = before.counts.lent()[5] as usize;
+            after.written[5].lent_mut()[..bads].copy_from_slice(&before.tables[5].lent()[..bads]);
+        }
+    }),
+    ("constraints forgotten", |_, after| after.written[6].lent_mut().fill(0)),
+    ("B and C forgotten", |_, after| after.answer.lent_mut()[7..].fill(0)),
     ("writes behind a table", |_, after| margin(&mut after.written[1], true)),
 ];

@@ -1,8 +1,9 @@
 //! What the stepper and the witness question may get wrong.
 
 use super::slips::{margin, Slip};
+use crate::aiger::{step, Circuit};
 use crate::compare::tables::{circuit, outcome};
-use crate::coverage::vectors::seen;
+use crate::coverage::vectors::{list, seen};
 use crate::library::Lent;
 
 pub const STEPPER: &[(&str, Slip)] = &[
@@ -63,5 +64,24 @@ pub const WITNESS: &[(&str, Slip)] = &[
             after.answer.lent_mut().fill(0);
         }
     }),
+    ("from a state of all 0", |before, after| {
+        otherwise(before, after, |circuit| circuit.resets.fill(0));
+    }),
+    ("bad states forgotten", |before, after| {
+        otherwise(before, after, |circuit| circuit.bads.clear());
+    }),
+    ("constraints forgotten", |before, after| {
+        otherwise(before, after, |circuit| circuit.constraints.clear());
+    }),
     ("list changed", |_, after| after.bytes[0].lent_mut().fill(b'0')),
 ];
+
+/// Answers for another circuit.
+fn otherwise(before: &Lent, after: &mut Lent, change: fn(&mut Circuit)) {
+    if outcome(after).is_ok() {
+        let mut circuit = circuit(before);
+        change(&mut circuit);
+        let vectors = list(before, &circuit);
+        after.answer.lent_mut()[2] = u64::from(step::witness(&circuit, vectors.into_iter()));
+    }
+}

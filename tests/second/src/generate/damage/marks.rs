@@ -1,6 +1,6 @@
 //! Bytes that can't stand there (1), in the header and in the lines of numbers.
 
-use super::{harm, line_end, line_of, position, sibling, some_number, Damage, Harm, Slot, Spot};
+use super::{fields, harm, line_end, line_of, position, sibling, some_number, Damage, Harm, Slot, Spot};
 use crate::aiger::Circuit;
 use crate::generate::draft::Draft;
 use crate::random::Random;
@@ -58,13 +58,13 @@ fn byte_after(random: &mut Random, _: &Circuit, draft: &mut Draft) -> Option<Har
     harm(1, Spot::Number(slot, before))
 }
 
-/// A second space between numbers, or one before the new line.
+/// A second space between numbers, or one before the new line, which may be that of a number left off.
 fn space_after(random: &mut Random, _: &Circuit, draft: &mut Draft) -> Option<Harm> {
     let (slot, digits) = some_number(random, draft);
     digits.push(b' ');
     let length = digits.len();
-    let last = position(slot) + 1 == line_of(draft, slot).len();
-    harm(1, Spot::Number(slot, if last { length - 1 } else { length }))
+    let full = position(slot) + 1 == *fields(draft, slot).end();
+    harm(1, Spot::Number(slot, if full { length - 1 } else { length }))
 }
 
 fn emptied(random: &mut Random, _: &Circuit, draft: &mut Draft) -> Option<Harm> {
@@ -76,11 +76,16 @@ fn emptied(random: &mut Random, _: &Circuit, draft: &mut Draft) -> Option<Harm> 
 /// The last number of a line is left out.
 fn missing(random: &mut Random, _: &Circuit, draft: &mut Draft) -> Option<Harm> {
     let (slot, _) = some_number(random, draft);
+    let least = *fields(draft, slot).start();
     let line = line_of(draft, slot);
     if line.len() < 2 {
         return None;
     }
     line.pop();
+    // Without a number that may be left off the line is whole.
+    if line.len() >= least {
+        return None;
+    }
     harm(1, line_end(draft, slot))
 }
 
@@ -88,7 +93,12 @@ fn extra(random: &mut Random, _: &Circuit, draft: &mut Draft) -> Option<Harm> {
     let (slot, digits) = some_number(random, draft);
     let copy = digits.clone();
     let end = line_end(draft, slot);
-    line_of(draft, slot).push(copy);
+    let most = *fields(draft, slot).end();
+    let line = line_of(draft, slot);
+    line.push(copy);
+    if line.len() <= most {
+        return None;
+    }
     harm(1, end)
 }
 
@@ -96,6 +106,7 @@ fn extra(random: &mut Random, _: &Circuit, draft: &mut Draft) -> Option<Harm> {
 fn joined(random: &mut Random, _: &Circuit, draft: &mut Draft) -> Option<Harm> {
     let (slot, _) = some_number(random, draft);
     let k = position(slot);
+    let least = *fields(draft, slot).start();
     let line = line_of(draft, slot);
     if k + 1 == line.len() {
         return None;
@@ -103,12 +114,13 @@ fn joined(random: &mut Random, _: &Circuit, draft: &mut Draft) -> Option<Harm> {
     let second = line.remove(k + 1);
     let zero_first = line[k] == b"0";
     line[k].extend(second);
-    let spot = if zero_first {
-        Spot::Number(slot, 1)
-    } else {
-        line_end(draft, slot)
-    };
-    harm(1, spot)
+    if zero_first {
+        return harm(1, Spot::Number(slot, 1));
+    }
+    if line.len() >= least {
+        return None;
+    }
+    harm(1, line_end(draft, slot))
 }
 
 /// A new line instead of a space between two numbers.
@@ -117,8 +129,12 @@ fn split(random: &mut Random, _: &Circuit, draft: &mut Draft) -> Option<Harm> {
     let (Slot::Field(line, k), true) = (slot, position(slot) > 0) else {
         return None;
     };
+    let least = *fields(draft, slot).start();
     let rest = draft.lines[line].split_off(k);
     draft.lines.insert(line + 1, rest);
+    if k >= least {
+        return None;
+    }
     let length = draft.lines[line][k - 1].len();
     harm(1, Spot::Number(sibling(slot, k - 1), length))
 }

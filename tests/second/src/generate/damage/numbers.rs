@@ -1,7 +1,7 @@
-//! Numbers that are well written and wrong: 2, 3, 5, 6, 7, 8.
+//! Numbers of lines that are well written and wrong: 5, 6, 7, 8.
 
-use super::{harm, line_end, too_large, Damage, Harm, Slot, Spot};
-use crate::aiger::{literal, variable, Circuit, MOST};
+use super::{digits, harm, line_end, too_large, Damage, Harm, Slot, Spot};
+use crate::aiger::{literal, variable, Circuit};
 use crate::generate::draft::Draft;
 use crate::naive;
 use crate::random::Random;
@@ -15,59 +15,13 @@ pub const RANGES: &[Damage] = &[
     out_of_range_and_marked,
 ];
 
-fn digits(number: impl ToString) -> Vec<u8> {
-    number.to_string().into_bytes()
-}
-
-pub fn count_too_large(random: &mut Random, circuit: &Circuit, draft: &mut Draft) -> Option<Harm> {
-    let k = random.below(5.min(draft.counts.len()));
-    draft.counts[k] = too_large(random, MOST, circuit.counts().list()[k]);
-    // A later count may be too large as well; the first is named.
-    if random.once_in(3) {
-        *draft.counts.last_mut()? = digits(MOST + 1);
-    }
-    harm(2, Spot::Number(Slot::Count(k), 0))
-}
-
-pub fn counts_disagree(random: &mut Random, circuit: &Circuit, draft: &mut Draft) -> Option<Harm> {
-    let counts = circuit.counts();
-    let defined = counts.i + counts.l + counts.a;
-    let more = 1 + counts.m - defined;
-    let (k, value) = match random.below(5) {
-        0 if defined > 0 => (0, defined - 1),
-        1 if draft.is_binary() => (0, defined + 1),
-        2 => (1, counts.i + more),
-        3 => (2, counts.l + more),
-        _ => (4, counts.a + more),
-    };
-    if value > MOST {
-        return None;
-    }
-    *draft.counts.get_mut(k)? = digits(value);
-    harm(3, Spot::Exactly(0))
-}
-
-/// A count a little off: what the lines then mean, only a reader can tell.
-pub fn count_changed(random: &mut Random, circuit: &Circuit, draft: &mut Draft) -> Option<Harm> {
-    let k = random.below(5);
-    let off = random.between(1, 2) as u64;
-    let count = circuit.counts().list()[k];
-    let changed = if random.once_in(2) {
-        count + off
-    } else {
-        count.saturating_sub(off)
-    };
-    *draft.counts.get_mut(k)? = digits(changed);
-    None
-}
-
 /// The lines of a text file whose first number defines.
 fn defining_lines(circuit: &Circuit, draft: &Draft) -> Vec<usize> {
     if draft.is_binary() {
         return Vec::new();
     }
     let sources = circuit.inputs.len() + circuit.latches.len();
-    let gates = sources + circuit.outputs.len();
+    let gates = sources + circuit.asked().count();
     let all = gates + circuit.gates.len();
     (0..sources)
         .chain(gates..all)
@@ -79,9 +33,11 @@ fn defining_lines(circuit: &Circuit, draft: &Draft) -> Vec<usize> {
 fn using(circuit: &Circuit, draft: &Draft) -> Vec<(usize, usize)> {
     let defining = defining_lines(circuit, draft);
     let first = |line: usize| usize::from(defining.binary_search(&line).is_ok());
-    let lines = draft.lines.iter().enumerate();
+    // A reset is no use. Other damage may have taken a number away.
+    let last = |line: usize| draft.lines[line].len().min(*draft.fields(line).start());
+    let lines = 0..draft.lines.len();
     lines
-        .flat_map(|(line, fields)| (first(line)..fields.len()).map(move |k| (line, k)))
+        .flat_map(|line| (first(line)..last(line)).map(move |k| (line, k)))
         .collect()
 }
 
@@ -132,7 +88,7 @@ fn out_of_range_and_marked(random: &mut Random, circuit: &Circuit, draft: &mut D
         return None;
     };
     let end = line_end(draft, slot);
-    draft.lines[line].last_mut()?.push(*random.pick(b"\r \tx"));
+    draft.lines[line].last_mut()?.push(*random.pick(b"\r\tx~"));
     harm(1, end)
 }
 
@@ -143,23 +99,45 @@ pub fn second_definition(random: &mut Random, circuit: &Circuit, draft: &mut Dra
     }
     let second = random.between(1, lines.len() - 1);
     let first = random.below(second);
-    draft.lines[lines[second]][0] = draft.lines[lines[first]][0].clone();
-    harm(6, Spot::Number(Slot::Field(lines[second], 0), 0))
+    let (line, name) = (lines[second], draft.lines[lines[first]][0].clone());
+    let fields = &mut draft.lines[line];
+    let old = std::mem::replace(&mut fields[0], name.clone());
+    // A latch that starts as x is to stay one.
+    if draft.latches.contains(&line) && fields.get(2) == Some(&old) {
+        fields[2] = name;
+    }
+    harm(6, Spot::Number(Slot::Field(line, 0), 0))
 }
 
 /// One to three uses of variables without a definition; the least is named.
 pub fn undefined(random: &mut Random, circuit: &Circuit, draft: &mut Draft) -> Option<Harm> {
+    let places = using(circuit, draft);
+    undefined_at(random, circuit, draft, places)
+}
+
+/// The same in bad states and constraints alone.
+pub fn undefined_bad(random: &mut Random, circuit: &Circuit, draft: &mut Draft) -> Option<Harm> {
+    let first = draft.latches.end + circuit.outputs.len();
+    let lines = first..first + circuit.bads.len() + circuit.constraints.len();
+    let places = lines.filter(|&line| line < draft.lines.len()).map(|line| (line, 0));
+    undefined_at(random, circuit, draft, places.collect())
+}
+
+fn undefined_at(
+    random: &mut Random,
+    circuit: &Circuit,
+    draft: &mut Draft,
+    mut places: Vec<(usize, usize)>,
+) -> Option<Harm> {
     let defined: std::collections::HashSet<usize> = circuit.defining().map(|(literal, _)| variable(literal)).collect();
     let free: Vec<usize> = (1..=circuit.m as usize)
         .rev()
         .filter(|v| !defined.contains(v))
         .take(50)
         .collect();
-    let using = using(circuit, draft);
-    if free.is_empty() || using.is_empty() {
+    if free.is_empty() || places.is_empty() {
         return None;
     }
-    let mut places = using;
     random.shuffle(&mut places);
     let mut least = usize::MAX;
     for (line, k) in places.into_iter().take(random.between(1, 3)) {

@@ -2,20 +2,12 @@
 
 use super::{harm, numbers, too_large, Damage, Harm, Spot};
 use crate::aiger::Circuit;
-use crate::generate::draft::{symbol, Draft};
+use crate::generate::draft::{lists, symbol, Draft};
 use crate::random::Random;
 
 pub const SYMBOLS: &[Damage] = &[too_high, second, too_high, second, symbol_and_meaning];
 
 pub const MARKS: &[Damage] = &[malformed, malformed, unterminated, comment, other, comment_and_meaning];
-
-fn lists(circuit: &Circuit) -> [(u8, usize); 3] {
-    [
-        (b'i', circuit.inputs.len()),
-        (b'l', circuit.latches.len()),
-        (b'o', circuit.outputs.len()),
-    ]
-}
 
 fn insert(random: &mut Random, draft: &mut Draft, line: &[u8]) -> usize {
     let k = random.below(draft.symbols.len() + 1);
@@ -57,8 +49,19 @@ fn malformed(random: &mut Random, _: &Circuit, draft: &mut Draft) -> Option<Harm
     let (line, place): (&[u8], usize) = *random.pick(&[
         (b"" as &[u8], 0),
         (b"x0 n", 0),
-        (b"b0 n", 0),
+        (b"j0 n", 0),
+        (b"f0 n", 0),
+        (b"B0 n", 0),
         (b"I0 n", 0),
+        (b"b", 1),
+        (b"b n", 1),
+        (b"b00 n", 2),
+        (b"c00 n", 2),
+        (b"c0", 2),
+        (b"c0\tn", 2),
+        (b"c1n m", 2),
+        (b"c7 n\r", 4),
+        (b"b0 \x7f", 3),
         (b" i0 n", 0),
         (b"0 n", 0),
         (b"i", 1),
@@ -91,6 +94,12 @@ fn unterminated(random: &mut Random, _: &Circuit, draft: &mut Draft) -> Option<H
         b"i0 ",
         b"o0 name",
         b"l4 a b",
+        b"b",
+        b"b0 n",
+        b"c0",
+        b"c0 ",
+        b"c9 name",
+        b"c99999999999999999999 n",
         b"i99999999999999999999",
     ]);
     draft.comment = end.to_vec();
@@ -106,7 +115,10 @@ fn comment(random: &mut Random, _: &Circuit, draft: &mut Draft) -> Option<Harm> 
         (b"c\r\n", Spot::Comment(1)),
         (b"c \n", Spot::Comment(1)),
         (b"cc\n", Spot::Comment(1)),
-        (b"c0 n\n", Spot::Comment(1)),
+        (b"c 0 n\n", Spot::Comment(1)),
+        (b"c-1 n\n", Spot::Comment(1)),
+        (b"c:\n", Spot::Comment(1)),
+        (b"c\t\n", Spot::Comment(1)),
         (b"comment\n", Spot::Comment(1)),
     ]);
     draft.comment = comment.to_vec();
@@ -115,7 +127,7 @@ fn comment(random: &mut Random, _: &Circuit, draft: &mut Draft) -> Option<Harm> 
 
 /// Something else than a symbol, a comment or the end.
 fn other(random: &mut Random, _: &Circuit, draft: &mut Draft) -> Option<Harm> {
-    draft.comment = vec![*random.pick(b"\n \t\r\0abC2\x80\xff"), b'\n'];
+    draft.comment = vec![*random.pick(b"\n \t\r\0ajfBC2\x80\xff"), b'\n'];
     harm(1, Spot::Comment(0))
 }
 

@@ -2,7 +2,7 @@
 
 use super::refusal;
 use crate::aiger::tables::Given;
-use crate::aiger::{Circuit, Counts, Refusal, MOST};
+use crate::aiger::{with_scratch, Circuit, Counts, Refusal, CIRCUIT, MOST, TABLES};
 use crate::random::Random;
 
 /// Numbers that 64-bit arithmetic or a cut to 32 bits would take for small ones.
@@ -25,13 +25,13 @@ fn large(random: &mut Random, small: u64) -> u64 {
     ])
 }
 
-/// One or two counts; the first in the order M I L O A is named.
+/// One or two counts; the first in the order M I L O A B C is named.
 pub fn too_large(random: &mut Random, _: &Circuit, given: &mut Given) -> Option<Refusal> {
     let mut list = given.counts.list();
-    let first = random.below(5);
+    let first = random.below(list.len());
     list[first] = large(random, list[first]);
     if random.once_in(3) {
-        let later = random.between(first, 4);
+        let later = random.between(first, list.len() - 1);
         list[later] = large(random, list[later]);
     }
     given.counts = Counts::new(list);
@@ -73,16 +73,13 @@ fn least(given: &Given) -> Option<Refusal> {
         return None;
     }
     let needed = given.counts.words();
-    let length = |k: usize| {
-        let table = given.tables[k].len() as u64;
-        given.written.map_or(table, |written| table.min(written[k]))
-    };
-    let short = (0..4).find(|&k| length(k) < needed[k]);
-    match short {
-        Some(k) => refusal(4, k + 1),
-        None if given.scratch < needed[4] => refusal(4, 5),
-        None => None,
+    let mut tables = given.tables.each_ref().map(|table| table.len() as u64);
+    for (length, written) in tables.iter_mut().zip(given.written.into_iter().flatten()) {
+        *length = written.min(*length);
     }
+    let lent = with_scratch(tables, given.scratch);
+    let short = (0..TABLES.len()).find(|&k| lent[k] < needed[k])?;
+    refusal(4, TABLES[short] as usize)
 }
 
 /// A length below `needed`, unless that is 0.
@@ -96,9 +93,12 @@ fn below(random: &mut Random, needed: usize) -> usize {
 
 /// One or two tables cut, given or lent for writing.
 pub fn short(random: &mut Random, _: &Circuit, given: &mut Given) -> Option<Refusal> {
-    for _ in 0..random.between(1, 2) {
-        match (random.below(5), &mut given.written) {
-            (4, _) => given.scratch = below(random, given.scratch as usize) as u64,
+    // Where nothing is needed, nothing is too short.
+    let mut cut: Vec<usize> = (0..CIRCUIT.len()).filter(|&k| !given.tables[k].is_empty()).collect();
+    cut.push(CIRCUIT.len());
+    for _ in 0..*random.pick(&[1, 1, 2]) {
+        match (*random.pick(&cut), &mut given.written) {
+            (7, _) => given.scratch = below(random, given.scratch as usize) as u64,
             (k, Some(written)) if random.once_in(2) => written[k] = below(random, written[k] as usize) as u64,
             (k, _) => {
                 let length = below(random, given.tables[k].len());
@@ -112,13 +112,17 @@ pub fn short(random: &mut Random, _: &Circuit, given: &mut Given) -> Option<Refu
 /// Counts that ask for more than the tables hold.
 pub fn more(random: &mut Random, _: &Circuit, given: &mut Given) -> Option<Refusal> {
     let mut list = given.counts.list();
-    let k = random.below(5);
+    let k = random.below(list.len());
     let more = random.between(1, 3) as u64;
     list[k] = list[k].saturating_add(more);
-    // I + L + A stays within M; O has no part in that.
-    if k != 0 && k != 3 {
+    // I + L + A stays within M; O, B and C have no part in that.
+    if matches!(k, 1 | 2 | 4) {
         list[0] = list[0].saturating_add(more);
     }
     given.counts = Counts::new(list);
+    // Scratch has a lower number than tables 7 to 9.
+    if list.iter().all(|&count| count <= MOST) && !random.once_in(3) {
+        given.scratch = given.scratch.max(4 * (list[0] + 1) + list[3] + list[5] + list[6]);
+    }
     least(given)
 }

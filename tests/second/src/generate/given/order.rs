@@ -43,7 +43,7 @@ fn inputs_exchanged(random: &mut Random, circuit: &Circuit, given: &mut Given) -
 
 /// An input and a latch, or two latches.
 fn sources_exchanged(random: &mut Random, circuit: &Circuit, given: &mut Given) -> Option<Refusal> {
-    let [inputs, latches, ..] = &mut given.tables;
+    let [inputs, latches, .., resets, _, _] = &mut given.tables;
     if !circuit.inputs.is_empty() && random.once_in(2) {
         let input = random.below(circuit.inputs.len());
         let latch = latches.get_mut(2 * random.below(circuit.latches.len().max(1)))?;
@@ -51,6 +51,10 @@ fn sources_exchanged(random: &mut Random, circuit: &Circuit, given: &mut Given) 
     } else {
         let [one, other] = two(random, circuit.latches.len())?;
         latches.swap(2 * one, 2 * other);
+    }
+    // A latch that starts as x stays one.
+    for (latch, reset) in latches.as_chunks::<2>().0.iter().zip(resets) {
+        *reset = if *reset > 1 { latch[0] } else { *reset };
     }
     refusal(15, 0)
 }

@@ -2,7 +2,7 @@
 
 use super::{refusal, Damage};
 use crate::aiger::tables::Given;
-use crate::aiger::{literal, variable, Circuit, Refusal, MOST};
+use crate::aiger::{literal, negation, variable, Circuit, Refusal, CIRCUIT, MOST};
 use crate::generate::damage::numbers::closed;
 use crate::naive;
 use crate::random::Random;
@@ -10,14 +10,21 @@ use std::collections::HashSet;
 
 pub const SECOND: &[Damage] = &[second, second, second_and_undefined];
 
-/// A word of a table: the table at its number - 1, and the position in it.
+/// A word of a table: the table in the order in which they are lent, and the position in it.
 type Word = (usize, usize);
 
-/// Words of an entry of each table.
+/// Words of an entry of each table that defines.
 const ENTRY: [usize; 4] = [1, 2, 1, 3];
 
+const LATCHES: usize = 1;
+const RESETS: usize = 4;
+
 fn defines((table, k): Word) -> bool {
-    table != 2 && k % ENTRY[table] == 0
+    matches!(table, 0 | 1 | 3) && k % ENTRY[table] == 0
+}
+
+fn number((table, _): Word) -> usize {
+    CIRCUIT[table] as usize
 }
 
 /// All words, tables in order.
@@ -31,7 +38,7 @@ fn defining(given: &Given) -> Vec<Word> {
 }
 
 fn using(given: &Given) -> Vec<Word> {
-    all(given).filter(|&word| !defines(word)).collect()
+    all(given).filter(|&word| !defines(word) && word.0 != RESETS).collect()
 }
 
 fn set(given: &mut Given, (table, k): Word, word: u32) {
@@ -40,22 +47,41 @@ fn set(given: &mut Given, (table, k): Word, word: u32) {
 
 /// One or two words; the least table is named.
 pub fn out_of_range(random: &mut Random, circuit: &Circuit, given: &mut Given) -> Option<Refusal> {
-    let places: Vec<Word> = all(given).collect();
-    if places.is_empty() {
+    let tables: Vec<usize> = (0..CIRCUIT.len()).filter(|&k| !given.tables[k].is_empty()).collect();
+    if tables.is_empty() {
         return None;
     }
     let most = 2 * circuit.m as u32 + 1;
     let mut least = usize::MAX;
     for _ in 0..random.between(1, 2) {
-        let place = *random.pick(&places);
+        // Long tables are not to have more than their share.
+        let table = *random.pick(&tables);
+        let place = (table, random.below(given.tables[table].len()));
         let above = most + 1 + random.below(9) as u32;
         let large = *random.pick(&[most + 1, most + 2, above, 1 << 31, u32::MAX]);
         let odd = 2 * random.below(circuit.m as usize + 1) as u32 + 1;
         let none = *random.pick(&[0, 1, odd, odd, most, large]);
-        set(given, place, if defines(place) { none } else { large });
-        least = least.min(place.0 + 1);
+        let word = match place {
+            (RESETS, k) => no_reset(random, circuit.m, given, k, large),
+            _ if defines(place) => none,
+            _ => large,
+        };
+        set(given, place, word);
+        least = least.min(number(place));
     }
     refusal(5, least)
+}
+
+/// What the k-th latch can't start with: another's literal, its negation, any other.
+fn no_reset(random: &mut Random, m: u64, given: &Given, k: usize, large: u32) -> u32 {
+    let latches = given.tables[LATCHES].as_chunks::<2>().0;
+    let [own, _] = latches[k];
+    let [other, _] = *random.pick(latches);
+    let near = 2 + random.below(2 * m as usize) as u32;
+    match *random.pick(&[other, other, own ^ 1, near, large, 2, 3]) {
+        reset if reset == own => negation(own),
+        reset => reset,
+    }
 }
 
 /// 5 over all tables comes before 6.
@@ -74,7 +100,12 @@ pub fn second(random: &mut Random, _: &Circuit, given: &mut Given) -> Option<Ref
     let (table, k) = places[random.below(second)];
     let word = given.tables[table][k];
     set(given, places[second], word);
-    refusal(6, places[second].0 + 1)
+    // A latch that starts as x stays one, lest 5 be first.
+    if let (LATCHES, at) = places[second] {
+        let reset = &mut given.tables[RESETS][at / 2];
+        *reset = if *reset > 1 { word } else { *reset };
+    }
+    refusal(6, number(places[second]))
 }
 
 /// 6 comes before 7.
@@ -85,6 +116,17 @@ fn second_and_undefined(random: &mut Random, circuit: &Circuit, given: &mut Give
 
 /// One to three uses of variables without a definition; the least is named.
 pub fn undefined(random: &mut Random, circuit: &Circuit, given: &mut Given) -> Option<Refusal> {
+    let places = using(given);
+    undefined_at(random, circuit, given, places)
+}
+
+/// The same in bad states and constraints alone.
+pub fn undefined_bad(random: &mut Random, circuit: &Circuit, given: &mut Given) -> Option<Refusal> {
+    let places = all(given).filter(|&(table, _)| table > RESETS).collect();
+    undefined_at(random, circuit, given, places)
+}
+
+fn undefined_at(random: &mut Random, circuit: &Circuit, given: &mut Given, mut places: Vec<Word>) -> Option<Refusal> {
     if circuit.m + 3 > MOST {
         return None;
     }
@@ -94,7 +136,6 @@ pub fn undefined(random: &mut Random, circuit: &Circuit, given: &mut Given) -> O
     let defined: HashSet<usize> = circuit.defining().map(|(literal, _)| variable(literal)).collect();
     let all = (1..=given.counts.m as usize).rev();
     let free: Vec<usize> = all.filter(|v| !defined.contains(v)).take(50).collect();
-    let mut places = using(given);
     random.shuffle(&mut places);
     let mut least = None;
     for place in places.into_iter().take(random.between(1, 3)) {
@@ -126,7 +167,7 @@ pub fn cycle(random: &mut Random, circuit: &Circuit, given: &mut Given) -> Optio
 /// One to three words become others of about the right size; what that is, only a check can tell.
 pub fn edit(random: &mut Random, circuit: &Circuit, given: &mut Given) -> Option<Refusal> {
     for _ in 0..random.between(1, 3) {
-        let table = random.below(4);
+        let table = random.below(CIRCUIT.len());
         let words = &mut given.tables[table];
         if words.is_empty() {
             continue;

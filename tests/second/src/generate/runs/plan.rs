@@ -81,6 +81,9 @@ fn some(random: &mut Random, form: Form) -> Draft {
         l: random.below(9),
         o: random.below(200),
         a: random.below(200),
+        b: random.below(20),
+        c: random.below(20),
+        starts: random.once_in(2),
         unused: 0,
     };
     let circuit = circuit(random, form, &size);
@@ -98,6 +101,9 @@ fn growing(random: &mut Random) -> Circuit {
             .map(|_| random.between(2, 3) as u32)
             .collect(),
         gates: vec![[literal(i + 2), literal(i + 1), random.below(8) as u32]],
+        resets: vec![*random.pick(&[0, 1, 2])],
+        bads: vec![3],
+        constraints: Vec::new(),
     }
 }
 
@@ -109,15 +115,20 @@ fn edge(random: &mut Random) -> Vec<u8> {
         l: random.below(5),
         o: random.below(5),
         a: random.below(9),
+        b: random.below(3),
+        c: random.below(3),
+        starts: random.once_in(2),
         unused: 0,
     };
     let over = random.below(2);
-    match random.below(6) {
+    match random.below(8) {
         0 => size.i = LENT[0] as usize + over,
         1 => size.l = LENT[1] as usize / 2 + over,
         2 => size.o = LENT[2] as usize + over,
         3 => size.a = LENT[3] as usize / 3 + over,
         4 => scratch(random, form, &mut size, over),
+        5 => size.b = LENT[6] as usize + over,
+        6 => size.c = LENT[7] as usize + over,
         // Lines of a power of two fill buffers and inputs without a rest.
         _ => size.i = (1 << random.between(1, 12)) - 1,
     }
@@ -125,10 +136,12 @@ fn edge(random: &mut Random) -> Vec<u8> {
     Draft::new(random, form, &circuit).layout().file
 }
 
-/// Table 5 full, or one word too short: 4 x (M + 1) + O.
+/// Table 5 full, or one word too short: 4 x (M + 1) + O + B + C.
 fn scratch(random: &mut Random, form: Form, size: &mut Size, over: usize) {
     let fours = random.below(400);
-    size.o = 4 * fours + over;
+    size.o = random.below(4 * fours + over + 1);
+    size.b = random.below(4 * fours + over - size.o + 1);
+    size.c = 4 * fours + over - size.o - size.b;
     let m = LENT[4] as usize / 4 - 1 - fours;
     let rest = m - size.i - size.l - size.a;
     match form {
