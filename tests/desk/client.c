@@ -222,6 +222,19 @@ static void witness(struct circuit c, uint64_t number, struct bytes list, uint64
     expect(answer[0] == 0 && answer[2] == says, what, "witness");
 }
 
+/* tests/accepted/counter.aag: it starts at 1, counts where the first input is 1, is bad at 3; the second input must stay 0. */
+static void counted(void) {
+    struct circuit c = read_file(FILE_OF("aig 11 2 2 0 7 1 1\n14 1\n20\n22\n5\n"
+                                         "\x04\x04\x05\x04\x01\x02\x06\x02\x07\x02\x01\x02\x0e\x02"));
+    witness(c, 3, FILE_OF("101000"), 1, "1, 2, 3: the third step is bad");
+    witness(c, 2, FILE_OF("1010"), 0, "1, 2: not yet");
+    witness(c, 3, FILE_OF("001000"), 0, "1, 1, 2: not yet");
+    witness(c, 3, FILE_OF("101001"), 0, "the constraint is 0 at the step that is bad");
+    witness(c, 3, FILE_OF("101100"), 0, "the constraint was 0 at the step before");
+    witness(c, 3, FILE_OF("101x00"), 0, "a constraint that is x is not 1");
+    witness(c, 3, FILE_OF("10x000"), 0, "2 or 3 is not 3");
+}
+
 static void witnesses(void) {
     struct circuit c = read_file(FILE_OF("aig 3 2 0 1 1\n6\n\x02\x02"));
     uint64_t answer[3];
@@ -236,6 +249,7 @@ static void witnesses(void) {
     witness(c, 2, FILE_OF("11"), 1, "the bad state is 1 in the second step");
     witness(read_file(FILE_OF("aig 2 1 1 0 0 1 1\n3 1\n1\n4\n")), 1, FILE_OF("0"), 1, "the constraint starts as 1");
     witness(read_file(FILE_OF("aig 2 1 1 0 0 1 1\n3\n1\n4\n")), 2, FILE_OF("00"), 0, "the constraint starts as 0");
+    counted();
 }
 
 static void refused(struct bytes file, uint64_t number, uint64_t place, const char *what) {
