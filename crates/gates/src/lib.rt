@@ -34,7 +34,7 @@ fn taken(file: &[u8], at: usize, first: bool, from: Lit) -> Side
 {
     match differences::read_difference(file, at) {
         Difference::Ends(place) => Side::Refused(Refusal::WrongByte(place)),
-        Difference::Bad(place) => Side::Refused(Refusal::BadDifference(place)),
+        Difference::Bad(place) => Side::Refused(Refusal::LongDifference(place)),
         Difference::Value(d, next) => {
             if first {
                 if d == 0 {

@@ -65,16 +65,23 @@ files =
     ∷ (bytesOf "aag 1 1 1 0 0\n", bytesOf "refused 3 at 0\n")
     ∷ (bytesOf "aag 1 0 1 0 0\n2 2\n", [])
     ∷ (gate ++ (0x00 ∷ 0x00 ∷ []), bytesOf "refused 9 at 14\n")
-    ∷ (gate ++ (0x82 ∷ 0x00 ∷ []), bytesOf "refused 9 at 14\n")
+    ∷ (gate ++ (0x82 ∷ 0x00 ∷ []), bytesOf "refused 16 at 14\n")
     ∷ (gate ++ (0x02 ∷ 0x01 ∷ []), bytesOf "refused 9 at 15\n")
     ∷ (gate ++ (0x02 ∷ []), bytesOf "refused 1 at 15\n")
     ∷ (buffer ++ bytesOf "i1 p\n", bytesOf "refused 10 at 18\n")
     ∷ (buffer ++ bytesOf "i0 p\ni0 q\n", bytesOf "refused 10 at 23\n")
     ∷ (buffer ++ bytesOf "c", bytesOf "refused 1 at 19\n")
-    -- the points decided: a difference is judged before the next; two bytes and the end; three bytes with the high bit
+    -- the points decided: a difference is judged before the next; one or two bytes and the end; three bytes with the high bit
     ∷ (gate ++ (0x00 ∷ []), bytesOf "refused 9 at 14\n")
+    ∷ (gate ++ (0x03 ∷ 0x82 ∷ 0x00 ∷ []), bytesOf "refused 9 at 14\n")
+    ∷ (gate ++ (0x02 ∷ 0x80 ∷ 0x00 ∷ []), bytesOf "refused 16 at 15\n")
+    ∷ (gate ++ (0x82 ∷ []), bytesOf "refused 1 at 15\n")
     ∷ (gate ++ (0x81 ∷ 0x81 ∷ []), bytesOf "refused 1 at 16\n")
-    ∷ (gate ++ (0x81 ∷ 0x81 ∷ 0x81 ∷ []), bytesOf "refused 9 at 14\n")
+    ∷ (gate ++ (0x81 ∷ 0x81 ∷ 0x81 ∷ []), bytesOf "refused 16 at 14\n")
+    -- zero or too large, and badly written: reported for its writing
+    ∷ (gate ++ (0x80 ∷ 0x80 ∷ 0x00 ∷ []), bytesOf "refused 16 at 14\n")
+    ∷ (gate ++ (0xff ∷ 0x00 ∷ []), bytesOf "refused 16 at 14\n")
+    ∷ (gate ++ (0xff ∷ 0x01 ∷ []), bytesOf "refused 9 at 14\n")
     -- "00" is wrong at its second digit; a number has no upper length, and a wrong byte later on its line wins
     ∷ (bytesOf "aag 00 0 0 0 0\n", bytesOf "refused 1 at 5\n")
     ∷ (bytesOf "aag 9999999999999999999999999 0 0 0 x\n", bytesOf "refused 1 at 36\n")

@@ -4,7 +4,7 @@ use mathlib.Core.Bool.{Bool, true, false, cond, _&&_, _||_}
 use mathlib.Core.List.{List, [], _∷_}
 use lib.Dec.{eqb, leb, ltb}
 use lib.ListN.{length, getD}
-use Rattle.plan.specs.declared.Refusal.the-variants.{WrongByte, BadDifference}
+use Rattle.plan.specs.declared.Refusal.the-variants.{WrongByte, BadDifference, LongDifference}
 use Rattle.plan.specs.declared.Difference.{Difference}
 use Rattle.plan.specs.declared.Difference.the-variants.{Value, Ends, Bad}
 use Rattle.plan.specs.Refusals.{Parse, got, refused, _then_}
@@ -29,13 +29,13 @@ groups file first (suc k) at =
 abbrev pub differenceAt : List ℕ → ℕ → Difference
 differenceAt file at = groups file at 3 at
 
--- cut off by the file's end: 1; badly written: 9
+-- cut off by the file's end: 1; more bytes than three or than needed: 16
 abbrev pub differenceSays : Difference → Parse ℕ
 differenceSays (Value d next) = got d next
 differenceSays (Ends place) = refused (WrongByte place)
-differenceSays (Bad place) = refused (BadDifference place)
+differenceSays (Bad place) = refused (LongDifference place)
 
--- taken from a number: the first one of a gate is not 0, and none is more than what it is taken from
+-- taken from a number: the first one of a gate is not 0, and none is more than what it is taken from, else 9
 abbrev pub difference : List ℕ → Bool → ℕ → ℕ → Parse ℕ
 difference file first from at =
     differenceSays (differenceAt file at) then λ d next.

@@ -3,7 +3,7 @@ use Prim.Native.Nat.{ℕ}
 use mathlib.Core.Option.{Option, none, some}
 use mathlib.Core.List.{List, [], _∷_}
 use Rattle.plan.specs.declared.Refusal.{Refusal}
-use Rattle.plan.specs.declared.Refusal.the-variants.{WrongByte, LargeCount, WrongSum, ShortTable, OutOfRange, DefinedTwice, NotDefined, Cyclic, BadDifference, BadSymbol, ShortBuffer, BadVector, LongInput, Unreadable, NotInOrder, Justice}
+use Rattle.plan.specs.declared.Refusal.the-variants.{WrongByte, LargeCount, WrongSum, ShortTable, OutOfRange, DefinedTwice, NotDefined, Cyclic, BadDifference, BadSymbol, ShortBuffer, BadVector, LongInput, Unreadable, NotInOrder, LongDifference, Justice}
 
 -- the number and the place
 abbrev pub told : Refusal → ℕ × ℕ
@@ -22,6 +22,7 @@ told (BadVector place) = (12, place)
 told (LongInput place) = (13, place)
 told (Unreadable place) = (14, place)
 told (NotInOrder place) = (15, place)
+told (LongDifference place) = (16, place)
 told (Justice place) = (21, place)
 
 abbrev pub numberOf : Refusal → ℕ

@@ -172,7 +172,7 @@ pub enum Class {
     Rest,
 }
 
-// One case for each refusal number from 1 to 15 and for 21, in their order, each with its place.
+// One case for each refusal number from 1 to 16 and for 21, in their order, each with its place.
 pub enum Refusal {
     WrongByte(usize),
     LargeCount(usize),
@@ -189,6 +189,7 @@ pub enum Refusal {
     LongInput(usize),
     Unreadable(usize),
     NotInOrder(usize),
+    LongDifference(usize),
     Justice(usize),
 }
 

@@ -23,6 +23,7 @@ pub fn told_number(refusal: Refusal) -> u64
         Refusal::LongInput(_) => 13,
         Refusal::Unreadable(_) => 14,
         Refusal::NotInOrder(_) => 15,
+        Refusal::LongDifference(_) => 16,
         Refusal::Justice(_) => 21,
     }
 }
@@ -47,6 +48,7 @@ pub fn told_place(refusal: Refusal) -> usize
         Refusal::LongInput(place) => place,
         Refusal::Unreadable(place) => place,
         Refusal::NotInOrder(place) => place,
+        Refusal::LongDifference(place) => place,
         Refusal::Justice(place) => place,
     }
 }

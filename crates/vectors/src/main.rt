@@ -344,7 +344,7 @@ fn show_lines(file: &[u8], vectors: &[u8]) {
 fn show_difference(bytes: &[u8]) {
     match differences::read_difference(bytes, 0) {
         Difference::Ends(at) => office::refuse(Refusal::WrongByte(at)),
-        Difference::Bad(at) => office::refuse(Refusal::BadDifference(at)),
+        Difference::Bad(at) => office::refuse(Refusal::LongDifference(at)),
         Difference::Value(d, _) => {
             let mut out = [0u8; 8];
             say(b"value");

@@ -12,7 +12,7 @@ use lib.ListN.{length, getD, take, drop, length-append, length-drop}
 use Rattle.plan.specs.declared.Class.{Class}
 use Rattle.plan.specs.declared.Class.the-variants.{Line, Space, Zero, Digit, Print, Rest}
 use Rattle.plan.specs.declared.Refusal.{Refusal}
-use Rattle.plan.specs.declared.Refusal.the-variants.{WrongByte, LargeCount, WrongSum, ShortTable, OutOfRange, DefinedTwice, NotDefined, Cyclic, BadDifference, BadSymbol, Justice}
+use Rattle.plan.specs.declared.Refusal.the-variants.{WrongByte, LargeCount, WrongSum, ShortTable, OutOfRange, DefinedTwice, NotDefined, Cyclic, BadDifference, BadSymbol, LongDifference, Justice}
 use Rattle.plan.specs.Refusals.{numberOf, placeOf, Parse, got, refused, _then_, unless}
 use Rattle.plan.specs.declared.Counts.{Counts}
 use Rattle.plan.specs.declared.Version.{Version}
@@ -143,6 +143,9 @@ module _ (file : List ℕ) where
   bad : (p : ℕ) → Within (BadDifference p)
   bad p e = absurd (omega arith)
 
+  long : (p : ℕ) → Within (LongDifference p)
+  long p e = absurd (omega arith)
+
   low-stays : (low : ℕ) (d : Difference) → Stays (differenceSays d) → Stays (differenceSays (lowThen low d))
   low-stays low (Value high next) (on h) = on h
   low-stays low (Ends place) (off h) = off h
@@ -154,13 +157,13 @@ module _ (file : List ℕ) where
   says-cond false p q h k = k refl
 
   groups-stays : (first k at : ℕ) → at ≤ length file → Stays (differenceSays (groups file first k at))
-  groups-stays first zero at h = off (bad first)
+  groups-stays first zero at h = off (long first)
   groups-stays first (suc k) at h =
       says-cond (leb (length file) at) _ _ (λ _. off (λ _. le-refl (length file))) (λ e.
       says-cond (leb 128 (getD file at 0)) _ _
       (λ _. low-stays (getD file at 0 % 128) (groups file first k (at + 1))
       (groups-stays first k (at + 1) (omega (arith, leb-false (length file) at e))))
-      (λ _. says-cond (eqb (getD file at 0) 0 && ltb first at) _ _ (λ _. off (bad first))
+      (λ _. says-cond (eqb (getD file at 0) 0 && ltb first at) _ _ (λ _. off (long first))
       (λ _. on (omega (arith, leb-false (length file) at e)))))
 
   difference-stays : (b : Bool) (from at : ℕ) → at ≤ length file → Stays (difference file b from at)
