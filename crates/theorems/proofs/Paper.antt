@@ -1,4 +1,4 @@
--- "Plans on both sides of the line": the examples marked P, from the paper's bytes to the paper's bytes.
+-- "Plans on both sides of the line": the examples of every line with a mark P, from the paper's bytes to the paper's bytes.
 use Prim.Native.Nat.{ℕ}
 use mathlib.Core.Path.{_≡_, refl}
 use mathlib.Core.Option.{some}
@@ -59,11 +59,17 @@ examples =
     ∷ (value of 0x7f ∷ [] is bytesOf "127")
     ∷ (value of 0x80 ∷ 0x01 ∷ [] is bytesOf "128")
     ∷ (accepted of bytesOf "aag 0 0 0 0 0\n" is bytesOf "accepted")
+    ∷ (accepted of bytesOf "aag 0 0 0 0 0" is bytesOf "refused 1 at 13\n")
+    ∷ (accepted of [] is bytesOf "refused 1 at 0\n")
     ∷ (accepted of bytesOf "aag 1 1 0 1 0\n2\n4\n" is bytesOf "refused 5 at 16\n")
     ∷ (accepted of bytesOf "aag 2 2 0 0 0\n2\n2\n" is bytesOf "refused 6 at 16\n")
     ∷ (accepted of bytesOf "aag 2 1 0 1 0\n2\n4\n" is bytesOf "refused 7 at 2\n")
     ∷ (accepted of bytesOf "aag 2 0 0 0 2\n2 4 1\n4 2 1\n" is bytesOf "refused 8 at 1\n")
     ∷ (accepted of bytesOf "aig 1 0 0 0 1\n" ++ (0x02 ∷ 0x00 ∷ []) is bytesOf "accepted")
+    ∷ (accepted of bytesOf "aig 1 0 0 0 1\n" ++ (0x00 ∷ 0x00 ∷ []) is bytesOf "refused 9 at 14\n")
+    ∷ (accepted of bytesOf "aig 1 0 0 0 1\n" ++ (0x82 ∷ 0x00 ∷ []) is bytesOf "refused 16 at 14\n")
+    ∷ (accepted of bytesOf "aig 1 0 0 0 1\n" ++ (0x02 ∷ 0x01 ∷ []) is bytesOf "refused 9 at 15\n")
+    ∷ (accepted of bytesOf "aig 1 0 0 0 1\n" ++ (0x02 ∷ []) is bytesOf "refused 1 at 15\n")
     ∷ (converted of toggle is bytesOf "aig 7 2 1 2 4\n14\n6\n7\n" ++ (0x02 ∷ 0x04 ∷ 0x03 ∷ 0x04 ∷ 0x01 ∷ 0x02 ∷ 0x02 ∷ 0x08 ∷ []))
     ∷ (reduced of halves is bytesOf "aig 1 1 0 1 0\n1\n")
     ∷ (outputs-on (bytesOf "x") of halves is bytesOf "x")
