@@ -269,8 +269,9 @@ static void refusals(void) {
     refused(FILE_OF("aag 2 2 0 0 0\n2\n2\n"), 6, 16, "6 at 16");
     refused(FILE_OF("aag 2 1 0 1 0\n2\n4\n"), 7, 2, "7 at 2");
     refused(FILE_OF("aag 2 0 0 0 2\n2 4 1\n4 2 1\n"), 8, 1, "8 at 1");
-    refused(FILE_OF("aig 1 0 0 0 1\n\x82\x00"), 9, 14, "9 at 14");
+    refused(FILE_OF("aig 1 0 0 0 1\n\x02\x01"), 9, 15, "9 at 15");
     refused(FILE_OF("aag 1 1 0 1 0\n2\n2\ni1 p\n"), 10, 18, "10 at 18");
+    refused(FILE_OF("aig 1 0 0 0 1\n\x82\x00"), 16, 14, "16 at 14");
     refused(FILE_OF("aag 1 0 1 0 0\n2 3 3\n"), 5, 18, "5 at a reset");
     refused(FILE_OF("aag 0 0 0 0 0 0 0 1\n"), 21, 18, "21 at 18");
 }
