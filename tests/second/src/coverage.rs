@@ -15,7 +15,10 @@ use places::{PlaceCoverage, OF_FILES};
 const PER_REFUSAL: u64 = 200;
 
 /// The refusals of the readers.
-const REFUSALS: [&[u64]; 2] = [&[1, 2, 3, 4, 5, 6, 7, 8, 9, 10], &[1, 2, 3, 4, 5, 6, 7, 8, 9, 10, 21]];
+const REFUSALS: [&[u64]; 2] = [
+    &[1, 2, 3, 4, 5, 6, 7, 8, 9, 10, 16],
+    &[1, 2, 3, 4, 5, 6, 7, 8, 9, 10, 16, 21],
+];
 
 #[derive(Default)]
 pub struct Coverage {

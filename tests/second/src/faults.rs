@@ -23,6 +23,7 @@ enum Slip {
     CountsAfterRefusal,
     TailAtTheEnd,
     PlaceOff,
+    WritingTakenForSize,
     WritesBeside,
     WordsOfTheWholeFile,
     ScratchOf2007,
@@ -31,7 +32,7 @@ enum Slip {
     NewReaderReadsOld,
 }
 
-const SLIPS: [Slip; 15] = [
+const SLIPS: [Slip; 16] = [
     Slip::RefusesAll,
     Slip::HighGroupFirst,
     Slip::GatesSorted,
@@ -41,6 +42,7 @@ const SLIPS: [Slip; 15] = [
     Slip::CountsAfterRefusal,
     Slip::TailAtTheEnd,
     Slip::PlaceOff,
+    Slip::WritingTakenForSize,
     Slip::WritesBeside,
     Slip::WordsOfTheWholeFile,
     Slip::ScratchOf2007,
@@ -142,7 +144,11 @@ impl Slip {
             refused => {
                 let (number, place) = refused.map_or_else(|refusal| (refusal.number, refusal.place), |_| (1, 0));
                 ReadAnswer {
-                    number,
+                    number: if slip == Slip::WritingTakenForSize && number == 16 {
+                        9
+                    } else {
+                        number
+                    },
                     place: place + u64::from(slip == Slip::PlaceOff && number == 9),
                     counts: if slip == Slip::CountsAfterRefusal {
                         [1; 7]

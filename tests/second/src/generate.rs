@@ -90,7 +90,7 @@ fn treatment(random: &mut Random) -> Treatment {
 fn form(random: &mut Random, treatment: Treatment) -> Form {
     match treatment {
         Treatment::Damaged(6..=8) => Form::Text,
-        Treatment::Damaged(9) => Form::Binary,
+        Treatment::Damaged(9 | 16) => Form::Binary,
         _ => *random.pick(&[Form::Text, Form::Binary]),
     }
 }

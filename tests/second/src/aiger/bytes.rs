@@ -70,7 +70,7 @@ impl<'a> Cursor<'a> {
         Ok(numbers)
     }
 
-    /// A difference by its own bytes alone; the caller knows what it's taken from.
+    /// A difference by its own bytes alone, 1 and 16; the caller knows what it's taken from.
     pub fn difference(&mut self) -> Result<Number, Refusal> {
         let place = self.at;
         let mut value = 0;
@@ -80,12 +80,12 @@ impl<'a> Cursor<'a> {
             if byte < 128 {
                 let longer_than_needed = group > 0 && byte == 0;
                 return if longer_than_needed {
-                    refuse(9, place)
+                    refuse(16, place)
                 } else {
                     Ok(Number { value, place })
                 };
             }
         }
-        refuse(9, place)
+        refuse(16, place)
     }
 }

@@ -24,8 +24,8 @@ impl Program {
     /// The refusals that it can give. The tracer writes line by line, so no buffer is too short for it.
     pub fn refusals(self) -> &'static [u64] {
         match self {
-            Program::Converter | Program::Reducer => &[1, 2, 3, 4, 5, 6, 7, 8, 9, 10, 11, 13, 14, 21],
-            Program::Tracer => &[1, 2, 3, 4, 5, 6, 7, 8, 9, 10, 12, 13, 14, 21],
+            Program::Converter | Program::Reducer => &[1, 2, 3, 4, 5, 6, 7, 8, 9, 10, 11, 13, 14, 16, 21],
+            Program::Tracer => &[1, 2, 3, 4, 5, 6, 7, 8, 9, 10, 12, 13, 14, 16, 21],
         }
     }
 }

@@ -1,16 +1,23 @@
-//! Differences that are badly written, too large, zero or cut off (9, and 1 at the end of the file).
+//! Differences that are zero or too large (9), badly written (16), or cut off by the end of the file (1).
 
 use super::{harm, Damage, Harm, Spot};
 use crate::aiger::Circuit;
 use crate::generate::draft::{difference, Draft};
 use crate::random::Random;
 
-pub const ALL: &[Damage] = &[
+pub const SIZES: &[Damage] = &[
     zero,
     zero_at_the_end,
     first_too_large,
     second_too_large,
+    too_large_before_longer,
+    cut,
+];
+
+pub const WRITINGS: &[Damage] = &[
     longer,
+    longer_and_zero,
+    longer_and_too_large,
     four_bytes,
     high_at_the_end,
     cut,
@@ -63,16 +70,45 @@ fn second_too_large(random: &mut Random, circuit: &Circuit, draft: &mut Draft) -
     harm(9, Spot::Difference(2 * gate + 1))
 }
 
-/// The same value with one or two groups of zeros more.
-fn longer(random: &mut Random, _: &Circuit, draft: &mut Draft) -> Option<Harm> {
-    let k = some_difference(random, draft)?;
-    let bytes = &mut draft.differences[k];
+/// The same value with one or two groups of zeros more, or in a fourth byte.
+fn lengthen(random: &mut Random, bytes: &mut Vec<u8>) -> Option<()> {
     *bytes.last_mut()? |= 128;
     if bytes.len() == 1 && random.once_in(2) {
         bytes.push(128);
     }
     bytes.push(0);
-    harm(9, Spot::Difference(k))
+    Some(())
+}
+
+fn longer(random: &mut Random, _: &Circuit, draft: &mut Draft) -> Option<Harm> {
+    let k = some_difference(random, draft)?;
+    lengthen(random, &mut draft.differences[k])?;
+    harm(16, Spot::Difference(k))
+}
+
+/// What is both is reported for its writing.
+fn longer_and_zero(random: &mut Random, circuit: &Circuit, draft: &mut Draft) -> Option<Harm> {
+    let first = 2 * some_gate(random, circuit, draft)?;
+    draft.differences[first] = vec![0];
+    lengthen(random, &mut draft.differences[first])?;
+    harm(16, Spot::Difference(first))
+}
+
+fn longer_and_too_large(random: &mut Random, circuit: &Circuit, draft: &mut Draft) -> Option<Harm> {
+    let gate = some_gate(random, circuit, draft)?;
+    let side = random.below(2);
+    let k = 2 * gate + side;
+    draft.differences[k] = above(random, circuit.gates[gate][side]);
+    lengthen(random, &mut draft.differences[k])?;
+    harm(16, Spot::Difference(k))
+}
+
+/// The first difference is judged completely before the second is read.
+fn too_large_before_longer(random: &mut Random, circuit: &Circuit, draft: &mut Draft) -> Option<Harm> {
+    let gate = some_gate(random, circuit, draft)?;
+    draft.differences[2 * gate] = above(random, circuit.gates[gate][0]);
+    lengthen(random, &mut draft.differences[2 * gate + 1])?;
+    harm(9, Spot::Difference(2 * gate))
 }
 
 fn four_bytes(random: &mut Random, _: &Circuit, draft: &mut Draft) -> Option<Harm> {
@@ -80,7 +116,7 @@ fn four_bytes(random: &mut Random, _: &Circuit, draft: &mut Draft) -> Option<Har
     let mut bytes = vec![random.byte() | 128, random.byte() | 128, random.byte() | 128];
     bytes.push(random.byte());
     draft.differences[k] = bytes;
-    harm(9, Spot::Difference(k))
+    harm(16, Spot::Difference(k))
 }
 
 /// Three bytes with the high bit are too many even where the file ends.
@@ -88,7 +124,7 @@ fn high_at_the_end(random: &mut Random, _: &Circuit, draft: &mut Draft) -> Optio
     let k = some_difference(random, draft)?;
     draft.differences[k] = vec![random.byte() | 128, random.byte() | 128, random.byte() | 128];
     draft.end_after_difference(k + 1);
-    harm(9, Spot::Difference(k))
+    harm(16, Spot::Difference(k))
 }
 
 /// The file ends before a difference or after one or two of its bytes.
