@@ -10,11 +10,11 @@ use Rattle.plan.specs.declared.Counts.{Counts}
 use Rattle.plan.specs.declared.Version.the-variants.{V2007, V19}
 use Rattle.plan.specs.declared.Version.{Version}
 use Rattle.plan.specs.declared.Difference.the-variants.{Value, Bad}
-use Rattle.plan.specs.Refusals.{got, _then_}
-use Rattle.plan.specs.Circuit.{Tables}
+use Rattle.plan.specs.Refusals.{Parse, got, _then_}
+use Rattle.plan.specs.Circuit.{Circuit, Tables}
 use Rattle.plan.specs.Header.{wordsFor}
 use Rattle.plan.specs.Difference.{differenceAt, groupsOf}
-use Rattle.plan.specs.Reading.{readFile}
+use Rattle.plan.specs.Reading.{readFile, readToWork}
 use Rattle.plan.specs.Given.{Given}
 use Rattle.plan.specs.Step.{witnessed}
 use Rattle.plan.specs.Outcome.{checkedValues, check}
@@ -180,6 +180,34 @@ desk19-holds = refl
 
 desk19-refuses : wordsFor (bytesOf "aag 7 2 1 2 4 3 1 1\n") 1 ≡ 18446744073709551615
 desk19-refuses = refl
+
+-- to read a binary file table 5 needs a word for each input, latch, output, bad state and constraint
+desk-binary-holds : map (λ (file : List ℕ). wordsFor file 5)
+    (bytesOf "aig 7 2 1 2 4\n" ∷ bytesOf "aig 7 2 1 2 4 3 1\n" ∷ bytesOf "aig 1 0 0 0 1\n" ∷ []) ≡ (5 ∷ 9 ∷ 0 ∷ [])
+desk-binary-holds = refl
+
+-- exactly enough, one too few, and enough to read only: then 4 at 5 comes after all that a reader checks
+abbrev lentFive : ℕ → List ℕ
+lentFive n = 2 ∷ 2 ∷ 2 ∷ 12 ∷ n ∷ 0 ∷ 1 ∷ []
+
+abbrev toggleIn : List ℕ
+toggleIn = bytesOf "aig 7 2 1 2 4\n14\n6\n7\n" ++ (2 ∷ 4 ∷ 3 ∷ 4 ∷ 1 ∷ 2 ∷ 2 ∷ 8 ∷ [])
+
+abbrev restOf : List ℕ → Parse Circuit → List ℕ
+restOf file p = printed (p then λ c start. got (drop start file) start)
+
+abbrev fives : List (List ℕ × List ℕ)
+fives =
+    (restOf toggleIn (readFile V19 toggleIn (lentFive 5)), [])
+    ∷ (restOf toggleIn (readFile V2007 toggleIn (lentFive 5)), [])
+    ∷ (restOf toggleIn (readFile V19 toggleIn (lentFive 4)), bytesOf "refused 4 at 5\n")
+    ∷ (restOf toggleIn (readToWork toggleIn (lentFive 34) (lentFive 34)), [])
+    ∷ (restOf toggleIn (readToWork toggleIn (lentFive 33) (lentFive 33)), bytesOf "refused 4 at 5\n")
+    ∷ (restOf toggleIn (readToWork (toggleIn ++ bytesOf "i2 x\n") (lentFive 5) (lentFive 5)), bytesOf "refused 10 at 29\n")
+    ∷ []
+
+fives-hold : map (λ (x : List ℕ × List ℕ). x .0) fives ≡ map (λ (x : List ℕ × List ℕ). x .1) fives
+fives-hold = refl
 
 -- 4 names the least table that is too short
 short-holds : printed (readFile V19 buffer (100 ∷ 0 ∷ 0 ∷ 100 ∷ 0 ∷ []) then λ c start. got [] start) ≡ bytesOf "refused 4 at 3\n"

@@ -57,12 +57,16 @@ latchOf row = record { current = getD row 0 0; next = getD row 1 0 }
 abbrev pub gateOf : List ℕ → Gate
 gateOf row = record { lhs = getD row 0 0; rhs0 = getD row 1 0; rhs1 = getD row 2 0 }
 
--- the words that tables 1 to 9 need, to read a file and for every other call; table 6 is no circuit's
-abbrev pub wordsToRead : Counts → List ℕ
-wordsToRead n = n .I ∷ 2 * n .L ∷ n .O ∷ 3 * n .A ∷ (4 * (n .M + 1) + n .O + n .B + n .C) ∷ 0 ∷ n .L ∷ n .B ∷ n .C ∷ []
+-- the words that tables 1 to 9 need, with these of table 5; table 6 is no circuit's
+abbrev pub wordsWith : ℕ → Counts → List ℕ
+wordsWith scratch n = n .I ∷ 2 * n .L ∷ n .O ∷ 3 * n .A ∷ scratch ∷ 0 ∷ n .L ∷ n .B ∷ n .C ∷ []
+
+-- the words of table 5 for every call but the reading of a binary file
+abbrev pub scratchToWork : Counts → ℕ
+scratchToWork n = 4 * (n .M + 1) + n .O + n .B + n .C
 
 abbrev pub wordsToWork : Counts → List ℕ
-wordsToWork n = n .I ∷ 2 * n .L ∷ n .O ∷ 3 * n .A ∷ (4 * (n .M + 1) + n .O + n .B + n .C) ∷ 0 ∷ n .L ∷ n .B ∷ n .C ∷ []
+wordsToWork n = wordsWith (scratchToWork n) n
 
 -- a table's number, the words it needs and the words lent
 pub record Lent : Type 0 where

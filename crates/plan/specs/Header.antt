@@ -11,7 +11,7 @@ use Rattle.plan.specs.declared.Version.{Version}
 use Rattle.plan.specs.declared.Version.the-variants.{V2007, V19}
 use Rattle.plan.specs.Literals.{most}
 use Rattle.plan.specs.Refusals.{Parse, got, refused, _then_, unless}
-use Rattle.plan.specs.Circuit.{wordsToRead}
+use Rattle.plan.specs.Circuit.{wordsWith, scratchToWork}
 use Rattle.plan.specs.Bytes.{expect, Placed, numbers, values, lineOf, shortest}
 
 pub data Form : Type 0 where
@@ -84,9 +84,21 @@ shortCounts n = shortest 5 (allCounts n)
 abbrev pub headerOf : Form → List ℕ → List ℕ
 headerOf form row = 97 ∷ letterOf form ∷ 103 ∷ 32 ∷ lineOf row
 
--- the desk question: the words that table t needs, or 2 ^ 64 - 1
+-- the words of table 5 to read a file: in binary one for the symbol of each entry, and none to mark variables in, as 6, 7 and 8 can't be met there
+abbrev pub scratchToRead : Form → Counts → ℕ
+scratchToRead text n = scratchToWork n
+scratchToRead binary n = n .I + n .L + n .O + n .B + n .C
+
+abbrev pub wordsToRead : Form → Counts → List ℕ
+wordsToRead form n = wordsWith (scratchToRead form n) n
+
+-- the form that the second letter names
+abbrev pub formIn : List ℕ → Form
+formIn file = cond (eqb (getD file 1 0) 105) binary text
+
+-- the desk question: the words that table t needs to read the file, or 2 ^ 64 - 1
 abbrev pub wordsBy : ℕ → Parse Head → ℕ
-wordsBy t (got h next) = cond ((leb 1 t && leb t 5) || (leb 7 t && leb t 9)) (getD (wordsToRead (h .counts)) (t - 1) 0) (2 ^ 64 - 1)
+wordsBy t (got h next) = cond ((leb 1 t && leb t 5) || (leb 7 t && leb t 9)) (getD (wordsToRead (h .form) (h .counts)) (t - 1) 0) (2 ^ 64 - 1)
 wordsBy t (refused r) = 2 ^ 64 - 1
 
 abbrev pub wordsFor : List ℕ → ℕ → ℕ

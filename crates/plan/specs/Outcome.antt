@@ -93,6 +93,10 @@ abbrev pub isBinary : Form → Bool
 isBinary text = false
 isBinary binary = true
 
+abbrev pub formOf : Bool → Form
+formOf false = text
+formOf true = binary
+
 abbrev pub headedBy : Parse Head → Headed
 headedBy (got h next) = headed.Accepted (isBinary (h .form)) (h .counts) next
 headedBy (refused r) = headed.Refused r

@@ -17,7 +17,7 @@ use Rattle.plan.specs.Header.{Form, text, binary, header}
 use Rattle.plan.specs.Text.{textOf}
 use Rattle.plan.specs.Binary.{binaryOf}
 use Rattle.plan.specs.Tail.{endsLine}
-use Rattle.plan.specs.Reading.{readFile}
+use Rattle.plan.specs.Reading.{readToWork}
 use Rattle.plan.specs.Convert.{convert}
 use Rattle.plan.specs.Reduce.{reduce}
 use Rattle.plan.specs.Step.{codeOf, valueOf, Step, run, first}
@@ -50,7 +50,8 @@ input (some bytes) rest = cond (leb (length bytes) 65536) (rest bytes) (refused 
 abbrev pub fitting : List ℕ → Parse (List ℕ)
 fitting bytes = cond (leb (length bytes) lentBytes) (got bytes (length bytes)) (refused (ShortBuffer (length bytes)))
 
--- the converter writes the other form
+-- the converter writes the other form. A binary file may be read whose table 5 is too short for the calls that follow: 4 at 5, after all that a
+-- reader checks, in each program
 abbrev pub otherForm : Form → Circuit → List ℕ
 otherForm text c = binaryOf (convert c)
 otherForm binary c = textOf c
@@ -58,7 +59,7 @@ otherForm binary c = textOf c
 abbrev pub converter : Option (List ℕ) → List ℕ
 converter planIn =
     printed (input planIn λ file.
-    readFile V19 file lentWords then λ c start.
+    readToWork file lentWords lentWords then λ c start.
     header V19 file 0 then λ h _.
     fitting (otherForm (h .form) c ++ drop start file))
 
@@ -66,7 +67,7 @@ converter planIn =
 abbrev pub reducer : Option (List ℕ) → List ℕ
 reducer planIn =
     printed (input planIn λ file.
-    readFile V19 file lentWords then λ c start.
+    readToWork file lentWords lentWords then λ c start.
     fitting (binaryOf (reduce (convert c)) ++ drop start file))
 
 -- the lines of an input, each ended by a new line; bytes after the last new line are no line
@@ -101,7 +102,7 @@ stepLines (s ∷ steps) = stepLine s ++ stepLines steps
 abbrev pub tracer : Option (List ℕ) → Option (List ℕ) → List ℕ
 tracer planIn standardIn =
     printed (input planIn λ file.
-    readFile V19 file lentWords then λ c _.
+    readToWork file lentWords lentWords then λ c _.
     input standardIn λ bytes.
     stimulus (length (c .inputs)) bytes then λ list end.
     got (stepLines (run (convert c) (first (convert c)) (map (map valueOf) list))) end)

@@ -7,13 +7,14 @@ use mathlib.Core.Option.{none}
 use lib.ListN.{length}
 use Rattle.plan.specs.declared.Counts.{Counts}
 use Rattle.plan.specs.declared.Version.{Version}
+use Rattle.plan.specs.declared.Version.the-variants.{V19}
 use Rattle.plan.specs.declared.Refusal.the-variants.{ShortTable, NotDefined, Cyclic}
 use Rattle.plan.specs.Literals.{most}
 use Rattle.plan.specs.Refusals.{Parse, got, _then_, unless}
-use Rattle.plan.specs.Circuit.{Circuit, countsOf, wordsToRead, against, short, oneLine, latchLine, gateLine, allInside, has, allNew, definedIn, usedIn, resetsOk}
+use Rattle.plan.specs.Circuit.{Circuit, countsOf, wordsToWork, against, short, oneLine, latchLine, gateLine, allInside, has, allNew, definedIn, usedIn, resetsOk}
 use Rattle.plan.specs.Bytes.{Spells, AllSpell}
 use Rattle.plan.specs.Depends.{undefinedIn, cyclicIn, Depends}
-use Rattle.plan.specs.Header.{moreCounts, moreResets, Form, text, binary, header, allCounts, headerOf}
+use Rattle.plan.specs.Header.{moreCounts, moreResets, Form, text, binary, header, allCounts, headerOf, wordsToRead, formIn}
 use Rattle.plan.specs.Text.{textBody, textLines, textLatches, textOf}
 use Rattle.plan.specs.Binary.{binaryBody, binaryLines, binaryLatches, binaryOf, binaryOrder}
 use Rattle.plan.specs.Tail.{tailAt, TailOk}
@@ -22,15 +23,21 @@ abbrev pub body : Version → List ℕ → Form → Counts → ℕ → Parse Cir
 body v file text n at = textBody v file n at
 body v file binary n at = binaryBody v file n at
 
--- header by 1, 2, 21, 3; then 4; then the file in order, its tail too; when the whole file has been read 7, then 8. The position is
--- where the tail starts
+-- header by 1, 2, 21, 3; then 4; then the file in order, its tail too; when the whole file has been read 7, then 8, which
+-- no binary file can meet. The position is where the tail starts
 abbrev pub readFile : Version → List ℕ → List ℕ → Parse Circuit
 readFile v file lengths =
     header v file 0 then λ h at.
-    unless (short (against 1 (wordsToRead (h .counts)) lengths)) ShortTable
+    unless (short (against 1 (wordsToRead (h .form) (h .counts)) lengths)) ShortTable
     (body v file (h .form) (h .counts) at then λ c at.
     tailAt v file (h .counts) at then λ _ _.
     unless (undefinedIn c) NotDefined (unless (cyclicIn c) Cyclic (got c at)))
+
+-- a file that is read for calls that follow: all that a reader checks, then 4 for those calls, which are lent tables of the lengths `later`
+abbrev pub readToWork : List ℕ → List ℕ → List ℕ → Parse Circuit
+readToWork file lengths later =
+    readFile V19 file lengths then λ c at.
+    unless (short (against 1 (wordsToWork (countsOf c)) later)) ShortTable (got c at)
 
 -- well formed within the limits
 pub record WellFormed (c : Circuit) : Type 0 where
@@ -72,6 +79,9 @@ pub data Shortest (file : List ℕ) (c : Circuit) (tail : List ℕ) : Type 0 whe
   shortText : file ≡ textOf c ++ tail → Shortest file c tail
   shortBinary : file ≡ binaryOf c ++ tail → Shortest file c tail
 
--- the tables are long enough
+-- the tables are long enough: for every call; to read the circuit from a file
 abbrev pub Room : Circuit → List ℕ → Type 0
-Room c lengths = short (against 1 (wordsToRead (countsOf c)) lengths) ≡ none
+Room c lengths = short (against 1 (wordsToWork (countsOf c)) lengths) ≡ none
+
+abbrev pub RoomToRead : List ℕ → Circuit → List ℕ → Type 0
+RoomToRead file c lengths = short (against 1 (wordsToRead (formIn file) (countsOf c)) lengths) ≡ none

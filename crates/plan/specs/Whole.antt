@@ -8,7 +8,7 @@ use lib.ListN.{length, take, drop}
 use Rattle.plan.specs.declared.Counts.{Counts}
 use Rattle.plan.specs.declared.Version.the-variants.{V19}
 use Rattle.plan.specs.declared.Refusal.{Refusal}
-use Rattle.plan.specs.declared.Refusal.the-variants.{ShortTable, ShortBuffer, BadVector}
+use Rattle.plan.specs.declared.Refusal.the-variants.{ShortBuffer, BadVector}
 use Rattle.plan.specs.declared.Made.{Made}
 use Rattle.plan.specs.declared.Made.the-variants as made
 use Rattle.plan.specs.declared.Written.{Written}
@@ -16,11 +16,11 @@ use Rattle.plan.specs.declared.Written.the-variants as written
 use Rattle.plan.specs.declared.Traced.{Traced}
 use Rattle.plan.specs.declared.Traced.the-variants as traced
 use Rattle.plan.specs.Refusals.{Parse, got, refused, _then_, unless, stage, firstOf}
-use Rattle.plan.specs.Circuit.{Circuit, Tables, countsOf, lengthsOf, wordsToWork, against, short, holding, allCleared, cleared}
+use Rattle.plan.specs.Circuit.{Circuit, Tables, countsOf, lengthsOf, holding, allCleared, cleared}
 use Rattle.plan.specs.Header.{header}
 use Rattle.plan.specs.Binary.{binaryOf}
 use Rattle.plan.specs.Tail.{endsLine}
-use Rattle.plan.specs.Reading.{readFile}
+use Rattle.plan.specs.Reading.{readToWork}
 use Rattle.plan.specs.Given.{Given, given, lentAlone, orElse, stages, orderStage, room}
 use Rattle.plan.specs.Convert.{convert}
 use Rattle.plan.specs.Reduce.{reduce}
@@ -52,11 +52,10 @@ pub record WholeExit : Type 0 where
   pub scratch : List ℕ
   pub out : List ℕ
 
--- the circuit of the file, by all that a reader checks; then 4 for the tables to make a circuit in. The position is the tail's
+-- the circuit of the file, by all that a reader checks; then 4 for the tables to make a circuit in and for scratch, of which a binary file may need
+-- less to be read. The position is the tail's
 abbrev pub loaded : WholeEntry → List ℕ → Parse Circuit
-loaded e file =
-    readFile V19 file (lengthsOf (e .read) (e .scratch)) then λ c start.
-    unless (short (against 1 (wordsToWork (countsOf c)) (lengthsOf (e .made) (e .scratch)))) ShortTable (got c start)
+loaded e file = readToWork file (lengthsOf (e .read) (e .scratch)) (lengthsOf (e .made) (e .scratch))
 
 -- the bytes to write, or 11
 abbrev pub fittingIn : List ℕ → List ℕ → Parse (List ℕ)
