@@ -21,7 +21,7 @@ pub mod Tails
 pub mod Places
 pub mod Runs
 pub mod Binaries
-pub mod NoSevenEight
+pub mod NoSixSevenEight
 pub mod Exactly
 pub mod Versions
 pub mod Shortest

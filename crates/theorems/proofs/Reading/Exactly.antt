@@ -1,8 +1,8 @@
 -- With room, the reader accepts a circuit and a tail exactly if the file states them; a file states at most one of each.
 use Prim.Native.Nat.{ℕ, zero, _+_, _*_, _≤_}
-use mathlib.Core.Path.{_≡_, sym, ap, ap₂, _∙_, subst, subst₂}
+use mathlib.Core.Path.{_≡_, refl, sym, ap, ap₂, _∙_, subst, subst₂}
 use mathlib.Core.Bool.{true}
-use mathlib.Core.Option.{none}
+use mathlib.Core.Option.{Option, none}
 use mathlib.Core.Logic.{_↔_}
 use mathlib.Core.List.{List, [], _∷_, _++_, append-assoc}
 use native.Mathlib.Omega.{arith}
@@ -12,16 +12,17 @@ use Rattle.plan.specs.Refusals.{got}
 use Rattle.plan.specs.declared.Counts.{Counts}
 use Rattle.plan.specs.declared.Version.{Version}
 use Rattle.plan.specs.declared.Version.the-variants.{V2007, V19}
-use Rattle.plan.specs.Circuit.{Circuit, countsOf, wordsToRead, against, short, definedIn, usedIn}
+use Rattle.plan.specs.Circuit.{Circuit, countsOf, against, short, scratchToWork, wordsToWork, definedIn, usedIn}
 use Rattle.plan.specs.Depends.{undefinedIn, cyclicIn}
-use Rattle.plan.specs.Header.{moreCounts, moreResets, Form, text, binary, header, headerOf, listOf, allCounts, adds}
+use Rattle.plan.specs.Header.{moreCounts, moreResets, Form, text, binary, header, headerOf, listOf, allCounts, adds, scratchToRead, wordsToRead, formIn}
 use Rattle.plan.specs.Bytes.{Spells}
 use Rattle.plan.specs.Text.{textLines, textLatches}
 use Rattle.plan.specs.Binary.{binaryLines, binaryLatches}
 use Rattle.plan.specs.Tail.{tailAt, TailOk}
-use Rattle.plan.specs.Reading.{body, readFile, WellFormed, Spelled, States, asText, asBinary, Room}
+use Rattle.plan.specs.Reading.{body, readFile, readToWork, WellFormed, Spelled, States, asText, asBinary, Room, RoomToRead}
 use Rattle.theorems.proofs.Reading.Common.{got-value, got-next, then-got, unless-got}
 use Rattle.theorems.proofs.Reading.Headers.{AllMost, header-took, header-reads}
+use Rattle.theorems.proofs.Reading.Short.{lentFive, short-with, read-less}
 use Rattle.theorems.proofs.Reading.Rows.{BodyOk}
 use Rattle.theorems.proofs.Reading.Differences.{Bytes}
 use Rattle.theorems.proofs.Reading.Texts.{text-took, text-reads}
@@ -102,14 +103,32 @@ Accepts v file lengths c tail = (start : ℕ) × (readFile v file lengths ≡ go
 pub all-most : (c : Circuit) → WellFormed c → AllMost (listOf (countsOf c))
 all-most c w = (w .most-M, (w .most-I, (w .most-L, (w .most-O, (w .most-A, (w .most-B, (w .most-C, tt)))))))
 
+-- the second letter of a header names its form
+pub form-in : (file : List ℕ) (f : Form) (row rest : List ℕ) → file ≡ headerOf f row ++ rest → formIn file ≡ f
+form-in file f row rest e = ap formIn e ∙ go f
+  where
+    go : (f : Form) → formIn (headerOf f row ++ rest) ≡ f
+    go text = refl
+    go binary = refl
+
+-- tables that are long enough for every call are long enough to read; those that are long enough to read, with table 5 for every call
+pub room-to-read : (file : List ℕ) (c : Circuit) (lengths : List ℕ) → WellFormed c → Room c lengths → RoomToRead file c lengths
+room-to-read file c lengths w room =
+    let n = countsOf c in
+    short-with _ _ n lengths (λ (five : scratchToWork n ≤ lentFive lengths). omega (arith, read-less (formIn file) n (w .sum))) room
+
+pub room-to-work : (file : List ℕ) (c : Circuit) (lengths : List ℕ) → scratchToWork (countsOf c) ≤ lentFive lengths → RoomToRead file c lengths
+    → Room c lengths
+room-to-work file c lengths five room = short-with (scratchToRead (formIn file) (countsOf c)) _ (countsOf c) lengths (λ _. five) room
+
 module _ (v : Version) (file lengths : List ℕ) where
   -- what is accepted is stated
   pub sound : Bytes file → (c : Circuit) (start : ℕ) → readFile v file lengths ≡ got c start
-      → States v file c (drop start file) × Room c lengths
+      → States v file c (drop start file) × RoomToRead file c lengths
   sound bytes c start q =
       let t1 = then-got (header v file 0) _ c start q in
       let n = t1 .0 .counts in
-      let u = unless-got (short (against 1 (wordsToRead n) lengths)) _ _ c start (t1 .3) in
+      let u = unless-got (short (against 1 (wordsToRead (t1 .0 .form) n) lengths)) _ _ c start (t1 .3) in
       let t2 = then-got (body v file (t1 .0 .form) n (t1 .1)) _ c start (u .1) in
       let t3 = then-got (tailAt v file n (t2 .1)) _ c start (t2 .3) in
       let w1 = unless-got (undefinedIn (t2 .0)) _ _ c start (t3 .3) in
@@ -120,10 +139,12 @@ module _ (v : Version) (file lengths : List ℕ) where
       let r = tail-exactly v file n (t2 .1) .0 (t3 .0, t3 .1, t3 .2) in
       let b = by-form v file (t2 .0) bytes (t1 .0 .form) n (t1 .1) (t2 .1) (h .0) (h .1) (h .2) (h .3) (h .4) (t2 .2) r (w1 .0) (w2 .0) in (
         subst₂ (λ (x : Circuit) (y : ℕ). States v file x (drop y file)) c-is s-is (b .0),
-        ap (λ (x : Counts). short (against 1 (wordsToRead x) lengths)) (ap countsOf (sym c-is) ∙ b .1) ∙ u .0,
+        ap₂ (λ (f : Form) (x : Counts). short (against 1 (wordsToRead f x) lengths)) (form-in file (t1 .0 .form) (h .0) _ (h .1))
+            (ap countsOf (sym c-is) ∙ b .1) ∙ u .0,
       )
 
-  finish : (f : Form) (c : Circuit) (at start : ℕ) (tail : List ℕ) → WellFormed c → TailOk v (countsOf c) tail → Room c lengths
+  finish : (f : Form) (c : Circuit) (at start : ℕ) (tail : List ℕ) → WellFormed c → TailOk v (countsOf c) tail
+      → short (against 1 (wordsToRead f (countsOf c)) lengths) ≡ none
       → header v file 0 ≡ got (record { form = f; counts = countsOf c }) at → body v file f (countsOf c) at ≡ got c start
       → drop start file ≡ tail
       → Accepts v file lengths c tail
@@ -142,21 +163,33 @@ module _ (v : Version) (file lengths : List ℕ) where
       )
 
   -- what is stated is accepted
-  pub complete : (c : Circuit) (tail : List ℕ) → States v file c tail → Room c lengths → Accepts v file lengths c tail
+  abbrev asked : Circuit → Form → Option ℕ
+  asked c f = short (against 1 (wordsToRead f (countsOf c)) lengths)
+
+  pub complete : (c : Circuit) (tail : List ℕ) → States v file c tail → RoomToRead file c lengths → Accepts v file lengths c tail
   complete c tail (asText s e w t) room =
       let r1 = header-reads file v 0 text (countsOf c) (s .counts) (textLines (s .latches) c ++ tail) (s .all-counts) (all-most c w)
       (le-leb _ _ (w .sum)) (e ∙ append-assoc (headerOf text (s .counts)) (textLines (s .latches) c) tail) in
       let r2 = text-reads file v c (s .latches) (r1 .0) tail w (s .all-latches) (r1 .2) in
-      finish text c (r1 .0) (r2 .0) tail w t room (r1 .1) (r2 .1) (r2 .2)
+      finish text c (r1 .0) (r2 .0) tail w t (ap (asked c) (sym (ap formIn e)) ∙ room) (r1 .1) (r2 .1) (r2 .2)
   complete c tail (asBinary s e o w t) room =
       let o′ = order-exactly c .0 o in
       let r1 = header-reads file v 0 binary (countsOf c) (s .counts) (binaryLines (s .latches) c ++ tail) (s .all-counts) (all-most c w)
       (eq-eqb _ _ (o′ .sum)) (e ∙ append-assoc (headerOf binary (s .counts)) (binaryLines (s .latches) c) tail) in
       let r2 = binary-reads file v c (s .latches) (r1 .0) tail w o′ (s .all-latches) (r1 .2) in
-      finish binary c (r1 .0) (r2 .0) tail w t room (r1 .1) (r2 .1) (r2 .2)
+      finish binary c (r1 .0) (r2 .0) tail w t (ap (asked c) (sym (ap formIn e)) ∙ room) (r1 .1) (r2 .1) (r2 .2)
+
+-- a file that is read for calls that follow is read, and their tables are long enough
+pub work-read : (file lengths later : List ℕ) (c : Circuit) (start : ℕ) → readToWork file lengths later ≡ got c start
+    → (readFile V19 file lengths ≡ got c start) × Room c later
+work-read file lengths later c start q =
+    let t = then-got (readFile V19 file lengths) _ c start q in
+    let u = unless-got (short (against 1 (wordsToWork (countsOf (t .0))) later)) _ _ c start (t .3) in
+    let c-is : t .0 ≡ c = got-value (t .0) c (t .1) start (u .1) in
+    (t .2 ∙ u .1, subst (λ (d : Circuit). Room d later) c-is (u .0))
 
 -- with room: exactly if
-pub exactly : (v : Version) (file lengths : List ℕ) → Bytes file → (c : Circuit) (tail : List ℕ) → Room c lengths
+pub exactly : (v : Version) (file lengths : List ℕ) → Bytes file → (c : Circuit) (tail : List ℕ) → RoomToRead file c lengths
     → Accepts v file lengths c tail ↔ States v file c tail
 exactly v file lengths bytes c tail room =
     (λ a. subst (States v file c) (a .2) (sound v file lengths bytes c (a .0) (a .1) .0), λ s. complete v file lengths c tail s room)
@@ -185,8 +218,10 @@ room-huge c w =
 -- a file states at most one circuit and one tail
 pub unique : (v : Version) (file : List ℕ) (c d : Circuit) (t u : List ℕ) → States v file c t → States v file d u → (c ≡ d) × (t ≡ u)
 unique v file c d t u s r =
-    let a = complete v file huge c t s (room-huge c (formed v file c t s)) in
-    let b = complete v file huge d u r (room-huge d (formed v file d u r)) in
+    let w = formed v file c t s in
+    let x = formed v file d u r in
+    let a = complete v file huge c t s (room-to-read file c huge w (room-huge c w)) in
+    let b = complete v file huge d u r (room-to-read file d huge x (room-huge d x)) in
     let p = sym (a .1) ∙ b .1 in
     (got-value c d (a .0) (b .0) p, sym (a .2) ∙ (ap (λ (x : ℕ). drop x file) (got-next c d (a .0) (b .0) p) ∙ b .2))
 

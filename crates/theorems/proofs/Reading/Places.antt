@@ -19,10 +19,10 @@ use Rattle.plan.specs.declared.Version.{Version}
 use Rattle.plan.specs.declared.Difference.{Difference}
 use Rattle.plan.specs.declared.Difference.the-variants.{Value, Ends, Bad}
 use Rattle.plan.specs.Literals.{varOf}
-use Rattle.plan.specs.Circuit.{Circuit, literalOf, heads, wordsToRead, against, short}
+use Rattle.plan.specs.Circuit.{Circuit, literalOf, heads, against, short}
 use Rattle.plan.specs.Depends.{undefinedIn, cyclicIn}
 use Rattle.plan.specs.Bytes.{classOf, digitClass, nameClass, span, numberBy, number, expect, goesOn, less, Placed, numbers, values, outside, twice, wrongReset, ownOf, line, lines, latchLineAt, latchLines}
-use Rattle.plan.specs.Header.{moreCounts, moreResets, Form, text, binary, letter, over, above0, adds, countsFrom, header}
+use Rattle.plan.specs.Header.{moreCounts, moreResets, Form, text, binary, letter, over, above0, adds, countsFrom, header, wordsToRead}
 use Rattle.plan.specs.Difference.{lowThen, groups, differenceAt, differenceSays, difference}
 use Rattle.plan.specs.Binary.{gate, gatesFrom}
 use Rattle.plan.specs.Tail.{Symbol, fits, symbol, endsLine, startsSymbol, tailFrom, tailAt}
@@ -224,7 +224,7 @@ module _ (file : List ℕ) where
   pub read-stays : (v : Version) (lengths : List ℕ) → Stays (readFile v file lengths)
   read-stays v lengths =
       stays-then (header v file 0) _ (header-stays v 0 (omega arith)) (λ h a h1.
-      stays-unless (short (against 1 (wordsToRead (h .counts)) lengths)) ShortTable _ (λ x e. absurd (omega arith))
+      stays-unless (short (against 1 (wordsToRead (h .form) (h .counts)) lengths)) ShortTable _ (λ x e. absurd (omega arith))
       (stays-then (body v file (h .form) (h .counts) a) _ (body-stays v (h .form) (h .counts) a h1) (λ c b h2.
       stays-then (tailAt v file (h .counts) b) _ (tail-stays v (h .counts) (suc (length file)) [] b h2) (λ _ _ h3.
       stays-unless (undefinedIn c) NotDefined _ (λ x e. absurd (omega arith))

@@ -1,15 +1,21 @@
 -- 4 names the least table that is too short, and nothing if all are long enough.
-use Prim.Native.Nat.{ℕ, _<_, _≤_, min}
+use Prim.Native.Nat.{ℕ, _+_, _*_, _<_, _≤_, min}
 use mathlib.Core.Path.{_≡_, refl, ap, subst}
 use mathlib.Core.Bool.{Bool, true, false, cond}
 use mathlib.Core.Option.{Option, none, some}
 use mathlib.Core.Logic.{_⊎_, inl, inr, _↔_}
-use mathlib.Core.List.{List, [], _∷_, _++_}
+use mathlib.Core.List.{List, [], _∷_, _++_, map}
 use native.Mathlib.Omega.{arith}
+use native.Mathlib.Nat.{le-refl}
 use native.Mathlib.Decide.{decLe}
 use borrow.Author.Tests.{leb-true, leb-false}
 use lib.Dec.{leb}
-use Rattle.plan.specs.Circuit.{Lent, orLess, short}
+use lib.ListN.{getD, drop}
+use Rattle.plan.specs.declared.Counts.{Counts}
+use Rattle.plan.specs.declared.Version.the-variants.{V19}
+use Rattle.plan.specs.Refusals.{got}
+use Rattle.plan.specs.Circuit.{Lent, orLess, short, against, wordsWith, scratchToWork}
+use Rattle.plan.specs.Header.{Form, text, binary, Head, header, scratchToRead, wordsToRead, wordsFor}
 
 abbrev pub AllLong : List Lent → Type 0
 AllLong [] = Unit {0}
@@ -91,3 +97,40 @@ same-short xs ys f g = go (short xs) (short-says xs) (short ys) (short-says ys)
     go none h (some t) k = absurd (none-short xs h t (g t (k .0)))
     go (some t) h none k = absurd (none-short ys k t (f t (h .0)))
     go (some t) h (some u) k = let e : t ≡ u = omega (arith, h .1 u (g u (k .0)), k .1 t (f t (h .0))) in ap some e
+
+-- the words lent as table 5
+abbrev pub lentFive : List ℕ → ℕ
+lentFive lengths = getD (drop 1 (drop 1 (drop 1 (drop 1 lengths)))) 0 0
+
+-- tables that are long enough, with other needs of table 5
+pub short-with : (s s′ : ℕ) (n : Counts) (lengths : List ℕ) → (s ≤ lentFive lengths → s′ ≤ lentFive lengths)
+    → short (against 1 (wordsWith s n) lengths) ≡ none → short (against 1 (wordsWith s′ n) lengths) ≡ none
+short-with s s′ n lengths five h =
+    let l = short-none (against 1 (wordsWith s n) lengths) .0 h in
+    let m = l .1 .1 .1 .1 in
+    short-none (against 1 (wordsWith s′ n) lengths) .1 (l .0, (l .1 .0, (l .1 .1 .0, (l .1 .1 .1 .0, (five (m .0), m .1)))))
+
+-- to read a file table 5 needs no more than for other calls
+pub read-less : (f : Form) (n : Counts) → n .I + n .L + n .A ≤ n .M → scratchToRead f n ≤ scratchToWork n
+read-less text n sum = omega arith
+read-less binary n sum = omega arith
+
+-- tables of exactly the words that the desk question names are long enough to read the file
+pub desk-enough : (file : List ℕ) (h : Head) (at : ℕ) → header V19 file 0 ≡ got h at
+    → short (against 1 (wordsToRead (h .form) (h .counts)) (map (wordsFor file) (1 ∷ 2 ∷ 3 ∷ 4 ∷ 5 ∷ []) ++ (0 ∷ map (wordsFor file) (7 ∷ 8 ∷ 9 ∷ []))))
+    ≡ none
+desk-enough file h at head =
+    let n = h .counts in
+    rw head (short-none (against 1 (wordsToRead (h .form) n) (wordsToRead (h .form) n)) .1 (
+      le-refl (n .I),
+      (
+        le-refl (2 * n .L),
+        (
+          le-refl (n .O),
+          (
+            le-refl (3 * n .A),
+            (le-refl (scratchToRead (h .form) n), (omega arith, (le-refl (n .L), (le-refl (n .B), (le-refl (n .C), tt))))),
+          ),
+        ),
+      ),
+    ))

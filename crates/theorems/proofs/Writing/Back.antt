@@ -13,7 +13,7 @@ use Rattle.plan.specs.Binary.{binaryOf, binaryOrder}
 use Rattle.plan.specs.Tail.{TailOk}
 use Rattle.plan.specs.Reading.{readFile, WellFormed, Room}
 use Rattle.theorems.proofs.Reading.Places.{start-within}
-use Rattle.theorems.proofs.Reading.Exactly.{Accepts, complete}
+use Rattle.theorems.proofs.Reading.Exactly.{Accepts, complete, room-to-read}
 use Rattle.theorems.proofs.Reading.Shortest.{states-text, states-binary}
 
 -- a tail that is handed back starts after the circuit's bytes
@@ -27,7 +27,11 @@ tail-starts bytes tail lengths c a =
 
 module _ (c : Circuit) (tail lengths : List ℕ) (w : WellFormed c) (t : TailOk V19 (countsOf c) tail) (room : Room c lengths) where
   pub text-back : readFile V19 (textOf c ++ tail) lengths ≡ got c (length (textOf c))
-  text-back = tail-starts (textOf c) tail lengths c (complete V19 (textOf c ++ tail) lengths c tail (states-text (textOf c ++ tail) c tail w t refl) room)
+  text-back =
+      tail-starts (textOf c) tail lengths c (complete V19 (textOf c ++ tail) lengths c tail (states-text (textOf c ++ tail) c tail w t refl)
+      (room-to-read (textOf c ++ tail) c lengths w room))
 
   pub binary-back : binaryOrder c ≡ true → readFile V19 (binaryOf c ++ tail) lengths ≡ got c (length (binaryOf c))
-  binary-back o = tail-starts (binaryOf c) tail lengths c (complete V19 (binaryOf c ++ tail) lengths c tail (states-binary (binaryOf c ++ tail) c tail w t refl o) room)
+  binary-back o =
+      tail-starts (binaryOf c) tail lengths c (complete V19 (binaryOf c ++ tail) lengths c tail (states-binary (binaryOf c ++ tail) c tail w t refl o)
+      (room-to-read (binaryOf c ++ tail) c lengths w room))

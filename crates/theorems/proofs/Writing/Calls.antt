@@ -81,7 +81,7 @@ read-states r =
     let e = r .entry in
     let l = load-left e (r .bytes) (r .counts) (r .start) (r .accepted) in
     let s = sound V19 (e .file) (lengthsOf (e .tables) (e .scratch)) (r .bytes) (l .0) (r .start) (l .1) in
-    subst (λ (c : Circuit). States V19 (e .file) c (readTail r)) (sym (l .2 .holds)) (s .0)
+    subst (λ (c : Circuit). States V19 (e .file) c (readTail r)) (sym (l .3)) (s .0)
 
 pub read-formed : (r : ReadCall) → WellFormed (readCircuit r)
 read-formed r = formed V19 (r .entry .file) (readCircuit r) (readTail r) (read-states r)

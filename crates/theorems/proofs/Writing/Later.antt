@@ -1,12 +1,12 @@
 -- What an accepted read, conversion or reduction leaves, every later call accepts: the tables hold the circuit and pass the checks of given
 -- tables; after a conversion or a reduction they are in binary order too.
 use Prim.Native.Nat.{ℕ, _+_, _*_, _≤_}
-use mathlib.Core.Path.{_≡_, refl, ap, ap₂, _∙_, subst}
+use mathlib.Core.Path.{_≡_, refl, sym, ap, ap₂, _∙_, subst}
 use mathlib.Core.Bool.{true}
 use mathlib.Core.Option.{Option, none, some}
 use mathlib.Core.List.{List, [], _∷_, _++_}
 use native.Mathlib.Omega.{arith}
-use lib.ListN.{length, length-replicate}
+use lib.ListN.{length, drop, length-replicate}
 use Rattle.plan.specs.declared.Version.the-variants.{V19}
 use Rattle.plan.specs.declared.Counts.{Counts}
 use Rattle.plan.specs.declared.Refusal.{Refusal}
@@ -15,7 +15,7 @@ use Rattle.plan.specs.declared.Loaded.the-variants as loaded
 use Rattle.plan.specs.declared.Checked.the-variants as checked
 use Rattle.plan.specs.declared.Made.the-variants as made
 use Rattle.plan.specs.Refusals.{Parse, got, refused, firstOf}
-use Rattle.plan.specs.Circuit.{Circuit, Tables, countsOf, wordsToRead, wordsToWork, against, short, lengthsOf, holding, cleared}
+use Rattle.plan.specs.Circuit.{Circuit, Tables, countsOf, circuitOf, scratchToWork, wordsToWork, against, short, lengthsOf, holding, cleared}
 use Rattle.plan.specs.Reading.{readFile, WellFormed, Room}
 use Rattle.plan.specs.Binary.{binaryOrder}
 use Rattle.plan.specs.Given.{Given, given, lentAlone, lentWith, failing, stages, orderStage}
@@ -23,7 +23,7 @@ use Rattle.plan.specs.Convert.{convert}
 use Rattle.plan.specs.Reduce.{reduce}
 use Rattle.plan.specs.Outcome.{ReadEntry, loadBy, load, checkedBy, check, checkInOrder, MakeEntry, madeBy, conversion, reduction}
 use Rattle.theorems.proofs.Reading.Differences.{Bytes}
-use Rattle.theorems.proofs.Reading.Exactly.{sound, formed}
+use Rattle.theorems.proofs.Reading.Exactly.{sound, formed, room-to-work}
 use Rattle.theorems.proofs.Reading.Short.{short-none, first-long, last-long}
 use Rattle.theorems.proofs.Running.Counts.{counts-convert, counts-reduce}
 use Rattle.theorems.proofs.Running.Results.{convert-well-formed, convert-in-order, reduce-well-formed, reduce-in-order, reduce-fewer}
@@ -54,7 +54,7 @@ module _ (c : Circuit) (t : Tables) (scratch : List ℕ) where
   -- the tables are as long as they were
   after-room : WellFormed c → Room c (lengthsOf t scratch) → short (lentAlone after) ≡ none
   after-room w room =
-      let l = short-none (against 1 (wordsToRead (countsOf c)) (lengthsOf t scratch)) .0 room in
+      let l = short-none (against 1 (wordsToWork (countsOf c)) (lengthsOf t scratch)) .0 room in
       let enough : Enough c t = record {
         inputs = l .0;
         latches = l .1 .0;
@@ -64,7 +64,7 @@ module _ (c : Circuit) (t : Tables) (scratch : List ℕ) where
         bads = l .1 .1 .1 .1 .1 .1 .1 .0;
         constraints = l .1 .1 .1 .1 .1 .1 .1 .1 .0;
       } in
-      ap (λ (x : List ℕ). short (against 1 (wordsToRead (countsOf c)) x))
+      ap (λ (x : List ℕ). short (against 1 (wordsToWork (countsOf c)) x))
       (holding-lengths t c (cleared scratch) enough ∙ same-length (length-replicate {A = ℕ} (length scratch) 0))
       ∙ room
     where
@@ -79,23 +79,29 @@ module _ (c : Circuit) (t : Tables) (scratch : List ℕ) where
     fine = fine-nothing after (lentAlone after) (formed-fine after (lentAlone after) c (holding-circuit t c w) refl w (after-room w room));
   }
 
--- after reading
+-- after reading, where table 5 is long enough for later calls: a binary file may have been read with less
 pub load-left : (e : ReadEntry) → Bytes (e .file) → (n : Counts) (start : ℕ) → load e .answer ≡ loaded.Accepted n start
     → (c : Circuit) × (readFile V19 (e .file) (lengthsOf (e .tables) (e .scratch)) ≡ got c start)
-    × Left (record { counts = n; tables = load e .tables; scratch = load e .scratch }) c
+    × (n ≡ countsOf c) × (circuitOf n (load e .tables) ≡ c)
+    × (scratchToWork n ≤ length (e .scratch) → Left (record { counts = n; tables = load e .tables; scratch = load e .scratch }) c)
 load-left e bytes n start a = go (readFile V19 (e .file) (lengthsOf (e .tables) (e .scratch))) refl a
   where
     go : (p : Parse Circuit) → readFile V19 (e .file) (lengthsOf (e .tables) (e .scratch)) ≡ p
         → loadBy e p .answer ≡ loaded.Accepted n start
-        → (c : Circuit) × (p ≡ got c start) × Left (record { counts = n; tables = loadBy e p .tables; scratch = loadBy e p .scratch }) c
+        → (c : Circuit) × (p ≡ got c start) × (n ≡ countsOf c) × (circuitOf n (loadBy e p .tables) ≡ c)
+        × (scratchToWork n ≤ length (e .scratch) → Left (record { counts = n; tables = loadBy e p .tables; scratch = loadBy e p .scratch }) c)
     go (got c s) q a =
         let n-is : countsOf c ≡ n = cc in
         let s-is : s ≡ start = cc in
-        let r = sound V19 (e .file) (lengthsOf (e .tables) (e .scratch)) bytes c s q in (
+        let r = sound V19 (e .file) (lengthsOf (e .tables) (e .scratch)) bytes c s q in
+        let w = formed V19 (e .file) c (drop s (e .file)) (r .0) in (
           c,
           ap (got c) s-is,
-          subst (λ (x : Counts). Left (record { counts = x; tables = holding (e .tables) c; scratch = cleared (e .scratch) }) c) n-is
-              (left c (e .tables) (e .scratch) (formed V19 (e .file) c _ (r .0)) (r .1)),
+          sym n-is,
+          ap (λ (x : Counts). circuitOf x (holding (e .tables) c)) (sym n-is) ∙ holding-circuit (e .tables) c w,
+          λ five. subst (λ (x : Counts). Left (record { counts = x; tables = holding (e .tables) c; scratch = cleared (e .scratch) }) c) n-is
+              (left c (e .tables) (e .scratch) w (room-to-work (e .file) c (lengthsOf (e .tables) (e .scratch))
+              (subst (λ (x : Counts). scratchToWork x ≤ length (e .scratch)) (sym n-is) five) (r .1))),
         )
     go (refused r) q a = let z : _≡_ {A = ℕ} 0 1 = cc in absurd (omega arith)
 
@@ -129,7 +135,7 @@ module _ (e : MakeEntry) (f : firstOf (stages (e .circuit) (lentWith (e .circuit
       let h7 : length (c .latches) ≤ length (e .written .resets) = omega (arith, s .1 .1 .1 .1 .1 .1 .0) in
       let h8 : length (c .bads) ≤ length (e .written .bads) = omega (arith, s .1 .1 .1 .1 .1 .1 .1 .0) in
       let h9 : length (c .constraints) ≤ length (e .written .constraints) = omega (arith, s .1 .1 .1 .1 .1 .1 .1 .1 .0) in
-      short-none (against 1 (wordsToRead (countsOf c)) (lengthsOf (e .written) (g .scratch))) .1
+      short-none (against 1 (wordsToWork (countsOf c)) (lengthsOf (e .written) (g .scratch))) .1
       (h1, (h2, (h3, (h4, (h5, (omega arith, (h7, (h8, (h9, tt)))))))))
 
 made-left : (o : Option Refusal) (e : MakeEntry) (c : Circuit) (n : Counts) → madeBy o e c .answer ≡ made.Accepted n

@@ -17,7 +17,7 @@ use Rattle.plan.specs.Bytes.{shortest}
 use Rattle.plan.specs.Text.{textLines, textLatches, textOf}
 use Rattle.plan.specs.Binary.{binaryLines, binaryLatches, binaryOf, binaryOrder}
 use Rattle.plan.specs.Tail.{TailOk}
-use Rattle.plan.specs.Reading.{readFile, WellFormed, States, asText, asBinary, Shortest, shortText, shortBinary, Room}
+use Rattle.plan.specs.Reading.{readFile, readToWork, WellFormed, States, asText, asBinary, Shortest, shortText, shortBinary, Room}
 use Rattle.plan.specs.Convert.{convert}
 use Rattle.plan.specs.Programs.{lentWords, otherForm, fitting, printed, converter}
 use Rattle.theorems.proofs.Reading.Common.{not-got, got-value}
@@ -32,7 +32,7 @@ use Rattle.theorems.proofs.Writing.Back.{text-back, binary-back}
 -- a file in the other form: what the converter writes
 abbrev pub inOtherForm : List ℕ → List ℕ → Parse (List ℕ)
 inOtherForm file lengths =
-    readFile V19 file lengths then λ c start. header V19 file 0 then λ h _. got (otherForm (h .form) c ++ drop start file) start
+    readToWork file lengths lengths then λ c start. header V19 file 0 then λ h _. got (otherForm (h .form) c ++ drop start file) start
 
 module _ (c : Circuit) (tail lengths : List ℕ) (w : WellFormed c) (t : TailOk V19 (countsOf c) tail) (room : Room c lengths) where
   text-header : (at : ℕ) × (header V19 (textOf c ++ tail) 0 ≡ got (record { form = text; counts = countsOf c }) at)
@@ -45,7 +45,7 @@ module _ (c : Circuit) (tail lengths : List ℕ) (w : WellFormed c) (t : TailOk 
 
   pub text-converted : inOtherForm (textOf c ++ tail) lengths ≡ got (binaryOf (convert c) ++ tail) (length (textOf c))
   text-converted =
-      rw (text-back c tail lengths w t room, text-header .1)
+      rw (text-back c tail lengths w t room, room, text-header .1)
       (ap (λ (x : List ℕ). got (binaryOf (convert c) ++ x) (length (textOf c))) (drop-append-seam (textOf c) tail))
 
   module _ (o : binaryOrder c ≡ true) where
@@ -60,7 +60,7 @@ module _ (c : Circuit) (tail lengths : List ℕ) (w : WellFormed c) (t : TailOk 
 
     pub binary-converted : inOtherForm (binaryOf c ++ tail) lengths ≡ got (textOf c ++ tail) (length (binaryOf c))
     binary-converted =
-        rw (binary-back c tail lengths w t room o, binary-header .1)
+        rw (binary-back c tail lengths w t room o, room, binary-header .1)
         (ap (λ (x : List ℕ). got (textOf c ++ x) (length (binaryOf c))) (drop-append-seam (binaryOf c) tail))
 
     -- in binary order nothing is changed on the way
@@ -112,23 +112,23 @@ module _ (file lengths : List ℕ) (c : Circuit) where
   pub states-back : (tail : List ℕ) → States V19 file c tail → Shortest file c tail → Room c lengths → binaryOrder c ≡ true → BackAgain file lengths
   states-back tail s p room o = shortest-back tail (formed V19 file c tail s) (stated-tail file c tail s) p room o
 
-  -- of an accepted file in the shortest form
+  -- of an accepted file in the shortest form, with room for the calls that follow
   module _ (bytes : Bytes file) (start : ℕ) (accepted : readFile V19 file lengths ≡ got c start) where
-    pub back-again : Shortest file c (drop start file) → binaryOrder c ≡ true → BackAgain file lengths
-    back-again p o = let s = sound V19 file lengths bytes c start accepted in states-back (drop start file) (s .0) p (s .1) o
+    pub back-again : Shortest file c (drop start file) → Room c lengths → binaryOrder c ≡ true → BackAgain file lengths
+    back-again p room o = states-back (drop start file) (sound V19 file lengths bytes c start accepted .0) p room o
 
     -- a binary file that is accepted is in binary order
     module _ (h : Head) (at : ℕ) (head : header V19 file 0 ≡ got h at) (form : h .form ≡ binary) where
       pub binary-in-order : binaryOrder c ≡ true
       binary-in-order = binary-stated file c (drop start file) h at head form (sound V19 file lengths bytes c start accepted .0)
 
-      pub binary-back-again : Shortest file c (drop start file) → BackAgain file lengths
-      binary-back-again p = back-again p binary-in-order
+      pub binary-back-again : Shortest file c (drop start file) → Room c lengths → BackAgain file lengths
+      binary-back-again p room = back-again p room binary-in-order
 
 -- the converter, run on what it wrote, where both files are as long as an input may be
 converts : (file other : List ℕ) → ((n : ℕ) × (inOtherForm file lentWords ≡ got other n)) → length file ≤ 65536 → length other ≤ 65536
     → converter (some file) ≡ other
-converts file other q h k = rw (le-leb (length file) 65536 h) (go (readFile V19 file lentWords) (header V19 file 0) (q .1))
+converts file other q h k = rw (le-leb (length file) 65536 h) (go (readToWork file lentWords lentWords) (header V19 file 0) (q .1))
   where
     go : (p : Parse Circuit) (r : Parse Head)
         → (p then λ c start. r then λ h _. got (otherForm (h .form) c ++ drop start file) start) ≡ got other (q .0)

@@ -20,7 +20,7 @@ use Rattle.plan.specs.Reading.{WellFormed, States, Room, Shortest, shortText, s
 use Rattle.plan.specs.Given.{Given, given, lentAlone, failing, stages, orderStage, refusalOf, tailStage, roomStage}
 use Rattle.plan.specs.Outcome.{ReadEntry, ReadExit, read, FileEntry, writtenBy, writeText, writeBinary}
 use Rattle.theorems.proofs.Put.{put-first}
-use Rattle.theorems.proofs.Reading.Exactly.{Accepts, complete}
+use Rattle.theorems.proofs.Reading.Exactly.{Accepts, complete, formed, room-to-read}
 use Rattle.theorems.proofs.Reading.Shortest.{states-text, states-binary}
 use Rattle.theorems.proofs.Reading.Tails.{tail-exactly}
 use Rattle.theorems.proofs.Writing.Nothing.{some-none, stage-none, failing-none, first-all, first-both}
@@ -105,12 +105,17 @@ module _ (e : FileEntry) (k : ℕ) where
 
 -- read with tables that have room, it is the circuit and the tail again
 module _ (e : FileEntry) (k : ℕ) (lengths : List ℕ) (room : Room (given (e .circuit)) lengths) where
+  back : (file : List ℕ) → States V19 file (given (e .circuit)) (e .tail) → Accepts V19 file lengths (given (e .circuit)) (e .tail)
+  back file s =
+      let c = given (e .circuit) in
+      complete V19 file lengths c (e .tail) s (room-to-read file c lengths (formed V19 file c (e .tail) s) room)
+
   pub text-read-back : writeText e .answer ≡ written.Bytes k → Accepts V19 (take k (writeText e .out)) lengths (given (e .circuit)) (e .tail)
-  text-read-back a = complete V19 (take k (writeText e .out)) lengths (given (e .circuit)) (e .tail) (text-states e k a) room
+  text-read-back a = back (take k (writeText e .out)) (text-states e k a)
 
   pub binary-read-back : writeBinary e .answer ≡ written.Bytes k
       → Accepts V19 (take k (writeBinary e .out)) lengths (given (e .circuit)) (e .tail)
-  binary-read-back a = complete V19 (take k (writeBinary e .out)) lengths (given (e .circuit)) (e .tail) (binary-states e k a) room
+  binary-read-back a = back (take k (writeBinary e .out)) (binary-states e k a)
 
 -- what `read` answers and leaves where the reader accepts
 pub read-accepts : (r : ReadEntry) (c : Circuit) (tail : List ℕ)
