@@ -1,7 +1,7 @@
 // What follows the header of the binary form: a next state for each latch, possibly with a reset, and what is observed as lines, then the
 // gates as differences (AIGER report, sections 11 and 12).
 ghost use mathlib.Core.Path.{_≡_};
-ghost use Prim.Native.Nat.{_+_, _*_, _<_, _≤_};
+ghost use Prim.Native.Nat.{_+_, _*_, _≤_};
 ghost use lib.ListN.{length};
 ghost use Rattle.plan.specs.Literals.{most};
 ghost use Rattle.plan.specs.Circuit.{seven};
@@ -16,8 +16,8 @@ use plan::Counts;
 use plan::Passed;
 use plan::Version;
 
-// Reads the body into tables 1 to 4 and 7 to 9. Nothing is defined twice here, so marks of any content will do: they are lent only because
-// lines are read by one reader. After a refusal nothing is promised of the tables: the caller clears them.
+// Reads the body into tables 1 to 4 and 7 to 9. Nothing is defined twice here, so marks of any length and content will do: they are lent only
+// because lines are read by one reader. After a refusal nothing is promised of the tables: the caller clears them.
 pub fn read_binary(
     version: Version,
     file: &[u8],
@@ -41,7 +41,6 @@ pub fn read_binary(
     requires { ⌜ n .L ≤ length (now resets) ⌝ }
     requires { ⌜ n .B ≤ length (now bads) ⌝ }
     requires { ⌜ n .C ≤ length (now constraints) ⌝ }
-    requires { ⌜ n .M < length (now marks) ⌝ }
     ensures { λ r. ⌜ BodySays
         (seven (now (inputs .entry)) (now (latches .entry)) (now (outputs .entry)) (now (gates .entry))
         (now (resets .entry)) (now (bads .entry)) (now (constraints .entry)))

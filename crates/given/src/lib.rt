@@ -25,6 +25,7 @@ use sequence::in_binary_order;
 use tables::Sizes;
 use tables::clear;
 use tables::lengths;
+use tables::scratch_to_work;
 use tables::shorter;
 use tables::too_short;
 
@@ -111,7 +112,8 @@ fn lent_enough(n: Counts, to: Sizes, scratch: usize) -> Checked
     if !adds_up(n) {
         return Checked::Refused(Refusal::WrongSum(0));
     }
-    let short = too_short(n, to, scratch);
+    let needed = scratch_to_work(n);
+    let short = too_short(n, to, needed, scratch);
     if short != 0 {
         return Checked::Refused(Refusal::ShortTable(short));
     }

@@ -11,10 +11,9 @@ use Rattle.plan.specs.declared.Refusal.{Refusal}
 use Rattle.plan.specs.declared.Version.{Version}
 use Rattle.plan.specs.Refusals.{Parse, got, refused}
 use Rattle.plan.specs.Header.{Form, text, binary, listOf, adds, Head, header}
-use Rattle.plan.specs.Outcome.{isBinary, headedBy}
+use Rattle.plan.specs.Outcome.{isBinary, headedBy, formOf}
 use Rattle.theorems.proofs.Reading.Headers.{AllMost, header-took}
 use Rattle.theorems.proofs.Reading.Places.{Stays, on, header-stays}
-use Rattle.header.specs.Parts.{formOf}
 
 pub record Took (v : Version) (file : List ℕ) (b : Bool) (n : Counts) (next : ℕ) : Type 0 where
   pub head : header v file 0 ≡ got (record { form = formOf b; counts = n }) next

@@ -20,14 +20,14 @@ use Rattle.plan.specs.Literals.{most}
 use Rattle.plan.specs.Refusals.{Parse, got, refused, _then_, unless}
 use Rattle.plan.specs.Bytes.{Placed, numbers, values}
 use Rattle.plan.specs.Header.{moreCounts, Form, countsFrom, over, above0, adds, Head}
-use Rattle.plan.specs.Outcome.{passedBy, put, headedBy}
+use Rattle.plan.specs.Outcome.{passedBy, put, headedBy, formOf}
 use Rattle.theorems.proofs.Marks.{zeros}
 use Rattle.theorems.proofs.Reading.Cut.{cut}
 use Rattle.theorems.proofs.Reading.Headers.{counts-at-most, values-drop}
 use Rattle.theorems.proofs.Reading.Lines.{numbers-took}
 use Rattle.lines.specs.Rows.{placesOf, Numbered}
 use Rattle.lines.proofs.Numbers.{values-length, places-length}
-use Rattle.header.specs.Parts.{formOf, Above, counted, sums}
+use Rattle.header.specs.Parts.{Above, counted, sums}
 
 passed-to : {A : Type 0} (p : Parse A) (next : ℕ) → To next ≡ passedBy p → (a : A) × (p ≡ got a next)
 passed-to (got a n) next e = (a, ap (got a) (cc))

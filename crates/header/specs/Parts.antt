@@ -8,15 +8,10 @@ use Rattle.plan.specs.declared.Counts.{Counts}
 use Rattle.plan.specs.declared.Version.{Version}
 use Rattle.plan.specs.declared.Refusal.the-variants.{WrongByte, LargeCount, WrongSum, Justice}
 use Rattle.plan.specs.Refusals.{Parse, got, refused, _then_, unless}
-use Rattle.plan.specs.Circuit.{wordsToRead}
 use Rattle.plan.specs.Bytes.{numbers, values}
-use Rattle.plan.specs.Header.{moreCounts, Form, text, binary, countsFrom, over, above0, adds, Head}
+use Rattle.plan.specs.Header.{moreCounts, Form, text, binary, countsFrom, over, above0, adds, Head, wordsToRead}
 use Rattle.header.specs.declared.Magic.{Magic}
 use Rattle.header.specs.declared.Magic.the-variants.{Text, Binary, Wrong}
-
-abbrev pub formOf : Bool → Form
-formOf true = binary
-formOf false = text
 
 -- "g " after the letter of a form
 abbrev pub magicEnd : List ℕ → Magic → Magic
@@ -56,5 +51,5 @@ sums true sum m = eqb sum m
 sums false sum m = leb sum m
 
 -- the words of table t
-abbrev pub wordsOf : Counts → ℕ → ℕ
-wordsOf n t = cond ((leb 1 t && leb t 5) || (leb 7 t && leb t 9)) (getD (wordsToRead n) (t - 1) 0) (2 ^ 64 - 1)
+abbrev pub wordsOf : Form → Counts → ℕ → ℕ
+wordsOf form n t = cond ((leb 1 t && leb t 5) || (leb 7 t && leb t 9)) (getD (wordsToRead form n) (t - 1) 0) (2 ^ 64 - 1)

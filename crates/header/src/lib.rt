@@ -2,9 +2,9 @@
 ghost use mathlib.Core.Path.{_≡_};
 ghost use Prim.Native.Nat.{_≤_};
 ghost use Rattle.plan.specs.Header.{moreCounts, header, wordsFor, listOf};
-ghost use Rattle.plan.specs.Outcome.{headedBy};
+ghost use Rattle.plan.specs.Outcome.{headedBy, formOf};
 ghost use Rattle.theorems.proofs.Reading.Headers.{AllMost};
-ghost use Rattle.header.specs.Parts.{formOf, magicEnd, magic, Above, counted, sums, wordsOf};
+ghost use Rattle.header.specs.Parts.{magicEnd, magic, Above, counted, sums, wordsOf};
 use classes::stands;
 use lines::read_numbers;
 use plan::Counts;
@@ -12,6 +12,7 @@ use plan::Headed;
 use plan::Passed;
 use plan::Refusal;
 use plan::Version;
+use tables::scratch_to_read;
 
 // No table has this number, or the file no header.
 const NONE: u64 = 18446744073709551615;
@@ -136,17 +137,17 @@ pub fn read_header(version: Version, file: &[u8]) -> Headed
     }
 }
 
-// How many words a table needs, each count being at most the limit: 2 words to a latch, 3 to a gate.
-fn words_of(n: Counts, table: u64) -> u64
+// How many words a table needs to read a file of a form, each count being at most the limit: 2 words to a latch, 3 to a gate.
+fn words_of(binary: bool, n: Counts, table: u64) -> u64
     requires { ⌜ AllMost (listOf n) ⌝ }
-    ensures { λ r. ⌜ r ≡ wordsOf n table ⌝ }
+    ensures { λ r. ⌜ r ≡ wordsOf (formOf binary) n table ⌝ }
 {
     match table {
         1 => n.I as u64,
         2 => 2 * (n.L as u64),
         3 => n.O as u64,
         4 => 3 * (n.A as u64),
-        5 => 4 * (n.M as u64 + 1) + n.O as u64 + n.B as u64 + n.C as u64,
+        5 => scratch_to_read(binary, n) as u64,
         7 => n.L as u64,
         8 => n.B as u64,
         9 => n.C as u64,
@@ -154,12 +155,12 @@ fn words_of(n: Counts, table: u64) -> u64
     }
 }
 
-// How many words a table needs for the file's header, 2 ^ 64 - 1 if there is no such table or the header is refused.
+// How many words a table needs to read a file with this header, 2 ^ 64 - 1 if there is no such table or the header is refused.
 pub fn words(file: &[u8], table: u64) -> u64
     ensures { λ r. ⌜ r ≡ wordsFor (now (file .entry)) table ⌝ }
 {
     match read_header(Version::V19, file) {
         Headed::Refused(_) => NONE,
-        Headed::Accepted(_, n, _) => words_of(n, table),
+        Headed::Accepted(binary, n, _) => words_of(binary, n, table),
     }
 }

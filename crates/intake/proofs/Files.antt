@@ -15,18 +15,17 @@ use Rattle.plan.specs.Refusals.{Parse, got, refused, _then_, unless}
 use Rattle.plan.specs.Circuit.{Circuit, Tables, lengthsOf, allCleared, cleared}
 use Rattle.plan.specs.Header.{Form, text, binary, Head, header}
 use Rattle.plan.specs.Binary.{binaryOf}
-use Rattle.plan.specs.Reading.{readFile}
 use Rattle.plan.specs.Given.{Given, room}
 use Rattle.plan.specs.Convert.{convert}
 use Rattle.plan.specs.Reduce.{reduce}
 use Rattle.plan.specs.Programs.{input, otherForm}
-use Rattle.plan.specs.Outcome.{WriteExit, putBy, putBytes, isBinary, headedBy}
+use Rattle.plan.specs.Outcome.{WriteExit, putBy, putBytes, isBinary, headedBy, formOf}
 use Rattle.plan.specs.Whole.{WholeEntry, WholeExit, inputOf, fittingIn, wholeBy}
 use Rattle.tables.specs.declared.Sizes.{Sizes}
 use Rattle.tables.specs.Lengths.{sizesOf}
-use Rattle.header.specs.Parts.{formOf}
 use Rattle.read.proofs.Answers.{part-from}
 use Rattle.theorems.proofs.Reading.Common.{not-got, then-got, cond-got}
+use Rattle.theorems.proofs.Reading.Exactly.{work-read}
 use Rattle.intake.specs.Opening.{OpenEntry, opening, opened, Ready}
 use Rattle.intake.specs.Parts.{convertedFile, reducedFile, toldBy, binaryBy}
 
@@ -88,8 +87,8 @@ module _ (readable : Bool) (file : List ℕ) (read made : Tables) (scratch out :
   headed false c start q = absurd (not-got (Unreadable 0) c start q)
   headed true c start q =
       let p = cond-got (leb (length file) 65536) (opening e file) (LongInput 65536) c start q in
-      let r = then-got (readFile V19 file (lengthsOf read scratch)) _ c start (p .1) in
-      let s = then-got (header V19 file 0) _ (r .0) (r .1) (r .2) in
+      let r = work-read file (lengthsOf read scratch) (lengthsOf made scratch) c start (p .1) in
+      let s = then-got (header V19 file 0) _ c start (r .0) in
       (s .0, s .1, s .2)
 
   module _ (c : Circuit) (start : ℕ) (q : opened e ≡ got c start) where

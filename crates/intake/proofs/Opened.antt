@@ -12,19 +12,20 @@ use Rattle.plan.specs.declared.Version.the-variants.{V19}
 use Rattle.plan.specs.declared.Refusal.{Refusal}
 use Rattle.plan.specs.declared.Refusal.the-variants.{ShortTable, LongInput, Unreadable}
 use Rattle.plan.specs.declared.Loaded.the-variants as loaded
-use Rattle.plan.specs.Literals.{most}
 use Rattle.plan.specs.Refusals.{Parse, got, refused, _then_, unless}
-use Rattle.plan.specs.Circuit.{Circuit, countsOf, lengthsOf, wordsToWork, against, short}
+use Rattle.plan.specs.Circuit.{Circuit, countsOf, circuitOf, lengthsOf, wordsWith, scratchToWork, wordsToWork, against, short}
+use Rattle.plan.specs.Header.{listOf}
 use Rattle.plan.specs.Tail.{TailOk}
 use Rattle.plan.specs.Reading.{readFile, States, asText, asBinary}
-use Rattle.plan.specs.Given.{Given, given, lentAlone}
+use Rattle.plan.specs.Given.{Given, given}
 use Rattle.plan.specs.Programs.{input}
 use Rattle.plan.specs.Outcome.{ReadEntry, LoadExit, load, loadBy}
 use Rattle.plan.specs.Whole.{inputOf}
 use Rattle.theorems.proofs.Reading.Differences.{Bytes}
-use Rattle.theorems.proofs.Reading.Exactly.{sound}
+use Rattle.theorems.proofs.Reading.Exactly.{all-most, sound, formed}
+use Rattle.theorems.proofs.Reading.Headers.{AllMost}
 use Rattle.theorems.proofs.Reading.Places.{start-within}
-use Rattle.theorems.proofs.Writing.Fine.{Fine, nothing-fine}
+use Rattle.theorems.proofs.Reading.Short.{short-none}
 use Rattle.theorems.proofs.Writing.Later.{Left, load-left}
 use Rattle.tables.specs.Lengths.{lengthsIn, tableOf}
 use Rattle.tables.proofs.Told.{some-table, no-table}
@@ -75,33 +76,39 @@ module _ (e : OpenEntry) where
           g = record { counts = n; tables = x .tables; scratch = x .scratch }
 
           -- the circuit that the file states
-          read-is : (c : Circuit) × (parse ≡ got c start) × Left g c
+          read-is : (c : Circuit) × (parse ≡ got c start) × (n ≡ countsOf c) × (given g ≡ c)
+              × (scratchToWork n ≤ length (e .scratch) → Left g c)
           read-is =
               let l = load-left (reading e) bytes n start (ap (λ (y : LoadExit). y .answer) (sym said) ∙ a) in (
                 l .0,
                 l .1,
-                subst (λ (y : LoadExit). Left (record { counts = n; tables = y .tables; scratch = y .scratch }) (l .0)) (sym said) (l .2),
+                l .2,
+                ap (λ (y : LoadExit). circuitOf n (y .tables)) said ∙ l .3,
+                λ five. subst (λ (y : LoadExit). Left (record { counts = n; tables = y .tables; scratch = y .scratch }) (l .0)) (sym said)
+                    (l .4 five),
               )
 
-          fine : Fine g (lentAlone g)
-          fine = nothing-fine g (lentAlone g) (read-is .2 .fine)
+          states : States V19 (e .file) (read-is .0) (drop start (e .file))
+          states = sound V19 (e .file) (lengthsOf (e .tables) (e .scratch)) bytes (read-is .0) start (read-is .1) .0
 
-          pub limits : (n .M ≤ most) × (n .L ≤ most) × (n .O ≤ most) × (n .A ≤ most) × (n .B ≤ most) × (n .C ≤ most)
+          pub limits : AllMost (listOf n)
           limits =
-              let s = fine .small in
-              (s .0, s .1 .1 .0, s .1 .1 .1 .0, s .1 .1 .1 .1 .0, s .1 .1 .1 .1 .1 .0, s .1 .1 .1 .1 .1 .1 .0)
+              subst (λ (m : Counts). AllMost (listOf m)) (sym (read-is .2))
+              (all-most (read-is .0) (formed V19 (e .file) (read-is .0) (drop start (e .file)) states))
 
           opens-to : opened e ≡ unless (shortIn n (e .made) (e .scratch)) ShortTable (got (given g) start)
           opens-to =
-              let c = read-is .0 in
-              let l = read-is .2 in
               here ∙ (ap (λ (q : Parse Circuit). q then λ c start.
               unless (shortIn (countsOf c) (e .made) (e .scratch)) ShortTable (got c start)) (read-is .1)
               ∙ ap₂ (λ (m : Counts) (d : Circuit). unless (shortIn m (e .made) (e .scratch)) ShortTable (got d start))
-              (sym (l .counts)) (sym (l .holds)))
+              (sym (read-is .2)) (sym (read-is .3)))
 
           -- the answer on tables of these sizes, and scratch as it is now
-          module _ (k : ℕ) (told : tableOf k ≡ shortIn n (e .made) (x .scratch)) where
+          module _ (needed : ℕ) (needed-is : needed ≡ scratchToWork n) (k : ℕ)
+              (answer : tableOf k ≡ short (against 1 (wordsWith needed n) (lengthsIn (e .made) (length (x .scratch))))) where
+            told : tableOf k ≡ shortIn n (e .made) (x .scratch)
+            told = answer ∙ ap (λ (s : ℕ). short (against 1 (wordsWith s n) (lengthsIn (e .made) (length (x .scratch))))) needed-is
+
             told-before : tableOf k ≡ shortIn n (e .made) (e .scratch)
             told-before = told ∙ ap (λ (m : ℕ). short (against 1 (wordsToWork n) (lengthsIn (e .made) m))) scratch-kept
 
@@ -117,15 +124,13 @@ module _ (e : OpenEntry) where
             pub made-long : k ≡ 0 → Opens e (loaded.Accepted n start) (x .tables) (x .scratch)
             made-long h =
                 let long = no-table k (shortIn n (e .made) (e .scratch)) h told-before in
-                let c = read-is .0 in
-                let words = lengthsOf (e .tables) (e .scratch) in
-                let s = sound V19 (e .file) words bytes c start (read-is .1) in (
+                let five = short-none (against 1 (wordsToWork n) (lengthsIn (e .made) (length (e .scratch)))) .0 long .1 .1 .1 .1 .0 in (
                   opens-to ∙ ap (λ (s : Option ℕ). unless s ShortTable (got (given g) start)) long,
-                  start-within (e .file) V19 words c start (read-is .1),
+                  start-within (e .file) V19 (lengthsOf (e .tables) (e .scratch)) (read-is .0) start (read-is .1),
                   record {
-                    fine = read-is .2 .fine;
-                    tail-ok = subst (λ (m : Counts). TailOk V19 m (drop start (e .file))) (sym (read-is .2 .counts))
-                        (stated-tail c (drop start (e .file)) (s .0));
+                    fine = read-is .4 five .fine;
+                    tail-ok = subst (λ (m : Counts). TailOk V19 m (drop start (e .file))) (sym (read-is .2))
+                        (stated-tail (read-is .0) (drop start (e .file)) states);
                     long = no-table k (shortIn n (e .made) (x .scratch)) h told;
                   },
                 )

@@ -10,21 +10,21 @@ use lib.Dec.{leb}
 use lib.ListN.{length, take, drop, length-append, length-drop}
 use Rattle.plan.specs.declared.Version.the-variants.{V19}
 use Rattle.plan.specs.declared.Refusal.{Refusal}
-use Rattle.plan.specs.declared.Refusal.the-variants.{ShortTable, ShortBuffer, LongInput}
+use Rattle.plan.specs.declared.Refusal.the-variants.{ShortBuffer, LongInput}
 use Rattle.plan.specs.declared.Written.the-variants as written
 use Rattle.plan.specs.Refusals.{Parse, got, refused, _then_, unless}
-use Rattle.plan.specs.Circuit.{Circuit, countsOf, lengthsOf, wordsToWork, against, short}
+use Rattle.plan.specs.Circuit.{Circuit, lengthsOf}
 use Rattle.plan.specs.Header.{Form, text, binary, Head, header}
 use Rattle.plan.specs.Text.{textOf}
 use Rattle.plan.specs.Binary.{binaryOf}
-use Rattle.plan.specs.Reading.{readFile, WellFormed}
+use Rattle.plan.specs.Reading.{readToWork, WellFormed}
 use Rattle.plan.specs.Convert.{convert}
 use Rattle.plan.specs.Reduce.{reduce}
 use Rattle.plan.specs.Programs.{lentWords, lentBytes, refusalLine, printed, input, fitting, otherForm, converter, reducer}
 use Rattle.plan.specs.Whole.{WholeEntry, loaded, fittingIn, wholeBy, convertWhole, reduceWhole}
 use Rattle.theorems.proofs.Put.{put-first}
 use Rattle.theorems.proofs.Reading.Differences.{Bytes}
-use Rattle.theorems.proofs.Reading.Exactly.{sound, formed}
+use Rattle.theorems.proofs.Reading.Exactly.{sound, formed, work-read}
 use Rattle.theorems.proofs.Running.Results.{convert-well-formed, convert-in-order, reduce-well-formed}
 use Rattle.intake.specs.Parts.{convertedFile, reducedFile}
 use Rattle.intake.proofs.Bounds.{text-most, binary-most}
@@ -50,14 +50,11 @@ fits-alike out bytes e h =
     go true = refl
     go false = refl
 
--- what stands in a file that the reader accepts
+-- what stands in a file that is read for calls that follow
 module _ (file : List ℕ) (small : length file ≤ 65536) (bytes : Bytes file) (c : Circuit) (start : ℕ)
-    (accepted : readFile V19 file lentWords ≡ got c start) where
+    (accepted : readToWork file lentWords lentWords ≡ got c start) where
   well : WellFormed c
-  well = formed V19 file c (drop start file) (sound V19 file lentWords bytes c start accepted .0)
-
-  long : short (against 1 (wordsToWork (countsOf c)) lentWords) ≡ none
-  long = sound V19 file lentWords bytes c start accepted .1
+  well = formed V19 file c (drop start file) (sound V19 file lentWords bytes c start (work-read file lentWords lentWords c start accepted .0) .0)
 
   with-tail : (form : List ℕ) → length form ≤ 200000000 → length (form ++ drop start file) < 2 ^ 64
   with-tail form h = omega (arith, length-append form (drop start file), length-drop start file)
@@ -75,24 +72,15 @@ module _ (file : List ℕ) (small : length file ≤ 65536) (bytes : Bytes file) 
 module _ (e : WholeEntry) (lends : Lends e) where
   module _ (file : List ℕ) (k : Circuit → ℕ → Parse (List ℕ)) (l : Circuit → ℕ → Parse (List ℕ)) (small : length file ≤ 65536)
       (bytes : Bytes file)
-      (same : (c : Circuit) (start : ℕ) → readFile V19 file lentWords ≡ got c start → k c start ≡ l c start) where
-    loaded-alike : (loaded e file then k) ≡ readFile V19 file lentWords then l
+      (same : (c : Circuit) (start : ℕ) → readToWork file lentWords lentWords ≡ got c start → k c start ≡ l c start) where
+    loaded-alike : (loaded e file then k) ≡ readToWork file lentWords lentWords then l
     loaded-alike =
-        ap (λ (words : List ℕ). (readFile V19 file words then λ c start.
-        unless (short (against 1 (wordsToWork (countsOf c)) (lengthsOf (e .made) (e .scratch)))) ShortTable (got c start)) then k)
-        (lends .words)
-        ∙ go (readFile V19 file lentWords) refl
+        ap₂ (λ (words later : List ℕ). readToWork file words later then k) (lends .words) (lends .made)
+        ∙ go (readToWork file lentWords lentWords) refl
       where
-        go : (p : Parse Circuit) → readFile V19 file lentWords ≡ p
-            → ((p then λ c start.
-            unless (short (against 1 (wordsToWork (countsOf c)) (lengthsOf (e .made) (e .scratch)))) ShortTable (got c start)) then k)
-            ≡ p then l
+        go : (p : Parse Circuit) → readToWork file lentWords lentWords ≡ p → (p then k) ≡ p then l
         go (refused r) q = refl
-        go (got c start) q =
-            ap (λ (o : Option ℕ). unless o ShortTable (got c start) then k)
-            (ap (λ (m : List ℕ). short (against 1 (wordsToWork (countsOf c)) m)) (lends .made)
-            ∙ long file small bytes c start q)
-            ∙ same c start q
+        go (got c start) q = same c start q
 
   abbrev otherIn : List ℕ → Circuit → ℕ → Parse (List ℕ)
   otherIn file c start = header V19 file 0 then λ h _. fitting (otherForm (h .form) c ++ drop start file)
@@ -100,7 +88,7 @@ module _ (e : WholeEntry) (lends : Lends e) where
   abbrev lessIn : List ℕ → Circuit → ℕ → Parse (List ℕ)
   lessIn file c start = fitting (binaryOf (reduce (convert c)) ++ drop start file)
 
-  other-alike : (file : List ℕ) → length file ≤ 65536 → Bytes file → (c : Circuit) (start : ℕ) → readFile V19 file lentWords ≡ got c start
+  other-alike : (file : List ℕ) → length file ≤ 65536 → Bytes file → (c : Circuit) (start : ℕ) → readToWork file lentWords lentWords ≡ got c start
       → (header V19 file 0 then λ h _. fittingIn (e .out) (otherForm (h .form) c ++ drop start file)) ≡ otherIn file c start
   other-alike file small bytes c start q = go (header V19 file 0)
     where
@@ -121,11 +109,11 @@ module _ (e : WholeEntry) (lends : Lends e) where
       go true s = h file (leb-true (length file) 65536 s) (lends .bytes file q)
       go false s = refl
 
-  converter-file : convertedFile e ≡ input (e .plan) λ file. readFile V19 file lentWords then otherIn file
+  converter-file : convertedFile e ≡ input (e .plan) λ file. readToWork file lentWords lentWords then otherIn file
   converter-file =
       input-alike _ _ (λ file small bytes. loaded-alike file _ (otherIn file) small bytes (other-alike file small bytes)) (e .plan) refl
 
-  reducer-file : reducedFile e ≡ input (e .plan) λ file. readFile V19 file lentWords then lessIn file
+  reducer-file : reducedFile e ≡ input (e .plan) λ file. readToWork file lentWords lentWords then lessIn file
   reducer-file =
       input-alike _ _ (λ file small bytes. loaded-alike file _ (lessIn file) small bytes
       (λ c start q. fits-alike (e .out) (binaryOf (reduce (convert c)) ++ drop start file) (lends .room) (less-small file small bytes c

@@ -7,13 +7,12 @@ use mathlib.Core.List.{List}
 use lib.ListN.{length, drop}
 use Rattle.plan.specs.declared.Counts.{Counts}
 use Rattle.plan.specs.declared.Version.the-variants.{V19}
-use Rattle.plan.specs.declared.Refusal.the-variants.{ShortTable}
 use Rattle.plan.specs.declared.Loaded.{Loaded}
 use Rattle.plan.specs.declared.Loaded.the-variants as loaded
-use Rattle.plan.specs.Refusals.{Parse, got, refused, _then_, unless, firstOf}
-use Rattle.plan.specs.Circuit.{Circuit, Tables, countsOf, lengthsOf, wordsToWork, against, short}
+use Rattle.plan.specs.Refusals.{Parse, got, refused, firstOf}
+use Rattle.plan.specs.Circuit.{Circuit, Tables, lengthsOf, wordsToWork, against, short}
 use Rattle.plan.specs.Tail.{TailOk}
-use Rattle.plan.specs.Reading.{readFile}
+use Rattle.plan.specs.Reading.{readToWork}
 use Rattle.plan.specs.Given.{Given, given, lentAlone, stages}
 use Rattle.plan.specs.Programs.{input}
 use Rattle.plan.specs.Whole.{inputOf}
@@ -33,9 +32,7 @@ abbrev pub shortIn : Counts → Sizes → List ℕ → Option ℕ
 shortIn n made scratch = short (against 1 (wordsToWork n) (lengthsIn made (length scratch)))
 
 abbrev pub opening : OpenEntry → List ℕ → Parse Circuit
-opening e file =
-    readFile V19 file (lengthsOf (e .tables) (e .scratch)) then λ c start.
-    unless (shortIn (countsOf c) (e .made) (e .scratch)) ShortTable (got c start)
+opening e file = readToWork file (lengthsOf (e .tables) (e .scratch)) (lengthsIn (e .made) (length (e .scratch)))
 
 abbrev pub opened : OpenEntry → Parse Circuit
 opened e = input (inputOf (e .readable) (e .file)) λ file. opening e file

@@ -6,12 +6,14 @@ use plan::Refusal;
 use plan::Version;
 use read::load;
 use tables::Sizes;
+use tables::scratch_to_work;
 use tables::too_short;
 
 // The longest input.
 const LONGEST: usize = 65536;
 
-// Reads a file by 14, 13, what a reader checks and 4 for the tables to make a circuit in.
+// Reads a file by 14, 13, what a reader checks and 4 for the calls that follow: for the tables to make a circuit in, and for scratch, of which
+// a binary file may need less to be read.
 pub fn open_file(
     readable: bool,
     file: &[u8],
@@ -58,7 +60,8 @@ pub fn open_file(
     ) {
         Loaded::Refused(r) => Loaded::Refused(r),
         Loaded::Accepted(n, start) => {
-            let short = too_short(n, made, scratch.len());
+            let needed = scratch_to_work(n);
+            let short = too_short(n, made, needed, scratch.len());
             if short != 0 {
                 return Loaded::Refused(Refusal::ShortTable(short));
             }

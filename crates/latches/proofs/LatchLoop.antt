@@ -21,7 +21,8 @@ use Rattle.theorems.proofs.Reading.Steps.{onRows, latches-turn, latches-stop, l
 use Rattle.theorems.proofs.Tables.{heads-snoc}
 use Rattle.bitmap.specs.Bitmap.{raised}
 use Rattle.bitmap.proofs.Places.{raised-length}
-use Rattle.lines.specs.Rows.{marked, marking, seenAfter}
+use Rattle.lines.specs.Rows.{MarksFor, marked, marking, seenAfter}
+use Rattle.lines.proofs.Marks.{marks-less}
 use Rattle.lines.proofs.LinesLoop.{passed-refused}
 use Rattle.latches.specs.Latches.{literals, latchRow, latchIn, latchesIn, Own, OwnAll, LatchesSay}
 use Rattle.latches.proofs.OneLatch.{latch-line, latch-refused, row-var}
@@ -172,14 +173,14 @@ module _ {file : List ℕ} {d : Bool} {m more first n at : ℕ} {t₀ r₀ marks
         ∙ latches-stop file (literals d) d m more (b .rows) (rest h b .0) (first + i) (seen ++ heads (b .rows)) pos (DefinedTwice pos)
         (judged-line seen (b .rows) true (b .agrees) q))
 
-    marks-after : (seen : List ℕ) (rows : List (List ℕ)) → Agrees m (seenAfter d seen rows) marks → m < length marks
+    marks-after : (seen : List ℕ) (rows : List (List ℕ)) → Agrees m (seenAfter d seen rows) marks → MarksFor d m marks
         → Agrees m (seenAfter d seen (rows ++ (row ∷ []))) (marking d false (varOf (literalOf row)) marks)
-    marks-after seen rows a l = go d a e
+    marks-after seen rows a l = go d a e l
       where
         go : (x : Bool) → Agrees m (seenAfter x seen rows) marks → latchRow file x m more (first + i) pos ≡ got row next
-            → Agrees m (seenAfter x seen (rows ++ (row ∷ []))) (marking x false (varOf (literalOf row)) marks)
-        go false q r = q
-        go true q r =
+            → MarksFor x m marks → Agrees m (seenAfter x seen (rows ++ (row ∷ []))) (marking x false (varOf (literalOf row)) marks)
+        go false q r w = q
+        go true q r w =
             subst (λ (z : List ℕ). Agrees m z (raised marks 0 (varOf (literalOf row))))
             (append-assoc seen (heads rows) (varOf (literalOf row) ∷ []) ∙ ap (λ (z : List ℕ). seen ++ z) (sym (heads-snoc rows row)))
             (agrees-more m (seen ++ heads rows) marks (varOf (literalOf row)) q (omega (arith, row-var file m more (first + i) pos row next r)))
@@ -188,7 +189,7 @@ module _ {file : List ℕ} {d : Bool} {m more first n at : ℕ} {t₀ r₀ marks
     marking-length true = raised-length marks 0 (varOf (literalOf row))
     marking-length false = refl
 
-    pub turns : (t′ r′ marks′ : List ℕ) → m < length marks₀ → marked d (varOf (literalOf row)) marks ≡ false
+    pub turns : (t′ r′ marks′ : List ℕ) → MarksFor d m marks₀ → marked d (varOf (literalOf row)) marks ≡ false
         → (t′ ≡ put table (2 * i) (latchLine (latchIn d (first + i) row))) × (r′ ≡ put resets i (resetAfter (literals d) row ∷ []))
         → marks′ ≡ marking d false (varOf (literalOf row)) marks → Loop file d m more first n at t₀ r₀ marks₀ t′ r′ marks′ next (i + 1)
     turns t′ r′ marks′ l q held m-is = record {
@@ -226,7 +227,7 @@ module _ {file : List ℕ} {d : Bool} {m more first n at : ℕ} {t₀ r₀ marks
                 (omega (arith, length-append (map (resetAfter (literals d)) (b .rows)) (resetAfter (literals d) row ∷ [])))
                 ∙ ap (put r₀ 0) (sym (map-append (resetAfter (literals d)) (b .rows) (row ∷ [])));
             agrees = subst (λ (z : List ℕ). Agrees m (seenAfter d seen (b .rows ++ (row ∷ []))) z) (sym m-is)
-                (marks-after seen (b .rows) (b .agrees) (omega (arith, s .wide-marks)));
+                (marks-after seen (b .rows) (b .agrees) (marks-less d m m marks₀ marks (omega arith) (s .wide-marks) l));
           };
     }
 

@@ -12,7 +12,7 @@ ghost use Rattle.plan.specs.Bytes.{Placed, numbers, values, latchLines, resetAf
 ghost use Rattle.plan.specs.Outcome.{passedBy, put};
 ghost use Rattle.theorems.proofs.Marks.{Agrees};
 ghost use Rattle.theorems.proofs.Reading.Cut.{cut};
-ghost use Rattle.lines.specs.Rows.{foundOf, placesOf};
+ghost use Rattle.lines.specs.Rows.{foundOf, placesOf, MarksFor};
 ghost use Rattle.latches.specs.Latches.{literals, frameOf, judged, latchRow, latchIn, Own, OwnAll, LatchesSay};
 use lines::Found;
 use lines::defined_before;
@@ -143,7 +143,7 @@ fn read_latch(
 }
 
 // n lines of latches into both tables from their starts, each by 1, then 5, then 6. Where lines define none the latches are of the variables
-// from `first` on, and marks of any content will do.
+// from `first` on, and marks of any length and content will do.
 pub fn read_latches(
     file: &[u8],
     at: usize,
@@ -162,7 +162,7 @@ pub fn read_latches(
     requires { ⌜ first + n ≤ 1048576 ⌝ }
     requires { ⌜ 2 * n ≤ length (now table) ⌝ }
     requires { ⌜ n ≤ length (now resets) ⌝ }
-    requires { ⌜ m < length (now marks) ⌝ }
+    requires { ⌜ MarksFor defines m (now marks) ⌝ }
     ensures { λ r. ⌜ ((seen : List ℕ) → Agrees m seen (now (marks .entry))
         → LatchesSay defines m first seen (now (table .entry)) (now (resets .entry))
         (latchLines (now (file .entry)) (literals defines) defines m more n first seen at)

@@ -21,7 +21,8 @@ use Rattle.theorems.proofs.Reading.Steps.{onRows, lines-turn, lines-stop, lines
 use Rattle.theorems.proofs.Tables.{heads-snoc}
 use Rattle.bitmap.specs.Bitmap.{raised}
 use Rattle.bitmap.proofs.Places.{raised-length}
-use Rattle.lines.specs.Rows.{row, marked, marking, seenAfter, LinesSay}
+use Rattle.lines.specs.Rows.{row, MarksFor, marked, marking, seenAfter, LinesSay}
+use Rattle.lines.proofs.Marks.{marks-less}
 use Rattle.lines.proofs.OneLine.{line-row, line-refused, row-long, row-var}
 
 flat-snoc : (rows : List (List ℕ)) (ls : List ℕ) → flat (rows ++ (ls ∷ [])) ≡ flat rows ++ ls
@@ -135,13 +136,14 @@ module _ {file : List ℕ} {k : ℕ} {d : Bool} {m n at : ℕ} {t₀ marks₀ ta
         says-refused seen (DefinedTwice pos) t′ marks′ (turned b h
         ∙ lines-stop file k d m (b .rows) (rest h b .0) (seen ++ heads (b .rows)) pos (DefinedTwice pos) (judged-line seen (b .rows) true (b .agrees) q))
 
-    marks-after : (seen : List ℕ) (rows : List (List ℕ)) → Agrees m (seenAfter d seen rows) marks → m < length marks
+    marks-after : (seen : List ℕ) (rows : List (List ℕ)) → Agrees m (seenAfter d seen rows) marks → MarksFor d m marks
         → Agrees m (seenAfter d seen (rows ++ (ls ∷ []))) (marking d false (varOf (literalOf ls)) marks)
-    marks-after seen rows a l = go d a
+    marks-after seen rows a l = go d a l
       where
-        go : (x : Bool) → Agrees m (seenAfter x seen rows) marks → Agrees m (seenAfter x seen (rows ++ (ls ∷ []))) (marking x false (varOf (literalOf ls)) marks)
-        go false q = q
-        go true q =
+        go : (x : Bool) → Agrees m (seenAfter x seen rows) marks → MarksFor x m marks
+            → Agrees m (seenAfter x seen (rows ++ (ls ∷ []))) (marking x false (varOf (literalOf ls)) marks)
+        go false q w = q
+        go true q w =
             subst (λ (z : List ℕ). Agrees m z (raised marks 0 (varOf (literalOf ls)))) (append-assoc seen (heads rows) (varOf (literalOf ls) ∷ []) ∙ ap (λ (z : List ℕ). seen ++ z) (sym (heads-snoc rows ls)))
             (agrees-more m (seen ++ heads rows) marks (varOf (literalOf ls)) q (omega (arith, row-var file k d m pos ls next positive e)))
 
@@ -149,7 +151,7 @@ module _ {file : List ℕ} {k : ℕ} {d : Bool} {m n at : ℕ} {t₀ marks₀ ta
     marking-length true = raised-length marks 0 (varOf (literalOf ls))
     marking-length false = refl
 
-    pub turns : (t′ marks′ : List ℕ) → m < length marks₀ → marked d (varOf (literalOf ls)) marks ≡ false → t′ ≡ put table base ls
+    pub turns : (t′ marks′ : List ℕ) → MarksFor d m marks₀ → marked d (varOf (literalOf ls)) marks ≡ false → t′ ≡ put table base ls
         → marks′ ≡ marking d false (varOf (literalOf ls)) marks → Loop file k d m n at t₀ marks₀ t′ marks′ next (base + k) (i + 1)
     turns t′ marks′ l q held m-is = record {
       place = omega (arith, s .place, suc-mul i k, one-more);
@@ -171,7 +173,8 @@ module _ {file : List ℕ} {k : ℕ} {d : Bool} {m n at : ℕ} {t₀ marks₀ ta
             size = ap length (flat-snoc (b .rows) ls) ∙ size ∙ omega (arith, suc-mul i k, one-more);
             held = held ∙ ap₂ (λ (x : List ℕ) (y : ℕ). put x y ls) (b .held) base-is
                 ∙ put-put t₀ 0 (flat (b .rows)) ls (omega (arith, size, row-fits k n i h)) ∙ ap (put t₀ 0) (sym (flat-snoc (b .rows) ls));
-            agrees = subst (λ (z : List ℕ). Agrees m (seenAfter d seen (b .rows ++ (ls ∷ []))) z) (sym m-is) (marks-after seen (b .rows) (b .agrees) (omega (arith, s .wide-marks)));
+            agrees = subst (λ (z : List ℕ). Agrees m (seenAfter d seen (b .rows ++ (ls ∷ []))) z) (sym m-is)
+                (marks-after seen (b .rows) (b .agrees) (marks-less d m m marks₀ marks (omega arith) (s .wide-marks) l));
           };
     }
       where

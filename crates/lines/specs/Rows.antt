@@ -1,10 +1,11 @@
 -- What the readers of lines answer, and what their tables then hold.
-use Prim.Native.Nat.{ℕ}
+use Prim.Native.Nat.{ℕ, _<_}
 use mathlib.Core.Path.{_≡_}
 use mathlib.Core.Bool.{Bool, true, false, not, cond, _&&_}
 use mathlib.Core.Option.{Option, none, some}
 use mathlib.Core.List.{List, [], _∷_, _++_, map}
 use lib.Dec.{eqb}
+use lib.ListN.{length}
 use Rattle.plan.specs.declared.Refusal.the-variants.{OutOfRange}
 use Rattle.plan.specs.declared.Passed.{Passed}
 use Rattle.plan.specs.declared.Passed.the-variants.{To, Refused}
@@ -36,6 +37,11 @@ foundOf (At place) = some place
 -- one line by 1 and 5
 abbrev pub row : List ℕ → ℕ → Bool → ℕ → ℕ → Parse (List ℕ)
 row file k d m at = numbers file k k at then λ xs next. unless (outside d m xs) OutOfRange (got (values xs) next)
+
+-- marks for lines that define: a word for each variable up to m; for lines that do not: of any length
+abbrev pub MarksFor : Bool → ℕ → List ℕ → Type 0
+MarksFor true m marks = m < length marks
+MarksFor false m marks = Unit {0}
 
 abbrev pub marked : Bool → ℕ → List ℕ → Bool
 marked d v marks = d && isOn marks 0 v

@@ -13,7 +13,7 @@ ghost use Rattle.plan.specs.Bytes.{Placed, numbers, lines};
 ghost use Rattle.plan.specs.Given.{orElse};
 ghost use Rattle.plan.specs.Outcome.{passedBy, put};
 ghost use Rattle.theorems.proofs.Marks.{Agrees};
-ghost use Rattle.lines.specs.Rows.{endFor, going, foundOf, row, marked, marking, LinesSay, Numbered};
+ghost use Rattle.lines.specs.Rows.{endFor, going, foundOf, row, MarksFor, marked, marking, LinesSay, Numbered};
 use classes::class_of;
 use numbers::read_number;
 use plan::Class;
@@ -110,9 +110,9 @@ pub fn read_row(
     }
 }
 
-// Marks the variable of a literal that defines; whether it was marked already.
+// Marks the variable of a literal that defines; whether it was marked already. One that does not needs no mark.
 pub fn defined_before(defines: bool, l: Lit, marks: &mut [u32]) -> bool
-    requires { ⌜ varOf (wordOf l) < length (now marks) ⌝ }
+    requires { ⌜ MarksFor defines (varOf (wordOf l)) (now marks) ⌝ }
     ensures { λ r. ⌜ r ≡ marked defines (varOf (wordOf l)) (now (marks .entry)) ⌝ }
     ensures { λ r. ⌜ now (marks .exit) ≡ marking defines r (varOf (wordOf l)) (now (marks .entry)) ⌝ }
 {
@@ -141,7 +141,7 @@ pub fn read_lines(
     requires { ⌜ m ≤ most ⌝ }
     requires { ⌜ 0 < k ⌝ }
     requires { ⌜ n * k ≤ length (now table) ⌝ }
-    requires { ⌜ m < length (now marks) ⌝ }
+    requires { ⌜ MarksFor defines m (now marks) ⌝ }
     ensures { λ r. ⌜ ((seen : List ℕ) → Agrees m seen (now (marks .entry))
         → LinesSay defines m seen (now (table .entry)) (lines (now (file .entry)) k defines m n seen at)
         r (now (table .exit)) (now (marks .exit))) ⌝ }

@@ -1,7 +1,7 @@
 // Lines of what is observed: outputs, bad states and constraints, which follow one another in both forms.
 ghost use mathlib.Core.Path.{_≡_};
 ghost use mathlib.Core.List.{List};
-ghost use Prim.Native.Nat.{ℕ, _≤_, _<_};
+ghost use Prim.Native.Nat.{ℕ, _≤_};
 ghost use lib.ListN.{length};
 ghost use Rattle.plan.specs.Literals.{most};
 ghost use Rattle.theorems.proofs.Marks.{Agrees};
@@ -10,7 +10,7 @@ use lines::read_lines;
 use plan::Counts;
 use plan::Passed;
 
-// O, B and C lines of one literal, each list into its table. They define nothing, so marks of any content will do and stay as they are.
+// O, B and C lines of one literal, each list into its table. They define nothing, so marks of any length and content will do and stay as they are.
 pub fn read_observed(
     file: &[u8],
     at: usize,
@@ -24,7 +24,6 @@ pub fn read_observed(
     requires { ⌜ n .O ≤ length (now outputs) ⌝ }
     requires { ⌜ n .B ≤ length (now bads) ⌝ }
     requires { ⌜ n .C ≤ length (now constraints) ⌝ }
-    requires { ⌜ n .M < length (now marks) ⌝ }
     ensures { λ r. ⌜ ((seen : List ℕ) → Agrees (n .M) seen (now (marks .entry))
         → ObservedSay (n .M) seen (now (outputs .entry)) (now (bads .entry)) (now (constraints .entry)) (observedAt (now (file .entry)) n at)
         r (now (outputs .exit)) (now (bads .exit)) (now (constraints .exit)) (now (marks .exit))) ⌝ }

@@ -14,11 +14,12 @@ use Rattle.plan.specs.declared.Passed.{Passed}
 use Rattle.plan.specs.declared.Passed.the-variants as passed
 use Rattle.plan.specs.declared.Loaded.the-variants.{Accepted, Refused}
 use Rattle.plan.specs.Refusals.{Parse, got, refused}
-use Rattle.plan.specs.Circuit.{Circuit, Tables, countsOf, lengthsOf, wordsToRead, against, short}
-use Rattle.plan.specs.Header.{Form, text, binary, header, adds, listOf}
+use Rattle.plan.specs.Circuit.{Circuit, Tables, countsOf, lengthsOf, against, short}
+use Rattle.plan.specs.Header.{Form, text, binary, header, adds, listOf, wordsToRead}
 use Rattle.plan.specs.Depends.{undefinedIn, cyclicIn}
 use Rattle.plan.specs.Tail.{tailAt}
 use Rattle.plan.specs.Reading.{body, readFile}
+use Rattle.plan.specs.Outcome.{formOf}
 use Rattle.theorems.proofs.Held.{BodySays}
 use Rattle.theorems.proofs.Reading.Common.{then-got, unless-got, got-value}
 use Rattle.theorems.proofs.Reading.Differences.{Bytes}
@@ -26,7 +27,6 @@ use Rattle.theorems.proofs.Reading.Headers.{AllMost}
 use Rattle.theorems.proofs.Reading.Short.{short-none}
 use Rattle.theorems.proofs.Reading.Texts.{text-took}
 use Rattle.theorems.proofs.Reading.Binaries.{binary-took}
-use Rattle.header.specs.Parts.{formOf}
 use Rattle.rest.specs.Rest.{rest, Room, LoadedSays}
 use Rattle.rest.proofs.After.{body-passed, body-refused}
 
@@ -51,10 +51,11 @@ module _ (v : Version) (file : List ℕ) (t t′ : Tables) (scratch : List ℕ) 
   header-told k e = loaded-refused t t′ (readFile v file (lengthsOf t scratch)) k (rw e)
 
   module _ (f : Form) (n : Counts) (at : ℕ) (e : header v file 0 ≡ got (record { form = f; counts = n }) at) where
-    pub short-told : (k : ℕ) → short (against 1 (wordsToRead n) (lengthsOf t scratch)) ≡ some k → LoadedSays t (readFile v file (lengthsOf t scratch)) (Refused (ShortTable k)) t′
+    pub short-told : (k : ℕ) → short (against 1 (wordsToRead f n) (lengthsOf t scratch)) ≡ some k
+        → LoadedSays t (readFile v file (lengthsOf t scratch)) (Refused (ShortTable k)) t′
     short-told k s = loaded-refused t t′ (readFile v file (lengthsOf t scratch)) (ShortTable k) (rw (e, s))
 
-    module _ (s : short (against 1 (wordsToRead n) (lengthsOf t scratch)) ≡ none) where
+    module _ (s : short (against 1 (wordsToRead f n) (lengthsOf t scratch)) ≡ none) where
       whole : readFile v file (lengthsOf t scratch) ≡ rest v file f n at
       whole = rw (e, s)
 
@@ -78,16 +79,21 @@ module _ (v : Version) (file : List ℕ) (n : Counts) (at : ℕ) (t t′ : Table
   pub as-text : b ≡ false → BodySays t (rest v file text n at) r t′ → BodySays t (rest v file (formOf b) n at) r t′
   as-text e h = subst (λ (x : Bool). BodySays t (rest v file (formOf x) n at) r t′) (sym e) h
 
+-- the room of the header's form
+pub room-of : (f : Form) (n : Counts) (t : Tables) (scratch : List ℕ) (b : Bool) → formOf b ≡ f → Room (formOf b) n t scratch → Room f n t scratch
+room-of f n t scratch b e room = subst (λ (x : Form). Room x n t scratch) e room
+
 pub binary-sum : (n : Counts) (b : Bool) → b ≡ true → adds (formOf b) n ≡ true → n .I + n .L + n .A ≡ n .M
 binary-sum n b e h = eqb-true _ _ (subst (λ (x : Bool). adds (formOf x) n ≡ true) e h)
 
 pub text-sum : (n : Counts) (b : Bool) → b ≡ false → adds (formOf b) n ≡ true → n .I + n .L + n .A ≤ n .M
 text-sum n b e h = leb-true _ _ (subst (λ (x : Bool). adds (formOf x) n ≡ true) e h)
 
-pub room-for : (n : Counts) (t : Tables) (scratch : List ℕ) → AllMost (listOf n) → short (against 1 (wordsToRead n) (lengthsOf t scratch)) ≡ none
-    → ((i : ℕ) → getD scratch i 0 ≡ 0) → Room n t scratch
-room-for n t scratch small s blank =
-    let l = short-none (against 1 (wordsToRead n) (lengthsOf t scratch)) .0 s in
+pub room-for : (f : Form) (n : Counts) (t : Tables) (scratch : List ℕ) → AllMost (listOf n)
+    → short (against 1 (wordsToRead f n) (lengthsOf t scratch)) ≡ none
+    → ((i : ℕ) → getD scratch i 0 ≡ 0) → Room f n t scratch
+room-for f n t scratch small s blank =
+    let l = short-none (against 1 (wordsToRead f n) (lengthsOf t scratch)) .0 s in
     record {
       most-M = small .0;
       most-I = small .1 .0;

@@ -6,9 +6,8 @@ ghost use lib.ListN.{getD};
 ghost use Rattle.plan.specs.Circuit.{seven, lengthsOf};
 ghost use Rattle.plan.specs.Header.{adds};
 ghost use Rattle.plan.specs.Reading.{readFile};
-ghost use Rattle.plan.specs.Outcome.{Says, loadAs, readAs};
+ghost use Rattle.plan.specs.Outcome.{Says, loadAs, readAs, formOf};
 ghost use Rattle.theorems.proofs.Held.{BodySays};
-ghost use Rattle.header.specs.Parts.{formOf};
 ghost use Rattle.rest.specs.Rest.{rest, Room, LoadedSays};
 use header::read_header;
 use plan::Counts;
@@ -24,6 +23,7 @@ use rest::rest_of_text;
 use tables::clear;
 use tables::clear_all;
 use tables::lengths;
+use tables::scratch_to_read;
 use tables::too_short;
 use told::no_counts;
 use told::tell;
@@ -43,7 +43,7 @@ fn rest_of(
     constraints: &mut [u32],
     scratch: &mut [u32],
 ) -> Passed
-    requires { ⌜ Room n
+    requires { ⌜ Room (formOf binary) n
         (seven (now inputs) (now latches) (now outputs) (now gates) (now resets) (now bads) (now constraints)) (now scratch) ⌝ }
     requires { ⌜ adds (formOf binary) n ≡ true ⌝ }
     ensures { λ r. ⌜ BodySays
@@ -111,7 +111,8 @@ fn fill(
         Headed::Refused(r) => Loaded::Refused(r),
         Headed::Accepted(binary, n, at) => {
             let to = lengths(inputs, latches, outputs, gates, resets, bads, constraints);
-            let short = too_short(n, to, scratch.len());
+            let needed = scratch_to_read(binary, n);
+            let short = too_short(n, to, needed, scratch.len());
             if short != 0 {
                 return Loaded::Refused(Refusal::ShortTable(short));
             }

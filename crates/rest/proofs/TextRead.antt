@@ -10,7 +10,7 @@ use Rattle.plan.specs.declared.Version.{Version}
 use Rattle.plan.specs.Refusals.{got}
 use Rattle.plan.specs.Literals.{isReset}
 use Rattle.plan.specs.Circuit.{Latch, resetsOk, Circuit, Tables, circuitOf, definedIn, allNew, allInside, oneLine, latchLine, gateLine}
-use Rattle.plan.specs.Header.{moreResets}
+use Rattle.plan.specs.Header.{moreResets, text}
 use Rattle.plan.specs.Text.{textBody, textLines, textLatches}
 use Rattle.theorems.proofs.Held.{Holds, holds-circuit}
 use Rattle.theorems.proofs.Marks.{Agrees}
@@ -33,7 +33,7 @@ module _ (v : Version) (file : List ℕ) (n : Counts) (at : ℕ) (t t′ : Table
       resets-count (l ∷ ls) [] q = absurd (false≢true q)
       resets-count (l ∷ ls) (r ∷ rs) q = ap suc (resets-count ls rs (and-right (isReset (l .current) r) _ q))
 
-  module _ (scratch scratch′ marks : List ℕ) (base : ℕ) (room : Room n t scratch) (sum : n .I + n .L + n .A ≤ n .M)
+  module _ (scratch scratch′ marks : List ℕ) (base : ℕ) (room : Room text n t scratch) (sum : n .I + n .L + n .A ≤ n .M)
       (b : base ≡ n .I + n .L + n .O + n .B + n .C) (l1 : length (t′ .inputs) ≡ length (t .inputs))
       (l2 : length (t′ .latches) ≡ length (t .latches)) (l3 : length (t′ .outputs) ≡ length (t .outputs))
       (l4 : length (t′ .gates) ≡ length (t .gates)) (l5 : length (t′ .bads) ≡ length (t .bads))

@@ -14,7 +14,7 @@ use Rattle.plan.specs.Literals.{most}
 use Rattle.plan.specs.Refusals.{Parse, got, refused, _then_, unless, stage, firstOf}
 use Rattle.plan.specs.Circuit.{Circuit, Tables, countsOf}
 use Rattle.plan.specs.Depends.{undefinedIn, cyclicIn}
-use Rattle.plan.specs.Header.{Form}
+use Rattle.plan.specs.Header.{Form, scratchToRead}
 use Rattle.plan.specs.Tail.{tailAt}
 use Rattle.plan.specs.Reading.{body}
 use Rattle.theorems.proofs.Held.{Holds}
@@ -33,8 +33,8 @@ rest v file form n at = after v file n (body v file form n at)
 abbrev pub closed : Circuit → Option Refusal
 closed c = firstOf (stage NotDefined (undefinedIn c) ∷ stage Cyclic (cyclicIn c) ∷ [])
 
--- counts within the limits, tables that are long enough, and scratch that is zero
-pub record Room (n : Counts) (t : Tables) (scratch : List ℕ) : Type 0 where
+-- counts within the limits, tables that are long enough to read a file of a form, and scratch that is zero
+pub record Room (form : Form) (n : Counts) (t : Tables) (scratch : List ℕ) : Type 0 where
   pub most-M : n .M ≤ most
   pub most-I : n .I ≤ most
   pub most-L : n .L ≤ most
@@ -49,7 +49,7 @@ pub record Room (n : Counts) (t : Tables) (scratch : List ℕ) : Type 0 where
   pub resets : n .L ≤ length (t .resets)
   pub bads : n .B ≤ length (t .bads)
   pub constraints : n .C ≤ length (t .constraints)
-  pub words : 4 * (n .M + 1) + n .O + n .B + n .C ≤ length scratch
+  pub words : scratchToRead form n ≤ length scratch
   pub blank : (i : ℕ) → getD scratch i 0 ≡ 0
 
 abbrev pub LoadedSays : Tables → Parse Circuit → Loaded → Tables → Type 0

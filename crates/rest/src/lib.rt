@@ -28,7 +28,7 @@ pub fn rest_of_text(
     constraints: &mut [u32],
     scratch: &mut [u32],
 ) -> Passed
-    requires { ⌜ Room n
+    requires { ⌜ Room text n
         (seven (now inputs) (now latches) (now outputs) (now gates) (now resets) (now bads) (now constraints)) (now scratch) ⌝ }
     requires { ⌜ n .I + n .L + n .A ≤ n .M ⌝ }
     ensures { λ r. ⌜ BodySays
@@ -76,8 +76,8 @@ pub fn rest_of_text(
     }
 }
 
-// What follows the header of a binary file: the body and the tail. Marks of symbols stand at the start of the scratch. The order of its
-// variables leaves nothing to 7 and 8.
+// What follows the header of a binary file: the body and the tail. Marks of symbols are all that stands in the scratch, from its start. The
+// order of its variables leaves nothing to 6, 7 and 8.
 pub fn rest_of_binary(
     version: Version,
     file: &[u8],
@@ -92,7 +92,7 @@ pub fn rest_of_binary(
     constraints: &mut [u32],
     scratch: &mut [u32],
 ) -> Passed
-    requires { ⌜ Room n
+    requires { ⌜ Room binary n
         (seven (now inputs) (now latches) (now outputs) (now gates) (now resets) (now bads) (now constraints)) (now scratch) ⌝ }
     requires { ⌜ n .I + n .L + n .A ≡ n .M ⌝ }
     ensures { λ r. ⌜ BodySays

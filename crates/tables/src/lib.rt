@@ -2,7 +2,9 @@
 ghost use mathlib.Core.Path.{_≡_};
 ghost use Prim.Native.Nat.{_≤_, min};
 ghost use Rattle.plan.specs.Literals.{most};
-ghost use Rattle.plan.specs.Circuit.{seven, cleared, allCleared, wordsToRead, against, short};
+ghost use Rattle.plan.specs.Circuit.{seven, cleared, allCleared, wordsWith, scratchToWork, against, short};
+ghost use Rattle.plan.specs.Header.{scratchToRead};
+ghost use Rattle.plan.specs.Outcome.{formOf};
 ghost use Rattle.tables.specs.Lengths.{lengthsIn, sizesOf, shorterOf, tableOf};
 use plan::Counts;
 
@@ -76,11 +78,31 @@ pub fn lengths(
     }
 }
 
-// Refusal 4: the least of tables 1 to 5 and 7 to 9 that is shorter than the counts ask, or 0. Tables are looked at in the order of
-// their numbers.
-pub fn too_short(n: Counts, to: Sizes, scratch: usize) -> usize
-    requires { ⌜ (n .M ≤ most) × (n .L ≤ most) × (n .O ≤ most) × (n .A ≤ most) × (n .B ≤ most) × (n .C ≤ most) ⌝ }
-    ensures { λ r. ⌜ tableOf r ≡ short (against 1 (wordsToRead n) (lengthsIn to scratch)) ⌝ }
+// The words of table 5 for every call but the reading of a binary file.
+pub fn scratch_to_work(n: Counts) -> usize
+    requires { ⌜ (n .M ≤ most) × (n .O ≤ most) × (n .B ≤ most) × (n .C ≤ most) ⌝ }
+    ensures { λ r. ⌜ r ≡ scratchToWork n ⌝ }
+{
+    4 * (n.M + 1) + n.O + n.B + n.C
+}
+
+// The words of table 5 to read a file: in binary those of the marks of symbols alone.
+pub fn scratch_to_read(binary: bool, n: Counts) -> usize
+    requires { ⌜ (n .M ≤ most) × (n .O ≤ most) × (n .B ≤ most) × (n .C ≤ most) ⌝ }
+    requires { ⌜ (n .I ≤ most) × (n .L ≤ most) ⌝ }
+    ensures { λ r. ⌜ r ≡ scratchToRead (formOf binary) n ⌝ }
+{
+    if binary {
+        return n.I + n.L + n.O + n.B + n.C;
+    }
+    scratch_to_work(n)
+}
+
+// Refusal 4: the least of tables 1 to 5 and 7 to 9 that is shorter than the counts ask and, for table 5, than `needed`, or 0. Tables are
+// looked at in the order of their numbers.
+pub fn too_short(n: Counts, to: Sizes, needed: usize, scratch: usize) -> usize
+    requires { ⌜ (n .L ≤ most) × (n .A ≤ most) ⌝ }
+    ensures { λ r. ⌜ tableOf r ≡ short (against 1 (wordsWith needed n) (lengthsIn to scratch)) ⌝ }
 {
     if to.inputs < n.I {
         return 1;
@@ -94,7 +116,7 @@ pub fn too_short(n: Counts, to: Sizes, scratch: usize) -> usize
     if to.gates < 3 * n.A {
         return 4;
     }
-    if scratch < 4 * (n.M + 1) + n.O + n.B + n.C {
+    if scratch < needed {
         return 5;
     }
     if to.resets < n.L {

@@ -11,12 +11,11 @@ use lib.ListN.{length}
 use Rattle.plan.specs.declared.Counts.{Counts}
 use Rattle.plan.specs.declared.Refusal.{Refusal}
 use Rattle.plan.specs.declared.Refusal.the-variants.{WrongByte, BadVector, LongInput}
-use Rattle.plan.specs.declared.Version.the-variants.{V19}
 use Rattle.plan.specs.declared.Traced.{Traced}
 use Rattle.plan.specs.declared.Traced.the-variants.{Lines, Refused}
 use Rattle.plan.specs.Refusals.{Parse, got, refused, _then_}
 use Rattle.plan.specs.Circuit.{Circuit, Tables, circuitOf}
-use Rattle.plan.specs.Reading.{readFile}
+use Rattle.plan.specs.Reading.{readToWork}
 use Rattle.plan.specs.Convert.{convert}
 use Rattle.plan.specs.Step.{Value, codeOf, valueOf, run, first}
 use Rattle.plan.specs.Programs.{lentWords, refusalLine, printed, input, linesIn, allVectors, stimulus, stepLines, tracer}
@@ -58,7 +57,7 @@ module _ {A B : Type 0} (f : List ℕ → Parse A) (g : A → ℕ → Parse B) w
   input-then none = refl
   input-then (some bytes) = then-cond (leb (length bytes) 65536) (f bytes) (LongInput 65536)
 
-module _ (file : List ℕ) (c : Circuit) (start : ℕ) (short : length file ≤ 65536) (reads : readFile V19 file lentWords ≡ got c start)
+module _ (file : List ℕ) (c : Circuit) (start : ℕ) (short : length file ≤ 65536) (reads : readToWork file lentWords lentWords ≡ got c start)
     (source : Option (List ℕ)) where
   abbrev width : ℕ
   width = length (c .inputs)
@@ -68,7 +67,7 @@ module _ (file : List ℕ) (c : Circuit) (start : ℕ) (short : length file ≤ 
 
   accepted : tracer (some file) source ≡ of-lines c (input source (stimulus width))
   accepted =
-      ap (λ (t : Bool). printed (cond t (readFile V19 file lentWords then after-file) (refused (LongInput 65536))))
+      ap (λ (t : Bool). printed (cond t (readToWork file lentWords lentWords then after-file) (refused (LongInput 65536))))
       (le-leb (length file) 65536 short)
       ∙ (ap (λ (p : Parse Circuit). printed (p then after-file)) reads
       ∙ ap printed (input-then (stimulus width) (tracedLines c) source))
@@ -88,7 +87,7 @@ module _ (file : List ℕ) (c : Circuit) (start : ℕ) (short : length file ≤ 
       accepted ∙ ap (of-lines c) whole
 
 -- calls on the converted circuit, from the codes of its first state on, print what the tracer prints
-pub calls-trace : (file : List ℕ) (c : Circuit) (start : ℕ) → length file ≤ 65536 → readFile V19 file lentWords ≡ got c start
+pub calls-trace : (file : List ℕ) (c : Circuit) (start : ℕ) → length file ≤ 65536 → readToWork file lentWords lentWords ≡ got c start
     → (bytes : List ℕ) (k : ℕ) → countLines (some bytes) (length (c .inputs)) ≡ Lines k
     → (n : Counts) (t : Tables) → circuitOf n t ≡ convert c → (scratch out : List ℕ)
     → Calls n t scratch (map codeOf (first (convert c))) bytes out

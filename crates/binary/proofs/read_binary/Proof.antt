@@ -34,7 +34,7 @@ read-latches-requires c κs =
     let more = c .before .before .before .before .more-resets .ensures in
     let least = few (start .args .version) in
     let sum = start .pre .1 .0 in
-    (start .pre .0, (omega arith, ((omega arith, omega arith), (omega (arith, start .pre .0), (start .pre .1 .1 .1 .0, (start .pre .1 .1 .1 .1 .1 .1 .0, start .pre .1 .1 .1 .1 .1 .1 .1 .1 .1))))))
+    (start .pre .0, (omega arith, ((omega arith, omega arith), (omega (arith, start .pre .0), (start .pre .1 .1 .1 .0, (start .pre .1 .1 .1 .1 .1 .1 .0, tt))))))
 
 enum-known-read : tie.Need-enum-known-read
 enum-known-read c = search needs
@@ -63,7 +63,7 @@ returns c =
 read-observed-requires : tie.Need-read-observed-requires
 read-observed-requires c κs =
     let start = c .before .before .before .before .before .before .before .before .before .before .before .before .before .before .before .before .before .before .before .before .before .before .before .before .before .before .before .before .before in
-    (start .pre .0, (start .pre .1 .1 .1 .1 .0, (start .pre .1 .1 .1 .1 .1 .1 .1 .0, (start .pre .1 .1 .1 .1 .1 .1 .1 .1 .0, omega (arith, c .before .before .before .before .before .before .before .before .marks .given, start .pre .1 .1 .1 .1 .1 .1 .1 .1 .1)))))
+    (start .pre .0, (start .pre .1 .1 .1 .1 .0, (start .pre .1 .1 .1 .1 .1 .1 .1 .0, start .pre .1 .1 .1 .1 .1 .1 .1 .1)))
 
 enum-known-read-2 : tie.Need-enum-known-read-2
 enum-known-read-2 c = search needs

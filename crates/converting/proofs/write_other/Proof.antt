@@ -6,8 +6,7 @@ use borrow.Author.Needs.{needs}
 use Rattle.plan.specs.Circuit.{Tables, seven}
 use Rattle.plan.specs.Given.{Given, given}
 use Rattle.plan.specs.Programs.{otherForm}
-use Rattle.plan.specs.Outcome.{putBytes}
-use Rattle.header.specs.Parts.{formOf}
+use Rattle.plan.specs.Outcome.{putBytes, formOf}
 use Rattle.write.specs.Judged.{givenIn}
 use Rattle.intake.proofs.Writes.{text-put, converts, converted-put}
 use Rattle.converting.proofs.write_other.Statement.{statement}

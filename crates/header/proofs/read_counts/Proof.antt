@@ -4,8 +4,8 @@ use native.Mathlib.Omega.{arith}
 use borrow.Author.Tests.{not-true, not-false}
 use lib.ListN.{getD}
 use Rattle.plan.specs.Literals.{most}
+use Rattle.plan.specs.Outcome.{formOf}
 use Rattle.theorems.proofs.Reading.Headers.{counts-at-most}
-use Rattle.header.specs.Parts.{formOf}
 use Rattle.header.proofs.Counted.{Line, stops, line-read, large, just, counts-small, sum-wrong, sum-right}
 use borrow.Author.Needs.{needs}
 use Rattle.header.proofs.read_counts.Statement.{statement}

@@ -13,13 +13,13 @@ read-header-requires c κs = search needs
 enum-told : tie.Need-enum-told
 enum-told c = search needs
 
-enum-known-n : tie.Need-enum-known-n
-enum-known-n c = search needs
+enum-known-binary : tie.Need-enum-known-binary
+enum-known-binary c = search needs
 
 words-of-requires : tie.Need-words-of-requires
 words-of-requires c κs =
     accepted V19 (c .before .before .before .before .before .args .file .now) _ _ _
-    (sym (c .before .n .given .1) ∙ c .before .before .before .read-header .ensures) .small
+    (sym (c .before .binary .given .1) ∙ c .before .before .before .read-header .ensures) .small
 
 returns : tie.Need-returns
 returns c =
@@ -30,10 +30,10 @@ returns-2 : tie.Need-returns-2
 returns-2 c =
     let start = c .before .before .before .before .before .before in
     let a = start .args in
-    let took = accepted V19 (a .file .now) _ _ _ (sym (c .before .before .n .given .1) ∙ c .before .before .before .before .read-header .ensures) in
+    let took = accepted V19 (a .file .now) _ _ _ (sym (c .before .before .binary .given .1) ∙ c .before .before .before .before .read-header .ensures) in
     c .words-of .ensures ∙ sym (ap (wordsBy (a .table)) (took .head))
 
 pub words-spec : {M : Type 1} → statement M
 words-spec =
     tie.close
-    (tie.spec read-header-requires enum-told enum-known-n words-of-requires returns returns-2)
+    (tie.spec read-header-requires enum-told enum-known-binary words-of-requires returns returns-2)

@@ -1,6 +1,6 @@
-use native.Mathlib.Omega.{arith}
-use Rattle.header.proofs.Sizes.{no-table}
 use borrow.Author.Needs.{needs}
+use Rattle.plan.specs.Outcome.{formOf}
+use Rattle.header.proofs.Sizes.{no-table}
 use Rattle.header.proofs.words_of.Statement.{statement}
 use Rattle.header.proofs.words_of.Tie as tie
 
@@ -10,20 +10,8 @@ mul-result c = search needs
 mul-result-2 : tie.Need-mul-result-2
 mul-result-2 c = search needs
 
-add-result : tie.Need-add-result
-add-result c = omega arith
-
-mul-result-3 : tie.Need-mul-result-3
-mul-result-3 c = search needs
-
-add-result-2 : tie.Need-add-result-2
-add-result-2 c = omega arith
-
-add-result-3 : tie.Need-add-result-3
-add-result-3 c = omega arith
-
-add-result-4 : tie.Need-add-result-4
-add-result-4 c = omega arith
+scratch-to-read-requires : tie.Need-scratch-to-read-requires
+scratch-to-read-requires c κs = search needs
 
 returns : tie.Need-returns
 returns c = rw (c .match .keys1)
@@ -38,7 +26,7 @@ returns-4 : tie.Need-returns-4
 returns-4 c = rw (c .match .keys4)
 
 returns-5 : tie.Need-returns-5
-returns-5 c = rw (c .match .keys5)
+returns-5 c = rw (c .before .match .keys5) (c .scratch-to-read .ensures)
 
 returns-6 : tie.Need-returns-6
 returns-6 c = rw (c .match .keys6)
@@ -51,7 +39,10 @@ returns-8 c = rw (c .match .keys8)
 
 returns-9 : tie.Need-returns-9
 returns-9 c =
-    let a = c .before .args in let r = c .match .rest in no-table (a .n) (a .table) (r .0 .0 .0 .0 .0 .0 .0 .1) (r .0 .0 .0 .0 .0 .0 .1) (r .0 .0 .0 .0 .0 .1) (r .0 .0 .0 .0 .1) (r .0 .0 .0 .1) (r .0 .0 .1) (r .0 .1) (r .1)
+    let a = c .before .args in
+    let r = c .match .rest in
+    no-table (formOf (a .binary)) (a .n) (a .table) (r .0 .0 .0 .0 .0 .0 .0 .1) (r .0 .0 .0 .0 .0 .0 .1) (r .0 .0 .0 .0 .0 .1)
+    (r .0 .0 .0 .0 .1) (r .0 .0 .0 .1) (r .0 .0 .1) (r .0 .1) (r .1)
 
 pub words-of-spec : {M : Type 1} → statement M
 words-of-spec =
@@ -59,11 +50,7 @@ words-of-spec =
     (tie.spec
     mul-result
     mul-result-2
-    add-result
-    mul-result-3
-    add-result-2
-    add-result-3
-    add-result-4
+    scratch-to-read-requires
     returns
     returns-2
     returns-3

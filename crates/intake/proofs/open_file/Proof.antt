@@ -69,11 +69,19 @@ enum-known-r c = search needs
 enum-known-n : tie.Need-enum-known-n
 enum-known-n c = search needs
 
+scratch-to-work-requires : tie.Need-scratch-to-work-requires
+scratch-to-work-requires c κs =
+    let d = c .before .before .before .before .before .before .before .before .before .before in
+    let l = d .before .before .before .before .before .before .before .before .before in
+    let m = limits (entry (start l)) (readable l) (fits l) (exit l) (l .load .ensures) (bytes l) _ _ (c .before .n .given .1) in
+    (m .0, m .1 .1 .1 .0, m .1 .1 .1 .1 .1 .0, m .1 .1 .1 .1 .1 .1 .0)
+
 too-short-requires : tie.Need-too-short-requires
 too-short-requires c κs =
     let d = c .before .before .before .before .before .before .before .before .before .before in
-    let l = d .before .before .before .before .before .before .before .before .before in
-    limits (entry (start l)) (readable l) (fits l) (exit l) (l .load .ensures) (bytes l) _ _ (c .before .n .given .1)
+    let l = d .before .before .before .before .before .before .before .before .before .before in
+    let m = limits (entry (start l)) (readable l) (fits l) (exit l) (l .load .ensures) (bytes l) _ _ (c .before .before .n .given .1) in
+    (m .1 .1 .0, m .1 .1 .1 .1 .0)
 
 same-length : tie.Need-same-length
 same-length c = search needs
@@ -102,9 +110,9 @@ same-length-8 c = search needs
 returns-3 : tie.Need-returns-3
 returns-3 c =
     let d = c .before .before .before .before .before .before .before .before .before .before in
-    let l = d .before .before .before .before .before .before .before .before .before .before .before in
-    made-short (entry (start l)) (readable l) (fits l) (exit l) (l .load .ensures) (bytes l) _ _ (c .before .before .before .n .given .1) _
-    (c .before .too-short .ensures) (c .if3 .taken)
+    let l = d .before .before .before .before .before .before .before .before .before .before .before .before in
+    made-short (entry (start l)) (readable l) (fits l) (exit l) (l .load .ensures) (bytes l) _ _ (c .before .before .before .before .n .given .1) _
+    (c .before .before .scratch-to-work .ensures) _ (c .before .too-short .ensures) (c .if3 .taken)
 
 same-length-9 : tie.Need-same-length-9
 same-length-9 c = search needs
@@ -163,9 +171,9 @@ same-length-24 c = search needs
 returns-5 : tie.Need-returns-5
 returns-5 c =
     let d = c .before .before .before .before .before .before .before .before .before .before in
-    let l = d .before .before .before .before .before .before .before .before .before .before .before in
-    made-long (entry (start l)) (readable l) (fits l) (exit l) (l .load .ensures) (bytes l) _ _ (c .before .before .before .n .given .1) _
-    (c .before .too-short .ensures) (c .if3 .left)
+    let l = d .before .before .before .before .before .before .before .before .before .before .before .before in
+    made-long (entry (start l)) (readable l) (fits l) (exit l) (l .load .ensures) (bytes l) _ _ (c .before .before .before .before .n .given .1) _
+    (c .before .before .scratch-to-work .ensures) _ (c .before .too-short .ensures) (c .if3 .left)
 
 pub open-file-spec : {M : Type 1} → statement M
 open-file-spec =
@@ -176,6 +184,7 @@ open-file-spec =
     load-requires
     enum-known-r
     enum-known-n
+    scratch-to-work-requires
     too-short-requires
     same-length
     same-length-2

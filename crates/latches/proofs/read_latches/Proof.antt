@@ -6,6 +6,7 @@ use borrow.Author.Needs.{needs}
 use lib.ListN.{length}
 use Rattle.plan.specs.Literals.{varOf, wordOf}
 use Rattle.lines.specs.Rows.{marked, marking}
+use Rattle.lines.proofs.Marks.{marks-less}
 use Rattle.lines.proofs.LinesLoop.{passed-to}
 use Rattle.latches.specs.Latches.{latchRow, latchIn}
 use Rattle.latches.proofs.OneLatch.{latch-var, same-mark, same-marking, own-word}
@@ -102,7 +103,7 @@ defined-before-requires c κs =
     let word : wordOf (c .before .at .result) ≡ latchIn (a .defines) (a .first + loop .i) (p .0) .current
     = ap wordOf (c .before .at .ensures) ∙ own-word _ _ (loop .i) (a .defines) (a .first + loop .i) (p .0) (held .0) (fits (loop .inv) (start .pre .1 .1 .1 .1 .0) (start .pre .1 .1 .1 .1 .1 .0) h) in
     let small : varOf (latchIn (a .defines) (a .first + loop .i) (p .0) .current) ≤ a .m = latch-var (a .file .now) (a .defines) (a .m) (a .more) (a .first + loop .i) (loop .pos) (p .0) _ own (p .1) in
-    omega (arith, ap varOf word, loop .inv .wide-marks, start .pre .1 .1 .1 .1 .1 .1)
+    marks-less (a .defines) _ (a .m) (a .marks .now) _ (omega (arith, ap varOf word, small)) (loop .inv .wide-marks) (start .pre .1 .1 .1 .1 .1 .1)
 
 same-length-4 : tie.Need-same-length-4 Inv-loop μ-loop
 same-length-4 c =

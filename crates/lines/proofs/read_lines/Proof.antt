@@ -8,6 +8,7 @@ use Rattle.plan.specs.Literals.{varOf, wordOf}
 use Rattle.plan.specs.Circuit.{literalOf}
 use Rattle.lines.specs.Rows.{row, marked, marking}
 use Rattle.lines.proofs.OneLine.{row-var}
+use Rattle.lines.proofs.Marks.{marks-less}
 use Rattle.lines.proofs.LinesLoop.{Loop, begins, fits, stops, passed-to, twice-told, turns, ends-here, line-word}
 use Rattle.lines.proofs.read_lines.Statement.{statement}
 use Rattle.lines.proofs.read_lines.Tie as tie
@@ -78,7 +79,7 @@ defined-before-requires c κs =
     let word : wordOf (c .before .at .result) ≡ literalOf (p .0)
     = ap wordOf (c .before .at .ensures) ∙ line-word (a .file .now) (a .k) (a .defines) (a .m) (l .pos) (p .0) _ (p .1) (start .pre .1 .0) _ _ (l .base) held (fits (l .inv) (start .pre .1 .1 .0) (loop-test .taken)) in
     let small : varOf (literalOf (p .0)) ≤ a .m = row-var (a .file .now) (a .k) (a .defines) (a .m) (l .pos) (p .0) _ (start .pre .1 .0) (p .1) in
-    omega (arith, ap varOf word, l .inv .wide-marks, start .pre .1 .1 .1)
+    marks-less (a .defines) _ (a .m) (a .marks .now) _ (omega (arith, ap varOf word, small)) (l .inv .wide-marks) (start .pre .1 .1 .1)
 
 same-length-3 : tie.Need-same-length-3 Inv-loop μ-loop
 same-length-3 c =

@@ -63,7 +63,7 @@ returns-2 c =
 read-lines-requires-3 : tie.Need-read-lines-requires-3
 read-lines-requires-3 c κs =
     let pre = c .before .before .before .before .before .before .before .before .before .before .before .before .before .before .before .before .before .before .before .before .before .before .before .before .before .before .before .before .pre in
-    (pre .0, (omega arith, (omega (arith, pre .1 .1 .1 .0), omega (arith, c .before .before .before .before .before .before .before .before .before .before .before .before .before .before .before .before .marks .given, c .before .before .before .before .before .before .marks2 .given, pre .1 .1 .1 .1))))
+    (pre .0, (omega arith, (omega (arith, pre .1 .1 .1), tt)))
 
 same-length-6 : tie.Need-same-length-6
 same-length-6 c = search needs

@@ -1,7 +1,8 @@
 use borrow.Author.Needs.{needs}
-use mathlib.Core.Path.{sym, ap, _∙_}
+use Prim.Native.Nat.{ℕ}
+use mathlib.Core.Path.{sym, ap₂, _∙_}
 use lib.ListN.{length}
-use Rattle.plan.specs.Circuit.{Tables, seven, wordsToRead, against, short}
+use Rattle.plan.specs.Circuit.{Tables, seven, wordsWith, against, short}
 use Rattle.header.proofs.Accepted.{accepted, not-accepted}
 use Rattle.tables.specs.declared.Sizes.{Sizes}
 use Rattle.tables.specs.Lengths.{lengthsIn}
@@ -22,12 +23,19 @@ enum-known-binary c = search needs
 lengths-requires : tie.Need-lengths-requires
 lengths-requires c κs = search needs
 
-too-short-requires : tie.Need-too-short-requires
-too-short-requires c κs =
+scratch-to-read-requires : tie.Need-scratch-to-read-requires
+scratch-to-read-requires c κs =
     let start = c .before .before .before .before .before .before .before .before .before .before .before .before .before .before .before .before .before .before .before .before .before in
     let head = accepted (start .args .version) (start .args .file .now) _ _ _ (sym (c .before .before .before .before .before .before .before .before .before .binary .given .1) ∙ c .before .before .before .before .before .before .before .before .before .before .before .read-header .ensures) in
     let m = head .small in
-    (m .0, m .1 .1 .0, m .1 .1 .1 .0, m .1 .1 .1 .1 .0, m .1 .1 .1 .1 .1 .0, m .1 .1 .1 .1 .1 .1 .0)
+    ((m .0, m .1 .1 .1 .0, m .1 .1 .1 .1 .1 .0, m .1 .1 .1 .1 .1 .1 .0), (m .1 .0, m .1 .1 .0))
+
+too-short-requires : tie.Need-too-short-requires
+too-short-requires c κs =
+    let start = c .before .before .before .before .before .before .before .before .before .before .before .before .before .before .before .before .before .before .before .before .before .before in
+    let head = accepted (start .args .version) (start .args .file .now) _ _ _ (sym (c .before .before .before .before .before .before .before .before .before .before .binary .given .1) ∙ c .before .before .before .before .before .before .before .before .before .before .before .before .read-header .ensures) in
+    let m = head .small in
+    (m .1 .1 .0, m .1 .1 .1 .1 .0)
 
 same-length : tie.Need-same-length
 same-length c = search needs
@@ -52,19 +60,19 @@ same-length-7 c = search needs
 
 returns : tie.Need-returns
 returns c =
-    let start = c .before .before .before .before .before .before .before .before .before .before .before .before .before .before .before .before .before .before .before .before .before .before .before in
+    let start = c .before .before .before .before .before .before .before .before .before .before .before .before .before .before .before .before .before .before .before .before .before .before .before .before in
     let a = start .args in
     let t : Tables = seven (a .inputs .now) (a .latches .now) (a .outputs .now) (a .gates .now) (a .resets .now) (a .bads .now) (a .constraints .now) in
-    let head = accepted (start .args .version) (start .args .file .now) _ _ _ (sym (c .before .before .before .before .before .before .before .before .before .before .before .binary .given .1) ∙ c .before .before .before .before .before .before .before .before .before .before .before .before .before .read-header .ensures) in
-    short-told (a .version) (a .file .now) t t (a .scratch .now) _ _ _ (head .head) _ (some-table _ _ (c .if1 .taken) (c .before .too-short .ensures ∙ ap (λ (x : Sizes). short (against 1 (wordsToRead (c .before .before .before .before .before .before .before .before .before .before .before .binary .given .0 .1 .0)) (lengthsIn x (length (a .scratch .now))))) (c .before .before .lengths .ensures)))
+    let head = accepted (start .args .version) (start .args .file .now) _ _ _ (sym (c .before .before .before .before .before .before .before .before .before .before .before .before .binary .given .1) ∙ c .before .before .before .before .before .before .before .before .before .before .before .before .before .before .read-header .ensures) in
+    short-told (a .version) (a .file .now) t t (a .scratch .now) _ _ _ (head .head) _ (some-table _ _ (c .if1 .taken) (c .before .too-short .ensures ∙ ap₂ (λ (k : ℕ) (x : Sizes). short (against 1 (wordsWith k (c .before .before .before .before .before .before .before .before .before .before .before .before .binary .given .0 .1 .0)) (lengthsIn x (length (a .scratch .now))))) (c .before .before .scratch-to-read .ensures) (c .before .before .before .lengths .ensures)))
 
 rest-of-requires : tie.Need-rest-of-requires
 rest-of-requires c κs =
-    let start = c .before .before .before .before .before .before .before .before .before .before .before .before .before .before .before .before .before .before .before .before .before .before .before .before .before .before .before .before .before .before .before in
+    let start = c .before .before .before .before .before .before .before .before .before .before .before .before .before .before .before .before .before .before .before .before .before .before .before .before .before .before .before .before .before .before .before .before in
     let a = start .args in
     let t : Tables = seven (a .inputs .now) (a .latches .now) (a .outputs .now) (a .gates .now) (a .resets .now) (a .bads .now) (a .constraints .now) in
-    let head = accepted (start .args .version) (start .args .file .now) _ _ _ (sym (c .before .before .before .before .before .before .before .before .before .before .before .before .before .before .before .before .before .before .before .binary .given .1) ∙ c .before .before .before .before .before .before .before .before .before .before .before .before .before .before .before .before .before .before .before .before .before .read-header .ensures) in
-    (room-for _ t (a .scratch .now) (head .small) (no-table _ _ (c .before .before .before .before .before .before .before .before .if1 .left) (c .before .before .before .before .before .before .before .before .before .too-short .ensures ∙ ap (λ (x : Sizes). short (against 1 (wordsToRead (c .before .before .before .before .before .before .before .before .before .before .before .before .before .before .before .before .before .before .before .binary .given .0 .1 .0)) (lengthsIn x (length (a .scratch .now))))) (c .before .before .before .before .before .before .before .before .before .before .lengths .ensures))) (start .pre), head .sum)
+    let head = accepted (start .args .version) (start .args .file .now) _ _ _ (sym (c .before .before .before .before .before .before .before .before .before .before .before .before .before .before .before .before .before .before .before .before .binary .given .1) ∙ c .before .before .before .before .before .before .before .before .before .before .before .before .before .before .before .before .before .before .before .before .before .before .read-header .ensures) in
+    (room-for _ _ t (a .scratch .now) (head .small) (no-table _ _ (c .before .before .before .before .before .before .before .before .if1 .left) (c .before .before .before .before .before .before .before .before .before .too-short .ensures ∙ ap₂ (λ (k : ℕ) (x : Sizes). short (against 1 (wordsWith k (c .before .before .before .before .before .before .before .before .before .before .before .before .before .before .before .before .before .before .before .before .binary .given .0 .1 .0)) (lengthsIn x (length (a .scratch .now))))) (c .before .before .before .before .before .before .before .before .before .before .scratch-to-read .ensures) (c .before .before .before .before .before .before .before .before .before .before .before .lengths .ensures))) (start .pre), head .sum)
 
 enum-known-r-2 : tie.Need-enum-known-r-2
 enum-known-r-2 c = search needs
@@ -109,13 +117,13 @@ same-length-15 c = c .before .before .before .before .scratch .given
 
 returns-3 : tie.Need-returns-3
 returns-3 c =
-    let start = c .before .before .before .before .before .before .before .before .before .before .before .before .before .before .before .before .before .before .before .before .before .before .before .before .before .before .before .before .before .before .before .before .before .before .before .before .before .before .before .before .before .before .before .before .before .before .before .before .before .before .before in
+    let start = c .before .before .before .before .before .before .before .before .before .before .before .before .before .before .before .before .before .before .before .before .before .before .before .before .before .before .before .before .before .before .before .before .before .before .before .before .before .before .before .before .before .before .before .before .before .before .before .before .before .before .before .before in
     let f = c .before .before .before .before .before .before .before .before .before .before .before .before .before .before .before .before .before .before .before .rest-of in
     let a = start .args in
     let t : Tables = seven (a .inputs .now) (a .latches .now) (a .outputs .now) (a .gates .now) (a .resets .now) (a .bads .now) (a .constraints .now) in
     let t′ : Tables = seven (f .last .1 .1 .1 .1 .1 .0) (f .last .1 .1 .1 .1 .1 .1 .0) (f .last .1 .1 .1 .1 .1 .1 .1 .0) (f .last .1 .1 .1 .1 .1 .1 .1 .1 .0) (f .last .1 .1 .1 .1 .1 .1 .1 .1 .1 .0) (f .last .1 .1 .1 .1 .1 .1 .1 .1 .1 .1 .0) (f .last .1 .1 .1 .1 .1 .1 .1 .1 .1 .1 .1 .0) in
-    let head = accepted (start .args .version) (start .args .file .now) _ _ _ (sym (c .before .before .before .before .before .before .before .before .before .before .before .before .before .before .before .before .before .before .before .before .before .before .before .before .before .before .before .before .before .before .before .before .before .before .before .before .before .before .before .binary .given .1) ∙ c .before .before .before .before .before .before .before .before .before .before .before .before .before .before .before .before .before .before .before .before .before .before .before .before .before .before .before .before .before .before .before .before .before .before .before .before .before .before .before .before .before .read-header .ensures) in
-    rest-refused (a .version) (a .file .now) t t′ (a .scratch .now) _ _ _ (head .head) (no-table _ _ (c .before .before .before .before .before .before .before .before .before .before .before .before .before .before .before .before .before .before .before .before .before .before .before .before .before .before .before .before .if1 .left) (c .before .before .before .before .before .before .before .before .before .before .before .before .before .before .before .before .before .before .before .before .before .before .before .before .before .before .before .before .before .too-short .ensures ∙ ap (λ (x : Sizes). short (against 1 (wordsToRead (c .before .before .before .before .before .before .before .before .before .before .before .before .before .before .before .before .before .before .before .before .before .before .before .before .before .before .before .before .before .before .before .before .before .before .before .before .before .before .before .binary .given .0 .1 .0)) (lengthsIn x (length (a .scratch .now))))) (c .before .before .before .before .before .before .before .before .before .before .before .before .before .before .before .before .before .before .before .before .before .before .before .before .before .before .before .before .before .before .lengths .ensures))) _ _ (f .ensures) (c .before .r2 .given .1)
+    let head = accepted (start .args .version) (start .args .file .now) _ _ _ (sym (c .before .before .before .before .before .before .before .before .before .before .before .before .before .before .before .before .before .before .before .before .before .before .before .before .before .before .before .before .before .before .before .before .before .before .before .before .before .before .before .before .binary .given .1) ∙ c .before .before .before .before .before .before .before .before .before .before .before .before .before .before .before .before .before .before .before .before .before .before .before .before .before .before .before .before .before .before .before .before .before .before .before .before .before .before .before .before .before .before .read-header .ensures) in
+    rest-refused (a .version) (a .file .now) t t′ (a .scratch .now) _ _ _ (head .head) (no-table _ _ (c .before .before .before .before .before .before .before .before .before .before .before .before .before .before .before .before .before .before .before .before .before .before .before .before .before .before .before .before .if1 .left) (c .before .before .before .before .before .before .before .before .before .before .before .before .before .before .before .before .before .before .before .before .before .before .before .before .before .before .before .before .before .too-short .ensures ∙ ap₂ (λ (k : ℕ) (x : Sizes). short (against 1 (wordsWith k (c .before .before .before .before .before .before .before .before .before .before .before .before .before .before .before .before .before .before .before .before .before .before .before .before .before .before .before .before .before .before .before .before .before .before .before .before .before .before .before .before .binary .given .0 .1 .0)) (lengthsIn x (length (a .scratch .now))))) (c .before .before .before .before .before .before .before .before .before .before .before .before .before .before .before .before .before .before .before .before .before .before .before .before .before .before .before .before .before .before .scratch-to-read .ensures) (c .before .before .before .before .before .before .before .before .before .before .before .before .before .before .before .before .before .before .before .before .before .before .before .before .before .before .before .before .before .before .before .lengths .ensures))) _ _ (f .ensures) (c .before .r2 .given .1)
 
 same-length-16 : tie.Need-same-length-16
 same-length-16 c =
@@ -147,13 +155,13 @@ same-length-23 c = c .before .before .before .before .scratch .given
 
 returns-4 : tie.Need-returns-4
 returns-4 c =
-    let start = c .before .before .before .before .before .before .before .before .before .before .before .before .before .before .before .before .before .before .before .before .before .before .before .before .before .before .before .before .before .before .before .before .before .before .before .before .before .before .before .before .before .before .before .before .before .before .before .before .before .before .before in
+    let start = c .before .before .before .before .before .before .before .before .before .before .before .before .before .before .before .before .before .before .before .before .before .before .before .before .before .before .before .before .before .before .before .before .before .before .before .before .before .before .before .before .before .before .before .before .before .before .before .before .before .before .before .before in
     let f = c .before .before .before .before .before .before .before .before .before .before .before .before .before .before .before .before .before .before .before .rest-of in
     let a = start .args in
     let t : Tables = seven (a .inputs .now) (a .latches .now) (a .outputs .now) (a .gates .now) (a .resets .now) (a .bads .now) (a .constraints .now) in
     let t′ : Tables = seven (f .last .1 .1 .1 .1 .1 .0) (f .last .1 .1 .1 .1 .1 .1 .0) (f .last .1 .1 .1 .1 .1 .1 .1 .0) (f .last .1 .1 .1 .1 .1 .1 .1 .1 .0) (f .last .1 .1 .1 .1 .1 .1 .1 .1 .1 .0) (f .last .1 .1 .1 .1 .1 .1 .1 .1 .1 .1 .0) (f .last .1 .1 .1 .1 .1 .1 .1 .1 .1 .1 .1 .0) in
-    let head = accepted (start .args .version) (start .args .file .now) _ _ _ (sym (c .before .before .before .before .before .before .before .before .before .before .before .before .before .before .before .before .before .before .before .before .before .before .before .before .before .before .before .before .before .before .before .before .before .before .before .before .before .before .before .binary .given .1) ∙ c .before .before .before .before .before .before .before .before .before .before .before .before .before .before .before .before .before .before .before .before .before .before .before .before .before .before .before .before .before .before .before .before .before .before .before .before .before .before .before .before .before .read-header .ensures) in
-    rest-accepted (a .version) (a .file .now) t t′ (a .scratch .now) _ _ _ (head .head) (no-table _ _ (c .before .before .before .before .before .before .before .before .before .before .before .before .before .before .before .before .before .before .before .before .before .before .before .before .before .before .before .before .if1 .left) (c .before .before .before .before .before .before .before .before .before .before .before .before .before .before .before .before .before .before .before .before .before .before .before .before .before .before .before .before .before .too-short .ensures ∙ ap (λ (x : Sizes). short (against 1 (wordsToRead (c .before .before .before .before .before .before .before .before .before .before .before .before .before .before .before .before .before .before .before .before .before .before .before .before .before .before .before .before .before .before .before .before .before .before .before .before .before .before .before .binary .given .0 .1 .0)) (lengthsIn x (length (a .scratch .now))))) (c .before .before .before .before .before .before .before .before .before .before .before .before .before .before .before .before .before .before .before .before .before .before .before .before .before .before .before .before .before .before .lengths .ensures))) _ _ (λ k. c .before .before .before .before .before .before .before .before .before .before .before .before .before .before .before .before .before .before .before .before .before .before .before .before .before .before .before .before .before .before .before .before .before .before .before .before .before .before .before .before .before .before .before .before .before .before .before .before .before .before .shared-slice-known .given k .fits) (head .sum) (f .ensures) (c .before .next .given .1)
+    let head = accepted (start .args .version) (start .args .file .now) _ _ _ (sym (c .before .before .before .before .before .before .before .before .before .before .before .before .before .before .before .before .before .before .before .before .before .before .before .before .before .before .before .before .before .before .before .before .before .before .before .before .before .before .before .before .binary .given .1) ∙ c .before .before .before .before .before .before .before .before .before .before .before .before .before .before .before .before .before .before .before .before .before .before .before .before .before .before .before .before .before .before .before .before .before .before .before .before .before .before .before .before .before .before .read-header .ensures) in
+    rest-accepted (a .version) (a .file .now) t t′ (a .scratch .now) _ _ _ (head .head) (no-table _ _ (c .before .before .before .before .before .before .before .before .before .before .before .before .before .before .before .before .before .before .before .before .before .before .before .before .before .before .before .before .if1 .left) (c .before .before .before .before .before .before .before .before .before .before .before .before .before .before .before .before .before .before .before .before .before .before .before .before .before .before .before .before .before .too-short .ensures ∙ ap₂ (λ (k : ℕ) (x : Sizes). short (against 1 (wordsWith k (c .before .before .before .before .before .before .before .before .before .before .before .before .before .before .before .before .before .before .before .before .before .before .before .before .before .before .before .before .before .before .before .before .before .before .before .before .before .before .before .before .binary .given .0 .1 .0)) (lengthsIn x (length (a .scratch .now))))) (c .before .before .before .before .before .before .before .before .before .before .before .before .before .before .before .before .before .before .before .before .before .before .before .before .before .before .before .before .before .before .scratch-to-read .ensures) (c .before .before .before .before .before .before .before .before .before .before .before .before .before .before .before .before .before .before .before .before .before .before .before .before .before .before .before .before .before .before .before .lengths .ensures))) _ _ (λ k. c .before .before .before .before .before .before .before .before .before .before .before .before .before .before .before .before .before .before .before .before .before .before .before .before .before .before .before .before .before .before .before .before .before .before .before .before .before .before .before .before .before .before .before .before .before .before .before .before .before .before .before .shared-slice-known .given k .fits) (head .sum) (f .ensures) (c .before .next .given .1)
 
 pub fill-spec : {M : Type 1} → statement M
 fill-spec =
@@ -163,6 +171,7 @@ fill-spec =
     enum-known-r
     enum-known-binary
     lengths-requires
+    scratch-to-read-requires
     too-short-requires
     same-length
     same-length-2

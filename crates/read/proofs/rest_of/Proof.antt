@@ -1,13 +1,18 @@
+use mathlib.Core.Path.{ap}
 use borrow.Author.Needs.{needs}
 use Rattle.plan.specs.Circuit.{Tables, seven}
-use Rattle.read.proofs.Fills.{as-binary, as-text, binary-sum, text-sum}
+use Rattle.plan.specs.Header.{text, binary}
+use Rattle.plan.specs.Outcome.{formOf}
+use Rattle.read.proofs.Fills.{as-binary, as-text, room-of, binary-sum, text-sum}
 use Rattle.read.proofs.rest_of.Statement.{statement}
 use Rattle.read.proofs.rest_of.Tie as tie
 
 rest-of-binary-requires : tie.Need-rest-of-binary-requires
 rest-of-binary-requires c κs =
     let start = c .before .before .before .before .before .before .before .before .before .before .before .before .before .before .before .before .before .before in
-    let a = start .args in (start .pre .0, binary-sum (a .n) (a .binary) (c .before .before .before .before .before .before .before .before .if1 .taken) (start .pre .1))
+    let a = start .args in
+    let is = c .before .before .before .before .before .before .before .before .if1 .taken in
+    (room-of binary (a .n) _ _ (a .binary) (ap formOf is) (start .pre .0), binary-sum (a .n) (a .binary) is (start .pre .1))
 
 same-length : tie.Need-same-length
 same-length c =
@@ -47,7 +52,9 @@ returns c =
 rest-of-text-requires : tie.Need-rest-of-text-requires
 rest-of-text-requires c κs =
     let start = c .before .before .before .before .before .before .before .before .before .before .before .before .before .before .before .before .before .before in
-    let a = start .args in (start .pre .0, text-sum (a .n) (a .binary) (c .before .before .before .before .before .before .before .before .if1 .left) (start .pre .1))
+    let a = start .args in
+    let is = c .before .before .before .before .before .before .before .before .if1 .left in
+    (room-of text (a .n) _ _ (a .binary) (ap formOf is) (start .pre .0), text-sum (a .n) (a .binary) is (start .pre .1))
 
 same-length-9 : tie.Need-same-length-9
 same-length-9 c =

@@ -1,13 +1,12 @@
-use Prim.Native.Nat.{_+_, _-_, _≤_, _<_}
+use Prim.Native.Nat.{_+_, _-_, _≤_}
 use mathlib.Core.Path.{_≡_, refl, sym, ap, _∙_}
-use native.Mathlib.Nat.{le-refl}
 use native.Mathlib.Omega.{arith}
 use borrow.Author.Needs.{needs}
-use borrow.Rule.Slice.PartMut.{midOf, putMid, mid-len, same-len-mid}
+use borrow.Rule.Slice.PartMut.{midOf, putMid, same-len-mid}
 use lib.ListN.{length}
 use Rattle.plan.specs.Circuit.{Circuit, Tables, seven}
 use Rattle.plan.specs.Binary.{binaryBody}
-use Rattle.theorems.proofs.Reading.NoSevenEight.{no-seven-eight}
+use Rattle.theorems.proofs.Reading.NoSixSevenEight.{no-six-seven-eight}
 use Rattle.rest.proofs.After.{stops, tail-told, good}
 use Rattle.rest.proofs.Parts.{second, second-length, first-blank, first-length}
 use Rattle.rest.proofs.rest_of_binary.Statement.{statement}
@@ -42,11 +41,7 @@ read-binary-requires c κs =
     let start = c .before .before .before .before .before .before .before .before .before .before .before .before .before .before .before .before .before .before .before .before .before in
     let a = start .args in
     let room = start .pre .0 in
-    let base = a .n .I + a .n .L + a .n .O + a .n .B + a .n .C in
-    let s = a .scratch .now in
-    let long : length (midOf base (length s - base) s) ≡ length s - base = mid-len base (length s) s (le-refl (length s)) in
-    let enough : a .n .M < length (midOf base (length s - base) s) = omega (arith, room .words, start .pre .1) in
-    (room .most-M, (start .pre .1, (room .inputs, (room .latches, (room .outputs, (room .gates, (room .resets, (room .bads, (room .constraints, enough)))))))))
+    (room .most-M, (start .pre .1, (room .inputs, (room .latches, (room .outputs, (room .gates, (room .resets, (room .bads, room .constraints))))))))
 
 enum-known-read : tie.Need-enum-known-read
 enum-known-read c = search needs
@@ -244,7 +239,7 @@ returns-3 c =
     let t′ : Tables = seven (f .last .1 .1 .1 .1 .0) (f .last .1 .1 .1 .1 .1 .0) (f .last .1 .1 .1 .1 .1 .1 .0) (f .last .1 .1 .1 .1 .1 .1 .1 .0) (f .last .1 .1 .1 .1 .1 .1 .1 .1 .0) (f .last .1 .1 .1 .1 .1 .1 .1 .1 .1 .0) (f .last .1 .1 .1 .1 .1 .1 .1 .1 .1 .1 .0) in
     let body = binaryBody (a .version) (a .file .now) (a .n) (a .at) in
     good (a .version) (a .file .now) (a .n) body t t′ _ (f .ensures) _ (c .before .before .before .before .before .before .before .read .given .1) _ (c .before .before .before .before .check .ensures) (c .enum-told2 .given .1)
-    (λ d e. no-seven-eight (a .file .now) (λ k. c .before .before .before .before .before .before .before .before .before .before .before .before .before .before .before .before .before .before .before .before .before .before .before .before .before .before .before .before .before .before .before .before .before .before .before .before .before .before .before .before .before .before .before .before .before .before .shared-slice-known .given k .fits) (a .version) (a .n) (a .at) d _ (start .pre .1) e)
+    (λ d e. let k = no-six-seven-eight (a .file .now) (λ k. c .before .before .before .before .before .before .before .before .before .before .before .before .before .before .before .before .before .before .before .before .before .before .before .before .before .before .before .before .before .before .before .before .before .before .before .before .before .before .before .before .before .before .before .before .before .before .shared-slice-known .given k .fits) (a .version) (a .n) (a .at) d _ (start .pre .1) e in (k .1, k .2))
 
 pub rest-of-binary-spec : {M : Type 1} → statement M
 rest-of-binary-spec =

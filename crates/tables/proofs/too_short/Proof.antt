@@ -1,4 +1,3 @@
-use native.Mathlib.Omega.{arith}
 use borrow.Author.Needs.{needs}
 use Rattle.tables.proofs.Least.{table1, table2, table3, table4, table5, table7, table8, table9, no-table}
 use Rattle.tables.proofs.too_short.Statement.{statement}
@@ -7,7 +6,7 @@ use Rattle.tables.proofs.too_short.Tie as tie
 returns : tie.Need-returns
 returns c =
     let x = c .before .before .before .args in
-    table1 (x .n) (x .to) (x .scratch) (c .if1 .taken)
+    table1 (x .n) (x .to) (x .needed) (x .scratch) (c .if1 .taken)
 
 mul-if2 : tie.Need-mul-if2
 mul-if2 c = search needs
@@ -16,14 +15,14 @@ returns-2 : tie.Need-returns-2
 returns-2 c =
     let d1 = c .before .before .before in
     let x = d1 .before .before .before .args in
-    table2 (x .n) (x .to) (x .scratch) (d1 .if1 .left) (c .if2 .taken)
+    table2 (x .n) (x .to) (x .needed) (x .scratch) (d1 .if1 .left) (c .if2 .taken)
 
 returns-3 : tie.Need-returns-3
 returns-3 c =
     let d2 = c .before .before .before in
     let d1 = d2 .before .before .before in
     let x = d1 .before .before .before .args in
-    table3 (x .n) (x .to) (x .scratch) (d1 .if1 .left) (d2 .if2 .left) (c .if3 .taken)
+    table3 (x .n) (x .to) (x .needed) (x .scratch) (d1 .if1 .left) (d2 .if2 .left) (c .if3 .taken)
 
 mul-if4 : tie.Need-mul-if4
 mul-if4 c = search needs
@@ -34,65 +33,50 @@ returns-4 c =
     let d2 = d3 .before .before .before in
     let d1 = d2 .before .before .before in
     let x = d1 .before .before .before .args in
-    table4 (x .n) (x .to) (x .scratch) (d1 .if1 .left) (d2 .if2 .left) (d3 .if3 .left) (c .if4 .taken)
-
-add-if5 : tie.Need-add-if5
-add-if5 c = search needs
-
-mul-if5 : tie.Need-mul-if5
-mul-if5 c = search needs
-
-add-if5-2 : tie.Need-add-if5-2
-add-if5-2 c = search needs
-
-add-if5-3 : tie.Need-add-if5-3
-add-if5-3 c = omega (arith, c .before .before .before .before .before .before .before .before .before .before .before .before .before .before .before .pre)
-
-add-if5-4 : tie.Need-add-if5-4
-add-if5-4 c =
-    omega (arith, c .before .before .before .before .before .before .before .before .before .before .before .before .before .before .before .before .pre)
+    table4 (x .n) (x .to) (x .needed) (x .scratch) (d1 .if1 .left) (d2 .if2 .left) (d3 .if3 .left) (c .if4 .taken)
 
 returns-5 : tie.Need-returns-5
 returns-5 c =
-    let d4 = c .before .before .before .before .before in
+    let d4 = c .before in
     let d3 = d4 .before .before .before in
     let d2 = d3 .before .before .before in
     let d1 = d2 .before .before .before in
     let x = d1 .before .before .before .args in
-    table5 (x .n) (x .to) (x .scratch) (d1 .if1 .left) (d2 .if2 .left) (d3 .if3 .left) (d4 .if4 .left) (c .if5 .taken)
+    table5 (x .n) (x .to) (x .needed) (x .scratch) (d1 .if1 .left) (d2 .if2 .left) (d3 .if3 .left) (d4 .if4 .left) (c .if5 .taken)
 
 returns-6 : tie.Need-returns-6
 returns-6 c =
     let d5 = c .before .before .before in
-    let d4 = d5 .before .before .before .before .before in
+    let d4 = d5 .before in
     let d3 = d4 .before .before .before in
     let d2 = d3 .before .before .before in
     let d1 = d2 .before .before .before in
     let x = d1 .before .before .before .args in
-    table7 (x .n) (x .to) (x .scratch) (d1 .if1 .left) (d2 .if2 .left) (d3 .if3 .left) (d4 .if4 .left) (d5 .if5 .left) (c .if6 .taken)
+    table7 (x .n) (x .to) (x .needed) (x .scratch) (d1 .if1 .left) (d2 .if2 .left) (d3 .if3 .left) (d4 .if4 .left) (d5 .if5 .left) (c .if6 .taken)
 
 returns-7 : tie.Need-returns-7
 returns-7 c =
     let d6 = c .before .before .before in
     let d5 = d6 .before .before .before in
-    let d4 = d5 .before .before .before .before .before in
+    let d4 = d5 .before in
     let d3 = d4 .before .before .before in
     let d2 = d3 .before .before .before in
     let d1 = d2 .before .before .before in
     let x = d1 .before .before .before .args in
-    table8 (x .n) (x .to) (x .scratch) (d1 .if1 .left) (d2 .if2 .left) (d3 .if3 .left) (d4 .if4 .left) (d5 .if5 .left) (d6 .if6 .left) (c .if7 .taken)
+    table8 (x .n) (x .to) (x .needed) (x .scratch) (d1 .if1 .left) (d2 .if2 .left) (d3 .if3 .left) (d4 .if4 .left) (d5 .if5 .left) (d6 .if6 .left)
+    (c .if7 .taken)
 
 returns-8 : tie.Need-returns-8
 returns-8 c =
     let d7 = c .before .before .before in
     let d6 = d7 .before .before .before in
     let d5 = d6 .before .before .before in
-    let d4 = d5 .before .before .before .before .before in
+    let d4 = d5 .before in
     let d3 = d4 .before .before .before in
     let d2 = d3 .before .before .before in
     let d1 = d2 .before .before .before in
     let x = d1 .before .before .before .args in
-    table9 (x .n) (x .to) (x .scratch) (d1 .if1 .left) (d2 .if2 .left) (d3 .if3 .left) (d4 .if4 .left) (d5 .if5 .left) (d6 .if6 .left)
+    table9 (x .n) (x .to) (x .needed) (x .scratch) (d1 .if1 .left) (d2 .if2 .left) (d3 .if3 .left) (d4 .if4 .left) (d5 .if5 .left) (d6 .if6 .left)
     (d7 .if7 .left) (c .if8 .taken)
 
 returns-9 : tie.Need-returns-9
@@ -100,12 +84,12 @@ returns-9 c =
     let d7 = c .before .before .before in
     let d6 = d7 .before .before .before in
     let d5 = d6 .before .before .before in
-    let d4 = d5 .before .before .before .before .before in
+    let d4 = d5 .before in
     let d3 = d4 .before .before .before in
     let d2 = d3 .before .before .before in
     let d1 = d2 .before .before .before in
     let x = d1 .before .before .before .args in
-    no-table (x .n) (x .to) (x .scratch) (d1 .if1 .left) (d2 .if2 .left) (d3 .if3 .left) (d4 .if4 .left) (d5 .if5 .left) (d6 .if6 .left)
+    no-table (x .n) (x .to) (x .needed) (x .scratch) (d1 .if1 .left) (d2 .if2 .left) (d3 .if3 .left) (d4 .if4 .left) (d5 .if5 .left) (d6 .if6 .left)
     (d7 .if7 .left) (c .if8 .left)
 
 pub too-short-spec : {M : Type 1} → statement M
@@ -118,11 +102,6 @@ too-short-spec =
     returns-3
     mul-if4
     returns-4
-    add-if5
-    mul-if5
-    add-if5-2
-    add-if5-3
-    add-if5-4
     returns-5
     returns-6
     returns-7

@@ -83,7 +83,7 @@ returns-2 c =
 read-observed-requires : tie.Need-read-observed-requires
 read-observed-requires c κs =
     let start = c .before .before .before .before .before .before .before .before .before .before .before .before .before .before .before .before .before .before .before .before .before .before .before .before .before .before .before .before .before .before .before .before .before .before .before .before .before .before in
-    (start .pre .0, (start .pre .1 .1 .1 .1 .0, (start .pre .1 .1 .1 .1 .1 .1 .1 .0, (start .pre .1 .1 .1 .1 .1 .1 .1 .1 .0, omega (arith, c .before .before .before .before .before .before .before .before .before .before .before .before .before .before .before .before .before .before .before .before .before .before .marks .given, c .before .before .before .before .before .before .before .before .marks2 .given, start .pre .1 .1 .1 .1 .1 .1 .1 .1 .1 .0)))))
+    (start .pre .0, (start .pre .1 .1 .1 .1 .0, (start .pre .1 .1 .1 .1 .1 .1 .1 .0, start .pre .1 .1 .1 .1 .1 .1 .1 .1 .0)))
 
 enum-known-read-3 : tie.Need-enum-known-read-3
 enum-known-read-3 c = search needs
