@@ -94,9 +94,20 @@ impl Counts {
         [self.m, self.i, self.l, self.o, self.a, self.b, self.c]
     }
 
-    /// The words that the tables need.
+    /// The words that the tables need, but to read a binary file.
     pub fn words(&self) -> Lengths {
-        let scratch = 4 * (self.m + 1) + self.o + self.b + self.c;
+        self.words_with(4 * (self.m + 1) + self.o + self.b + self.c)
+    }
+
+    /// The words that the tables need to read a file.
+    pub fn words_to_read(&self, form: Form) -> Lengths {
+        match form {
+            Form::Text => self.words(),
+            Form::Binary => self.words_with(self.i + self.l + self.o + self.b + self.c),
+        }
+    }
+
+    fn words_with(&self, scratch: u64) -> Lengths {
         let circuit = [self.i, 2 * self.l, self.o, 3 * self.a, self.l, self.b, self.c];
         with_scratch(circuit, scratch)
     }

@@ -5,7 +5,8 @@ mod places;
 pub mod programs;
 pub mod vectors;
 
-use crate::aiger::{Circuit, Form, Version, MOST};
+use crate::aiger::read::words;
+use crate::aiger::{Circuit, Form, Refusal, Version, MOST};
 use crate::generate::{Answer, Answers, Case};
 use crate::spelling::Spelling;
 use crate::tally::Tally;
@@ -33,12 +34,15 @@ pub struct Coverage {
     kinds: [u64; KINDS.len()],
     /// By version.
     places: [PlaceCoverage; 2],
+    /// Binary files whose table 5 is one word too short.
+    one_word_short: u64,
 }
 
 /// Kinds of accepted files, and in how many cases there must be one of each.
-const KINDS: [(&str, u64); 11] = [
+const KINDS: [(&str, u64); 12] = [
     ("a difference of three bytes", 1000),
     ("tables exactly long enough", 12),
+    ("a binary file, table 5 exactly long enough", 12),
     ("the largest M", 30_000),
     ("a reset of 1", 20),
     ("a reset of x", 20),
@@ -52,10 +56,12 @@ const KINDS: [(&str, u64); 11] = [
 
 fn kinds(case: &Case, circuit: &Circuit, old: &Answer) -> [bool; KINDS.len()] {
     let form = form(&case.file);
+    let needed = circuit.counts().words_to_read(form);
     let spelled = Spelling::of(&case.file, circuit.latches.len());
     [
         form == Form::Binary && far(circuit),
-        case.lengths == circuit.counts().words(),
+        case.lengths == needed,
+        form == Form::Binary && case.lengths[4] == needed[4],
         circuit.m == MOST,
         circuit.resets.contains(&1),
         circuit.resets.iter().any(|&reset| reset > 1),
@@ -68,7 +74,8 @@ fn kinds(case: &Case, circuit: &Circuit, old: &Answer) -> [bool; KINDS.len()] {
     ]
 }
 
-fn form(file: &[u8]) -> Form {
+/// The form that the second letter names.
+pub fn form(file: &[u8]) -> Form {
     match file.get(1) {
         Some(b'i') => Form::Binary,
         _ => Form::Text,
@@ -87,6 +94,7 @@ impl Coverage {
                 self.places[version].add(refusal);
             }
         }
+        self.one_word_short += u64::from(one_word_short(case, &answers[Version::V19 as usize]));
         if let [old, Ok((circuit, _))] = answers {
             let gates = if circuit.gates.is_empty() {
                 &mut self.without_gates
@@ -117,6 +125,11 @@ impl Coverage {
         for (form, count) in [(Form::Text, text), (Form::Binary, binary)] {
             tally.check(&format!("accepted, A > 0, {form:?}"), at_least(count, self.cases / 12));
         }
+        println!("binary, table 5 one word too short: {}", self.one_word_short);
+        tally.check(
+            "binary, table 5 one word too short",
+            at_least(self.one_word_short, PER_REFUSAL / 4),
+        );
         for ((kind, share), &count) in KINDS.iter().zip(&self.kinds) {
             println!("accepted with {kind}: {count}");
             tally.check(&format!("accepted with {kind}"), at_least(count, self.cases / share));
@@ -138,6 +151,11 @@ impl Coverage {
             }
         }
     }
+}
+
+fn one_word_short(case: &Case, answer: &Answer) -> bool {
+    let short = Err(Refusal { number: 4, place: 5 });
+    form(&case.file) == Form::Binary && *answer == short && case.lengths[4] + 1 == words(&case.file, 5)
 }
 
 fn far(circuit: &Circuit) -> bool {

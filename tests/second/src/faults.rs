@@ -27,12 +27,13 @@ enum Slip {
     WritesBeside,
     WordsOfTheWholeFile,
     ScratchOf2007,
+    ScratchOfText,
     ResetsForgotten,
     OldReaderReadsNew,
     NewReaderReadsOld,
 }
 
-const SLIPS: [Slip; 16] = [
+const SLIPS: [Slip; 17] = [
     Slip::RefusesAll,
     Slip::HighGroupFirst,
     Slip::GatesSorted,
@@ -46,6 +47,7 @@ const SLIPS: [Slip; 16] = [
     Slip::WritesBeside,
     Slip::WordsOfTheWholeFile,
     Slip::ScratchOf2007,
+    Slip::ScratchOfText,
     Slip::ResetsForgotten,
     Slip::OldReaderReadsNew,
     Slip::NewReaderReadsOld,
@@ -115,6 +117,9 @@ impl Slip {
             Slip::WordsOfTheWholeFile if refused => u64::MAX,
             Slip::ScratchOf2007 if table == 5 && words != u64::MAX => {
                 words - (read::words(file, 8) + read::words(file, 9))
+            }
+            Slip::ScratchOfText if table == 5 => {
+                read::header(file, Version::V19).map_or(words, |header| header.counts.words()[4])
             }
             _ => words,
         }

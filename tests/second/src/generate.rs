@@ -155,7 +155,7 @@ fn early(end: usize) -> Refusal {
 const MANY_WORDS: u64 = 300_000;
 
 fn lend(random: &mut Random, treatment: Treatment, file: Vec<u8>, promises: Promises) -> Case {
-    let needed = Version::ALL.map(|version| header(&file, version).ok().map(|header| header.counts.words()));
+    let needed = Version::ALL.map(|version| header(&file, version).ok().map(|header| header.words()));
     let lengths = lengths(random, treatment, &needed[1]);
     // 4 comes after the header and before all else.
     let mut needed = needed.into_iter();

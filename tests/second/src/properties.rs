@@ -7,6 +7,7 @@ use crate::aiger::convert::{convert, Converted};
 use crate::aiger::reduce::reduce;
 use crate::aiger::tables::{self, binary_order, Given};
 use crate::aiger::{read, variable, write, Circuit, Form, Version, TABLES};
+use crate::coverage::form;
 use crate::ensure;
 use crate::generate::{Answer, Answers, Case};
 use crate::naive;
@@ -27,6 +28,7 @@ pub fn check(case: &Case, answers: &Answers, random: &mut Random) -> Result<(), 
         }
     }
     let [old, answer] = answers;
+    meaningful(case, answers)?;
     versions(case, old, answer)?;
     words(case, answer)?;
     let Ok((circuit, tail)) = answer else {
@@ -43,6 +45,15 @@ pub fn check(case: &Case, answers: &Answers, random: &mut Random) -> Result<(), 
     reduction(&converted.circuit, &reduced)?;
     values::check(random, circuit, &converted, &reduced)?;
     given::check(random, circuit, tail)
+}
+
+/// The order of a binary file's variables leaves nothing to 6, 7 and 8.
+fn meaningful(case: &Case, answers: &Answers) -> Result<(), String> {
+    for refusal in answers.iter().filter_map(|answer| answer.as_ref().err()) {
+        let of_text = matches!(refusal.number, 6..=8);
+        ensure!(!of_text || form(&case.file) == Form::Text, "binary, {refusal:?}");
+    }
+    Ok(())
 }
 
 /// What the reader of 2007 accepts, that of 1.9 accepts alike; and if the circuit is one of 2007 and its file in the
@@ -67,7 +78,10 @@ fn words(case: &Case, answer: &Answer) -> Result<(), String> {
     let mut all = TABLES.iter().zip(words).zip(case.lengths);
     let short = all.find_map(|((table, words), length)| (words > length).then_some(*table));
     match answer {
-        Ok((circuit, _)) => ensure!(words == circuit.counts().words(), "words {words:?}"),
+        Ok((circuit, _)) => {
+            let needed = circuit.counts().words_to_read(form(&case.file));
+            ensure!(words == needed, "words {words:?}")
+        }
         Err(refusal) if matches!(refusal.number, 2 | 3 | 21) => ensure!(words == [u64::MAX; 8], "words {words:?}"),
         Err(refusal) if refusal.number == 4 => {
             ensure!(short == Some(refusal.place), "4 at {}", refusal.place)
@@ -118,7 +132,7 @@ fn conversion(old: &Circuit, converted: &Converted, tail: &[u8]) -> Result<(), S
         "changed though in binary order"
     );
     let bytes = write::file(new, Form::Binary, tail);
-    let again = read::read(&bytes, &expected.words(), Version::V19);
+    let again = read::read(&bytes, &expected.words_to_read(Form::Binary), Version::V19);
     ensure!(
         again == Ok((new.clone(), bytes.len() - tail.len())),
         "read from its binary: {again:?}"

@@ -1,7 +1,7 @@
 //! The programs: from `plan.in` and standard input to every byte that they write.
 
 use super::calls::are_values;
-use super::{convert, read, reduce, refuse, step, write, Circuit, Form, Lengths, Refusal, Version};
+use super::{convert, read, reduce, refuse, step, tables, write, Circuit, Form, Lengths, Refusal, Version};
 
 #[derive(Clone, Copy, Debug, PartialEq, Eq)]
 pub enum Program {
@@ -56,10 +56,11 @@ pub fn answer(program: Program, plan: Option<&[u8]>, input: Option<&[u8]>) -> Re
     }
 }
 
-/// `plan.in`: the file, its circuit and its tail.
+/// `plan.in`: the file, its circuit and its tail. Every program goes on to a call that may need more of table 5 than the reader.
 pub fn opened(plan: Option<&[u8]>) -> Result<(&[u8], Circuit, &[u8]), Refusal> {
     let file = bytes(plan)?;
     let (circuit, tail) = read::read(file, &LENT, Version::V19)?;
+    tables::lengths(&circuit.counts().words(), &LENT)?;
     Ok((file, circuit, &file[tail..]))
 }
 

@@ -11,6 +11,13 @@ pub struct Header {
     pub end: usize,
 }
 
+impl Header {
+    /// The words that the tables need to read the file.
+    pub fn words(&self) -> Lengths {
+        self.counts.words_to_read(self.form)
+    }
+}
+
 impl Version {
     /// How many counts a header has: M I L O A, in 1.9 perhaps B C J F.
     fn counts(self) -> RangeInclusive<usize> {
@@ -65,7 +72,7 @@ pub fn words(file: &[u8], table: u64) -> u64 {
         header(file, Version::V19),
         TABLES.iter().position(|&number| number == table),
     ) {
-        (Ok(header), Some(k)) => header.counts.words()[k],
+        (Ok(header), Some(k)) => header.words()[k],
         _ => u64::MAX,
     }
 }
@@ -73,7 +80,7 @@ pub fn words(file: &[u8], table: u64) -> u64 {
 /// The circuit and the offset of the tail.
 pub fn read(file: &[u8], lent: &Lengths, version: Version) -> Result<(Circuit, usize), Refusal> {
     let header = header(file, version)?;
-    tables::lengths(&header.counts, lent)?;
+    tables::lengths(&header.words(), lent)?;
     let mut lines = Lines {
         cursor: Cursor::new(file, header.end),
         version,

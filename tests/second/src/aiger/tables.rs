@@ -29,9 +29,8 @@ impl Given {
     }
 }
 
-/// 4: the least table shorter than the counts ask.
-pub fn lengths(counts: &Counts, lent: &Lengths) -> Result<(), Refusal> {
-    let needed = counts.words();
+/// 4: the least table shorter than needed.
+pub fn lengths(needed: &Lengths, lent: &Lengths) -> Result<(), Refusal> {
     match (0..TABLES.len()).find(|&k| lent[k] < needed[k]) {
         Some(short) => refuse(4, TABLES[short] as usize),
         None => Ok(()),
@@ -56,7 +55,7 @@ pub fn check(given: &Given) -> Result<Circuit, Refusal> {
             *lent = written.min(*lent);
         }
     }
-    lengths(&given.counts, &with_scratch(lent, given.scratch))?;
+    lengths(&given.counts.words(), &with_scratch(lent, given.scratch))?;
     let circuit = circuit(given);
     ranges(&circuit)?;
     definitions(&circuit)?;

@@ -1,8 +1,8 @@
 //! The answers of the programs' runs.
 
 use super::at_least;
-use crate::aiger::programs::{answer, opened, Program, LONGEST};
-use crate::aiger::{Form, Refusal};
+use crate::aiger::programs::{answer, opened, Program, LENT, LONGEST};
+use crate::aiger::{read, Form, Refusal, Version};
 use crate::generate::runs::Run;
 use crate::tally::Tally;
 
@@ -23,6 +23,8 @@ pub struct RunCoverage {
     /// Accepted by program, in text and in binary.
     forms: [[u64; 2]; 3],
     foretold: u64,
+    /// Refused by 4 at 5, though the file is read.
+    after_reading: u64,
     traces: Traces,
 }
 
@@ -45,6 +47,7 @@ impl RunCoverage {
         let number = answer.as_ref().map_or_else(|refusal| refusal.number as usize, |_| 0);
         self.answered[program][number] += 1;
         self.foretold += u64::from(run.foretold.is_some());
+        self.after_reading += u64::from(after_reading(run, &answer));
         if let (Ok(_), Some(file)) = (&answer, run.plan.bytes()) {
             self.forms[program][usize::from(file.get(1) == Some(&b'i'))] += 1;
         }
@@ -66,6 +69,8 @@ impl RunCoverage {
         );
         tally.check("runs of programs", at_least(runs, FEWEST));
         tally.check("runs accepted", at_least(accepted, FEWEST_ACCEPTED));
+        println!("refused by 4 at 5 after reading: {}", self.after_reading);
+        tally.check("4 at 5 after reading", at_least(self.after_reading, PER_KIND));
         self.traces.report(tally);
     }
 
@@ -94,6 +99,11 @@ impl RunCoverage {
             );
         }
     }
+}
+
+fn after_reading(run: &Run, answer: &Result<Vec<u8>, Refusal>) -> bool {
+    let read = |file| read::read(file, &LENT, Version::V19).is_ok();
+    *answer == Err(Refusal { number: 4, place: 5 }) && run.plan.bytes().is_some_and(read)
 }
 
 impl Traces {

@@ -19,6 +19,10 @@ pub fn enough(random: &mut Random, needed: &Lengths) -> Lengths {
 /// At least one table too short, unless the one chosen needs no words.
 pub fn short(random: &mut Random, needed: &Lengths) -> Lengths {
     let mut lengths = enough(random, needed);
+    if random.once_in(4) {
+        lengths[4] = needed[4].saturating_sub(1);
+        return lengths;
+    }
     for _ in 0..random.between(1, 2) {
         let k = random.below(8);
         lengths[k] = match random.below(3) {

@@ -16,6 +16,7 @@ pub fn plan(random: &mut Random, program: Program) -> (Plan, Option<Refusal>) {
         4..=8 => long(random),
         9..=14 => full(random, program),
         15..=29 => (Plan::File(edge(random)), None),
+        30..=33 => to_read_alone(random),
         _ => (Plan::File(generate::case(random.word(), 0).file), None),
     }
 }
@@ -134,6 +135,30 @@ fn edge(random: &mut Random) -> Vec<u8> {
     }
     let circuit = circuit(random, form, &size);
     Draft::new(random, form, &circuit).layout().file
+}
+
+/// A binary file that table 5 is long enough to read and too short to work on. What a reader refuses comes first.
+fn to_read_alone(random: &mut Random) -> (Plan, Option<Refusal>) {
+    let size = Size {
+        i: LENT[0] as usize - random.below(5),
+        l: random.below(5),
+        o: random.below(200),
+        a: random.between(8, 40),
+        b: random.below(3),
+        c: random.below(3),
+        starts: random.once_in(2),
+        unused: 0,
+    };
+    let circuit = circuit(random, Form::Binary, &size);
+    let mut draft = Draft::new(random, Form::Binary, &circuit);
+    draft.comment.clear();
+    let mut file = draft.layout().file;
+    if random.once_in(2) {
+        return (Plan::File(file), Some(Refusal { number: 4, place: 5 }));
+    }
+    let place = file.len() as u64;
+    file.push(b'?');
+    (Plan::File(file), Some(Refusal { number: 1, place }))
 }
 
 /// Table 5 full, or one word too short: 4 x (M + 1) + O + B + C.
