@@ -52,11 +52,12 @@ static size_t longest(const uint64_t *counts) {
 
 static void by_desk(const uint8_t *file, size_t length, const char *to) {
     struct circuit c = lent_circuit(file, length), made = lent_circuit(file, length);
-    size_t scratch_length = golvanzo_words(file, length, 5);
-    uint32_t *scratch = lent(4 * scratch_length);
+    size_t to_read = golvanzo_words(file, length, 5);
     uint64_t answer[2 + COUNTS];
-    golvanzo_read(file, length, TABLES(c), scratch, scratch_length, answer);
+    golvanzo_read(file, length, TABLES(c), lent(4 * to_read), to_read, answer);
     memcpy(c.counts, answer + 2, sizeof c.counts);
+    size_t scratch_length = 4 * (c.counts[M] + 1) + c.counts[O] + c.counts[B] + c.counts[C];
+    uint32_t *scratch = lent(4 * scratch_length);
     if (answer[0] == 0)
         golvanzo_reduce(c.counts, TABLES(c), TABLES(made), scratch, scratch_length, answer);
     if (answer[0] != 0)

@@ -26,8 +26,10 @@ void free_work(struct work *w) {
     free_base(&w->base);
 }
 
+/* With as much scratch as the desk question names, as a caller would. */
 void desk_read(struct work *w) {
-    golvanzo_read(w->file, w->file_length, TABLES(w->made), SCRATCH(w), w->answer);
+    size_t words = (size_t)golvanzo_words(w->file, w->file_length, 5);
+    golvanzo_read(w->file, w->file_length, TABLES(w->made), w->scratch, words, w->answer);
 }
 
 void base_decode(struct work *w) {

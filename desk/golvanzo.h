@@ -18,7 +18,8 @@ extern "C" {
 /* A circuit's tables, each with its length, in the order 1 to 4, 7 to 9: inputs (I words), latches (2L, current then
    next), outputs (O), gates (3A, left side then the right sides), resets (L; 0, 1 or the latch's own literal, which
    is x), bad states (B), constraints (C). What is lent for writing is `GOLVANZO_WRITTEN`, what is only read is
-   `GOLVANZO_GIVEN`; tables may be longer than this. `GOLVANZO_SCRATCH` is table 5, 4 * (M + 1) + O + B + C words. */
+   `GOLVANZO_GIVEN`; tables may be longer than this. `GOLVANZO_SCRATCH` is table 5, 4 * (M + 1) + O + B + C words, fewer
+   to read a binary file (`golvanzo_words`). */
 #define GOLVANZO_GIVEN                                                                                                 \
     const uint32_t *inputs, size_t n1, const uint32_t *latches, size_t n2, const uint32_t *outputs, size_t n3,         \
         const uint32_t *gates, size_t n4, const uint32_t *resets, size_t n7, const uint32_t *bads, size_t n8,          \
@@ -29,8 +30,8 @@ extern "C" {
         uint32_t *to_constraints, size_t w9
 #define GOLVANZO_SCRATCH uint32_t *scratch, size_t n5
 
-/* How many words table 1 to 5 or 7 to 9 needs for the file's header, read by AIGER 1.9; 2^64 - 1 if there is no such
-   table or the header is refused. */
+/* How many words table 1 to 5 or 7 to 9 needs to read a file with this header, by AIGER 1.9; 2^64 - 1 if there is no such
+   table or the header is refused. Of table 5 a binary file needs I + L + O + B + C words to be read. */
 uint64_t golvanzo_words(const uint8_t *file, size_t file_len, uint64_t table);
 
 /* Read a file of AIGER 1.9 into the tables, whatever they hold, `answer` being number (0: accepted), place, M, I, L, O,

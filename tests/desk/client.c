@@ -71,22 +71,40 @@ static struct circuit tables_like(const size_t *words) {
     return c;
 }
 
-static struct circuit read_file(struct bytes file) {
+/* Tables of exactly the words that the desk names for a file. */
+static struct circuit tables_for(struct bytes file) {
     size_t words[TABLES];
     for (int t = 0; t < TABLES; t++) {
         uint64_t asked = golvanzo_words(file.at, file.length, numbers[t]);
         words[t] = asked == UINT64_MAX ? 0 : (size_t)asked;
     }
-    struct circuit c = tables_like(words);
+    return tables_like(words);
+}
+
+static struct circuit read_alone(struct bytes file) {
+    struct circuit c = tables_for(file);
     c.tail = golvanzo_read(file.at, file.length, SEVEN(c), TABLE(c, SCRATCH), c.answer);
     return c;
 }
 
 /* The same circuit by the reader of 2007. */
 static struct circuit read_file_2007(struct bytes file) {
-    struct circuit c = tables_like(read_file(file).words);
+    struct circuit c = tables_for(file);
     c.tail = golvanzo_read2007(file.at, file.length, SEVEN(c), TABLE(c, SCRATCH), c.answer);
     return c;
+}
+
+/* Scratch for the calls on tables: a binary file's reader needs less. */
+static struct circuit to_work(struct circuit c) {
+    const uint64_t *n = COUNTS(c);
+    c.words[SCRATCH] = (size_t)(4 * (n[0] + 1) + n[3] + n[5] + n[6]);
+    c.table[SCRATCH] = lend(4 * c.words[SCRATCH]);
+    memset(c.table[SCRATCH], 0xA5, 4 * c.words[SCRATCH]);
+    return c;
+}
+
+static struct circuit read_file(struct bytes file) {
+    return to_work(read_alone(file));
 }
 
 static int all_zero(const uint32_t *words, size_t n) {
@@ -135,15 +153,20 @@ static void sizes(void) {
     expect(golvanzo_words(file.at, file.length, 6) == UINT64_MAX, "no table 6", "words");
     expect(golvanzo_words(file.at, file.length, 10) == UINT64_MAX, "no table 10", "words");
     expect(golvanzo_words(NULL, 0, 1) == UINT64_MAX, "an empty file has no header", "words");
+    file = FILE_OF(toggle_binary);
+    expect(golvanzo_words(file.at, file.length, 5) == 2 + 1 + 2, "I + L + O words of scratch in binary", "words");
+    file = FILE_OF("aig 3 1 1 0 1 2 3\n");
+    expect(golvanzo_words(file.at, file.length, 5) == 1 + 1 + 2 + 3, "I + L + O + B + C words in binary", "words");
 }
 
 static void toggle_both_forms(void) {
     struct bytes text = FILE_OF(toggle_text), binary = FILE_OF(toggle_binary), none = {NULL, 0};
     static const uint64_t counts[7] = {7, 2, 1, 2, 4};
-    struct circuit c = read_file(text);
+    struct circuit c = read_alone(text);
     expect(c.answer[0] == 0 && c.tail == text.length, "T is read to its end", "read");
     expect(memcmp(COUNTS(c), counts, sizeof counts) == 0, "T has the counts 7 2 1 2 4 0 0", "read");
     expect(all_zero(c.table[SCRATCH], c.words[SCRATCH]), "scratch is zero", "read");
+    c = to_work(c);
     expect(same(written(c, 0, none), text), "T is written as it was", "write_text");
     expect(written(c, 1, none).length == 0, "T is not in binary order", "write_binary");
     struct circuit to = changed(c, 0);
@@ -253,7 +276,7 @@ static void witnesses(void) {
 }
 
 static void refused(struct bytes file, uint64_t number, uint64_t place, const char *what) {
-    struct circuit c = read_file(file);
+    struct circuit c = read_alone(file);
     expect(c.answer[0] == number && c.answer[1] == place, what, "read");
     expect(c.tail == file.length, "after a refusal the tail is empty", what);
     for (int t = 0; t < TABLES; t++)
@@ -295,6 +318,43 @@ static void table_refusals(void) {
     expect(state.at[0] == '0' && memcmp(outs.at, "??", 2) == 0, "a refusal changes no byte", "step");
 }
 
+/* A binary file of a million gates, each of the two variables below it, with a symbol for every other entry. */
+static struct bytes million(void) {
+    static const char head[] = "aig 1000003 2 1 1 1000000\n2000006\n2000007\n", tail[] = "i0 p\ni1 q\nl0 r\no0 s\n";
+    enum { HEAD = sizeof head - 1, GATES = 2 * 1000000, TAIL = sizeof tail - 1 };
+    struct bytes file = {lend(HEAD + GATES + TAIL), HEAD + GATES + TAIL};
+    memcpy(file.at, head, HEAD);
+    memset(file.at + HEAD, 2, GATES);
+    memcpy(file.at + HEAD + GATES, tail, TAIL);
+    return file;
+}
+
+static int each_of_the_two_below(const uint32_t *gates) {
+    for (uint32_t k = 0; k < 1000000; k++)
+        if (gates[3 * k] != 2 * (k + 4) || gates[3 * k + 1] != 2 * (k + 3) || gates[3 * k + 2] != 2 * (k + 2))
+            return 0;
+    return 1;
+}
+
+/* Table 5 of a million gates' binary file: I + L + O words to read it, one fewer is refused; other calls need more. */
+static void little_scratch(void) {
+    struct bytes file = million();
+    struct circuit c = read_alone(file), old = read_file_2007(file), fewer = tables_for(file);
+    uint64_t answer[2];
+    expect(c.words[SCRATCH] == 2 + 1 + 1, "four words of scratch", "words");
+    expect(c.answer[0] == 0 && c.tail == file.length - 20, "a million gates are read with them", "read");
+    expect(each_of_the_two_below(c.table[3]), "each gate is of the two variables below it", "read");
+    expect(all_zero(c.table[SCRATCH], c.words[SCRATCH]), "scratch is zero", "read");
+    expect(old.answer[0] == 0 && each_of_the_two_below(old.table[3]), "and by the reader of 2007", "read2007");
+    golvanzo_read(file.at, file.length, SEVEN(fewer), fewer.table[SCRATCH], 3, fewer.answer);
+    expect(fewer.answer[0] == 4 && fewer.answer[1] == 5, "not with three", "read");
+    golvanzo_check(COUNTS(c), SEVEN(c), TABLE(c, SCRATCH), answer);
+    expect(answer[0] == 4 && answer[1] == 5, "four are too few to check it", "check");
+    c = to_work(c);
+    golvanzo_check(COUNTS(c), SEVEN(c), TABLE(c, SCRATCH), answer);
+    expect(c.words[SCRATCH] == 4000017 && answer[0] == 0, "4 x (M + 1) + O are enough", "check");
+}
+
 int main(void) {
     sizes();
     toggle_both_forms();
@@ -305,6 +365,7 @@ int main(void) {
     witnesses();
     refusals();
     table_refusals();
+    little_scratch();
     printf("%d passed, %d failed\n", passed, failed);
     return failed != 0;
 }
