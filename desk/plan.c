@@ -1,0 +1,223 @@
+#include "plan.h"
+
+#include <stdlib.h>
+#include <string.h>
+
+#include "golvanzo.h"
+
+/* The arguments of a call: the tables to be read or written, and scratch. */
+#define TABLE(p, t) (p)->table[t], (p)->words[t]
+#define TABLES(p)                                                                                                      \
+    TABLE(p, PLAN_INPUTS), TABLE(p, PLAN_LATCHES), TABLE(p, PLAN_OUTPUTS), TABLE(p, PLAN_GATES),                       \
+        TABLE(p, PLAN_RESETS), TABLE(p, PLAN_BADS), TABLE(p, PLAN_CONSTRAINTS)
+#define SCRATCH(p) (p)->scratch, (p)->scratch_words
+
+/* The numbers of the tables, and of scratch. */
+static const uint64_t numbers[PLAN_TABLES + 1] = {1, 2, 3, 4, 7, 8, 9, 5};
+
+static const struct plan_end done = {0, 0}, no_memory = {PLAN_NO_MEMORY, 0};
+
+/* The answer of a call begins with the refusal's number and place. */
+static struct plan_end end_of(const uint64_t *answer) { return (struct plan_end){answer[0], answer[1]}; }
+
+/* Never null for a length of 0, so that null is a lack of memory. */
+static void *lent(size_t bytes) { return malloc(bytes + (bytes == 0)); }
+
+/* Words of table 5 for every call but a read (docs/PAPER.md, "Tables and bytes"). The desk question is about reading alone,
+   which may ask for fewer. */
+static size_t scratch_for(const uint64_t *counts) {
+    return (size_t)(4 * (counts[PLAN_M] + 1) + counts[PLAN_O] + counts[PLAN_B] + counts[PLAN_C]);
+}
+
+/* Scratch of at least so many words; what stood in it is lost. */
+static int lend_scratch(struct plan *plan, size_t words) {
+    if (plan->scratch != NULL && words <= plan->scratch_words)
+        return 1;
+    free(plan->scratch);
+    plan->scratch = lent(4 * words);
+    plan->scratch_words = plan->scratch == NULL ? 0 : words;
+    return plan->scratch != NULL;
+}
+
+static int ready(struct plan *plan) { return lend_scratch(plan, scratch_for(plan->counts)); }
+
+/* Tables of these lengths; those that can't be had are null. */
+static int lend_tables(struct plan *plan, const size_t *words) {
+    int all = 1;
+    for (int t = 0; t < PLAN_TABLES; t++) {
+        plan->words[t] = words[t];
+        plan->table[t] = lent(4 * words[t]);
+        all = all && plan->table[t] != NULL;
+    }
+    return all;
+}
+
+static void free_tables(struct plan *plan) {
+    for (int t = 0; t < PLAN_TABLES; t++)
+        free(plan->table[t]);
+}
+
+void plan_free(struct plan *plan) {
+    free_tables(plan);
+    free(plan->scratch);
+    free(plan->tail);
+    memset(plan, 0, sizeof *plan);
+}
+
+/* A read that is lent no table has the number and the place of a refused header, which the desk question has not. */
+struct plan_end plan_words(const uint8_t *file, size_t length, uint64_t words[PLAN_TABLES + 1]) {
+    struct plan none = {.scratch = NULL};
+    uint64_t answer[2 + PLAN_COUNTS];
+    for (int t = 0; t <= PLAN_TABLES; t++)
+        words[t] = golvanzo_words(file, length, numbers[t]);
+    if (words[0] != UINT64_MAX)
+        return done;
+    golvanzo_read(file, length, TABLES(&none), SCRATCH(&none), answer);
+    return end_of(answer);
+}
+
+/* The tables that the file's header asks for, and the scratch to read it. */
+static int lend_for(struct plan *plan, const uint64_t *asked) {
+    size_t words[PLAN_TABLES];
+    for (int t = 0; t < PLAN_TABLES; t++)
+        words[t] = (size_t)asked[t];
+    return lend_tables(plan, words) && lend_scratch(plan, (size_t)asked[PLAN_TABLES]);
+}
+
+static struct plan_end fill(struct plan *plan, const uint8_t *file, size_t length) {
+    uint64_t answer[2 + PLAN_COUNTS];
+    size_t start = (size_t)golvanzo_read(file, length, TABLES(plan), SCRATCH(plan), answer);
+    if (answer[0] != 0)
+        return end_of(answer);
+    memcpy(plan->counts, answer + 2, sizeof plan->counts);
+    plan->binary = file[1] == 'i';
+    plan->tail_length = length - start;
+    plan->tail = lent(plan->tail_length);
+    if (plan->tail == NULL)
+        return no_memory;
+    memcpy(plan->tail, file + start, plan->tail_length);
+    return done;
+}
+
+struct plan_end plan_read(struct plan *plan, const uint8_t *file, size_t length) {
+    uint64_t words[PLAN_TABLES + 1];
+    memset(plan, 0, sizeof *plan);
+    struct plan_end end = plan_words(file, length, words);
+    if (end.number != 0)
+        return end;
+    end = lend_for(plan, words) ? fill(plan, file, length) : no_memory;
+    if (end.number != 0)
+        plan_free(plan);
+    return end;
+}
+
+struct plan_end plan_check(struct plan *plan) {
+    uint64_t answer[2];
+    if (!ready(plan))
+        return no_memory;
+    golvanzo_check(plan->counts, TABLES(plan), SCRATCH(plan), answer);
+    return end_of(answer);
+}
+
+/* Both changes: into tables as long as the given ones, which take their place if nothing is refused. */
+static struct plan_end change(struct plan *plan, int reduce) {
+    struct plan to = *plan;
+    uint64_t answer[2 + PLAN_COUNTS] = {PLAN_NO_MEMORY};
+    if (!ready(plan))
+        return no_memory;
+    if (lend_tables(&to, plan->words)) {
+        if (reduce)
+            golvanzo_reduce(plan->counts, TABLES(plan), TABLES(&to), SCRATCH(plan), answer);
+        else
+            golvanzo_convert(plan->counts, TABLES(plan), TABLES(&to), SCRATCH(plan), answer);
+    }
+    free_tables(answer[0] == 0 ? plan : &to);
+    if (answer[0] == 0) {
+        memcpy(plan->table, to.table, sizeof plan->table);
+        memcpy(plan->counts, answer + 2, sizeof plan->counts);
+    }
+    return end_of(answer);
+}
+
+struct plan_end plan_convert(struct plan *plan) {
+    return change(plan, 0);
+}
+
+struct plan_end plan_reduce(struct plan *plan) {
+    return change(plan, 1);
+}
+
+/* Room for the longest file of these counts: a number within the limits has at most 7 digits, a difference 3 bytes. Should
+   it not be enough, the library says how much is. */
+static size_t longest(const struct plan *plan, int binary) {
+    const uint64_t *n = plan->counts;
+    uint64_t lines = PLAN_COUNTS + n[PLAN_O] + n[PLAN_B] + n[PLAN_C];
+    uint64_t bytes = binary ? 6 * n[PLAN_A] + 8 * 2 * n[PLAN_L] : 8 * (n[PLAN_I] + 3 * n[PLAN_L] + 3 * n[PLAN_A]);
+    return (size_t)(4 + 8 * lines + bytes) + plan->tail_length;
+}
+
+static struct plan_end write_into(struct plan *plan, int binary, struct plan_bytes *out) {
+    uint64_t answer[3];
+    if (binary)
+        golvanzo_write_binary(plan->counts, TABLES(plan), SCRATCH(plan), plan->tail, plan->tail_length, out->at,
+                              out->length, answer);
+    else
+        golvanzo_write_text(plan->counts, TABLES(plan), SCRATCH(plan), plan->tail, plan->tail_length, out->at,
+                            out->length, answer);
+    if (answer[0] == 0)
+        out->length = (size_t)answer[2];
+    return end_of(answer);
+}
+
+static struct plan_end write_form(struct plan *plan, int binary, struct plan_bytes *out) {
+    enum { SHORT_BUFFER = 11 };
+    struct plan_end end = {SHORT_BUFFER, longest(plan, binary)};
+    *out = (struct plan_bytes){NULL, 0};
+    if (!ready(plan))
+        return no_memory;
+    for (int turn = 0; turn < 2 && end.number == SHORT_BUFFER; turn++) {
+        free(out->at);
+        *out = (struct plan_bytes){lent((size_t)end.place), (size_t)end.place};
+        end = out->at == NULL ? no_memory : write_into(plan, binary, out);
+    }
+    if (end.number != 0) {
+        free(out->at);
+        *out = (struct plan_bytes){NULL, 0};
+    }
+    return end;
+}
+
+struct plan_end plan_write_text(struct plan *plan, struct plan_bytes *out) {
+    return write_form(plan, 0, out);
+}
+
+struct plan_end plan_write_binary(struct plan *plan, struct plan_bytes *out) {
+    return write_form(plan, 1, out);
+}
+
+/* A reset is 0, 1 or the latch's own literal, which is x (docs/PAPER.md, "Stepping and the witness question"). */
+void plan_first(const struct plan *plan, uint8_t *state) {
+    for (uint64_t l = 0; l < plan->counts[PLAN_L]; l++) {
+        uint32_t reset = plan->table[PLAN_RESETS][l];
+        state[l] = reset == 0 ? '0' : reset == 1 ? '1' : 'x';
+    }
+}
+
+struct plan_end plan_step(struct plan *plan, uint8_t *state, const uint8_t *inputs, uint8_t *outputs) {
+    const uint64_t *n = plan->counts;
+    uint64_t answer[2];
+    if (!ready(plan))
+        return no_memory;
+    golvanzo_step(n, TABLES(plan), SCRATCH(plan), state, (size_t)n[PLAN_L], inputs, (size_t)n[PLAN_I], outputs,
+                  (size_t)n[PLAN_O], answer);
+    return end_of(answer);
+}
+
+struct plan_end plan_witness(struct plan *plan, uint64_t number, const uint8_t *vectors, size_t length, int *yes) {
+    uint64_t answer[3];
+    if (!ready(plan))
+        return no_memory;
+    golvanzo_witness(plan->counts, TABLES(plan), SCRATCH(plan), number, vectors, length, answer);
+    *yes = answer[2] == 1;
+    return end_of(answer);
+}

@@ -1,0 +1,76 @@
+/* A plan that owns its tables: the calls of golvanzo.h without their lengths. What a call refuses, how and where, is the
+   library's answer and no other; what is added here is memory. The calls on files up to the paper's limits need no room
+   to be guessed, since the library is asked for every size. */
+#ifndef PLAN_H
+#define PLAN_H
+
+#include <stddef.h>
+#include <stdint.h>
+
+#ifdef __cplusplus
+extern "C" {
+#endif
+
+/* The counts, and the tables 1, 2, 3, 4, 7, 8, 9, in the order in which golvanzo.h takes them. */
+enum { PLAN_M, PLAN_I, PLAN_L, PLAN_O, PLAN_A, PLAN_B, PLAN_C, PLAN_COUNTS };
+enum { PLAN_INPUTS, PLAN_LATCHES, PLAN_OUTPUTS, PLAN_GATES, PLAN_RESETS, PLAN_BADS, PLAN_CONSTRAINTS, PLAN_TABLES };
+
+/* How a call ended: number 0: as asked; else the refusal's number and place, or PLAN_NO_MEMORY. */
+#define PLAN_NO_MEMORY UINT64_MAX
+struct plan_end {
+    uint64_t number, place;
+};
+
+/* `table` and `words` are the tables and their lengths, `tail` the symbols and comments, `binary` whether the file that was
+   read had the binary form. All may be read; only the calls below change them. */
+struct plan {
+    uint64_t counts[PLAN_COUNTS];
+    uint32_t *table[PLAN_TABLES];
+    size_t words[PLAN_TABLES];
+    uint32_t *scratch;
+    size_t scratch_words;
+    uint8_t *tail;
+    size_t tail_length;
+    int binary;
+};
+
+/* Bytes of the caller's, to be given back by free(). */
+struct plan_bytes {
+    uint8_t *at;
+    size_t length;
+};
+
+/* The desk question for each table of PLAN_TABLES, and for table 5 as the last. */
+struct plan_end plan_words(const uint8_t *file, size_t length, uint64_t words[PLAN_TABLES + 1]);
+
+/* Reads a file; `plan` need not be set before. The file is not needed after it. A plan that was not read is empty. */
+struct plan_end plan_read(struct plan *plan, const uint8_t *file, size_t length);
+
+/* Gives back what the plan owns, and leaves it empty; an empty one may be given. */
+void plan_free(struct plan *plan);
+
+/* Whether the tables hold a circuit. */
+struct plan_end plan_check(struct plan *plan);
+
+/* Put the plan in binary order; reduce a plan that is in binary order. A refusal leaves it as it was. */
+struct plan_end plan_convert(struct plan *plan);
+struct plan_end plan_reduce(struct plan *plan);
+
+/* Write the plan and its tail as a file; `out` is empty after a refusal. */
+struct plan_end plan_write_text(struct plan *plan, struct plan_bytes *out);
+struct plan_end plan_write_binary(struct plan *plan, struct plan_bytes *out);
+
+/* The first state, that of the resets: L bytes of "0", "1", "x". */
+void plan_first(const struct plan *plan, uint8_t *state);
+
+/* One step in binary order: L bytes of state, which become the next, I bytes of inputs, O bytes of outputs. */
+struct plan_end plan_step(struct plan *plan, uint8_t *state, const uint8_t *inputs, uint8_t *outputs);
+
+/* The witness question for a number of vectors, I bytes each, one after another; *yes is 1 or 0. */
+struct plan_end plan_witness(struct plan *plan, uint64_t number, const uint8_t *vectors, size_t length, int *yes);
+
+#ifdef __cplusplus
+}
+#endif
+
+#endif
