@@ -1,0 +1,73 @@
+/* The command for people: what its parts share. */
+#ifndef COMMAND_H
+#define COMMAND_H
+
+#include <stddef.h>
+#include <stdint.h>
+#include <stdio.h>
+
+#include "../plan.h"
+
+/* Exit statuses. FAILED is wrong usage, or a system that can't do what is asked. */
+enum { DONE = 0, REFUSED = 1, FAILED = 2 };
+
+/* The paper's numbers that the command itself says, as the programs do: their places are the paper's too. */
+enum { WRONG_BYTE = 1, BAD_VECTOR = 12, UNREADABLE = 14 };
+
+/* A file as it was read, with the name that people know it by. */
+struct source {
+    const char *name;
+    uint8_t *at;
+    size_t length;
+};
+
+/* What is asked: the words of the command line. `out` and `vectors` may be null. */
+struct request {
+    const char *file, *vectors, *out;
+    int vcd, large;
+};
+
+/* files.c. `read_source` says itself why a file can't be read, as 14. */
+int read_source(const char *name, struct source *source);
+void free_source(struct source *source);
+
+/* Where results go: standard output, or a file that appears under its name only when all of it is written. */
+struct output {
+    FILE *to;
+    const char *name;
+    char *target, *temporary;
+};
+
+int open_output(struct output *output, const char *name);
+int close_output(struct output *output);
+void drop_output(struct output *output);
+
+/* Opens, writes all and closes. */
+int write_output(const char *name, const uint8_t *bytes, size_t length);
+
+/* say.c: one line to people, "plan: " before it; the status that goes with it. */
+int fail(const char *format, ...) __attribute__((format(printf, 1, 2)));
+int no_memory(void);
+
+/* refusal.c: a call on the plan of this file ended; says why it is refused, and gives the status. */
+int ended(struct plan_end end, const struct source *file);
+
+/* vectors.c: the lines of a file of input vectors, judged as the tracer judges them. */
+struct vectors {
+    struct source source;
+    uint64_t number;
+};
+
+int read_vectors(const struct request *request, uint64_t inputs, struct vectors *vectors);
+const uint8_t *vector(const struct vectors *vectors, uint64_t inputs, uint64_t k);
+
+/* The verbs. */
+int run_check(const struct request *request, const struct source *file, struct plan *plan);
+int run_convert(const struct request *request, const struct source *file, struct plan *plan);
+int run_reduce(const struct request *request, const struct source *file, struct plan *plan);
+int run_trace(const struct request *request, const struct source *file, struct plan *plan);
+int run_witness(const struct request *request, const struct source *file, struct plan *plan);
+int run_draw(const struct request *request, const struct source *file, struct plan *plan);
+int run_words(const struct request *request, const struct source *file);
+
+#endif

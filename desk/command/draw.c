@@ -1,0 +1,105 @@
+/* The verb draw: a plan as a drawing for Graphviz. Dotted edges negate. */
+#include <stdlib.h>
+
+#include "command.h"
+#include "symbols.h"
+
+typedef unsigned long long ull;
+
+/* More gates than these make no drawing that people read. */
+enum { MOST_GATES = 300 };
+
+/* What stands for each list of named entries. */
+static const char *const shapes[NAMED] = {"shape=box", "shape=box, peripheries=2", "shape=house, orientation=180",
+                                          "shape=octagon, color=red", "shape=diamond, color=blue"};
+
+static void print_label(const struct symbol *symbol, int list, uint64_t entry, FILE *to) {
+    fprintf(to, "%c%llu", letters[list], (ull)entry);
+    if (symbol->length > 0)
+        fputs("\\n", to);
+    for (size_t k = 0; k < symbol->length; k++) {
+        if (symbol->name[k] == '"' || symbol->name[k] == '\\')
+            fputc('\\', to);
+        fputc(symbol->name[k], to);
+    }
+}
+
+/* Inputs and latches are nodes of their variables, the others of their places. */
+static void print_node(const struct plan *plan, const struct symbol *symbol, int list, uint64_t entry, FILE *to) {
+    if (list == NAMED_INPUTS)
+        fprintf(to, "  v%u", plan->table[PLAN_INPUTS][entry] / 2);
+    else if (list == NAMED_LATCHES)
+        fprintf(to, "  v%u", plan->table[PLAN_LATCHES][2 * entry] / 2);
+    else
+        fprintf(to, "  %c%llu", letters[list], (ull)entry);
+    fputs(" [label=\"", to);
+    print_label(symbol, list, entry, to);
+    if (list == NAMED_LATCHES && plan->table[PLAN_RESETS][entry] != 0)
+        fprintf(to, "\\nstarts as %c", plan->table[PLAN_RESETS][entry] == 1 ? '1' : 'x');
+    fprintf(to, "\", %s];\n", shapes[list]);
+}
+
+static void print_nodes(const struct plan *plan, const struct names *names, FILE *to) {
+    for (int list = 0; list < NAMED; list++)
+        for (uint64_t k = 0; k < entries(plan, list); k++)
+            print_node(plan, &names->of[list][k], list, k, to);
+    for (uint64_t k = 0; k < plan->counts[PLAN_A]; k++)
+        fprintf(to, "  v%u [label=\"%u\"];\n", plan->table[PLAN_GATES][3 * k] / 2, plan->table[PLAN_GATES][3 * k]);
+}
+
+/* From the variable of a literal; the constants are a node for each use, since nothing is to be followed there. */
+static void print_edge(uint32_t literal, const char *node, FILE *to) {
+    static unsigned constants;
+    if (literal > 1) {
+        fprintf(to, "  v%u -> %s%s;\n", literal / 2, node, literal % 2 == 1 ? " [style=dotted]" : "");
+        return;
+    }
+    fprintf(to, "  k%u [label=\"%u\", shape=plaintext];\n  k%u -> %s;\n", constants, literal, constants, node);
+    constants++;
+}
+
+static void print_gates(const struct plan *plan, FILE *to) {
+    char node[32];
+    for (uint64_t k = 0; k < plan->counts[PLAN_A]; k++) {
+        const uint32_t *gate = plan->table[PLAN_GATES] + 3 * k;
+        snprintf(node, sizeof node, "v%u", gate[0] / 2);
+        print_edge(gate[1], node, to);
+        print_edge(gate[2], node, to);
+    }
+}
+
+static void print_edges(const struct plan *plan, FILE *to) {
+    static const int tables[NAMED] = {0, 0, PLAN_OUTPUTS, PLAN_BADS, PLAN_CONSTRAINTS};
+    char node[32];
+    print_gates(plan, to);
+    for (uint64_t k = 0; k < plan->counts[PLAN_L]; k++) {
+        snprintf(node, sizeof node, "v%u", plan->table[PLAN_LATCHES][2 * k] / 2);
+        print_edge(plan->table[PLAN_LATCHES][2 * k + 1], node, to);
+    }
+    for (int list = NAMED_OUTPUTS; list < NAMED; list++)
+        for (uint64_t k = 0; k < entries(plan, list); k++) {
+            snprintf(node, sizeof node, "%c%llu", letters[list], (ull)k);
+            print_edge(plan->table[tables[list]][k], node, to);
+        }
+}
+
+int run_draw(const struct request *request, const struct source *file, struct plan *plan) {
+    struct names names;
+    struct output output;
+    if (plan->counts[PLAN_A] > MOST_GATES && !request->large)
+        return fail("%s has %llu gates; a drawing of more than %d is hardly read: --large draws it", file->name,
+                    (ull)plan->counts[PLAN_A], MOST_GATES);
+    int status = read_names(plan, &names);
+    if (status != DONE)
+        return status;
+    status = open_output(&output, request->out);
+    if (status == DONE) {
+        fputs("digraph plan {\n  rankdir=LR;\n  node [fontname=\"Helvetica\"];\n", output.to);
+        print_nodes(plan, &names, output.to);
+        print_edges(plan, output.to);
+        fputs("}\n", output.to);
+        status = close_output(&output);
+    }
+    free_names(&names);
+    return status;
+}

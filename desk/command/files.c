@@ -1,0 +1,152 @@
+/* Whole files in, whole files out. */
+#define _GNU_SOURCE
+#include <errno.h>
+#include <stdlib.h>
+#include <string.h>
+#include <sys/stat.h>
+#include <unistd.h>
+
+#include "command.h"
+#include "say.h"
+
+/* The size that a regular file says it has, so that it is read at once; others are read by doubling. */
+static size_t first_room(FILE *from) {
+    struct stat about;
+    if (fstat(fileno(from), &about) == 0 && S_ISREG(about.st_mode) && about.st_size > 0)
+        return (size_t)about.st_size + 1;
+    return 65536;
+}
+
+/* Reads to the end; 0 if that fails, errno saying why. */
+static int read_all(FILE *from, struct source *source) {
+    size_t room = first_room(from);
+    source->at = malloc(room);
+    while (source->at != NULL) {
+        source->length += fread(source->at + source->length, 1, room - source->length, from);
+        if (source->length < room)
+            return !ferror(from);
+        room *= 2;
+        uint8_t *more = realloc(source->at, room);
+        if (more == NULL)
+            break;
+        source->at = more;
+    }
+    errno = ENOMEM;
+    return 0;
+}
+
+int read_source(const char *name, struct source *source) {
+    int standard = strcmp(name, "-") == 0;
+    *source = (struct source){standard ? "standard input" : name, NULL, 0};
+    FILE *from = standard ? stdin : fopen(name, "rb");
+    int good = from != NULL && (setvbuf(from, NULL, _IONBF, 0), read_all(from, source));
+    int why = errno;
+    if (from != NULL && !standard)
+        fclose(from);
+    if (good)
+        return DONE;
+    free_source(source);
+    if (why == ENOMEM)
+        return no_memory();
+    say_unreadable(source->name, strerror(why));
+    return REFUSED;
+}
+
+void free_source(struct source *source) {
+    free(source->at);
+    source->at = NULL;
+    source->length = 0;
+}
+
+static int cannot_write(const struct output *output) { return fail("%s: %s", output->name, strerror(errno)); }
+
+/* The file that the name leads to, past links: what is renamed must not take the place of a link. */
+static char *target_of(const char *name) {
+    char *target = realpath(name, NULL);
+    return target != NULL || errno != ENOENT ? target : strdup(name);
+}
+
+/* As a file that is opened for writing would have it: that of the file replaced, or what the umask leaves. */
+static mode_t mode_for(const char *target) {
+    struct stat about;
+    if (stat(target, &about) == 0)
+        return about.st_mode & 07777;
+    mode_t mask = umask(0);
+    umask(mask);
+    return 0666 & ~mask;
+}
+
+/* A file beside the target, in the same folder, so that it can be renamed. */
+static FILE *open_temporary(struct output *output) {
+    if (asprintf(&output->temporary, "%s.XXXXXX", output->target) < 0) {
+        output->temporary = NULL;
+        return NULL;
+    }
+    int file = mkstemp(output->temporary);
+    if (file < 0) {
+        free(output->temporary);
+        output->temporary = NULL;
+        return NULL;
+    }
+    FILE *to = fchmod(file, mode_for(output->target)) == 0 ? fdopen(file, "wb") : NULL;
+    if (to == NULL)
+        close(file);
+    return to;
+}
+
+/* A device or a pipe is written as it is: it can't be replaced by a file. */
+int open_output(struct output *output, const char *name) {
+    struct stat about;
+    *output = (struct output){stdout, name == NULL ? "standard output" : name, NULL, NULL};
+    if (name == NULL)
+        return DONE;
+    if (stat(name, &about) == 0 && !S_ISREG(about.st_mode)) {
+        output->to = fopen(name, "wb");
+    } else {
+        output->target = target_of(name);
+        output->to = output->target == NULL ? NULL : open_temporary(output);
+    }
+    if (output->to != NULL)
+        return DONE;
+    int status = cannot_write(output);
+    drop_output(output);
+    return status;
+}
+
+void drop_output(struct output *output) {
+    if (output->to != NULL && output->to != stdout)
+        fclose(output->to);
+    if (output->temporary != NULL)
+        unlink(output->temporary);
+    free(output->temporary);
+    free(output->target);
+    *output = (struct output){NULL, NULL, NULL, NULL};
+}
+
+/* A full disk may be known only when the file is closed; only then it gets its name. */
+int close_output(struct output *output) {
+    int good = !ferror(output->to) && fflush(output->to) == 0, status = DONE;
+    if (good && output->to != stdout) {
+        good = fclose(output->to) == 0;
+        output->to = NULL;
+    }
+    if (good && output->temporary != NULL) {
+        good = rename(output->temporary, output->target) == 0;
+        if (good)
+            free(output->temporary), output->temporary = NULL;
+    }
+    if (!good)
+        status = cannot_write(output);
+    drop_output(output);
+    return status;
+}
+
+int write_output(const char *name, const uint8_t *bytes, size_t length) {
+    struct output output;
+    int status = open_output(&output, name);
+    if (status != DONE)
+        return status;
+    setvbuf(output.to, NULL, _IONBF, 0);
+    fwrite(bytes, 1, length, output.to);
+    return close_output(&output);
+}

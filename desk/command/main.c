@@ -1,0 +1,135 @@
+/* plan COMMAND: Golvanzo for people. One table has the commands, and --help is made from it. */
+#include <string.h>
+
+#include "command.h"
+
+/* Options that a command may take, beside -o FILE and --help, which all take. */
+enum { TAKES_VECTORS = 1, TAKES_VCD = 2, TAKES_LARGE = 4 };
+
+/* A command is given the plan of its file, or the file alone where only the header is looked at. */
+struct command {
+    const char *name, *words, *what, *more;
+    int takes;
+    int (*on_plan)(const struct request *, const struct source *, struct plan *);
+    int (*on_file)(const struct request *, const struct source *);
+};
+
+static const struct command commands[] = {
+    {"check", "FILE", "says the form, the counts and the names of a plan, or why it is refused",
+     "A line with \"text\" or \"binary\" and the counts M I L O A B C, then a line for each name.", 0, run_check, NULL},
+    {"convert", "FILE", "writes the plan in the other form, text or binary",
+     "Text becomes binary, its gates in the order of conversion; binary becomes text, as it is.", 0, run_convert, NULL},
+    {"reduce", "FILE", "writes the reduced plan, in binary form",
+     "Gates with the same pair of sides become one, and trivial ones go.", 0, run_reduce, NULL},
+    {"trace", "[--vcd] FILE [VECTORS]", "steps the plan, a vector of inputs on each line of VECTORS",
+     "A vector has a value for each input: 0, 1 or x. A line for each step: state, inputs, outputs, next state.\n"
+     "--vcd writes a waveform instead, for GTKWave and others, with the names of the plan.\n"
+     "Without VECTORS they are read from standard input.",
+     TAKES_VECTORS | TAKES_VCD, run_trace, NULL},
+    {"witness", "FILE [VECTORS]", "says whether some step gives 1 on some output or bad state",
+     "Vectors are as for trace. \"yes\" or \"no\"; every constraint must be 1 at that step and before it.",
+     TAKES_VECTORS, run_witness, NULL},
+    {"draw", "[--large] FILE", "writes a drawing of the plan, for Graphviz",
+     "Inputs are boxes, latches double boxes, gates ellipses with their literal; a dotted edge negates.\n"
+     "--large also draws a plan of more than 300 gates.",
+     TAKES_LARGE, run_draw, NULL},
+    {"words", "FILE", "says how many words each table needs to read the file",
+     "A line for each table: its number, its name, its words. Only the header is looked at.", 0, NULL, run_words},
+};
+
+enum { COMMANDS = sizeof commands / sizeof commands[0] };
+
+static const char common[] =
+    "FILE may be -, standard input. -o OUT writes to a file, which appears when all of it is written.\n"
+    "Exit status: 0, 1 after a refusal, 2 if something else is wrong.\n";
+
+static int help(FILE *to, const struct command *command) {
+    if (command != NULL) {
+        fprintf(to, "plan %s [-o OUT] %s\n%s.\n%s\n%s", command->name, command->words, command->what, command->more,
+                common);
+        return DONE;
+    }
+    for (int k = 0; k < COMMANDS; k++)
+        fprintf(to, "plan %-8s %-23s %s\n", commands[k].name, commands[k].words, commands[k].what);
+    fprintf(to, "%s\"plan COMMAND --help\" says more of a command.\n", common);
+    return DONE;
+}
+
+static int misuse(const struct command *command) {
+    help(stderr, command);
+    return FAILED;
+}
+
+static const struct command *command_named(const char *name) {
+    for (int k = 0; k < COMMANDS; k++)
+        if (strcmp(commands[k].name, name) == 0)
+            return &commands[k];
+    return NULL;
+}
+
+static int is_help(const char *word) { return strcmp(word, "--help") == 0 || strcmp(word, "-h") == 0; }
+
+/* The words after the command; 0 if they are none that it takes. */
+static int parse(const struct command *command, char **words, struct request *request) {
+    int options = 1;
+    for (; *words != NULL; words++) {
+        const char *word = *words;
+        if (options && strcmp(word, "--") == 0)
+            options = 0;
+        else if (options && strcmp(word, "-o") == 0 && words[1] != NULL && request->out == NULL)
+            request->out = *++words;
+        else if (options && strcmp(word, "--vcd") == 0 && command->takes & TAKES_VCD)
+            request->vcd = 1;
+        else if (options && strcmp(word, "--large") == 0 && command->takes & TAKES_LARGE)
+            request->large = 1;
+        else if (options && word[0] == '-' && word[1] != '\0')
+            return 0;
+        else if (request->file == NULL)
+            request->file = word;
+        else if (request->vectors == NULL && command->takes & TAKES_VECTORS)
+            request->vectors = word;
+        else
+            return 0;
+    }
+    return request->file != NULL;
+}
+
+/* Standard input can't be both. */
+static int asks_twice(const struct command *command, const struct request *request) {
+    return command->takes & TAKES_VECTORS && strcmp(request->file, "-") == 0 &&
+           (request->vectors == NULL || strcmp(request->vectors, "-") == 0);
+}
+
+static int on_plan(const struct command *command, const struct request *request, const struct source *file) {
+    struct plan plan;
+    int status = ended(plan_read(&plan, file->at, file->length), file);
+    if (status == DONE)
+        status = command->on_plan(request, file, &plan);
+    plan_free(&plan);
+    return status;
+}
+
+static int run(const struct command *command, const struct request *request) {
+    struct source file;
+    int status = read_source(request->file, &file);
+    if (status != DONE)
+        return status;
+    status = command->on_file != NULL ? command->on_file(request, &file) : on_plan(command, request, &file);
+    free_source(&file);
+    return status;
+}
+
+int main(int argc, char **argv) {
+    const struct command *command = argc > 1 ? command_named(argv[1]) : NULL;
+    struct request request = {.file = NULL};
+    if (argc > 1 && is_help(argv[1]))
+        return help(stdout, NULL);
+    if (command == NULL)
+        return misuse(NULL);
+    for (char **word = argv + 2; *word != NULL && strcmp(*word, "--") != 0; word++)
+        if (is_help(*word))
+            return help(stdout, command);
+    if (!parse(command, argv + 2, &request) || asks_twice(command, &request))
+        return misuse(command);
+    return run(command, &request);
+}

@@ -1,0 +1,170 @@
+#define _GNU_SOURCE
+#include "say.h"
+
+#include <stdarg.h>
+#include <stdlib.h>
+#include <string.h>
+#include <unistd.h>
+
+enum { WIDE = 100, BEFORE = 60, GATE_BYTES = 16, GUTTER = 6 };
+
+/* Colours, only where people look at them. */
+enum tone { PLAIN, BOLD, RED, CYAN, GREEN };
+
+static const char *tone(enum tone which) {
+    static const char *const codes[] = {"\33[0m", "\33[1m", "\33[1;31m", "\33[1;36m", "\33[1;32m"};
+    static int coloured = -1;
+    if (coloured < 0)
+        coloured = isatty(STDERR_FILENO) && getenv("NO_COLOR") == NULL;
+    return coloured ? codes[which] : "";
+}
+
+int fail(const char *format, ...) {
+    va_list more;
+    va_start(more, format);
+    fprintf(stderr, "%splan: %s", tone(BOLD), tone(PLAIN));
+    vfprintf(stderr, format, more);
+    fputc('\n', stderr);
+    va_end(more);
+    return FAILED;
+}
+
+int no_memory(void) { return fail("there is no memory for this"); }
+
+static char shown(uint8_t b) { return 32 <= b && b <= 126 ? (char)b : '.'; }
+
+void show_bytes(char *to, size_t room, const uint8_t *bytes, size_t length) {
+    size_t k = 0;
+    for (; k + 1 < room && k < length; k++)
+        to[k] = shown(bytes[k]);
+    to[k] = '\0';
+}
+
+const char *byte_name(const struct source *source, size_t at) {
+    static char name[16];
+    if (at >= source->length)
+        return "the end of the file";
+    uint8_t b = source->at[at];
+    if (b == '\n' || b == ' ')
+        return b == ' ' ? "a space" : "a new line";
+    snprintf(name, sizeof name, shown(b) == b ? "\"%c\"" : "byte %02X", b);
+    return name;
+}
+
+/* Whether a place lies past the lines of a binary file. */
+static int past_lines(const struct scan *scan, size_t at) {
+    return scan->binary && scan->counts[PLAN_A] > 0 && at >= scan->gates;
+}
+
+/* Where the line that a place lies in starts; a binary file's tail starts a line. */
+static size_t line_start(const struct scan *scan, size_t at) {
+    size_t least = past_lines(scan, at) ? scan->tail : 0;
+    while (at > least && scan->of->at[at - 1] != '\n')
+        at--;
+    return at;
+}
+
+static void say_where(const struct scan *scan, size_t at) {
+    fputs(tone(BOLD), stderr);
+    if (past_lines(scan, at))
+        fprintf(stderr, "%s:byte %zu: ", scan->of->name, at);
+    else
+        fprintf(stderr, "%s:%llu:%zu: ", scan->of->name, (unsigned long long)line_at(scan->of, at),
+                at - line_start(scan, at) + 1);
+    fputs(tone(PLAIN), stderr);
+}
+
+/* The mark: under each of the bytes that are shown, `each` columns to a byte. */
+static void say_mark(size_t before, size_t width, size_t each) {
+    size_t last = width == 0 ? 1 : width * each - (each > 1);
+    fprintf(stderr, "%*s | %*s%s", GUTTER, "", (int)(before * each), "", tone(GREEN));
+    for (size_t k = 0; k < last; k++)
+        fputc(k == 0 ? '^' : '~', stderr);
+    fprintf(stderr, "%s\n", tone(PLAIN));
+}
+
+/* The line, or that part of it about the place which fits. */
+static void say_line(const struct scan *scan, struct spot spot) {
+    char line[WIDE + 1];
+    const struct source *s = scan->of;
+    size_t from = line_start(scan, spot.at), end = spot.at;
+    while (end < s->length && s->at[end] != '\n' && end - spot.at < WIDE)
+        end++;
+    if (spot.at - from > BEFORE)
+        from = spot.at - BEFORE;
+    show_bytes(line, sizeof line, s->at + from, end - from);
+    if (past_lines(scan, spot.at))
+        fprintf(stderr, "%*s | %s\n", GUTTER, "", line);
+    else
+        fprintf(stderr, "%*llu | %s\n", GUTTER, (unsigned long long)line_at(s, spot.at), line);
+    size_t before = spot.at - from, most = WIDE - before,
+           width = end - spot.at < spot.width ? end - spot.at : spot.width;
+    say_mark(before, width < most ? width : most, 1);
+}
+
+/* Bytes of gates, in hexadecimal. */
+static void say_bytes(const struct scan *scan, struct spot spot) {
+    size_t from = spot.at - scan->gates > GATE_BYTES / 2 ? spot.at - GATE_BYTES / 2 : scan->gates;
+    fprintf(stderr, "%*s |", GUTTER, "");
+    for (size_t k = from; k < scan->tail && k < from + GATE_BYTES; k++)
+        fprintf(stderr, " %02X", scan->of->at[k]);
+    fputc('\n', stderr);
+    size_t most = from + GATE_BYTES - spot.at;
+    say_mark(spot.at - from, spot.width < most ? spot.width : most, 3);
+}
+
+static void say_spot(const struct scan *scan, struct spot spot) {
+    if (past_lines(scan, spot.at) && (spot.at < scan->tail || scan->tail >= scan->of->length))
+        say_bytes(scan, spot);
+    else
+        say_line(scan, spot);
+}
+
+static void say_refusal(struct plan_end end) {
+    fprintf(stderr, "%srefused %llu at %llu%s", tone(RED), (unsigned long long)end.number,
+            (unsigned long long)end.place, tone(PLAIN));
+}
+
+void say_refused(const struct scan *scan, struct plan_end end, struct spot spot, const char *format, ...) {
+    va_list more;
+    va_start(more, format);
+    say_where(scan, spot.at);
+    say_refusal(end);
+    fputs(": ", stderr);
+    vfprintf(stderr, format, more);
+    fputc('\n', stderr);
+    va_end(more);
+    say_spot(scan, spot);
+}
+
+void say_note(const struct scan *scan, struct spot spot, const char *format, ...) {
+    va_list more;
+    va_start(more, format);
+    say_where(scan, spot.at);
+    fprintf(stderr, "%snote: %s", tone(CYAN), tone(PLAIN));
+    vfprintf(stderr, format, more);
+    fputc('\n', stderr);
+    va_end(more);
+    say_spot(scan, spot);
+}
+
+void say_more(const char *format, ...) {
+    va_list more;
+    va_start(more, format);
+    fprintf(stderr, "%snote: %s", tone(CYAN), tone(PLAIN));
+    vfprintf(stderr, format, more);
+    fputc('\n', stderr);
+    va_end(more);
+}
+
+void say_number(const char *name, struct plan_end end) {
+    fprintf(stderr, "%s%s: %s", tone(BOLD), name, tone(PLAIN));
+    say_refusal(end);
+    fputc('\n', stderr);
+}
+
+void say_unreadable(const char *name, const char *why) {
+    fprintf(stderr, "%s%s: %s", tone(BOLD), name, tone(PLAIN));
+    say_refusal((struct plan_end){UNREADABLE, 0});
+    fprintf(stderr, ": it can't be read: %s\n", why);
+}

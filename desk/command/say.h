@@ -1,0 +1,34 @@
+/* What is said to people, on standard error: a place, a sentence, the line and a mark under the place. */
+#ifndef SAY_H
+#define SAY_H
+
+#include "scan.h"
+
+/* The bytes that a sentence is about. */
+struct spot {
+    size_t at, width;
+};
+
+/* "file:line:column: refused N at P: sentence", or with the byte where there are no lines, then the line and the mark. */
+void say_refused(const struct scan *scan, struct plan_end end, struct spot spot, const char *format, ...)
+    __attribute__((format(printf, 4, 5)));
+
+/* The same as a note to the sentence before. */
+void say_note(const struct scan *scan, struct spot spot, const char *format, ...) __attribute__((format(printf, 3, 4)));
+
+/* A note without a place. */
+void say_more(const char *format, ...) __attribute__((format(printf, 1, 2)));
+
+/* "file: refused N at P", where nothing more is to be said. */
+void say_number(const char *name, struct plan_end end);
+
+/* Refusal 14. */
+void say_unreadable(const char *name, const char *why);
+
+/* Bytes as they may be written to a terminal, cut at the room. */
+void show_bytes(char *to, size_t room, const uint8_t *bytes, size_t length);
+
+/* One byte of a file in words, or its end. */
+const char *byte_name(const struct source *source, size_t at);
+
+#endif

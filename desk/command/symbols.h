@@ -1,0 +1,33 @@
+/* The names that a tail gives. */
+#ifndef SYMBOLS_H
+#define SYMBOLS_H
+
+#include "command.h"
+
+/* Lists that symbols name, in the order of a file; their letters are "ilobc". */
+enum { NAMED_INPUTS, NAMED_LATCHES, NAMED_OUTPUTS, NAMED_BADS, NAMED_CONSTRAINTS, NAMED };
+extern const char letters[NAMED + 1];
+extern const char *const nouns[NAMED];
+
+struct symbol {
+    int list;
+    uint64_t entry;
+    size_t at, length;
+    const uint8_t *name;
+};
+
+/* The symbol line at *at of these bytes, *at going past it; 0 if no symbol line stands there. */
+int next_symbol(const uint8_t *bytes, size_t length, size_t *at, struct symbol *symbol);
+
+/* The names of a plan's entries; `name` is null for an entry that has none. */
+struct names {
+    struct symbol *of[NAMED];
+};
+
+int read_names(const struct plan *plan, struct names *names);
+void free_names(struct names *names);
+
+/* How many entries a list of a plan has. */
+uint64_t entries(const struct plan *plan, int list);
+
+#endif

@@ -1,0 +1,122 @@
+/* The verbs that step a plan: trace and witness. */
+#include <stdlib.h>
+#include <string.h>
+
+#include "command.h"
+#include "vcd.h"
+
+/* State, inputs, outputs, next state, one space between (docs/PAPER.md, "Programs and their output"). */
+static void print_step(const struct run *run, const struct plan *plan, FILE *to) {
+    const uint64_t *n = plan->counts;
+    fwrite(run->state, 1, n[PLAN_L], to);
+    fputc(' ', to);
+    fwrite(run->inputs, 1, n[PLAN_I], to);
+    fputc(' ', to);
+    fwrite(run->outputs, 1, n[PLAN_O], to);
+    fputc(' ', to);
+    fwrite(run->next, 1, n[PLAN_L], to);
+    fputc('\n', to);
+}
+
+static int lend_run(const struct plan *plan, struct run *run) {
+    run->state = malloc(plan->counts[PLAN_L] + 1);
+    run->next = malloc(plan->counts[PLAN_L] + 1);
+    run->outputs = malloc(plan->counts[PLAN_O] + 1);
+    return run->state != NULL && run->next != NULL && run->outputs != NULL;
+}
+
+static void free_run(struct run *run) {
+    free(run->state);
+    free(run->next);
+    free(run->outputs);
+}
+
+/* Steps from the resets with every vector, each step being printed; stops where it can't be. */
+static struct plan_end step_all(struct plan *plan, const struct vectors *vectors, struct run *run,
+                                const struct wave *wave, FILE *to) {
+    struct plan_end end = {0, 0};
+    plan_first(plan, run->next);
+    for (run->step = 0; run->step < vectors->number && end.number == 0 && !ferror(to); run->step++) {
+        memcpy(run->state, run->next, plan->counts[PLAN_L]);
+        run->inputs = vector(vectors, plan->counts[PLAN_I], run->step);
+        end = plan_step(plan, run->next, run->inputs, run->outputs);
+        if (end.number == 0 && wave != NULL)
+            print_changes(wave, plan, run, to);
+        else if (end.number == 0)
+            print_step(run, plan, to);
+    }
+    if (wave != NULL)
+        print_wave_end(wave, plan, run, to);
+    return end;
+}
+
+static int trace_to(FILE *to, const struct request *request, const struct source *file, struct plan *plan,
+                    const struct vectors *vectors) {
+    struct run run = {.step = 0};
+    struct wave wave;
+    int status = lend_run(plan, &run) ? DONE : no_memory();
+    if (status == DONE && request->vcd)
+        status = begin_wave(&wave, plan, to);
+    if (status == DONE) {
+        status = ended(step_all(plan, vectors, &run, request->vcd ? &wave : NULL, to), file);
+        if (request->vcd)
+            free_wave(&wave);
+    }
+    free_run(&run);
+    return status;
+}
+
+/* All refusals of the plan come before the vectors are read, all of the vectors before the first line is written. */
+int run_trace(const struct request *request, const struct source *file, struct plan *plan) {
+    struct vectors vectors;
+    struct output output;
+    int status = plan->binary ? DONE : ended(plan_convert(plan), file);
+    if (status == DONE)
+        status = read_vectors(request, plan->counts[PLAN_I], &vectors);
+    if (status != DONE)
+        return status;
+    status = open_output(&output, request->out);
+    if (status == DONE) {
+        status = trace_to(output.to, request, file, plan, &vectors);
+        if (status == DONE)
+            status = close_output(&output);
+        else
+            drop_output(&output);
+    }
+    free_source(&vectors.source);
+    return status;
+}
+
+/* The vectors without the ends of their lines, as the question takes them. */
+static uint8_t *joined(const struct vectors *vectors, uint64_t inputs) {
+    uint8_t *bytes = malloc(vectors->source.length + 1);
+    for (uint64_t k = 0; bytes != NULL && k < vectors->number; k++)
+        memcpy(bytes + k * inputs, vector(vectors, inputs, k), inputs);
+    return bytes;
+}
+
+static int ask(const struct request *request, const struct source *file, struct plan *plan,
+               const struct vectors *vectors) {
+    uint64_t inputs = plan->counts[PLAN_I];
+    uint8_t *bytes = joined(vectors, inputs);
+    int yes, status;
+    if (bytes == NULL)
+        return no_memory();
+    status = ended(plan_witness(plan, vectors->number, bytes, (size_t)(vectors->number * inputs), &yes), file);
+    free(bytes);
+    if (status != DONE)
+        return status;
+    return write_output(request->out, (const uint8_t *)(yes ? "yes\n" : "no\n"), yes ? 4 : 3);
+}
+
+int run_witness(const struct request *request, const struct source *file, struct plan *plan) {
+    struct vectors vectors;
+    int status = plan->binary ? DONE : ended(plan_convert(plan), file);
+    if (status == DONE)
+        status = read_vectors(request, plan->counts[PLAN_I], &vectors);
+    if (status != DONE)
+        return status;
+    status = ask(request, file, plan, &vectors);
+    free_source(&vectors.source);
+    return status;
+}
