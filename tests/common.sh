@@ -36,13 +36,21 @@ choose_compiler() {
     fi
 }
 
+# is_younger FILE SOURCE..: whether a file is there, and nothing that it is built from changed since.
+is_younger() {
+    local file=$1
+    shift
+    [ -f "$file" ] && [ -z "$(find "$@" -newer "$file" -print -quit)" ]
+}
+
 # One archive serves all: it is built again only where something of the crates changed since.
+archive_is_built() {
+    is_younger target/staticlib/libdesk.a crates crates.txt
+}
+
 build_archive() {
-    local archive=target/staticlib/libdesk.a
     mkdir -p target/desk
-    if [ -f $archive ] && [ -z "$(find crates crates.txt -newer $archive -print -quit)" ]; then
-        return
-    fi
+    archive_is_built && return
     rt staticlib desk >target/desk/archive.log 2>&1 || {
         cat target/desk/archive.log
         give_up "the archive isn't built"

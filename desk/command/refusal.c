@@ -278,11 +278,11 @@ int ended(struct plan_end end, const struct source *file) {
     } sayings[] = {{WRONG_BYTE, say_wrong_byte}, {2, say_large_count}, {3, say_wrong_sum}, {5, say_out_of_range},
                    {6, say_defined_twice},       {7, say_not_defined}, {8, say_cyclic},    {9, say_difference},
                    {10, say_bad_symbol},         {16, say_difference}, {21, say_justice}};
-    struct refusal refusal = {scan_of(file), end};
     if (end.number == 0)
         return DONE;
     if (end.number == PLAN_NO_MEMORY)
         return no_memory();
+    struct refusal refusal = {scan_of(file), end};
     for (size_t k = 0; k < sizeof sayings / sizeof sayings[0]; k++)
         if (sayings[k].number == end.number) {
             sayings[k].say(&refusal);
