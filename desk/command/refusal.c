@@ -240,7 +240,7 @@ static void say_difference(const struct refusal *r) {
                     which, gate, variable);
     else
         say_refused(scan, r->end, spot,
-                    "the %s difference of %s (variable %llu) is %llu, more than the literal %llu that it is taken from",
+                    "the %s difference of %s (variable %llu) is %llu, above literal %llu, which it is taken from",
                     which, gate, variable, (ull)d.value, (ull)d.from);
 }
 

@@ -6,7 +6,7 @@
 #include <string.h>
 #include <unistd.h>
 
-enum { WIDE = 100, BEFORE = 60, GATE_BYTES = 16, GUTTER = 6 };
+enum { WIDE = 100, BEFORE = 60, GATE_BYTES = 16, GUTTER = 7 };
 
 /* Colours, only where people look at them. */
 enum tone { PLAIN, BOLD, RED, CYAN, GREEN };

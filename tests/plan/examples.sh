@@ -1,0 +1,168 @@
+# shellcheck shell=bash disable=SC2154 # of run, which sources this
+# The verbs on examples/ and on small plans, against files written by hand.
+
+convert_and_trace() {
+    local plan form
+    for plan in examples/*.aag; do
+        plan=${plan%.aag}
+        accepts "$plan.aig" convert "$plan.aag"
+        for form in aag aig; do
+            accepts "$plan.trace" trace "$plan.$form" "$plan.vectors"
+        done
+    done
+    accepts examples/selector.aag convert examples/selector.aig
+    printf 'aig 6 3 0 2 3\n13\n13\n\4\2\4\3\1\2' >"$room/reduced"
+    sed -n '/^i0/,$p' examples/drafted.aag >>"$room/reduced"
+    accepts "$room/reduced" reduce examples/drafted.aag
+    accepts examples/toggle.aig reduce examples/toggle.aag
+}
+
+# The files beside the worked examples of the paper were written by hand too. The command converts binary to text.
+worked_examples() {
+    local plan
+    for plan in tests/accepted/*.converts; do
+        [ ! -f "${plan%.converts}.aag" ] || accepts "$plan" convert "${plan%.converts}.aag"
+    done
+    for plan in tests/accepted/*.reduces; do
+        accepts "$plan" reduce "$(ls "${plan%.reduces}".a?g)"
+    done
+    for plan in tests/accepted/*.trace; do
+        accepts "$plan" trace "$(ls "${plan%.trace}".a?g)" "${plan%.trace}.inputs"
+    done
+}
+
+words_and_check() {
+    printf '1 inputs 2\n2 latches 2\n3 outputs 2\n4 gates 12\n5 scratch 34\n7 resets 1\n8 bads 0\n9 constraints 0\n' >"$room/words"
+    accepts "$room/words" words examples/toggle.aag
+    accepts "$room/words" words examples/toggle.aig
+    printf 'text M 7 I 2 L 1 O 2 A 4 B 0 C 0\ninput 0 enable\ninput 1 run\nlatch 0 q\noutput 0 q\noutput 1 not q\n' >"$room/names"
+    accepts "$room/names" check examples/toggle.aag
+    printf 'aag 1 1 0 1 0 0 1\n2\n3\n2\no0 a\nc0 b c\ni0 \nc\nc0 no name\n' >"$room/plan"
+    printf 'text M 1 I 1 L 0 O 1 A 0 B 0 C 1\ninput 0 \noutput 0 a\nconstraint 0 b c\n' >"$room/names"
+    accepts "$room/names" check "$room/plan"
+}
+
+# The guard's bad state shows in the third step, but not without it.
+witnesses() {
+    echo yes >"$room/yes"
+    echo no >"$room/no"
+    printf 'aag 3 2 0 1 1\n2\n4\n6\n6 2 4\n' >"$room/plan"
+    printf '01\n11\n' >"$room/vectors"
+    accepts "$room/yes" witness "$room/plan" "$room/vectors"
+    printf '01\n1x\n' >"$room/vectors"
+    accepts "$room/no" witness "$room/plan" "$room/vectors"
+    accepts "$room/no" witness "$room/plan" /dev/null
+    printf 'aag 1 0 1 0 0 1 0\n2 3 0\n2\n' >"$room/plan"
+    printf '\n\n' >"$room/vectors"
+    accepts "$room/yes" witness "$room/plan" "$room/vectors"
+    printf '\n' >"$room/vectors"
+    accepts "$room/no" witness "$room/plan" "$room/vectors"
+}
+
+# A waveform and a drawing, whole.
+pictures() {
+    cat >"$room/plan" <<'END'
+aag 4 2 1 2 1 1 0
+2
+4
+6 3 6
+8
+0
+7
+8 2 5
+i0 left "border"
+l0 held
+o0 back\slash
+END
+    cat >"$room/wave" <<'END'
+$version Golvanzo $end
+$timescale 1 ns $end
+$scope module plan $end
+$scope module inputs $end
+$var wire 1 ! left_"border" $end
+$var wire 1 " i1 $end
+$upscope $end
+$scope module latches $end
+$var wire 1 # held $end
+$upscope $end
+$scope module outputs $end
+$var wire 1 $ back\slash $end
+$var wire 1 % o1 $end
+$upscope $end
+$upscope $end
+$enddefinitions $end
+#0
+1!
+0"
+x#
+1$
+0%
+#1
+x!
+0#
+x$
+#2
+x#
+END
+    cat >"$room/drawing" <<'END'
+digraph plan {
+  rankdir=LR;
+  node [fontname="Helvetica"];
+  v1 [label="i0\nleft \"border\"", shape=box];
+  v2 [label="i1", shape=box];
+  v3 [label="l0\nheld\nstarts as x", shape=box, peripheries=2];
+  o0 [label="o0\nback\\slash", shape=house, orientation=180];
+  o1 [label="o1", shape=house, orientation=180];
+  b0 [label="b0", shape=octagon, color=red];
+  v4 [label="8"];
+  v1 -> v4;
+  v2 -> v4 [style=dotted];
+  v1 -> v3 [style=dotted];
+  v4 -> o0;
+  k0 [label="0", shape=plaintext];
+  k0 -> o1;
+  v3 -> b0 [style=dotted];
+}
+END
+    printf '10\nx0\n' >"$room/vectors"
+    accepts "$room/wave" trace --vcd "$room/plan" "$room/vectors"
+    accepts "$room/drawing" draw "$room/plan"
+}
+
+# "-" is standard input, for the plan or for the vectors but not for both.
+standard_input() {
+    accepts examples/toggle.aig convert - <examples/toggle.aag
+    accepts examples/toggle.aig convert - < <(cat examples/toggle.aag)
+    accepts examples/toggle.trace trace - examples/toggle.vectors <examples/toggle.aag
+    accepts examples/toggle.trace trace examples/toggle.aag <examples/toggle.vectors
+    accepts examples/toggle.trace trace examples/toggle.aag - <examples/toggle.vectors
+    misuses "plan trace [-o OUT]" trace - <examples/toggle.aag
+    misuses "plan witness [-o OUT]" witness - - <examples/toggle.aag
+    cp examples/toggle.aag "$room/-o"
+    (cd "$room" && PATH=$PATH "$OLDPWD/target/desk/plan" convert -- -o >out 2>error; echo $? >status)
+    expect "convert -- -o" 0 examples/toggle.aig ""
+}
+
+usage() {
+    local verb
+    for verb in check convert reduce trace witness draw words; do
+        try "$verb" --help
+        holds "$verb --help" grep -q "^plan $verb \[-o OUT\] " "$room/out"
+        holds "help of $verb" grep -q "^plan $verb " "$room/help"
+        misuses "plan $verb [-o OUT]" "$verb"
+        misuses "plan $verb [-o OUT]" "$verb" --sideways examples/toggle.aag
+        misuses "plan $verb [-o OUT]" "$verb" examples/toggle.aag -o
+    done
+    misuses "plan convert" convert examples/toggle.aag examples/guard.aag
+    misuses "plan convert" convert --vcd examples/toggle.aag
+    misuses "plan check "
+    misuses "plan check " sideways examples/toggle.aag
+}
+
+convert_and_trace
+worked_examples
+words_and_check
+witnesses
+pictures
+standard_input
+usage

@@ -1,0 +1,32 @@
+# shellcheck shell=bash disable=SC2034,SC2154 # of run, which sources this
+# Under valgrind: the library's own reads, which the compiler's checks do not see. And the program of examples/.
+
+valgrind_on_small() {
+    need valgrind valgrind
+    command="valgrind -q --error-exitcode=99 --leak-check=full target/desk/plan-plain"
+    accepts examples/guard.aig convert examples/guard.aag
+    accepts examples/guard.aag convert examples/guard.aig
+    accepts examples/toggle.aig reduce examples/toggle.aag
+    accepts examples/guard.trace trace examples/guard.aag examples/guard.vectors
+    refuses "refused 12 at 2" trace --vcd examples/guard.aag examples/toggle.aag
+    refuses "refused 10 at 23" witness tests/refused-10/second.aag
+    refuses "refused 8 at 2" check tests/refused-08/above-a-cycle.aag
+    refuses "refused 9 at 15" draw tests/refused-09/second-too-large.aig
+    refuses "refused 1 at 13" words tests/refused-01/no-new-line.aag
+    misuses "/dev/full: No space left on device" draw examples/guard.aag -o /dev/full
+    command=$checked
+}
+
+# The same files as the command's.
+own_program() {
+    command=target/desk/reduce
+    accepts examples/toggle.aig examples/toggle.aag
+    accepts "$room/reduced" examples/drafted.aag
+    refuses "refused 8 at 1" tests/refused-08/two-gates.aag
+    command=$checked
+}
+
+if [ -z "$emulator" ]; then
+    valgrind_on_small
+    own_program
+fi

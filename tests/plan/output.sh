@@ -1,0 +1,82 @@
+# shellcheck shell=bash disable=SC2154 # of run, which sources this
+# -o FILE: whole or not at all, whatever happens.
+
+# The files of the folder that is written to.
+left() {
+    ls -A "$room/to"
+}
+
+written() {
+    accepts /dev/null convert -o "$room/to/made" examples/toggle.aag
+    holds "-o writes the file" cmp -s "$room/to/made" examples/toggle.aig
+    holds "-o leaves that file alone" test made = "$(left)"
+    accepts /dev/null trace examples/toggle.aag examples/toggle.vectors -o "$room/to/made"
+    holds "-o replaces it" cmp -s "$room/to/made" examples/toggle.trace
+    chmod 640 "$room/to/made"
+    ln -s made "$room/to/link"
+    accepts /dev/null check -o "$room/to/link" examples/toggle.aag
+    holds "-o follows a link" test -L "$room/to/link"
+    holds "-o keeps the mode" test 640 = "$(stat -c %a "$room/to/made")"
+    (umask 027 && try words -o "$room/to/new" examples/toggle.aag)
+    holds "-o heeds the umask" test 640 = "$(stat -c %a "$room/to/new")"
+    rm "$room/to"/*
+}
+
+# A refusal, a reader that ends, a folder that isn't there.
+not_written() {
+    echo kept >"$room/to/made"
+    refuses "refused 5 at 16" convert -o "$room/to/made" tests/refused-05/output.aag
+    printf '11\n1\n' >"$room/vectors"
+    refuses "refused 12 at 2" trace -o "$room/to/made" examples/toggle.aag "$room/vectors"
+    holds "a refusal leaves the file" test kept = "$(cat "$room/to/made")"
+    misuses "$room/none/made: No such file or directory" convert -o "$room/none/made" examples/toggle.aag
+    misuses "$room/to: Is a directory" convert -o "$room/to" examples/toggle.aag
+    misuses "/dev/full: No space left on device" convert -o /dev/full examples/toggle.aag
+    holds "/dev/full is still what it was" test -c /dev/full
+    holds "nothing else is left" test made = "$(left)"
+    rm "$room/to"/*
+}
+
+# Standard output that is full, for every verb.
+full_output() {
+    local words
+    for words in "check" "convert" "reduce" "words" "draw" "trace" "trace --vcd" "witness"; do
+        # shellcheck disable=SC2086 # a verb and its options
+        $command $words examples/toggle.aag <examples/toggle.vectors >/dev/full 2>"$room/error"
+        echo $? >"$room/status"
+        : >"$room/out"
+        expect "$words to a full device" 2 /dev/null "standard output: No space left on device"
+    done
+}
+
+# A file may grow to 64 KiB only: written in one piece, and step by step.
+full_disk() {
+    local folder=$room/full
+    mkdir "$folder"
+    $make large 100000 "$folder"
+    echo kept >"$room/to/made"
+    (trap '' XFSZ && ulimit -f 64 && try convert -o "$room/to/made" "$folder/plan.aig")
+    expect "a plan on a full disk" 2 /dev/null "$room/to/made: File too large"
+    for _ in 1 2 3 4 5 6 7 8 9; do cat "$folder/vectors"; done >"$room/vectors"
+    (trap '' XFSZ && ulimit -f 64 && try trace -o "$room/to/made" "$folder/plan.aig" "$room/vectors")
+    expect "a trace on a full disk" 2 /dev/null "$room/to/made: File too large"
+    holds "what was there is kept" test kept = "$(cat "$room/to/made")"
+    holds "nothing half written is left" test made = "$(left)"
+    rm -r "$room/to"/* "$folder"
+}
+
+# The same where a small disk can be had.
+small_disk() {
+    mount -t tmpfs -o size=64k none "$room/to" 2>/dev/null || return
+    $make large 100000 "$room"
+    misuses "$room/to/made: No space left on device" convert -o "$room/to/made" "$room/plan.aig"
+    holds "nothing is left on a full disk" test -z "$(left)"
+    umount "$room/to"
+}
+
+mkdir "$room/to"
+written
+not_written
+full_output
+full_disk
+small_disk

@@ -1,0 +1,166 @@
+# shellcheck shell=bash disable=SC2154 # of run, which sources this
+# Refusals: number and place are those beside the worked examples, and these are the sentences.
+
+# says WORD..: refused, and standard input is all that is said.
+says() {
+    cat >"$room/saying"
+    try "$@" </dev/null
+    if [ "$(cat "$room/status")" = 1 ] && [ ! -s "$room/out" ] && cmp -s "$room/saying" "$room/error"; then
+        pass
+    else
+        fail "$*: status $(cat "$room/status"), $(cat "$room/error")"
+    fi
+}
+
+# A file of the room named "plan" with these bytes, as printf writes them.
+plan() {
+    # shellcheck disable=SC2059 # the bytes are given in a format
+    printf "$1" >"$room/plan"
+}
+
+# Every refused example, but for those that are lent tables too short, which never happens here.
+worked_refusals() {
+    local plan
+    for plan in tests/refused-*/*.a?g; do
+        [[ $plan == tests/refused-04/* ]] && continue
+        try check "$plan"
+        expect "check $plan" 1 /dev/null ": $(head -n 1 "${plan%.a?g}.expected"): "
+    done
+}
+
+in_lines() {
+    plan 'aag 3 2 0 2 1\n2\n4\n6\n9\n6 2 4\ni0 x\no0 sum\no1 carry out\n'
+    says check "$room/plan" <<END
+$room/plan:5:1: refused 5 at 20: output 1 ("carry out") is literal 9, above 2M + 1 = 7
+      5 | 9
+        | ^
+END
+    plan 'aag 3 1 1 0 1\n2\n4 6\n4 2 2\ni0 x\nl0 held\n'
+    says check "$room/plan" <<END
+$room/plan:4:1: refused 6 at 20: variable 2 is defined a second time, by gate 0
+      4 | 4 2 2
+        | ^
+$room/plan:3:1: note: it is defined first by latch 0 ("held")
+      3 | 4 6
+        | ^
+END
+    plan 'aag 9 1 0 1 2\n2\n12\n4 2 13\n6 13 12\no0 lamp\n'
+    says check "$room/plan" <<END
+$room/plan:3:1: refused 7 at 6: variable 6 is used as output 0 ("lamp"), but nothing defines it
+      3 | 12
+        | ^~
+note: 2 more lines use it
+END
+    plan 'aag 5 1 0 0 4\n2\n10 4 2\n4 6 2\n6 3 9\n8 4 1\n'
+    says check "$room/plan" <<END
+$room/plan:3:1: refused 8 at 5: variable 5 depends on a gate that depends on itself
+      3 | 10 4 2
+        | ^~
+$room/plan:4:3: note: variable 2 takes variable 3
+      4 | 4 6 2
+        |   ^
+$room/plan:5:5: note: variable 3 takes variable 4
+      5 | 6 3 9
+        |     ^
+$room/plan:6:3: note: variable 4 takes variable 2 again
+      6 | 8 4 1
+        |   ^
+END
+}
+
+in_other_places() {
+    plan 'aig 3 1 0 0 2\n\2\0\11\0'
+    says check "$room/plan" <<END
+$room/plan:byte 16: refused 9 at 16: the first difference of gate 1 (variable 3) is 9, above literal 6, which it is taken from
+        | 02 00 09 00
+        |       ^~
+END
+    plan 'aig 2 1 0 0 1\n\2\0i0 pedal\ni0 p\n'
+    says check "$room/plan" <<END
+$room/plan:byte 25: refused 10 at 25: input 0 is given a second name
+        | i0 p
+        | ^~
+$room/plan:byte 16: note: it is named first here
+        | i0 pedal
+        | ^~
+END
+    plan 'aag 1 1 0 1 0\n2\n2\nc\nremark'
+    says check "$room/plan" <<END
+$room/plan:5:7: refused 1 at 26: in the symbols and comments a new line must stand here, not the end of the file
+      5 | remark
+        |       ^
+END
+    plan 'aag 2 2 0 0 0\n2\n\33[31m\n'
+    says check "$room/plan" <<END
+$room/plan:3:1: refused 1 at 16: in input 1 a number must stand here, not byte 1B
+      3 | .[31m
+        | ^
+END
+}
+
+# Those of the vectors come after those of the plan, and name their own file.
+in_vectors() {
+    printf '11\n1\n' >"$room/vectors"
+    says trace examples/toggle.aag "$room/vectors" <<END
+$room/vectors:2:1: refused 12 at 2: 1 value, but the plan has 2 inputs
+      2 | 1
+        | ^
+END
+    printf '11\n1y\n' >"$room/vectors"
+    says witness examples/toggle.aag "$room/vectors" <<END
+$room/vectors:2:2: refused 12 at 2: "y" is no value: 0, 1 or x
+      2 | 1y
+        |  ^
+END
+    printf '1y\n11' >"$room/vectors"
+    says trace examples/toggle.aag "$room/vectors" <<END
+$room/vectors:2:3: refused 1 at 5: a new line must stand here, not the end of the file
+      2 | 11
+        |   ^
+END
+    refuses "output.aag:3:1: refused 5 at 16: " trace tests/refused-05/output.aag "$room/vectors"
+    refuses "standard input:3:1: refused 5 at 16: " convert - <tests/refused-05/output.aag
+}
+
+# What can't be read: not there, a folder, closed, failing after it was opened.
+unreadable() {
+    says check "$room/none" <<END
+$room/none: refused 14 at 0: it can't be read: No such file or directory
+END
+    refuses "$room: refused 14 at 0: " convert "$room"
+    refuses "none: refused 14 at 0: " trace examples/toggle.aag "$room/none"
+    refuses "standard input: refused 14 at 0: " convert - <&-
+    refuses "/proc/self/mem: refused 14 at 0: " reduce /proc/self/mem
+}
+
+# A terminal is shown colours, and nothing else is.
+colours() {
+    local line=$'\33[1m'
+    command -v script >/dev/null || return
+    script -qec "$command check tests/refused-05/output.aag" /dev/null >"$room/screen" </dev/null
+    holds "colours on a terminal" grep -qF "$line" "$room/screen"
+    script -qec "NO_COLOR=1 $command check tests/refused-05/output.aag" /dev/null >"$room/screen" </dev/null
+    holds "no colours where none are wanted" test 0 = "$(grep -cF $'\33' "$room/screen")"
+}
+
+# The transcript of docs/REFUSALS.md: each line after "$ " is run, and what it says must stand there.
+transcript() {
+    local line
+    sed -n '/^    \$ /,/^$/p' docs/REFUSALS.md | sed 's/^    //' >"$room/told"
+    while read -r line; do
+        echo "\$ ./plan $line"
+        # shellcheck disable=SC2086 # the words of a line
+        $command $line 2>&1
+        echo
+    done < <(sed -n 's/^\$ \.\/plan //p' "$room/told") >"$room/transcript"
+    holds "docs/REFUSALS.md has five refusals" test 5 = "$(grep -c '^\$ ' "$room/told")"
+    holds "docs/REFUSALS.md has what the command says" diff "$room/told" "$room/transcript"
+}
+
+worked_refusals
+in_lines
+in_other_places
+in_vectors
+unreadable
+colours
+transcript
