@@ -10,8 +10,8 @@ typedef unsigned long long ull;
 enum { MOST_GATES = 300 };
 
 /* What stands for each list of named entries. */
-static const char *const shapes[NAMED] = {"shape=box", "shape=box, peripheries=2", "shape=house, orientation=180",
-                                          "shape=octagon, color=red", "shape=diamond, color=blue"};
+static const char *const shapes[NAMED] = {"shape=box", "shape=box, peripheries=2", "shape=box, style=rounded",
+                                          "shape=octagon, color=red", "shape=hexagon, color=blue"};
 
 static void print_label(const struct symbol *symbol, int list, uint64_t entry, FILE *to) {
     fprintf(to, "%c%llu", letters[list], (ull)entry);
@@ -39,23 +39,37 @@ static void print_node(const struct plan *plan, const struct symbol *symbol, int
     fprintf(to, "\", %s];\n", shapes[list]);
 }
 
+/* Inputs and latches at the left, what is observed at the right, gates between. */
 static void print_nodes(const struct plan *plan, const struct names *names, FILE *to) {
-    for (int list = 0; list < NAMED; list++)
+    fputs("  { rank=source;\n", to);
+    for (int list = 0; list < NAMED; list++) {
+        if (list == NAMED_OUTPUTS)
+            fputs("  }\n  { rank=sink;\n", to);
         for (uint64_t k = 0; k < entries(plan, list); k++)
             print_node(plan, &names->of[list][k], list, k, to);
+    }
+    fputs("  }\n", to);
     for (uint64_t k = 0; k < plan->counts[PLAN_A]; k++)
         fprintf(to, "  v%u [label=\"%u\"];\n", plan->table[PLAN_GATES][3 * k] / 2, plan->table[PLAN_GATES][3 * k]);
 }
 
-/* From the variable of a literal; the constants are a node for each use, since nothing is to be followed there. */
-static void print_edge(uint32_t literal, const char *node, FILE *to) {
+/* From the variable of a literal; the constants are a node for each use, since nothing is to be followed there. An edge back
+   to a latch moves nothing. */
+static void print_edge(uint32_t literal, const char *node, int back, FILE *to) {
     static unsigned constants;
+    char from[32];
+    int dotted = literal > 1 && literal % 2 == 1;
     if (literal > 1) {
-        fprintf(to, "  v%u -> %s%s;\n", literal / 2, node, literal % 2 == 1 ? " [style=dotted]" : "");
-        return;
+        snprintf(from, sizeof from, "v%u", literal / 2);
+    } else {
+        snprintf(from, sizeof from, "k%u", constants++);
+        fprintf(to, "  %s [label=\"%u\", shape=plaintext];\n", from, literal);
     }
-    fprintf(to, "  k%u [label=\"%u\", shape=plaintext];\n  k%u -> %s;\n", constants, literal, constants, node);
-    constants++;
+    fprintf(to, "  %s -> %s", from, node);
+    if (dotted || back)
+        fprintf(to, " [%s%s%s]", dotted ? "style=dotted" : "", dotted && back ? ", " : "",
+                back ? "constraint=false" : "");
+    fputs(";\n", to);
 }
 
 static void print_gates(const struct plan *plan, FILE *to) {
@@ -63,8 +77,8 @@ static void print_gates(const struct plan *plan, FILE *to) {
     for (uint64_t k = 0; k < plan->counts[PLAN_A]; k++) {
         const uint32_t *gate = plan->table[PLAN_GATES] + 3 * k;
         snprintf(node, sizeof node, "v%u", gate[0] / 2);
-        print_edge(gate[1], node, to);
-        print_edge(gate[2], node, to);
+        print_edge(gate[1], node, 0, to);
+        print_edge(gate[2], node, 0, to);
     }
 }
 
@@ -74,12 +88,12 @@ static void print_edges(const struct plan *plan, FILE *to) {
     print_gates(plan, to);
     for (uint64_t k = 0; k < plan->counts[PLAN_L]; k++) {
         snprintf(node, sizeof node, "v%u", plan->table[PLAN_LATCHES][2 * k] / 2);
-        print_edge(plan->table[PLAN_LATCHES][2 * k + 1], node, to);
+        print_edge(plan->table[PLAN_LATCHES][2 * k + 1], node, 1, to);
     }
     for (int list = NAMED_OUTPUTS; list < NAMED; list++)
         for (uint64_t k = 0; k < entries(plan, list); k++) {
             snprintf(node, sizeof node, "%c%llu", letters[list], (ull)k);
-            print_edge(plan->table[tables[list]][k], node, to);
+            print_edge(plan->table[tables[list]][k], node, 0, to);
         }
 }
 

@@ -108,16 +108,20 @@ END
 digraph plan {
   rankdir=LR;
   node [fontname="Helvetica"];
+  { rank=source;
   v1 [label="i0\nleft \"border\"", shape=box];
   v2 [label="i1", shape=box];
   v3 [label="l0\nheld\nstarts as x", shape=box, peripheries=2];
-  o0 [label="o0\nback\\slash", shape=house, orientation=180];
-  o1 [label="o1", shape=house, orientation=180];
+  }
+  { rank=sink;
+  o0 [label="o0\nback\\slash", shape=box, style=rounded];
+  o1 [label="o1", shape=box, style=rounded];
   b0 [label="b0", shape=octagon, color=red];
+  }
   v4 [label="8"];
   v1 -> v4;
   v2 -> v4 [style=dotted];
-  v1 -> v3 [style=dotted];
+  v1 -> v3 [style=dotted, constraint=false];
   v4 -> o0;
   k0 [label="0", shape=plaintext];
   k0 -> o1;
