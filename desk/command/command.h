@@ -52,6 +52,9 @@ int no_memory(void);
 /* refusal.c: a call on the plan of this file ended; says why it is refused, and gives the status. */
 int ended(struct plan_end end, const struct source *file);
 
+/* convert.c: puts a plan in binary order; the status. */
+int put_in_order(struct plan *plan, const struct source *file);
+
 /* vectors.c: the lines of a file of input vectors, judged as the tracer judges them. */
 struct vectors {
     struct source source;

@@ -5,33 +5,32 @@
 
 /* What a call wrote, to where it is asked for. */
 static int deliver(const struct request *request, const struct source *file, struct plan_end end,
-                   struct plan_bytes made) {
+                   const struct plan_bytes *made) {
     int status = ended(end, file);
     if (status == DONE)
-        status = write_output(request->out, made.at, made.length);
-    free(made.at);
+        status = write_output(request->out, made->at, made->length);
+    free(made->at);
     return status;
 }
 
-static struct plan_end to_binary_order(struct plan *plan) {
-    return plan->binary ? (struct plan_end){0, 0} : plan_convert(plan);
+/* A file in binary form holds its plan in binary order, so that converting it changes nothing. */
+int put_in_order(struct plan *plan, const struct source *file) {
+    return plan->binary ? DONE : ended(plan_convert(plan), file);
 }
 
 /* The other form. A plan in binary form keeps its order and numbers. */
 int run_convert(const struct request *request, const struct source *file, struct plan *plan) {
-    struct plan_bytes made = {NULL, 0};
-    struct plan_end end = to_binary_order(plan);
-    if (end.number == 0)
-        end = plan->binary ? plan_write_text(plan, &made) : plan_write_binary(plan, &made);
-    return deliver(request, file, end, made);
+    struct plan_bytes made;
+    int status = put_in_order(plan, file);
+    if (status != DONE)
+        return status;
+    return deliver(request, file, plan->binary ? plan_write_text(plan, &made) : plan_write_binary(plan, &made), &made);
 }
 
 int run_reduce(const struct request *request, const struct source *file, struct plan *plan) {
-    struct plan_bytes made = {NULL, 0};
-    struct plan_end end = to_binary_order(plan);
-    if (end.number == 0)
-        end = plan_reduce(plan);
-    if (end.number == 0)
-        end = plan_write_binary(plan, &made);
-    return deliver(request, file, end, made);
+    struct plan_bytes made;
+    int status = put_in_order(plan, file);
+    if (status == DONE)
+        status = ended(plan_reduce(plan), file);
+    return status == DONE ? deliver(request, file, plan_write_binary(plan, &made), &made) : status;
 }

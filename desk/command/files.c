@@ -1,6 +1,7 @@
 /* Whole files in, whole files out. */
 #define _GNU_SOURCE
 #include <errno.h>
+#include <signal.h>
 #include <stdlib.h>
 #include <string.h>
 #include <sys/stat.h>
@@ -76,6 +77,25 @@ static mode_t mode_for(const char *target) {
     return 0666 & ~mask;
 }
 
+/* The file that a signal must not leave behind. */
+static char *volatile unfinished;
+
+static void remove_unfinished(int number) {
+    if (unfinished != NULL)
+        unlink(unfinished);
+    signal(number, SIG_DFL);
+    raise(number);
+}
+
+/* Signals that end the command; a file that grows too large is an error of writing instead. */
+static void heed_signals(void) {
+    static const int ends[] = {SIGHUP, SIGINT, SIGTERM};
+    for (size_t k = 0; k < sizeof ends / sizeof ends[0]; k++)
+        if (signal(ends[k], remove_unfinished) == SIG_IGN)
+            signal(ends[k], SIG_IGN);
+    signal(SIGXFSZ, SIG_IGN);
+}
+
 /* A file beside the target, in the same folder, so that it can be renamed. */
 static FILE *open_temporary(struct output *output) {
     if (asprintf(&output->temporary, "%s.XXXXXX", output->target) < 0) {
@@ -88,6 +108,8 @@ static FILE *open_temporary(struct output *output) {
         output->temporary = NULL;
         return NULL;
     }
+    unfinished = output->temporary;
+    heed_signals();
     FILE *to = fchmod(file, mode_for(output->target)) == 0 ? fdopen(file, "wb") : NULL;
     if (to == NULL)
         close(file);
@@ -97,9 +119,10 @@ static FILE *open_temporary(struct output *output) {
 /* A device or a pipe is written as it is: it can't be replaced by a file. */
 int open_output(struct output *output, const char *name) {
     struct stat about;
-    *output = (struct output){stdout, name == NULL ? "standard output" : name, NULL, NULL};
-    if (name == NULL)
+    *output = (struct output){stdout, "standard output", NULL, NULL};
+    if (name == NULL || strcmp(name, "-") == 0)
         return DONE;
+    output->name = name;
     if (stat(name, &about) == 0 && !S_ISREG(about.st_mode)) {
         output->to = fopen(name, "wb");
     } else {
@@ -118,6 +141,7 @@ void drop_output(struct output *output) {
         fclose(output->to);
     if (output->temporary != NULL)
         unlink(output->temporary);
+    unfinished = NULL;
     free(output->temporary);
     free(output->target);
     *output = (struct output){NULL, NULL, NULL, NULL};
@@ -133,7 +157,7 @@ int close_output(struct output *output) {
     if (good && output->temporary != NULL) {
         good = rename(output->temporary, output->target) == 0;
         if (good)
-            free(output->temporary), output->temporary = NULL;
+            unfinished = NULL, free(output->temporary), output->temporary = NULL;
     }
     if (!good)
         status = cannot_write(output);

@@ -70,7 +70,7 @@ static int trace_to(FILE *to, const struct request *request, const struct source
 int run_trace(const struct request *request, const struct source *file, struct plan *plan) {
     struct vectors vectors;
     struct output output;
-    int status = plan->binary ? DONE : ended(plan_convert(plan), file);
+    int status = put_in_order(plan, file);
     if (status == DONE)
         status = read_vectors(request, plan->counts[PLAN_I], &vectors);
     if (status != DONE)
@@ -111,7 +111,7 @@ static int ask(const struct request *request, const struct source *file, struct 
 
 int run_witness(const struct request *request, const struct source *file, struct plan *plan) {
     struct vectors vectors;
-    int status = plan->binary ? DONE : ended(plan_convert(plan), file);
+    int status = put_in_order(plan, file);
     if (status == DONE)
         status = read_vectors(request, plan->counts[PLAN_I], &vectors);
     if (status != DONE)

@@ -32,9 +32,16 @@ worked_examples() {
 }
 
 words_and_check() {
+    local plan
     printf '1 inputs 2\n2 latches 2\n3 outputs 2\n4 gates 12\n5 scratch 34\n7 resets 1\n8 bads 0\n9 constraints 0\n' >"$room/words"
     accepts "$room/words" words examples/toggle.aag
-    accepts "$room/words" words examples/toggle.aig
+    for plan in tests/accepted/*.expected tests/refused-*/*.expected; do
+        sed -n 's/^words \([0-9]\)/\1/p' "$plan" | tr ' ' '\n' >"$room/numbers"
+        [ -s "$room/numbers" ] || continue
+        printf '1 inputs\n2 latches\n3 outputs\n4 gates\n5 scratch\n7 resets\n8 bads\n9 constraints\n' |
+            paste -d ' ' - "$room/numbers" >"$room/words"
+        accepts "$room/words" words "$(ls "${plan%.expected}".a?g)"
+    done
     printf 'text M 7 I 2 L 1 O 2 A 4 B 0 C 0\ninput 0 enable\ninput 1 run\nlatch 0 q\noutput 0 q\noutput 1 not q\n' >"$room/names"
     accepts "$room/names" check examples/toggle.aag
     printf 'aag 1 1 0 1 0 0 1\n2\n3\n2\no0 a\nc0 b c\ni0 \nc\nc0 no name\n' >"$room/plan"
@@ -136,7 +143,7 @@ END
 # "-" is standard input, for the plan or for the vectors but not for both.
 standard_input() {
     accepts examples/toggle.aig convert - <examples/toggle.aag
-    accepts examples/toggle.aig convert - < <(cat examples/toggle.aag)
+    accepts examples/toggle.aig convert -o - - < <(cat examples/toggle.aag)
     accepts examples/toggle.trace trace - examples/toggle.vectors <examples/toggle.aag
     accepts examples/toggle.trace trace examples/toggle.aag <examples/toggle.vectors
     accepts examples/toggle.trace trace examples/toggle.aag - <examples/toggle.vectors

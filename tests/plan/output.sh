@@ -55,14 +55,30 @@ full_disk() {
     mkdir "$folder"
     $make large 100000 "$folder"
     echo kept >"$room/to/made"
-    (trap '' XFSZ && ulimit -f 64 && try convert -o "$room/to/made" "$folder/plan.aig")
+    (ulimit -f 64 && try convert -o "$room/to/made" "$folder/plan.aig")
     expect "a plan on a full disk" 2 /dev/null "$room/to/made: File too large"
     for _ in 1 2 3 4 5 6 7 8 9; do cat "$folder/vectors"; done >"$room/vectors"
-    (trap '' XFSZ && ulimit -f 64 && try trace -o "$room/to/made" "$folder/plan.aig" "$room/vectors")
+    (ulimit -f 64 && try trace -o "$room/to/made" "$folder/plan.aig" "$room/vectors")
     expect "a trace on a full disk" 2 /dev/null "$room/to/made: File too large"
     holds "what was there is kept" test kept = "$(cat "$room/to/made")"
     holds "nothing half written is left" test made = "$(left)"
     rm -r "$room/to"/* "$folder"
+}
+
+# Ended in the middle of a long trace.
+ended_early() {
+    local number
+    echo kept >"$room/to/made"
+    yes 11 | head -n 5000000 >"$room/vectors"
+    for number in TERM HUP; do
+        $plain trace -o "$room/to/made" examples/toggle.aag "$room/vectors" &
+        while [ "$(left | wc -l)" = 1 ] && kill -0 $! 2>/dev/null; do :; done
+        kill -s $number $!
+        wait $! 2>/dev/null
+        holds "ended by $number" test made = "$(left)"
+    done
+    holds "what was there is kept by the end" test kept = "$(cat "$room/to/made")"
+    rm "$room/to"/*
 }
 
 # The same where a small disk can be had.
@@ -79,4 +95,5 @@ written
 not_written
 full_output
 full_disk
+ended_early
 small_disk
