@@ -1,5 +1,6 @@
 /* pipe desk|base IN OUT: reads a binary file, reduces the circuit and writes it as a binary file, by the desk's calls
-   or by the baseline. pipe make GATES OUT writes a random circuit. */
+   or by the baseline. pipe text|binary IN OUT: reads a file of the other form and writes it in this one, by the desk's
+   calls. pipe make GATES OUT writes a random circuit. */
 #include <stdint.h>
 #include <stdio.h>
 #include <stdlib.h>
@@ -45,30 +46,71 @@ static struct circuit lent_circuit(const uint8_t *file, size_t length) {
     return c;
 }
 
-/* As many bytes as a binary file of these counts can have. */
-static size_t longest(const uint64_t *counts) {
-    return 60 + 8 * (counts[L] + counts[O]) + 6 * counts[A];
+/* As many bytes as a binary file of these counts can have, and as a text file can. */
+static size_t longest(const uint64_t *counts) { return 60 + 8 * (counts[L] + counts[O]) + 6 * counts[A]; }
+
+static size_t longest_text(const uint64_t *counts) {
+    return 60 + 8 * (counts[I] + 2 * counts[L] + counts[O] + 3 * counts[A]);
 }
 
-static void by_desk(const uint8_t *file, size_t length, const char *to) {
-    struct circuit c = lent_circuit(file, length), made = lent_circuit(file, length);
-    size_t to_read = golvanzo_words(file, length, 5);
+struct scratch {
+    uint32_t *at;
+    size_t length;
+};
+
+/* Table 5 to read a file and for every later call: a binary file's M is that of its other tables. */
+static struct scratch scratch_for(const uint8_t *file, size_t length) {
+    size_t asked = golvanzo_words(file, length, 5), n[10] = {0};
+    for (int t = 1; t < 10; t++)
+        n[t] = t == 5 || t == 6 ? 0 : golvanzo_words(file, length, (uint64_t)t);
+    size_t later = 4 * (n[1] + n[2] / 2 + n[4] / 3 + 1) + n[3] + n[8] + n[9], most = asked > later ? asked : later;
+    return (struct scratch){lent(4 * most), most};
+}
+
+static struct circuit read_file(const uint8_t *file, size_t length, struct scratch s) {
+    struct circuit c = lent_circuit(file, length);
     uint64_t answer[2 + COUNTS];
-    golvanzo_read(file, length, TABLES(c), lent(4 * to_read), to_read, answer);
-    memcpy(c.counts, answer + 2, sizeof c.counts);
-    size_t scratch_length = 4 * (c.counts[M] + 1) + c.counts[O] + c.counts[B] + c.counts[C];
-    uint32_t *scratch = lent(4 * scratch_length);
-    if (answer[0] == 0)
-        golvanzo_reduce(c.counts, TABLES(c), TABLES(made), scratch, scratch_length, answer);
+    golvanzo_read(file, length, TABLES(c), s.at, s.length, answer);
     if (answer[0] != 0)
         give_up("the desk refuses the file");
-    memcpy(made.counts, answer + 2, sizeof made.counts);
-    size_t room_left = longest(made.counts);
-    uint8_t *out = lent(room_left);
-    golvanzo_write_binary(made.counts, TABLES(made), scratch, scratch_length, NULL, 0, out, room_left, answer);
+    memcpy(c.counts, answer + 2, sizeof c.counts);
+    return c;
+}
+
+typedef void writer(const uint64_t *, GOLVANZO_GIVEN, GOLVANZO_SCRATCH, const uint8_t *, size_t, uint8_t *, size_t,
+                    uint64_t *);
+
+static void write_file(struct circuit c, struct scratch s, writer *write, size_t most, const char *to) {
+    uint8_t *out = lent(most);
+    uint64_t answer[3];
+    write(c.counts, TABLES(c), s.at, s.length, NULL, 0, out, most, answer);
     if (answer[0] != 0)
         give_up("the desk refuses to write");
     spill(to, out, answer[2]);
+}
+
+static void by_desk(const uint8_t *file, size_t length, const char *to) {
+    struct scratch s = scratch_for(file, length);
+    struct circuit c = read_file(file, length, s), made = lent_circuit(file, length);
+    uint64_t answer[2 + COUNTS];
+    golvanzo_reduce(c.counts, TABLES(c), TABLES(made), s.at, s.length, answer);
+    memcpy(made.counts, answer + 2, sizeof made.counts);
+    write_file(made, s, golvanzo_write_binary, longest(made.counts), to);
+}
+
+static void to_text(const uint8_t *file, size_t length, const char *to) {
+    struct scratch s = scratch_for(file, length);
+    struct circuit c = read_file(file, length, s);
+    write_file(c, s, golvanzo_write_text, longest_text(c.counts), to);
+}
+
+static void to_binary(const uint8_t *file, size_t length, const char *to) {
+    struct scratch s = scratch_for(file, length);
+    struct circuit c = read_file(file, length, s), made = lent_circuit(file, length);
+    uint64_t answer[2 + COUNTS];
+    golvanzo_convert(c.counts, TABLES(c), TABLES(made), s.at, s.length, answer);
+    memcpy(made.counts, answer + 2, sizeof made.counts);
+    write_file(made, s, golvanzo_write_binary, longest(made.counts), to);
 }
 
 static void by_base(const uint8_t *file, size_t length, const char *to) {
@@ -91,14 +133,20 @@ static void make(uint32_t gates, const char *to) {
 }
 
 int main(int argc, char **argv) {
+    static const struct {
+        const char *name;
+        void (*run)(const uint8_t *, size_t, const char *);
+    } ways[] = {{"desk", by_desk}, {"base", by_base}, {"text", to_text}, {"binary", to_binary}};
     size_t length;
     if (argc != 4)
-        give_up("pipe desk|base IN OUT, or pipe make GATES OUT");
+        give_up("pipe desk|base|text|binary IN OUT, or pipe make GATES OUT");
     if (strcmp(argv[1], "make") == 0) {
         make((uint32_t)atoi(argv[2]), argv[3]);
         return 0;
     }
     uint8_t *file = slurp(argv[2], &length);
-    (strcmp(argv[1], "desk") == 0 ? by_desk : by_base)(file, length, argv[3]);
+    for (size_t k = 0; k < sizeof ways / sizeof ways[0]; k++)
+        if (strcmp(argv[1], ways[k].name) == 0)
+            ways[k].run(file, length, argv[3]);
     return 0;
 }
