@@ -18,10 +18,14 @@ static const uint64_t numbers[PLAN_TABLES + 1] = {1, 2, 3, 4, 7, 8, 9, 5};
 static const struct plan_end done = {0, 0}, no_memory = {PLAN_NO_MEMORY, 0};
 
 /* The answer of a call begins with the refusal's number and place. */
-static struct plan_end end_of(const uint64_t *answer) { return (struct plan_end){answer[0], answer[1]}; }
+static struct plan_end end_of(const uint64_t *answer) {
+    return (struct plan_end){answer[0], answer[1]};
+}
 
 /* Never null for a length of 0, so that null is a lack of memory. */
-static void *lent(size_t bytes) { return malloc(bytes + (bytes == 0)); }
+static void *lent(size_t bytes) {
+    return malloc(bytes + (bytes == 0));
+}
 
 /* Words of table 5 for every call but a read (docs/PAPER.md, "Tables and bytes"). The desk question is about reading alone,
    which may ask for fewer. */
@@ -39,7 +43,9 @@ static int lend_scratch(struct plan *plan, size_t words) {
     return plan->scratch != NULL;
 }
 
-static int ready(struct plan *plan) { return lend_scratch(plan, scratch_for(plan->counts)); }
+static int ready(struct plan *plan) {
+    return lend_scratch(plan, scratch_for(plan->counts));
+}
 
 /* Tables of these lengths; those that can't be had are null. */
 static int lend_tables(struct plan *plan, const size_t *words) {

@@ -1,5 +1,5 @@
 /* A plan from C, over desk/plan.h: reads the file that is named, reduces the plan and writes it in binary form to standard
-   output. See README.md for how it is built. */
+   output. README.md beside it says how it is built. */
 #include <stdio.h>
 #include <stdlib.h>
 

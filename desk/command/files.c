@@ -59,7 +59,9 @@ void free_source(struct source *source) {
     source->length = 0;
 }
 
-static int cannot_write(const struct output *output) { return fail("%s: %s", output->name, strerror(errno)); }
+static int cannot_write(const struct output *output) {
+    return fail("%s: %s", output->name, strerror(errno));
+}
 
 /* The file that the name leads to, past links: what is renamed must not take the place of a link. */
 static char *target_of(const char *name) {

@@ -67,7 +67,9 @@ static const struct command *command_named(const char *name) {
     return NULL;
 }
 
-static int is_help(const char *word) { return strcmp(word, "--help") == 0 || strcmp(word, "-h") == 0; }
+static int is_help(const char *word) {
+    return strcmp(word, "--help") == 0 || strcmp(word, "-h") == 0;
+}
 
 /* The words after the command; 0 if they are none that it takes. */
 static int parse(const struct command *command, char **words, struct request *request) {

@@ -21,6 +21,15 @@ static struct spot number_spot(const struct refusal *r, size_t at) {
     return (struct spot){at, digits_at(r->scan.of, at)};
 }
 
+/* A number as it stands in the file, which may have more digits than any number here. */
+static const char *number_text(const struct refusal *r, struct spot spot) {
+    static char text[48];
+    show_bytes(text, spot.width < 40 ? spot.width + 1 : 41, r->scan.of->at + spot.at, spot.width);
+    if (spot.width > 40)
+        strcat(text, "...");
+    return text;
+}
+
 /* The count whose number stands at a place; the first if none does. */
 static int count_at(const struct scan *scan, size_t place) {
     for (int k = 0; k < scan->known; k++)
@@ -69,7 +78,9 @@ static void say_expected(const struct refusal *r, const char *where, const char 
                 byte_name(r->scan.of, place));
 }
 
-static const char *which_difference(const struct difference *d) { return d->second ? "second" : "first"; }
+static const char *which_difference(const struct difference *d) {
+    return d->second ? "second" : "first";
+}
 
 /* A file that ends among its gates. */
 static void say_cut_off(const struct refusal *r, const struct difference *d) {
@@ -98,10 +109,8 @@ static void say_wrong_byte(const struct refusal *r) {
 
 static void say_large_count(const struct refusal *r) {
     struct spot spot = number_spot(r, (size_t)r->end.place);
-    int most = spot.width > 40 ? 40 : (int)spot.width;
-    say_refused(&r->scan, r->end, spot, "%s is %.*s%s, and no count may be above 1048575",
-                count_names[count_at(&r->scan, spot.at)], most, (const char *)r->scan.of->at + spot.at,
-                most == (int)spot.width ? "" : "...");
+    say_refused(&r->scan, r->end, spot, "%s is %s, and no count may be above 1048575",
+                count_names[count_at(&r->scan, spot.at)], number_text(r, spot));
 }
 
 static void say_wrong_sum(const struct refusal *r) {
@@ -137,20 +146,11 @@ static const char *role(const struct scan *scan, const struct row *row, int fiel
     return row->section == LATCHES ? "the next state of " : row->section == GATES ? "a right side of " : "";
 }
 
-/* A literal as it stands in the file, which may have more digits than any number here. */
-static const char *literal_text(const struct refusal *r, struct spot spot) {
-    static char text[48];
-    show_bytes(text, spot.width < 40 ? spot.width + 1 : 41, r->scan.of->at + spot.at, spot.width);
-    if (spot.width > 40)
-        strcat(text, "...");
-    return text;
-}
-
 static void say_reset(const struct refusal *r, struct spot spot, const struct row *row) {
     const struct scan *scan = &r->scan;
     uint64_t own = scan->binary ? 2 * (scan->counts[PLAN_I] + row->entry + 1) : row->value[0];
     say_refused(scan, r->end, spot, "the reset of %s is %s, but must be 0, 1 or the latch's own literal %llu",
-                entry_name(scan, LATCHES, row->entry), literal_text(r, spot), (ull)own);
+                entry_name(scan, LATCHES, row->entry), number_text(r, spot), (ull)own);
 }
 
 static void say_out_of_range(const struct refusal *r) {
@@ -163,7 +163,7 @@ static void say_out_of_range(const struct refusal *r) {
     }
     int field = field_at(&row, spot.at), defines = field == defining_field(scan, &row);
     uint64_t value = row.value[field], most = 2 * scan->counts[PLAN_M];
-    const char *text = literal_text(r, spot), *entry = entry_name(scan, row.section, row.entry);
+    const char *text = number_text(r, spot), *entry = entry_name(scan, row.section, row.entry);
     if (field == reset_field(scan, &row))
         say_reset(r, spot, &row);
     else if (!defines)
@@ -215,7 +215,7 @@ static void say_not_defined(const struct refusal *r) {
     if (uses == 0)
         say_number(scan->of->name, r->end);
     if (uses > 1)
-        say_more("%llu more lines use it", (ull)uses - 1);
+        say_more("%llu more %s it", (ull)uses - 1, uses == 2 ? "line uses" : "lines use");
 }
 
 /* Why a difference is refused: its writing comes before its value. */
@@ -245,7 +245,6 @@ static void say_difference(const struct refusal *r) {
 }
 
 static void say_bad_symbol(const struct refusal *r) {
-    static const int counts[NAMED] = {PLAN_I, PLAN_L, PLAN_O, PLAN_B, PLAN_C};
     const struct scan *scan = &r->scan;
     size_t at = (size_t)r->end.place, from = scan->tail;
     struct symbol symbol, first;
@@ -255,12 +254,12 @@ static void say_bad_symbol(const struct refusal *r) {
     }
     struct spot spot = {symbol.at, 1 + digits_at(scan->of, symbol.at + 1)};
     const char *noun = nouns[symbol.list];
-    uint64_t count = scan->counts[counts[symbol.list]];
+    uint64_t count = scan->counts[list_counts[symbol.list]];
     if (symbol.entry >= count) {
         say_refused(scan, r->end, spot,
                     count == 0 ? "a name for %s %s, but the plan has none"
                                : "a name for %s %s, but the last one is %llu",
-                    noun, literal_text(r, (struct spot){spot.at + 1, spot.width - 1}), (ull)count - 1);
+                    noun, number_text(r, (struct spot){spot.at + 1, spot.width - 1}), (ull)count - 1);
         return;
     }
     say_refused(scan, r->end, spot, "%s %llu is given a second name", noun, (ull)symbol.entry);
@@ -269,7 +268,9 @@ static void say_bad_symbol(const struct refusal *r) {
             say_note(scan, (struct spot){first.at, spot.width}, "it is named first here");
 }
 
-static void say_cyclic(const struct refusal *r) { say_cycle(&r->scan, r->end); }
+static void say_cyclic(const struct refusal *r) {
+    say_cycle(&r->scan, r->end);
+}
 
 int ended(struct plan_end end, const struct source *file) {
     static const struct {

@@ -29,9 +29,13 @@ int fail(const char *format, ...) {
     return FAILED;
 }
 
-int no_memory(void) { return fail("there is no memory for this"); }
+int no_memory(void) {
+    return fail("there is no memory for this");
+}
 
-static char shown(uint8_t b) { return 32 <= b && b <= 126 ? (char)b : '.'; }
+static char shown(uint8_t b) {
+    return 32 <= b && b <= 126 ? (char)b : '.';
+}
 
 void show_bytes(char *to, size_t room, const uint8_t *bytes, size_t length) {
     size_t k = 0;

@@ -4,9 +4,12 @@
 #include <string.h>
 
 const char letters[NAMED + 1] = "ilobc";
+const int list_counts[NAMED] = {PLAN_I, PLAN_L, PLAN_O, PLAN_B, PLAN_C};
 const char *const nouns[NAMED] = {"input", "latch", "output", "bad state", "constraint"};
 
-static int is_digit(uint8_t b) { return '0' <= b && b <= '9'; }
+static int is_digit(uint8_t b) {
+    return '0' <= b && b <= '9';
+}
 
 int next_symbol(const uint8_t *bytes, size_t length, size_t *at, struct symbol *symbol) {
     size_t k = *at + 1;
@@ -27,8 +30,7 @@ int next_symbol(const uint8_t *bytes, size_t length, size_t *at, struct symbol *
 }
 
 uint64_t entries(const struct plan *plan, int list) {
-    static const int counts[NAMED] = {PLAN_I, PLAN_L, PLAN_O, PLAN_B, PLAN_C};
-    return plan->counts[counts[list]];
+    return plan->counts[list_counts[list]];
 }
 
 int read_names(const struct plan *plan, struct names *names) {

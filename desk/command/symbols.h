@@ -4,10 +4,11 @@
 
 #include "command.h"
 
-/* Lists that symbols name, in the order of a file; their letters are "ilobc". */
+/* Lists that symbols name, in the order of a file: their letters, what an entry is called, which count they have. */
 enum { NAMED_INPUTS, NAMED_LATCHES, NAMED_OUTPUTS, NAMED_BADS, NAMED_CONSTRAINTS, NAMED };
 extern const char letters[NAMED + 1];
 extern const char *const nouns[NAMED];
+extern const int list_counts[NAMED];
 
 struct symbol {
     int list;

@@ -58,7 +58,9 @@ int begin_wave(struct wave *wave, const struct plan *plan, FILE *to) {
     return wave->shown == NULL ? no_memory() : DONE;
 }
 
-void free_wave(struct wave *wave) { free(wave->shown); }
+void free_wave(struct wave *wave) {
+    free(wave->shown);
+}
 
 /* The values of one list, whose signals start at `first`, as far as they are others than those shown. */
 static void print_list(const struct wave *wave, uint64_t first, const uint8_t *values, uint64_t count, FILE *to) {

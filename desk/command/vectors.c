@@ -5,7 +5,9 @@
 #include "command.h"
 #include "say.h"
 
-static int is_value(uint8_t b) { return b == '0' || b == '1' || b == 'x'; }
+static int is_value(uint8_t b) {
+    return b == '0' || b == '1' || b == 'x';
+}
 
 /* The first byte of a line that is no value; its length if all are. */
 static size_t wrong_value(const uint8_t *line, size_t length) {

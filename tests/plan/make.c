@@ -55,7 +55,7 @@ static void spill_steps(struct base *b, const struct circuit *c, const char *fol
     for (size_t k = 0; k < STEPS; k++) {
         uint8_t *ins = vectors + k * (i + 1), *to = lines + k * line;
         for (size_t j = 0; j < i; j++)
-            ins[j] = (uint8_t)"01x"[below(3)];
+            ins[j] = (uint8_t) "01x"[below(3)];
         ins[i] = '\n';
         memcpy(to, state, l), to[l] = ' ';
         memcpy(to + l + 1, ins, i), to[l + 1 + i] = ' ';
