@@ -22,17 +22,20 @@ need() {
     } || give_up "${missing[*]} missing, and '$packages' can't be installed"
 }
 
-# Sets `compiler` and `emulator` (with a space after it, or empty): the archive's code is x86-64's, so that another machine
-# needs a cross compiler and an emulator.
+# Sets `emulator`, with a space after it, or empty: the archive's code is x86-64's.
+choose_emulator() {
+    if [ "$(uname -m)" = x86_64 ]; then emulator=; else emulator="qemu-x86_64 "; fi
+}
+
+# Sets `compiler` too: a machine that needs the emulator needs a cross compiler.
 choose_compiler() {
-    if [ "$(uname -m)" = x86_64 ]; then
+    choose_emulator
+    if [ -z "$emulator" ]; then
         need "gcc libc6-dev" gcc
         compiler=gcc
-        emulator=
     else
         need "gcc-x86-64-linux-gnu libc6-dev-amd64-cross qemu-user" x86_64-linux-gnu-gcc qemu-x86_64
         compiler=x86_64-linux-gnu-gcc
-        emulator="qemu-x86_64 "
     fi
 }
 
