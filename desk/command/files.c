@@ -118,14 +118,15 @@ static FILE *open_temporary(struct output *output) {
     return to;
 }
 
-/* A device or a pipe is written as it is: it can't be replaced by a file. */
+/* A device or a pipe is written as it is: it can't be replaced by a file. A file that may not be written is opened only for the
+   error. */
 int open_output(struct output *output, const char *name) {
     struct stat about;
     *output = (struct output){stdout, "standard output", NULL, NULL};
     if (name == NULL || strcmp(name, "-") == 0)
         return DONE;
     output->name = name;
-    if (stat(name, &about) == 0 && !S_ISREG(about.st_mode)) {
+    if (stat(name, &about) == 0 && (!S_ISREG(about.st_mode) || access(name, W_OK) != 0)) {
         output->to = fopen(name, "wb");
     } else {
         output->target = target_of(name);
