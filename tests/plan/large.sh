@@ -1,6 +1,11 @@
 # shellcheck shell=bash disable=SC2034,SC2154 # of run, which sources this
 # Plans larger than the programs take, against the baseline of bench/, and files made to be too much.
 
+# How many edges the drawing of a text file has: two for a gate, one for a next state and an output.
+edges() {
+    awk 'NR == 1 { print 2 * $6 + $4 + $5 }' "$1"
+}
+
 # large GATES: every verb on a plan of so many gates.
 large() {
     local folder=$room/large-$1
@@ -15,6 +20,8 @@ large() {
     try check "$folder/plan.aig"
     holds "check of $1 gates" grep -q "^binary M .* A $1 B 0 C 0$" "$room/out"
     misuses "has $1 gates; a drawing of more than 300 is hardly read: --large draws it" draw "$folder/plan.aig"
+    try draw --large "$folder/plan.aig"
+    holds "edges of $1 gates" test "$(edges "$folder/plan.aag")" = "$(grep -c -- '->' "$room/out")"
     accepts /dev/null convert -o "$room/made.aag" "$folder/plan.aig"
     holds "a file of $1 gates" cmp -s "$folder/plan.aag" "$room/made.aag"
     rm -r "$folder"
