@@ -35,6 +35,8 @@ words_and_check() {
     local plan
     printf '1 inputs 2\n2 latches 2\n3 outputs 2\n4 gates 12\n5 scratch 34\n7 resets 1\n8 bads 0\n9 constraints 0\n' >"$room/words"
     accepts "$room/words" words examples/toggle.aag
+    printf '1 inputs 2\n2 latches 4\n3 outputs 1\n4 gates 18\n5 scratch 47\n7 resets 2\n8 bads 1\n9 constraints 1\n' >"$room/words"
+    accepts "$room/words" words examples/guard.aag
     for plan in tests/accepted/*.expected tests/refused-*/*.expected; do
         sed -n 's/^words \([0-9]\)/\1/p' "$plan" | tr ' ' '\n' >"$room/numbers"
         [ -s "$room/numbers" ] || continue

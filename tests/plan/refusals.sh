@@ -98,6 +98,22 @@ $room/plan:3:1: refused 1 at 16: in input 1 a number must stand here, not byte 1
 END
 }
 
+# Lines and bytes of worked examples, those of AIGER 1.9 among them; a binary file has lines until its gates.
+places() {
+    refuses "no-new-line.aag:1:14: refused 1 at 13: " words tests/refused-01/no-new-line.aag
+    refuses "too-many.aag:1:5: refused 3 at 0: " words tests/refused-03/too-many.aag
+    refuses "b.aag:1:15: refused 2 at 14: B is 1048576" words tests/refused-02/b.aag
+    refuses "justice.aag:1:19: refused 21 at 18: J is above 0" trace tests/refused-21/justice.aag /dev/null
+    refuses "fairness.aag:1:21: refused 21 at 20: F is above 0" convert tests/refused-21/fairness.aag
+    refuses "reset-of-another.aag:3:5: refused 5 at 22: the reset of latch 1 is 2" convert tests/refused-05/reset-of-another.aag
+    refuses "constraint.aig:2:1: refused 5 at 18: constraint 0 is literal 2" convert tests/refused-05/constraint.aig
+    refuses "second-constraint.aag:4:1: refused 10 at 25: constraint 0" convert tests/refused-10/second-constraint.aag
+    refuses "after-a-bad-state.aig:byte 18: refused 9 at 18: " convert tests/refused-09/after-a-bad-state.aig
+    refuses "below-output.aag:4:1: refused 7 at 2: variable 2 is used as constraint 0" convert tests/refused-07/constraint-below-output.aag
+    plan 'aag 2 0 1 0 1 1 1\n2 2 2\n4\n5\n4 4 2\n'
+    refuses "plan:5:1: refused 8 at 2: variable 2 depends on itself" convert "$room/plan"
+}
+
 # Those of the vectors come after those of the plan, and name their own file.
 in_vectors() {
     printf '11\n1\n' >"$room/vectors"
@@ -160,6 +176,7 @@ transcript() {
 worked_refusals
 in_lines
 in_other_places
+places
 in_vectors
 unreadable
 colours
