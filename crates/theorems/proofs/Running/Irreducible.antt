@@ -24,7 +24,7 @@ pub record Plain (a b : ℕ) : Type 0 where
   pub not-0 : (¬ (a ≡ 0)) × (¬ (b ≡ 0))
   pub not-1 : (¬ (a ≡ 1)) × (¬ (b ≡ 1))
 
-pick-none : (t : Bool) (l : ℕ) (o : Option ℕ) → cond t (some l) o ≡ none → (t ≡ false) × (o ≡ none)
+pub pick-none : (t : Bool) (l : ℕ) (o : Option ℕ) → cond t (some l) o ≡ none → (t ≡ false) × (o ≡ none)
 pick-none true l o e = let z : _≡_ {A = ℕ} 0 1 = cc in absurd (omega arith)
 pick-none false l o e = (refl, e)
 
@@ -58,7 +58,7 @@ plain-stand a b ks p t =
     ) t
 
 -- larger first they are plain too
-plain-larger : (a b : ℕ) → Plain a b → Plain (max a b) (min a b)
+pub plain-larger : (a b : ℕ) → Plain a b → Plain (max a b) (min a b)
 plain-larger a b p = go (decLe b a)
   where
     turned : Plain b a
@@ -123,7 +123,7 @@ abbrev pub PairsDiffer : List Gate → Type 0
 PairsDiffer [] = Unit {0}
 PairsDiffer (g ∷ gs) = AllG (λ h. ¬ SamePair g h) gs × PairsDiffer gs
 
-twin-seam : (a b : ℕ) (xs : List Gate) (g : Gate) (ys : List Gate) → twin a b (xs ++ (g ∷ ys)) ≡ none → (g .rhs0 ≡ a) × (g .rhs1 ≡ b) → ⊥
+pub twin-seam : (a b : ℕ) (xs : List Gate) (g : Gate) (ys : List Gate) → twin a b (xs ++ (g ∷ ys)) ≡ none → (g .rhs0 ≡ a) × (g .rhs1 ≡ b) → ⊥
 twin-seam a b [] g ys e s =
     let t = pick-none (eqb (g .rhs0) a && eqb (g .rhs1) b) (g .lhs) (twin a b ys) e .0 in
     let z : _≡_ {A = Bool} true false = sym (rw (eq-eqb (g .rhs0) a (s .0), eq-eqb (g .rhs1) b (s .1))) ∙ t in

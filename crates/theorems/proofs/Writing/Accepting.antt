@@ -91,13 +91,19 @@ module _ (g : Given) (c : Circuit) (l : Left g c) where
         ap (λ (o : Option Refusal). madeBy o (record { circuit = g; written = t }) (convert (given g)) .answer) both-long
         ∙ ap (λ (x : Circuit). made.Accepted (countsOf (convert x))) (l .holds)
 
+    -- a call on circuits in binary order
+    pub in-order-accepted : (make : Circuit → Circuit) → binaryOrder c ≡ true
+        → madeBy (firstOf (stages g (lentWith g t) ++ (orderStage g ∷ []))) (record { circuit = g; written = t }) (make (given g)) .answer
+        ≡ made.Accepted (countsOf (make c))
+    in-order-accepted make o =
+        let last : firstOf (orderStage g ∷ []) ≡ none = rw (order-passes o) in
+        ap (λ (x : Option Refusal). madeBy x (record { circuit = g; written = t }) (make (given g)) .answer)
+        (both-first (stages g (lentWith g t)) (orderStage g ∷ []) both-long ∙ last)
+        ∙ ap (λ (x : Circuit). made.Accepted (countsOf (make x))) (l .holds)
+
     pub reduction-accepted : binaryOrder c ≡ true
         → reduction (record { circuit = g; written = t }) .answer ≡ made.Accepted (countsOf (reduce c))
-    reduction-accepted o =
-        let last : firstOf (orderStage g ∷ []) ≡ none = rw (order-passes o) in
-        ap (λ (x : Option Refusal). madeBy x (record { circuit = g; written = t }) (reduce (given g)) .answer)
-        (both-first (stages g (lentWith g t)) (orderStage g ∷ []) both-long ∙ last)
-        ∙ ap (λ (x : Circuit). made.Accepted (countsOf (reduce x))) (l .holds)
+    reduction-accepted = in-order-accepted reduce
 
   -- the stepper: a step of the circuit
   module _ (o : binaryOrder c ≡ true) where

@@ -69,10 +69,10 @@ FromRead g r = (g .counts ≡ r .counts) × (g .tables ≡ load (r .entry) .tabl
 abbrev pub FromMade : (f : MakeEntry → MakeExit) → Given → MakeCall f → Type 0
 FromMade f g m = (g .counts ≡ m .counts) × (g .tables ≡ f (m .entry) .written)
 
-from-read : (g : Given) (r : ReadCall) → FromRead g r → given g ≡ readCircuit r
+pub from-read : (g : Given) (r : ReadCall) → FromRead g r → given g ≡ readCircuit r
 from-read g r h = ap₂ circuitOf (h .0) (h .1)
 
-from-made : (f : MakeEntry → MakeExit) (g : Given) (m : MakeCall f) → FromMade f g m → given g ≡ madeCircuit f m
+pub from-made : (f : MakeEntry → MakeExit) (g : Given) (m : MakeCall f) → FromMade f g m → given g ≡ madeCircuit f m
 from-made f g m h = ap₂ circuitOf (h .0) (h .1)
 
 -- what each leaves

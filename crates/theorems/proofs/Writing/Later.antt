@@ -187,14 +187,29 @@ conversion-left e n a =
         (ap outputsOf k ∙ ap outputsOf q) (omega (arith, ap gatesOf k, ap gatesOf q)) (ap badsOf k ∙ ap badsOf q)
         (ap constraintsOf k ∙ ap constraintsOf q))
 
-pub reduction-left : (e : MakeEntry) (n : Counts) → reduction e .answer ≡ made.Accepted n
-    → Left (record { counts = n; tables = reduction e .written; scratch = reduction e .scratch }) (reduce (given (e .circuit)))
-    × (binaryOrder (reduce (given (e .circuit))) ≡ true)
-reduction-left e n a =
+-- a call on circuits in binary order, of which it keeps I, L, O, B and C and has M and A grow no larger
+pub record Fitting (c d : Circuit) : Type 0 where
+  pub formed : WellFormed d
+  pub order : binaryOrder d ≡ true
+  pub M : d .M ≤ c .M
+  pub I : length (d .inputs) ≡ length (c .inputs)
+  pub L : length (d .latches) ≡ length (c .latches)
+  pub O : length (d .outputs) ≡ length (c .outputs)
+  pub A : length (d .gates) ≤ length (c .gates)
+  pub B : length (d .bads) ≡ length (c .bads)
+  pub C : length (d .constraints) ≡ length (c .constraints)
+
+pub in-order-left : (make : Circuit → Circuit) → ((c : Circuit) → WellFormed c → binaryOrder c ≡ true → Fitting c (make c))
+    → (e : MakeEntry) (n : Counts)
+    → let x = madeBy (firstOf (stages (e .circuit) (lentWith (e .circuit) (e .written)) ++ (orderStage (e .circuit) ∷ []))) e (make (given (e .circuit))) in
+    x .answer ≡ made.Accepted n
+    → Left (record { counts = n; tables = x .written; scratch = x .scratch }) (make (given (e .circuit)))
+    × (binaryOrder (make (given (e .circuit))) ≡ true)
+in-order-left make fit e n a =
     let all = stages (e .circuit) (lentWith (e .circuit) (e .written)) ++ (orderStage (e .circuit) ∷ []) in
-    let m = made-left (firstOf all) e (reduce (given (e .circuit))) n a (λ f. of f) in
+    let m = made-left (firstOf all) e (make (given (e .circuit))) n a (λ f. of f) in
     let h = first-both (stages (e .circuit) (lentWith (e .circuit) (e .written))) (orderStage (e .circuit) ∷ []) (m .0) in
-    (m .1, reduce-in-order (given (e .circuit)) (fine e (h .0) .formed) (ordered (h .1)))
+    (m .1, fit (given (e .circuit)) (fine e (h .0) .formed) (ordered (h .1)) .order)
   where
     ordered : firstOf (orderStage (e .circuit) ∷ []) ≡ none → binaryOrder (given (e .circuit)) ≡ true
     ordered h =
@@ -202,17 +217,33 @@ reduction-left e n a =
         failing-none t (stage-none NotInOrder (failing t) (first-all (orderStage (e .circuit) ∷ []) h .0))
 
     of : firstOf (stages (e .circuit) (lentWith (e .circuit) (e .written)) ++ (orderStage (e .circuit) ∷ [])) ≡ none
-        → Left (after (reduce (given (e .circuit))) (e .written) (e .circuit .scratch)) (reduce (given (e .circuit)))
+        → Left (after (make (given (e .circuit))) (e .written) (e .circuit .scratch)) (make (given (e .circuit)))
     of f′ =
         let h = first-both (stages (e .circuit) (lentWith (e .circuit) (e .written))) (orderStage (e .circuit) ∷ []) f′ in
         let f = h .0 in
         let c = given (e .circuit) in
-        let w = fine e f .formed in
-        let t = ordered (h .1) in
-        let k = counts-reduce c in
+        let k = fit c (fine e f .formed) (ordered (h .1)) in
         let q = counts-are e f in
-        let fewer = reduce-fewer c w t in
-        left (reduce c) (e .written) (e .circuit .scratch) (reduce-well-formed c w t)
-        (room-for e f (reduce c) (omega (arith, w .sum, fewer)) (ap inputsOf k ∙ ap inputsOf q) (ap latchesOf k ∙ ap latchesOf q)
-        (ap outputsOf k ∙ ap outputsOf q) (omega (arith, fewer, ap gatesOf q)) (ap badsOf k ∙ ap badsOf q)
-        (ap constraintsOf k ∙ ap constraintsOf q))
+        left (make c) (e .written) (e .circuit .scratch) (k .formed)
+        (room-for e f (make c) (omega (arith, k .M, ap (λ (m : Counts). m .M) q)) (k .I ∙ ap inputsOf q) (k .L ∙ ap latchesOf q)
+        (k .O ∙ ap outputsOf q) (omega (arith, k .A, ap gatesOf q)) (k .B ∙ ap badsOf q) (k .C ∙ ap constraintsOf q))
+
+pub reduction-left : (e : MakeEntry) (n : Counts) → reduction e .answer ≡ made.Accepted n
+    → Left (record { counts = n; tables = reduction e .written; scratch = reduction e .scratch }) (reduce (given (e .circuit)))
+    × (binaryOrder (reduce (given (e .circuit))) ≡ true)
+reduction-left = in-order-left reduce fitting
+  where
+    fitting : (c : Circuit) → WellFormed c → binaryOrder c ≡ true → Fitting c (reduce c)
+    fitting c w t =
+        let k = counts-reduce c in
+        record {
+          formed = reduce-well-formed c w t;
+          order = reduce-in-order c w t;
+          M = omega (arith, w .sum, reduce-fewer c w t);
+          I = ap inputsOf k;
+          L = ap latchesOf k;
+          O = ap outputsOf k;
+          A = reduce-fewer c w t;
+          B = ap badsOf k;
+          C = ap constraintsOf k;
+        }
