@@ -1,11 +1,11 @@
--- The reducer's outcome: a refusal of the checks, or the reduced circuit in tables that were cleared before.
+-- The outcome of a call on tables in binary order: a refusal of the checks, or the circuit made in tables that were cleared before.
 use Prim.Native.Nat.{ℕ, _+_, _≤_}
-use mathlib.Core.Path.{_≡_, refl, sym, ap, ap₂, _∙_, subst}
+use mathlib.Core.Path.{_≡_, sym, ap, ap₂, _∙_, subst}
 use mathlib.Core.Bool.{true}
 use mathlib.Core.Option.{Option, none, some}
 use mathlib.Core.List.{List}
 use native.Mathlib.Omega.{arith}
-use lib.ListN.{length, getD, replicate, length-replicate, length-map}
+use lib.ListN.{length, getD, replicate, length-replicate}
 use Rattle.plan.specs.declared.Counts.{Counts}
 use Rattle.plan.specs.declared.Refusal.{Refusal}
 use Rattle.plan.specs.declared.Checked.{Checked}
@@ -13,20 +13,18 @@ use Rattle.plan.specs.declared.Checked.the-variants as checked
 use Rattle.plan.specs.declared.Made.the-variants as made
 use Rattle.plan.specs.Literals.{most}
 use Rattle.plan.specs.Refusals.{firstOf}
-use Rattle.plan.specs.Circuit.{Tables, countsOf, cleared, allCleared, holding}
+use Rattle.plan.specs.Circuit.{Circuit, Tables, countsOf, cleared, allCleared, holding}
 use Rattle.plan.specs.Given.{Given, given, lentWith}
-use Rattle.plan.specs.Reduce.{becomes, reduced, latchBecomes, reduce}
-use Rattle.plan.specs.Outcome.{CheckExit, MakeExit, checkedBy, checkBy, madeBy, reduction}
+use Rattle.plan.specs.Outcome.{CheckExit, MakeExit, checkedBy, checkBy, madeBy}
 use Rattle.theorems.proofs.Held.{Holds, holds-filled}
 use Rattle.theorems.proofs.Marks.{zeros}
-use Rattle.theorems.proofs.Running.Results.{reduce-fewer}
 use Rattle.tables.specs.Lengths.{sizesOf}
 use Rattle.given.specs.Judged.{allStages}
 use Rattle.given.proofs.Sound.{Good, Wide, good-none, refused-some, good-with}
 use Rattle.reduce.proofs.Reducing.{Ready, Written}
 
 -- the counts of a circuit of which k gates are retained
-abbrev countsWith : Counts → ℕ → Counts
+abbrev pub countsWith : Counts → ℕ → Counts
 countsWith n k = record { M = n .I + n .L + k; I = n .I; L = n .L; O = n .O; A = k; B = n .B; C = n .C }
 
 -- cleared tables are as long as they were
@@ -47,7 +45,7 @@ sizes-cleared t t′ e =
     }
 
 module _ (g : Given) (t : Tables) where
-  abbrev first : Option Refusal
+  abbrev pub first : Option Refusal
   first = firstOf (allStages true g (lentWith g t))
 
   -- what the check says of tables as long as those lent for writing
@@ -62,13 +60,13 @@ module _ (g : Given) (t : Tables) where
     scratch-is = ap (λ (x : CheckExit). x .scratch) judged
 
     -- a refusal leaves the tables cleared
-    pub refused : (x : Refusal) → r ≡ checked.Refused x → (to : Tables) → to ≡ allCleared t
+    pub refused : (d : Circuit) (x : Refusal) → r ≡ checked.Refused x → (to : Tables) → to ≡ allCleared t
         → _≡_ {A = MakeExit} (record { answer = made.Refused x; written = to; scratch = s })
-        (reduction (record { circuit = g; written = t }))
-    refused x e to cleared-is =
+        (madeBy first (record { circuit = g; written = t }) d)
+    refused d x e to cleared-is =
         let found : first ≡ some x = refused-some x first (sym e ∙ answer-is) in
         ap₂ (λ (w : Tables) (z : List ℕ). record { answer = made.Refused x; written = w; scratch = z }) cleared-is scratch-is
-        ∙ sym (ap (λ (o : Option Refusal). madeBy o (record { circuit = g; written = t }) (reduce (given g))) found)
+        ∙ sym (ap (λ (o : Option Refusal). madeBy o (record { circuit = g; written = t }) d) found)
 
     module _ (e : r ≡ checked.Good) where
       no-refusal : first ≡ none
@@ -106,45 +104,24 @@ module _ (g : Given) (t : Tables) where
         scratch-blank = λ i. ap (λ (l : List ℕ). getD l i 0) scratch-is ∙ zeros (length (g .scratch)) i;
       }
 
-      pub few : (k : ℕ) → k ≡ length (reduced (given g) .retained) → g .counts .I + g .counts .L + k ≤ most
-      few k count =
-          omega (
-            arith,
-            count,
-            reduce-fewer (given g) (passed .formed) (passed .order refl),
-            passed .fits .sum,
-            passed .fits .most-M,
-            ap (λ (m : Counts). m .A) (passed .counts),
-          )
+      -- of a circuit with the same I, L, O, B and C, and no more gates
+      module _ (d : Circuit) (fewer : length (d .gates) ≤ length (given g .gates)) where
+        pub few : (k : ℕ) → k ≡ length (d .gates) → g .counts .I + g .counts .L + k ≤ most
+        few k count = omega (arith, count, fewer, passed .fits .sum, passed .fits .most-M, ap (λ (m : Counts). m .A) (passed .counts))
 
-      module _ (to₀ to : Tables) (k : ℕ) (cleared-is : to₀ ≡ allCleared t) (written : Written (given g) to₀ to k) where
-        counts-are : countsWith (g .counts) k ≡ countsOf (reduce (given g))
-        counts-are =
-            let c = given g in
-            let i : g .counts .I ≡ length (c .inputs) = sym (ap (λ (m : Counts). m .I) (passed .counts)) in
-            let l : g .counts .L ≡ length (c .latches) = sym (ap (λ (m : Counts). m .L) (passed .counts)) in
-            let o : g .counts .O ≡ length (c .outputs) = sym (ap (λ (m : Counts). m .O) (passed .counts)) in
-            let b : g .counts .B ≡ length (c .bads) = sym (ap (λ (m : Counts). m .B) (passed .counts)) in
-            let k : g .counts .C ≡ length (c .constraints) = sym (ap (λ (m : Counts). m .C) (passed .counts)) in
-            λ j. record {
-              M = i j + l j + written .count j;
-              I = i j;
-              L = (l ∙ sym (length-map (c .latches) (latchBecomes (reduced c .became)))) j;
-              O = (o ∙ sym (length-map (c .outputs) (becomes (reduced c .became)))) j;
-              A = written .count j;
-              B = (b ∙ sym (length-map (c .bads) (becomes (reduced c .became)))) j;
-              C = (k ∙ sym (length-map (c .constraints) (becomes (reduced c .became)))) j;
-            }
+        module _ (same : countsOf d ≡ countsWith (countsOf (given g)) (length (d .gates))) (to₀ to : Tables) (k : ℕ) (cleared-is : to₀ ≡ allCleared t)
+            (written : Written d to₀ to k) where
+          counts-are : countsWith (g .counts) k ≡ countsOf d
+          counts-are = ap₂ countsWith (sym (passed .counts)) (written .count) ∙ sym same
 
-        tables-are : to ≡ holding t (reduce (given g))
-        tables-are =
-            holds-filled t to (reduce (given g)) (subst (λ (x : Tables). Holds x (reduce (given g)) to) cleared-is (written .holds))
+          tables-are : to ≡ holding t d
+          tables-are = holds-filled t to d (subst (λ (x : Tables). Holds x d to) cleared-is (written .holds))
 
-        pub accepted : (m : ℕ) (s′ : List ℕ) → m ≡ length s → s′ ≡ replicate m 0
-            → _≡_ {A = MakeExit}
-            (record { answer = made.Accepted (countsWith (g .counts) k); written = to; scratch = s′ })
-            (reduction (record { circuit = g; written = t }))
-        accepted m s′ same blank =
-            let clean : s′ ≡ cleared (g .scratch) = blank ∙ ap (λ (j : ℕ). replicate j 0) (same ∙ size) in
-            (λ j. record { answer = made.Accepted (counts-are j); written = tables-are j; scratch = clean j })
-            ∙ sym (ap (λ (o : Option Refusal). madeBy o (record { circuit = g; written = t }) (reduce (given g))) no-refusal)
+          pub accepted : (m : ℕ) (s′ : List ℕ) → m ≡ length s → s′ ≡ replicate m 0
+              → _≡_ {A = MakeExit}
+              (record { answer = made.Accepted (countsWith (g .counts) k); written = to; scratch = s′ })
+              (madeBy first (record { circuit = g; written = t }) d)
+          accepted m s′ same blank =
+              let clean : s′ ≡ cleared (g .scratch) = blank ∙ ap (λ (j : ℕ). replicate j 0) (same ∙ size) in
+              (λ j. record { answer = made.Accepted (counts-are j); written = tables-are j; scratch = clean j })
+              ∙ sym (ap (λ (o : Option Refusal). madeBy o (record { circuit = g; written = t }) d) no-refusal)

@@ -1,11 +1,12 @@
 -- The reduced circuit, table by table, from gates that were folded and literals that were replaced.
-use Prim.Native.Nat.{ℕ, _+_, _*_, _≤_}
+use Prim.Native.Nat.{ℕ, _+_, _*_, _<_, _≤_}
 use mathlib.Core.Path.{_≡_, refl, sym, ap, ap₂, _∙_, subst}
 use mathlib.Core.Bool.{true}
 use mathlib.Core.List.{List, [], map}
 use native.Mathlib.Omega.{arith}
 use lib.ListN.{length, getD, take}
 use Rattle.plan.specs.declared.Counts.{Counts}
+use Rattle.plan.specs.Literals.{litOf}
 use Rattle.plan.specs.Circuit.{Gate, Latch, Circuit, Tables, latchLine, gateLine, flat, nexts, resetsOk}
 use Rattle.plan.specs.Binary.{litsFrom, latchesFrom}
 use Rattle.plan.specs.Given.{Given, given}
@@ -18,6 +19,7 @@ use Rattle.theorems.proofs.Running.Binary.{Binary, inner, Bounded, Ordered}
 use Rattle.theorems.proofs.Running.Sides.{sides-below}
 use Rattle.theorems.proofs.Running.InOrder.{well-ordered}
 use Rattle.theorems.proofs.Running.Resets.{resets-bounded}
+use Rattle.theorems.proofs.Running.Results.{reduce-fewer}
 use Rattle.folding.specs.Folded.{folded, Foldable, Done}
 use Rattle.given.proofs.Sound.{Good, Wide}
 use Rattle.reduce.specs.Becoming.{Replaceable, replaced}
@@ -31,10 +33,23 @@ pub record Ready (g : Given) (to : Tables) : Type 0 where
   pub to-blank : (s : ℕ) → getD (to .gates) s 0 ≡ 0
   pub scratch-blank : (s : ℕ) → getD (g .scratch) s 0 ≡ 0
 
--- the reduced circuit stands first in the tables, and r gates of it were retained
-pub record Written (c : Circuit) (to₀ to : Tables) (r : ℕ) : Type 0 where
-  pub count : r ≡ length (reduced c .retained)
-  pub holds : Holds to₀ (reduce c) to
+-- the circuit made stands first in the tables, and r gates of it were retained
+pub record Written (d : Circuit) (to₀ to : Tables) (r : ℕ) : Type 0 where
+  pub count : r ≡ length (d .gates)
+  pub holds : Holds to₀ d to
+
+-- the circuit made of gates that were retained: the literals of the other tables follow
+abbrev pub through : Circuit → Reduced → Circuit
+through c r = record {
+  M = length (c .inputs) + length (c .latches) + length (r .retained);
+  inputs = c .inputs;
+  latches = map (latchBecomes (r .became)) (c .latches);
+  resets = c .resets;
+  outputs = map (becomes (r .became)) (c .outputs);
+  bads = map (becomes (r .became)) (c .bads);
+  constraints = map (becomes (r .became)) (c .constraints);
+  gates = r .retained;
+}
 
 module _ (g : Given) (to : Tables) (ready : Ready g to) where
   abbrev n : Counts
@@ -47,10 +62,10 @@ module _ (g : Given) (to : Tables) (ready : Ready g to) where
   abbrev pub base : ℕ
   base = 1 + g .counts .I + g .counts .L
 
-  abbrev top : ℕ
+  abbrev pub top : ℕ
   top = 1 + g .counts .I + g .counts .L + g .counts .A
 
-  order : BinaryOrder c
+  pub order : BinaryOrder c
   order = order-exactly c .0 (ready .good .order refl)
 
   ordered : Ordered c
@@ -68,10 +83,10 @@ module _ (g : Given) (to : Tables) (ready : Ready g to) where
   pub sum : n .I + n .L + n .A ≡ n .M
   sum = omega (arith, order .sum, some-inputs, some-latches, some-gates)
 
-  inner-is : inner c ≡ base
+  pub inner-is : inner c ≡ base
   inner-is = omega (arith, some-inputs, some-latches)
 
-  in-order : Binary base (gatesAt (g .tables .gates) (n .A))
+  pub in-order : Binary base (gatesAt (g .tables .gates) (n .A))
   in-order =
       subst (λ (m : ℕ). Binary m (gatesAt (g .tables .gates) (n .A))) inner-is
       (subst (λ (gs : List Gate). Binary (inner c) gs) (gates-rows (g .tables .gates) (n .A)) (ordered .gates-in))
@@ -96,7 +111,7 @@ module _ (g : Given) (to : Tables) (ready : Ready g to) where
       ap₂ (λ (m : ℕ) (gs : List Gate). reduceGates (record { became = litsFrom 0 m; retained = []; fresh = m }) gs)
       (sym inner-is) (sym (gates-rows (g .tables .gates) (n .A)))
 
-  top-is : inner c + length (c .gates) ≡ top
+  pub top-is : inner c + length (c .gates) ≡ top
   top-is = omega (arith, inner-is, some-gates)
 
   -- each table's literals are of variables in use
@@ -105,28 +120,28 @@ module _ (g : Given) (to : Tables) (ready : Ready g to) where
       latches-words (n .L) (g .tables .latches) (ready .good .fits .latches-long)
       ∙ ap (λ (ls : List Latch). flat (map latchLine ls)) (order .latches)
 
-  inputs-low : Bounded top (take (n .I) (g .tables .inputs))
+  pub inputs-low : Bounded top (take (n .I) (g .tables .inputs))
   inputs-low =
       subst (λ (ls : List ℕ). Bounded top ls) (sym (order .inputs))
       (lits-bounded top 1 (length (c .inputs)) (omega (arith, some-inputs)))
 
-  latches-low : Bounded top (take (2 * n .L) (g .tables .latches))
+  pub latches-low : Bounded top (take (2 * n .L) (g .tables .latches))
   latches-low =
       subst (λ (ls : List ℕ). Bounded top ls) (sym words-of-latches)
       (latches-bounded top (1 + length (c .inputs)) (nexts (c .latches))
       (omega (arith, some-inputs, some-latches, length-nexts (c .latches)))
       (subst (λ (k : ℕ). Bounded k (nexts (c .latches))) top-is (ordered .next-in)))
 
-  outputs-low : Bounded top (take (n .O) (g .tables .outputs))
+  pub outputs-low : Bounded top (take (n .O) (g .tables .outputs))
   outputs-low = subst (λ (k : ℕ). Bounded k (c .outputs)) top-is (ordered .output-in)
 
   resets-low : Bounded top (take (n .L) (g .tables .resets))
   resets-low = subst (λ (k : ℕ). Bounded k (c .resets)) top-is (resets-bounded c order (ready .good .formed .resets))
 
-  bads-low : Bounded top (take (n .B) (g .tables .bads))
+  pub bads-low : Bounded top (take (n .B) (g .tables .bads))
   bads-low = subst (λ (k : ℕ). Bounded k (c .bads)) top-is (ordered .bad-in)
 
-  constraints-low : Bounded top (take (n .C) (g .tables .constraints))
+  pub constraints-low : Bounded top (take (n .C) (g .tables .constraints))
   constraints-low = subst (λ (k : ℕ). Bounded k (c .constraints)) top-is (ordered .constraint-in)
 
   -- and so of words of a scratch as long as the given one
@@ -157,33 +172,52 @@ module _ (g : Given) (to : Tables) (ready : Ready g to) where
     constraints-in =
         open-to (n .C) (g .tables .constraints) (to .constraints) (ready .good .fits .constraints-long) (ready .wide .constraints) constraints-low
 
-  -- after the gates
-  module _ (gates scratch : List ℕ) (r : ℕ) (done : Done (g .tables .gates) (to .gates) gates scratch base (n .A) r) where
-    became : take top scratch ≡ reduced c .became
-    became = done .became ∙ ap (λ (x : Reduced). x .became) folded-is
-
-    follow : (ls : List ℕ) → Bounded top ls → map (becomes scratch) ls ≡ map (becomes (reduced c .became)) ls
+  -- after the gates: r is what is left of them, and leaves became themselves
+  module _ (r : Reduced) (stay : (v : ℕ) → v < inner c → becomes (r .became) (litOf v) ≡ litOf v) (scratch : List ℕ)
+      (became : take top scratch ≡ r .became) where
+    follow : (ls : List ℕ) → Bounded top ls → map (becomes scratch) ls ≡ map (becomes (r .became)) ls
     follow ls b = becomes-front scratch top ls b ∙ ap (λ (m : List ℕ). map (becomes m) ls) became
 
     inputs-are : map (becomes scratch) (take (n .I) (g .tables .inputs)) ≡ c .inputs
     inputs-are =
-        follow (take (n .I) (g .tables .inputs)) inputs-low ∙ ap (map (becomes (reduced c .became))) (order .inputs)
-        ∙ inputs-stay (reduced c .became) (inner c) (leaf-stays c) 1 (length (c .inputs)) (omega arith) ∙ sym (order .inputs)
+        follow (take (n .I) (g .tables .inputs)) inputs-low ∙ ap (map (becomes (r .became))) (order .inputs)
+        ∙ inputs-stay (r .became) (inner c) stay 1 (length (c .inputs)) (omega arith) ∙ sym (order .inputs)
 
-    latches-are : map (becomes scratch) (take (2 * n .L) (g .tables .latches)) ≡ flat (map latchLine (reduce c .latches))
+    latches-are : map (becomes scratch) (take (2 * n .L) (g .tables .latches)) ≡ flat (map latchLine (through c r .latches))
     latches-are =
-        follow (take (2 * n .L) (g .tables .latches)) latches-low ∙ ap (map (becomes (reduced c .became))) words-of-latches
-        ∙ currents-stay (reduced c .became) (inner c) (leaf-stays c) (1 + length (c .inputs)) (nexts (c .latches))
-        (omega (arith, length-nexts (c .latches)))
-        ∙ ap (λ (ls : List Latch). flat (map latchLine (map (latchBecomes (reduced c .became)) ls))) (sym (order .latches))
+        follow (take (2 * n .L) (g .tables .latches)) latches-low ∙ ap (map (becomes (r .became))) words-of-latches
+        ∙ currents-stay (r .became) (inner c) stay (1 + length (c .inputs)) (nexts (c .latches)) (omega (arith, length-nexts (c .latches)))
+        ∙ ap (λ (ls : List Latch). flat (map latchLine (map (latchBecomes (r .became)) ls))) (sym (order .latches))
 
     resets-are : map (becomes scratch) (take (n .L) (g .tables .resets)) ≡ c .resets
     resets-are =
         follow (take (n .L) (g .tables .resets)) resets-low
-        ∙ resets-stay (reduced c .became) (inner c) (leaf-stays c) (omega arith) (1 + length (c .inputs)) (nexts (c .latches)) (c .resets)
+        ∙ resets-stay (r .became) (inner c) stay (omega arith) (1 + length (c .inputs)) (nexts (c .latches)) (c .resets)
         (ap (λ (ls : List Latch). resetsOk ls (c .resets)) (sym (order .latches)) ∙ ready .good .formed .resets)
         (omega (arith, length-nexts (c .latches)))
 
+    pub held : (to′ : Tables) → to′ .inputs ≡ replaced (n .I) (g .tables .inputs) scratch (to .inputs)
+        → to′ .latches ≡ replaced (2 * n .L) (g .tables .latches) scratch (to .latches)
+        → to′ .outputs ≡ replaced (n .O) (g .tables .outputs) scratch (to .outputs)
+        → to′ .gates ≡ put (to .gates) 0 (flat (map gateLine (r .retained)))
+        → to′ .resets ≡ replaced (n .L) (g .tables .resets) scratch (to .resets)
+        → to′ .bads ≡ replaced (n .B) (g .tables .bads) scratch (to .bads)
+        → to′ .constraints ≡ replaced (n .C) (g .tables .constraints) scratch (to .constraints) → Holds to (through c r) to′
+    held to′ i l o gs rs bs cs = record {
+      inputs = i ∙ ap (put (to .inputs) 0) inputs-are;
+      latches = l ∙ ap (put (to .latches) 0) latches-are;
+      outputs = o ∙ ap (put (to .outputs) 0) (follow (take (n .O) (g .tables .outputs)) outputs-low);
+      gates = gs;
+      resets = rs ∙ ap (put (to .resets) 0) resets-are;
+      bads = bs ∙ ap (put (to .bads) 0) (follow (take (n .B) (g .tables .bads)) bads-low);
+      constraints = cs ∙ ap (put (to .constraints) 0) (follow (take (n .C) (g .tables .constraints)) constraints-low);
+    }
+
+  pub made-fewer : length (reduce c .gates) ≤ length (c .gates)
+  made-fewer = reduce-fewer c (ready .good .formed) (ready .good .order refl)
+
+  -- after folding
+  module _ (gates scratch : List ℕ) (r : ℕ) (done : Done (g .tables .gates) (to .gates) gates scratch base (n .A) r) where
     pub count : r ≡ length (reduced c .retained)
     count = done .count ∙ ap (λ (x : Reduced). length (x .retained)) folded-is
 
@@ -192,16 +226,9 @@ module _ (g : Given) (to : Tables) (ready : Ready g to) where
         → to′ .outputs ≡ replaced (n .O) (g .tables .outputs) scratch (to .outputs) → to′ .gates ≡ gates
         → to′ .resets ≡ replaced (n .L) (g .tables .resets) scratch (to .resets)
         → to′ .bads ≡ replaced (n .B) (g .tables .bads) scratch (to .bads)
-        → to′ .constraints ≡ replaced (n .C) (g .tables .constraints) scratch (to .constraints) → Written c to to′ r
+        → to′ .constraints ≡ replaced (n .C) (g .tables .constraints) scratch (to .constraints) → Written (reduce c) to to′ r
     written to′ i l o gs rs bs cs = record {
       count = count;
-      holds = record {
-        inputs = i ∙ ap (put (to .inputs) 0) inputs-are;
-        latches = l ∙ ap (put (to .latches) 0) latches-are;
-        outputs = o ∙ ap (put (to .outputs) 0) (follow (take (n .O) (g .tables .outputs)) outputs-low);
-        gates = gs ∙ done .retained ∙ ap (λ (x : Reduced). put (to .gates) 0 (flat (map gateLine (x .retained)))) folded-is;
-        resets = rs ∙ ap (put (to .resets) 0) resets-are;
-        bads = bs ∙ ap (put (to .bads) 0) (follow (take (n .B) (g .tables .bads)) bads-low);
-        constraints = cs ∙ ap (put (to .constraints) 0) (follow (take (n .C) (g .tables .constraints)) constraints-low);
-      };
+      holds = held (reduced c) (leaf-stays c) scratch (done .became ∙ ap (λ (x : Reduced). x .became) folded-is) to′ i l o
+          (gs ∙ done .retained ∙ ap (λ (x : Reduced). put (to .gates) 0 (flat (map gateLine (x .retained)))) folded-is) rs bs cs;
     }

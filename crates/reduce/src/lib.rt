@@ -28,7 +28,7 @@ fn all_become(table: &[u32], n: usize, became: &[u32], to: &mut [u32])
 }
 
 // The same of three tables.
-fn three_become(
+pub fn three_become(
     a: &[u32],
     i: usize,
     b: &[u32],

@@ -6,11 +6,13 @@ use native.Mathlib.Omega.{arith}
 use borrow.Author.Needs.{needs}
 use lib.ListN.{length}
 use Rattle.plan.specs.Literals.{most}
-use Rattle.plan.specs.Circuit.{Tables, seven, allCleared}
+use Rattle.plan.specs.Circuit.{Circuit, Tables, seven, circuitOf, allCleared}
 use Rattle.plan.specs.Given.{Given}
+use Rattle.plan.specs.Reduce.{reduce}
+use Rattle.theorems.proofs.Running.Counts.{counts-reduce}
 use Rattle.given.specs.Judged.{givenAt}
-use Rattle.reduce.proofs.Reducing.{Ready, Written, foldable, inputs-in, latches-in, outputs-in, resets-in, bads-in, constraints-in}
-use Rattle.reduce.proofs.Reducing.{count, written}
+use Rattle.reduce.proofs.Reducing.{Ready, foldable, inputs-in, latches-in, outputs-in, resets-in, bads-in, constraints-in}
+use Rattle.reduce.proofs.Reducing.{made-fewer, count, written}
 use Rattle.reduce.proofs.Answers.{sizes-cleared, Judged, refused, ready, few, accepted}
 use Rattle.reduce.proofs.reduce.Statement.{statement}
 use Rattle.reduce.proofs.reduce.Tie as tie
@@ -65,6 +67,14 @@ core e =
     let k = e .before .before in
     ready (circuit k) (lent k) (k .before .before .check-to-make .result) (blank k) (judged k) (e .enum-told .given .1) (wiped k) (all-wiped k)
 
+-- the circuit made has no more gates
+abbrev made : tie.After-enum-told → Circuit
+made e = let g = circuit (e .before .before) in reduce (circuitOf (g .counts) (g .tables))
+
+fewer : (e : tie.After-enum-told)
+    → let g = circuit (e .before .before) in length (made e .gates) ≤ length (circuitOf (g .counts) (g .tables) .gates)
+fewer e = let k = e .before .before in made-fewer (given k (blank k)) (wiped k) (core e)
+
 -- back from where gates are folded, and from where literals of tables 1 to 3 and of tables 7 to 9 are replaced
 abbrev passed : tie.After-fold-gates → tie.After-enum-told
 passed f = f .before .before .before .before .before
@@ -84,7 +94,8 @@ sums : (f : tie.After-fold-gates)
 sums f =
     let e = passed f in
     let k = e .before .before in
-    few (circuit k) (lent k) (k .before .before .check-to-make .result) (blank k) (judged k) (e .enum-told .given .1) (f .fold-gates .result)
+    few (circuit k) (lent k) (k .before .before .check-to-make .result) (blank k) (judged k) (e .enum-told .given .1) (made e) (fewer e)
+    (f .fold-gates .result)
     (count (given k (blank k)) (wiped k) (core e) (f .fold-gates .last .1 .1 .1 .0) (became f) (f .fold-gates .result) (f .fold-gates .ensures))
 
 clear-all-requires : tie.Need-clear-all-requires
@@ -194,7 +205,7 @@ same-length-8 c = c .before .before .before .before .scratch .given
 returns : tie.Need-returns
 returns c =
     let k = c .before .before .before in
-    refused (circuit k) (lent k) (k .before .before .check-to-make .result) (blank k) (judged k) _ (c .before .r .given .1) (wiped k) (all-wiped k)
+    refused (circuit k) (lent k) (k .before .before .check-to-make .result) (blank k) (judged k) _ _ (c .before .r .given .1) (wiped k) (all-wiped k)
 
 same-length-9 : tie.Need-same-length-9
 same-length-9 c =
@@ -266,11 +277,11 @@ returns-2 c =
     let x = f .fold-gates in
     let i = u .three-become in
     let o = t .three-become2 in
-    let made = seven (i .last .1 .1 .1 .1 .1 .1 .1 .0) (i .last .1 .1 .1 .1 .1 .1 .1 .1 .0) (i .last .1 .1 .1 .1 .1 .1 .1 .1 .1 .0) (x .last .1 .1 .1 .0)
+    let left = seven (i .last .1 .1 .1 .1 .1 .1 .1 .0) (i .last .1 .1 .1 .1 .1 .1 .1 .1 .0) (i .last .1 .1 .1 .1 .1 .1 .1 .1 .1 .0) (x .last .1 .1 .1 .0)
     (o .last .1 .1 .1 .1 .1 .1 .1 .0) (o .last .1 .1 .1 .1 .1 .1 .1 .1 .0) (o .last .1 .1 .1 .1 .1 .1 .1 .1 .1 .0) in
-    accepted (circuit k) (lent k) (k .before .before .check-to-make .result) (blank k) (judged k) (e .enum-told .given .1) (wiped k) made
-    (x .result) (all-wiped k)
-    (written (given k (blank k)) (wiped k) (core e) (x .last .1 .1 .1 .0) (became f) (x .result) (x .ensures) made (i .ensures .0) (i .ensures .1 .0)
+    accepted (circuit k) (lent k) (k .before .before .check-to-make .result) (blank k) (judged k) (e .enum-told .given .1) (made e) (fewer e)
+    (counts-reduce (circuitOf (circuit k .counts) (circuit k .tables))) (wiped k) left (x .result) (all-wiped k)
+    (written (given k (blank k)) (wiped k) (core e) (x .last .1 .1 .1 .0) (became f) (x .result) (x .ensures) left (i .ensures .0) (i .ensures .1 .0)
     (i .ensures .1 .1) refl (o .ensures .0) (o .ensures .1 .0) (o .ensures .1 .1))
     (length (became f)) _ (u .before .before .before .before .before .before .before .scratch2 .given) (c .before .before .before .clear .ensures)
 
