@@ -17,3 +17,5 @@ pub mod Step
 pub mod Outcome
 pub mod Programs
 pub mod Whole
+pub mod Walk
+pub mod Drop
