@@ -1,0 +1,94 @@
+-- Demand 3 with unused gates dropped: from a file through reading, conversion, reduction and dropping, over the definitions and over the calls.
+use Prim.Native.Nat.{ℕ, suc}
+use mathlib.Core.Path.{_≡_, refl, sym, ap, _∙_, subst}
+use mathlib.Core.List.{List, [], _∷_}
+use lib.ListN.{length, length-map, drop}
+use Rattle.plan.specs.declared.Version.{Version}
+use Rattle.plan.specs.Refusals.{got}
+use Rattle.plan.specs.Circuit.{Circuit}
+use Rattle.plan.specs.Reading.{readFile, WellFormed}
+use Rattle.plan.specs.Convert.{convert}
+use Rattle.plan.specs.Reduce.{reduced, latchBecomes, reduce}
+use Rattle.plan.specs.Step.{Value, Step, run, first}
+use Rattle.plan.specs.Outcome.{conversion, reduction}
+use Rattle.plan.specs.Drop.{dropUnused, dropping}
+use Rattle.theorems.proofs.Reading.Differences.{Bytes}
+use Rattle.theorems.proofs.Reading.Exactly.{sound, formed}
+use Rattle.theorems.proofs.Reading.Runs.{length-lits}
+use Rattle.theorems.proofs.Running.Refinement.{Les}
+use Rattle.theorems.proofs.Running.Monotone.{Replaced, Kept}
+use Rattle.theorems.proofs.Running.Converted.{latches-convert}
+use Rattle.theorems.proofs.Running.Resets.{first-convert, first-length}
+use Rattle.theorems.proofs.Running.Results.{convert-in-order, convert-well-formed, reduce-in-order, reduce-well-formed}
+use Rattle.theorems.proofs.Running.Runs.{Sized}
+use Rattle.theorems.proofs.Running.WithoutX.{NoX, NoXs}
+use Rattle.theorems.proofs.Running.DemandThree.{demand-three, demand-three-from}
+use Rattle.theorems.proofs.Writing.Calls.{ReadCall, MakeCall, readCircuit, madeCircuit, FromRead, FromMade, from-read, from-made, read-formed, converted-is, reduced-is}
+use Rattle.walks.proofs.Dropped.{drop-run}
+use Rattle.walks.proofs.Later.{dropped-is}
+
+les-length : (xs ys : List Value) → Les xs ys → length xs ≡ length ys
+les-length [] [] h = refl
+les-length [] (y ∷ ys) h = absurd h
+les-length (x ∷ xs) [] h = absurd h
+les-length (x ∷ xs) (y ∷ ys) h = ap suc (les-length xs ys (h .1))
+
+replaced-sized : (n : ℕ) (is js : List (List Value)) → Replaced is js → Sized n is → Sized n js
+replaced-sized n [] [] r z = tt
+replaced-sized n [] (j ∷ js) r z = absurd r
+replaced-sized n (i ∷ is) [] r z = absurd r
+replaced-sized n (i ∷ is) (j ∷ js) r z = (sym (les-length i j (r .0)) ∙ z .0, replaced-sized n is js (r .1) (z .1))
+
+abbrev pub after : Circuit → Circuit
+after c = dropUnused (reduce (convert c))
+
+module _ (c : Circuit) (w : WellFormed c) (is js : List (List Value)) (z : Sized (length (c .inputs)) is) (r : Replaced is js) where
+  same-runs : (s : List Value) → length s ≡ length (c .latches) → run (reduce (convert c)) s js ≡ run (after c) s js
+  same-runs s h =
+      let d = reduce (convert c) in
+      let wd = reduce-well-formed (convert c) (convert-well-formed c w) (convert-in-order c w) in
+      let td = reduce-in-order (convert c) (convert-well-formed c w) (convert-in-order c w) in
+      let long : length s ≡ length (d .latches)
+      = h ∙ sym (length-map (convert c .latches) (latchBecomes (reduced (convert c) .became)) ∙ latches-convert c) in
+      sym (drop-run d wd td js
+      (subst (λ (n : ℕ). Sized n js) (sym (length-lits 1 (length (c .inputs)))) (replaced-sized (length (c .inputs)) is js r z)) s long)
+
+  -- from any state that replaces x of the resets in any way
+  pub demand-three-dropped-from : (s : List Value) → Les (first c) s → Kept (run c (first c) is) (run (after c) s js)
+  demand-three-dropped-from s start =
+      subst (λ (x : List Step). Kept (run c (first c) is) x)
+      (same-runs s (sym (les-length (first c) s start) ∙ first-length c w)) (demand-three-from c w is js z r s start)
+
+  -- from the resets: at every step each output, bad state, constraint and latch that was 0 or 1 is the same after conversion, reduction
+  -- and dropping; if the input vectors hold no x and no reset is x, so is every step
+  pub demand-three-dropped : Kept (run c (first c) is) (run (after c) (first (after c)) js)
+      × (NoXs is → NoX (first c) → run c (first c) is ≡ run (after c) (first (after c)) js)
+  demand-three-dropped =
+      let d = demand-three c w is js z r in
+      let e = same-runs (first (after c)) (ap length (first-convert c) ∙ first-length c w) in
+      (subst (λ (x : List Step). Kept (run c (first c) is) x) e (d .0), λ x f. d .1 x f ∙ e)
+
+-- of every file that the reader accepts
+pub demand-three-file : (v : Version) (file lengths : List ℕ) → Bytes file → (c : Circuit) (start : ℕ) → readFile v file lengths ≡ got c start
+    → (is js : List (List Value)) → Sized (length (c .inputs)) is → Replaced is js
+    → Kept (run c (first c) is) (run (after c) (first (after c)) js)
+    × (NoXs is → NoX (first c) → run c (first c) is ≡ run (after c) (first (after c)) js)
+demand-three-file v file lengths bytes c start q =
+    demand-three-dropped c (formed v file c (drop start file) (sound v file lengths bytes c start q .0))
+
+-- of a read, a conversion, a reduction and a dropping, each handed what the one before left
+pub demand-three-calls : (r : ReadCall) (m : MakeCall conversion) → FromRead (m .entry .circuit) r
+    → (s : MakeCall reduction) → FromMade conversion (s .entry .circuit) m
+    → (u : MakeCall dropping) → FromMade reduction (u .entry .circuit) s
+    → (is js : List (List Value)) → Sized (length (readCircuit r .inputs)) is → Replaced is js
+    → Kept (run (readCircuit r) (first (readCircuit r)) is) (run (madeCircuit dropping u) (first (madeCircuit dropping u)) js)
+    × (NoXs is → NoX (first (readCircuit r)) → run (readCircuit r) (first (readCircuit r)) is ≡ run (madeCircuit dropping u) (first (madeCircuit dropping u)) js)
+demand-three-calls r m m-given s s-given u u-given is js sized replaced =
+    let c = readCircuit r in
+    let reduced-from : madeCircuit reduction s ≡ reduce (convert c)
+    = reduced-is s ∙ ap reduce (from-made conversion (s .entry .circuit) m s-given
+    ∙ (converted-is m ∙ ap convert (from-read (m .entry .circuit) r m-given))) in
+    let d-is : after c ≡ madeCircuit dropping u
+    = sym (dropped-is u ∙ ap dropUnused (from-made reduction (u .entry .circuit) s u-given ∙ reduced-from)) in
+    subst (λ (d : Circuit). Kept (run c (first c) is) (run d (first d) js) × (NoXs is → NoX (first c) → run c (first c) is ≡ run d (first d) js)) d-is
+    (demand-three-dropped c (read-formed r) is js sized replaced)

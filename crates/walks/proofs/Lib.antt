@@ -1,0 +1,10 @@
+pub mod Walk
+pub mod Parts
+pub mod Used
+pub mod Dropped
+pub mod Twice
+pub mod Reduced
+pub mod Later
+pub mod DemandThree
+pub mod Places
+pub mod Examples
