@@ -65,6 +65,11 @@ void golvanzo_convert(const uint64_t *counts /* 7 words */, GOLVANZO_GIVEN, GOLV
 void golvanzo_reduce(const uint64_t *counts /* 7 words */, GOLVANZO_GIVEN, GOLVANZO_WRITTEN, GOLVANZO_SCRATCH,
                      uint64_t *answer /* 9 words */);
 
+/* Write the circuit without the gates that no output, next state, bad state or constraint reaches, the gaps closed, as
+   `golvanzo_reduce` writes: it needs binary order too, and what it frees of the written tables is zero. */
+void golvanzo_drop(const uint64_t *counts /* 7 words */, GOLVANZO_GIVEN, GOLVANZO_WRITTEN, GOLVANZO_SCRATCH,
+                   uint64_t *answer /* 9 words */);
+
 /* One step of tables in binary order: takes `state` (L bytes) and `ins` (I), bytes "0", "1", "x", writes `outs` (O)
    and the next state over `state`; `answer` is number (0: stepped) and place. Resets, bad states and constraints are
    only checked: the caller starts a run, and a latch that is its own reset starts as "x". */

@@ -130,13 +130,18 @@ static int same(struct bytes a, struct bytes b) {
     return a.length == b.length && memcmp(a.at, b.at, a.length) == 0;
 }
 
-static struct circuit changed(struct circuit c, int reduce) {
+enum change { CONVERT, REDUCE, DROP };
+
+static struct circuit changed(struct circuit c, enum change how) {
+    static const char *const names[] = {"convert", "reduce", "drop"};
     struct circuit to = tables_like(c.words);
-    if (reduce)
+    if (how == CONVERT)
+        golvanzo_convert(COUNTS(c), SEVEN(c), SEVEN(to), TABLE(to, SCRATCH), to.answer);
+    else if (how == REDUCE)
         golvanzo_reduce(COUNTS(c), SEVEN(c), SEVEN(to), TABLE(to, SCRATCH), to.answer);
     else
-        golvanzo_convert(COUNTS(c), SEVEN(c), SEVEN(to), TABLE(to, SCRATCH), to.answer);
-    expect(all_zero(to.table[SCRATCH], to.words[SCRATCH]), "scratch is zero", reduce ? "reduce" : "convert");
+        golvanzo_drop(COUNTS(c), SEVEN(c), SEVEN(to), TABLE(to, SCRATCH), to.answer);
+    expect(all_zero(to.table[SCRATCH], to.words[SCRATCH]), "scratch is zero", names[how]);
     return to;
 }
 
@@ -169,10 +174,10 @@ static void toggle_both_forms(void) {
     c = to_work(c);
     expect(same(written(c, 0, none), text), "T is written as it was", "write_text");
     expect(written(c, 1, none).length == 0, "T is not in binary order", "write_binary");
-    struct circuit to = changed(c, 0);
+    struct circuit to = changed(c, CONVERT);
     expect(to.answer[0] == 0, "T converts", "convert");
     expect(same(written(to, 1, none), binary), "T converts to its binary form", "convert");
-    struct circuit again = changed(read_file(binary), 0);
+    struct circuit again = changed(read_file(binary), CONVERT);
     expect(same(written(again, 1, none), binary), "binary order is left alone", "convert");
 }
 
@@ -198,7 +203,7 @@ static void aiger_19(void) {
     expect(c.table[4][0] == 4 && c.table[4][1] == 1, "the resets are 4 and 1", "read");
     expect(c.table[5][0] == 4 && c.table[6][0] == 6, "the bad state is 4, the constraint 6", "read");
     expect(same(written(c, 0, tail), text), "it is written as it was", "write_text");
-    expect(same(written(changed(c, 0), 1, tail), binary), "it converts to its binary form", "convert");
+    expect(same(written(changed(c, CONVERT), 1, tail), binary), "it converts to its binary form", "convert");
     expect(old.answer[0] == 1 && old.answer[1] == 13 && old.tail == text.length, "1 at 13", "read2007");
     expect(same_again.answer[0] == 0 && all_zero(same_again.table[4], 1), "T is read, its reset 0", "read2007");
     expect(same(written(read_file(FILE_OF("aag 1 0 1 0 0 0 0\n2 3 0\n")), 0, (struct bytes){NULL, 0}),
@@ -216,11 +221,26 @@ static uint8_t output_on_x(struct circuit c) {
 
 static void contradiction(void) {
     struct bytes none = {NULL, 0};
-    struct circuit c = changed(read_file(FILE_OF("aag 2 1 0 1 1\n2\n5\n4 2 3\n")), 0), to = changed(c, 1);
+    struct circuit c = changed(read_file(FILE_OF("aag 2 1 0 1 1\n2\n5\n4 2 3\n")), CONVERT), to = changed(c, REDUCE);
     expect(to.answer[0] == 0 && to.answer[6] == 0, "no gate is retained", "reduce");
     expect(same(written(to, 1, none), FILE_OF("aig 1 1 0 1 0\n1\n")), "the contradiction is gone", "reduce");
     expect(output_on_x(c) == 'x', "before it, x gives x", "step");
     expect(output_on_x(to) == '1', "after it, x gives 1", "step");
+}
+
+/* Of three gates the second is used by nothing: the third takes its variable, and the words it leaves are zero. */
+static void unused_gates(void) {
+    struct bytes none = {NULL, 0};
+    struct circuit c = read_file(FILE_OF("aag 5 2 0 1 3\n2\n4\n10\n6 4 2\n8 5 3\n10 7 3\n")), to = changed(c, DROP);
+    expect(to.answer[0] == 0 && to.answer[2] == 4 && to.answer[6] == 2, "M is 4 and A 2", "drop");
+    expect(same(written(to, 1, none), FILE_OF("aig 4 2 0 1 2\n8\n\x02\x02\x01\x04")), "the gap is closed", "drop");
+    expect(all_zero(to.table[3] + 6, to.words[3] - 6), "freed words are zero", "drop");
+    to = changed(read_file(FILE_OF("aag 3 1 1 0 1\n2\n4 6\n6 4 2\n")), DROP);
+    expect(to.answer[0] == 0 && to.answer[6] == 1, "a next state reaches", "drop");
+    to = changed(read_file(FILE_OF("aag 3 1 0 0 2 1 1\n2\n4\n6\n4 2 2\n6 3 3\n")), DROP);
+    expect(to.answer[0] == 0 && to.answer[6] == 2, "a bad state and a constraint reach", "drop");
+    to = changed(read_file(FILE_OF(toggle_text)), DROP);
+    expect(to.answer[0] == 15 && to.answer[1] == 0, "15 at 0", "drop");
 }
 
 /* The tracer's four lines for T. */
@@ -361,6 +381,7 @@ int main(void) {
     tails();
     aiger_19();
     contradiction();
+    unused_gates();
     trace();
     witnesses();
     refusals();

@@ -14,6 +14,7 @@
    8 step       given, state, inputs, outputs, answer                     all of these
    9 witness    given, u64 number, list, answer                           all of these but the number
    10 read2007  as read                                                   as read
+   11 drop      as reduce                                                 as reduce
 
    Given are counts, a circuit's tables (1 to 4, 7 to 9) and scratch. What these are is said in wire.h. */
 #include <stdint.h>
@@ -69,16 +70,15 @@ static void call_write(int binary) {
     put_memory(answer);
 }
 
-static void call_change(int reduce) {
+typedef void change(const uint64_t *, GOLVANZO_GIVEN, GOLVANZO_WRITTEN, GOLVANZO_SCRATCH, uint64_t *);
+
+static void call_change(change *change) {
     struct given given = get_given();
     struct memory w[CIRCUIT];
     for (int k = 0; k < CIRCUIT; k++)
         w[k] = get_table();
     struct memory answer = get_numbers();
-    if (reduce)
-        golvanzo_reduce(CIRCUIT_OF(given), LENT_ALL(w), LENT(given.scratch), answer.lent);
-    else
-        golvanzo_convert(CIRCUIT_OF(given), LENT_ALL(w), LENT(given.scratch), answer.lent);
+    change(CIRCUIT_OF(given), LENT_ALL(w), LENT(given.scratch), answer.lent);
     put_given(given);
     for (int k = 0; k < CIRCUIT; k++)
         put_memory(w[k]);
@@ -128,8 +128,10 @@ int main(void) {
             call_write(call == 5);
             break;
         case 6:
+            call_change(golvanzo_convert);
+            break;
         case 7:
-            call_change(call == 7);
+            call_change(golvanzo_reduce);
             break;
         case 8:
             call_step();
@@ -139,6 +141,9 @@ int main(void) {
             break;
         case 10:
             call_read(golvanzo_read2007);
+            break;
+        case 11:
+            call_change(golvanzo_drop);
             break;
         default:
             give_up("no such call");

@@ -29,7 +29,7 @@ file-told f g tail out n x answer e says told =
     ap (λ (a : List ℕ). record { answer = a; scratch = x .scratch; out = x .out }) told
     ∙ (ap toldFile says ∙ ap (λ (m : Counts). toldFile (f (record { circuit = counted g m; tail = tail; out = out }))) e)
 
--- conversion or reduction
+-- conversion, reduction or dropping
 pub made-told : (f : MakeEntry → MakeExit) (g : Given) (t : Tables) (n : Counts) (x : MakeExit) (answer : List ℕ) → n ≡ g .counts
     → x ≡ f (record { circuit = counted g n; written = t }) → answer ≡ madeValues (x .answer)
     → _≡_ {A = MakeTold} (record { answer = answer; written = x .written; scratch = x .scratch }) (toldMade (f (record { circuit = g; written = t })))

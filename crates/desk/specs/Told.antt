@@ -5,6 +5,7 @@ use Rattle.plan.specs.Given.{Given}
 use Rattle.plan.specs.Circuit.{Tables}
 use Rattle.plan.specs.Outcome.{FileEntry, FileExit, MakeEntry, MakeExit, StepEntry, WitnessEntry, checkedValues, writtenValues, madeValues, steppedValues, verdictValues}
 use Rattle.plan.specs.Outcome as outcome
+use Rattle.plan.specs.Drop as drop
 
 pub record CheckTold : Type 0 where
   pub answer : List ℕ
@@ -28,7 +29,7 @@ writeText e = toldFile (outcome.writeText e)
 abbrev pub writeBinary : FileEntry → FileTold
 writeBinary e = toldFile (outcome.writeBinary e)
 
--- conversion and reduction
+-- conversion, reduction and dropping
 pub record MakeTold : Type 0 where
   pub answer : List ℕ
   pub written : Tables
@@ -42,6 +43,9 @@ conversion e = toldMade (outcome.conversion e)
 
 abbrev pub reduction : MakeEntry → MakeTold
 reduction e = toldMade (outcome.reduction e)
+
+abbrev pub dropping : MakeEntry → MakeTold
+dropping e = toldMade (drop.dropping e)
 
 -- the stepper and the witness question
 pub record StepTold : Type 0 where

@@ -5,7 +5,7 @@ ghost use Rattle.plan.specs.Circuit.{seven};
 ghost use Rattle.plan.specs.Header.{wordsFor, countsFrom};
 ghost use Rattle.plan.specs.Outcome.{Says, read, read2007};
 ghost use Rattle.given.specs.Judged.{givenAt};
-ghost use Rattle.desk.specs.Told.{check, writeText, writeBinary, conversion, reduction, step, witness};
+ghost use Rattle.desk.specs.Told.{check, writeText, writeBinary, conversion, reduction, dropping, step, witness};
 use plan::Version;
 
 // How many words table 1 to 5 or 7 to 9 needs for the file's header, or 2^64 - 1.
@@ -328,6 +328,65 @@ pub extern "C" fn golvanzo_reduce(
 {
     let n = told::counts(counts);
     let r = reduce::reduce(
+        n,
+        inputs,
+        latches,
+        outputs,
+        gates,
+        resets,
+        bads,
+        constraints,
+        to_inputs,
+        to_latches,
+        to_outputs,
+        to_gates,
+        to_resets,
+        to_bads,
+        to_constraints,
+        scratch,
+    );
+    told::made(r, answer);
+}
+
+// Drops the unused gates of the circuit in given tables, which are in binary order, into written ones: the same answer.
+#[no_mangle]
+pub extern "C" fn golvanzo_drop(
+    counts: &[u64; 7],
+    inputs: &[u32],
+    latches: &[u32],
+    outputs: &[u32],
+    gates: &[u32],
+    resets: &[u32],
+    bads: &[u32],
+    constraints: &[u32],
+    to_inputs: &mut [u32],
+    to_latches: &mut [u32],
+    to_outputs: &mut [u32],
+    to_gates: &mut [u32],
+    to_resets: &mut [u32],
+    to_bads: &mut [u32],
+    to_constraints: &mut [u32],
+    scratch: &mut [u32],
+    answer: &mut [u64; 9],
+)
+    ensures { λ _. ⌜ Says dropping
+        (record {
+          circuit = givenAt (countsFrom (now (counts .entry)))
+              (seven (now (inputs .entry)) (now (latches .entry)) (now (outputs .entry)) (now (gates .entry)) (now (resets .entry)) (now (bads .entry))
+              (now (constraints .entry)))
+              (now (scratch .entry));
+          written = (seven (now («to_inputs» .entry)) (now («to_latches» .entry)) (now («to_outputs» .entry)) (now («to_gates» .entry))
+              (now («to_resets» .entry)) (now («to_bads» .entry)) (now («to_constraints» .entry)));
+        })
+        (record {
+          answer = now (answer .exit);
+          written = (seven (now («to_inputs» .exit)) (now («to_latches» .exit)) (now («to_outputs» .exit)) (now («to_gates» .exit)) (now («to_resets» .exit))
+              (now («to_bads» .exit)) (now («to_constraints» .exit)));
+          scratch = now (scratch .exit);
+        }) ⌝ }
+{
+    let n = told::counts(counts);
+    let r = drop::drop_unused(
         n,
         inputs,
         latches,
