@@ -10,6 +10,7 @@ pub mod reduce;
 pub mod step;
 pub mod tables;
 pub mod tail;
+pub mod unused;
 pub mod write;
 
 /// The largest count.

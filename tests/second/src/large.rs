@@ -27,6 +27,14 @@ fn chain(a: usize) -> Circuit {
     }
 }
 
+/// The chain with its output in the middle: nothing uses the gates above.
+fn headless(a: usize) -> Circuit {
+    Circuit {
+        outputs: vec![literal(a / 2 + 1)],
+        ..chain(a)
+    }
+}
+
 fn upside_down(a: usize) -> Circuit {
     let mut circuit = chain(a);
     circuit.gates.reverse();
@@ -70,6 +78,8 @@ fn compared(library: &dyn Library, a: usize) -> Result<(), String> {
     let binary = write::file(&chain(a), Form::Binary, b"");
     called(library, Call::WriteBinary, &chain(a), &[0, binary.len() as u64])?;
     called(library, Call::Reduce, &chain(FEWER), &[])?;
+    called(library, Call::Drop, &chain(a), &[])?;
+    called(library, Call::Drop, &headless(a), &[])?;
     called(library, Call::Convert, &upside_down(FEWER), &[])
 }
 

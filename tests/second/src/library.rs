@@ -47,10 +47,11 @@ pub enum Call {
     Reduce,
     Step,
     Witness,
+    Drop,
 }
 
 impl Call {
-    pub const ALL: [Call; 7] = [
+    pub const ALL: [Call; 8] = [
         Call::Check,
         Call::WriteText,
         Call::WriteBinary,
@@ -58,6 +59,7 @@ impl Call {
         Call::Reduce,
         Call::Step,
         Call::Witness,
+        Call::Drop,
     ];
 
     pub fn named(name: &str) -> Option<Call> {
@@ -73,6 +75,7 @@ impl Call {
             Call::Reduce => "reduce",
             Call::Step => "step",
             Call::Witness => "witness",
+            Call::Drop => "drop",
         }
     }
 
@@ -80,7 +83,7 @@ impl Call {
     pub fn refusals(self) -> &'static [u64] {
         match self {
             Call::Check | Call::Convert => &[2, 3, 4, 5, 6, 7, 8],
-            Call::Reduce => &[2, 3, 4, 5, 6, 7, 8, 15],
+            Call::Reduce | Call::Drop => &[2, 3, 4, 5, 6, 7, 8, 15],
             Call::Step | Call::Witness => &[2, 3, 4, 5, 6, 7, 8, 12, 15],
             Call::WriteText => &[1, 2, 3, 4, 5, 6, 7, 8, 10, 11],
             Call::WriteBinary => &[1, 2, 3, 4, 5, 6, 7, 8, 10, 11, 15],
@@ -97,7 +100,7 @@ impl Call {
         match self {
             Call::Check | Call::Step => 2,
             Call::WriteText | Call::WriteBinary | Call::Witness => 3,
-            Call::Convert | Call::Reduce => 9,
+            Call::Convert | Call::Reduce | Call::Drop => 9,
         }
     }
 
@@ -108,7 +111,7 @@ impl Call {
 
     /// Whether it is lent a circuit's tables for writing.
     pub fn writes_tables(self) -> bool {
-        matches!(self, Call::Convert | Call::Reduce)
+        matches!(self, Call::Convert | Call::Reduce | Call::Drop)
     }
 }
 
@@ -119,7 +122,7 @@ pub struct Lent {
     /// All but scratch.
     pub tables: [Memory<u32>; 7],
     pub scratch: Memory<u32>,
-    /// The same tables again, of conversion and reduction.
+    /// The same tables again, of conversion, reduction and dropping.
     pub written: Vec<Memory<u32>>,
     /// How many vectors, of the witness question.
     pub number: Option<u64>,

@@ -25,6 +25,17 @@ pub fn depends(circuit: &Circuit) -> Vec<Vec<bool>> {
     depends
 }
 
+/// For each gate whether a literal that is asked for or a next state reaches it, by way of what it depends on.
+pub fn reached(circuit: &Circuit) -> Vec<bool> {
+    let depends = depends(circuit);
+    let all = 0..circuit.gates.len();
+    let next = circuit.latches.iter().map(|latch| latch[1]);
+    let roots: Vec<usize> = next.chain(circuit.asked()).map(variable).collect();
+    let root = |k: usize| roots.contains(&variable(circuit.gates[k][0]));
+    let reached = |k: usize| root(k) || all.clone().any(|other| root(other) && depends[other][k]);
+    all.clone().map(reached).collect()
+}
+
 /// The place of refusal 8: the first gate that depends on itself or on one that does.
 pub fn first_on_cycle(circuit: &Circuit) -> Option<usize> {
     let depends = depends(circuit);

@@ -6,6 +6,7 @@ mod values;
 use crate::aiger::convert::{convert, Converted};
 use crate::aiger::reduce::reduce;
 use crate::aiger::tables::{self, binary_order, Given};
+use crate::aiger::unused::drop_unused;
 use crate::aiger::{read, variable, write, Circuit, Form, Version, TABLES};
 use crate::coverage::form;
 use crate::ensure;
@@ -43,7 +44,11 @@ pub fn check(case: &Case, answers: &Answers, random: &mut Random) -> Result<(), 
     conversion(circuit, &converted, tail)?;
     let reduced = reduce(&converted.circuit);
     reduction(&converted.circuit, &reduced)?;
-    values::check(random, circuit, &converted, &reduced)?;
+    let dropped = drop_unused(&reduced);
+    dropping(&reduced, &dropped)?;
+    ensure!(reduce(&dropped) == dropped, "no longer reduced");
+    dropping(&converted.circuit, &drop_unused(&converted.circuit))?;
+    values::check(random, circuit, &converted, [&reduced, &dropped])?;
     given::check(random, circuit, tail)
 }
 
@@ -163,6 +168,27 @@ fn reduction(old: &Circuit, new: &Circuit) -> Result<(), String> {
             "a gate of {rhs0} and {rhs1} stays"
         );
         ensure!(pairs.insert((rhs0, rhs1)), "two gates of {rhs0} and {rhs1}");
+    }
+    Ok(())
+}
+
+/// The gates that are left are all that something asks for, in the order they had.
+fn dropping(old: &Circuit, new: &Circuit) -> Result<(), String> {
+    ensure!(
+        tables::check(&Given::exactly(new)).as_ref() == Ok(new),
+        "dropped to {new:?}"
+    );
+    ensure!(binary_order(new).is_ok(), "dropped to {new:?}");
+    ensure!(
+        new.inputs == old.inputs && new.resets == old.resets && new.gates.len() <= old.gates.len(),
+        "dropped to {new:?}"
+    );
+    ensure!(drop_unused(new) == *new, "dropped twice");
+    if old.gates.len() <= FEW_GATES {
+        let [before, after] = [old, new].map(naive::reached);
+        ensure!(after.iter().all(|&reached| reached), "an unused gate stays: {new:?}");
+        let left = before.iter().filter(|&&reached| reached).count();
+        ensure!(left == new.gates.len(), "{left} gates are reached: {new:?}");
     }
     Ok(())
 }

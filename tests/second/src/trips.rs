@@ -36,7 +36,7 @@ const TEXT: &[Leg] = &[
 ];
 
 /// A binary file comes back at once, and by way of text and conversion. Reduced, it stays what it is when it is reduced
-/// again.
+/// again; without its unused gates, when they are dropped again and when it is reduced.
 const BINARY: &[Leg] = &[
     Leg::Read,
     Leg::Back(Call::WriteBinary),
@@ -48,6 +48,14 @@ const BINARY: &[Leg] = &[
     Leg::Write(Call::WriteBinary),
     Leg::Settle,
     Leg::Read,
+    Leg::Change(Call::Reduce),
+    Leg::Back(Call::WriteBinary),
+    Leg::Change(Call::Drop),
+    Leg::Write(Call::WriteBinary),
+    Leg::Settle,
+    Leg::Read,
+    Leg::Change(Call::Drop),
+    Leg::Back(Call::WriteBinary),
     Leg::Change(Call::Reduce),
     Leg::Back(Call::WriteBinary),
 ];

@@ -31,6 +31,7 @@ fn number(call: Call) -> u32 {
         Call::Reduce => 7,
         Call::Step => 8,
         Call::Witness => 9,
+        Call::Drop => 11,
     }
 }
 

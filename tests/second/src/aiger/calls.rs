@@ -3,7 +3,7 @@
 
 use super::step::{self, Step};
 use super::tables::{self, binary_order, Given};
-use super::{convert, reduce, refuse, tail, write, Circuit, Form, Refusal, Version};
+use super::{convert, reduce, refuse, tail, unused, write, Circuit, Form, Refusal, Version};
 
 pub fn check(given: &Given) -> Result<(), Refusal> {
     tables::check(given).map(drop)
@@ -27,6 +27,10 @@ pub fn convert(given: &Given) -> Result<Circuit, Refusal> {
 
 pub fn reduce(given: &Given) -> Result<Circuit, Refusal> {
     Ok(reduce::reduce(&in_order(given)?))
+}
+
+pub fn drop_unused(given: &Given) -> Result<Circuit, Refusal> {
+    Ok(unused::drop_unused(&in_order(given)?))
 }
 
 /// `output` is the length of the vector lent for the outputs.

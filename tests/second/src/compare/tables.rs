@@ -63,6 +63,7 @@ pub fn after(call: Call, before: &Lent) -> Lent {
         Call::WriteBinary => written(&mut after, |tail, room| calls::write_binary(&given, tail, room)),
         Call::Convert => changed(&mut after, calls::convert(&given)),
         Call::Reduce => changed(&mut after, calls::reduce(&given)),
+        Call::Drop => changed(&mut after, calls::drop_unused(&given)),
         Call::Step => stepped(&mut after, &given),
         Call::Witness => {
             let number = before.number.expect("a witness question has a number");

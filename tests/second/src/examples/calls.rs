@@ -25,7 +25,9 @@ pub fn called(library: &dyn Library, circuit: &Circuit, tail: &[u8], list: &[&[u
                 lent.number = Some(list.len() as u64);
                 compare(library, call, &lent)?;
             }
-            Call::Check | Call::Convert | Call::Reduce => compare(library, call, &exactly(call, circuit, &[]))?,
+            Call::Check | Call::Convert | Call::Reduce | Call::Drop => {
+                compare(library, call, &exactly(call, circuit, &[]))?;
+            }
         }
     }
     Ok(())

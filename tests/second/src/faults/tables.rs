@@ -15,7 +15,7 @@ fn slips(call: Call) -> Vec<(&'static str, Slip)> {
     match call {
         Call::Check => ANY.to_vec(),
         Call::WriteText | Call::WriteBinary => [ANY, WRITERS].concat(),
-        Call::Convert | Call::Reduce => [ANY, CHANGES].concat(),
+        Call::Convert | Call::Reduce | Call::Drop => [ANY, CHANGES].concat(),
         Call::Step => [ANY, STEPPER].concat(),
         Call::Witness => [ANY, WITNESS].concat(),
     }

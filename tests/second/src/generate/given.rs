@@ -73,7 +73,7 @@ pub fn case(call: Call, seed: u64, number: u64) -> TablesCase {
         file: None,
     };
     match call {
-        Call::Check | Call::Convert | Call::Reduce => {}
+        Call::Check | Call::Convert | Call::Reduce | Call::Drop => {}
         Call::WriteText => writing::add(&mut random, Form::Text, &circuit, &mut case),
         Call::WriteBinary => writing::add(&mut random, Form::Binary, &circuit, &mut case),
         Call::Step => vectors::step(&mut random, &circuit, &mut case),

@@ -1,4 +1,4 @@
-//! Values of a circuit, of what it converts to and of what it reduces to.
+//! Values of a circuit, of what it converts to, of what it reduces to, and of that without its unused gates.
 
 use super::FEW_GATES;
 use crate::aiger::calls;
@@ -14,7 +14,12 @@ use crate::random::Random;
 /// The length of the lists that are stepped.
 const STEPS: usize = 4;
 
-pub fn check(random: &mut Random, circuit: &Circuit, converted: &Converted, reduced: &Circuit) -> Result<(), String> {
+pub fn check(
+    random: &mut Random,
+    circuit: &Circuit,
+    converted: &Converted,
+    [reduced, dropped]: [&Circuit; 2],
+) -> Result<(), String> {
     let unknown = random.below(4);
     let list: Vec<Vec<u8>> = (0..STEPS)
         .map(|_| vector(random, unknown, circuit.inputs.len()))
@@ -27,6 +32,7 @@ pub fn check(random: &mut Random, circuit: &Circuit, converted: &Converted, redu
     );
     let fewer = run(reduced, None, &list);
     ensure!(refines(&fewer, &steps), "{fewer:?} after reduction, {steps:?} before");
+    ensure!(fewer == run(dropped, None, &list), "steps differ without unused gates");
     // Each x gets a value, of the first state too.
     let grounded: Vec<Vec<u8>> = list.iter().map(|input| ground(random, input)).collect();
     let first = ground(random, &step::start(circuit));

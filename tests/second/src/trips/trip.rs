@@ -16,7 +16,7 @@ pub enum Leg {
     Back(Call),
     /// What was written last is what the file must be from now on.
     Settle,
-    /// Converts or reduces.
+    /// Converts, reduces or drops unused gates.
     Change(Call),
 }
 

@@ -1,5 +1,5 @@
 //! A circuit that the library converts, reduces and steps, with and without values for "x". What is known stays known:
-//! after reduction, and when an "x" gets a value.
+//! after reduction, in every other walk without unused gates too, and when an "x" gets a value.
 
 use super::held::{accepted, Held};
 use crate::aiger::tables::Given;
@@ -152,6 +152,16 @@ pub fn walk(library: &dyn Library, walks: &mut [Walk]) {
     let reduce = |walk: &Walk| vec![(Call::Reduce, walk.converted.lent(Call::Reduce, walk.junk()))];
     pass(library, walks, reduce, |walk, lents| {
         walk.reduced = lents.into_iter().map(Held::was_changed).next().expect("one reply")?;
+        Ok(())
+    });
+    let drops = |walk: &Walk| match walk.number % 2 {
+        0 => vec![(Call::Drop, walk.reduced.lent(Call::Drop, walk.junk()))],
+        _ => Vec::new(),
+    };
+    pass(library, walks, drops, |walk, lents| {
+        if let Some(dropped) = lents.into_iter().map(Held::was_changed).next() {
+            walk.reduced = dropped?;
+        }
         Ok(())
     });
     for k in 0..STEPS {
