@@ -125,18 +125,17 @@ struct plan_end plan_check(struct plan *plan) {
     return end_of(answer);
 }
 
-/* Both changes: into tables as long as the given ones, which take their place if nothing is refused. */
-static struct plan_end change(struct plan *plan, int reduce) {
+/* A call that writes a changed circuit. */
+typedef void change_call(const uint64_t *counts, GOLVANZO_GIVEN, GOLVANZO_WRITTEN, GOLVANZO_SCRATCH, uint64_t *answer);
+
+/* Every change: into tables as long as the given ones, which take their place if nothing is refused. */
+static struct plan_end change(struct plan *plan, change_call *call) {
     struct plan to = *plan;
     uint64_t answer[2 + PLAN_COUNTS] = {PLAN_NO_MEMORY};
     if (!ready(plan))
         return no_memory;
-    if (lend_tables(&to, plan->words)) {
-        if (reduce)
-            golvanzo_reduce(plan->counts, TABLES(plan), TABLES(&to), SCRATCH(plan), answer);
-        else
-            golvanzo_convert(plan->counts, TABLES(plan), TABLES(&to), SCRATCH(plan), answer);
-    }
+    if (lend_tables(&to, plan->words))
+        call(plan->counts, TABLES(plan), TABLES(&to), SCRATCH(plan), answer);
     free_tables(answer[0] == 0 ? plan : &to);
     if (answer[0] == 0) {
         memcpy(plan->table, to.table, sizeof plan->table);
@@ -146,11 +145,11 @@ static struct plan_end change(struct plan *plan, int reduce) {
 }
 
 struct plan_end plan_convert(struct plan *plan) {
-    return change(plan, 0);
+    return change(plan, golvanzo_convert);
 }
 
 struct plan_end plan_reduce(struct plan *plan) {
-    return change(plan, 1);
+    return change(plan, golvanzo_reduce);
 }
 
 /* Room for the longest file of these counts: a number within the limits has at most 7 digits, a difference 3 bytes. Should
