@@ -152,6 +152,10 @@ struct plan_end plan_reduce(struct plan *plan) {
     return change(plan, golvanzo_reduce);
 }
 
+struct plan_end plan_drop(struct plan *plan) {
+    return change(plan, golvanzo_drop);
+}
+
 /* Room for the longest file of these counts: a number within the limits has at most 7 digits, a difference 3 bytes. Should
    it not be enough, the library says how much is. */
 static size_t longest(const struct plan *plan, int binary) {

@@ -52,9 +52,11 @@ void plan_free(struct plan *plan);
 /* Whether the tables hold a circuit. */
 struct plan_end plan_check(struct plan *plan);
 
-/* Put the plan in binary order; reduce a plan that is in binary order. A refusal leaves it as it was. */
+/* Put the plan in binary order; reduce a plan that is in binary order, or drop its unused gates. A refusal leaves it as it
+   was. */
 struct plan_end plan_convert(struct plan *plan);
 struct plan_end plan_reduce(struct plan *plan);
+struct plan_end plan_drop(struct plan *plan);
 
 /* Write the plan and its tail as a file; `out` is empty after a refusal. */
 struct plan_end plan_write_text(struct plan *plan, struct plan_bytes *out);

@@ -68,6 +68,7 @@ const uint8_t *vector(const struct vectors *vectors, uint64_t inputs, uint64_t k
 int run_check(const struct request *request, const struct source *file, struct plan *plan);
 int run_convert(const struct request *request, const struct source *file, struct plan *plan);
 int run_reduce(const struct request *request, const struct source *file, struct plan *plan);
+int run_drop(const struct request *request, const struct source *file, struct plan *plan);
 int run_trace(const struct request *request, const struct source *file, struct plan *plan);
 int run_witness(const struct request *request, const struct source *file, struct plan *plan);
 int run_draw(const struct request *request, const struct source *file, struct plan *plan);

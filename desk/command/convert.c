@@ -1,4 +1,4 @@
-/* The verbs that write a plan: convert and reduce, as the programs of the paper do. */
+/* The verbs that write a plan: convert and reduce, as the programs of the paper do, and drop. */
 #include <stdlib.h>
 
 #include "command.h"
@@ -35,5 +35,13 @@ static int put_reduced(struct plan *plan, const struct source *file) {
 int run_reduce(const struct request *request, const struct source *file, struct plan *plan) {
     struct plan_bytes made;
     int status = put_reduced(plan, file);
+    return status == DONE ? deliver(request, file, plan_write_binary(plan, &made), &made) : status;
+}
+
+int run_drop(const struct request *request, const struct source *file, struct plan *plan) {
+    struct plan_bytes made;
+    int status = put_reduced(plan, file);
+    if (status == DONE)
+        status = ended(plan_drop(plan), file);
     return status == DONE ? deliver(request, file, plan_write_binary(plan, &made), &made) : status;
 }

@@ -21,6 +21,8 @@ static const struct command commands[] = {
      "Text becomes binary, its gates in the order of conversion; binary becomes text, as it is.", 0, run_convert, NULL},
     {"reduce", "FILE", "writes the reduced plan, in binary form",
      "Gates with the same pair of sides become one, and trivial ones go.", 0, run_reduce, NULL},
+    {"drop", "FILE", "writes the reduced plan without unused gates, in binary form",
+     "As reduce; then gates go that no output, next state, bad state or constraint reaches.", 0, run_drop, NULL},
     {"trace", "[--vcd] FILE [VECTORS]", "steps the plan, a vector of inputs on each line of VECTORS",
      "A vector has a value for each input: 0, 1 or x. A line for each step: state, inputs, outputs, next state.\n"
      "--vcd writes a waveform instead, for GTKWave and others, with the names of the plan.\n"

@@ -15,6 +15,11 @@ convert_and_trace() {
     sed -n '/^i0/,$p' examples/drafted.aag >>"$room/reduced"
     accepts "$room/reduced" reduce examples/drafted.aag
     accepts examples/toggle.aig reduce examples/toggle.aag
+    accepts examples/toggle.aig drop examples/toggle.aag
+    # gate 8 is used by nothing, gate 12 by gate 8 alone; the bad state, the constraint and the next state keep theirs
+    printf 'aag 8 2 1 1 5 1 1\n2\n4\n6 14\n10\n14\n17\n8 12 3\n10 4 2\n12 5 3\n14 6 2\n16 10 7\nl0 row\n' >"$room/unused.aag"
+    printf 'aig 6 2 1 1 3 1 1\n10\n8\n10\n13\n\4\2\4\4\4\1l0 row\n' >"$room/dropped"
+    accepts "$room/dropped" drop "$room/unused.aag"
 }
 
 # The files beside the worked examples of the paper were written by hand too. The command converts binary to text.
@@ -158,7 +163,7 @@ standard_input() {
 
 usage() {
     local verb
-    for verb in check convert reduce trace witness draw words; do
+    for verb in check convert reduce drop trace witness draw words; do
         try "$verb" --help
         holds "$verb --help" grep -q "^plan $verb \[-o OUT\] " "$room/out"
         holds "help of $verb" grep -q "^plan $verb " "$room/help"

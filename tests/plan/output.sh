@@ -40,7 +40,7 @@ not_written() {
 # Standard output that is full, for every verb.
 full_output() {
     local words
-    for words in "check" "convert" "reduce" "words" "draw" "trace" "trace --vcd" "witness"; do
+    for words in "check" "convert" "reduce" "drop" "words" "draw" "trace" "trace --vcd" "witness"; do
         # shellcheck disable=SC2086 # a verb and its options
         $command $words examples/toggle.aag <examples/toggle.vectors >/dev/full 2>"$room/error"
         echo $? >"$room/status"
