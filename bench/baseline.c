@@ -391,6 +391,15 @@ static inline uint32_t folded(uint32_t *slots, uint32_t mask, uint32_t base, uin
 }
 
 /* Structural hashing of one level. */
+/* Inputs stay; latches and outputs follow what their variables became. */
+static void follow(const uint32_t *now, const struct circuit *c, struct circuit *to) {
+    memcpy(to->table[INPUTS], c->table[INPUTS], 4 * c->length[INPUTS]);
+    for (uint32_t i = 0; i < 2 * c->counts[L]; i++)
+        to->table[LATCHES][i] = became(now, c->table[LATCHES][i]);
+    for (uint32_t i = 0; i < c->counts[O]; i++)
+        to->table[OUTPUTS][i] = became(now, c->table[OUTPUTS][i]);
+}
+
 void strash(struct base *b, const struct circuit *c, struct circuit *to) {
     const uint32_t *g = c->table[GATES], base = (uint32_t)(c->counts[I] + c->counts[L]), a = (uint32_t)c->counts[A];
     uint32_t *now = b->number, *slots = b->slots, mask = b->mask, *kept = to->table[GATES], n = 0;
@@ -402,11 +411,33 @@ void strash(struct base *b, const struct circuit *c, struct circuit *to) {
         now[base + 1 + i] = folded(slots, mask, base, &n, kept, x > y ? x : y, x > y ? y : x);
     }
     b->retained = n;
-    memcpy(to->table[INPUTS], c->table[INPUTS], 4 * c->length[INPUTS]);
-    for (uint32_t i = 0; i < 2 * c->counts[L]; i++)
-        to->table[LATCHES][i] = became(now, c->table[LATCHES][i]);
+    follow(now, c, to);
+}
+
+/* Without gates that no output and no next state reaches: marks from the last gate down, numbers from the first up. */
+void used(struct base *b, const struct circuit *c, struct circuit *to) {
+    const uint32_t *g = c->table[GATES], base = (uint32_t)(c->counts[I] + c->counts[L]), a = (uint32_t)c->counts[A];
+    uint32_t *now = b->number, *kept = to->table[GATES], n = 0;
+    uint8_t *mark = b->kind;
+    memset(mark, 0, c->counts[M] + 1);
+    for (uint32_t i = 0; i < c->counts[L]; i++)
+        mark[c->table[LATCHES][2 * i + 1] / 2] = 1;
     for (uint32_t i = 0; i < c->counts[O]; i++)
-        to->table[OUTPUTS][i] = became(now, c->table[OUTPUTS][i]);
+        mark[c->table[OUTPUTS][i] / 2] = 1;
+    for (uint32_t i = a; i-- > 0;)
+        if (mark[base + 1 + i])
+            mark[g[3 * i + 1] / 2] = mark[g[3 * i + 2] / 2] = 1;
+    for (uint32_t v = 0; v <= base; v++)
+        now[v] = 2 * v;
+    for (uint32_t i = 0; i < a; i++)
+        if (mark[base + 1 + i]) {
+            uint32_t x = became(now, g[3 * i + 1]), y = became(now, g[3 * i + 2]), l = 2 * (base + 1 + n);
+            now[base + 1 + i] = kept[3 * n] = l;
+            kept[3 * n + 1] = x > y ? x : y;
+            kept[3 * n++ + 2] = x > y ? y : x;
+        }
+    b->retained = n;
+    follow(now, c, to);
 }
 
 /* Values 0, 1, 2 = x in a byte per variable, And by a table of nine; bytes "0", "1", "x" outside. */

@@ -35,6 +35,7 @@ void convert(struct base *b, const struct circuit *c, struct circuit *to);
 
 /* Structural hashing of one level; how many gates are left is in `retained`. */
 void strash(struct base *b, const struct circuit *c, struct circuit *to);
+void used(struct base *b, const struct circuit *c, struct circuit *to);
 
 /* One step in three values. */
 void step3(struct base *b, const struct circuit *c, uint8_t *state, const uint8_t *ins, uint8_t *outs);

@@ -153,6 +153,12 @@ static int reduced_same(struct work *w) {
     return w->answer[6] == w->base.retained && same_circuit(&w->made, &w->base_made, w->answer[6]);
 }
 
+static int dropped_same(struct work *w) {
+    base_used(w);
+    desk_drop(w);
+    return w->answer[6] == w->base.retained && same_circuit(&w->made, &w->base_made, w->answer[6]);
+}
+
 static int printed_same(struct work *w) {
     desk_write_text(w);
     return w->answer[2] == w->file_length && memcmp(w->out, w->file, w->file_length) == 0;
@@ -199,7 +205,7 @@ static int was_never_one(struct work *w) {
 }
 
 #define BASE(f) {#f, base_##f, 0}
-enum { READ_BINARY, READ_TEXT, WRITE_BINARY, WRITE_TEXT, CONVERT, REDUCE, STEP, WITNESS, ORDER, FILES, WORST, TASKS };
+enum { READ_BINARY, READ_TEXT, WRITE_BINARY, WRITE_TEXT, CONVERT, REDUCE, DROP, STEP, WITNESS, ORDER, FILES, WORST, TASKS };
 static const struct task tasks[TASKS] = {
     {"read binary", desk_read, {BASE(decodec), BASE(decode)}, clear_written, NULL, base_encode, read_same, 2.0, 1},
     {"read text", desk_read, {BASE(textq), BASE(textc), BASE(text)}, clear_written, NULL, base_print, read_same, 2, 1},
@@ -207,6 +213,7 @@ static const struct task tasks[TASKS] = {
     {"write text", desk_write_text, {BASE(print)}, clear_scratch, desk_check, NULL, printed_same, 0, 1},
     {"convert", desk_convert, {BASE(convert)}, clear_written, desk_check, NULL, converted_same, 2.5, 1},
     {"reduce", desk_reduce, {BASE(strash)}, clear_written, desk_check, NULL, reduced_same, 2.0, 1},
+    {"drop", desk_drop, {BASE(used)}, clear_written, desk_check, NULL, dropped_same, 1.5, 1},
     {"step", desk_step, {BASE(step3)}, clear_scratch, desk_check, NULL, stepped_same, 1.5, 1},
     {"one of 8 steps", desk_witness, {BASE(steps)}, clear_scratch, desk_check, never_one, was_never_one, 1.5, STEPS},
     {"convert", desk_convert, {BASE(convert)}, NULL, NULL, NULL, converted_same, 2.5, 1},
@@ -229,7 +236,7 @@ static const struct {
     int tasks[TASKS + 1];
 } plan[] = {
     {{"random", "", random_one, in_order, in_order, 0},
-     {READ_BINARY, WRITE_BINARY, WRITE_TEXT, REDUCE, STEP, WITNESS, TASKS}},
+     {READ_BINARY, WRITE_BINARY, WRITE_TEXT, REDUCE, DROP, STEP, WITNESS, TASKS}},
     {{"in order", "", random_one, in_order, in_order, 0}, {READ_TEXT, CONVERT, TASKS}},
     {{"reversed", "", random_one, reversed, in_order, 0}, {READ_TEXT, CONVERT, TASKS}},
     {{"shuffled", "", random_one, shuffled, in_order, 0}, {READ_TEXT, CONVERT, TASKS}},

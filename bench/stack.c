@@ -72,6 +72,7 @@ int main(void) {
                 {"write_binary", desk_write_binary, 0},
                 {"convert", desk_convert, 1},
                 {"reduce", desk_reduce, 0},
+                {"drop", desk_drop, 0},
                 {"step", desk_step, 0},
                 {"witness", desk_witness, 0}};
     struct pair small = pair_of(10000), large = pair_of(1000000);

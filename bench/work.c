@@ -93,6 +93,14 @@ void base_strash(struct work *w) {
     strash(&w->base, &w->given, &w->base_made);
 }
 
+void desk_drop(struct work *w) {
+    golvanzo_drop(w->given.counts, TABLES(w->given), TABLES(w->made), SCRATCH(w), w->answer);
+}
+
+void base_used(struct work *w) {
+    used(&w->base, &w->given, &w->base_made);
+}
+
 void desk_step(struct work *w) {
     golvanzo_step(w->given.counts, TABLES(w->given), SCRATCH(w), w->state, w->given.counts[L], w->ins,
                   w->given.counts[I], w->outs, w->given.counts[O], w->answer);

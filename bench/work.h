@@ -29,11 +29,11 @@ void free_work(struct work *w);
 typedef void call(struct work *);
 
 /* The desk. desk_file reads a text file, converts it and writes it as binary. */
-call desk_read, desk_check, desk_write_text, desk_write_binary, desk_convert, desk_reduce, desk_step, desk_witness,
-    desk_file;
+call desk_read, desk_check, desk_write_text, desk_write_binary, desk_convert, desk_reduce, desk_drop, desk_step,
+    desk_witness, desk_file;
 
 /* The baseline; a reader that refuses ends the run. */
-call base_decode, base_decodec, base_text, base_textc, base_textq, base_print, base_encode, base_convert, base_strash,
+call base_decode, base_decodec, base_text, base_textc, base_textq, base_print, base_encode, base_convert, base_strash, base_used,
     base_step3, base_steps, base_file;
 
 /* What the contracts ask to be cleared: the scratch, and the tables that are written. */
