@@ -30,7 +30,7 @@ use Rattle.intake.specs.Opening.{OpenEntry, opening, opened, Ready}
 use Rattle.intake.specs.Parts.{convertedFile, reducedFile, toldBy, binaryBy}
 
 -- what follows an input that can be read
-after-input : {A B : Type 0} (b : Bool) (file : List ℕ) (f : List ℕ → Parse A) (k : List ℕ → A → ℕ → Parse B)
+pub after-input : {A B : Type 0} (b : Bool) (file : List ℕ) (f : List ℕ → Parse A) (k : List ℕ → A → ℕ → Parse B)
     → input (inputOf b file) (λ l. f l then k l) ≡ (input (inputOf b file) f) then k file
 after-input false file f k = refl
 after-input true file f k = go (leb (length file) 65536)
@@ -40,7 +40,7 @@ after-input true file f k = go (leb (length file) 65536)
     go false = refl
 
 -- the bytes, or 11
-told-fitting : (out bytes : List ℕ) → putBytes out 0 bytes ≡ toldBy out (fittingIn out bytes)
+pub told-fitting : (out bytes : List ℕ) → putBytes out 0 bytes ≡ toldBy out (fittingIn out bytes)
 told-fitting out bytes = go (room out 0 bytes)
   where
     go : (o : Option ℕ) → putBy o out 0 bytes ≡ toldBy out (unless o ShortBuffer (got bytes (length bytes)))

@@ -81,13 +81,13 @@ after n x = record { counts = n; tables = x .written; scratch = x .scratch }
 module _ (y : MakeExit) (d : Circuit) (accepted : y .answer ≡ made.Accepted (countsOf d))
     (lefts : (n : Counts) → y .answer ≡ made.Accepted n → Left (after n y) d × (binaryOrder d ≡ true)) (tail : List ℕ)
     (t : TailOk V19 (countsOf d) tail) (x : MakeExit) (said : x ≡ y) where
-  not-refused : (r : Refusal) → x .answer ≡ made.Refused r → ⊥
+  pub not-refused : (r : Refusal) → x .answer ≡ made.Refused r → ⊥
   not-refused r a =
       let b : made.Refused r ≡ made.Accepted (countsOf d) = sym a ∙ (ap (λ (z : MakeExit). z .answer) said ∙ accepted) in
       let z : _≡_ {A = ℕ} 0 1 = cc in omega arith
 
   module _ (n : Counts) (a : x .answer ≡ made.Accepted n) where
-    left-is : Left (after n x) d × (binaryOrder d ≡ true)
+    pub left-is : Left (after n x) d × (binaryOrder d ≡ true)
     left-is =
         subst (λ (z : MakeExit). Left (after n z) d × (binaryOrder d ≡ true)) (sym said)
         (lefts n (ap (λ (z : MakeExit). z .answer) (sym said) ∙ a))
@@ -99,7 +99,7 @@ module _ (y : MakeExit) (d : Circuit) (accepted : y .answer ≡ made.Accepted (c
     order-is = ap binaryOrder (left-is .0 .holds) ∙ left-is .1
 
     -- written as binary
-    made-put : (out : List ℕ) (z : FileExit) → z ≡ writeBinary (record { circuit = after n x; tail = tail; out = out })
+    pub made-put : (out : List ℕ) (z : FileExit) → z ≡ writeBinary (record { circuit = after n x; tail = tail; out = out })
         → shown z ≡ putBytes out 0 (binaryOf d ++ tail)
     made-put out z wrote =
         binary-put (after n x) tail out (left-is .0 .fine) tail-is order-is z wrote
@@ -111,19 +111,19 @@ fewest n = record { M = n .I + n .L + n .A; I = n .I; L = n .L; O = n .O; A = n 
 
 -- tables that stand ready
 module _ (g : Given) (tail : List ℕ) (made : Sizes) (ready : Ready g tail made) where
-  fine-is : Fine g (lentAlone g)
+  pub fine-is : Fine g (lentAlone g)
   fine-is = nothing-fine g (lentAlone g) (ready .fine)
 
-  counts-are : countsOf (given g) ≡ g .counts
+  pub counts-are : countsOf (given g) ≡ g .counts
   counts-are = counts-given g (fine-is .room)
 
-  left-here : Left g (given g)
+  pub left-here : Left g (given g)
   left-here = record { holds = refl; counts = sym counts-are; fine = ready .fine }
 
-  tail-here : TailOk V19 (countsOf (given g)) tail
+  pub tail-here : TailOk V19 (countsOf (given g)) tail
   tail-here = subst (λ (m : Counts). TailOk V19 m tail) (sym counts-are) (ready .tail-ok)
 
-  long-here : shortIn (countsOf (given g)) made (g .scratch) ≡ none
+  pub long-here : shortIn (countsOf (given g)) made (g .scratch) ≡ none
   long-here = ap (λ (m : Counts). shortIn m made (g .scratch)) counts-are ∙ ready .long
 
   -- fewer variables ask for less scratch
@@ -199,10 +199,10 @@ module _ (g : Given) (t : Tables) (tail : List ℕ) (ready : Ready g tail (sizes
   abbrev into-long : Sizes
   into-long = sizesOf t
 
-  took-too : reduction (record { circuit = g; written = t }) .answer ≡ made.Accepted (countsOf (reduce (given g)))
+  pub took-too : reduction (record { circuit = g; written = t }) .answer ≡ made.Accepted (countsOf (reduce (given g)))
   took-too = reduction-accepted g (given g) (left-here g tail into-long ready) t (long-here g tail into-long ready) order
 
-  reduced-tail : TailOk V19 (countsOf (reduce (given g))) tail
+  pub reduced-tail : TailOk V19 (countsOf (reduce (given g))) tail
   reduced-tail = tail-reduce V19 (given g) tail (tail-here g tail into-long ready)
 
   pub reduces : (r : Refusal) → x .answer ≡ made.Refused r → ⊥
