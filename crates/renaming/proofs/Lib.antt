@@ -1,0 +1,14 @@
+pub mod Entries
+pub mod Named
+pub mod Leaves
+pub mod Variables
+pub mod Order
+pub mod Converted
+pub mod Circuits
+pub mod Accepted
+pub mod Files
+pub mod Rooms
+pub mod Programs
+pub mod Whole
+pub mod Calls
+pub mod Examples
