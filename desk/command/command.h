@@ -21,9 +21,9 @@ struct source {
     size_t length;
 };
 
-/* What is asked: the words of the command line. `out` and `vectors` may be null. */
+/* What is asked: the words of the command line. `second` is the file of vectors; it and `out` may be null. */
 struct request {
-    const char *file, *vectors, *out;
+    const char *file, *second, *out;
     int vcd, large;
 };
 

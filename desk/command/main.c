@@ -3,8 +3,8 @@
 
 #include "command.h"
 
-/* Options that a command may take, beside -o FILE and --help, which all take. */
-enum { TAKES_VECTORS = 1, TAKES_VCD = 2, TAKES_LARGE = 4 };
+/* What a command may take, beside FILE, -o FILE and --help, which all take: a second file, which some need, and options. */
+enum { TAKES_SECOND = 1, NEEDS_SECOND = 2, TAKES_VCD = 4, TAKES_LARGE = 8 };
 
 /* A command is given the plan of its file, or the file alone where only the header is looked at. */
 struct command {
@@ -27,10 +27,10 @@ static const struct command commands[] = {
      "A vector has a value for each input: 0, 1 or x. A line for each step: state, inputs, outputs, next state.\n"
      "--vcd writes a waveform instead, for GTKWave and others, with the names of the plan.\n"
      "Without VECTORS they are read from standard input.",
-     TAKES_VECTORS | TAKES_VCD, run_trace, NULL},
+     TAKES_SECOND | TAKES_VCD, run_trace, NULL},
     {"witness", "FILE [VECTORS]", "says whether some step gives 1 on some output or bad state",
      "Vectors are as for trace. \"yes\" or \"no\"; every constraint must be 1 at that step and before it.",
-     TAKES_VECTORS, run_witness, NULL},
+     TAKES_SECOND, run_witness, NULL},
     {"draw", "[--large] FILE", "writes a drawing of the plan, for Graphviz",
      "Inputs are boxes, latches double boxes, gates ellipses with their literal; a dotted edge negates.\n"
      "--large also draws a plan of more than 300 gates.",
@@ -90,18 +90,18 @@ static int parse(const struct command *command, char **words, struct request *re
             return 0;
         else if (request->file == NULL)
             request->file = word;
-        else if (request->vectors == NULL && command->takes & TAKES_VECTORS)
-            request->vectors = word;
+        else if (request->second == NULL && command->takes & TAKES_SECOND)
+            request->second = word;
         else
             return 0;
     }
-    return request->file != NULL;
+    return request->file != NULL && (request->second != NULL || !(command->takes & NEEDS_SECOND));
 }
 
-/* Standard input can't be both. */
+/* Standard input can't be both files. */
 static int asks_twice(const struct command *command, const struct request *request) {
-    return command->takes & TAKES_VECTORS && strcmp(request->file, "-") == 0 &&
-           (request->vectors == NULL || strcmp(request->vectors, "-") == 0);
+    return command->takes & TAKES_SECOND && strcmp(request->file, "-") == 0 &&
+           (request->second == NULL || strcmp(request->second, "-") == 0);
 }
 
 static int on_plan(const struct command *command, const struct request *request, const struct source *file) {

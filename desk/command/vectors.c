@@ -44,7 +44,7 @@ static int judge_lines(const struct scan *scan, uint64_t inputs, struct vectors 
 
 int read_vectors(const struct request *request, uint64_t inputs, struct vectors *vectors) {
     *vectors = (struct vectors){.number = 0};
-    int status = read_source(request->vectors == NULL ? "-" : request->vectors, &vectors->source);
+    int status = read_source(request->second == NULL ? "-" : request->second, &vectors->source);
     const struct source *source = &vectors->source;
     const struct scan scan = {.of = source};
     if (status != DONE)
