@@ -9,7 +9,7 @@
 #include "../plan.h"
 
 /* Exit statuses. FAILED is wrong usage, or a system that can't do what is asked. */
-enum { DONE = 0, REFUSED = 1, FAILED = 2 };
+enum { DONE = 0, REFUSED = 1, DIFFERENT = 1, FAILED = 2 };
 
 /* The paper's numbers that the command itself says, as the programs do: their places are the paper's too. */
 enum { WRONG_BYTE = 1, BAD_VECTOR = 12, UNREADABLE = 14 };
@@ -21,7 +21,7 @@ struct source {
     size_t length;
 };
 
-/* What is asked: the words of the command line. `second` is the file of vectors; it and `out` may be null. */
+/* What is asked: the words of the command line. `second` is the file of vectors or the other plan; it and `out` may be null. */
 struct request {
     const char *file, *second, *out;
     int vcd, large;
@@ -71,6 +71,7 @@ int run_reduce(const struct request *request, const struct source *file, struct 
 int run_drop(const struct request *request, const struct source *file, struct plan *plan);
 int run_trace(const struct request *request, const struct source *file, struct plan *plan);
 int run_witness(const struct request *request, const struct source *file, struct plan *plan);
+int run_same(const struct request *request, const struct source *file, struct plan *plan);
 int run_draw(const struct request *request, const struct source *file, struct plan *plan);
 int run_words(const struct request *request, const struct source *file);
 

@@ -31,6 +31,12 @@ static const struct command commands[] = {
     {"witness", "FILE [VECTORS]", "says whether some step gives 1 on some output or bad state",
      "Vectors are as for trace. \"yes\" or \"no\"; every constraint must be 1 at that step and before it.",
      TAKES_SECOND, run_witness, NULL},
+    {"same", "FILE FILE", "says whether two plans are the same but for their numbers",
+     "Both are converted and compared byte for byte, symbols and comments too: the form, M, the numbers of variables\n"
+     "and the order of a gate's sides may differ, and the order of gates where conversion gives the same.\n"
+     "\"same\", or \"different\" and for each plan the first place that differs, in the numbers of conversion.\n"
+     "The exit status is 1 also if they are different.",
+     TAKES_SECOND | NEEDS_SECOND, run_same, NULL},
     {"draw", "[--large] FILE", "writes a drawing of the plan, for Graphviz",
      "Inputs are boxes, latches double boxes, gates ellipses with their literal; a dotted edge negates.\n"
      "--large also draws a plan of more than 300 gates.",
