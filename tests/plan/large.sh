@@ -17,6 +17,8 @@ large() {
     accepts "$folder/reduced.aig" reduce "$folder/plan.aig"
     accepts "$folder/mixed-reduced.aig" reduce "$folder/mixed.aag"
     accepts "$folder/trace" trace "$folder/plan.aig" "$folder/vectors"
+    accepts "$room/same" same "$folder/plan.aag" "$folder/plan.aig"
+    accepts "$room/same" same "$folder/converted.aig" "$folder/mixed.aag"
     try check "$folder/plan.aig"
     holds "check of $1 gates" grep -q "^binary M .* A $1 B 0 C 0$" "$room/out"
     misuses "has $1 gates; a drawing of more than 300 is hardly read: --large draws it" draw "$folder/plan.aig"
@@ -44,6 +46,7 @@ too_much() {
     rm -f "$room/plan" "$room/other" "$room/cycle"
 }
 
+echo same >"$room/same"
 command=$plain
 large 100000
 large 1000000

@@ -8,6 +8,14 @@ valgrind_on_small() {
     accepts examples/guard.aag convert examples/guard.aig
     accepts examples/toggle.aig reduce examples/toggle.aag
     accepts examples/guard.trace trace examples/guard.aag examples/guard.vectors
+    echo same >"$room/same"
+    accepts "$room/same" same examples/guard.aig tests/plan/same/guard.aag
+    sed 's/^16$/1/' tests/plan/same/guard.aag >"$room/plan"
+    printf '%s\n' different 'examples/guard.aag: output 0 ("needle") is literal 10, gate 0' \
+        "$room/plan: output 0 (\"needle\") is constant 1" >"$room/told"
+    try same examples/guard.aag "$room/plan"
+    expect "same examples/guard.aag $room/plan" 1 "$room/told" ""
+    refuses "refused 8 at 2" same examples/guard.aag tests/refused-08/above-a-cycle.aag
     refuses "refused 12 at 2" trace --vcd examples/guard.aag examples/toggle.aag
     refuses "refused 10 at 23" witness tests/refused-10/second.aag
     refuses "refused 8 at 2" check tests/refused-08/above-a-cycle.aag

@@ -40,8 +40,9 @@ not_written() {
 # Standard output that is full, for every verb.
 full_output() {
     local words
-    for words in "check" "convert" "reduce" "drop" "words" "draw" "trace" "trace --vcd" "witness"; do
-        # shellcheck disable=SC2086 # a verb and its options
+    for words in "check" "convert" "reduce" "drop" "words" "draw" "trace" "trace --vcd" "witness" \
+        "same examples/toggle.aag" "same examples/guard.aag"; do
+        # shellcheck disable=SC2086 # a verb, its options, and the first of two plans
         $command $words examples/toggle.aag <examples/toggle.vectors >/dev/full 2>"$room/error"
         echo $? >"$room/status"
         : >"$room/out"
