@@ -1,5 +1,5 @@
 // The two forms of a file in the shortest form, written into a buffer that has room, and how long they are (the paper, text form and
-// binary form; AIGER report, sections 7, 11 and 12; AIGER 1.9, section 4).
+// binary form; AIGER report, sections 7, 11 and 12; AIGER 1.9).
 ghost use mathlib.Core.Path.{_≡_};
 ghost use mathlib.Core.List.{_++_};
 ghost use Prim.Native.Nat.{_+_, _*_, _<_, _≤_};
