@@ -3,7 +3,7 @@ use Prim.Native.Nat.{ℕ}
 use mathlib.Core.Option.{Option, none, some}
 use mathlib.Core.List.{List, [], _∷_}
 use Rattle.plan.specs.declared.Refusal.{Refusal}
-use Rattle.plan.specs.declared.Refusal.the-variants.{WrongByte, LargeCount, WrongSum, ShortTable, OutOfRange, DefinedTwice, NotDefined, Cyclic, BadDifference, BadSymbol, ShortBuffer, BadVector, LongInput, Unreadable, NotInOrder, LongDifference, Justice}
+use Rattle.plan.specs.declared.Refusal.the-variants.{WrongByte, LargeCount, WrongSum, ShortTable, OutOfRange, DefinedTwice, NotDefined, Cyclic, BadDifference, BadSymbol, ShortBuffer, BadVector, LongInput, Unreadable, NotInOrder, LongDifference, NotExplained, WrongMark, NotOnCards, ManyX, Justice, NoGate, WrongValue, ManyGates}
 
 -- the number and the place
 abbrev pub told : Refusal → ℕ × ℕ
@@ -23,7 +23,14 @@ told (LongInput place) = (13, place)
 told (Unreadable place) = (14, place)
 told (NotInOrder place) = (15, place)
 told (LongDifference place) = (16, place)
+told (NotExplained place) = (17, place)
+told (WrongMark place) = (18, place)
+told (NotOnCards place) = (19, place)
+told (ManyX place) = (20, place)
 told (Justice place) = (21, place)
+told (NoGate place) = (22, place)
+told (WrongValue place) = (23, place)
+told (ManyGates place) = (24, place)
 
 abbrev pub numberOf : Refusal → ℕ
 numberOf r = told r .0

@@ -172,7 +172,7 @@ pub enum Class {
     Rest,
 }
 
-// One case for each refusal number from 1 to 16 and for 21, in their order, each with its place.
+// One case for each refusal number from 1 to 24, in their order, each with its place.
 pub enum Refusal {
     WrongByte(usize),
     LargeCount(usize),
@@ -190,7 +190,14 @@ pub enum Refusal {
     Unreadable(usize),
     NotInOrder(usize),
     LongDifference(usize),
+    NotExplained(usize),
+    WrongMark(usize),
+    NotOnCards(usize),
+    ManyX(usize),
     Justice(usize),
+    NoGate(usize),
+    WrongValue(usize),
+    ManyGates(usize),
 }
 
 // A number at a position of a file.

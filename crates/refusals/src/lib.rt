@@ -24,7 +24,14 @@ pub fn told_number(refusal: Refusal) -> u64
         Refusal::Unreadable(_) => 14,
         Refusal::NotInOrder(_) => 15,
         Refusal::LongDifference(_) => 16,
+        Refusal::NotExplained(_) => 17,
+        Refusal::WrongMark(_) => 18,
+        Refusal::NotOnCards(_) => 19,
+        Refusal::ManyX(_) => 20,
         Refusal::Justice(_) => 21,
+        Refusal::NoGate(_) => 22,
+        Refusal::WrongValue(_) => 23,
+        Refusal::ManyGates(_) => 24,
     }
 }
 
@@ -49,6 +56,13 @@ pub fn told_place(refusal: Refusal) -> usize
         Refusal::Unreadable(place) => place,
         Refusal::NotInOrder(place) => place,
         Refusal::LongDifference(place) => place,
+        Refusal::NotExplained(place) => place,
+        Refusal::WrongMark(place) => place,
+        Refusal::NotOnCards(place) => place,
+        Refusal::ManyX(place) => place,
         Refusal::Justice(place) => place,
+        Refusal::NoGate(place) => place,
+        Refusal::WrongValue(place) => place,
+        Refusal::ManyGates(place) => place,
     }
 }
