@@ -5,7 +5,7 @@ use mathlib.Core.Bool.{Bool, true, false, cond, _&&_, _||_, false≢true}
 use mathlib.Core.Option.{Option, none, some}
 use mathlib.Core.List.{List, [], _∷_, map}
 use native.Mathlib.Omega.{arith}
-use borrow.Author.Tests.{eqb-true, eq-eqb, ne-eqb, le-leb, leb-true}
+use borrow.Author.Tests.{eqb-true, eq-eqb, le-leb, leb-true}
 use lib.Dec.{eqb, leb}
 use lib.ListN.{length, getD, length-map}
 use Rattle.plan.specs.Literals.{most, beyond, litOf, signOf, inRange, isReset}
@@ -85,17 +85,6 @@ module _ (file : List ℕ) (d : Bool) (more v at : ℕ) (few : more ≤ 1) (r : 
                   (omega (arith, took .2, values-length xs, places-length xs)),
             ),
       )
-
--- a reset, test by test
-module _ (own r : ℕ) where
-  pub reset-0 : r ≡ 0 → true ≡ isReset own r
-  reset-0 e = rw (eq-eqb r 0 e)
-
-  pub reset-1 : (r ≡ 0 → ⊥) → r ≡ 1 → true ≡ isReset own r
-  reset-1 n e = rw (ne-eqb r 0 n, eq-eqb r 1 e)
-
-  pub reset-own : (r ≡ 0 → ⊥) → (r ≡ 1 → ⊥) → eqb r own ≡ isReset own r
-  reset-own n k = rw (ne-eqb r 0 n, ne-eqb r 1 k)
 
 in-turn : (a b c : Bool) (p q r : ℕ)
     → cond a (cond b (cond c none (some r)) (some q)) (some p) ≡ orElse (cond a (cond b none (some q)) (some p)) (cond c none (some r))

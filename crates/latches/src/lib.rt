@@ -4,7 +4,7 @@ ghost use mathlib.Core.Path.{_≡_};
 ghost use mathlib.Core.List.{List, [], _∷_, map};
 ghost use Prim.Native.Nat.{ℕ, _+_, _*_, _≤_, _<_};
 ghost use lib.ListN.{length};
-ghost use Rattle.plan.specs.Literals.{most, isReset, litOf};
+ghost use Rattle.plan.specs.Literals.{most, litOf};
 ghost use Rattle.plan.specs.Refusals.{got};
 ghost use Rattle.plan.specs.Circuit.{latchLine};
 ghost use Rattle.plan.specs.Header.{moreResets};
@@ -22,6 +22,7 @@ use plan::Passed;
 use plan::Refusal;
 use plan::Var;
 use plan::Version;
+use plan::is_reset;
 
 // How many resets may stand in a latch's line.
 pub fn more_resets(version: Version) -> usize
@@ -31,18 +32,6 @@ pub fn more_resets(version: Version) -> usize
         Version::V2007 => 0,
         Version::V19 => 1,
     }
-}
-
-fn is_reset(own: u32, r: u32) -> bool
-    ensures { λ t. ⌜ t ≡ isReset own r ⌝ }
-{
-    if r == 0 {
-        return true;
-    }
-    if r == 1 {
-        return true;
-    }
-    r == own
 }
 
 // The numbers of a latch's line as its own literal, its next state and its reset, which is 0 if it is left off: by 1. In binary the own

@@ -3,7 +3,7 @@
 ghost use mathlib.Core.Path.{_≡_};
 ghost use Prim.Native.Nat.{_-_, max, min};
 ghost use lib.Dec.{ltb};
-ghost use Rattle.plan.specs.Literals.{litAt, wordOf, halved, signOf, negated, signedAs, inRange, varAt, indexOf, doubled};
+ghost use Rattle.plan.specs.Literals.{litAt, wordOf, halved, signOf, negated, signedAs, inRange, varAt, indexOf, doubled, isReset};
 
 // A variable's index. Neither it nor a literal stands for the other: a doubling and a halving lead across.
 pub struct Var(u32);
@@ -143,6 +143,19 @@ impl Lit {
         }
         Lit(a - difference)
     }
+}
+
+// Whether a word is a reset of the latch with this literal: 0, 1 or the latch's own literal, which is x (AIGER 1.9).
+pub fn is_reset(own: u32, reset: u32) -> bool
+    ensures { λ r. ⌜ r ≡ isReset own reset ⌝ }
+{
+    if reset == 0 {
+        return true;
+    }
+    if reset == 1 {
+        return true;
+    }
+    reset == own
 }
 
 // M, I, L, O, A, B, C: the largest variable; the inputs, latches, outputs and gates, bad states and constraints.

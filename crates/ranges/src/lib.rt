@@ -4,7 +4,7 @@ ghost use mathlib.Core.Bool.{true};
 ghost use mathlib.Core.List.{[], map};
 ghost use Prim.Native.Nat.{_+_, _*_, _≤_};
 ghost use lib.ListN.{length, take, drop};
-ghost use Rattle.plan.specs.Literals.{inRange, isReset};
+ghost use Rattle.plan.specs.Literals.{inRange};
 ghost use Rattle.plan.specs.Circuit.{latchOf, rowsOf, resetsOk, inside, allInside};
 ghost use Rattle.plan.specs.Binary.{binaryOrder};
 ghost use Rattle.plan.specs.Given.{outsideIn};
@@ -13,6 +13,7 @@ ghost use Rattle.tables.specs.Lengths.{tableOf};
 ghost use Rattle.ranges.specs.Parts.{outsideFirst, outsideLast, FirstRoom, LastRoom};
 use plan::Counts;
 use plan::Lit;
+use plan::is_reset;
 
 // Whether a table's word is in its range.
 fn word_within(word: u32, defines: bool, m: u32) -> bool
@@ -69,19 +70,6 @@ fn known_within(known: bool, table: &[u32], k: usize, n: usize, defines: bool, m
     rows_within(table, k, n, defines, m)
 }
 
-// Whether a word is a latch's reset: 0, 1 or the latch's own literal.
-fn resets_to(own: u32, reset: u32) -> bool
-    ensures { λ r. ⌜ r ≡ isReset own reset ⌝ }
-{
-    if reset == 0 {
-        return true;
-    }
-    if reset == 1 {
-        return true;
-    }
-    reset == own
-}
-
 // Whether the first n latches have a reset each.
 fn resets_within(latches: &[u32], resets: &[u32], n: usize) -> bool
     requires { ⌜ 2 * n ≤ length (now latches) ⌝ }
@@ -92,7 +80,7 @@ fn resets_within(latches: &[u32], resets: &[u32], n: usize) -> bool
     let mut i = 0;
     let mut left = n;
     while left > 0 {
-        if !resets_to(latches[at], resets[i]) {
+        if !is_reset(latches[at], resets[i]) {
             return false;
         }
         at += 2;

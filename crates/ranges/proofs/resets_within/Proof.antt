@@ -18,20 +18,20 @@ abbrev μ-loop : tie.MeasureT-loop
 loop-holds : tie.Need-loop-holds Inv-loop μ-loop
 loop-holds c = (omega arith, omega arith, refl)
 
-mul-resets-to : tie.Need-mul-resets-to Inv-loop μ-loop
-mul-resets-to c = search needs
+mul-is-reset : tie.Need-mul-is-reset Inv-loop μ-loop
+mul-is-reset c = search needs
 
-shared-slice-read-resets-to : tie.Need-shared-slice-read-resets-to Inv-loop μ-loop
-shared-slice-read-resets-to c = search needs
+shared-slice-read-is-reset : tie.Need-shared-slice-read-is-reset Inv-loop μ-loop
+shared-slice-read-is-reset c = search needs
 
-mul-resets-to-2 : tie.Need-mul-resets-to-2 Inv-loop μ-loop
-mul-resets-to-2 c = search needs
+mul-is-reset-2 : tie.Need-mul-is-reset-2 Inv-loop μ-loop
+mul-is-reset-2 c = search needs
 
-shared-slice-read-resets-to-2 : tie.Need-shared-slice-read-resets-to-2 Inv-loop μ-loop
-shared-slice-read-resets-to-2 c = search needs
+shared-slice-read-is-reset-2 : tie.Need-shared-slice-read-is-reset-2 Inv-loop μ-loop
+shared-slice-read-is-reset-2 c = search needs
 
-resets-to-requires : tie.Need-resets-to-requires Inv-loop μ-loop
-resets-to-requires c κs = search needs
+is-reset-requires : tie.Need-is-reset-requires Inv-loop μ-loop
+is-reset-requires c κs = search needs
 
 returns : tie.Need-returns Inv-loop μ-loop
 returns c =
@@ -39,7 +39,7 @@ returns c =
     let w = c .before .before .before .before .before .loop in
     sym (w .inv .2
     ∙ reset-outside (a .latches .now) (a .resets .now) (w .at) (w .i) (w .left) (c .before .before .before .before .loop-test .taken) (w .inv .1)
-    (sym (c .before .resets-to .ensures) ∙ not-true (c .before .resets-to .result) (c .if1 .taken)))
+    (sym (c .before .is-reset .ensures) ∙ not-true (c .before .is-reset .result) (c .if1 .taken)))
 
 add-at : tie.Need-add-at Inv-loop μ-loop
 add-at c = search needs
@@ -61,7 +61,7 @@ loop-again c =
       omega arith,
       w .inv .2
           ∙ reset-inside (a .latches .now) (a .resets .now) (w .at) (w .i) (w .left) (c .before .before .before .before .loop-test .taken) (w .inv .1)
-          (sym (c .before .resets-to .ensures) ∙ not-false (c .before .resets-to .result) (c .if1 .left)),
+          (sym (c .before .is-reset .ensures) ∙ not-false (c .before .is-reset .result) (c .if1 .left)),
     )
 
 returns-2 : tie.Need-returns-2 Inv-loop μ-loop
@@ -78,11 +78,11 @@ resets-within-spec =
     Inv-loop
     μ-loop
     loop-holds
-    mul-resets-to
-    shared-slice-read-resets-to
-    mul-resets-to-2
-    shared-slice-read-resets-to-2
-    resets-to-requires
+    mul-is-reset
+    shared-slice-read-is-reset
+    mul-is-reset-2
+    shared-slice-read-is-reset-2
+    is-reset-requires
     returns
     add-at
     add-i

@@ -1,6 +1,6 @@
 use borrow.Author.Tests.{eq-eqb, ne-eqb}
-use Rattle.ranges.proofs.resets_to.Statement.{statement}
-use Rattle.ranges.proofs.resets_to.Tie as tie
+use Rattle.plan.proofs.is_reset.Statement.{statement}
+use Rattle.plan.proofs.is_reset.Tie as tie
 
 returns : tie.Need-returns
 returns c = simp (eq-eqb _ _ (c .if1 .taken))
@@ -11,5 +11,5 @@ returns-2 c = simp (ne-eqb _ _ (c .before .if1 .left), eq-eqb _ _ (c .if2 .taken
 returns-3 : tie.Need-returns-3
 returns-3 c = simp (ne-eqb _ _ (c .before .if1 .left), ne-eqb _ _ (c .if2 .left))
 
-pub resets-to-spec : {M : Type 1} → statement M
-resets-to-spec = tie.close (tie.spec returns returns-2 returns-3)
+pub is-reset-spec : {M : Type 1} → statement M
+is-reset-spec = tie.close (tie.spec returns returns-2 returns-3)
