@@ -47,7 +47,7 @@ step-told g state ins outs n x answer e says told =
     ∙ ap (λ (m : Counts). step (record { circuit = counted g m; state = state; inputs = ins; outputs = outs })) e)
 
 pub witness-told : (g : Given) (number : ℕ) (bytes : List ℕ) (n : Counts) (x : WitnessExit) (answer : List ℕ) → n ≡ g .counts
-    → x ≡ outcome.witness (record { circuit = counted g n; number = number; bytes = bytes }) → answer ≡ verdictValues (x .answer)
+    → x ≡ outcome.witness3 (record { circuit = counted g n; number = number; bytes = bytes }) → answer ≡ verdictValues (x .answer)
     → _≡_ {A = WitnessTold} (record { answer = answer; scratch = x .scratch }) (witness (record { circuit = g; number = number; bytes = bytes }))
 witness-told g number bytes n x answer e says told =
     ap (λ (a : List ℕ). record { answer = a; scratch = x .scratch }) told

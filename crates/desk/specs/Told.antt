@@ -62,4 +62,4 @@ pub record WitnessTold : Type 0 where
   pub scratch : List ℕ
 
 abbrev pub witness : WitnessEntry → WitnessTold
-witness e = let x = outcome.witness e in record { answer = verdictValues (x .answer); scratch = x .scratch }
+witness e = let x = outcome.witness3 e in record { answer = verdictValues (x .answer); scratch = x .scratch }

@@ -28,6 +28,8 @@ use Rattle.plan.specs.declared.Stepped.{Stepped}
 use Rattle.plan.specs.declared.Stepped.the-variants as stepped
 use Rattle.plan.specs.declared.Verdict.{Verdict}
 use Rattle.plan.specs.declared.Verdict.the-variants as verdict
+use Rattle.plan.specs.declared.Finding.{Finding}
+use Rattle.plan.specs.declared.Finding.the-variants as finding
 use Rattle.plan.specs.Literals.{beyond}
 use Rattle.plan.specs.Refusals.{Parse, got, refused, numberOf, placeOf, stage, firstOf}
 use Rattle.plan.specs.Circuit.{Circuit, Tables, countsOf, lengthsOf, holding, allCleared, cleared}
@@ -75,6 +77,13 @@ abbrev pub verdictValues : Verdict → List ℕ
 verdictValues verdict.Yes = 0 ∷ 0 ∷ 1 ∷ []
 verdictValues verdict.No = 0 ∷ 0 ∷ 0 ∷ []
 verdictValues (verdict.Refused r) = refusalValues r (0 ∷ [])
+
+-- yes: 1, no: 0, undecided: 2, and how many fillings were tried
+abbrev pub findingValues : Finding → List ℕ
+findingValues (finding.Yes tried) = 0 ∷ 0 ∷ 1 ∷ tried ∷ []
+findingValues (finding.No tried) = 0 ∷ 0 ∷ 0 ∷ tried ∷ []
+findingValues (finding.Undecided tried) = 0 ∷ 0 ∷ 2 ∷ tried ∷ []
+findingValues (finding.Refused r) = refusalValues r (0 ∷ 0 ∷ [])
 
 -- a number at a position, cut above every limit
 abbrev pub cutNumber : Parse ℕ → Number
@@ -285,7 +294,7 @@ step e =
     let g = e .circuit in
     steppedBy (firstOf (stages g (lentAlone g) ++ (orderStage g ∷ stepStage e ∷ []))) e
 
--- the witness question: given tables, a number of vectors and their bytes
+-- the witness question in three values: given tables, a number of vectors and their bytes
 pub record WitnessEntry : Type 0 where
   pub circuit : Given
   pub number : ℕ
@@ -303,8 +312,8 @@ verdictBy (some r) seen = verdict.Refused r
 abbrev pub listStage : WitnessEntry → Option Refusal
 listStage e = stage BadVector (vector 2 (eqb (length (e .bytes)) (e .number * e .circuit .counts .I) && allCodes (e .bytes)))
 
-abbrev pub witness : WitnessEntry → WitnessExit
-witness e =
+abbrev pub witness3 : WitnessEntry → WitnessExit
+witness3 e =
     let g = e .circuit in
     record {
       answer = verdictBy (firstOf (stages g (lentAlone g) ++ (orderStage g ∷ listStage e ∷ []))) (witnessed (given g) (e .number) (e .bytes));

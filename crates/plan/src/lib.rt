@@ -273,10 +273,18 @@ pub enum Stepped {
     Refused(Refusal),
 }
 
-// What the witness question answers.
+// What the witness question in three values answers.
 pub enum Verdict {
     Yes,
     No,
+    Refused(Refusal),
+}
+
+// What the witness question answers: whether every filling of the x shows a 1, and how many were tried.
+pub enum Finding {
+    Yes(usize),
+    No(usize),
+    Undecided(usize),
     Refused(Refusal),
 }
 

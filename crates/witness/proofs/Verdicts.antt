@@ -15,7 +15,7 @@ use Rattle.plan.specs.Refusals.{stage, firstOf}
 use Rattle.plan.specs.Circuit.{cleared}
 use Rattle.plan.specs.Step.{witnessed}
 use Rattle.plan.specs.Given.{given}
-use Rattle.plan.specs.Outcome.{WitnessEntry, WitnessExit, allCodes, vector, listStage, verdictBy, witness}
+use Rattle.plan.specs.Outcome.{WitnessEntry, WitnessExit, allCodes, vector, listStage, verdictBy, witness3}
 use Rattle.theorems.proofs.Reading.Common.{and-left}
 use Rattle.codes.proofs.Places.{codesIn}
 use Rattle.step.proofs.Checks.{answer}
@@ -32,11 +32,11 @@ module _ (e : WitnessEntry) where
 
   module _ (t : List ℕ) (blank : t ≡ cleared (e .circuit .scratch)) where
     decided : (v : Verdict) → v ≡ verdictBy (answer (e .circuit) (listStage e)) seen
-        → _≡_ {A = WitnessExit} (record { answer = v; scratch = t }) (witness e)
+        → _≡_ {A = WitnessExit} (record { answer = v; scratch = t }) (witness3 e)
     decided v q = λ j. record { answer = q j; scratch = blank j }
 
     pub refused-witness : (r : Refusal) → answer (e .circuit) (listStage e) ≡ some r
-        → _≡_ {A = WitnessExit} (record { answer = Refused r; scratch = t }) (witness e)
+        → _≡_ {A = WitnessExit} (record { answer = Refused r; scratch = t }) (witness3 e)
     refused-witness r q = decided (Refused r) (sym (ap (λ (o : Option Refusal). verdictBy o seen) q))
 
     -- the tables are good
@@ -44,12 +44,12 @@ module _ (e : WitnessEntry) where
       judged : (b : Bool) → whole ≡ b → answer (e .circuit) (listStage e) ≡ firstOf (stage BadVector (vector 2 b) ∷ [])
       judged b q = past ∙ ap (λ (x : Bool). firstOf (stage BadVector (vector 2 x) ∷ [])) q
 
-      pub refused-list : whole ≡ false → _≡_ {A = WitnessExit} (record { answer = Refused (BadVector 2); scratch = t }) (witness e)
+      pub refused-list : whole ≡ false → _≡_ {A = WitnessExit} (record { answer = Refused (BadVector 2); scratch = t }) (witness3 e)
       refused-list q = refused-witness (BadVector 2) (judged false q)
 
       module _ (q : whole ≡ true) where
-        pub yes-witness : true ≡ seen → _≡_ {A = WitnessExit} (record { answer = Yes; scratch = t }) (witness e)
+        pub yes-witness : true ≡ seen → _≡_ {A = WitnessExit} (record { answer = Yes; scratch = t }) (witness3 e)
         yes-witness s = decided Yes (ap₂ verdictBy (sym (judged true q)) s)
 
-        pub no-witness : false ≡ seen → _≡_ {A = WitnessExit} (record { answer = No; scratch = t }) (witness e)
+        pub no-witness : false ≡ seen → _≡_ {A = WitnessExit} (record { answer = No; scratch = t }) (witness3 e)
         no-witness s = decided No (ap₂ verdictBy (sym (judged true q)) s)

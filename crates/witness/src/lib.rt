@@ -6,7 +6,7 @@ ghost use Prim.Native.Nat.{ℕ, _+_, _*_};
 ghost use lib.ListN.{length, take};
 ghost use Rattle.plan.specs.Circuit.{circuitOf, seven};
 ghost use Rattle.plan.specs.Step.{Value, any1};
-ghost use Rattle.plan.specs.Outcome.{Says, witness};
+ghost use Rattle.plan.specs.Outcome.{Says, witness3};
 ghost use Rattle.values.specs.Words.{valuesAt};
 ghost use Rattle.sweep.specs.Lookup.{seen};
 ghost use Rattle.sweep.specs.Running.{Runs, Rests, litsOf};
@@ -94,7 +94,7 @@ pub fn witness(
     number: usize,
     bytes: &[u8],
 ) -> Verdict
-    ensures { λ r. ⌜ Says witness
+    ensures { λ r. ⌜ Says witness3
         (record {
           circuit = (record {
             counts = n;

@@ -25,7 +25,7 @@ use Rattle.plan.specs.Given.{Given, given, lentAlone, lentWith, stages, orderSt
 use Rattle.plan.specs.Convert.{convert}
 use Rattle.plan.specs.Reduce.{reduce}
 use Rattle.plan.specs.Step.{codeOf, valueOf, outputsOf, nextOf, witnessed}
-use Rattle.plan.specs.Outcome.{FileEntry, writtenBy, writeText, writeBinary, madeBy, conversion, reduction, allCodes, StepEntry, stepStage, steppedBy, step, WitnessEntry, verdictBy, listStage, witness}
+use Rattle.plan.specs.Outcome.{FileEntry, writtenBy, writeText, writeBinary, madeBy, conversion, reduction, allCodes, StepEntry, stepStage, steppedBy, step, WitnessEntry, verdictBy, listStage, witness3}
 use Rattle.theorems.proofs.Reading.Short.{short-none, long-both}
 use Rattle.theorems.proofs.Reading.Tails.{tail-exactly}
 use Rattle.theorems.proofs.Writing.Nothing.{both-first}
@@ -132,7 +132,7 @@ module _ (g : Given) (c : Circuit) (l : Left g c) where
 
     -- the witness question, of the circuit
     pub witness-answered : (number : ℕ) (bytes : List ℕ) → length bytes ≡ number * length (c .inputs) → allCodes bytes ≡ true
-        → witness (record { circuit = g; number = number; bytes = bytes }) .answer ≡ verdictBy none (witnessed c number bytes)
+        → witness3 (record { circuit = g; number = number; bytes = bytes }) .answer ≡ verdictBy none (witnessed c number bytes)
     witness-answered number bytes lb cb =
         let entry : WitnessEntry = record { circuit = g; number = number; bytes = bytes } in
         let e1 : eqb (length bytes) (number * g .counts .I) ≡ true
