@@ -64,6 +64,16 @@ struct vectors {
 int read_vectors(const struct request *request, uint64_t inputs, struct vectors *vectors);
 const uint8_t *vector(const struct vectors *vectors, uint64_t inputs, uint64_t k);
 
+/* The same as a list without the ends of lines, as the library takes it, and the plan in binary order: all refusals of the plan
+   come before the vectors are read. */
+int read_list(const struct request *request, const struct source *file, struct plan *plan, struct vectors *vectors,
+              uint8_t **list);
+void free_list(struct vectors *vectors, uint8_t *list);
+
+/* trace.c: a step's line. */
+void print_line(FILE *to, const struct plan *plan, const uint8_t *state, const uint8_t *inputs, const uint8_t *outputs,
+                const uint8_t *next);
+
 /* The verbs. */
 int run_check(const struct request *request, const struct source *file, struct plan *plan);
 int run_convert(const struct request *request, const struct source *file, struct plan *plan);

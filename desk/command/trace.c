@@ -6,15 +6,16 @@
 #include "vcd.h"
 
 /* State, inputs, outputs, next state, one space between (docs/PAPER.md, "Programs and their output"). */
-static void print_step(const struct run *run, const struct plan *plan, FILE *to) {
+void print_line(FILE *to, const struct plan *plan, const uint8_t *state, const uint8_t *inputs, const uint8_t *outputs,
+                const uint8_t *next) {
     const uint64_t *n = plan->counts;
-    fwrite(run->state, 1, n[PLAN_L], to);
+    fwrite(state, 1, n[PLAN_L], to);
     fputc(' ', to);
-    fwrite(run->inputs, 1, n[PLAN_I], to);
+    fwrite(inputs, 1, n[PLAN_I], to);
     fputc(' ', to);
-    fwrite(run->outputs, 1, n[PLAN_O], to);
+    fwrite(outputs, 1, n[PLAN_O], to);
     fputc(' ', to);
-    fwrite(run->next, 1, n[PLAN_L], to);
+    fwrite(next, 1, n[PLAN_L], to);
     fputc('\n', to);
 }
 
@@ -43,7 +44,7 @@ static struct plan_end step_all(struct plan *plan, const struct vectors *vectors
         if (end.number == 0 && wave != NULL)
             print_changes(wave, plan, run, to);
         else if (end.number == 0)
-            print_step(run, plan, to);
+            print_line(to, plan, run->state, run->inputs, run->outputs, run->next);
     }
     if (wave != NULL)
         print_wave_end(wave, plan, run, to);
@@ -87,36 +88,16 @@ int run_trace(const struct request *request, const struct source *file, struct p
     return status;
 }
 
-/* The vectors without the ends of their lines, as the question takes them. */
-static uint8_t *joined(const struct vectors *vectors, uint64_t inputs) {
-    uint8_t *bytes = malloc(vectors->source.length + 1);
-    for (uint64_t k = 0; bytes != NULL && k < vectors->number; k++)
-        memcpy(bytes + k * inputs, vector(vectors, inputs, k), inputs);
-    return bytes;
-}
-
-static int ask(const struct request *request, const struct source *file, struct plan *plan,
-               const struct vectors *vectors) {
-    uint64_t inputs = plan->counts[PLAN_I];
-    uint8_t *bytes = joined(vectors, inputs);
-    int yes, status;
-    if (bytes == NULL)
-        return no_memory();
-    status = ended(plan_witness(plan, vectors->number, bytes, (size_t)(vectors->number * inputs), &yes), file);
-    free(bytes);
-    if (status != DONE)
-        return status;
-    return write_output(request->out, (const uint8_t *)(yes ? "yes\n" : "no\n"), yes ? 4 : 3);
-}
-
 int run_witness(const struct request *request, const struct source *file, struct plan *plan) {
     struct vectors vectors;
-    int status = put_in_order(plan, file);
-    if (status == DONE)
-        status = read_vectors(request, plan->counts[PLAN_I], &vectors);
+    uint8_t *list;
+    int yes, status = read_list(request, file, plan, &vectors, &list);
     if (status != DONE)
         return status;
-    status = ask(request, file, plan, &vectors);
-    free_source(&vectors.source);
+    size_t length = (size_t)(vectors.number * plan->counts[PLAN_I]);
+    status = ended(plan_witness(plan, vectors.number, list, length, &yes), file);
+    if (status == DONE)
+        status = write_output(request->out, (const uint8_t *)(yes ? "yes\n" : "no\n"), yes ? 4 : 3);
+    free_list(&vectors, list);
     return status;
 }

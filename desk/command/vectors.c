@@ -1,5 +1,6 @@
 /* Input vectors, one to a line. The library steps vectors and knows no lines: the tracer's order of refusals stands here once
    more (docs/PAPER.md, "Programs and their output"). */
+#include <stdlib.h>
 #include <string.h>
 
 #include "command.h"
@@ -63,4 +64,31 @@ int read_vectors(const struct request *request, uint64_t inputs, struct vectors 
 
 const uint8_t *vector(const struct vectors *vectors, uint64_t inputs, uint64_t k) {
     return vectors->source.at + k * (inputs + 1);
+}
+
+/* The vectors without the ends of their lines; null without memory. */
+static uint8_t *joined(const struct vectors *vectors, uint64_t inputs) {
+    uint8_t *bytes = malloc(vectors->source.length + 1);
+    for (uint64_t k = 0; bytes != NULL && k < vectors->number; k++)
+        memcpy(bytes + k * inputs, vector(vectors, inputs, k), inputs);
+    return bytes;
+}
+
+int read_list(const struct request *request, const struct source *file, struct plan *plan, struct vectors *vectors,
+              uint8_t **list) {
+    int status = put_in_order(plan, file);
+    if (status == DONE)
+        status = read_vectors(request, plan->counts[PLAN_I], vectors);
+    if (status != DONE)
+        return status;
+    *list = joined(vectors, plan->counts[PLAN_I]);
+    if (*list != NULL)
+        return DONE;
+    free_source(&vectors->source);
+    return no_memory();
+}
+
+void free_list(struct vectors *vectors, uint8_t *list) {
+    free_source(&vectors->source);
+    free(list);
 }
