@@ -1,0 +1,2 @@
+pub mod Sixth
+pub mod Judged
