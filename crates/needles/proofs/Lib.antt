@@ -1,0 +1,4 @@
+pub mod Rows
+pub mod Counting
+pub mod Looping
+pub mod Numbers
