@@ -52,7 +52,7 @@ module _ {t : List ℕ} {from n at : ℕ} {six₀ : List ℕ} (p : CountsAll t f
     inside = omega (arith, p .rows-inside, r .here, r .as-long);
     some = p .some i h;
     coded = p .coded i h;
-    few = λ j k. omega (arith, own-word f (λ i. refl) at n six₀ (p .rows-inside) i row six h r j, p .few (4 * i + j) (omega arith));
+    few = λ j k. omega (arith, own-word f (λ i. refl) at n six₀ (p .rows-inside) i row six h r j, p .few i j h k);
   }
 
   pub counts-more : (six′ : List ℕ) → length six′ ≡ length six → six′ ≡ put six row (counted (take 4 (drop row six)) (getD t (from + i) 0))

@@ -1,7 +1,7 @@
 -- Rows of four words, one after the other: each at its own place, and a list of rows that grows by its last one.
 use Prim.Native.Nat.{ℕ, zero, suc, _+_, _*_, _≤_, _<_}
 use mathlib.Core.Path.{_≡_, refl, sym, ap, ap₂, _∙_}
-use mathlib.Core.List.{List, [], _∷_, _++_, append-assoc}
+use mathlib.Core.List.{List, [], _∷_, _++_, append-assoc, append-nil}
 use native.Mathlib.Omega.{arith}
 use native.Mathlib.Decide.{decLt}
 use lib.ListN.{length, getD, take, drop, length-append, length-drop}
@@ -14,6 +14,13 @@ use Rattle.needles.specs.Report.{inTurn}
 pub same-turn : (f g : ℕ → List ℕ) (n : ℕ) → ((i : ℕ) → i < n → f i ≡ g i) → inTurn f n ≡ inTurn g n
 same-turn f g zero e = refl
 same-turn f g (suc n) e = ap₂ _++_ (same-turn f g n (λ i h. e i (omega arith))) (e n (omega arith))
+
+-- the rows of two parts
+pub turn-add : (f : ℕ → List ℕ) (a b : ℕ) → inTurn f (a + b) ≡ inTurn f a ++ inTurn (λ i. f (a + i)) b
+turn-add f a zero = let none : a + 0 ≡ a = omega arith in ap (inTurn f) none ∙ sym (append-nil (inTurn f a))
+turn-add f a (suc b) =
+    let one : a + suc b ≡ suc (a + b) = omega arith in
+    ap (inTurn f) one ∙ (ap (λ (l : List ℕ). l ++ f (a + b)) (turn-add f a b) ∙ append-assoc (inTurn f a) (inTurn (λ i. f (a + i)) b) (f (a + b)))
 
 module _ (f : ℕ → List ℕ) (four : (i : ℕ) → length (f i) ≡ 4) where
   pub turn-length : (n : ℕ) → length (inTurn f n) ≡ 4 * n

@@ -87,11 +87,12 @@ reportedBy none e = record {
 reportedBy (some r) e = record { answer = Refused r; scratch = cleared (e .circuit .scratch); six = cleared (e .six) }
 
 -- 2, 3, 4 with table 6, 5, 6, 7, 8, 15, then 13, then 12 at 2
-abbrev pub report : ReportEntry → ReportExit
-report e =
+abbrev pub reportStages : ReportEntry → List (Option Refusal)
+reportStages e =
     let g = e .circuit in
     let n = g .counts in
-    reportedBy
-    (firstOf (sixthStages g (4 * (n .O + n .L)) (e .six)
-    ++ (longStage (e .number) ∷ listStage (record { circuit = g; number = e .number; bytes = e .bytes }) ∷ [])))
-    e
+    sixthStages g (4 * (n .O + n .L)) (e .six)
+    ++ (longStage (e .number) ∷ listStage (record { circuit = g; number = e .number; bytes = e .bytes }) ∷ [])
+
+abbrev pub report : ReportEntry → ReportExit
+report e = reportedBy (firstOf (reportStages e)) e

@@ -54,7 +54,7 @@ pub record CountsAll (t : List ℕ) (from n at : ℕ) (six : List ℕ) : Type 0 
   pub words-inside : from + n ≤ length t
   pub some : (i : ℕ) → i < n → 1 ≤ getD t (from + i) 0
   pub coded : (i : ℕ) → i < n → getD t (from + i) 0 ≤ 3
-  pub few : (j : ℕ) → j < 4 * n → getD six (at + j) 0 < 1048576
+  pub few : (i j : ℕ) → i < n → j < 4 → getD six (at + (4 * i + j)) 0 < 1048576
 
 abbrev pub countedAll : List ℕ → ℕ → ℕ → ℕ → List ℕ → List ℕ
 countedAll t from n at six = inTurn (λ i. counted (rowFrom six at i) (getD t (from + i) 0)) n

@@ -56,8 +56,7 @@ loop-less c = search needs
 loop-again : tie.Need-loop-again Inv-loop μ-loop
 loop-again c =
     let q = c .before in
-    let w = q .before .loop in
-    (
+    let w = q .before .loop in (
       omega arith,
       omega (arith, w .inv .1),
       finish-next (q .before .before .pre) (q .loop-test .taken) (w .inv .1) (w .inv .2) _ (length-set (w .six) (w .at) _) refl,
