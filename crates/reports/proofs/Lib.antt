@@ -1,0 +1,5 @@
+pub mod Sums
+pub mod Parts
+pub mod Zero
+pub mod DemandThree
+pub mod Examples

@@ -1,0 +1,66 @@
+-- The first three numbers of a needle add up to the number of vectors, and its changes are fewer.
+use Prim.Native.Nat.{ℕ, zero, suc, _+_, _-_, _*_, _≤_, _<_}
+use mathlib.Core.Path.{_≡_, refl, sym, ap, _∙_}
+use mathlib.Core.Bool.{Bool, true, false, cond}
+use mathlib.Core.List.{List, [], _∷_, map}
+use native.Mathlib.Omega.{arith}
+use lib.ListN.{length, getD, drop, length-map}
+use Rattle.plan.specs.Circuit.{Circuit, rowsOf}
+use Rattle.plan.specs.Step.{Value, v0, v1, vx, valueOf, nextOf, Step, run, first, vectorsOf}
+use Rattle.needles.specs.Report.{same, times, changesAfter, changes, numbersOf, outputAlong, latchAlong}
+
+-- a value is one of the three
+one-of : (b : Value) → cond (same b v0) 1 0 + cond (same b v1) 1 0 + cond (same b vx) 1 0 ≡ 1
+one-of v0 = refl
+one-of v1 = refl
+one-of vx = refl
+
+-- of the values of a needle
+pub all-counted : (l : List Value) → times v0 l + times v1 l + times vx l ≡ length l
+all-counted [] = refl
+all-counted (b ∷ l) = omega (arith, one-of b, all-counted l)
+
+at-most-one : (b : Bool) → cond b 0 1 ≤ 1
+at-most-one true = omega arith
+at-most-one false = omega arith
+
+changes-after : (a : Value) (l : List Value) → changesAfter a l ≤ length l
+changes-after a [] = omega arith
+changes-after a (b ∷ l) = omega (arith, at-most-one (same a b), changes-after b l)
+
+pub changes-fewer : (l : List Value) → changes l ≤ length l - 1
+changes-fewer [] = omega arith
+changes-fewer (a ∷ l) = omega (arith, changes-after a l)
+
+-- as many steps as vectors
+run-length : (c : Circuit) (s : List Value) (list : List (List Value)) → length (run c s list) ≡ length list
+run-length c s [] = refl
+run-length c s (i ∷ list) = ap suc (run-length c (nextOf c s i) list)
+
+rows-length : (k n : ℕ) (t : List ℕ) → length (rowsOf k n t) ≡ n
+rows-length k zero t = refl
+rows-length k (suc n) t = ap suc (rows-length k n (drop k t))
+
+module _ (c : Circuit) (number : ℕ) (bytes : List ℕ) where
+  abbrev pub steps : List Step
+  steps = run c (first c) (vectorsOf c number bytes)
+
+  steps-length : length steps ≡ number
+  steps-length =
+      run-length c (first c) (vectorsOf c number bytes)
+      ∙ (length-map (rowsOf (length (c .inputs)) number bytes) (map valueOf) ∙ rows-length (length (c .inputs)) number bytes)
+
+  -- the first three numbers of each output and of each latch add up to the number of vectors
+  pub output-sums : (i : ℕ) → let l = outputAlong steps i in times v0 l + times v1 l + times vx l ≡ number
+  output-sums i = all-counted (outputAlong steps i) ∙ (length-map steps (λ (s : Step). getD (s .outputs) i vx) ∙ steps-length)
+
+  pub latch-sums : (i : ℕ) → let l = latchAlong steps i in times v0 l + times v1 l + times vx l ≡ number
+  latch-sums i = all-counted (latchAlong steps i) ∙ (length-map steps (λ (s : Step). getD (s .state) i vx) ∙ steps-length)
+
+  -- and it changes at most at all steps but the first
+  pub output-changes : (i : ℕ) → changes (outputAlong steps i) ≤ number - 1
+  output-changes i =
+      omega (arith, changes-fewer (outputAlong steps i), length-map steps (λ (s : Step). getD (s .outputs) i vx) ∙ steps-length)
+
+  pub latch-changes : (i : ℕ) → changes (latchAlong steps i) ≤ number - 1
+  latch-changes i = omega (arith, changes-fewer (latchAlong steps i), length-map steps (λ (s : Step). getD (s .state) i vx) ∙ steps-length)

@@ -1,0 +1,1 @@
+// Laws of needle reports. There is no code here: see proofs/.
