@@ -30,7 +30,7 @@ use values::load;
 const MOST: usize = 65536;
 
 // Whether a table 6 of these words is too short for four for each output and each latch. A division, as the counts may be any numbers.
-fn too_few(words: usize, n: Counts) -> bool
+pub fn too_few(words: usize, n: Counts) -> bool
     ensures { λ r. ⌜ r ≡ ltb words (4 * (n .O + n .L)) ⌝ }
 {
     let rows = words / 4;
@@ -57,7 +57,8 @@ fn turn(
         → Turned n (circuitOf n (these x (now (latches .entry)) (now (outputs .entry)) (now (gates .entry)))) s (map valueOf (now (ins .entry)))
         done rest (now (scratch .exit)) (now (six .exit))) ⌝ }
 {
-    count_all(scratch, 1 + n.I, n.L, 4 * n.O, six);
+    let rows = 4 * n.O;
+    count_all(scratch, 1 + n.I, n.L, rows, six);
     load(ins, 1, scratch);
     step_values(n, latches, outputs, gates, scratch);
     count_all(scratch, n.M + 1, n.O, 0, six);
@@ -159,15 +160,24 @@ fn judge(
     match with_sixth(checked, short) {
         Checked::Refused(refusal) => Checked::Refused(refusal),
         Checked::Good => {
-            if MOST < number {
+            let broken = !whole_list(bytes, number, n.I);
+            let long = MOST < number;
+            if long {
                 return Checked::Refused(Refusal::LongInput(MOST));
             }
-            if !whole_list(bytes, number, n.I) {
+            if broken {
                 return Checked::Refused(Refusal::BadVector(2));
             }
             Checked::Good
         }
     }
+}
+
+// Table 6 is zero from the start, so that it is after a refusal, and past the numbers.
+fn blank(six: &mut [u32])
+    ensures { λ _. ⌜ now (six .exit) ≡ cleared (now (six .entry)) ⌝ }
+{
+    clear(six);
 }
 
 // The needle report: for each output, then for each latch, how many of `number` steps from the resets have it at 0, at 1, at x, and how many
@@ -201,7 +211,7 @@ pub fn report(
         })
         (record { answer = r; scratch = now (scratch .exit); six = now (six .exit) }) ⌝ }
 {
-    clear(six);
+    blank(six);
     match judge(
         n,
         inputs,

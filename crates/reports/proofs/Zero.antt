@@ -28,8 +28,11 @@ refused-zero e r = go (firstOf (reportStages e))
 pub needles-length : (c : Circuit) (steps : List Step) → length (needles c steps) ≡ 4 * (length (c .outputs) + length (c .latches))
 needles-length c steps =
     length-append (inTurn (λ i. numbersOf (outputAlong steps i)) (length (c .outputs))) (inTurn (λ i. numbersOf (latchAlong steps i)) (length (c .latches)))
-    ∙ omega (arith, turn-length (λ i. numbersOf (outputAlong steps i)) (λ i. refl) (length (c .outputs)),
-    turn-length (λ i. numbersOf (latchAlong steps i)) (λ i. refl) (length (c .latches)))
+    ∙ omega (
+      arith,
+      turn-length (λ i. numbersOf (outputAlong steps i)) (λ i. refl) (length (c .outputs)),
+      turn-length (λ i. numbersOf (latchAlong steps i)) (λ i. refl) (length (c .latches)),
+    )
 
 -- past words that fill a table it is zero
 past : (words : List ℕ) (n k : ℕ) → length words ≤ k → getD (words ++ replicate n 0) k 0 ≡ 0

@@ -2,7 +2,7 @@ use Prim.Native.Nat.{ℕ, _+_, _*_}
 use mathlib.Core.Path.{_≡_, sym, ap, _∙_}
 use mathlib.Core.List.{List}
 use borrow.Author.Needs.{needs}
-use borrow.Author.Tests.{not-true, not-false}
+use borrow.Author.Tests.{not-true, not-false, ltb-true, ltb-false}
 use lib.Dec.{ltb}
 use lib.ListN.{length}
 use Rattle.plan.specs.Circuit.{seven, cleared}
@@ -59,26 +59,28 @@ enum-known-refusal c = search needs
 enum-told : tie.Need-enum-told
 enum-told c = search needs
 
+whole-list-requires : tie.Need-whole-list-requires
+whole-list-requires c κs = search needs
+
 same-length : tie.Need-same-length
 same-length c = search needs
 
 returns : tie.Need-returns
 returns c =
-    let w = c .before .before .before in
-    (λ six q. refused-long (entry (start w) six) (told w six) (few w six q) (w .with-sixth .ensures) (c .before .enum-told .given .1) (c .if1 .taken), blank w)
-
-whole-list-requires : tie.Need-whole-list-requires
-whole-list-requires c κs = search needs
+    let w = c .before .before .before .before in
+    let long = ltb-true _ _ (c .if1 .taken) in
+    (λ six q. refused-long (entry (start w) six) (told w six) (few w six q) (w .with-sixth .ensures) (c .before .before .enum-told .given .1) long, blank w)
 
 same-length-2 : tie.Need-same-length-2
 same-length-2 c = search needs
 
 returns-2 : tie.Need-returns-2
 returns-2 c =
-    let w = c .before .before .before .before .before in (
+    let w = c .before .before .before .before .before in
+    let few′ = ltb-false _ _ (c .before .if1 .left) in (
       λ six q.
-          refused-list (entry (start w) six) (told w six) (few w six q) (w .with-sixth .ensures) (c .before .before .before .enum-told .given .1) (c .before .before .if1 .left)
-          (sym (c .before .whole-list .ensures) ∙ not-true _ (c .if2 .taken)),
+          refused-list (entry (start w) six) (told w six) (few w six q) (w .with-sixth .ensures) (c .before .before .before .enum-told .given .1) few′
+          (sym (c .before .before .whole-list .ensures) ∙ not-true _ (c .if2 .taken)),
       blank w,
     )
 
@@ -95,10 +97,11 @@ same-length-4 c = search needs
 
 returns-4 : tie.Need-returns-4
 returns-4 c =
-    let w = c .before .before .before .before .before in (
+    let w = c .before .before .before .before .before in
+    let few′ = ltb-false _ _ (c .before .if1 .left) in (
       λ six q.
-          nothing-found (entry (start w) six) (told w six) (few w six q) (w .with-sixth .ensures) (c .before .before .before .enum-told .given .1) (c .before .before .if1 .left)
-          (sym (c .before .whole-list .ensures) ∙ not-false _ (c .if2 .left)),
+          nothing-found (entry (start w) six) (told w six) (few w six q) (w .with-sixth .ensures) (c .before .before .before .enum-told .given .1) few′
+          (sym (c .before .before .whole-list .ensures) ∙ not-false _ (c .if2 .left)),
       blank w,
     )
 
@@ -111,9 +114,9 @@ judge-spec =
     with-sixth-requires
     enum-known-refusal
     enum-told
+    whole-list-requires
     same-length
     returns
-    whole-list-requires
     same-length-2
     returns-2
     same-length-3

@@ -45,8 +45,8 @@ told : (j : tie.After-judge) → j .judge .result ≡ checkedBy (firstOf (report
 told j = j .judge .ensures .0 (start j .args .six .now) (j .before .before .before .six .given)
 
 -- table 6 is zero
-blank : (j : tie.After-judge) → j .before .before .before .before .clear .last .0 ≡ cleared (start j .args .six .now)
-blank j = j .before .before .before .before .clear .ensures
+blank : (j : tie.After-judge) → j .before .before .before .before .blank .last .0 ≡ cleared (start j .args .six .now)
+blank j = j .before .before .before .before .blank .ensures
 
 -- nothing is refused
 abbrev judged : tie.After-enum-told → tie.After-judge
@@ -62,14 +62,14 @@ holds d = let e = entry (start (judged d)) in runs (e .circuit) none (tables-goo
 abbrev rest : tie.Start → List ℕ
 rest s = let n = s .args .n in replicate (length (s .args .six .now) - 4 * (n .O + n .L)) 0
 
-held : (d : tie.After-enum-told) → let j = judged d in j .before .before .before .before .clear .last .0 ≡ tally (start j .args .n) [] ++ rest (start j)
+held : (d : tie.After-enum-told) → let j = judged d in j .before .before .before .before .blank .last .0 ≡ tally (start j .args .n) [] ++ rest (start j)
 held d =
     let j = judged d in
     let s = start j in
     blank j ∙ blank-tally (s .args .n) (s .args .six .now) (six-long (entry s) (found d))
 
-clear-requires : tie.Need-clear-requires
-clear-requires c κs = search needs
+blank-requires : tie.Need-blank-requires
+blank-requires c κs = search needs
 
 judge-requires : tie.Need-judge-requires
 judge-requires c κs = search needs
@@ -99,8 +99,8 @@ fill-requires c κs =
       held = held d;
     }
 
-clear-requires-2 : tie.Need-clear-requires-2
-clear-requires-2 c κs = search needs
+clear-requires : tie.Need-clear-requires
+clear-requires c κs = search needs
 
 same-length : tie.Need-same-length
 same-length c = search needs
@@ -133,7 +133,7 @@ returns-2 c =
     let t = e .circuit .tables in
     let circuit = given (e .circuit) in
     let r = holds d in
-    let scratch = c .before .before .clear2 .ensures ∙ ap (λ (k : ℕ). replicate k 0) (c .before .before .before .before .before .before .before .scratch2 .given ∙ c .before .before .before .before .before .before .before .before .before .before .before .before .before .before .scratch .given) in
+    let scratch = c .before .before .clear .ensures ∙ ap (λ (k : ℕ). replicate k 0) (c .before .before .before .before .before .before .before .scratch2 .given ∙ c .before .before .before .before .before .before .before .before .before .before .before .before .before .before .scratch .given) in
     let six =
     c .before .before .before .before .before .before .before .before .fill .ensures (t .inputs) (t .bads) (t .constraints) (rest s) r (held d)
     ∙ filled-report n circuit (run circuit (first circuit) (vectorsOf circuit (e .number) (e .bytes))) (rest s) (ap (λ (m : Counts). m .O) (r .counts))
@@ -144,12 +144,12 @@ pub report-spec : {M : Type 1} → statement M
 report-spec =
     tie.close
     (tie.spec
-    clear-requires
+    blank-requires
     judge-requires
     enum-known-refusal
     enum-told
     fill-requires
-    clear-requires-2
+    clear-requires
     same-length
     same-length-2
     returns

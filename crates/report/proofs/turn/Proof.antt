@@ -43,11 +43,11 @@ after b x v r l z =
     b .before .step-values .ensures x v (ins s) r
     (stands r (ins s) (s .pre .scratch-long) l z (length-map (s .args .ins .now) valueOf ∙ s .pre .vector) (loaded b .before .load .ensures))
 
+mul-rows : tie.Need-mul-rows
+mul-rows c = search needs
+
 add-count-all : tie.Need-add-count-all
 add-count-all c = search needs
-
-mul-count-all : tie.Need-mul-count-all
-mul-count-all c = search needs
 
 count-all-requires : tie.Need-count-all-requires
 count-all-requires c κs =
@@ -107,8 +107,8 @@ pub turn-spec : {M : Type 1} → statement M
 turn-spec =
     tie.close
     (tie.spec
+    mul-rows
     add-count-all
-    mul-count-all
     count-all-requires
     load-requires
     step-values-requires
