@@ -1,0 +1,4 @@
+pub mod Packed
+pub mod Lines
+pub mod Examples
+pub mod Together

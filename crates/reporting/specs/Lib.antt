@@ -1,0 +1,2 @@
+pub mod Reporter
+pub mod Packing

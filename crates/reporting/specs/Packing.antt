@@ -1,0 +1,9 @@
+-- Lines without their ends, one after the other.
+use Prim.Native.Nat.{ℕ}
+use mathlib.Core.Bool.{cond}
+use mathlib.Core.List.{List, [], _∷_}
+use lib.Dec.{eqb}
+
+abbrev pub packed : List ℕ → List ℕ
+packed [] = []
+packed (b ∷ l) = cond (eqb b 10) (packed l) (b ∷ packed l)
