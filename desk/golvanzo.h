@@ -83,6 +83,14 @@ void golvanzo_step(const uint64_t *counts /* 7 words */, GOLVANZO_GIVEN, GOLVANZ
 void golvanzo_witness(const uint64_t *counts /* 7 words */, GOLVANZO_GIVEN, GOLVANZO_SCRATCH, uint64_t number,
                       const uint8_t *bytes, size_t bytes_len, uint64_t *answer /* 3 words */);
 
+/* The needle report of `number` input vectors (I bytes each), stepped from the resets: for each output, then for each
+   latch by its state at the start of each step, the steps at 0, at 1, at x, and those whose value differs from the
+   step before, in `report`, table 6, of 4 x (O + L) words at least; zero past them, and after a refusal. At most
+   65,536 vectors. `answer` is number (0: reported) and place. Tables are in binary order. */
+void golvanzo_report(const uint64_t *counts /* 7 words */, GOLVANZO_GIVEN, GOLVANZO_SCRATCH, uint64_t number,
+                     const uint8_t *bytes, size_t bytes_len, uint32_t *report, size_t n6,
+                     uint64_t *answer /* 2 words */);
+
 #ifdef __cplusplus
 }
 #endif

@@ -295,6 +295,26 @@ static void witnesses(void) {
     counted();
 }
 
+/* The toggle circuit over the four vectors of the paper, worked by hand from its trace (outputs 01, 10, 01, xx; states 0, 1, 0, x). */
+static void reports(void) {
+    static const uint32_t by_hand[12] = {2, 1, 1, 3, 1, 2, 1, 3, 2, 1, 1, 3};
+    struct circuit c = read_file(FILE_OF("aig 7 2 1 2 4\n14\n6\n7\n\x02\x04\x03\x04\x01\x02\x02\x08"));
+    struct bytes list = FILE_OF("1111x110");
+    uint32_t six[16];
+    uint64_t answer[2];
+    memset(six, 0xff, sizeof six);
+    golvanzo_report(COUNTS(c), SEVEN(c), TABLE(c, SCRATCH), 4, list.at, list.length, six, 16, answer);
+    expect(answer[0] == 0 && memcmp(six, by_hand, sizeof by_hand) == 0, "the toggle circuit, by hand", "report");
+    expect(all_zero(six + 12, 4), "zero past the numbers", "report");
+    memset(six, 0xff, sizeof six);
+    golvanzo_report(COUNTS(c), SEVEN(c), TABLE(c, SCRATCH), 4, list.at, list.length, six, 11, answer);
+    expect(answer[0] == 4 && answer[1] == 6 && all_zero(six, 11), "table 6 of 11 words is too short, and zero", "report");
+    golvanzo_report(COUNTS(c), SEVEN(c), TABLE(c, SCRATCH), 65537, list.at, list.length, six, 16, answer);
+    expect(answer[0] == 13 && answer[1] == 65536, "13 comes before 12", "report");
+    golvanzo_report(COUNTS(c), SEVEN(c), TABLE(c, SCRATCH), 3, list.at, list.length, six, 16, answer);
+    expect(answer[0] == 12 && answer[1] == 2, "eight bytes are no three vectors of two", "report");
+}
+
 static void refused(struct bytes file, uint64_t number, uint64_t place, const char *what) {
     struct circuit c = read_alone(file);
     expect(c.answer[0] == number && c.answer[1] == place, what, "read");
@@ -384,6 +404,7 @@ int main(void) {
     unused_gates();
     trace();
     witnesses();
+    reports();
     refusals();
     table_refusals();
     little_scratch();

@@ -6,6 +6,7 @@ ghost use Rattle.plan.specs.Header.{wordsFor, countsFrom};
 ghost use Rattle.plan.specs.Outcome.{Says, read, read2007};
 ghost use Rattle.given.specs.Judged.{givenAt};
 ghost use Rattle.desk.specs.Told.{check, writeText, writeBinary, conversion, reduction, dropping, step, witness};
+ghost use Rattle.desk.specs.Reported.{report};
 use plan::Version;
 
 // How many words table 1 to 5 or 7 to 9 needs for the file's header, or 2^64 - 1.
@@ -496,4 +497,51 @@ pub extern "C" fn golvanzo_witness(
         bytes,
     );
     told::verdict(r, answer);
+}
+
+// The needle report of a list of vectors: number (0: reported) and place; the numbers go to table 6.
+#[no_mangle]
+pub extern "C" fn golvanzo_report(
+    counts: &[u64; 7],
+    inputs: &[u32],
+    latches: &[u32],
+    outputs: &[u32],
+    gates: &[u32],
+    resets: &[u32],
+    bads: &[u32],
+    constraints: &[u32],
+    scratch: &mut [u32],
+    number: u64,
+    bytes: &[u8],
+    six: &mut [u32],
+    answer: &mut [u64; 2],
+)
+    ensures { λ _. ⌜ Says report
+        (record {
+          circuit = givenAt (countsFrom (now (counts .entry)))
+              (seven (now (inputs .entry)) (now (latches .entry)) (now (outputs .entry)) (now (gates .entry)) (now (resets .entry)) (now (bads .entry))
+              (now (constraints .entry)))
+              (now (scratch .entry));
+          number = number;
+          bytes = now (bytes .entry);
+          six = now (six .entry);
+        })
+        (record { answer = now (answer .exit); scratch = now (scratch .exit); six = now (six .exit) }) ⌝ }
+{
+    let n = told::counts(counts);
+    let r = report::report(
+        n,
+        inputs,
+        latches,
+        outputs,
+        gates,
+        resets,
+        bads,
+        constraints,
+        scratch,
+        number as usize,
+        bytes,
+        six,
+    );
+    told::stepped(r, answer);
 }
