@@ -15,6 +15,7 @@
    9 witness    given, u64 number, list, answer                           all of these but the number
    10 read2007  as read                                                   as read
    11 drop      as reduce                                                 as reduce
+   12 report    given, table 6, u64 number, list, answer                  all of these but the number
 
    Given are counts, a circuit's tables (1 to 4, 7 to 9) and scratch. What these are is said in wire.h. */
 #include <stdint.h>
@@ -106,6 +107,18 @@ static void call_witness(void) {
     put_memory(answer);
 }
 
+static void call_report(void) {
+    struct given given = get_given();
+    struct memory report = get_table();
+    uint64_t number = get_number();
+    struct memory list = get_vector(), answer = get_numbers();
+    golvanzo_report(CIRCUIT_OF(given), LENT(given.scratch), number, LENT(list), LENT(report), answer.lent);
+    put_given(given);
+    put_memory(report);
+    put_memory(list);
+    put_memory(answer);
+}
+
 int main(void) {
     uint32_t call;
     while (fread(&call, sizeof call, 1, stdin) == 1) {
@@ -144,6 +157,9 @@ int main(void) {
             break;
         case 11:
             call_change(golvanzo_drop);
+            break;
+        case 12:
+            call_report();
             break;
         default:
             give_up("no such call");

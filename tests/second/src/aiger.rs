@@ -7,6 +7,7 @@ pub mod meaning;
 pub mod programs;
 pub mod read;
 pub mod reduce;
+pub mod report;
 pub mod step;
 pub mod tables;
 pub mod tail;

@@ -1,6 +1,5 @@
 //! Every byte as a value of a state, an input and a list, and where a line of a file may go on or end.
 
-use crate::aiger::tables::Given;
 use crate::aiger::{read, Circuit, Version};
 use crate::compare::compare as compare_file;
 use crate::compare::tables::compare;
@@ -26,7 +25,7 @@ fn circuit() -> Circuit {
 }
 
 fn lent(call: Call, bytes: &[&[u8]]) -> Lent {
-    let mut lent = given::lend(call, &Given::exactly(&circuit()), JUNK);
+    let mut lent = given::lend(call, &given::exactly(call, &circuit()), JUNK);
     lent.bytes = bytes.iter().map(|vector| Memory::around(vector, JUNK)).collect();
     lent
 }
@@ -42,9 +41,11 @@ fn values(library: &dyn Library, byte: u8) -> Result<(), String> {
     for other in *b"01x" {
         compare(library, Call::Step, &lent(Call::Step, &[&[byte], &[other], b"?"]))?;
         compare(library, Call::Step, &lent(Call::Step, &[&[other], &[byte], b"?"]))?;
-        let mut question = lent(Call::Witness, &[&[b'1', other, byte]]);
-        question.number = Some(3);
-        compare(library, Call::Witness, &question)?;
+        for call in [Call::Witness, Call::Report] {
+            let mut question = lent(call, &[&[b'1', other, byte]]);
+            question.number = Some(3);
+            compare(library, call, &question)?;
+        }
     }
     Ok(())
 }

@@ -167,7 +167,7 @@ fn check(example: &Example, library: Option<&dyn Library>) -> Result<(), String>
     }
 }
 
-/// What stands beside an accepted file: what it converts to, reduces to, and its trace.
+/// What stands beside an accepted file: what it converts to, reduces to, its trace and its report.
 fn beside(example: &Example, circuit: &Circuit, tail: &[u8], library: Option<&dyn Library>) -> Result<(), String> {
     let beside = |end: &str| fs::read(example.path.with_extension(end)).ok();
     let converted = convert::convert(circuit).circuit;
@@ -187,6 +187,10 @@ fn beside(example: &Example, circuit: &Circuit, tail: &[u8], library: Option<&dy
             let given = programs::trace(circuit, &list);
             ensure!(given == trace, "trace: given {:?}", String::from_utf8_lossy(&given));
         }
+    }
+    if let Some(report) = beside("report") {
+        let given = programs::needles(&converted, &list);
+        ensure!(given == report, "report: given {:?}", String::from_utf8_lossy(&given));
     }
     // What stands beside the file has been compared, so the library is held to that as well.
     let mut circuits = [circuit, &converted, &reduced].into_iter();

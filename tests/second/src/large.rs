@@ -1,7 +1,7 @@
 //! A long chain of gates, last gate first: quick only if no step looks at all gates again.
 
 use crate::aiger::convert::convert;
-use crate::aiger::tables::Given;
+use crate::aiger::report::MOST_STEPS;
 use crate::aiger::{literal, meaning, read, step, write, Circuit, Form, Version};
 use crate::compare::{compare, tables};
 use crate::ensure;
@@ -80,12 +80,31 @@ fn compared(library: &dyn Library, a: usize) -> Result<(), String> {
     called(library, Call::Reduce, &chain(FEWER), &[])?;
     called(library, Call::Drop, &chain(a), &[])?;
     called(library, Call::Drop, &headless(a), &[])?;
-    called(library, Call::Convert, &upside_down(FEWER), &[])
+    called(library, Call::Convert, &upside_down(FEWER), &[])?;
+    [MOST_STEPS, MOST_STEPS + 1]
+        .into_iter()
+        .try_for_each(|number| reported(library, number))
+}
+
+/// A report of so many vectors, which are all there.
+fn reported(library: &dyn Library, number: u64) -> Result<(), String> {
+    let circuit = Circuit {
+        latches: vec![[4, 6]],
+        resets: vec![4],
+        m: 3,
+        gates: vec![[6, 5, 2]],
+        ..chain(2)
+    };
+    let list: Vec<u8> = (0..number).map(|k| b"01x"[(k * k % 7 % 3) as usize]).collect();
+    let mut lent = given::lend(Call::Report, &given::exactly(Call::Report, &circuit), JUNK);
+    lent.number = Some(number);
+    lent.bytes = vec![Memory::around(&list, JUNK)];
+    tables::compare(library, Call::Report, &lent)
 }
 
 /// A call on exactly the circuit's tables, with byte buffers of these lengths.
 fn called(library: &dyn Library, call: Call, circuit: &Circuit, lengths: &[u64]) -> Result<(), String> {
-    let mut lent = given::lend(call, &Given::exactly(circuit), JUNK);
+    let mut lent = given::lend(call, &given::exactly(call, circuit), JUNK);
     lent.bytes = lengths.iter().map(|&length| Memory::junk(length, JUNK)).collect();
     tables::compare(library, call, &lent)
 }

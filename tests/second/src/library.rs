@@ -1,6 +1,6 @@
 //! What is compared, seen from the caller's side.
 
-use crate::aiger::Version;
+use crate::aiger::{Counts, Version};
 use crate::memory::Memory;
 
 /// What a read answers beside the tables.
@@ -48,10 +48,11 @@ pub enum Call {
     Step,
     Witness,
     Drop,
+    Report,
 }
 
 impl Call {
-    pub const ALL: [Call; 8] = [
+    pub const ALL: [Call; 9] = [
         Call::Check,
         Call::WriteText,
         Call::WriteBinary,
@@ -60,6 +61,7 @@ impl Call {
         Call::Step,
         Call::Witness,
         Call::Drop,
+        Call::Report,
     ];
 
     pub fn named(name: &str) -> Option<Call> {
@@ -76,6 +78,7 @@ impl Call {
             Call::Step => "step",
             Call::Witness => "witness",
             Call::Drop => "drop",
+            Call::Report => "report",
         }
     }
 
@@ -85,6 +88,7 @@ impl Call {
             Call::Check | Call::Convert => &[2, 3, 4, 5, 6, 7, 8],
             Call::Reduce | Call::Drop => &[2, 3, 4, 5, 6, 7, 8, 15],
             Call::Step | Call::Witness => &[2, 3, 4, 5, 6, 7, 8, 12, 15],
+            Call::Report => &[2, 3, 4, 5, 6, 7, 8, 12, 13, 15],
             Call::WriteText => &[1, 2, 3, 4, 5, 6, 7, 8, 10, 11],
             Call::WriteBinary => &[1, 2, 3, 4, 5, 6, 7, 8, 10, 11, 15],
         }
@@ -98,7 +102,7 @@ impl Call {
     /// The length of its answer: number, place, values.
     pub fn answers(self) -> u64 {
         match self {
-            Call::Check | Call::Step => 2,
+            Call::Check | Call::Step | Call::Report => 2,
             Call::WriteText | Call::WriteBinary | Call::Witness => 3,
             Call::Convert | Call::Reduce | Call::Drop => 9,
         }
@@ -113,6 +117,14 @@ impl Call {
     pub fn writes_tables(self) -> bool {
         matches!(self, Call::Convert | Call::Reduce | Call::Drop)
     }
+
+    /// The words that it needs of table 6, if it is lent that table.
+    pub fn sixth(self) -> Option<fn(&Counts) -> u64> {
+        match self {
+            Call::Report => Some(|counts| 4 * (counts.o + counts.l)),
+            _ => None,
+        }
+    }
 }
 
 /// What such a call is lent.
@@ -122,11 +134,12 @@ pub struct Lent {
     /// All but scratch.
     pub tables: [Memory<u32>; 7],
     pub scratch: Memory<u32>,
-    /// The same tables again, of conversion, reduction and dropping.
+    /// The same tables again, of conversion, reduction and dropping; of a report table 6.
     pub written: Vec<Memory<u32>>,
-    /// How many vectors, of the witness question.
+    /// How many vectors, of the witness question and of a report.
     pub number: Option<u64>,
-    /// Of a writer the tail and the buffer; of the stepper state, inputs, outputs; of the witness question the list.
+    /// Of a writer the tail and the buffer; of the stepper state, inputs, outputs; of the witness question and of a
+    /// report the list.
     pub bytes: Vec<Memory<u8>>,
     pub answer: Memory<u64>,
 }

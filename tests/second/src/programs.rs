@@ -1,6 +1,6 @@
 //! The programs, each run in a folder with what is made for it, and every byte that they write compared.
 
-use crate::aiger::programs::{answer, opened, output, Program};
+use crate::aiger::programs::{answer, opened, output};
 use crate::coverage::programs::RunCoverage;
 use crate::ensure;
 use crate::generate::runs::{self, Input, Plan, Run};
@@ -14,9 +14,6 @@ use std::thread;
 
 /// What starts a program, and last the folder that has them, with spaces between.
 const COMMAND: &str = "GOLVANZO_PROGRAMS";
-
-/// There is one run for so many cases.
-const SHARE: u64 = 24;
 
 /// A pipe is fed in pieces of so many bytes.
 const PIECE: usize = 1500;
@@ -41,7 +38,7 @@ pub fn programs() -> Result<Option<Programs>, String> {
 
 pub fn run(tally: &mut Tally, options: &Options, programs: Option<&Programs>) {
     let mut coverage = RunCoverage::default();
-    for number in 0..options.cases / SHARE {
+    for number in runs::numbers(options.cases) {
         let run = runs::run(options.seed, number);
         coverage.add(&run);
         finish(tally, options, programs, number, &run);
@@ -122,7 +119,7 @@ impl Programs {
             "said {:?}",
             String::from_utf8_lossy(&output.stderr)
         );
-        let may_read = run.program == Program::Tracer && opened(run.plan.bytes()).is_ok();
+        let may_read = run.program.reads_vectors() && opened(run.program, run.plan.bytes()).is_ok();
         ensure!(
             may_read || read.is_none_or(|read| read == 0),
             "read {read:?} bytes of standard input though nothing is asked of it"

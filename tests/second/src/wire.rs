@@ -32,6 +32,7 @@ fn number(call: Call) -> u32 {
         Call::Step => 8,
         Call::Witness => 9,
         Call::Drop => 11,
+        Call::Report => 12,
     }
 }
 

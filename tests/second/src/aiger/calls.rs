@@ -1,6 +1,7 @@
 //! The calls that are given tables, each with all of its refusals in the paper's order: 2 to 8, 15, the tail
-//! by 1 and 10, 12, 11.
+//! by 1 and 10, 13, 12, 11.
 
+use super::report::{self, Numbers, MOST_STEPS};
 use super::step::{self, Step};
 use super::tables::{self, binary_order, Given};
 use super::{convert, reduce, refuse, tail, unused, write, Circuit, Form, Refusal, Version};
@@ -48,16 +49,28 @@ pub fn step(given: &Given, state: &[u8], input: &[u8], output: u64) -> Result<St
     Ok(step::step(&circuit, state, input))
 }
 
-/// The list is judged as a whole before the first step. Its length is compared as a true product.
 pub fn witness(given: &Given, number: u64, list: &[u8]) -> Result<bool, Refusal> {
     let circuit = in_order(given)?;
-    let length = u128::from(number) * u128::from(given.counts.i);
-    if list.len() as u128 != length || !are_values(list) {
+    let vectors = vectors(&circuit, number, list)?;
+    Ok(step::witness(&circuit, vectors.into_iter()))
+}
+
+pub fn report(given: &Given, number: u64, list: &[u8]) -> Result<Vec<Numbers>, Refusal> {
+    let circuit = in_order(given)?;
+    if number > MOST_STEPS {
+        return refuse(13, MOST_STEPS as usize);
+    }
+    let vectors = vectors(&circuit, number, list)?;
+    Ok(report::report(&circuit, vectors.into_iter()))
+}
+
+/// The vectors of a list, which is judged as a whole before the first step. Its length is compared as a true product.
+fn vectors<'a>(circuit: &Circuit, number: u64, list: &'a [u8]) -> Result<Vec<&'a [u8]>, Refusal> {
+    let i = circuit.inputs.len();
+    if list.len() as u128 != u128::from(number) * i as u128 || !are_values(list) {
         return refuse(12, 2);
     }
-    let i = circuit.inputs.len();
-    let vectors = (0..number as usize).map(|k| &list[k * i..(k + 1) * i]);
-    Ok(step::witness(&circuit, vectors))
+    Ok((0..number as usize).map(|k| &list[k * i..(k + 1) * i]).collect())
 }
 
 fn in_order(given: &Given) -> Result<Circuit, Refusal> {

@@ -1,37 +1,57 @@
 //! The programs: from `plan.in` and standard input to every byte that they write.
 
 use super::calls::are_values;
-use super::{convert, read, reduce, refuse, step, tables, write, Circuit, Form, Lengths, Refusal, Version};
+use super::{convert, read, reduce, refuse, report, step, tables, write, Circuit, Form, Lengths, Refusal, Version};
 
-#[derive(Clone, Copy, Debug, PartialEq, Eq)]
+#[derive(Clone, Copy, Debug, PartialEq, Eq, PartialOrd)]
 pub enum Program {
     Converter,
     Reducer,
     Tracer,
+    Reporter,
 }
 
 impl Program {
-    pub const ALL: [Program; 3] = [Program::Converter, Program::Reducer, Program::Tracer];
+    pub const ALL: [Program; 4] = [Program::Converter, Program::Reducer, Program::Tracer, Program::Reporter];
 
     pub fn name(self) -> &'static str {
         match self {
             Program::Converter => "converter",
             Program::Reducer => "reducer",
             Program::Tracer => "tracer",
+            Program::Reporter => "reporter",
         }
     }
 
-    /// The refusals that it can give. The tracer writes line by line, so no buffer is too short for it.
+    /// Whether it came after the base.
+    pub fn is_new(self) -> bool {
+        self > Program::Tracer
+    }
+
+    /// Of those that it can give, the ones for what a file of AIGER says.
+    pub fn refusals_of_files(self) -> &'static [u64] {
+        &[1, 2, 3, 5, 6, 7, 8, 9, 10, 16, 21]
+    }
+
+    /// Whether it reads vectors from standard input.
+    pub fn reads_vectors(self) -> bool {
+        matches!(self, Program::Tracer | Program::Reporter)
+    }
+
+    /// The refusals that it can give. The tracer and the reporter write line by line, so no buffer is too short for them.
     pub fn refusals(self) -> &'static [u64] {
         match self {
             Program::Converter | Program::Reducer => &[1, 2, 3, 4, 5, 6, 7, 8, 9, 10, 11, 13, 14, 16, 21],
-            Program::Tracer => &[1, 2, 3, 4, 5, 6, 7, 8, 9, 10, 12, 13, 14, 16, 21],
+            Program::Tracer | Program::Reporter => &[1, 2, 3, 4, 5, 6, 7, 8, 9, 10, 12, 13, 14, 16, 21],
         }
     }
 }
 
 /// The words that each program lends for the tables.
 pub const LENT: Lengths = [4096, 4096, 4096, 4096, 16_384, 4096, 4096, 4096];
+
+/// The words that the reporter lends for table 6.
+pub const SIXTH: u64 = 16_384;
 
 /// The longest input, and the bytes lent for a written file.
 pub const LONGEST: usize = 65_536;
@@ -43,7 +63,8 @@ pub fn output(program: Program, plan: Option<&[u8]>, input: Option<&[u8]>) -> Ve
 
 /// Everything is asked of `plan.in` before standard input is looked at.
 pub fn answer(program: Program, plan: Option<&[u8]>, input: Option<&[u8]>) -> Result<Vec<u8>, Refusal> {
-    let (file, circuit, tail) = opened(plan)?;
+    let (file, circuit, tail) = opened(program, plan)?;
+    let vectors = || vectors(bytes(input)?, circuit.inputs.len());
     let converted = || convert::convert(&circuit).circuit;
     let written = |circuit: &Circuit, form| write::fits(write::file(circuit, form, tail), LONGEST as u64);
     match program {
@@ -52,15 +73,20 @@ pub fn answer(program: Program, plan: Option<&[u8]>, input: Option<&[u8]>) -> Re
             Form::Binary => written(&circuit, Form::Text),
         },
         Program::Reducer => written(&reduce::reduce(&converted()), Form::Binary),
-        Program::Tracer => Ok(trace(&converted(), &vectors(bytes(input)?, circuit.inputs.len())?)),
+        Program::Tracer => Ok(trace(&converted(), &vectors()?)),
+        Program::Reporter => Ok(needles(&converted(), &vectors()?)),
     }
 }
 
 /// `plan.in`: the file, its circuit and its tail. Every program goes on to a call that may need more of table 5 than the reader.
-pub fn opened(plan: Option<&[u8]>) -> Result<(&[u8], Circuit, &[u8]), Refusal> {
+pub fn opened(program: Program, plan: Option<&[u8]>) -> Result<(&[u8], Circuit, &[u8]), Refusal> {
     let file = bytes(plan)?;
     let (circuit, tail) = read::read(file, &LENT, Version::V19)?;
-    tables::lengths(&circuit.counts().words(), &LENT)?;
+    let counts = circuit.counts();
+    tables::lengths(&counts.words(), &LENT)?;
+    if program == Program::Reporter && 4 * (counts.o + counts.l) > SIXTH {
+        return refuse(4, 6);
+    }
     Ok((file, circuit, &file[tail..]))
 }
 
@@ -99,4 +125,9 @@ pub fn trace(circuit: &Circuit, list: &[&[u8]]) -> Vec<u8> {
         .zip(list)
         .map(|((state, step), &input)| [&state, input, &step.output, &step.next].join(&b' '));
     lines.flat_map(|line| [line, vec![b'\n']].concat()).collect()
+}
+
+/// The report of the list, a line for each output and each latch.
+pub fn needles(circuit: &Circuit, list: &[&[u8]]) -> Vec<u8> {
+    report::lines(circuit, &report::report(circuit, list.iter().copied()))
 }

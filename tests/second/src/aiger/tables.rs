@@ -14,6 +14,21 @@ pub struct Given {
     pub scratch: u64,
     /// The lengths of the tables lent for writing, if the call writes tables.
     pub written: Option<[u64; 7]>,
+    /// Table 6, if the call is lent it.
+    pub sixth: Option<Sixth>,
+}
+
+/// Table 6: the words that a call needs of it for these counts, and its length.
+#[derive(Clone, Copy, Debug)]
+pub struct Sixth {
+    pub needed: fn(&Counts) -> u64,
+    pub length: u64,
+}
+
+impl Sixth {
+    pub fn is_short(&self, counts: &Counts) -> bool {
+        self.length < (self.needed)(counts)
+    }
 }
 
 impl Given {
@@ -25,14 +40,25 @@ impl Given {
             tables: circuit.tables(),
             scratch,
             written: Some(written),
+            sixth: None,
         }
     }
 }
 
 /// 4: the least table shorter than needed.
 pub fn lengths(needed: &Lengths, lent: &Lengths) -> Result<(), Refusal> {
-    match (0..TABLES.len()).find(|&k| lent[k] < needed[k]) {
-        Some(short) => refuse(4, TABLES[short] as usize),
+    least(&short(needed, lent))
+}
+
+fn short(needed: &Lengths, lent: &Lengths) -> Vec<u64> {
+    let tables = TABLES.into_iter().zip(needed.iter().zip(lent));
+    let short = tables.filter(|(_, (needed, lent))| lent < needed);
+    short.map(|(table, _)| table).collect()
+}
+
+fn least(short: &[u64]) -> Result<(), Refusal> {
+    match short.iter().min() {
+        Some(&table) => refuse(4, table as usize),
         None => Ok(()),
     }
 }
@@ -55,7 +81,10 @@ pub fn check(given: &Given) -> Result<Circuit, Refusal> {
             *lent = written.min(*lent);
         }
     }
-    lengths(&given.counts.words(), &with_scratch(lent, given.scratch))?;
+    let mut short = short(&given.counts.words(), &with_scratch(lent, given.scratch));
+    let sixth = given.sixth.filter(|sixth| sixth.is_short(&given.counts));
+    short.extend(sixth.map(|_| 6));
+    least(&short)?;
     let circuit = circuit(given);
     ranges(&circuit)?;
     definitions(&circuit)?;

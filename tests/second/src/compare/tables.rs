@@ -1,6 +1,6 @@
 //! Holds a library to this program's outcome of a call on tables: the answer, and every element of all that was lent.
 
-use crate::aiger::tables::{self, Given};
+use crate::aiger::tables::{self, Given, Sixth};
 use crate::aiger::{calls, Circuit, Counts, Refusal, CIRCUIT};
 use crate::library::{Call, Lent, Library, Question, Reply};
 use crate::memory::{Element, Memory};
@@ -25,7 +25,8 @@ pub fn judge(library: &dyn Library, expected: &Lent) -> Result<(), String> {
     for (number, (expected, given)) in CIRCUIT.iter().zip(expected.tables.iter().zip(&given.tables)) {
         same(&format!("table {number}"), expected, given)?;
     }
-    for (number, (expected, given)) in CIRCUIT.iter().zip(expected.written.iter().zip(&given.written)) {
+    let numbers: &[u64] = if expected.written.len() == 1 { &[6] } else { &CIRCUIT };
+    for (number, (expected, given)) in numbers.iter().zip(expected.written.iter().zip(&given.written)) {
         same(&format!("written table {number}"), expected, given)?;
     }
     for (k, (expected, given)) in expected.bytes.iter().zip(&given.bytes).enumerate() {
@@ -56,7 +57,11 @@ fn same<T: Element>(name: &str, expected: &Memory<T>, given: &Memory<T>) -> Resu
 pub fn after(call: Call, before: &Lent) -> Lent {
     let mut after = before.clone();
     after.scratch.lent_mut().fill(0);
-    let given = given(before);
+    let mut given = given(before);
+    given.sixth = call.sixth().map(|needed| Sixth {
+        needed,
+        length: before.written[0].lent().len() as u64,
+    });
     match call {
         Call::Check => answer(&mut after, calls::check(&given), |()| Vec::new()),
         Call::WriteText => written(&mut after, |tail, room| calls::write_text(&given, tail, room)),
@@ -66,9 +71,12 @@ pub fn after(call: Call, before: &Lent) -> Lent {
         Call::Drop => changed(&mut after, calls::drop_unused(&given)),
         Call::Step => stepped(&mut after, &given),
         Call::Witness => {
-            let number = before.number.expect("a witness question has a number");
-            let outcome = calls::witness(&given, number, before.bytes[0].lent());
+            let outcome = calls::witness(&given, number(before), before.bytes[0].lent());
             answer(&mut after, outcome, |yes| vec![u64::from(yes)]);
+        }
+        Call::Report => {
+            let report = calls::report(&given, number(before), before.bytes[0].lent());
+            reported(&mut after, report.map(|report| report.concat()));
         }
     }
     after
@@ -97,6 +105,16 @@ fn changed(after: &mut Lent, circuit: Result<Circuit, Refusal>) {
     answer(after, circuit, |circuit| circuit.counts().list().to_vec());
 }
 
+/// The numbers of an accepted report, and zeros; after a refusal zeros alone.
+fn reported(after: &mut Lent, report: Result<Vec<u32>, Refusal>) {
+    let sixth = after.written[0].lent_mut();
+    sixth.fill(0);
+    if let Ok(report) = &report {
+        sixth[..report.len()].copy_from_slice(report);
+    }
+    answer(after, report, |_| Vec::new());
+}
+
 /// The next state is written over the state; a refusal changes neither that nor the outputs.
 fn stepped(after: &mut Lent, given: &Given) {
     let [state, input, output] = after.bytes.as_mut_slice() else {
@@ -110,11 +128,16 @@ fn stepped(after: &mut Lent, given: &Given) {
     answer(after, step, |_| Vec::new());
 }
 
+fn number(lent: &Lent) -> u64 {
+    lent.number.expect("a list has a number")
+}
+
 /// The circuit of tables that hold one.
 pub fn circuit(lent: &Lent) -> Circuit {
     tables::check(&given(lent)).expect("accepted tables")
 }
 
+/// But for table 6, which is no part of a circuit.
 fn given(lent: &Lent) -> Given {
     let counts = lent.counts.lent().try_into().expect("seven counts");
     let lengths: Vec<u64> = lent.written.iter().map(|table| table.lent().len() as u64).collect();
@@ -123,6 +146,7 @@ fn given(lent: &Lent) -> Given {
         tables: lent.tables.each_ref().map(|table| table.lent().to_vec()),
         scratch: lent.scratch.lent().len() as u64,
         written: lengths.try_into().ok(),
+        sixth: None,
     }
 }
 

@@ -1,6 +1,7 @@
 //! The answers of one call on tables.
 
-use super::places::{PlaceCoverage, OF_TABLES};
+use super::kinds::KindCoverage;
+use super::places::{PlaceCoverage, OF_TABLES, SIXTH};
 use super::vectors::VectorCoverage;
 use super::{at_least, PER_REFUSAL};
 use crate::compare::tables::outcome;
@@ -20,6 +21,7 @@ pub struct CallCoverage {
     /// Accepted by conversion or reduction, and the gates became others.
     changed: u64,
     vectors: VectorCoverage,
+    kinds: KindCoverage,
     places: PlaceCoverage,
 }
 
@@ -33,6 +35,7 @@ impl CallCoverage {
             with_gates: 0,
             changed: 0,
             vectors: VectorCoverage::default(),
+            kinds: KindCoverage::new(call),
             places: PlaceCoverage::default(),
         }
     }
@@ -46,6 +49,7 @@ impl CallCoverage {
         self.promised[number] += u64::from(case.promise.is_some());
         self.with_gates += u64::from(number == 0 && case.lent.counts.lent()[4] > 0);
         self.vectors.add(self.call, &case.lent, after);
+        self.kinds.add(&case.lent, after);
         if let (0, Some(gates)) = (number, after.written.get(3)) {
             let given = case.lent.tables[3].lent().iter();
             let kept = 3 * case.lent.counts.lent()[4] as usize;
@@ -82,6 +86,10 @@ impl CallCoverage {
             at_least(self.with_gates, self.cases.div_ceil(4)),
         );
         self.places.report(tally, name, OF_TABLES);
+        if self.call.sixth().is_some() {
+            self.places.report(tally, name, SIXTH);
+        }
+        self.kinds.report(tally, name);
         if self.call.writes_tables() {
             println!("{name}: the gates became others in {}", self.changed);
             tally.check(&format!("{name}, changes"), at_least(self.changed, self.cases / 10));

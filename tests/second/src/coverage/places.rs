@@ -16,6 +16,9 @@ pub const OF_TABLES: &[(u64, &[u64])] = &[
     (6, &[1, 2, 4]),
 ];
 
+/// What calls that are lent table 6 may name too.
+pub const SIXTH: &[(u64, &[u64])] = &[(4, &[6])];
+
 /// What a reader may name: elsewhere its places are offsets.
 pub const OF_FILES: &[(u64, &[u64])] = &[(4, &TABLES)];
 

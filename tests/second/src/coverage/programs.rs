@@ -19,16 +19,21 @@ const MANY: usize = 20_000;
 #[derive(Default)]
 pub struct RunCoverage {
     /// By program and the refusal's number; at 0 accepted.
-    answered: [[u64; 22]; 3],
+    answered: [[u64; 22]; PROGRAMS],
     /// Accepted by program, in text and in binary.
-    forms: [[u64; 2]; 3],
+    forms: [[u64; 2]; PROGRAMS],
     foretold: u64,
     /// Refused by 4 at 5, though the file is read.
     after_reading: u64,
-    traces: Traces,
+    /// Refused by 4 at 6.
+    sixth: u64,
+    /// By program.
+    traces: [Traces; PROGRAMS],
 }
 
-/// The tracer's runs whose plan is accepted.
+const PROGRAMS: usize = Program::ALL.len();
+
+/// The runs of a program that reads vectors, if the plan is accepted.
 #[derive(Default)]
 struct Traces {
     /// By the refusal of standard input.
@@ -51,8 +56,9 @@ impl RunCoverage {
         if let (Ok(_), Some(file)) = (&answer, run.plan.bytes()) {
             self.forms[program][usize::from(file.get(1) == Some(&b'i'))] += 1;
         }
-        if run.program == Program::Tracer {
-            self.traces.add(run, &answer);
+        self.sixth += u64::from(answer == Err(Refusal { number: 4, place: 6 }));
+        if run.program.reads_vectors() {
+            self.traces[program].add(run, &answer);
         }
     }
 
@@ -71,7 +77,11 @@ impl RunCoverage {
         tally.check("runs accepted", at_least(accepted, FEWEST_ACCEPTED));
         println!("refused by 4 at 5 after reading: {}", self.after_reading);
         tally.check("4 at 5 after reading", at_least(self.after_reading, PER_KIND));
-        self.traces.report(tally);
+        println!("refused by 4 at 6: {}", self.sixth);
+        tally.check("4 at 6", at_least(self.sixth, PER_KIND));
+        for program in Program::ALL.into_iter().filter(|program| program.reads_vectors()) {
+            self.traces[program as usize].report(tally, program);
+        }
     }
 
     fn report_program(&self, tally: &mut Tally, program: Program, answered: &[u64; 22]) {
@@ -93,10 +103,8 @@ impl RunCoverage {
             tally.check(&format!("{name}, refusal {number}"), at_least(count, PER_KIND));
         }
         for (form, count) in [(Form::Text, text), (Form::Binary, binary)] {
-            tally.check(
-                &format!("{name}, accepted, {form:?}"),
-                at_least(count, FEWEST_ACCEPTED / 10),
-            );
+            let needed = FEWEST_ACCEPTED / if program.is_new() { 30 } else { 10 };
+            tally.check(&format!("{name}, accepted, {form:?}"), at_least(count, needed));
         }
     }
 }
@@ -108,7 +116,10 @@ fn after_reading(run: &Run, answer: &Result<Vec<u8>, Refusal>) -> bool {
 
 impl Traces {
     fn add(&mut self, run: &Run, answer: &Result<Vec<u8>, Refusal>) {
-        let (Ok((_, circuit, _)), input) = (opened(run.plan.bytes()), run.input.bytes().unwrap_or_default()) else {
+        let (Ok((_, circuit, _)), input) = (
+            opened(run.program, run.plan.bytes()),
+            run.input.bytes().unwrap_or_default(),
+        ) else {
             return;
         };
         match answer {
@@ -123,8 +134,9 @@ impl Traces {
         }
     }
 
-    fn report(&self, tally: &mut Tally) {
-        let kinds = [
+    fn report(&self, tally: &mut Tally, program: Program) {
+        let name = program.name();
+        let mut kinds = vec![
             ("standard input refused by 1", self.refused[1]),
             ("by 12", self.refused[12]),
             ("by 13", self.refused[13]),
@@ -132,12 +144,15 @@ impl Traces {
             ("without lines", self.without_lines),
             ("without inputs", self.without_inputs),
             ("many lines", self.many_lines),
-            ("written in parts", self.in_parts),
         ];
+        if program == Program::Tracer {
+            kinds.push(("written in parts", self.in_parts));
+        }
         let told: Vec<String> = kinds.iter().map(|(kind, count)| format!("{kind}: {count}")).collect();
-        println!("tracer: {}", told.join(", "));
+        println!("{name}: {}", told.join(", "));
+        let needed = if program.is_new() { 2 } else { PER_KIND };
         for (kind, count) in kinds {
-            tally.check(&format!("tracer, {kind}"), at_least(count, PER_KIND));
+            tally.check(&format!("{name}, {kind}"), at_least(count, needed));
         }
     }
 }

@@ -1,6 +1,6 @@
 //! The calls on tables, on the circuits of the examples.
 
-use crate::aiger::tables::{binary_order, Given};
+use crate::aiger::tables::binary_order;
 use crate::aiger::{step, write, Circuit, Form};
 use crate::compare::tables::compare;
 use crate::generate::given;
@@ -20,7 +20,7 @@ pub fn called(library: &dyn Library, circuit: &Circuit, tail: &[u8], list: &[&[u
                     compare(library, call, &stepping(circuit, &state, input))?;
                 }
             }
-            Call::Witness => {
+            Call::Witness | Call::Report => {
                 let mut lent = exactly(call, circuit, &[&list.concat()]);
                 lent.number = Some(list.len() as u64);
                 compare(library, call, &lent)?;
@@ -34,7 +34,7 @@ pub fn called(library: &dyn Library, circuit: &Circuit, tail: &[u8], list: &[&[u
 }
 
 fn exactly(call: Call, circuit: &Circuit, bytes: &[&[u8]]) -> Lent {
-    let mut lent = given::lend(call, &Given::exactly(circuit), JUNK);
+    let mut lent = given::lend(call, &given::exactly(call, circuit), JUNK);
     lent.bytes = bytes.iter().map(|vector| Memory::around(vector, JUNK)).collect();
     lent
 }

@@ -1,5 +1,6 @@
 //! Slips in the calls on tables.
 
+mod reports;
 mod slips;
 mod vectors;
 
@@ -8,6 +9,7 @@ use crate::compare::tables::{after, ask, judge};
 use crate::generate::given;
 use crate::library::{Call, Question, Reply};
 use crate::tally::Tally;
+use reports::REPORT;
 use slips::{Slip, ANY, CHANGES, WRITERS};
 use vectors::{STEPPER, WITNESS};
 
@@ -18,6 +20,7 @@ fn slips(call: Call) -> Vec<(&'static str, Slip)> {
         Call::Convert | Call::Reduce | Call::Drop => [ANY, CHANGES].concat(),
         Call::Step => [ANY, STEPPER].concat(),
         Call::Witness => [ANY, WITNESS].concat(),
+        Call::Report => [ANY, REPORT].concat(),
     }
 }
 

@@ -8,7 +8,7 @@ mod writing;
 
 use super::circuit;
 use super::lend::enough;
-use crate::aiger::tables::Given;
+use crate::aiger::tables::{Given, Sixth};
 use crate::aiger::{apart, with_scratch, Circuit, Counts, Form, Refusal};
 use crate::library::{Call, Lent};
 use crate::memory::Memory;
@@ -64,8 +64,7 @@ pub fn case(call: Call, seed: u64, number: u64) -> TablesCase {
         size.b = size.b.min(2);
     }
     let circuit = circuit::circuit(&mut random, form, &size);
-    let mut given = Given::exactly(&circuit);
-    given.written = given.written.filter(|_| call.writes_tables());
+    let mut given = exactly(call, &circuit);
     let promise = treat(&mut random, call, &circuit, &mut given);
     let mut case = TablesCase {
         lent: lend(call, &given, random.word()),
@@ -78,8 +77,22 @@ pub fn case(call: Call, seed: u64, number: u64) -> TablesCase {
         Call::WriteBinary => writing::add(&mut random, Form::Binary, &circuit, &mut case),
         Call::Step => vectors::step(&mut random, &circuit, &mut case),
         Call::Witness => vectors::witness(&mut random, &circuit, &mut case),
+        Call::Report => vectors::report(&mut random, &circuit, &mut case),
     }
     case
+}
+
+/// A circuit's tables and all that the call is lent beside them, exactly as long as needed.
+pub fn exactly(call: Call, circuit: &Circuit) -> Given {
+    let given = Given::exactly(circuit);
+    Given {
+        written: given.written.filter(|_| call.writes_tables()),
+        sixth: call.sixth().map(|needed| Sixth {
+            needed,
+            length: needed(&given.counts),
+        }),
+        ..given
+    }
 }
 
 /// Whether the promise holds only for a circuit that was made in binary order.
@@ -136,6 +149,9 @@ fn spare(random: &mut Random, given: &mut Given) {
     if let Some(written) = given.written {
         given.written = Some(apart(enough(random, &with_scratch(written, 0))).0);
     }
+    if let Some(sixth) = &mut given.sixth {
+        sixth.length += *random.pick(&[0, 0, 1, 5, 40]);
+    }
 }
 
 /// Counts and tables that have nothing to do with each other.
@@ -144,6 +160,10 @@ fn unrelated(random: &mut Random, given: &mut Given) {
     let mut length = || random.below(most + 1);
     let lengths = [0; 7].map(|_| length());
     given.written = given.written.map(|written| written.map(|_| length() as u64));
+    given.sixth = given.sixth.map(|sixth| Sixth {
+        length: length() as u64,
+        ..sixth
+    });
     given.counts = Counts::new([9, 3, 3, 3, 3, 2, 2].map(|most| random.below(most + 1) as u64));
     given.tables = lengths.map(|length| (0..length).map(|_| random.below(22) as u32).collect());
     given.scratch = random.between(30, 70) as u64;
@@ -160,7 +180,9 @@ pub fn lend(call: Call, given: &Given, junk: u64) -> Lent {
             .iter()
             .filter(|_| call.writes_tables())
             .flatten()
-            .map(|&length| Memory::junk(length, junk))
+            .copied()
+            .chain(given.sixth.map(|sixth| sixth.length))
+            .map(|length| Memory::junk(length, junk))
             .collect(),
         number: None,
         bytes: Vec::new(),

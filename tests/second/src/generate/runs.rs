@@ -6,6 +6,7 @@ mod plan;
 use crate::aiger::programs::{opened, Program};
 use crate::aiger::Refusal;
 use crate::random::Random;
+use std::ops::Range;
 
 #[derive(Debug)]
 pub enum Plan {
@@ -56,16 +57,30 @@ pub struct Run {
 /// Keeps the numbers of runs apart from those of other cases.
 const APART: u64 = 1 << 62;
 
-/// The programs take turns.
+/// The programs take turns, those of the base more often.
+const TURNS: [Program; 10] = {
+    use Program::*;
+    [
+        Converter, Reducer, Tracer, Converter, Reducer, Tracer, Converter, Reducer, Tracer, Reporter,
+    ]
+};
+
+/// There is one round of turns for so many cases.
+const SHARE: u64 = 216;
+
+/// The numbers of the runs that there are beside so many cases.
+pub fn numbers(cases: u64) -> Range<u64> {
+    0..cases / SHARE * TURNS.len() as u64
+}
+
 pub fn run(seed: u64, number: u64) -> Run {
-    let program = Program::ALL[(number % 3) as usize];
+    let program = TURNS[(number % TURNS.len() as u64) as usize];
     let mut random = Random::new(seed, APART | number);
     let (plan, foretold) = plan::plan(&mut random, program);
-    let circuit = match program {
-        Program::Tracer => opened(plan.bytes()).ok().map(|(_, circuit, _)| circuit),
-        Program::Converter | Program::Reducer => None,
-    };
-    let input = input::input(&mut random, circuit.as_ref());
+    let opened = opened(program, plan.bytes()).ok();
+    let circuit = opened.map(|(_, circuit, _)| circuit);
+    let read = circuit.as_ref().filter(|_| program.reads_vectors());
+    let input = input::input(&mut random, read);
     Run {
         program,
         plan,

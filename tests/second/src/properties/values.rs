@@ -3,11 +3,14 @@
 use super::FEW_GATES;
 use crate::aiger::calls;
 use crate::aiger::convert::Converted;
+use crate::aiger::report::MOST_STEPS;
 use crate::aiger::step::{self, Step};
 use crate::aiger::tables::Given;
-use crate::aiger::{variable, Circuit};
+use crate::aiger::{refuse, variable, Circuit};
 use crate::ensure;
+use crate::generate::given;
 use crate::generate::values::{ground, vector};
+use crate::library::Call;
 use crate::naive;
 use crate::random::Random;
 
@@ -47,6 +50,7 @@ pub fn check(
     );
     ensure!(!shown(&steps) || shown(&known), "a witness lost by values for x");
     witness(&converted.circuit, reduced, &list, shown(&steps))?;
+    reports(&converted.circuit, &list, &steps)?;
     if circuit.gates.len() <= FEW_GATES {
         slowly(random, circuit, converted, unknown)?;
     }
@@ -104,6 +108,32 @@ fn witness(circuit: &Circuit, reduced: &Circuit, list: &[Vec<u8>], shown: bool) 
         "a witness lost by reduction"
     );
     ensure!(ask(circuit, 0, &[]) == Ok(false), "an empty list is a witness");
+    Ok(())
+}
+
+/// The report of a list is what a count over its steps gives, one after another.
+fn reports(circuit: &Circuit, list: &[Vec<u8>], steps: &[(Vec<u8>, Step)]) -> Result<(), String> {
+    let given = given::exactly(Call::Report, circuit);
+    let report = |list: &[Vec<u8>]| calls::report(&given, list.len() as u64, &list.concat());
+    let Ok(whole) = report(list) else {
+        return Err("a report is refused".to_string());
+    };
+    let mut counted = vec![[0; 4]; circuit.outputs.len() + circuit.latches.len()];
+    let mut last: Option<Vec<u8>> = None;
+    for (state, step) in steps {
+        let values = [step.output.as_slice(), state].concat();
+        for (place, (numbers, &value)) in counted.iter_mut().zip(&values).enumerate() {
+            let at = b"01x".iter().position(|&known| known == value).expect("a value");
+            numbers[at] += 1;
+            numbers[3] += u32::from(last.as_ref().is_some_and(|last| last[place] != value));
+        }
+        last = Some(values);
+    }
+    ensure!(whole == counted, "reported {whole:?}, counted {counted:?}");
+    let none = report(&[]);
+    ensure!(none == Ok(vec![[0; 4]; counted.len()]), "without vectors {none:?}");
+    let many = calls::report(&given, MOST_STEPS + 1, b"?");
+    ensure!(many == refuse(13, 65_536), "too many vectors: {many:?}");
     Ok(())
 }
 

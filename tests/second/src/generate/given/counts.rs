@@ -78,8 +78,12 @@ fn least(given: &Given) -> Option<Refusal> {
         *length = written.min(*length);
     }
     let lent = with_scratch(tables, given.scratch);
-    let short = (0..TABLES.len()).find(|&k| lent[k] < needed[k])?;
-    refusal(4, TABLES[short] as usize)
+    let mut short: Vec<u64> = (0..TABLES.len())
+        .filter(|&k| lent[k] < needed[k])
+        .map(|k| TABLES[k])
+        .collect();
+    short.extend(given.sixth.filter(|sixth| sixth.is_short(&given.counts)).map(|_| 6));
+    refusal(4, *short.iter().min()? as usize)
 }
 
 /// A length below `needed`, unless that is 0.
@@ -91,14 +95,25 @@ fn below(random: &mut Random, needed: usize) -> usize {
     }
 }
 
+/// Stand for scratch and for table 6 among the tables to be cut.
+const SCRATCH: usize = CIRCUIT.len();
+const SIXTH: usize = SCRATCH + 1;
+
 /// One or two tables cut, given or lent for writing.
 pub fn short(random: &mut Random, _: &Circuit, given: &mut Given) -> Option<Refusal> {
     // Where nothing is needed, nothing is too short.
     let mut cut: Vec<usize> = (0..CIRCUIT.len()).filter(|&k| !given.tables[k].is_empty()).collect();
-    cut.push(CIRCUIT.len());
+    cut.push(SCRATCH);
+    if given.sixth.is_some_and(|sixth| sixth.length > 0) {
+        cut.push(SIXTH);
+    }
     for _ in 0..*random.pick(&[1, 1, 2]) {
         match (*random.pick(&cut), &mut given.written) {
-            (7, _) => given.scratch = below(random, given.scratch as usize) as u64,
+            (SCRATCH, _) => given.scratch = below(random, given.scratch as usize) as u64,
+            (SIXTH, _) => {
+                let sixth = given.sixth.as_mut().expect("it has words");
+                sixth.length = below(random, sixth.length as usize) as u64;
+            }
             (k, Some(written)) if random.once_in(2) => written[k] = below(random, written[k] as usize) as u64,
             (k, _) => {
                 let length = below(random, given.tables[k].len());
@@ -123,6 +138,9 @@ pub fn more(random: &mut Random, _: &Circuit, given: &mut Given) -> Option<Refus
     // Scratch has a lower number than tables 7 to 9.
     if list.iter().all(|&count| count <= MOST) && !random.once_in(3) {
         given.scratch = given.scratch.max(4 * (list[0] + 1) + list[3] + list[5] + list[6]);
+        if let Some(sixth) = given.sixth.as_mut().filter(|_| random.once_in(2)) {
+            sixth.length = (sixth.needed)(&given.counts);
+        }
     }
     least(given)
 }

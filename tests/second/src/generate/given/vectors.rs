@@ -1,6 +1,7 @@
-//! The vectors of the stepper and the list of the witness question: 12.
+//! The vectors of the stepper and the lists of the witness question and of a report: 12, 13.
 
 use super::TablesCase;
+use crate::aiger::report::MOST_STEPS;
 use crate::aiger::{Circuit, Refusal};
 use crate::generate::values::{no_value, vector};
 use crate::memory::Memory;
@@ -72,6 +73,32 @@ pub fn witness(random: &mut Random, circuit: &Circuit, case: &mut TablesCase) {
     case.lent.bytes = vec![Memory::around(&list, random.word())];
     tell(case, promise);
 }
+
+/// The same, sometimes of as many vectors as there may be, or more.
+pub fn report(random: &mut Random, circuit: &Circuit, case: &mut TablesCase) {
+    witness(random, circuit, case);
+    let most = MOST_STEPS;
+    let mut number = case.lent.number.unwrap_or(0);
+    if case.promise == Some(Ok(())) && circuit.m <= SMALL && random.once_in(200) {
+        number = *random.pick(&[most - 1, most]);
+        let list = vector(random, 1, number as usize * circuit.inputs.len());
+        case.lent.bytes = vec![Memory::around(&list, random.word())];
+    } else if random.once_in(7) {
+        // 12 comes after, so the list is left as it is.
+        number = *random.pick(&[most + 1, most + 2, 1 << 32, (1 << 32) + number, 1 << 63, u64::MAX]);
+    }
+    case.lent.number = Some(number);
+    let judged = matches!(case.promise, Some(Ok(()) | Err(Refusal { number: 12, .. })));
+    if judged && number > most {
+        case.promise = Some(Err(Refusal {
+            number: 13,
+            place: most,
+        }));
+    }
+}
+
+/// A circuit of so many variables is stepped quickly.
+const SMALL: u64 = 12;
 
 /// Makes a list wrong; false if it can't be made so in the chosen way.
 fn wrong(random: &mut Random, i: u64, number: &mut u64, list: &mut Vec<u8>) -> bool {

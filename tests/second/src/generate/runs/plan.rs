@@ -1,7 +1,7 @@
 //! What stands under the name `plan.in`.
 
 use super::Plan;
-use crate::aiger::programs::{output, Program, LENT, LONGEST};
+use crate::aiger::programs::{output, Program, LENT, LONGEST, SIXTH};
 use crate::aiger::{literal, Circuit, Form, Refusal};
 use crate::generate;
 use crate::generate::circuit::{circuit, Size};
@@ -17,8 +17,39 @@ pub fn plan(random: &mut Random, program: Program) -> (Plan, Option<Refusal>) {
         9..=14 => full(random, program),
         15..=29 => (Plan::File(edge(random)), None),
         30..=33 => to_read_alone(random),
+        34..=51 if program.is_new() => (Plan::File(refused(random, program)), None),
+        52..=57 if program == Program::Reporter => many_needles(random),
         _ => (Plan::File(generate::case(random.word(), 0).file), None),
     }
+}
+
+/// A file that is refused, for one of all reasons.
+fn refused(random: &mut Random, program: Program) -> Vec<u8> {
+    let number = *random.pick(program.refusals_of_files());
+    loop {
+        let case = generate::case(random.word(), 0);
+        if matches!(case.promises[1], Some(Err(refusal)) if refusal.number == number) {
+            return case.file;
+        }
+    }
+}
+
+/// As many outputs and latches as table 6 of a report has room for, or one more.
+fn many_needles(random: &mut Random) -> (Plan, Option<Refusal>) {
+    let over = random.below(2);
+    let l = random.between(1, 1500);
+    let size = Size {
+        l,
+        o: SIXTH as usize / 4 - l + over,
+        i: random.below(3),
+        ..Size::default()
+    };
+    let form = form(random);
+    let circuit = circuit(random, form, &size);
+    let mut draft = Draft::new(random, form, &circuit);
+    draft.comment.clear();
+    let file = draft.layout().file;
+    (Plan::File(file), (over == 1).then_some(Refusal { number: 4, place: 6 }))
 }
 
 fn form(random: &mut Random) -> Form {
@@ -62,7 +93,7 @@ fn full(random: &mut Random, program: Program) -> (Plan, Option<Refusal>) {
     draft.comment.clear();
     let file = draft.layout().file;
     let writer = match program {
-        Program::Tracer => Program::Converter,
+        Program::Tracer | Program::Reporter => Program::Converter,
         writer => writer,
     };
     let written = output(writer, Some(&file), None).len();
