@@ -1,4 +1,5 @@
-/* plan COMMAND: Golvanzo for people. One table has the commands, and --help is made from it. */
+/* plan COMMAND: Golvanzo for people. One table has the commands, and --help is made from it; another has the options. */
+#include <stddef.h>
 #include <string.h>
 
 #include "command.h"
@@ -47,6 +48,18 @@ static const struct command commands[] = {
 
 enum { COMMANDS = sizeof commands / sizeof commands[0] };
 
+/* Options without a word of their own: the commands that take them, and what they set. */
+static const struct {
+    const char *word;
+    int takes;
+    size_t sets;
+} options[] = {
+    {"--vcd", TAKES_VCD, offsetof(struct request, vcd)},
+    {"--large", TAKES_LARGE, offsetof(struct request, large)},
+};
+
+enum { OPTIONS = sizeof options / sizeof options[0] };
+
 static const char common[] =
     "FILE may be -, standard input. -o OUT writes to a file, which appears when all of it is written.\n"
     "Exit status: 0, 1 after a refusal, 2 if something else is wrong.\n";
@@ -79,20 +92,28 @@ static int is_help(const char *word) {
     return strcmp(word, "--help") == 0 || strcmp(word, "-h") == 0;
 }
 
+/* Whether a word is an option that the command takes, which is set then. */
+static int set_option(const struct command *command, const char *word, struct request *request) {
+    for (int k = 0; k < OPTIONS; k++)
+        if (command->takes & options[k].takes && strcmp(options[k].word, word) == 0) {
+            *(int *)((char *)request + options[k].sets) = 1;
+            return 1;
+        }
+    return 0;
+}
+
 /* The words after the command; 0 if they are none that it takes. */
 static int parse(const struct command *command, char **words, struct request *request) {
-    int options = 1;
+    int may_be_option = 1;
     for (; *words != NULL; words++) {
         const char *word = *words;
-        if (options && strcmp(word, "--") == 0)
-            options = 0;
-        else if (options && strcmp(word, "-o") == 0 && words[1] != NULL && request->out == NULL)
+        if (may_be_option && strcmp(word, "--") == 0)
+            may_be_option = 0;
+        else if (may_be_option && strcmp(word, "-o") == 0 && words[1] != NULL && request->out == NULL)
             request->out = *++words;
-        else if (options && strcmp(word, "--vcd") == 0 && command->takes & TAKES_VCD)
-            request->vcd = 1;
-        else if (options && strcmp(word, "--large") == 0 && command->takes & TAKES_LARGE)
-            request->large = 1;
-        else if (options && word[0] == '-' && word[1] != '\0')
+        else if (may_be_option && set_option(command, word, request))
+            continue;
+        else if (may_be_option && word[0] == '-' && word[1] != '\0')
             return 0;
         else if (request->file == NULL)
             request->file = word;
