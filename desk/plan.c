@@ -230,3 +230,14 @@ struct plan_end plan_witness(struct plan *plan, uint64_t number, const uint8_t *
     *yes = answer[2] == 1;
     return end_of(answer);
 }
+
+struct plan_end plan_report(struct plan *plan, uint64_t number, const uint8_t *vectors, size_t length,
+                            uint32_t *report) {
+    const uint64_t *n = plan->counts;
+    uint64_t answer[2];
+    if (!ready(plan))
+        return no_memory;
+    golvanzo_report(n, TABLES(plan), SCRATCH(plan), number, vectors, length, report,
+                    (size_t)(4 * (n[PLAN_O] + n[PLAN_L])), answer);
+    return end_of(answer);
+}

@@ -71,6 +71,10 @@ struct plan_end plan_step(struct plan *plan, uint8_t *state, const uint8_t *inpu
 /* The witness question for a number of vectors, I bytes each, one after another; *yes is 1 or 0. */
 struct plan_end plan_witness(struct plan *plan, uint64_t number, const uint8_t *vectors, size_t length, int *yes);
 
+/* The needle report of a number of vectors, I bytes each, stepped from the resets: four words for each output, then for
+   each latch, the steps at 0, at 1, at x and those that differ from the step before; 4 * (O + L) words. */
+struct plan_end plan_report(struct plan *plan, uint64_t number, const uint8_t *vectors, size_t length, uint32_t *report);
+
 #ifdef __cplusplus
 }
 #endif

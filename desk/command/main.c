@@ -5,7 +5,7 @@
 #include "command.h"
 
 /* What a command may take, beside FILE, -o FILE and --help, which all take: a second file, which some need, and options. */
-enum { TAKES_SECOND = 1, NEEDS_SECOND = 2, TAKES_VCD = 4, TAKES_LARGE = 8 };
+enum { TAKES_SECOND = 1, NEEDS_SECOND = 2, TAKES_VCD = 4, TAKES_LARGE = 8, TAKES_NAMES = 16 };
 
 /* A command is given the plan of its file, or the file alone where only the header is looked at. */
 struct command {
@@ -32,6 +32,11 @@ static const struct command commands[] = {
     {"witness", "FILE [VECTORS]", "says whether some step gives 1 on some output or bad state",
      "Vectors are as for trace. \"yes\" or \"no\"; every constraint must be 1 at that step and before it.",
      TAKES_SECOND, run_witness, NULL},
+    {"report", "[--names] FILE [VECTORS]", "says for each output and latch its steps at 0, at 1, at x, and its changes",
+     "Vectors are as for trace, at most 65536. A line for each output, then for each latch: o0 or l0 and so on, and four\n"
+     "numbers; the last is that of steps with another value than the step before. A latch is looked at before each step.\n"
+     "--names puts the names of the plan at the lines' ends.",
+     TAKES_SECOND | TAKES_NAMES, run_report, NULL},
     {"same", "FILE FILE", "says whether two plans are the same but for their numbers",
      "Both are converted and compared byte for byte, symbols and comments too: the form, M, the numbers of variables\n"
      "and the order of a gate's sides may differ, and the order of gates where conversion gives the same.\n"
@@ -56,6 +61,7 @@ static const struct {
 } options[] = {
     {"--vcd", TAKES_VCD, offsetof(struct request, vcd)},
     {"--large", TAKES_LARGE, offsetof(struct request, large)},
+    {"--names", TAKES_NAMES, offsetof(struct request, names)},
 };
 
 enum { OPTIONS = sizeof options / sizeof options[0] };
@@ -71,7 +77,7 @@ static int help(FILE *to, const struct command *command) {
         return DONE;
     }
     for (int k = 0; k < COMMANDS; k++)
-        fprintf(to, "plan %-8s %-23s %s\n", commands[k].name, commands[k].words, commands[k].what);
+        fprintf(to, "plan %-8s %-24s %s\n", commands[k].name, commands[k].words, commands[k].what);
     fprintf(to, "%s\"plan COMMAND --help\" says more of a command.\n", common);
     return DONE;
 }

@@ -1,5 +1,5 @@
 # shellcheck shell=bash disable=SC2154 # of run, which sources this
-# The verbs against the three programs of the paper, byte for byte, on plans below their sizes, whole and damaged.
+# The verbs against the programs, byte for byte, on plans below their sizes, whole and damaged.
 
 # program NAME FILE VECTORS: runs a program in a folder where FILE is plan.in.
 program() {
@@ -27,6 +27,7 @@ agree() {
     agrees converter "$1" /dev/null convert "$1"
     agrees reducer "$1" /dev/null reduce "$1"
     agrees tracer "$1" "$2" trace "$1" "$2"
+    agrees reporter "$1" "$2" report "$1" "$2"
 }
 
 on_whole() {
@@ -59,6 +60,6 @@ on_damaged() {
 
 starts=$(starter)
 mkdir "$room/in"
-build_programs converter reducer tracer
+build_programs converter reducer tracer reporter
 on_whole
 on_damaged

@@ -1,0 +1,53 @@
+/* The verb that counts steps: report. */
+#include <stdlib.h>
+
+#include "command.h"
+#include "symbols.h"
+
+/* A letter, a position and the words of one row; and the name, where names are asked and the entry has one. */
+static void print_row(FILE *to, const struct names *names, int list, uint64_t k, const uint32_t *row) {
+    fprintf(to, "%c%llu %u %u %u %u", letters[list], (unsigned long long)k, row[0], row[1], row[2], row[3]);
+    if (names != NULL && names->of[list][k].name != NULL)
+        fprintf(to, " %.*s", (int)names->of[list][k].length, (const char *)names->of[list][k].name);
+    fputc('\n', to);
+}
+
+static int print_report(const struct request *request, const struct plan *plan, const uint32_t *report) {
+    uint64_t outputs = plan->counts[PLAN_O], latches = plan->counts[PLAN_L];
+    struct names names;
+    struct output output;
+    int status = request->names ? read_names(plan, &names) : DONE;
+    if (status != DONE)
+        return status;
+    status = open_output(&output, request->out);
+    if (status == DONE) {
+        const struct names *asked = request->names ? &names : NULL;
+        for (uint64_t k = 0; k < outputs; k++)
+            print_row(output.to, asked, NAMED_OUTPUTS, k, report + 4 * k);
+        for (uint64_t k = 0; k < latches; k++)
+            print_row(output.to, asked, NAMED_LATCHES, k, report + 4 * (outputs + k));
+        status = close_output(&output);
+    }
+    if (request->names)
+        free_names(&names);
+    return status;
+}
+
+int run_report(const struct request *request, const struct source *file, struct plan *plan) {
+    struct vectors vectors;
+    uint8_t *list;
+    int status = read_list(request, file, plan, &vectors, &list);
+    if (status != DONE)
+        return status;
+    const uint64_t *n = plan->counts;
+    uint32_t *report = malloc(4 * (n[PLAN_O] + n[PLAN_L]) * sizeof *report + 1);
+    if (report == NULL)
+        status = no_memory();
+    else
+        status = ended(plan_report(plan, vectors.number, list, (size_t)(vectors.number * n[PLAN_I]), report), file);
+    if (status == DONE)
+        status = print_report(request, plan, report);
+    free(report);
+    free_list(&vectors, list);
+    return status;
+}
