@@ -26,7 +26,7 @@ use values::any_one;
 use values::load;
 
 // Whether one of the outputs or of the bad states is 1 after a step.
-fn shown(n: Counts, bads: &[u32], t: &[u32]) -> bool
+pub fn shown(n: Counts, bads: &[u32], t: &[u32]) -> bool
     requires { ⌜ Shown n (now bads) (now t) ⌝ }
     ensures { λ r. ⌜ r ≡ (any1 (valuesAt (now (t .entry)) (n .M + 1) (n .O))
         || any1 (seen (litsOf n) (now (t .entry)) (take (n .B) (now (bads .entry))))) ⌝ }
@@ -81,7 +81,7 @@ fn shows_one(
 // The witness question: whether stepping a list of `number` vectors from the resets gives 1 on some output or bad state at some step,
 // every constraint being 1 there and at all steps before. The circuit is checked once, and the whole list judged before the first step.
 // Scratch is zero afterwards.
-pub fn witness(
+pub fn witness3(
     n: Counts,
     inputs: &[u32],
     latches: &[u32],

@@ -18,8 +18,8 @@ use Rattle.step.proofs.Checks.{refused-by, past-check, runs, room}
 use Rattle.witness.specs.Listing.{Starts}
 use Rattle.witness.proofs.Verdicts.{good-list, refused-witness, refused-list, yes-witness, no-witness}
 use borrow.Author.Needs.{needs}
-use Rattle.witness.proofs.witness.Statement.{statement}
-use Rattle.witness.proofs.witness.Tie as tie
+use Rattle.witness.proofs.witness3.Statement.{statement}
+use Rattle.witness.proofs.witness3.Tie as tie
 
 -- what is handed over
 abbrev entry : tie.Start → WitnessEntry
@@ -190,8 +190,8 @@ returns-4 c =
     no-witness e _ (zero z) (past-check (e .circuit) (listStage e) (says d) (told d)) (whole-told (listed s))
     (sym (c .if2 .left) ∙ shown (stepped z))
 
-pub witness-spec : {M : Type 1} → statement M
-witness-spec =
+pub witness3-spec : {M : Type 1} → statement M
+witness3-spec =
     tie.close
     (tie.spec
     check-in-order-requires
