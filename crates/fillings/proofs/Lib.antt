@@ -1,0 +1,5 @@
+pub mod Words
+pub mod Vectors
+pub mod Attempts
+pub mod Beyond
+pub mod Verdicts
