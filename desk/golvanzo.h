@@ -77,11 +77,18 @@ void golvanzo_step(const uint64_t *counts /* 7 words */, GOLVANZO_GIVEN, GOLVANZ
                    size_t state_len, const uint8_t *ins, size_t ins_len, uint8_t *outs, size_t outs_len,
                    uint64_t *answer /* 2 words */);
 
-/* Whether `number` input vectors, one after another in `bytes` (I bytes each), give 1 on some output or bad state
-   when stepped from the resets, every constraint being 1 at that step and at all before; `answer` is number (0:
-   answered), place and 1 for yes, 0 for no. Tables are in binary order. */
+/* Whether every filling, by 0 or 1, of the x of the resets and of `number` input vectors, one after another in `bytes` (I
+   bytes each), gives 1 on some output or bad state when stepped from the resets, every constraint being 1 at that step
+   and at all before. The x of the resets are numbered first; filling k has bit i of k at x number i; fillings are tried
+   from 0 up, at most `allowance`. `answer` is number (0: answered; 20: more than 20 x, the place is their number),
+   place, 1 for yes, 0 for no or 2 for undecided, and how many were tried. Tables are in binary order. */
 void golvanzo_witness(const uint64_t *counts /* 7 words */, GOLVANZO_GIVEN, GOLVANZO_SCRATCH, uint64_t number,
-                      const uint8_t *bytes, size_t bytes_len, uint64_t *answer /* 3 words */);
+                      const uint8_t *bytes, size_t bytes_len, uint64_t allowance, uint64_t *answer /* 4 words */);
+
+/* The same in three values, with nothing filled, for any number of x: 1 on some output or bad state; `answer` is number (0:
+   answered), place and 1 for yes, 0 for no. A yes is one of every filling too; a no need not be. */
+void golvanzo_witness3(const uint64_t *counts /* 7 words */, GOLVANZO_GIVEN, GOLVANZO_SCRATCH, uint64_t number,
+                       const uint8_t *bytes, size_t bytes_len, uint64_t *answer /* 3 words */);
 
 /* The needle report of `number` input vectors (I bytes each), stepped from the resets: for each output, then for each
    latch by its state at the start of each step, the steps at 0, at 1, at x, and those whose value differs from the

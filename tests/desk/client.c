@@ -259,39 +259,39 @@ static void trace(void) {
     }
 }
 
-static void witness(struct circuit c, uint64_t number, struct bytes list, uint64_t says, const char *what) {
+static void witness3(struct circuit c, uint64_t number, struct bytes list, uint64_t says, const char *what) {
     uint64_t answer[3];
-    golvanzo_witness(COUNTS(c), SEVEN(c), TABLE(c, SCRATCH), number, list.at, list.length, answer);
-    expect(answer[0] == 0 && answer[2] == says, what, "witness");
+    golvanzo_witness3(COUNTS(c), SEVEN(c), TABLE(c, SCRATCH), number, list.at, list.length, answer);
+    expect(answer[0] == 0 && answer[2] == says, what, "witness3");
 }
 
 /* tests/accepted/counter.aag: it starts at 1, counts where the first input is 1, is bad at 3; the second input must stay 0. */
 static void counted(void) {
     struct circuit c = read_file(FILE_OF("aig 11 2 2 0 7 1 1\n14 1\n20\n22\n5\n"
                                          "\x04\x04\x05\x04\x01\x02\x06\x02\x07\x02\x01\x02\x0e\x02"));
-    witness(c, 3, FILE_OF("101000"), 1, "1, 2, 3: the third step is bad");
-    witness(c, 2, FILE_OF("1010"), 0, "1, 2: not yet");
-    witness(c, 3, FILE_OF("001000"), 0, "1, 1, 2: not yet");
-    witness(c, 3, FILE_OF("101001"), 0, "the constraint is 0 at the step that is bad");
-    witness(c, 3, FILE_OF("101100"), 0, "the constraint was 0 at the step before");
-    witness(c, 3, FILE_OF("101x00"), 0, "a constraint that is x is not 1");
-    witness(c, 3, FILE_OF("10x000"), 0, "2 or 3 is not 3");
+    witness3(c, 3, FILE_OF("101000"), 1, "1, 2, 3: the third step is bad");
+    witness3(c, 2, FILE_OF("1010"), 0, "1, 2: not yet");
+    witness3(c, 3, FILE_OF("001000"), 0, "1, 1, 2: not yet");
+    witness3(c, 3, FILE_OF("101001"), 0, "the constraint is 0 at the step that is bad");
+    witness3(c, 3, FILE_OF("101100"), 0, "the constraint was 0 at the step before");
+    witness3(c, 3, FILE_OF("101x00"), 0, "a constraint that is x is not 1");
+    witness3(c, 3, FILE_OF("10x000"), 0, "2 or 3 is not 3");
 }
 
-static void witnesses(void) {
+static void witnesses3(void) {
     struct circuit c = read_file(FILE_OF("aig 3 2 0 1 1\n6\n\x02\x02"));
     uint64_t answer[3];
     struct bytes odd = FILE_OF("011");
-    witness(c, 0, FILE_OF(""), 0, "an empty list gives no");
-    witness(c, 2, FILE_OF("011x"), 0, "0 and 1, 1 and x: no");
-    witness(c, 2, FILE_OF("0111"), 1, "0 and 1, 1 and 1: yes");
-    golvanzo_witness(COUNTS(c), SEVEN(c), TABLE(c, SCRATCH), 2, odd.at, odd.length, answer);
-    expect(answer[0] == 12 && answer[1] == 2, "three bytes are no two vectors of two", "witness");
+    witness3(c, 0, FILE_OF(""), 0, "an empty list gives no");
+    witness3(c, 2, FILE_OF("011x"), 0, "0 and 1, 1 and x: no");
+    witness3(c, 2, FILE_OF("0111"), 1, "0 and 1, 1 and 1: yes");
+    golvanzo_witness3(COUNTS(c), SEVEN(c), TABLE(c, SCRATCH), 2, odd.at, odd.length, answer);
+    expect(answer[0] == 12 && answer[1] == 2, "three bytes are no two vectors of two", "witness3");
     c = read_file(FILE_OF(guard_binary));
-    witness(c, 2, FILE_OF("01"), 0, "x and 0 are no 1");
-    witness(c, 2, FILE_OF("11"), 1, "the bad state is 1 in the second step");
-    witness(read_file(FILE_OF("aig 2 1 1 0 0 1 1\n3 1\n1\n4\n")), 1, FILE_OF("0"), 1, "the constraint starts as 1");
-    witness(read_file(FILE_OF("aig 2 1 1 0 0 1 1\n3\n1\n4\n")), 2, FILE_OF("00"), 0, "the constraint starts as 0");
+    witness3(c, 2, FILE_OF("01"), 0, "x and 0 are no 1");
+    witness3(c, 2, FILE_OF("11"), 1, "the bad state is 1 in the second step");
+    witness3(read_file(FILE_OF("aig 2 1 1 0 0 1 1\n3 1\n1\n4\n")), 1, FILE_OF("0"), 1, "the constraint starts as 1");
+    witness3(read_file(FILE_OF("aig 2 1 1 0 0 1 1\n3\n1\n4\n")), 2, FILE_OF("00"), 0, "the constraint starts as 0");
     counted();
 }
 
@@ -313,6 +313,54 @@ static void reports(void) {
     expect(answer[0] == 13 && answer[1] == 65536, "13 comes before 12", "report");
     golvanzo_report(COUNTS(c), SEVEN(c), TABLE(c, SCRATCH), 3, list.at, list.length, six, 16, answer);
     expect(answer[0] == 12 && answer[1] == 2, "eight bytes are no three vectors of two", "report");
+}
+
+enum { NO, YES, UNDECIDED };
+
+static void witness(struct circuit c, uint64_t number, struct bytes list, uint64_t allowance, uint64_t says,
+                    uint64_t tried, const char *what) {
+    uint64_t answer[4];
+    golvanzo_witness(COUNTS(c), SEVEN(c), TABLE(c, SCRATCH), number, list.at, list.length, allowance, answer);
+    expect(answer[0] == 0 && answer[1] == 0 && answer[2] == says && answer[3] == tried, what, "witness");
+    expect(all_zero(c.table[SCRATCH], c.words[SCRATCH]), "scratch is zero", "witness");
+}
+
+static void not_asked(struct circuit c, uint64_t number, struct bytes list, uint64_t refusal, uint64_t place, const char *what) {
+    uint64_t answer[4] = {7, 7, 7, 7};
+    golvanzo_witness(COUNTS(c), SEVEN(c), TABLE(c, SCRATCH), number, list.at, list.length, 0, answer);
+    expect(answer[0] == refusal && answer[1] == place && answer[2] == 0 && answer[3] == 0, what, "witness");
+}
+
+/* An input and its negation on two outputs: in three values x shows no 1, but each filling does. On one output alone both agree. */
+static void fillings(void) {
+    struct circuit either = read_file(FILE_OF("aig 1 1 0 2 0\n2\n3\n")), alone = read_file(FILE_OF("aig 1 1 0 1 0\n2\n"));
+    struct circuit turned = read_file(FILE_OF("aig 1 1 0 1 0\n3\n"));
+    witness3(either, 1, FILE_OF("x"), 0, "x or not x: in three values no");
+    witness(either, 1, FILE_OF("x"), 2, YES, 2, "x or not x: both fillings show a 1");
+    witness(either, 1, FILE_OF("x"), UINT64_MAX, YES, 2, "more are allowed than there are");
+    witness(either, 1, FILE_OF("x"), 1, UNDECIDED, 1, "one filling of two does not decide");
+    witness(either, 1, FILE_OF("x"), 0, UNDECIDED, 0, "none is allowed");
+    witness(either, 0, FILE_OF(""), 1, NO, 1, "an empty list shows no 1");
+    witness3(alone, 1, FILE_OF("x"), 0, "x alone: no");
+    witness(alone, 1, FILE_OF("x"), 2, NO, 1, "x alone: filling 0 fails");
+    witness3(alone, 1, FILE_OF("1"), 1, "1 alone: yes");
+    witness(alone, 1, FILE_OF("1"), 1, YES, 1, "a list without x has one filling");
+    witness(turned, 2, FILE_OF("xx"), 4, NO, 4, "the last of four fillings fails");
+    witness(turned, 2, FILE_OF("xx"), 3, UNDECIDED, 3, "and is not reached by three");
+    not_asked(alone, 21, FILE_OF("xxxxxxxxxxxxxxxxxxxxx"), 20, 21, "21 x");
+    not_asked(alone, 21, FILE_OF("xxxxxxxxxxxxxxxxxxxx"), 12, 2, "12 comes first");
+}
+
+/* A latch that starts as x and then is 0; its negation is an output. x of the start come first, and a constraint counts from its step on. */
+static void fillings_of_starts(void) {
+    struct circuit c = read_file(FILE_OF("aig 2 1 1 1 0\n0 4\n5\n"));
+    struct circuit kept = read_file(FILE_OF("aig 2 1 1 1 0 0 1\n1\n4\n2\n"));
+    witness(c, 1, FILE_OF("x"), 4, NO, 2, "filling 1 has the start at 1");
+    witness(c, 1, FILE_OF("x"), 1, UNDECIDED, 1, "filling 0 has the start at 0");
+    witness(c, 2, FILE_OF("xx"), 8, YES, 8, "the second step shows it");
+    not_asked(c, 20, FILE_OF("xxxxxxxxxxxxxxxxxxxx"), 20, 21, "20 x and one of the start");
+    witness(kept, 2, FILE_OF("11"), 1, YES, 1, "1 at the second step");
+    witness(kept, 2, FILE_OF("x1"), 2, NO, 1, "but the constraint was 0 at the first");
 }
 
 static void refused(struct bytes file, uint64_t number, uint64_t place, const char *what) {
@@ -403,8 +451,10 @@ int main(void) {
     contradiction();
     unused_gates();
     trace();
-    witnesses();
     reports();
+    witnesses3();
+    fillings();
+    fillings_of_starts();
     refusals();
     table_refusals();
     little_scratch();

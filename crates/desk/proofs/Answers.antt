@@ -5,9 +5,11 @@ use mathlib.Core.List.{List}
 use Rattle.plan.specs.declared.Counts.{Counts}
 use Rattle.plan.specs.Circuit.{Tables}
 use Rattle.plan.specs.Given.{Given}
-use Rattle.plan.specs.Outcome.{CheckExit, FileEntry, FileExit, MakeEntry, MakeExit, StepExit, WitnessExit, checkedValues, writtenValues, madeValues, steppedValues, verdictValues}
+use Rattle.plan.specs.Outcome.{CheckExit, FileEntry, FileExit, MakeEntry, MakeExit, StepExit, WitnessExit, checkedValues, writtenValues, madeValues, steppedValues, verdictValues, findingValues}
 use Rattle.plan.specs.Outcome as outcome
-use Rattle.desk.specs.Told.{CheckTold, check, FileTold, toldFile, MakeTold, toldMade, StepTold, step, WitnessTold, witness}
+use Rattle.trying.specs.Fillings.{FilledExit}
+use Rattle.trying.specs.Fillings as fillings
+use Rattle.desk.specs.Told.{CheckTold, check, FileTold, toldFile, MakeTold, toldMade, StepTold, step, WitnessTold, witness, witness3}
 
 -- counts that C gives
 abbrev pub counted : Given → Counts → Given
@@ -46,10 +48,20 @@ step-told g state ins outs n x answer e says told =
     ∙ (ap (λ (y : StepExit). record { answer = steppedValues (y .answer); scratch = y .scratch; state = y .state; outputs = y .outputs }) says
     ∙ ap (λ (m : Counts). step (record { circuit = counted g m; state = state; inputs = ins; outputs = outs })) e)
 
-pub witness-told : (g : Given) (number : ℕ) (bytes : List ℕ) (n : Counts) (x : WitnessExit) (answer : List ℕ) → n ≡ g .counts
+pub witness-told : (g : Given) (number : ℕ) (bytes : List ℕ) (allowance : ℕ) (n : Counts) (x : FilledExit) (answer : List ℕ) → n ≡ g .counts
+    → x ≡ fillings.witness (record { list = record { circuit = counted g n; number = number; bytes = bytes }; allowance = allowance })
+    → answer ≡ findingValues (x .answer)
+    → _≡_ {A = WitnessTold} (record { answer = answer; scratch = x .scratch })
+    (witness (record { list = record { circuit = g; number = number; bytes = bytes }; allowance = allowance }))
+witness-told g number bytes allowance n x answer e says told =
+    ap (λ (a : List ℕ). record { answer = a; scratch = x .scratch }) told
+    ∙ (ap (λ (y : FilledExit). record { answer = findingValues (y .answer); scratch = y .scratch }) says
+    ∙ ap (λ (m : Counts). witness (record { list = record { circuit = counted g m; number = number; bytes = bytes }; allowance = allowance })) e)
+
+pub witness3-told : (g : Given) (number : ℕ) (bytes : List ℕ) (n : Counts) (x : WitnessExit) (answer : List ℕ) → n ≡ g .counts
     → x ≡ outcome.witness3 (record { circuit = counted g n; number = number; bytes = bytes }) → answer ≡ verdictValues (x .answer)
-    → _≡_ {A = WitnessTold} (record { answer = answer; scratch = x .scratch }) (witness (record { circuit = g; number = number; bytes = bytes }))
-witness-told g number bytes n x answer e says told =
+    → _≡_ {A = WitnessTold} (record { answer = answer; scratch = x .scratch }) (witness3 (record { circuit = g; number = number; bytes = bytes }))
+witness3-told g number bytes n x answer e says told =
     ap (λ (a : List ℕ). record { answer = a; scratch = x .scratch }) told
     ∙ (ap (λ (y : WitnessExit). record { answer = verdictValues (y .answer); scratch = y .scratch }) says
-    ∙ ap (λ (m : Counts). witness (record { circuit = counted g m; number = number; bytes = bytes })) e)
+    ∙ ap (λ (m : Counts). witness3 (record { circuit = counted g m; number = number; bytes = bytes })) e)

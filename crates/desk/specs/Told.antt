@@ -3,9 +3,11 @@ use Prim.Native.Nat.{ℕ}
 use mathlib.Core.List.{List}
 use Rattle.plan.specs.Given.{Given}
 use Rattle.plan.specs.Circuit.{Tables}
-use Rattle.plan.specs.Outcome.{FileEntry, FileExit, MakeEntry, MakeExit, StepEntry, WitnessEntry, checkedValues, writtenValues, madeValues, steppedValues, verdictValues}
+use Rattle.plan.specs.Outcome.{FileEntry, FileExit, MakeEntry, MakeExit, StepEntry, WitnessEntry, checkedValues, writtenValues, madeValues, steppedValues, verdictValues, findingValues}
 use Rattle.plan.specs.Outcome as outcome
 use Rattle.plan.specs.Drop as drop
+use Rattle.trying.specs.Fillings.{FilledEntry}
+use Rattle.trying.specs.Fillings as fillings
 
 pub record CheckTold : Type 0 where
   pub answer : List ℕ
@@ -47,7 +49,7 @@ reduction e = toldMade (outcome.reduction e)
 abbrev pub dropping : MakeEntry → MakeTold
 dropping e = toldMade (drop.dropping e)
 
--- the stepper and the witness question
+-- the stepper and the witness question, by fillings and in three values
 pub record StepTold : Type 0 where
   pub answer : List ℕ
   pub scratch : List ℕ
@@ -61,5 +63,8 @@ pub record WitnessTold : Type 0 where
   pub answer : List ℕ
   pub scratch : List ℕ
 
-abbrev pub witness : WitnessEntry → WitnessTold
-witness e = let x = outcome.witness3 e in record { answer = verdictValues (x .answer); scratch = x .scratch }
+abbrev pub witness : FilledEntry → WitnessTold
+witness e = let x = fillings.witness e in record { answer = findingValues (x .answer); scratch = x .scratch }
+
+abbrev pub witness3 : WitnessEntry → WitnessTold
+witness3 e = let x = outcome.witness3 e in record { answer = verdictValues (x .answer); scratch = x .scratch }

@@ -5,7 +5,7 @@ ghost use Rattle.plan.specs.Circuit.{seven};
 ghost use Rattle.plan.specs.Header.{wordsFor, countsFrom};
 ghost use Rattle.plan.specs.Outcome.{Says, read, read2007};
 ghost use Rattle.given.specs.Judged.{givenAt};
-ghost use Rattle.desk.specs.Told.{check, writeText, writeBinary, conversion, reduction, dropping, step, witness};
+ghost use Rattle.desk.specs.Told.{check, writeText, writeBinary, conversion, reduction, dropping, step, witness, witness3};
 ghost use Rattle.desk.specs.Reported.{report};
 use plan::Version;
 
@@ -455,7 +455,8 @@ pub extern "C" fn golvanzo_step(
     told::stepped(r, answer);
 }
 
-// The witness question on a list of vectors: number (0: answered), place, and 1 for yes or 0 for no.
+// The witness question by fillings, of which at most `allowance` are tried: number (0: answered), place, 1 for yes, 0 for no or 2 for undecided,
+// and how many were tried.
 #[no_mangle]
 pub extern "C" fn golvanzo_witness(
     counts: &[u64; 7],
@@ -469,9 +470,58 @@ pub extern "C" fn golvanzo_witness(
     scratch: &mut [u32],
     number: u64,
     bytes: &[u8],
-    answer: &mut [u64; 3],
+    allowance: u64,
+    answer: &mut [u64; 4],
 )
     ensures { λ _. ⌜ Says witness
+        (record {
+          list = (record {
+            circuit = givenAt (countsFrom (now (counts .entry)))
+                (seven (now (inputs .entry)) (now (latches .entry)) (now (outputs .entry)) (now (gates .entry)) (now (resets .entry)) (now (bads .entry))
+                (now (constraints .entry)))
+                (now (scratch .entry));
+            number = number;
+            bytes = now (bytes .entry);
+          });
+          allowance = allowance;
+        })
+        (record { answer = now (answer .exit); scratch = now (scratch .exit) }) ⌝ }
+{
+    let n = told::counts(counts);
+    let r = fillings::witness(
+        n,
+        inputs,
+        latches,
+        outputs,
+        gates,
+        resets,
+        bads,
+        constraints,
+        scratch,
+        number as usize,
+        bytes,
+        allowance as usize,
+    );
+    findings::finding(r, answer);
+}
+
+// The witness question in three values, in which nothing is filled: number (0: answered), place, and 1 for yes or 0 for no.
+#[no_mangle]
+pub extern "C" fn golvanzo_witness3(
+    counts: &[u64; 7],
+    inputs: &[u32],
+    latches: &[u32],
+    outputs: &[u32],
+    gates: &[u32],
+    resets: &[u32],
+    bads: &[u32],
+    constraints: &[u32],
+    scratch: &mut [u32],
+    number: u64,
+    bytes: &[u8],
+    answer: &mut [u64; 3],
+)
+    ensures { λ _. ⌜ Says witness3
         (record {
           circuit = givenAt (countsFrom (now (counts .entry)))
               (seven (now (inputs .entry)) (now (latches .entry)) (now (outputs .entry)) (now (gates .entry)) (now (resets .entry)) (now (bads .entry))
@@ -483,7 +533,7 @@ pub extern "C" fn golvanzo_witness(
         (record { answer = now (answer .exit); scratch = now (scratch .exit) }) ⌝ }
 {
     let n = told::counts(counts);
-    let r = witness::witness(
+    let r = witness::witness3(
         n,
         inputs,
         latches,

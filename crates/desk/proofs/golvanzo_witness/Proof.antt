@@ -4,7 +4,7 @@ use Rattle.plan.specs.Circuit.{seven}
 use Rattle.plan.specs.Header.{countsFrom}
 use Rattle.plan.specs.Given.{Given}
 use Rattle.given.specs.Judged.{givenAt}
-use Rattle.plan.specs.Outcome.{WitnessExit}
+use Rattle.trying.specs.Fillings.{FilledExit}
 use Rattle.desk.proofs.Answers.{witness-told}
 use Rattle.desk.proofs.golvanzo_witness.Statement.{statement}
 use Rattle.desk.proofs.golvanzo_witness.Tie as tie
@@ -15,8 +15,8 @@ counts-requires c κs = search needs
 witness-requires : tie.Need-witness-requires
 witness-requires c κs = search needs
 
-verdict-requires : tie.Need-verdict-requires
-verdict-requires c κs = search needs
+finding-requires : tie.Need-finding-requires
+finding-requires c κs = search needs
 
 same-length : tie.Need-same-length
 same-length c = omega (arith, c .before .before .before .scratch .given)
@@ -30,8 +30,8 @@ returns c =
     let a = start .args in
     let g : Given = givenAt (countsFrom (a .counts .now)) (seven (a .inputs .now) (a .latches .now) (a .outputs .now) (a .gates .now)
     (a .resets .now) (a .bads .now) (a .constraints .now)) (a .scratch .now) in
-    let x : WitnessExit = record { answer = asked .result; scratch = asked .last .1 .1 .1 .1 .1 .1 .1 .1 .0 } in
-    witness-told g (a .number) (a .bytes .now) _ x _ (counts′ .ensures) (asked .ensures) (c .verdict .ensures)
+    let x : FilledExit = record { answer = asked .result; scratch = asked .last .1 .1 .1 .1 .1 .1 .1 .1 .0 } in
+    witness-told g (a .number) (a .bytes .now) (a .allowance) _ x _ (counts′ .ensures) (asked .ensures) (c .finding .ensures)
 
 pub golvanzo-witness-spec : {M : Type 1} → statement M
 golvanzo-witness-spec =
@@ -39,6 +39,6 @@ golvanzo-witness-spec =
     (tie.spec
     counts-requires
     witness-requires
-    verdict-requires
+    finding-requires
     same-length
     returns)
