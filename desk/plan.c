@@ -222,11 +222,22 @@ struct plan_end plan_step(struct plan *plan, uint8_t *state, const uint8_t *inpu
     return end_of(answer);
 }
 
-struct plan_end plan_witness(struct plan *plan, uint64_t number, const uint8_t *vectors, size_t length, int *yes) {
+struct plan_end plan_witness(struct plan *plan, uint64_t number, const uint8_t *vectors, size_t length,
+                             uint64_t allowance, struct plan_finding *finding) {
+    uint64_t answer[4];
+    if (!ready(plan))
+        return no_memory;
+    golvanzo_witness(plan->counts, TABLES(plan), SCRATCH(plan), number, vectors, length, allowance, answer);
+    finding->says = answer[2] == 1 ? PLAN_YES : answer[2] == 2 ? PLAN_UNDECIDED : PLAN_NO;
+    finding->tried = answer[3];
+    return end_of(answer);
+}
+
+struct plan_end plan_witness3(struct plan *plan, uint64_t number, const uint8_t *vectors, size_t length, int *yes) {
     uint64_t answer[3];
     if (!ready(plan))
         return no_memory;
-    golvanzo_witness(plan->counts, TABLES(plan), SCRATCH(plan), number, vectors, length, answer);
+    golvanzo_witness3(plan->counts, TABLES(plan), SCRATCH(plan), number, vectors, length, answer);
     *yes = answer[2] == 1;
     return end_of(answer);
 }

@@ -68,8 +68,20 @@ void plan_first(const struct plan *plan, uint8_t *state);
 /* One step in binary order: L bytes of state, which become the next, I bytes of inputs, O bytes of outputs. */
 struct plan_end plan_step(struct plan *plan, uint8_t *state, const uint8_t *inputs, uint8_t *outputs);
 
-/* The witness question for a number of vectors, I bytes each, one after another; *yes is 1 or 0. */
-struct plan_end plan_witness(struct plan *plan, uint64_t number, const uint8_t *vectors, size_t length, int *yes);
+/* What the witness question says: whether every filling of the x shows a 1, and how many were tried. */
+struct plan_finding {
+    enum { PLAN_NO, PLAN_YES, PLAN_UNDECIDED } says;
+    uint64_t tried;
+};
+
+/* An allowance that decides every list: with more x than 20 it is refused. */
+#define PLAN_ALL_FILLINGS ((uint64_t)1 << 20)
+
+/* The witness question for a number of vectors, I bytes each, one after another, and for as many fillings as are allowed;
+   the same in three values, where *yes is 1 or 0. */
+struct plan_end plan_witness(struct plan *plan, uint64_t number, const uint8_t *vectors, size_t length,
+                             uint64_t allowance, struct plan_finding *finding);
+struct plan_end plan_witness3(struct plan *plan, uint64_t number, const uint8_t *vectors, size_t length, int *yes);
 
 /* The needle report of a number of vectors, I bytes each, stepped from the resets: four words for each output, then for
    each latch, the steps at 0, at 1, at x and those that differ from the step before; 4 * (O + L) words. */

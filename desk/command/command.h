@@ -12,7 +12,7 @@
 enum { DONE = 0, REFUSED = 1, DIFFERENT = 1, FAILED = 2 };
 
 /* The paper's numbers that the command itself says, as the programs do: their places are the paper's too. */
-enum { WRONG_BYTE = 1, BAD_VECTOR = 12, UNREADABLE = 14 };
+enum { WRONG_BYTE = 1, BAD_VECTOR = 12, UNREADABLE = 14, MANY_X = 20 };
 
 /* A file as it was read, with the name that people know it by. */
 struct source {
@@ -24,7 +24,7 @@ struct source {
 /* What is asked: the words of the command line. `second` is the file of vectors or the other plan; it and `out` may be null. */
 struct request {
     const char *file, *second, *out;
-    int vcd, large, names;
+    int vcd, large, names, three;
 };
 
 /* files.c. `read_source` says itself why a file can't be read, as 14. */

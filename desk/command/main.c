@@ -5,7 +5,7 @@
 #include "command.h"
 
 /* What a command may take, beside FILE, -o FILE and --help, which all take: a second file, which some need, and options. */
-enum { TAKES_SECOND = 1, NEEDS_SECOND = 2, TAKES_VCD = 4, TAKES_LARGE = 8, TAKES_NAMES = 16 };
+enum { TAKES_SECOND = 1, NEEDS_SECOND = 2, TAKES_VCD = 4, TAKES_LARGE = 8, TAKES_NAMES = 16, TAKES_THREE = 32 };
 
 /* A command is given the plan of its file, or the file alone where only the header is looked at. */
 struct command {
@@ -29,9 +29,11 @@ static const struct command commands[] = {
      "--vcd writes a waveform instead, for GTKWave and others, with the names of the plan.\n"
      "Without VECTORS they are read from standard input.",
      TAKES_SECOND | TAKES_VCD, run_trace, NULL},
-    {"witness", "FILE [VECTORS]", "says whether some step gives 1 on some output or bad state",
-     "Vectors are as for trace. \"yes\" or \"no\"; every constraint must be 1 at that step and before it.",
-     TAKES_SECOND, run_witness, NULL},
+    {"witness", "[--three] FILE [VECTORS]", "says whether the vectors give 1 on some output or bad state",
+     "Vectors are as for trace. \"yes\" if they do whatever the x of resets and vectors are, 0 or 1, else \"no\", and how\n"
+     "many fillings of the x were tried; every constraint must be 1 at that step and before it. At most 20 x are filled.\n"
+     "--three fills none and steps in three values: \"yes\" holds for every filling then, \"no\" says nothing of them.",
+     TAKES_SECOND | TAKES_THREE, run_witness, NULL},
     {"report", "[--names] FILE [VECTORS]", "says for each output and latch its steps at 0, at 1, at x, and its changes",
      "Vectors are as for trace, at most 65536. A line for each output, then for each latch: o0 or l0 and so on, and four\n"
      "numbers; the last is that of steps with another value than the step before. A latch is looked at before each step.\n"
@@ -62,6 +64,7 @@ static const struct {
     {"--vcd", TAKES_VCD, offsetof(struct request, vcd)},
     {"--large", TAKES_LARGE, offsetof(struct request, large)},
     {"--names", TAKES_NAMES, offsetof(struct request, names)},
+    {"--three", TAKES_THREE, offsetof(struct request, three)},
 };
 
 enum { OPTIONS = sizeof options / sizeof options[0] };

@@ -3,6 +3,7 @@
 #include <string.h>
 
 #include "command.h"
+#include "say.h"
 #include "vcd.h"
 
 /* State, inputs, outputs, next state, one space between (docs/PAPER.md, "Programs and their output"). */
@@ -88,16 +89,41 @@ int run_trace(const struct request *request, const struct source *file, struct p
     return status;
 }
 
+/* In three values: "yes" or "no". */
+static int ask_three(const struct request *request, const struct source *file, struct plan *plan,
+                     const struct vectors *vectors, const uint8_t *list, size_t length) {
+    int yes, status = ended(plan_witness3(plan, vectors->number, list, length, &yes), file);
+    return status != DONE ? status : write_output(request->out, (const uint8_t *)(yes ? "yes\n" : "no\n"), yes ? 4 : 3);
+}
+
+/* By fillings: "yes" or "no", and how many were tried. With allowance for all it is never undecided. */
+static int ask_fillings(const struct request *request, const struct source *file, struct plan *plan,
+                        const struct vectors *vectors, const uint8_t *list, size_t length) {
+    struct plan_finding found;
+    char line[48];
+    struct plan_end end = plan_witness(plan, vectors->number, list, length, PLAN_ALL_FILLINGS, &found);
+    if (end.number == MANY_X) {
+        say_number(vectors->source.name, end);
+        say_more("resets and vectors have %llu x, of which 20 at most are filled; --three asks in three values",
+                 (unsigned long long)end.place);
+        return REFUSED;
+    }
+    int status = ended(end, file);
+    if (status != DONE)
+        return status;
+    snprintf(line, sizeof line, "%s, %llu %s tried\n", found.says == PLAN_YES ? "yes" : "no",
+             (unsigned long long)found.tried, found.tried == 1 ? "filling" : "fillings");
+    return write_output(request->out, (const uint8_t *)line, strlen(line));
+}
+
 int run_witness(const struct request *request, const struct source *file, struct plan *plan) {
     struct vectors vectors;
     uint8_t *list;
-    int yes, status = read_list(request, file, plan, &vectors, &list);
+    int status = read_list(request, file, plan, &vectors, &list);
     if (status != DONE)
         return status;
     size_t length = (size_t)(vectors.number * plan->counts[PLAN_I]);
-    status = ended(plan_witness(plan, vectors.number, list, length, &yes), file);
-    if (status == DONE)
-        status = write_output(request->out, (const uint8_t *)(yes ? "yes\n" : "no\n"), yes ? 4 : 3);
+    status = (request->three ? ask_three : ask_fillings)(request, file, plan, &vectors, list, length);
     free_list(&vectors, list);
     return status;
 }

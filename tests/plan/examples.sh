@@ -56,21 +56,37 @@ words_and_check() {
     accepts "$room/names" check "$room/plan"
 }
 
-# The guard's bad state shows in the third step, but not without it.
+# answers WORD VECTORS THREE: by fillings, with their number, and in three values.
+answers() {
+    echo "$1" >"$room/found"
+    printf '%s' "$2" >"$room/vectors"
+    accepts "$room/found" witness "$room/plan" "$room/vectors"
+    echo "$3" >"$room/found"
+    accepts "$room/found" witness --three "$room/plan" "$room/vectors"
+}
+
+# An And of two inputs; a latch that is bad when it is 1; an input and its negation, of which one is 1 whatever x is; a latch that starts as x.
 witnesses() {
-    echo yes >"$room/yes"
-    echo no >"$room/no"
+    local list
     printf 'aag 3 2 0 1 1\n2\n4\n6\n6 2 4\n' >"$room/plan"
-    printf '01\n11\n' >"$room/vectors"
-    accepts "$room/yes" witness "$room/plan" "$room/vectors"
-    printf '01\n1x\n' >"$room/vectors"
-    accepts "$room/no" witness "$room/plan" "$room/vectors"
-    accepts "$room/no" witness "$room/plan" /dev/null
+    answers "yes, 1 filling tried" $'01\n11\n' yes
+    answers "no, 1 filling tried" $'01\n1x\n' no
+    answers "no, 1 filling tried" '' no
     printf 'aag 1 0 1 0 0 1 0\n2 3 0\n2\n' >"$room/plan"
-    printf '\n\n' >"$room/vectors"
-    accepts "$room/yes" witness "$room/plan" "$room/vectors"
-    printf '\n' >"$room/vectors"
-    accepts "$room/no" witness "$room/plan" "$room/vectors"
+    answers "yes, 1 filling tried" $'\n\n' yes
+    answers "no, 1 filling tried" $'\n' no
+    printf 'aag 1 1 0 2 0\n2\n2\n3\n' >"$room/plan"
+    answers "yes, 2 fillings tried" $'x\n' no
+    printf 'aag 2 1 1 1 0\n2\n4 0 4\n5\n' >"$room/plan"
+    answers "no, 2 fillings tried" $'x\n' no
+    answers "yes, 8 fillings tried" $'x\nx\n' yes
+    list=$(printf 'x\n%.0s' {1..20})$'\n'
+    answers "yes, 1048576 fillings tried" "${list#$'x\n'}" yes
+    printf '%s' "$list" >"$room/vectors"
+    refuses "vectors: refused 20 at 21" witness "$room/plan" "$room/vectors"
+    holds "20 names --three" grep -q -e "have 21 x, of which 20 at most are filled; --three asks" "$room/error"
+    echo yes >"$room/found"
+    accepts "$room/found" witness --three "$room/plan" "$room/vectors"
 }
 
 # A waveform and a drawing, whole.
@@ -173,6 +189,7 @@ usage() {
     done
     misuses "plan convert" convert examples/toggle.aag examples/guard.aag
     misuses "plan convert" convert --vcd examples/toggle.aag
+    misuses "plan trace" trace --three examples/toggle.aag
     misuses "plan check "
     misuses "plan check " sideways examples/toggle.aag
 }
