@@ -77,8 +77,7 @@ last-fails : map (λ (a : ℕ). question turned 2 (120 ∷ 120 ∷ []) a) (3 ∷
 unfolding turned
 last-fails = refl
 
--- input 2 and a latch, 4, that starts as x and becomes 0; 4 is bad, and 2 is to be 1. The start's x has number 0: on the list 1, filling
--- 0 fails; on x, filling 0 leaves the start at 0 too
+-- a latch that starts as x and becomes 0 is bad, and the input is to be 1: filling 0, which has the start at 0, shows no 1
 guarded : Circuit
 guarded = record {
   M = 2;
@@ -95,8 +94,8 @@ guarded-new : map (λ (bytes : List ℕ). question guarded 1 bytes 4) ((49 ∷ [
 unfolding guarded
 guarded-new = refl
 
--- the negation of the latch is an output: on the list x, filling 1, a start at 1, is the first that shows no 1; were the list's x
--- numbered first, filling 0 with the list at 0 would fail
+-- the negation of the latch is an output: on the list x, filling 1, which has the start at 1, is the first that shows no 1; were the
+-- list's x numbered first, it would be filling 2
 started : Circuit
 started = record {
   M = 2;
