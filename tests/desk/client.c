@@ -325,16 +325,18 @@ static void witness(struct circuit c, uint64_t number, struct bytes list, uint64
     expect(all_zero(c.table[SCRATCH], c.words[SCRATCH]), "scratch is zero", "witness");
 }
 
-static void not_asked(struct circuit c, uint64_t number, struct bytes list, uint64_t refusal, uint64_t place, const char *what) {
+static void not_asked(struct circuit c, uint64_t number, struct bytes list, uint64_t refusal, uint64_t place,
+                      const char *what) {
     uint64_t answer[4] = {7, 7, 7, 7};
     golvanzo_witness(COUNTS(c), SEVEN(c), TABLE(c, SCRATCH), number, list.at, list.length, 0, answer);
     expect(answer[0] == refusal && answer[1] == place && answer[2] == 0 && answer[3] == 0, what, "witness");
 }
 
-/* An input and its negation on two outputs: in three values x shows no 1, but each filling does. On one output alone both agree. */
+/* An input and its negation on two outputs: in three values x shows no 1, but each filling does. On one output alone both
+   questions agree. */
 static void fillings(void) {
-    struct circuit either = read_file(FILE_OF("aig 1 1 0 2 0\n2\n3\n")), alone = read_file(FILE_OF("aig 1 1 0 1 0\n2\n"));
-    struct circuit turned = read_file(FILE_OF("aig 1 1 0 1 0\n3\n"));
+    struct circuit either = read_file(FILE_OF("aig 1 1 0 2 0\n2\n3\n"));
+    struct circuit alone = read_file(FILE_OF("aig 1 1 0 1 0\n2\n")), turned = read_file(FILE_OF("aig 1 1 0 1 0\n3\n"));
     witness3(either, 1, FILE_OF("x"), 0, "x or not x: in three values no");
     witness(either, 1, FILE_OF("x"), 2, YES, 2, "x or not x: both fillings show a 1");
     witness(either, 1, FILE_OF("x"), UINT64_MAX, YES, 2, "more are allowed than there are");
@@ -351,7 +353,8 @@ static void fillings(void) {
     not_asked(alone, 21, FILE_OF("xxxxxxxxxxxxxxxxxxxx"), 12, 2, "12 comes first");
 }
 
-/* A latch that starts as x and then is 0; its negation is an output. x of the start come first, and a constraint counts from its step on. */
+/* A latch that starts as x and then is 0; its negation is an output. The x of the start come first. A constraint counts
+   from its step on. */
 static void fillings_of_starts(void) {
     struct circuit c = read_file(FILE_OF("aig 2 1 1 1 0\n0 4\n5\n"));
     struct circuit kept = read_file(FILE_OF("aig 2 1 1 1 0 0 1\n1\n4\n2\n"));
