@@ -65,7 +65,8 @@ answers() {
     accepts "$room/found" witness --three "$room/plan" "$room/vectors"
 }
 
-# An And of two inputs; a latch that is bad when it is 1; an input and its negation, of which one is 1 whatever x is; a latch that starts as x.
+# An And of two inputs; a latch that is bad when it is 1; an input and its negation, of which one is 1 whatever x is; the README's example; a
+# latch that starts as x.
 witnesses() {
     local list
     printf 'aag 3 2 0 1 1\n2\n4\n6\n6 2 4\n' >"$room/plan"
@@ -77,6 +78,8 @@ witnesses() {
     answers "no, 1 filling tried" $'\n' no
     printf 'aag 1 1 0 2 0\n2\n2\n3\n' >"$room/plan"
     answers "yes, 2 fillings tried" $'x\n' no
+    cp examples/selector.aag "$room/plan"
+    answers "yes, 4 fillings tried" $'xx1\n' no
     printf 'aag 2 1 1 1 0\n2\n4 0 4\n5\n' >"$room/plan"
     answers "no, 2 fillings tried" $'x\n' no
     answers "yes, 8 fillings tried" $'x\nx\n' yes
