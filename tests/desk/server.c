@@ -12,10 +12,11 @@
    6 convert    given, a circuit's tables to write, answer                all of these
    7 reduce     the same                                                  all of these
    8 step       given, state, inputs, outputs, answer                     all of these
-   9 witness    given, u64 number, list, answer                           all of these but the number
+   9 witness    given, u64 number, u64 allowance, list, answer            all of these but the numbers
    10 read2007  as read                                                   as read
    11 drop      as reduce                                                 as reduce
    12 report    given, table 6, u64 number, list, answer                  all of these but the number
+   13 witness3  given, u64 number, list, answer                           all of these but the number
 
    Given are counts, a circuit's tables (1 to 4, 7 to 9) and scratch. What these are is said in wire.h. */
 #include <stdint.h>
@@ -99,9 +100,19 @@ static void call_step(void) {
 
 static void call_witness(void) {
     struct given given = get_given();
+    uint64_t number = get_number(), allowance = get_number();
+    struct memory list = get_vector(), answer = get_numbers();
+    golvanzo_witness(CIRCUIT_OF(given), LENT(given.scratch), number, LENT(list), allowance, answer.lent);
+    put_given(given);
+    put_memory(list);
+    put_memory(answer);
+}
+
+static void call_witness3(void) {
+    struct given given = get_given();
     uint64_t number = get_number();
     struct memory list = get_vector(), answer = get_numbers();
-    golvanzo_witness(CIRCUIT_OF(given), LENT(given.scratch), number, LENT(list), answer.lent);
+    golvanzo_witness3(CIRCUIT_OF(given), LENT(given.scratch), number, LENT(list), answer.lent);
     put_given(given);
     put_memory(list);
     put_memory(answer);
@@ -160,6 +171,9 @@ int main(void) {
             break;
         case 12:
             call_report();
+            break;
+        case 13:
+            call_witness3();
             break;
         default:
             give_up("no such call");

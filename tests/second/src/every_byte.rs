@@ -41,9 +41,13 @@ fn values(library: &dyn Library, byte: u8) -> Result<(), String> {
     for other in *b"01x" {
         compare(library, Call::Step, &lent(Call::Step, &[&[byte], &[other], b"?"]))?;
         compare(library, Call::Step, &lent(Call::Step, &[&[other], &[byte], b"?"]))?;
-        for call in [Call::Witness, Call::Report] {
+        for (call, numbers) in [
+            (Call::Witness, vec![3, 5]),
+            (Call::Witness3, vec![3]),
+            (Call::Report, vec![3]),
+        ] {
             let mut question = lent(call, &[&[b'1', other, byte]]);
-            question.number = Some(3);
+            question.numbers = numbers;
             compare(library, call, &question)?;
         }
     }

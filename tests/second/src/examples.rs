@@ -1,6 +1,7 @@
 //! The worked examples below `tests/`: files, each with the answer that the paper or the AIGER report gives beside it.
 
 mod calls;
+mod fillings;
 mod plans;
 
 use crate::aiger::read::{self, header};
@@ -41,6 +42,7 @@ pub fn run(tally: &mut Tally, library: Option<&dyn Library>) {
         tally.check(&name, example(&path).and_then(|example| check(&example, library)));
     }
     plans::run(tally);
+    fillings::run(tally, library);
 }
 
 /// All circuits in `accepted` and `refused-NN`.

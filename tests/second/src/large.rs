@@ -1,6 +1,7 @@
 //! A long chain of gates, last gate first: quick only if no step looks at all gates again.
 
 use crate::aiger::convert::convert;
+use crate::aiger::fillings::MOST_X;
 use crate::aiger::report::MOST_STEPS;
 use crate::aiger::{literal, meaning, read, step, write, Circuit, Form, Version};
 use crate::compare::{compare, tables};
@@ -83,7 +84,28 @@ fn compared(library: &dyn Library, a: usize) -> Result<(), String> {
     called(library, Call::Convert, &upside_down(FEWER), &[])?;
     [MOST_STEPS, MOST_STEPS + 1]
         .into_iter()
-        .try_for_each(|number| reported(library, number))
+        .try_for_each(|number| reported(library, number))?;
+    [u64::MAX, (1 << MOST_X) - 1]
+        .into_iter()
+        .try_for_each(|allowance| filled(library, allowance))
+}
+
+/// An input or its negation is 1 in each filling of as many x as there may be, half of them in the first state.
+fn filled(library: &dyn Library, allowance: u64) -> Result<(), String> {
+    let latches = (2..=MOST_X / 2 + 1).map(|v| [literal(v), literal(v)]);
+    let circuit = Circuit {
+        m: MOST_X as u64 / 2 + 1,
+        inputs: vec![2],
+        outputs: vec![3],
+        bads: vec![2],
+        resets: latches.clone().map(|latch| latch[0]).collect(),
+        latches: latches.collect(),
+        ..Circuit::default()
+    };
+    let mut lent = given::lend(Call::Witness, &given::exactly(Call::Witness, &circuit), JUNK);
+    lent.numbers = vec![MOST_X as u64 / 2, allowance];
+    lent.bytes = vec![Memory::around(&[b'x'; MOST_X / 2], JUNK)];
+    tables::compare(library, Call::Witness, &lent)
 }
 
 /// A report of so many vectors, which are all there.
@@ -97,7 +119,7 @@ fn reported(library: &dyn Library, number: u64) -> Result<(), String> {
     };
     let list: Vec<u8> = (0..number).map(|k| b"01x"[(k * k % 7 % 3) as usize]).collect();
     let mut lent = given::lend(Call::Report, &given::exactly(Call::Report, &circuit), JUNK);
-    lent.number = Some(number);
+    lent.numbers = vec![number];
     lent.bytes = vec![Memory::around(&list, JUNK)];
     tables::compare(library, Call::Report, &lent)
 }

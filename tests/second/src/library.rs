@@ -49,10 +49,11 @@ pub enum Call {
     Witness,
     Drop,
     Report,
+    Witness3,
 }
 
 impl Call {
-    pub const ALL: [Call; 9] = [
+    pub const ALL: [Call; 10] = [
         Call::Check,
         Call::WriteText,
         Call::WriteBinary,
@@ -62,6 +63,7 @@ impl Call {
         Call::Witness,
         Call::Drop,
         Call::Report,
+        Call::Witness3,
     ];
 
     pub fn named(name: &str) -> Option<Call> {
@@ -79,6 +81,7 @@ impl Call {
             Call::Witness => "witness",
             Call::Drop => "drop",
             Call::Report => "report",
+            Call::Witness3 => "witness3",
         }
     }
 
@@ -87,7 +90,8 @@ impl Call {
         match self {
             Call::Check | Call::Convert => &[2, 3, 4, 5, 6, 7, 8],
             Call::Reduce | Call::Drop => &[2, 3, 4, 5, 6, 7, 8, 15],
-            Call::Step | Call::Witness => &[2, 3, 4, 5, 6, 7, 8, 12, 15],
+            Call::Step | Call::Witness3 => &[2, 3, 4, 5, 6, 7, 8, 12, 15],
+            Call::Witness => &[2, 3, 4, 5, 6, 7, 8, 12, 15, 20],
             Call::Report => &[2, 3, 4, 5, 6, 7, 8, 12, 13, 15],
             Call::WriteText => &[1, 2, 3, 4, 5, 6, 7, 8, 10, 11],
             Call::WriteBinary => &[1, 2, 3, 4, 5, 6, 7, 8, 10, 11, 15],
@@ -103,14 +107,15 @@ impl Call {
     pub fn answers(self) -> u64 {
         match self {
             Call::Check | Call::Step | Call::Report => 2,
-            Call::WriteText | Call::WriteBinary | Call::Witness => 3,
+            Call::WriteText | Call::WriteBinary | Call::Witness3 => 3,
+            Call::Witness => 4,
             Call::Convert | Call::Reduce | Call::Drop => 9,
         }
     }
 
-    /// Whether it is given values.
+    /// Whether its values are counted.
     pub fn takes_vectors(self) -> bool {
-        matches!(self, Call::Step | Call::Witness)
+        matches!(self, Call::Step | Call::Witness3)
     }
 
     /// Whether it is lent a circuit's tables for writing.
@@ -136,12 +141,19 @@ pub struct Lent {
     pub scratch: Memory<u32>,
     /// The same tables again, of conversion, reduction and dropping; of a report table 6.
     pub written: Vec<Memory<u32>>,
-    /// How many vectors, of the witness question and of a report.
-    pub number: Option<u64>,
-    /// Of a writer the tail and the buffer; of the stepper state, inputs, outputs; of the witness question and of a
+    /// How many vectors, of the witness questions and of a report; of that of fillings the allowance too.
+    pub numbers: Vec<u64>,
+    /// Of a writer the tail and the buffer; of the stepper state, inputs, outputs; of the witness questions and of a
     /// report the list.
     pub bytes: Vec<Memory<u8>>,
     pub answer: Memory<u64>,
+}
+
+impl Lent {
+    /// The first of its numbers, 0 if it has none.
+    pub fn number(&self) -> u64 {
+        self.numbers.first().copied().unwrap_or(0)
+    }
 }
 
 pub enum Question {

@@ -84,3 +84,15 @@ pub fn values(circuit: &Circuit, state: &[u8], input: &[u8]) -> Vec<u8> {
     }
     values
 }
+
+/// All that comes of putting 0 or 1 at each x: first of all, the last x is 0, and below it all others are tried.
+pub fn fillings(values: &[u8], all: &mut Vec<Vec<u8>>) {
+    let Some(last) = values.iter().rposition(|&value| value == b'x') else {
+        return all.push(values.to_vec());
+    };
+    for value in *b"01" {
+        let mut fewer = values.to_vec();
+        fewer[last] = value;
+        fillings(&fewer, all);
+    }
+}

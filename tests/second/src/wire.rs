@@ -33,6 +33,7 @@ fn number(call: Call) -> u32 {
         Call::Witness => 9,
         Call::Drop => 11,
         Call::Report => 12,
+        Call::Witness3 => 13,
     }
 }
 
@@ -72,7 +73,7 @@ fn put_lent(bytes: &mut Vec<u8>, lent: &Lent) {
     lent.tables.iter().for_each(|table| put_memory(bytes, table));
     put_memory(bytes, &lent.scratch);
     lent.written.iter().for_each(|table| put_memory(bytes, table));
-    lent.number.iter().for_each(|number| number.put(bytes));
+    lent.numbers.iter().for_each(|number| number.put(bytes));
     lent.bytes.iter().for_each(|memory| put_memory(bytes, memory));
     put_memory(bytes, &lent.answer);
 }

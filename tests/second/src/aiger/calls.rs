@@ -1,6 +1,7 @@
 //! The calls that are given tables, each with all of its refusals in the paper's order: 2 to 8, 15, the tail
-//! by 1 and 10, 13, 12, 11.
+//! by 1 and 10, 13, 12, 20, 11.
 
+use super::fillings::{self, Verdict, MOST_X};
 use super::report::{self, Numbers, MOST_STEPS};
 use super::step::{self, Step};
 use super::tables::{self, binary_order, Given};
@@ -49,7 +50,17 @@ pub fn step(given: &Given, state: &[u8], input: &[u8], output: u64) -> Result<St
     Ok(step::step(&circuit, state, input))
 }
 
-pub fn witness(given: &Given, number: u64, list: &[u8]) -> Result<bool, Refusal> {
+pub fn witness(given: &Given, number: u64, list: &[u8], allowance: u64) -> Result<Verdict, Refusal> {
+    let circuit = in_order(given)?;
+    let vectors = vectors(&circuit, number, list)?;
+    let unknown = fillings::unknown(&fillings::values(&circuit, &vectors));
+    if unknown > MOST_X {
+        return refuse(20, unknown);
+    }
+    Ok(fillings::witness(&circuit, &vectors, allowance))
+}
+
+pub fn witness3(given: &Given, number: u64, list: &[u8]) -> Result<bool, Refusal> {
     let circuit = in_order(given)?;
     let vectors = vectors(&circuit, number, list)?;
     Ok(step::witness(&circuit, vectors.into_iter()))

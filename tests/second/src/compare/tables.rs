@@ -71,11 +71,16 @@ pub fn after(call: Call, before: &Lent) -> Lent {
         Call::Drop => changed(&mut after, calls::drop_unused(&given)),
         Call::Step => stepped(&mut after, &given),
         Call::Witness => {
-            let outcome = calls::witness(&given, number(before), before.bytes[0].lent());
+            let allowance = before.numbers[1];
+            let verdict = calls::witness(&given, before.number(), before.bytes[0].lent(), allowance);
+            answer(&mut after, verdict, |verdict| vec![verdict.says, verdict.tried]);
+        }
+        Call::Witness3 => {
+            let outcome = calls::witness3(&given, before.number(), before.bytes[0].lent());
             answer(&mut after, outcome, |yes| vec![u64::from(yes)]);
         }
         Call::Report => {
-            let report = calls::report(&given, number(before), before.bytes[0].lent());
+            let report = calls::report(&given, before.number(), before.bytes[0].lent());
             reported(&mut after, report.map(|report| report.concat()));
         }
     }
@@ -126,10 +131,6 @@ fn stepped(after: &mut Lent, given: &Given) {
         output.lent_mut().copy_from_slice(&step.output);
     }
     answer(after, step, |_| Vec::new());
-}
-
-fn number(lent: &Lent) -> u64 {
-    lent.number.expect("a list has a number")
 }
 
 /// The circuit of tables that hold one.

@@ -1,5 +1,6 @@
 //! Kinds of cases that a call must have had.
 
+mod fillings;
 mod reports;
 
 use super::at_least;
@@ -21,6 +22,7 @@ type Kind = (&'static str, u64, fn(&Seen) -> bool);
 fn of(call: Call) -> &'static [Kind] {
     match call {
         Call::Report => reports::KINDS,
+        Call::Witness => fillings::KINDS,
         _ => &[],
     }
 }
@@ -77,6 +79,6 @@ impl Seen<'_> {
 
     /// How many vectors.
     fn number(&self) -> u64 {
-        self.before.number.unwrap_or(0)
+        self.before.number()
     }
 }

@@ -1,4 +1,4 @@
-//! What the accepted cases of the stepper and of the witness question had.
+//! What the accepted cases of the stepper and of the witness question in three values had.
 
 use super::at_least;
 use crate::aiger::{step, Circuit, Refusal};
@@ -51,7 +51,7 @@ impl NewCoverage {
 
 /// The vectors of a witness question that is accepted.
 pub fn list<'a>(lent: &'a Lent, circuit: &Circuit) -> Vec<&'a [u8]> {
-    let (i, number) = (circuit.inputs.len(), lent.number.unwrap_or(0) as usize);
+    let (i, number) = (circuit.inputs.len(), lent.number() as usize);
     (0..number).map(|k| &lent.bytes[0].lent()[k * i..(k + 1) * i]).collect()
 }
 
@@ -68,13 +68,13 @@ impl VectorCoverage {
                 self.places[place as usize - 1] += 1;
                 return;
             }
-            (Call::Witness, Ok(())) => {
+            (Call::Witness3, Ok(())) => {
                 let yes = after.answer.lent()[2];
                 self.yes += yes;
                 self.no += 1 - yes;
                 self.new.add(before, yes == 1);
             }
-            (Call::Witness, Err(Refusal { number: 12, .. })) => {
+            (Call::Witness3, Err(Refusal { number: 12, .. })) => {
                 self.too_late += u64::from(seen(&circuit(before), before.bytes[0].lent()));
                 return;
             }
@@ -83,7 +83,7 @@ impl VectorCoverage {
         let [_, i, l, o, ..] = *before.counts.lent() else {
             unreachable!("seven counts");
         };
-        let zeros = [i, l, o, before.number.unwrap_or(1)].map(|count| u64::from(count == 0));
+        let zeros = [i, l, o, before.numbers.first().copied().unwrap_or(1)].map(|count| u64::from(count == 0));
         self.without
             .iter_mut()
             .zip(zeros)
@@ -97,7 +97,7 @@ impl VectorCoverage {
             ("without latches", latches),
             ("without outputs", outputs),
         ];
-        if call == Call::Witness {
+        if call == Call::Witness3 {
             kinds.extend([("without vectors", vectors), ("yes", self.yes), ("no", self.no)]);
             kinds.push(("a wrong byte after a 1", self.too_late));
             let new = &self.new;

@@ -20,9 +20,10 @@ pub fn called(library: &dyn Library, circuit: &Circuit, tail: &[u8], list: &[&[u
                     compare(library, call, &stepping(circuit, &state, input))?;
                 }
             }
-            Call::Witness | Call::Report => {
+            Call::Witness | Call::Witness3 | Call::Report => {
                 let mut lent = exactly(call, circuit, &[&list.concat()]);
-                lent.number = Some(list.len() as u64);
+                lent.numbers = vec![list.len() as u64];
+                lent.numbers.extend((call == Call::Witness).then_some(1000));
                 compare(library, call, &lent)?;
             }
             Call::Check | Call::Convert | Call::Reduce | Call::Drop => {

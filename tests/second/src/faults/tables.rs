@@ -1,5 +1,6 @@
 //! Slips in the calls on tables.
 
+mod fillings;
 mod reports;
 mod slips;
 mod vectors;
@@ -9,6 +10,7 @@ use crate::compare::tables::{after, ask, judge};
 use crate::generate::given;
 use crate::library::{Call, Question, Reply};
 use crate::tally::Tally;
+use fillings::FILLINGS;
 use reports::REPORT;
 use slips::{Slip, ANY, CHANGES, WRITERS};
 use vectors::{STEPPER, WITNESS};
@@ -19,7 +21,8 @@ fn slips(call: Call) -> Vec<(&'static str, Slip)> {
         Call::WriteText | Call::WriteBinary => [ANY, WRITERS].concat(),
         Call::Convert | Call::Reduce | Call::Drop => [ANY, CHANGES].concat(),
         Call::Step => [ANY, STEPPER].concat(),
-        Call::Witness => [ANY, WITNESS].concat(),
+        Call::Witness => [ANY, FILLINGS].concat(),
+        Call::Witness3 => [ANY, WITNESS].concat(),
         Call::Report => [ANY, REPORT].concat(),
     }
 }

@@ -1,6 +1,7 @@
 //! Cases for the calls on tables, each made from a seed, a call and a number.
 
 mod counts;
+mod fillings;
 mod order;
 mod vectors;
 mod words;
@@ -59,11 +60,14 @@ pub fn case(call: Call, seed: u64, number: u64) -> TablesCase {
     let form = form(&mut random, call);
     let mut size = circuit::size(&mut random, form);
     // Where little is asked, a first state or a constraint decides more often.
-    if call == Call::Witness && random.once_in(2) {
+    if matches!(call, Call::Witness | Call::Witness3) && random.once_in(2) {
         size.o = size.o.min(1);
         size.b = size.b.min(2);
     }
-    let circuit = circuit::circuit(&mut random, form, &size);
+    let mut circuit = circuit::circuit(&mut random, form, &size);
+    if call == Call::Witness {
+        fillings::settle(&mut random, &mut circuit);
+    }
     let mut given = exactly(call, &circuit);
     let promise = treat(&mut random, call, &circuit, &mut given);
     let mut case = TablesCase {
@@ -76,7 +80,8 @@ pub fn case(call: Call, seed: u64, number: u64) -> TablesCase {
         Call::WriteText => writing::add(&mut random, Form::Text, &circuit, &mut case),
         Call::WriteBinary => writing::add(&mut random, Form::Binary, &circuit, &mut case),
         Call::Step => vectors::step(&mut random, &circuit, &mut case),
-        Call::Witness => vectors::witness(&mut random, &circuit, &mut case),
+        Call::Witness => fillings::add(&mut random, &circuit, &mut case),
+        Call::Witness3 => vectors::witness(&mut random, &circuit, &mut case),
         Call::Report => vectors::report(&mut random, &circuit, &mut case),
     }
     case
@@ -184,7 +189,7 @@ pub fn lend(call: Call, given: &Given, junk: u64) -> Lent {
             .chain(given.sixth.map(|sixth| sixth.length))
             .map(|length| Memory::junk(length, junk))
             .collect(),
-        number: None,
+        numbers: Vec::new(),
         bytes: Vec::new(),
         answer: Memory::junk(call.answers(), junk),
     }

@@ -151,7 +151,8 @@ fn writers(circuit: &Circuit, tail: &[u8]) -> Result<(), String> {
         expect("no binary order", calls::drop_unused(&given), refuse(15, 0))?;
         expect("no binary order", calls::step(&given, b"?", b"", 0), refuse(15, 0))?;
         expect("no binary order", calls::report(&given, u64::MAX, b"?"), refuse(15, 0))?;
-        return expect("no binary order", calls::witness(&given, 1, b"?"), refuse(15, 0));
+        expect("no binary order", calls::witness(&given, 1, b"?", 0), refuse(15, 0))?;
+        return expect("no binary order", calls::witness3(&given, 1, b"?"), refuse(15, 0));
     }
     let binary = write::file(circuit, Form::Binary, tail);
     bounded(|room| calls::write_binary(&given, tail, room), binary)
@@ -198,7 +199,7 @@ fn vectors(random: &mut Random, circuit: &Circuit) -> Result<(), String> {
     )?;
     expect("a long input", step(&state, &long(&input), outputs + 1), refuse(12, 2))?;
     expect("a long output", step(&state, &input, outputs + 1), refuse(12, 3))?;
-    let ask = |number, list: &[u8]| calls::witness(&given, number, list);
+    let ask = |number, list: &[u8]| calls::witness3(&given, number, list);
     expect("a long list", ask(1, &long(&input)), refuse(12, 2))?;
     if !state.is_empty() {
         let mut bad = state.clone();

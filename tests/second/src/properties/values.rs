@@ -3,6 +3,7 @@
 use super::FEW_GATES;
 use crate::aiger::calls;
 use crate::aiger::convert::Converted;
+use crate::aiger::fillings::{self, MOST_X, NO, UNDECIDED, YES};
 use crate::aiger::report::MOST_STEPS;
 use crate::aiger::step::{self, Step};
 use crate::aiger::tables::Given;
@@ -51,6 +52,7 @@ pub fn check(
     ensure!(!shown(&steps) || shown(&known), "a witness lost by values for x");
     witness(&converted.circuit, reduced, &list, shown(&steps))?;
     reports(&converted.circuit, &list, &steps)?;
+    fillings(random, &converted.circuit, &list, shown(&steps))?;
     if circuit.gates.len() <= FEW_GATES {
         slowly(random, circuit, converted, unknown)?;
     }
@@ -99,8 +101,9 @@ fn refines(one: &[(Vec<u8>, Step)], other: &[(Vec<u8>, Step)]) -> bool {
 /// The witness question says what stepping shows, and reduction loses no witness.
 fn witness(circuit: &Circuit, reduced: &Circuit, list: &[Vec<u8>], shown: bool) -> Result<(), String> {
     let bytes = list.concat();
-    let ask =
-        |circuit: &Circuit, number: usize, bytes: &[u8]| calls::witness(&Given::exactly(circuit), number as u64, bytes);
+    let ask = |circuit: &Circuit, number: usize, bytes: &[u8]| {
+        calls::witness3(&Given::exactly(circuit), number as u64, bytes)
+    };
     let given = ask(circuit, list.len(), &bytes);
     ensure!(given == Ok(shown), "witness: expected {shown}, given {given:?}");
     ensure!(
@@ -134,6 +137,45 @@ fn reports(circuit: &Circuit, list: &[Vec<u8>], steps: &[(Vec<u8>, Step)]) -> Re
     ensure!(none == Ok(vec![[0; 4]; counted.len()]), "without vectors {none:?}");
     let many = calls::report(&given, MOST_STEPS + 1, b"?");
     ensure!(many == refuse(13, 65_536), "too many vectors: {many:?}");
+    Ok(())
+}
+
+/// So many fillings are tried here.
+const FEW_FILLINGS: u64 = 64;
+
+/// The witness question against all lists and first states that fill the given ones, and with other allowances.
+fn fillings(random: &mut Random, circuit: &Circuit, list: &[Vec<u8>], shown: bool) -> Result<(), String> {
+    let vectors: Vec<&[u8]> = list.iter().map(Vec::as_slice).collect();
+    let values = fillings::values(circuit, &vectors);
+    let unknown = fillings::unknown(&values);
+    let given = Given::exactly(circuit);
+    let ask = |allowance| calls::witness(&given, list.len() as u64, &list.concat(), allowance);
+    if unknown > MOST_X {
+        ensure!(ask(0) == refuse(20, unknown), "{unknown} x: {:?}", ask(0));
+        return Ok(());
+    }
+    if 1 << unknown > FEW_FILLINGS || circuit.gates.len() > FEW_GATES {
+        return Ok(());
+    }
+    let mut all = Vec::new();
+    naive::fillings(&values, &mut all);
+    let shows = |filling: &Vec<u8>| fillings::shows(circuit, list.len(), filling);
+    let failing = all.iter().position(|filling| !shows(filling));
+    let decided = failing.map_or(all.len(), |first| first + 1) as u64;
+    let says = if failing.is_none() { YES } else { NO };
+    ensure!(!shown || says == YES, "a yes of the old question is lost");
+    for allowance in [0, decided - 1, decided, u64::MAX, random.below(70) as u64] {
+        let expected = if allowance < decided {
+            [UNDECIDED, allowance]
+        } else {
+            [says, decided]
+        };
+        let verdict = ask(allowance).map(|verdict| [verdict.says, verdict.tried]);
+        ensure!(
+            verdict == Ok(expected),
+            "{allowance} allowed: expected {expected:?}, given {verdict:?}"
+        );
+    }
     Ok(())
 }
 

@@ -65,7 +65,7 @@ impl Held {
             tables: self.tables.clone(),
             scratch: Memory::junk(scratch, junk),
             written: written.iter().map(|&length| Memory::junk(length, junk)).collect(),
-            number: None,
+            numbers: Vec::new(),
             bytes: Vec::new(),
             answer: Memory::junk(call.answers(), junk),
         }

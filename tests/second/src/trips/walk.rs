@@ -102,15 +102,17 @@ impl Walk {
         lent
     }
 
-    fn witness(&self, run: &Run) -> Lent {
+    fn witness(&self, call: Call, run: &Run) -> Lent {
         let junk = self.junk();
         let held = self.held(run.reduced);
         let mut lent = if run.grounded {
-            held.starting(&self.starts[1], junk).lent(Call::Witness, junk)
+            held.starting(&self.starts[1], junk).lent(call, junk)
         } else {
-            held.lent(Call::Witness, junk)
+            held.lent(call, junk)
         };
-        lent.number = Some(STEPS as u64);
+        lent.numbers = vec![STEPS as u64];
+        // Without x the one filling there is decides.
+        lent.numbers.extend((call == Call::Witness).then_some(1));
         let list = self.lists[usize::from(run.grounded)].concat();
         lent.bytes = vec![Memory::around(&list, junk)];
         lent
@@ -168,8 +170,22 @@ pub fn walk(library: &dyn Library, walks: &mut [Walk]) {
         let step = |walk: &Walk| walk.runs.iter().map(|run| (Call::Step, walk.step(run, k))).collect();
         pass(library, walks, step, stepped);
     }
-    let witness = |walk: &Walk| walk.runs.iter().map(|run| (Call::Witness, walk.witness(run))).collect();
-    pass(library, walks, witness, answered);
+    let witness3 = |walk: &Walk| {
+        let runs = walk.runs.iter();
+        runs.map(|run| (Call::Witness3, walk.witness(Call::Witness3, run)))
+            .collect()
+    };
+    pass(library, walks, witness3, |walk, lents| {
+        answered(walk.runs.iter().collect(), lents)
+    });
+    let witness = |walk: &Walk| {
+        let runs = walk.runs.iter().filter(|run| run.grounded);
+        runs.map(|run| (Call::Witness, walk.witness(Call::Witness, run)))
+            .collect()
+    };
+    pass(library, walks, witness, |walk, lents| {
+        answered(walk.runs.iter().filter(|run| run.grounded).collect(), lents)
+    });
 }
 
 fn stepped(walk: &mut Walk, lents: Vec<Lent>) -> Result<(), String> {
@@ -185,9 +201,9 @@ fn stepped(walk: &mut Walk, lents: Vec<Lent>) -> Result<(), String> {
     walk.compare()
 }
 
-/// The witness question says what the steps have shown.
-fn answered(walk: &mut Walk, lents: Vec<Lent>) -> Result<(), String> {
-    for (run, lent) in walk.runs.iter().zip(lents) {
+/// The witness questions say what the steps have shown.
+fn answered(runs: Vec<&Run>, lents: Vec<Lent>) -> Result<(), String> {
+    for (run, lent) in runs.into_iter().zip(lents) {
         accepted(&lent)?;
         let given = lent.answer.lent()[2];
         ensure!(

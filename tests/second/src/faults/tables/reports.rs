@@ -8,7 +8,7 @@ use crate::library::Lent;
 
 pub const REPORT: &[(&str, Slip)] = &[
     ("the first step a change", |before, after| {
-        if before.number.unwrap_or(0) > 0 {
+        if before.number() > 0 {
             each(after, |numbers| numbers[3] += 1);
         }
     }),
@@ -18,7 +18,7 @@ pub const REPORT: &[(&str, Slip)] = &[
         });
     }),
     ("the last step forgotten", |before, after| {
-        if before.number.unwrap_or(0) > 0 {
+        if before.number() > 0 {
             each(after, |numbers| numbers[0] = numbers[0].saturating_sub(1));
         }
     }),

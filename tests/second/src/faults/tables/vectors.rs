@@ -58,7 +58,7 @@ pub const WITNESS: &[(&str, Slip)] = &[
     }),
     ("product in 64 bits", |before, after| {
         let [_, i, ..] = *before.counts.lent() else { return };
-        let length = before.number.unwrap_or(0).wrapping_mul(i);
+        let length = before.number().wrapping_mul(i);
         let wrong = outcome(after).is_err_and(|refusal| refusal.number == 12);
         if wrong && length == before.bytes[0].lent().len() as u64 {
             after.answer.lent_mut().fill(0);

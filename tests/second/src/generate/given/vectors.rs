@@ -21,7 +21,7 @@ fn spoil(random: &mut Random, vector: &mut Vec<u8>) {
     }
 }
 
-fn twelve(place: u64) -> Result<(), Refusal> {
+pub fn twelve(place: u64) -> Result<(), Refusal> {
     Err(Refusal { number: 12, place })
 }
 
@@ -69,7 +69,7 @@ pub fn witness(random: &mut Random, circuit: &Circuit, case: &mut TablesCase) {
         // If the tables hold a circuit without inputs, it is stepped so often.
         number = number.min(1000);
     }
-    case.lent.number = Some(number);
+    case.lent.numbers = vec![number];
     case.lent.bytes = vec![Memory::around(&list, random.word())];
     tell(case, promise);
 }
@@ -78,7 +78,7 @@ pub fn witness(random: &mut Random, circuit: &Circuit, case: &mut TablesCase) {
 pub fn report(random: &mut Random, circuit: &Circuit, case: &mut TablesCase) {
     witness(random, circuit, case);
     let most = MOST_STEPS;
-    let mut number = case.lent.number.unwrap_or(0);
+    let mut number = case.lent.number();
     if case.promise == Some(Ok(())) && circuit.m <= SMALL && random.once_in(200) {
         number = *random.pick(&[most - 1, most]);
         let list = vector(random, 1, number as usize * circuit.inputs.len());
@@ -87,7 +87,7 @@ pub fn report(random: &mut Random, circuit: &Circuit, case: &mut TablesCase) {
         // 12 comes after, so the list is left as it is.
         number = *random.pick(&[most + 1, most + 2, 1 << 32, (1 << 32) + number, 1 << 63, u64::MAX]);
     }
-    case.lent.number = Some(number);
+    case.lent.numbers = vec![number];
     let judged = matches!(case.promise, Some(Ok(()) | Err(Refusal { number: 12, .. })));
     if judged && number > most {
         case.promise = Some(Err(Refusal {
@@ -101,7 +101,7 @@ pub fn report(random: &mut Random, circuit: &Circuit, case: &mut TablesCase) {
 const SMALL: u64 = 12;
 
 /// Makes a list wrong; false if it can't be made so in the chosen way.
-fn wrong(random: &mut Random, i: u64, number: &mut u64, list: &mut Vec<u8>) -> bool {
+pub fn wrong(random: &mut Random, i: u64, number: &mut u64, list: &mut Vec<u8>) -> bool {
     match random.below(8) {
         0 => list.push(*random.pick(b"01x")),
         1 => return list.pop().is_some(),
@@ -140,7 +140,7 @@ fn wrapping(random: &mut Random, i: u64, number: u64, list: &mut Vec<u8>) -> u64
 }
 
 /// Tables are judged before vectors.
-fn tell(case: &mut TablesCase, promise: Result<(), Refusal>) {
+pub fn tell(case: &mut TablesCase, promise: Result<(), Refusal>) {
     if case.promise == Some(Ok(())) {
         case.promise = Some(promise);
     }
