@@ -1,0 +1,5 @@
+pub mod Words
+pub mod Starting
+pub mod Turns
+pub mod Stepping
+pub mod Rows

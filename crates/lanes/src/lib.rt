@@ -1,0 +1,280 @@
+// Many rows at once: up to 64 input vectors are stepped once from the resets, one bit lane for each row (the paper, many rows). A plane is
+// 64 lanes in two words of scratch. Each literal has one, lit in the rows where the literal may be 1; where it may be 0 its negation may be 1.
+ghost use mathlib.Core.Path.{_≡_};
+ghost use mathlib.Core.List.{[], _∷_};
+ghost use Prim.Native.Nat.{ℕ, _+_, _-_, _*_, _/_, _%_, _^_, _<_, _≤_};
+ghost use lib.Bits.{bitAnd};
+ghost use lib.Count.{ones};
+ghost use lib.ListN.{length, getD};
+ghost use Rattle.plan.specs.Literals.{wordOf};
+ghost use Rattle.plan.specs.Circuit.{Tables, circuitOf};
+ghost use Rattle.plan.specs.Outcome.{put};
+ghost use Rattle.sweep.specs.Running.{Runs};
+ghost use Rattle.planes.specs.Planes.{other, column};
+ghost use Rattle.lanes.specs.Words.{planeAt, planeWords, everyRow, codeAt};
+ghost use Rattle.lanes.specs.Working.{Column, Grows, Sweeps, Swept, There, gatePlanes, both, Ready, Holds, Shows, codesIn, codesOf, countsAt, countsOf};
+use plan::Counts;
+use plan::Lit;
+
+const FULL: u64 = 18446744073709551615;
+
+// 1 where a byte differs from a code.
+fn other_than(code: u8, b: u8) -> u64
+    ensures { λ r. ⌜ r ≡ other code b ⌝ }
+{
+    if b == code {
+        return 0;
+    }
+    1
+}
+
+// The rows in which the byte at `from` differs from a code.
+fn column_of(code: u8, bytes: &[u8], from: usize, stride: usize, rows: usize) -> u64
+    requires { ⌜ Column (now bytes) from stride rows ⌝ }
+    ensures { λ r. ⌜ r ≡ column code (now (bytes .entry)) from stride rows ⌝ }
+{
+    let mut plane = 0;
+    let mut at = from;
+    let mut k = 0;
+    while k < rows {
+        plane = plane | (other_than(code, bytes[at]) << k);
+        at += stride;
+        k += 1;
+    }
+    plane
+}
+
+fn low(plane: u64) -> u32
+    ensures { λ r. ⌜ r ≡ plane % 4294967296 ⌝ }
+{
+    (plane % 4294967296) as u32
+}
+
+fn high(plane: u64) -> u32
+    ensures { λ r. ⌜ r ≡ plane / 4294967296 ⌝ }
+{
+    (plane >> 32) as u32
+}
+
+fn joined(low: u32, high: u32) -> u64
+    ensures { λ r. ⌜ r ≡ low + high * 4294967296 ⌝ }
+{
+    (low as u64) + (high as u64) * 4294967296
+}
+
+// The rows in which a literal may be 1.
+fn plane_of(t: &[u32], l: Lit) -> u64
+    requires { ⌜ There (wordOf l) (now t) ⌝ }
+    ensures { λ r. ⌜ r ≡ planeAt (now (t .entry)) (wordOf l) ⌝ }
+{
+    let at = 2 * (l.word() as usize);
+    joined(t[at], t[at + 1])
+}
+
+// A variable's planes: the rows in which it may be 1, and those in which it may be 0.
+fn put_planes(one: u64, zero: u64, to: usize, t: &mut [u32])
+    requires { ⌜ to + 4 ≤ length (now t) ⌝ }
+    ensures { λ _. ⌜ now (t .exit) ≡ put (now (t .entry)) to (planeWords (one ∷ zero ∷ [])) ⌝ }
+{
+    t[to] = low(one);
+    t[to + 1] = high(one);
+    t[to + 2] = low(zero);
+    t[to + 3] = high(zero);
+}
+
+// The inputs' planes, from the rows' bytes, behind the constant's.
+fn load_rows(bytes: &[u8], n: usize, rows: usize, t: &mut [u32])
+    requires { ⌜ (rows ≤ 64) × (n * rows ≤ length (now bytes)) × (4 * (1 + n) ≤ length (now t)) ⌝ }
+    ensures { λ _. ⌜ Grows 1 (λ j. column 48 (now (bytes .entry)) j n rows) (λ j. column 49 (now (bytes .entry)) j n rows) n
+        (now (t .entry)) (now (t .exit)) ⌝ }
+{
+    let mut to = 4;
+    let mut j = 0;
+    while j < n {
+        let one = column_of(b'0', bytes, j, n, rows);
+        let zero = column_of(b'1', bytes, j, n, rows);
+        put_planes(one, zero, to, t);
+        to += 4;
+        j += 1;
+    }
+}
+
+// Every row where a reset differs from a code, else none.
+fn rows_but(reset: u32, code: u32) -> u64
+    ensures { λ r. ⌜ r ≡ everyRow (other code reset) ⌝ }
+{
+    if reset == code {
+        return 0;
+    }
+    FULL
+}
+
+// The latches' planes, by their resets, behind those of `before` variables: in every row the same. A latch whose reset is its own literal
+// may be both.
+fn load_resets(resets: &[u32], before: usize, n: usize, t: &mut [u32])
+    requires { ⌜ (n ≤ length (now resets)) × (4 * (before + n) ≤ length (now t)) ⌝ }
+    ensures { λ _. ⌜ Grows before (λ j. everyRow (other 0 (getD (now (resets .entry)) j 0)))
+        (λ j. everyRow (other 1 (getD (now (resets .entry)) j 0))) n (now (t .entry)) (now (t .exit)) ⌝ }
+{
+    let mut to = 4 * before;
+    let mut j = 0;
+    while j < n {
+        let reset = resets[j];
+        let one = rows_but(reset, 0);
+        let zero = rows_but(reset, 1);
+        put_planes(one, zero, to, t);
+        to += 4;
+        j += 1;
+    }
+}
+
+// A gate may be 1 where both sides may, and 0 where either may: the And of 64 rows, without a test on a value.
+fn put_gate(a: Lit, b: Lit, to: usize, t: &mut [u32])
+    requires { ⌜ There (wordOf a) (now t) ⌝ }
+    requires { ⌜ There (wordOf b) (now t) ⌝ }
+    requires { ⌜ to + 4 ≤ length (now t) ⌝ }
+    ensures { λ _. ⌜ now (t .exit) ≡ put (now (t .entry)) to (planeWords (gatePlanes (now (t .entry)) (wordOf a) (wordOf b))) ⌝ }
+{
+    let one = plane_of(t, a) & plane_of(t, b);
+    let zero = plane_of(t, a.negated()) | plane_of(t, b.negated());
+    put_planes(one, zero, to, t);
+}
+
+// The planes of n gates, whose variables run on from `before`.
+fn sweep_lanes(gates: &[u32], n: usize, before: usize, t: &mut [u32])
+    requires { ⌜ Sweeps (now gates) n before (now t) ⌝ }
+    ensures { λ _. ⌜ Swept (now (gates .entry)) n before (now (t .entry)) (now (t .exit)) ⌝ }
+{
+    let mut to = 4 * before;
+    let mut at = 0;
+    let mut i = 0;
+    while i < n {
+        put_gate(Lit::at(gates[at + 1]), Lit::at(gates[at + 2]), to, t);
+        to += 4;
+        at += 3;
+        i += 1;
+    }
+}
+
+// One step of all rows from the resets. Of the words it asks the length alone.
+pub fn step_lanes(n: Counts, gates: &[u32], resets: &[u32], bytes: &[u8], rows: usize, t: &mut [u32])
+    requires { ⌜ Ready n (now gates) (now resets) (now bytes) rows (now t) ⌝ }
+    ensures { λ _. ⌜ ((x : Tables) → Runs n (both x (now (gates .entry)) (now (resets .entry)))
+        → Holds n (circuitOf n (both x (now (gates .entry)) (now (resets .entry)))) (now (bytes .entry)) rows (now (t .exit))) ⌝ }
+{
+    // the constant
+    put_planes(0, FULL, 0, t);
+    load_rows(bytes, n.I, rows, t);
+    load_resets(resets, 1 + n.I, n.L, t);
+    sweep_lanes(gates, n.A, 1 + n.I + n.L, t);
+}
+
+// The code of a literal in row k, by its two bits there.
+fn code_at(t: &[u32], l: Lit, k: usize) -> u8
+    requires { ⌜ There (wordOf l) (now t) ⌝ }
+    requires { ⌜ k < 64 ⌝ }
+    ensures { λ r. ⌜ r ≡ codeAt (now (t .entry)) k (wordOf l) ⌝ }
+{
+    let one = plane_of(t, l);
+    let both = one & plane_of(t, l.negated());
+    (48 + (one >> k) % 2 + 71 * ((both >> k) % 2)) as u8
+}
+
+// The codes of n literals of a table in row k go into a buffer from `to` on.
+fn store_row(
+    table: &[u32],
+    start: usize,
+    stride: usize,
+    n: usize,
+    k: usize,
+    t: &[u32],
+    to: usize,
+    out: &mut [u8],
+)
+    requires { ⌜ Shows (now table) start stride n (now t) ⌝ }
+    requires { ⌜ k < 64 ⌝ }
+    requires { ⌜ to + n ≤ length (now out) ⌝ }
+    ensures { λ _. ⌜ now (out .exit) ≡ put (now (out .entry)) to (codesIn (now (table .entry)) start stride n (now (t .entry)) k) ⌝ }
+{
+    let mut at = start;
+    let mut j = 0;
+    while j < n {
+        out[to + j] = code_at(t, Lit::at(table[at]), k);
+        at += stride;
+        j += 1;
+    }
+}
+
+// The codes of n literals of a table in each row, n bytes a row.
+pub fn store_rows(
+    table: &[u32],
+    start: usize,
+    stride: usize,
+    n: usize,
+    rows: usize,
+    t: &[u32],
+    out: &mut [u8],
+)
+    requires { ⌜ Shows (now table) start stride n (now t) ⌝ }
+    requires { ⌜ rows ≤ 64 ⌝ }
+    requires { ⌜ n * rows ≤ length (now out) ⌝ }
+    ensures { λ _. ⌜ now (out .exit) ≡ put (now (out .entry)) 0 (codesOf (now (table .entry)) start stride n rows (now (t .entry))) ⌝ }
+{
+    let mut to = 0;
+    let mut k = 0;
+    while k < rows {
+        store_row(table, start, stride, n, k, t, to, out);
+        to += n;
+        k += 1;
+    }
+}
+
+// The lanes that have a row.
+fn mask_of(rows: usize) -> u64
+    requires { ⌜ rows ≤ 64 ⌝ }
+    ensures { λ r. ⌜ r ≡ 2 ^ rows - 1 ⌝ }
+{
+    if rows == 64 {
+        return FULL;
+    }
+    (1u64 << rows) - 1
+}
+
+// The rows of a plane: each lane word's count of ones, added up, with spare lanes masked off.
+fn rows_in(plane: u64, mask: u64) -> u32
+    ensures { λ r. ⌜ r ≡ ones (bitAnd plane mask) ⌝ }
+{
+    let kept = plane & mask;
+    u32::count_ones(low(kept)) + u32::count_ones(high(kept))
+}
+
+// The rows in which a literal is 0, 1 and x.
+fn count_literal(t: &[u32], l: Lit, mask: u64, at: usize, report: &mut [u32])
+    requires { ⌜ There (wordOf l) (now t) ⌝ }
+    requires { ⌜ at + 3 ≤ length (now report) ⌝ }
+    ensures { λ _. ⌜ now (report .exit) ≡ put (now (report .entry)) at (countsAt (now (t .entry)) mask (wordOf l)) ⌝ }
+{
+    let one = plane_of(t, l);
+    let zero = plane_of(t, l.negated());
+    let both = one & zero;
+    report[at] = rows_in(zero ^ both, mask);
+    report[at + 1] = rows_in(one ^ both, mask);
+    report[at + 2] = rows_in(both, mask);
+}
+
+// Per output the rows at 0, at 1 and at x.
+pub fn count_rows(outputs: &[u32], n: usize, rows: usize, t: &[u32], report: &mut [u32])
+    requires { ⌜ Shows (now outputs) 0 1 n (now t) ⌝ }
+    requires { ⌜ rows ≤ 64 ⌝ }
+    requires { ⌜ 3 * n ≤ length (now report) ⌝ }
+    ensures { λ _. ⌜ now (report .exit) ≡ put (now (report .entry)) 0 (countsOf (now (outputs .entry)) n (2 ^ rows - 1) (now (t .entry))) ⌝ }
+{
+    let mask = mask_of(rows);
+    let mut at = 0;
+    let mut j = 0;
+    while j < n {
+        count_literal(t, Lit::at(outputs[j]), mask, at, report);
+        at += 3;
+        j += 1;
+    }
+}
