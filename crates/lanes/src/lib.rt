@@ -157,7 +157,14 @@ fn sweep_lanes(gates: &[u32], n: usize, before: usize, t: &mut [u32])
 }
 
 // One step of all rows from the resets. Of the words it asks the length alone.
-pub fn step_lanes(n: Counts, gates: &[u32], resets: &[u32], bytes: &[u8], rows: usize, t: &mut [u32])
+pub fn step_lanes(
+    n: Counts,
+    gates: &[u32],
+    resets: &[u32],
+    bytes: &[u8],
+    rows: usize,
+    t: &mut [u32],
+)
     requires { ⌜ Ready n (now gates) (now resets) (now bytes) rows (now t) ⌝ }
     ensures { λ _. ⌜ ((x : Tables) → Runs n (both x (now (gates .entry)) (now (resets .entry)))
         → Holds n (circuitOf n (both x (now (gates .entry)) (now (resets .entry)))) (now (bytes .entry)) rows (now (t .exit))) ⌝ }
