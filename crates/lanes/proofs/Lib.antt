@@ -1,5 +1,6 @@
 pub mod Words
 pub mod Starting
 pub mod Turns
+pub mod Storing
 pub mod Stepping
 pub mod Rows

@@ -26,6 +26,7 @@ use Rattle.planes.proofs.Bits.{sum, bit-and}
 use Rattle.planes.proofs.Counting.{rows-all}
 use Rattle.lanes.specs.Words.{planeAt, codeAt}
 use Rattle.lanes.specs.Working.{Holds, codesIn, codesOf, countsAt, countsOf}
+use Rattle.lanes.proofs.Storing.{firsts-same}
 
 -- the code of a value, by its two bits
 code-bits : (a : Value) → 48 + may1 a + 71 * bitAnd (may1 a) (may0 a) ≡ codeOf a
@@ -34,10 +35,6 @@ code-bits v1 = refl
 code-bits vx = refl
 
 -- lists of what stands at each place
-firsts-same : {A : Type 0} (f g : ℕ → A) (n : ℕ) → ((i : ℕ) → i < n → f i ≡ g i) → firsts f n ≡ firsts g n
-firsts-same f g zero h = refl
-firsts-same f g (suc n) h = ap₂ (λ l x. l ++ (x ∷ [])) (firsts-same f g n (λ i k. h i (omega arith))) (h n (omega arith))
-
 getD-firsts : {A : Type 0} (f : ℕ → A) (n i : ℕ) (d : A) → i < n → getD (firsts f n) i d ≡ f i
 getD-firsts f zero i d h = absurd (not-suc-le-zero h)
 getD-firsts f (suc n) i d h = go (decLt i n) (getD-firsts f n i d)

@@ -15,11 +15,11 @@ use Rattle.plan.specs.Outcome.{put}
 use Rattle.theorems.proofs.Put.{put-put}
 use Rattle.theorems.proofs.Tables.{firsts, length-firsts, gateAt, gatesAt, next-row}
 use Rattle.theorems.proofs.Running.Sides.{Sides, sides-below}
-use Rattle.planes.specs.Planes.{bit, planeOf, pairs, andPlane, orPlane, sweepPlanes}
+use Rattle.planes.specs.Planes.{planeOf, pairs, andPlane, orPlane, sweepPlanes}
 use Rattle.planes.proofs.Bits.{plane-lt}
 use Rattle.planes.proofs.Lanes.{planes-snoc, planes-length}
-use Rattle.lanes.specs.Words.{planeWords, planeAt, Begins, codeAt}
-use Rattle.lanes.specs.Working.{Grows, Sweeps, Swept, There, gatePlanes, codesIn, codesOf, countsAt, countsOf}
+use Rattle.lanes.specs.Words.{planeWords, planeAt, Begins}
+use Rattle.lanes.specs.Working.{Grows, Sweeps, Swept, There, gatePlanes, countsAt, countsOf}
 use Rattle.lanes.proofs.Words.{begins-plane, begins-more, pairs-length}
 
 -- one row more of a column
@@ -114,14 +114,8 @@ module _ {gates : List ℕ} {n before : ℕ} {t₀ : List ℕ} (p : Sweeps gates
       plane : (m : ℕ) → varOf m < before + i → planeAt t m ≡ getD u m 0
       plane m k = begins-plane u t (w q l s) m (omega (arith, count))
 
--- the code of a lane, from both planes
-pub code-is : (t : List ℕ) (k l p q : ℕ) → p ≡ planeAt t l → q ≡ planeAt t (negOf l)
-    → 48 + p / 2 ^ k % 2 + 71 * (bitAnd p q / 2 ^ k % 2) ≡ codeAt t k l
-unfolding bit
-code-is t k l p q ep eq = ap₂ (λ (x y : ℕ). 48 + x / 2 ^ k % 2 + 71 * (bitAnd x y / 2 ^ k % 2)) ep eq
-
 -- one row more of w words each
-flat-snoc : (rows : List (List ℕ)) (row : List ℕ) → flat (rows ++ (row ∷ [])) ≡ flat rows ++ row
+pub flat-snoc : (rows : List (List ℕ)) (row : List ℕ) → flat (rows ++ (row ∷ [])) ≡ flat rows ++ row
 flat-snoc [] row = append-nil row
 flat-snoc (r ∷ rows) row = ap (λ (l : List ℕ). r ++ l) (flat-snoc rows row) ∙ sym (append-assoc r (flat rows) row)
 
@@ -166,12 +160,6 @@ literal-counts t mask l p q x y z ep eq ex ey ez =
     (λ i. ex i ∷ ey i ∷ ez i ∷ [])
     ∙ ap₂ (λ (a b : ℕ). ones (bitAnd (bitXor b (bitAnd a b)) mask) ∷ ones (bitAnd (bitXor a (bitAnd a b)) mask)
     ∷ ones (bitAnd (bitAnd a b) mask) ∷ []) ep eq
-
--- the codes of all rows
-pub codes-length : (table : List ℕ) (start stride n rows : ℕ) (t : List ℕ) → length (codesOf table start stride n rows t) ≡ n * rows
-codes-length table start stride n rows t =
-    flat-length (λ k. codesIn table start stride n t k) n
-    (λ k. length-firsts (λ j. codeAt t k (getD table (stride * j + start) 0)) n) rows
 
 -- the counts of all literals
 pub counts-length : (table : List ℕ) (n mask : ℕ) (t : List ℕ) → length (countsOf table n mask t) ≡ 3 * n

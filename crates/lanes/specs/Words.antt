@@ -22,9 +22,13 @@ Begins q t = take (2 * length q) t ≡ planeWords q
 abbrev pub everyRow : ℕ → ℕ
 everyRow b = b * 18446744073709551615
 
--- the code of a literal in lane k: "0" is 48, "1" one more, and "x" is 71 more again, where it may be both
+-- the code in lane k, by the planes where it may be 1 and where it may be both: "0" is 48, "1" one more, and "x" is 71 more again
+abbrev pub codeBy : ℕ → ℕ → ℕ → ℕ
+codeBy one both k = 48 + bit k one + 71 * bit k both
+
+-- the code of a literal in lane k
 abbrev pub codeAt : List ℕ → ℕ → ℕ → ℕ
-codeAt t k l = 48 + bit k (planeAt t l) + 71 * bit k (bitAnd (planeAt t l) (planeAt t (negOf l)))
+codeAt t k l = codeBy (planeAt t l) (bitAnd (planeAt t l) (planeAt t (negOf l))) k
 
 -- the constant; inputs, whose rows are given: a byte but "0" may be 1, and a byte but "1" may be 0; latches, by their resets, in every row
 -- the same: a reset but 0 may be 1, and a reset but 1 may be 0

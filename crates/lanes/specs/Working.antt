@@ -15,7 +15,7 @@ use Rattle.tables.specs.Held.{Scratch}
 use Rattle.sweep.specs.Running.{Runs}
 use Rattle.values.specs.Words.{may1}
 use Rattle.planes.specs.Planes.{bit, pairs, sweepPlanes}
-use Rattle.lanes.specs.Words.{planeAt, codeAt, Begins}
+use Rattle.lanes.specs.Words.{planeAt, codeBy, codeAt, Begins}
 
 -- a column of a list of rows
 pub record Column (bytes : List ℕ) (from stride rows : ℕ) : Type 0 where
@@ -76,6 +76,12 @@ codesIn table start stride n t k = firsts (λ j. codeAt t k (getD table (stride 
 
 abbrev pub codesOf : List ℕ → ℕ → ℕ → ℕ → ℕ → List ℕ → List ℕ
 codesOf table start stride n rows t = flat (firsts (λ k. codesIn table start stride n t k) rows)
+
+-- one column of rows of n bytes is stored, and no other changes
+pub record Striped (one both from n rows : ℕ) (out out′ : List ℕ) : Type 0 where
+  pub same : length out′ ≡ length out
+  pub stored : (k : ℕ) → k < rows → getD out′ (n * k + from) 0 ≡ codeBy one both k
+  pub others : (k j : ℕ) → j < n → (j ≡ from → ⊥) → getD out′ (n * k + j) 0 ≡ getD out (n * k + j) 0
 
 -- the rows in which a literal is 0, 1 and x, under a mask; those of all literals
 abbrev pub countsAt : List ℕ → ℕ → ℕ → List ℕ

@@ -11,8 +11,8 @@ ghost use Rattle.plan.specs.Circuit.{Tables, circuitOf};
 ghost use Rattle.plan.specs.Outcome.{put};
 ghost use Rattle.sweep.specs.Running.{Runs};
 ghost use Rattle.planes.specs.Planes.{other, column};
-ghost use Rattle.lanes.specs.Words.{planeAt, planeWords, everyRow, codeAt};
-ghost use Rattle.lanes.specs.Working.{Column, Grows, Sweeps, Swept, There, gatePlanes, both, Ready, Holds, Shows, codesIn, codesOf, countsAt, countsOf};
+ghost use Rattle.lanes.specs.Words.{planeAt, planeWords, everyRow};
+ghost use Rattle.lanes.specs.Working.{Column, Grows, Sweeps, Swept, There, gatePlanes, both, Ready, Holds, Shows, Striped, codesOf, countsAt, countsOf};
 use plan::Counts;
 use plan::Lit;
 
@@ -176,39 +176,22 @@ pub fn step_lanes(
     sweep_lanes(gates, n.A, 1 + n.I + n.L, t);
 }
 
-// The code of a literal in row k, by its two bits there.
-fn code_at(t: &[u32], l: Lit, k: usize) -> u8
-    requires { ⌜ There (wordOf l) (now t) ⌝ }
-    requires { ⌜ k < 64 ⌝ }
-    ensures { λ r. ⌜ r ≡ codeAt (now (t .entry)) k (wordOf l) ⌝ }
+// A literal's code in each row, by its two bits there, goes to its place in the row, which has n bytes. The rows of one literal are stored
+// together, so that its planes are read once.
+fn store_column(one: u64, both: u64, from: usize, n: usize, rows: usize, out: &mut [u8])
+    requires { ⌜ (from < n) × (n * rows ≤ length (now out)) ⌝ }
+    ensures { λ _. ⌜ Striped one both from n rows (now (out .entry)) (now (out .exit)) ⌝ }
 {
-    let one = plane_of(t, l);
-    let both = one & plane_of(t, l.negated());
-    (48 + (one >> k) % 2 + 71 * ((both >> k) % 2)) as u8
-}
-
-// The codes of n literals of a table in row k go into a buffer from `to` on.
-fn store_row(
-    table: &[u32],
-    start: usize,
-    stride: usize,
-    n: usize,
-    k: usize,
-    t: &[u32],
-    to: usize,
-    out: &mut [u8],
-)
-    requires { ⌜ Shows (now table) start stride n (now t) ⌝ }
-    requires { ⌜ k < 64 ⌝ }
-    requires { ⌜ to + n ≤ length (now out) ⌝ }
-    ensures { λ _. ⌜ now (out .exit) ≡ put (now (out .entry)) to (codesIn (now (table .entry)) start stride n (now (t .entry)) k) ⌝ }
-{
-    let mut at = start;
-    let mut j = 0;
-    while j < n {
-        out[to + j] = code_at(t, Lit::at(table[at]), k);
-        at += stride;
-        j += 1;
+    let mut ones = one;
+    let mut boths = both;
+    let mut at = from;
+    let mut k = 0;
+    while k < rows {
+        out[at] = (48 + ones % 2 + 71 * (boths % 2)) as u8;
+        ones = ones / 2;
+        boths = boths / 2;
+        at += n;
+        k += 1;
     }
 }
 
@@ -223,16 +206,18 @@ pub fn store_rows(
     out: &mut [u8],
 )
     requires { ⌜ Shows (now table) start stride n (now t) ⌝ }
-    requires { ⌜ rows ≤ 64 ⌝ }
-    requires { ⌜ n * rows ≤ length (now out) ⌝ }
-    ensures { λ _. ⌜ now (out .exit) ≡ put (now (out .entry)) 0 (codesOf (now (table .entry)) start stride n rows (now (t .entry))) ⌝ }
+    requires { ⌜ length (now out) ≡ n * rows ⌝ }
+    ensures { λ _. ⌜ now (out .exit) ≡ codesOf (now (table .entry)) start stride n rows (now (t .entry)) ⌝ }
 {
-    let mut to = 0;
-    let mut k = 0;
-    while k < rows {
-        store_row(table, start, stride, n, k, t, to, out);
-        to += n;
-        k += 1;
+    let mut at = start;
+    let mut j = 0;
+    while j < n {
+        let l = Lit::at(table[at]);
+        let one = plane_of(t, l);
+        let both = one & plane_of(t, l.negated());
+        store_column(one, both, j, n, rows, out);
+        at += stride;
+        j += 1;
     }
 }
 

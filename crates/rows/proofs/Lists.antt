@@ -1,14 +1,17 @@
 -- Lists around a step of all rows: what is asked, what is stored, and the outcome.
-use Prim.Native.Nat.{ℕ, _+_, _*_, _≤_, _<_}
-use mathlib.Core.Path.{_≡_, refl, sym, ap, _∙_}
-use mathlib.Core.Bool.{Bool, true, false, _&&_}
+use Prim.Native.Nat.{ℕ, suc, _+_, _*_, _≤_, _<_}
+use mathlib.Core.Path.{_≡_, refl, sym, ap, ap₂, _∙_}
+use mathlib.Core.Bool.{Bool, true, false, cond, _&&_}
 use mathlib.Core.Option.{Option, none, some}
-use mathlib.Core.List.{List, [], _∷_, _++_, append-nil}
+use mathlib.Core.List.{List, [], _∷_}
 use native.Mathlib.Nat.{mul-comm, mul-le-mul-right}
+use native.Mathlib.Numerals.{add-one}
 use native.Mathlib.Omega.{arith}
-use borrow.Author.Tests.{eqb-true, le-leb, lt-leb}
+use borrow.Author.Tests.{eqb-true, eq-eqb, ne-eqb, le-leb, lt-leb}
+use lib.Bits.{bitOr, or-zero-r, or-add-and, and-le-l}
 use lib.Dec.{eqb}
-use lib.ListN.{length, drop-of-length-le}
+use lib.ListN.{length, getD, drop, drop-of-length-le}
+use lib.Seq.{drop-cons}
 use Rattle.plan.specs.declared.Counts.{Counts}
 use Rattle.plan.specs.declared.Refusal.{Refusal}
 use Rattle.plan.specs.declared.Refusal.the-variants.{BadVector, LongInput}
@@ -16,27 +19,60 @@ use Rattle.plan.specs.declared.Stepped.the-variants.{Done, Refused}
 use Rattle.plan.specs.Refusals.{firstOf}
 use Rattle.plan.specs.Circuit.{cleared}
 use Rattle.plan.specs.Given.{given}
-use Rattle.plan.specs.Outcome.{put, allCodes}
+use Rattle.plan.specs.Step.{isCode}
+use Rattle.plan.specs.Outcome.{allCodes}
 use Rattle.theorems.proofs.Reading.Common.{and-left}
 use Rattle.codes.proofs.Places.{firstBad}
 use Rattle.step.proofs.Checks.{answer}
 use Rattle.sweep.proofs.Literals.{output-up, next-up}
 use Rattle.planes.specs.Rows.{RowsEntry, RowsExit, badRows, rowStage, steppedRows, stepRows}
-use Rattle.lanes.specs.Working.{these, Ready, Shows, codesOf}
-use Rattle.lanes.proofs.Turns.{codes-length}
+use Rattle.lanes.specs.Working.{these, Ready, Shows}
 use Rattle.rows.specs.Asked.{Room, Lists, Leaves}
+
+and-true : (t : Bool) → (t && true) ≡ t
+and-true true = refl
+and-true false = refl
+
+and-false : (t : Bool) → (t && false) ≡ false
+and-false true = refl
+and-false false = refl
+
+and-assoc : (a b c : Bool) → ((a && b) && c) ≡ (a && (b && c))
+and-assoc true b c = refl
+and-assoc false b c = refl
 
 -- a whole list
 abbrev pub wholeIn : List ℕ → ℕ → ℕ → Bool
 wholeIn bytes rows i = eqb (length bytes) (rows * i) && allCodes bytes
 
+pub whole-not : (bytes : List ℕ) (rows i : ℕ) → (length bytes ≡ rows * i → ⊥) → false ≡ wholeIn bytes rows i
+whole-not bytes rows i h = sym (ap (λ (t : Bool). t && allCodes bytes) (ne-eqb _ _ h))
+
+pub whole-is : (bytes : List ℕ) (rows i : ℕ) → length bytes ≡ rows * i → allCodes bytes ≡ wholeIn bytes rows i
+whole-is bytes rows i h = sym (ap (λ (t : Bool). t && allCodes bytes) (eq-eqb _ _ h))
+
+-- the bytes that are left to look at, where none was wrong before
+or-wrong : (w : ℕ) (t : Bool) → eqb (bitOr w (cond t 0 1)) 0 ≡ (eqb w 0 && t)
+or-wrong w true = ap (λ (k : ℕ). eqb k 0) (or-zero-r w) ∙ sym (and-true (eqb w 0))
+or-wrong w false =
+    ne-eqb (bitOr w 1) 0 (λ e. omega (arith, or-add-and w 1, and-le-l w 1, e)) ∙ sym (and-false (eqb w 0))
+
+pub left-more : (bytes : List ℕ) (i w v : ℕ) → i < length bytes → allCodes bytes ≡ (eqb w 0 && allCodes (drop i bytes))
+    → v ≡ cond (isCode (getD bytes i 0)) 0 1
+    → allCodes bytes ≡ (eqb (bitOr w v) 0 && allCodes (drop (i + 1) bytes))
+left-more bytes i w v h e ev =
+    e ∙ (ap (λ (l : List ℕ). eqb w 0 && allCodes l) (drop-cons bytes i 0 h)
+    ∙ (sym (and-assoc (eqb w 0) (isCode (getD bytes i 0)) (allCodes (drop (suc i) bytes)))
+    ∙ ap₂ (λ (t : Bool) (k : ℕ). t && allCodes (drop k bytes))
+    (sym (ap (λ (x : ℕ). eqb (bitOr w x) 0) ev ∙ or-wrong w (isCode (getD bytes i 0)))) (sym (add-one i))))
+
+pub left-none : (bytes : List ℕ) (i w : ℕ) → length bytes ≤ i → allCodes bytes ≡ (eqb w 0 && allCodes (drop i bytes)) → eqb w 0 ≡ allCodes bytes
+left-none bytes i w h e =
+    sym (e ∙ (ap (λ (l : List ℕ). eqb w 0 && allCodes l) (drop-of-length-le bytes {i = i} h) ∙ and-true (eqb w 0)))
+
 -- a product of a row's bytes fits
 pub product-small : (rows n : ℕ) → rows ≤ 64 → n ≤ 1048575 → rows * n < 18446744073709551616
 product-small rows n h k = omega (arith, mul-le-mul-right n h)
-
--- what is put over a whole buffer
-pub put-whole : (l w : List ℕ) → length w ≡ length l → put l 0 w ≡ w
-put-whole l w e = ap (λ (x : List ℕ). w ++ x) (drop-of-length-le l {i = 0 + length w} (omega arith)) ∙ append-nil w
 
 module _ {n : Counts} {latches outputs gates resets scratch : List ℕ} (b : Room n latches outputs gates resets scratch)
     {rows : ℕ} {nexts ins outs : List ℕ} (l : Lists n rows nexts ins outs) where
@@ -63,21 +99,11 @@ module _ {n : Counts} {latches outputs gates resets scratch : List ℕ} (b : Roo
     inside = λ j h. omega (arith, output-up (b .runs) j h, b .scratch-long);
   }
 
-  pub nexts-room : n .L * rows ≤ length nexts
-  nexts-room = omega (arith, l .nexts-length, mul-comm rows (n .L))
+  pub nexts-room : length nexts ≡ n .L * rows
+  nexts-room = l .nexts-length ∙ mul-comm rows (n .L)
 
-  pub outs-room : n .O * rows ≤ length outs
-  outs-room = omega (arith, l .outs-length, mul-comm rows (n .O))
-
-  pub nexts-stored : (t x : List ℕ) → x ≡ put nexts 0 (codesOf latches 1 2 (n .L) rows t) → x ≡ codesOf latches 1 2 (n .L) rows t
-  nexts-stored t x e =
-      e ∙ put-whole nexts (codesOf latches 1 2 (n .L) rows t)
-      (codes-length latches 1 2 (n .L) rows t ∙ omega (arith, l .nexts-length, mul-comm rows (n .L)))
-
-  pub outs-stored : (t x : List ℕ) → x ≡ put outs 0 (codesOf outputs 0 1 (n .O) rows t) → x ≡ codesOf outputs 0 1 (n .O) rows t
-  outs-stored t x e =
-      e ∙ put-whole outs (codesOf outputs 0 1 (n .O) rows t)
-      (codes-length outputs 0 1 (n .O) rows t ∙ omega (arith, l .outs-length, mul-comm rows (n .O)))
+  pub outs-room : length outs ≡ n .O * rows
+  outs-room = l .outs-length ∙ mul-comm rows (n .O)
 
 -- no list is refused
 all-good : (s i o : Bool) → firstBad s i o ≡ none → (s ≡ true) × (i ≡ true) × (o ≡ true)

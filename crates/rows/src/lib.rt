@@ -1,17 +1,21 @@
 // Many rows at once, from vectors of bytes into vectors of bytes or into a report: up to 64 rows, each stepped once from the resets (the
 // paper, many rows).
 ghost use mathlib.Core.Path.{_≡_};
-ghost use Prim.Native.Nat.{_≤_};
+ghost use mathlib.Core.Bool.{cond, _&&_};
+ghost use Prim.Native.Nat.{_*_, _≤_};
+ghost use lib.Dec.{eqb};
+ghost use lib.ListN.{length};
 ghost use Rattle.plan.specs.declared.Stepped.the-variants.{Refused};
 ghost use Rattle.plan.specs.Literals.{most};
 ghost use Rattle.plan.specs.Circuit.{Tables, circuitOf, seven, filled, cleared};
-ghost use Rattle.plan.specs.Outcome.{Says};
+ghost use Rattle.plan.specs.Step.{isCode};
+ghost use Rattle.plan.specs.Outcome.{Says, allCodes};
 ghost use Rattle.tables.specs.Lengths.{tableOf};
 ghost use Rattle.sweep.specs.Running.{Runs};
 ghost use Rattle.planes.specs.Rows.{badRows, stepRows, rowSteps, reportOf, reportRows};
 ghost use Rattle.lanes.specs.Working.{these};
 ghost use Rattle.rows.specs.Asked.{Room, Lists, Leaves, Reports};
-use codes::whole_list;
+use codes::is_code;
 use given::judge_in_order;
 use lanes::count_rows;
 use lanes::step_lanes;
@@ -23,17 +27,51 @@ use plan::Stepped;
 use sixth::with_sixth;
 use tables::clear;
 
+// 1 for a byte but "0", "1", "x".
+fn not_code(b: u8) -> u8
+    ensures { λ r. ⌜ r ≡ cond (isCode b) 0 1 ⌝ }
+{
+    if is_code(b) {
+        return 0;
+    }
+    1
+}
+
+// Whether no byte is wrong. All are looked at, without a way out, so that many are looked at together.
+fn only_codes(bytes: &[u8]) -> bool
+    ensures { λ r. ⌜ r ≡ allCodes (now (bytes .entry)) ⌝ }
+{
+    let mut wrong = 0;
+    let mut i = 0;
+    while i < bytes.len() {
+        wrong = wrong | not_code(bytes[i]);
+        i += 1;
+    }
+    wrong == 0
+}
+
+// Whether the inputs are `rows` vectors of `each` codes.
+fn whole_rows(ins: &[u8], rows: usize, each: usize) -> bool
+    requires { ⌜ rows ≤ 64 ⌝ }
+    requires { ⌜ each ≤ most ⌝ }
+    ensures { λ r. ⌜ r ≡ (eqb (length (now (ins .entry))) (rows * each) && allCodes (now (ins .entry))) ⌝ }
+{
+    if ins.len() != rows * each {
+        return false;
+    }
+    only_codes(ins)
+}
+
 // The first list that is refused: 1 the next states and 3 the outputs, of which the length is judged, 2 the inputs; or 0.
 fn bad_rows(n: Counts, rows: usize, nexts: usize, ins: &[u8], outs: usize) -> usize
     requires { ⌜ rows ≤ 64 ⌝ }
-    requires { ⌜ n .L ≤ most ⌝ }
-    requires { ⌜ n .O ≤ most ⌝ }
+    requires { ⌜ (n .I ≤ most) × (n .L ≤ most) × (n .O ≤ most) ⌝ }
     ensures { λ r. ⌜ tableOf r ≡ badRows rows (n .I) (n .L) (n .O) nexts (now (ins .entry)) outs ⌝ }
 {
     if nexts != rows * n.L {
         return 1;
     }
-    if !whole_list(ins, rows, n.I) {
+    if !whole_rows(ins, rows, n.I) {
         return 2;
     }
     if outs != rows * n.O {
@@ -217,7 +255,7 @@ pub fn report_rows(
             if 64 < rows {
                 return refuse(Refusal::LongInput(64), scratch, report);
             }
-            if !whole_list(ins, rows, n.I) {
+            if !whole_rows(ins, rows, n.I) {
                 return refuse(Refusal::BadVector(2), scratch, report);
             }
             report_lists(n, outputs, gates, resets, scratch, rows, ins, report);

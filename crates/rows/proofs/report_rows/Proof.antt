@@ -89,8 +89,13 @@ returns c =
     refused-report e _ (f .refuse2 .ensures .1 ∙ ap (λ (k : ℕ). replicate k 0) (same (sixth d))) _ _ _ (f .refuse2 .ensures .0) (f .refuse2 .ensures .2)
     (late e (past d) _ (many e (f .before .before .before .if1 .taken)))
 
-whole-list-requires : tie.Need-whole-list-requires
-whole-list-requires c κs = search needs
+whole-rows-requires : tie.Need-whole-rows-requires
+whole-rows-requires c κs =
+    let d = c .before in
+    let x = sixth d in
+    let good = runs (entry (start x)) _ _ (short (start x)) (judged x .judge-in-order .ensures .0) (is-short (start x)) (x .with-sixth .ensures)
+    (d .enum-told .given .1) in
+    (omega (arith, c .if1 .left), omega (arith, good .fits .sum, good .fits .most-M))
 
 refuse-requires-3 : tie.Need-refuse-requires-3
 refuse-requires-3 c κs = search needs
@@ -108,7 +113,7 @@ returns-2 c =
     let d = w .before .before in
     let e = entry (start (sixth d)) in
     refused-report e _ (f .refuse3 .ensures .1 ∙ ap (λ (k : ℕ). replicate k 0) (same (sixth d))) _ _ _ (f .refuse3 .ensures .0) (f .refuse3 .ensures .2)
-    (late e (past d) _ (wrong e (omega (arith, w .before .if1 .left)) (sym (w .whole-list .ensures) ∙ not-true _ (f .before .before .before .if2 .taken))))
+    (late e (past d) _ (wrong e (omega (arith, w .before .if1 .left)) (sym (w .whole-rows .ensures) ∙ not-true _ (f .before .before .before .if2 .taken))))
 
 report-lists-requires : tie.Need-report-lists-requires
 report-lists-requires c κs =
@@ -116,7 +121,7 @@ report-lists-requires c κs =
     let d = w .before .before in
     let x = sixth d in
     reports (entry (start x)) _ _ (short (start x)) (judged x .judge-in-order .ensures .0) (is-short (start x)) (x .with-sixth .ensures) (d .enum-told .given .1)
-    _ (same x) (omega (arith, w .before .if1 .left)) (sym (w .whole-list .ensures) ∙ not-false _ (c .before .before .if2 .left))
+    _ (same x) (omega (arith, w .before .if1 .left)) (sym (w .whole-rows .ensures) ∙ not-false _ (c .before .before .if2 .left))
 
 clear-requires : tie.Need-clear-requires
 clear-requires c κs = search needs
@@ -152,7 +157,7 @@ returns-4 c =
     let good = runs e _ _ (short (start x)) (judged x .judge-in-order .ensures .0) (is-short (start x)) (x .with-sixth .ensures) (d .enum-told .given .1) in
     done-report e _ (c .before .before .clear .ensures ∙ ap (λ (k : ℕ). replicate k 0) (c .before .before .before .before .before .before .before .scratch5 .given ∙ same x)) _
     (f .report-lists .ensures (e .circuit .tables) good)
-    (late e (past d) none (right e (omega (arith, w .before .if1 .left)) (sym (w .whole-list .ensures) ∙ not-false _ (f .before .before .before .if2 .left))))
+    (late e (past d) none (right e (omega (arith, w .before .if1 .left)) (sym (w .whole-rows .ensures) ∙ not-false _ (f .before .before .before .if2 .left))))
 
 pub report-rows-spec : {M : Type 1} → statement M
 report-rows-spec =
@@ -167,7 +172,7 @@ report-rows-spec =
     same-length
     same-length-2
     returns
-    whole-list-requires
+    whole-rows-requires
     refuse-requires-3
     same-length-3
     same-length-4

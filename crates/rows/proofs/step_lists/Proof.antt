@@ -1,7 +1,7 @@
 use mathlib.Core.Path.{_∙_}
 use Rattle.lanes.specs.Working.{these}
 use Rattle.lanes.proofs.Rows.{outputs-are, nexts-are}
-use Rattle.rows.proofs.Lists.{ready, shows-nexts, shows-outputs, nexts-room, outs-room, nexts-stored, outs-stored}
+use Rattle.rows.proofs.Lists.{ready, shows-nexts, shows-outputs, nexts-room, outs-room}
 use borrow.Author.Needs.{needs}
 use Rattle.rows.proofs.step_lists.Statement.{statement}
 use Rattle.rows.proofs.step_lists.Tie as tie
@@ -15,13 +15,13 @@ store-rows-requires : tie.Need-store-rows-requires
 store-rows-requires c κs =
     let d = c .before .before .before in
     let s = d .before .before .before .before .before .before .before .before .before .before .before in
-    (shows-nexts (s .pre .0) (s .pre .1) _ (d .scratch .given), (s .pre .1 .most, nexts-room (s .pre .0) (s .pre .1)))
+    (shows-nexts (s .pre .0) (s .pre .1) _ (d .scratch .given), nexts-room (s .pre .0) (s .pre .1))
 
 store-rows-requires-2 : tie.Need-store-rows-requires-2
 store-rows-requires-2 c κs =
     let d = c .before .before .before .before .before .before .before .before in
     let s = d .before .before .before .before .before .before .before .before .before .before .before in
-    (shows-outputs (s .pre .0) (s .pre .1) _ (d .scratch .given), (s .pre .1 .most, outs-room (s .pre .0) (s .pre .1)))
+    (shows-outputs (s .pre .0) (s .pre .1) _ (d .scratch .given), outs-room (s .pre .0) (s .pre .1))
 
 same-length : tie.Need-same-length
 same-length c = search needs
@@ -39,13 +39,9 @@ returns c = λ x r.
     let s = d .before .before .before .before .before .before .before .before .before .before in
     let a = s .args in
     let held = d .step-lanes .ensures (these x (a .latches .now) (a .outputs .now) (a .gates .now) (a .resets .now)) r in
-    let t = d .step-lanes .last .1 .1 .1 .1 .1 .0 in
     record {
-      next = nexts-stored (s .pre .0) (s .pre .1) t (n .store-rows .last .1 .1 .1 .1 .1 .1 .0) (n .store-rows .ensures)
-          ∙ nexts-are r (a .ins .now) (a .rows) held;
-      outputs = outs-stored (s .pre .0) (s .pre .1) t (c .before .before .store-rows2 .last .1 .1 .1 .1 .1 .1 .0)
-          (c .before .before .store-rows2 .ensures)
-          ∙ outputs-are r (a .ins .now) (a .rows) held;
+      next = n .store-rows .ensures ∙ nexts-are r (a .ins .now) (a .rows) held;
+      outputs = c .before .before .store-rows2 .ensures ∙ outputs-are r (a .ins .now) (a .rows) held;
     }
 
 pub step-lists-spec : {M : Type 1} → statement M

@@ -73,7 +73,7 @@ bad-rows-requires c κs =
     let d = c .before in
     let e = entry (start d) in
     let f = runs (e .circuit) (rowStage e) (says d) (told d) .fits in
-    (omega (arith, c .if1 .left), (omega (arith, f .sum, f .most-M), f .most-O))
+    (omega (arith, c .if1 .left), (omega (arith, f .sum, f .most-M), omega (arith, f .sum, f .most-M), f .most-O))
 
 clear-requires-2 : tie.Need-clear-requires-2
 clear-requires-2 c κs = search needs
