@@ -98,6 +98,17 @@ void golvanzo_report(const uint64_t *counts /* 7 words */, GOLVANZO_GIVEN, GOLVA
                      const uint8_t *bytes, size_t bytes_len, uint32_t *report, size_t n6,
                      uint64_t *answer /* 2 words */);
 
+/* Up to 64 rows at once, of tables in binary order: each row is one input vector, stepped once from the resets. `ins`
+   are rows * I bytes, a vector a row; `nexts` (rows * L bytes) and `outs` (rows * O) are written in the same way. The
+   second writes no bytes but a report to table 6, of 3 * O words or more: per output the rows at 0, at 1 and at x, and
+   zero past them. `answer` is number (0: done) and place. */
+void golvanzo_rows(const uint64_t *counts /* 7 words */, GOLVANZO_GIVEN, GOLVANZO_SCRATCH, uint64_t rows,
+                   uint8_t *nexts, size_t nexts_len, const uint8_t *ins, size_t ins_len, uint8_t *outs,
+                   size_t outs_len, uint64_t *answer /* 2 words */);
+void golvanzo_report_rows(const uint64_t *counts /* 7 words */, GOLVANZO_GIVEN, GOLVANZO_SCRATCH, uint64_t rows,
+                          const uint8_t *ins, size_t ins_len, uint32_t *report, size_t n6,
+                          uint64_t *answer /* 2 words */);
+
 #ifdef __cplusplus
 }
 #endif

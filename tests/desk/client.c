@@ -366,6 +366,63 @@ static void fillings_of_starts(void) {
     witness(kept, 2, FILE_OF("x1"), 2, NO, 1, "but the constraint was 0 at the first");
 }
 
+/* One step of each row by itself, from the resets: next states, outputs, and per output the rows at 0, 1 and x. */
+static void row_by_row(struct circuit c, uint64_t rows, const uint8_t *ins, uint8_t *nexts, uint8_t *outs,
+                       uint32_t *report) {
+    const uint64_t *n = COUNTS(c);
+    for (uint64_t k = 0; k < rows; k++) {
+        uint8_t *state = nexts + k * n[2], *out = outs + k * n[3];
+        uint64_t answer[2];
+        for (uint64_t i = 0; i < n[2]; i++)
+            state[i] = (uint8_t) "01x"[c.table[4][i] < 2 ? c.table[4][i] : 2];
+        golvanzo_step(n, SEVEN(c), TABLE(c, SCRATCH), state, n[2], ins + k * n[1], n[1], out, n[3], answer);
+        expect(answer[0] == 0, "a row steps", "step");
+        for (uint64_t j = 0; j < n[3]; j++)
+            report[3 * j + (out[j] == 'x' ? 2 : out[j] - '0')]++;
+    }
+}
+
+/* So many rows at once are the same rows one by one, and the report has their numbers; 65 rows have no lanes. */
+static void rows_of(struct circuit c, uint64_t rows) {
+    const uint64_t *n = COUNTS(c), refused = rows > 64 ? 13 : 0, place = rows > 64 ? 64 : 0;
+    size_t l = rows * n[2], i = rows * n[1], o = rows * n[3], words = 3 * n[3], spare = words + 5;
+    uint8_t *nexts = lend(l), *ins = lend(i), *outs = lend(o), *nexts_one = lend(l), *outs_one = lend(o);
+    uint32_t *report = lend(4 * spare), *counts = calloc(words + 1, 4);
+    uint64_t answer[2];
+    for (size_t k = 0; k < i; k++)
+        ins[k] = (uint8_t) "01x"[(k * k + k / 3) % 3];
+    memset(nexts, '?', l), memset(outs, '?', o), memset(report, 0xA5, 4 * spare);
+    golvanzo_rows(n, SEVEN(c), TABLE(c, SCRATCH), rows, nexts, l, ins, i, outs, o, answer);
+    expect(answer[0] == refused && answer[1] == place, "done, or 13 at 64", "rows");
+    expect(all_zero(c.table[SCRATCH], c.words[SCRATCH]), "scratch is zero", "rows");
+    golvanzo_report_rows(n, SEVEN(c), TABLE(c, SCRATCH), rows, ins, i, report, spare, answer);
+    expect(answer[0] == refused && answer[1] == place, "done, or 13 at 64", "report_rows");
+    expect(all_zero(c.table[SCRATCH], c.words[SCRATCH]), "scratch is zero", "report_rows");
+    if (refused)
+        memset(nexts_one, '?', l), memset(outs_one, '?', o);
+    else
+        row_by_row(c, rows, ins, nexts_one, outs_one, counts);
+    expect(memcmp(nexts, nexts_one, l) == 0, "next states are those of each row", "rows");
+    expect(memcmp(outs, outs_one, o) == 0, "outputs are those of each row", "rows");
+    expect(memcmp(report, counts, 4 * words) == 0, "each output's rows are counted", "report_rows");
+    expect(all_zero(report + words, 5), "zero past them", "report_rows");
+    free(counts);
+}
+
+/* Three latches, which start as 0, 1 and x, two inputs, three gates, four outputs. */
+static void rows(void) {
+    struct circuit c = read_file(FILE_OF("aig 8 2 3 4 3\n12\n15 1\n16 10\n16\n15\n3\n0\n\x02\x06\x02\x05\x02\x03"));
+    uint64_t answer[2];
+    struct bytes two = FILE_OF("01"), none = {NULL, 0};
+    uint32_t *report = lend(4 * 11);
+    expect(c.answer[0] == 0 && c.table[4][0] == 0 && c.table[4][1] == 1 && c.table[4][2] == 10, "starts 0, 1, x", "read");
+    rows_of(c, 0), rows_of(c, 1), rows_of(c, 63), rows_of(c, 64), rows_of(c, 65);
+    golvanzo_rows(COUNTS(c), SEVEN(c), TABLE(c, SCRATCH), 1, none.at, 0, two.at, 2, none.at, 0, answer);
+    expect(answer[0] == 12 && answer[1] == 1, "12 at 1", "rows");
+    golvanzo_report_rows(COUNTS(c), SEVEN(c), TABLE(c, SCRATCH), 65, two.at, 2, report, 11, answer);
+    expect(answer[0] == 4 && answer[1] == 6 && all_zero(report, 11), "4 at 6, before 13", "report_rows");
+}
+
 static void refused(struct bytes file, uint64_t number, uint64_t place, const char *what) {
     struct circuit c = read_alone(file);
     expect(c.answer[0] == number && c.answer[1] == place, what, "read");
@@ -458,6 +515,7 @@ int main(void) {
     witnesses3();
     fillings();
     fillings_of_starts();
+    rows();
     refusals();
     table_refusals();
     little_scratch();

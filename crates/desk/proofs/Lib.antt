@@ -1,3 +1,4 @@
 pub mod Tails
 pub mod Answers
 pub mod Reporting
+pub mod RowsAnswers

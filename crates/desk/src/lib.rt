@@ -7,6 +7,7 @@ ghost use Rattle.plan.specs.Outcome.{Says, read, read2007};
 ghost use Rattle.given.specs.Judged.{givenAt};
 ghost use Rattle.desk.specs.Told.{check, writeText, writeBinary, conversion, reduction, dropping, step, witness, witness3};
 ghost use Rattle.desk.specs.Reported.{report};
+ghost use Rattle.desk.specs.RowsTold.{stepRows, reportRows};
 use plan::Version;
 
 // How many words table 1 to 5 or 7 to 9 needs for the file's header, or 2^64 - 1.
@@ -592,6 +593,103 @@ pub extern "C" fn golvanzo_report(
         number as usize,
         bytes,
         six,
+    );
+    told::stepped(r, answer);
+}
+
+// Up to 64 rows, each stepped once from the resets: number (0: stepped) and place.
+#[no_mangle]
+pub extern "C" fn golvanzo_rows(
+    counts: &[u64; 7],
+    inputs: &[u32],
+    latches: &[u32],
+    outputs: &[u32],
+    gates: &[u32],
+    resets: &[u32],
+    bads: &[u32],
+    constraints: &[u32],
+    scratch: &mut [u32],
+    rows: u64,
+    nexts: &mut [u8],
+    ins: &[u8],
+    outs: &mut [u8],
+    answer: &mut [u64; 2],
+)
+    ensures { λ _. ⌜ Says stepRows
+        (record {
+          circuit = givenAt (countsFrom (now (counts .entry)))
+              (seven (now (inputs .entry)) (now (latches .entry)) (now (outputs .entry)) (now (gates .entry)) (now (resets .entry)) (now (bads .entry))
+              (now (constraints .entry)))
+              (now (scratch .entry));
+          rows = rows;
+          nexts = now (nexts .entry);
+          inputs = now (ins .entry);
+          outputs = now (outs .entry);
+        })
+        (record { answer = now (answer .exit); scratch = now (scratch .exit); nexts = now (nexts .exit); outputs = now (outs .exit) }) ⌝ }
+{
+    let n = told::counts(counts);
+    let r = rows::step_rows(
+        n,
+        inputs,
+        latches,
+        outputs,
+        gates,
+        resets,
+        bads,
+        constraints,
+        scratch,
+        rows as usize,
+        nexts,
+        ins,
+        outs,
+    );
+    told::stepped(r, answer);
+}
+
+// The row report of up to 64 rows, into table 6: number (0: reported) and place.
+#[no_mangle]
+pub extern "C" fn golvanzo_report_rows(
+    counts: &[u64; 7],
+    inputs: &[u32],
+    latches: &[u32],
+    outputs: &[u32],
+    gates: &[u32],
+    resets: &[u32],
+    bads: &[u32],
+    constraints: &[u32],
+    scratch: &mut [u32],
+    rows: u64,
+    ins: &[u8],
+    report: &mut [u32],
+    answer: &mut [u64; 2],
+)
+    ensures { λ _. ⌜ Says reportRows
+        (record {
+          circuit = givenAt (countsFrom (now (counts .entry)))
+              (seven (now (inputs .entry)) (now (latches .entry)) (now (outputs .entry)) (now (gates .entry)) (now (resets .entry)) (now (bads .entry))
+              (now (constraints .entry)))
+              (now (scratch .entry));
+          rows = rows;
+          inputs = now (ins .entry);
+          report = now (report .entry);
+        })
+        (record { answer = now (answer .exit); scratch = now (scratch .exit); report = now (report .exit) }) ⌝ }
+{
+    let n = told::counts(counts);
+    let r = rows::report_rows(
+        n,
+        inputs,
+        latches,
+        outputs,
+        gates,
+        resets,
+        bads,
+        constraints,
+        scratch,
+        rows as usize,
+        ins,
+        report,
     );
     told::stepped(r, answer);
 }
