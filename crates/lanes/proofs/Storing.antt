@@ -1,18 +1,17 @@
 -- Codes stored column by column: where the columns of rows lie apart, and what all of them make up.
 use Prim.Native.Nat.{ℕ, zero, suc, _+_, _*_, _/_, _%_, _^_, _≤_, _<_}
-use mathlib.Core.Path.{_≡_, refl, sym, ap, ap₂, _∙_, subst}
+use mathlib.Core.Path.{_≡_, refl, sym, ap, ap₂, _∙_}
 use mathlib.Core.List.{List, [], _∷_, _++_}
 use native.Mathlib.Decide.{decLt}
 use native.Mathlib.Nat.{mul-zero, mul-suc, mul-le-mul-left}
-use native.Mathlib.Numerals.{add-one}
 use native.Mathlib.Omega.{arith}
 use lib.Bits.{bitAnd}
-use lib.ListN.{length, getD, take, drop, set, length-set}
+use lib.ListN.{length, getD, take, set, length-set}
 use lib.Pow.{shr-shr}
 use lib.Seq.{take-add, take-all, getD-set-same, getD-set-other}
 use Rattle.plan.specs.Literals.{negOf}
 use Rattle.plan.specs.Circuit.{flat}
-use Rattle.theorems.proofs.Tables.{firsts, next-row}
+use Rattle.theorems.proofs.Tables.{firsts}
 use Rattle.values.proofs.Filling.{part-firsts}
 use Rattle.planes.specs.Planes.{bit}
 use Rattle.lanes.specs.Words.{planeAt, codeBy, codeAt}

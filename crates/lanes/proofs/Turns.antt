@@ -1,10 +1,10 @@
 -- One turn of each loop, and what straight code leaves.
-use Prim.Native.Nat.{ℕ, zero, suc, _+_, _-_, _*_, _/_, _%_, _^_, _≤_, _<_}
+use Prim.Native.Nat.{ℕ, zero, suc, _+_, _*_, _/_, _%_, _^_, _≤_, _<_}
 use mathlib.Core.Path.{_≡_, refl, sym, ap, ap₂, _∙_, subst}
 use mathlib.Core.List.{List, [], _∷_, _++_, append-assoc, append-nil}
 use native.Mathlib.Numerals.{add-one}
 use native.Mathlib.Omega.{arith}
-use lib.Bits.{bitAnd, bitOr, bitXor, or-shifted-r}
+use lib.Bits.{bitAnd, bitOr, bitXor}
 use lib.Count.{ones, ones-cat, ones-le}
 use lib.ListN.{length, getD, take, drop, set, length-append}
 use lib.Pow.{shl-exact}
@@ -15,20 +15,11 @@ use Rattle.plan.specs.Outcome.{put}
 use Rattle.theorems.proofs.Put.{put-put}
 use Rattle.theorems.proofs.Tables.{firsts, length-firsts, gateAt, gatesAt, next-row}
 use Rattle.theorems.proofs.Running.Sides.{Sides, sides-below}
-use Rattle.planes.specs.Planes.{planeOf, pairs, andPlane, orPlane, sweepPlanes}
-use Rattle.planes.proofs.Bits.{plane-lt}
+use Rattle.planes.specs.Planes.{pairs, andPlane, orPlane, sweepPlanes}
 use Rattle.planes.proofs.Lanes.{planes-snoc, planes-length}
 use Rattle.lanes.specs.Words.{planeWords, planeAt, Begins}
-use Rattle.lanes.specs.Working.{Grows, Sweeps, Swept, There, gatePlanes, countsAt, countsOf}
+use Rattle.lanes.specs.Working.{Grows, Sweeps, Swept, There, gatePlanes, countsAt}
 use Rattle.lanes.proofs.Words.{begins-plane, begins-more, pairs-length}
-
--- one row more of a column
-pub column-more : (f : ℕ → ℕ) → ((k : ℕ) → f k < 2) → (k p b : ℕ) → k < 64 → p ≡ planeOf f k → b ≡ f k
-    → bitOr p (b * 2 ^ k % 18446744073709551616) ≡ planeOf f (k + 1)
-column-more f bits k p b h ep eb =
-    ap₂ (λ (x y : ℕ). bitOr x (y * 2 ^ k % 18446744073709551616)) ep eb
-    ∙ (ap (bitOr (planeOf f k)) (shl-exact 1 k 64 (bits k) (omega arith))
-    ∙ (or-shifted-r (f k) k (planeOf f k) (plane-lt f bits k) ∙ ap (planeOf f) (sym (add-one k))))
 
 -- a mask of lanes
 pub one-shl : (s : ℕ) → s < 64 → 1 * 2 ^ s % 18446744073709551616 ≡ 2 ^ s
@@ -160,7 +151,3 @@ literal-counts t mask l p q x y z ep eq ex ey ez =
     (λ i. ex i ∷ ey i ∷ ez i ∷ [])
     ∙ ap₂ (λ (a b : ℕ). ones (bitAnd (bitXor b (bitAnd a b)) mask) ∷ ones (bitAnd (bitXor a (bitAnd a b)) mask)
     ∷ ones (bitAnd (bitAnd a b) mask) ∷ []) ep eq
-
--- the counts of all literals
-pub counts-length : (table : List ℕ) (n mask : ℕ) (t : List ℕ) → length (countsOf table n mask t) ≡ 3 * n
-counts-length table n mask t = flat-length (λ j. countsAt t mask (getD table j 0)) 3 (λ j. refl) n

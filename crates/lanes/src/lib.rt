@@ -2,7 +2,7 @@
 // 64 lanes in two words of scratch. Each literal has one, lit in the rows where the literal may be 1; where it may be 0 its negation may be 1.
 ghost use mathlib.Core.Path.{_≡_};
 ghost use mathlib.Core.List.{[], _∷_};
-ghost use Prim.Native.Nat.{ℕ, _+_, _-_, _*_, _/_, _%_, _^_, _<_, _≤_};
+ghost use Prim.Native.Nat.{_+_, _-_, _*_, _/_, _%_, _^_, _<_, _≤_};
 ghost use lib.Bits.{bitAnd};
 ghost use lib.Count.{ones};
 ghost use lib.ListN.{length, getD};
@@ -26,22 +26,6 @@ fn other_than(code: u8, b: u8) -> u64
         return 0;
     }
     1
-}
-
-// The rows in which the byte at `from` differs from a code.
-fn column_of(code: u8, bytes: &[u8], from: usize, stride: usize, rows: usize) -> u64
-    requires { ⌜ Column (now bytes) from stride rows ⌝ }
-    ensures { λ r. ⌜ r ≡ column code (now (bytes .entry)) from stride rows ⌝ }
-{
-    let mut plane = 0;
-    let mut at = from;
-    let mut k = 0;
-    while k < rows {
-        plane = plane | (other_than(code, bytes[at]) << k);
-        at += stride;
-        k += 1;
-    }
-    plane
 }
 
 fn low(plane: u64) -> u32
@@ -82,6 +66,28 @@ fn put_planes(one: u64, zero: u64, to: usize, t: &mut [u32])
     t[to + 3] = high(zero);
 }
 
+// An input's planes, from the column of its bytes: a byte but "0" may be 1, and a byte but "1" may be 0. The last row comes first, so that a
+// plane grows by doubling.
+fn load_column(bytes: &[u8], from: usize, stride: usize, rows: usize, to: usize, t: &mut [u32])
+    requires { ⌜ Column (now bytes) from stride rows ⌝ }
+    requires { ⌜ to + 4 ≤ length (now t) ⌝ }
+    ensures { λ _. ⌜ now (t .exit) ≡ put (now (t .entry)) to
+        (planeWords (column 48 (now (bytes .entry)) from stride rows ∷ column 49 (now (bytes .entry)) from stride rows ∷ [])) ⌝ }
+{
+    let mut one = 0;
+    let mut zero = 0;
+    let mut at = stride * rows;
+    let mut k = rows;
+    while 0 < k {
+        at -= stride;
+        k -= 1;
+        let code = bytes[at + from];
+        one = 2 * one + other_than(b'0', code);
+        zero = 2 * zero + other_than(b'1', code);
+    }
+    put_planes(one, zero, to, t);
+}
+
 // The inputs' planes, from the rows' bytes, behind the constant's.
 fn load_rows(bytes: &[u8], n: usize, rows: usize, t: &mut [u32])
     requires { ⌜ (rows ≤ 64) × (n * rows ≤ length (now bytes)) × (4 * (1 + n) ≤ length (now t)) ⌝ }
@@ -91,9 +97,7 @@ fn load_rows(bytes: &[u8], n: usize, rows: usize, t: &mut [u32])
     let mut to = 4;
     let mut j = 0;
     while j < n {
-        let one = column_of(b'0', bytes, j, n, rows);
-        let zero = column_of(b'1', bytes, j, n, rows);
-        put_planes(one, zero, to, t);
+        load_column(bytes, j, n, rows, to, t);
         to += 4;
         j += 1;
     }

@@ -1,6 +1,6 @@
 -- The row report: what is asked, what is counted, and the outcome, with table 6 judged among the tables.
 use Prim.Native.Nat.{ℕ, zero, suc, _+_, _-_, _*_, _/_, _≤_, _<_}
-use mathlib.Core.Path.{_≡_, refl, sym, ap, _∙_}
+use mathlib.Core.Path.{_≡_, sym, ap, _∙_}
 use mathlib.Core.Bool.{Bool, true, false, _&&_}
 use mathlib.Core.Option.{Option, none, some}
 use mathlib.Core.List.{List, [], _∷_, _++_}
@@ -23,7 +23,6 @@ use Rattle.plan.specs.Given.{given, stages, orderStage}
 use Rattle.plan.specs.Outcome.{put, allCodes, checkedBy, checkInOrder}
 use Rattle.theorems.proofs.Reading.Common.{and-left}
 use Rattle.theorems.proofs.Writing.Nothing.{some-first, both-first}
-use Rattle.tables.specs.Held.{Scratch}
 use Rattle.given.proofs.Sound.{good-none, refused-some}
 use Rattle.sixth.specs.Sixth.{sixthStages}
 use Rattle.sixth.specs.Judged.{withSixth}

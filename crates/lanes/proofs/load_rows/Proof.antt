@@ -32,27 +32,21 @@ loop-holds c =
     let s = c .before .before in
     (omega arith, omega arith, refl, grows-none 1 (λ i. column 48 (s .args .bytes .now) i (s .args .n) (s .args .rows)) (λ i. column 49 (s .args .bytes .now) i (s .args .n) (s .args .rows)) (s .args .t .now))
 
-column-of-requires : tie.Need-column-of-requires Inv-loop μ-loop
-column-of-requires c κs = asked c
-
-column-of-requires-2 : tie.Need-column-of-requires-2 Inv-loop μ-loop
-column-of-requires-2 c κs = asked (c .before)
-
-put-planes-requires : tie.Need-put-planes-requires Inv-loop μ-loop
-put-planes-requires c κs = room (c .before .before .before)
+load-column-requires : tie.Need-load-column-requires Inv-loop μ-loop
+load-column-requires c κs = (asked (c .before), room (c .before))
 
 add-to : tie.Need-add-to Inv-loop μ-loop
-add-to c = omega (arith, room (c .before .before .before .before .before .before))
+add-to c = omega (arith, room (c .before .before .before .before))
 
 add-j : tie.Need-add-j Inv-loop μ-loop
-add-j c = omega (arith, c .before .before .before .before .before .before .loop-test .taken)
+add-j c = omega (arith, c .before .before .before .before .loop-test .taken)
 
 loop-less : tie.Need-loop-less Inv-loop μ-loop
-loop-less c = omega (arith, c .before .before .before .before .before .before .loop-test .taken)
+loop-less c = omega (arith, c .before .before .before .before .loop-test .taken)
 
 loop-again : tie.Need-loop-again Inv-loop μ-loop
 loop-again c =
-    let q = c .before .before .before .before .before .before in
+    let q = c .before .before .before .before in
     let s = start q in
     let w = q .before .loop in (
       omega (arith, q .loop-test .taken),
@@ -60,8 +54,7 @@ loop-again c =
       c .before .t .given ∙ w .inv .2,
       grows-more 1 (λ i. column 48 (s .args .bytes .now) i (s .args .n) (s .args .rows))
           (λ i. column 49 (s .args .bytes .now) i (s .args .n) (s .args .rows)) (w .j) (s .args .t .now) (w .t)
-          (w .inv .3) (w .to) _ _ _ (w .inv .1) (room q) (c .before .before .before .before .before .column-of .ensures) (c .before .before .before .before .column-of2 .ensures)
-          (c .before .before .put-planes .ensures),
+          (w .inv .3) (w .to) _ _ _ (w .inv .1) (room q) refl refl (c .before .before .load-column .ensures),
     )
 
 same-length : tie.Need-same-length Inv-loop μ-loop
@@ -81,9 +74,7 @@ load-rows-spec =
     Inv-loop
     μ-loop
     loop-holds
-    column-of-requires
-    column-of-requires-2
-    put-planes-requires
+    load-column-requires
     add-to
     add-j
     loop-less

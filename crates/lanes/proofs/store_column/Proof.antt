@@ -1,11 +1,10 @@
-use Prim.Native.Nat.{ℕ, _+_, _*_, _-_, _/_, _^_, _≤_}
-use mathlib.Core.Path.{_≡_, refl}
+use Prim.Native.Nat.{_+_, _*_, _-_, _/_, _^_, _≤_}
+use mathlib.Core.Path.{_≡_}
 use native.Mathlib.Nat.{mul-zero}
 use native.Mathlib.Omega.{arith}
 use lib.ListN.{length}
 use Rattle.theorems.proofs.Tables.{row-ends}
 use Rattle.sweep.proofs.Lookups.{next-at}
-use Rattle.lanes.specs.Working.{Striped}
 use Rattle.lanes.proofs.Storing.{Stored, stored-none, stored-more, stored-all, code-shifted, shift-none, shift-more}
 use borrow.Author.Needs.{needs}
 use Rattle.lanes.proofs.store_column.Statement.{statement}

@@ -4,7 +4,6 @@ use mathlib.Core.Path.{sym, _∙_}
 use borrow.Author.Tests.{not-true, not-false, eq-eqb, ne-eqb}
 use Rattle.codes.proofs.Places.{bad-state, bad-inputs, bad-outputs, none-bad}
 use Rattle.rows.proofs.Lists.{wholeIn, product-small}
-use borrow.Author.Needs.{needs}
 use Rattle.rows.proofs.bad_rows.Statement.{statement}
 use Rattle.rows.proofs.bad_rows.Tie as tie
 
