@@ -252,3 +252,47 @@ struct plan_end plan_report(struct plan *plan, uint64_t number, const uint8_t *v
                     (size_t)(4 * (n[PLAN_O] + n[PLAN_L])), answer);
     return end_of(answer);
 }
+
+/* The lanes of the library (docs/PAPER.md, "Many rows at once"). */
+enum { LANES = 64 };
+
+static uint64_t rows_now(uint64_t left) {
+    return left < LANES ? left : LANES;
+}
+
+/* No rows are one call too, so that the plan is judged. */
+struct plan_end plan_rows(struct plan *plan, uint64_t rows, const uint8_t *inputs, uint8_t *nexts, uint8_t *outputs) {
+    const uint64_t *n = plan->counts;
+    uint64_t answer[2], at = 0;
+    if (!ready(plan))
+        return no_memory;
+    do {
+        uint64_t now = rows_now(rows - at);
+        golvanzo_rows(n, TABLES(plan), SCRATCH(plan), now, nexts + at * n[PLAN_L], (size_t)(now * n[PLAN_L]),
+                      inputs + at * n[PLAN_I], (size_t)(now * n[PLAN_I]), outputs + at * n[PLAN_O],
+                      (size_t)(now * n[PLAN_O]), answer);
+        at += now;
+    } while (answer[0] == 0 && at < rows);
+    return end_of(answer);
+}
+
+struct plan_end plan_report_rows(struct plan *plan, uint64_t rows, const uint8_t *inputs, uint64_t *report) {
+    const uint64_t *n = plan->counts;
+    size_t words = (size_t)(3 * n[PLAN_O]);
+    uint32_t *six = lent(4 * words);
+    uint64_t answer[2] = {PLAN_NO_MEMORY, 0}, at = 0;
+    int lent_all = six != NULL && ready(plan);
+    memset(report, 0, words * sizeof *report);
+    while (lent_all) {
+        uint64_t now = rows_now(rows - at);
+        golvanzo_report_rows(n, TABLES(plan), SCRATCH(plan), now, inputs + at * n[PLAN_I], (size_t)(now * n[PLAN_I]), six,
+                             words, answer);
+        for (size_t k = 0; k < words; k++)
+            report[k] += six[k];
+        at += now;
+        if (answer[0] != 0 || at >= rows)
+            break;
+    }
+    free(six);
+    return end_of(answer);
+}

@@ -87,6 +87,11 @@ struct plan_end plan_witness3(struct plan *plan, uint64_t number, const uint8_t 
    each latch, the steps at 0, at 1, at x and those that differ from the step before; 4 * (O + L) words. */
 struct plan_end plan_report(struct plan *plan, uint64_t number, const uint8_t *vectors, size_t length, uint32_t *report);
 
+/* Rows, each one vector of I bytes stepped once from the resets, as many as there are: the library takes 64 at a time. L bytes
+   of next state and O bytes of outputs for each row; or three numbers for each output, the rows at 0, at 1 and at x. */
+struct plan_end plan_rows(struct plan *plan, uint64_t rows, const uint8_t *inputs, uint8_t *nexts, uint8_t *outputs);
+struct plan_end plan_report_rows(struct plan *plan, uint64_t rows, const uint8_t *inputs, uint64_t *report);
+
 #ifdef __cplusplus
 }
 #endif

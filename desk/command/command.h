@@ -24,7 +24,7 @@ struct source {
 /* What is asked: the words of the command line. `second` is the file of vectors or the other plan; it and `out` may be null. */
 struct request {
     const char *file, *second, *out;
-    int vcd, large, names, three;
+    int vcd, large, names, three, count;
 };
 
 /* files.c. `read_source` says itself why a file can't be read, as 14. */
@@ -82,6 +82,7 @@ int run_drop(const struct request *request, const struct source *file, struct pl
 int run_trace(const struct request *request, const struct source *file, struct plan *plan);
 int run_witness(const struct request *request, const struct source *file, struct plan *plan);
 int run_report(const struct request *request, const struct source *file, struct plan *plan);
+int run_rows(const struct request *request, const struct source *file, struct plan *plan);
 int run_same(const struct request *request, const struct source *file, struct plan *plan);
 int run_draw(const struct request *request, const struct source *file, struct plan *plan);
 int run_words(const struct request *request, const struct source *file);

@@ -5,7 +5,7 @@
 #include "command.h"
 
 /* What a command may take, beside FILE, -o FILE and --help, which all take: a second file, which some need, and options. */
-enum { TAKES_SECOND = 1, NEEDS_SECOND = 2, TAKES_VCD = 4, TAKES_LARGE = 8, TAKES_NAMES = 16, TAKES_THREE = 32 };
+enum { TAKES_SECOND = 1, NEEDS_SECOND = 2, TAKES_VCD = 4, TAKES_LARGE = 8, TAKES_NAMES = 16, TAKES_THREE = 32, TAKES_COUNT = 64 };
 
 /* A command is given the plan of its file, or the file alone where only the header is looked at. */
 struct command {
@@ -39,6 +39,10 @@ static const struct command commands[] = {
      "numbers; the last is that of steps with another value than the step before. A latch is looked at before each step.\n"
      "--names puts the names of the plan at the lines' ends.",
      TAKES_SECOND | TAKES_NAMES, run_report, NULL},
+    {"rows", "[--count] FILE [VECTORS]", "steps the plan once from its start with each vector, 64 at a time",
+     "Vectors are as for trace, and so are the lines, but that every one begins with the first state.\n"
+     "--count says instead for each output at how many rows it is 0, 1 and x.",
+     TAKES_SECOND | TAKES_COUNT, run_rows, NULL},
     {"same", "FILE FILE", "says whether two plans are the same but for their numbers",
      "Both are converted and compared byte for byte, symbols and comments too: the form, M, the numbers of variables\n"
      "and the order of a gate's sides may differ, and the order of gates where conversion gives the same.\n"
@@ -65,6 +69,7 @@ static const struct {
     {"--large", TAKES_LARGE, offsetof(struct request, large)},
     {"--names", TAKES_NAMES, offsetof(struct request, names)},
     {"--three", TAKES_THREE, offsetof(struct request, three)},
+    {"--count", TAKES_COUNT, offsetof(struct request, count)},
 };
 
 enum { OPTIONS = sizeof options / sizeof options[0] };
