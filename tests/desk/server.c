@@ -17,6 +17,8 @@
    11 drop      as reduce                                                 as reduce
    12 report    given, table 6, u64 number, list, answer                  all of these but the number
    13 witness3  given, u64 number, list, answer                           all of these but the number
+   14 rows      given, u64 rows, next states, inputs, outputs, answer     all of these but the number
+   15 rowreport given, table 6, u64 rows, inputs, answer                  all of these but the number
 
    Given are counts, a circuit's tables (1 to 4, 7 to 9) and scratch. What these are is said in wire.h. */
 #include <stdint.h>
@@ -118,15 +120,30 @@ static void call_witness3(void) {
     put_memory(answer);
 }
 
-static void call_report(void) {
+typedef void report(const uint64_t *, GOLVANZO_GIVEN, GOLVANZO_SCRATCH, uint64_t, const uint8_t *, size_t, uint32_t *,
+                    size_t, uint64_t *);
+
+static void call_report(report *tell) {
     struct given given = get_given();
     struct memory report = get_table();
     uint64_t number = get_number();
     struct memory list = get_vector(), answer = get_numbers();
-    golvanzo_report(CIRCUIT_OF(given), LENT(given.scratch), number, LENT(list), LENT(report), answer.lent);
+    tell(CIRCUIT_OF(given), LENT(given.scratch), number, LENT(list), LENT(report), answer.lent);
     put_given(given);
     put_memory(report);
     put_memory(list);
+    put_memory(answer);
+}
+
+static void call_rows(void) {
+    struct given given = get_given();
+    uint64_t rows = get_number();
+    struct memory nexts = get_vector(), ins = get_vector(), outs = get_vector(), answer = get_numbers();
+    golvanzo_rows(CIRCUIT_OF(given), LENT(given.scratch), rows, LENT(nexts), LENT(ins), LENT(outs), answer.lent);
+    put_given(given);
+    put_memory(nexts);
+    put_memory(ins);
+    put_memory(outs);
     put_memory(answer);
 }
 
@@ -170,10 +187,16 @@ int main(void) {
             call_change(golvanzo_drop);
             break;
         case 12:
-            call_report();
+            call_report(golvanzo_report);
             break;
         case 13:
             call_witness3();
+            break;
+        case 14:
+            call_rows();
+            break;
+        case 15:
+            call_report(golvanzo_report_rows);
             break;
         default:
             give_up("no such call");

@@ -9,6 +9,7 @@ pub mod programs;
 pub mod read;
 pub mod reduce;
 pub mod report;
+pub mod rows;
 pub mod step;
 pub mod tables;
 pub mod tail;

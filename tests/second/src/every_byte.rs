@@ -45,11 +45,15 @@ fn values(library: &dyn Library, byte: u8) -> Result<(), String> {
             (Call::Witness, vec![3, 5]),
             (Call::Witness3, vec![3]),
             (Call::Report, vec![3]),
+            (Call::ReportRows, vec![3]),
         ] {
             let mut question = lent(call, &[&[b'1', other, byte]]);
             question.numbers = numbers;
             compare(library, call, &question)?;
         }
+        let mut rows = lent(Call::Rows, &[b"??", &[other, byte], b"??"]);
+        rows.numbers = vec![2];
+        compare(library, Call::Rows, &rows)?;
     }
     Ok(())
 }

@@ -3,6 +3,7 @@
 use crate::aiger::convert::convert;
 use crate::aiger::fillings::MOST_X;
 use crate::aiger::report::MOST_STEPS;
+use crate::aiger::rows::LANES;
 use crate::aiger::{literal, meaning, read, step, write, Circuit, Form, Version};
 use crate::compare::{compare, tables};
 use crate::ensure;
@@ -85,6 +86,15 @@ fn compared(library: &dyn Library, a: usize) -> Result<(), String> {
     [MOST_STEPS, MOST_STEPS + 1]
         .into_iter()
         .try_for_each(|number| reported(library, number))?;
+    let mut rows = given::lend(Call::Rows, &given::exactly(Call::Rows, &chain(a)), JUNK);
+    rows.numbers = vec![LANES];
+    let inputs: Vec<u8> = (0..LANES as usize).map(|row| b"01x"[row * row % 5 % 3]).collect();
+    rows.bytes = vec![
+        Memory::junk(0, JUNK),
+        Memory::around(&inputs, JUNK),
+        Memory::junk(LANES, JUNK),
+    ];
+    tables::compare(library, Call::Rows, &rows)?;
     [u64::MAX, (1 << MOST_X) - 1]
         .into_iter()
         .try_for_each(|allowance| filled(library, allowance))

@@ -50,10 +50,12 @@ pub enum Call {
     Drop,
     Report,
     Witness3,
+    Rows,
+    ReportRows,
 }
 
 impl Call {
-    pub const ALL: [Call; 10] = [
+    pub const ALL: [Call; 12] = [
         Call::Check,
         Call::WriteText,
         Call::WriteBinary,
@@ -64,6 +66,8 @@ impl Call {
         Call::Drop,
         Call::Report,
         Call::Witness3,
+        Call::Rows,
+        Call::ReportRows,
     ];
 
     pub fn named(name: &str) -> Option<Call> {
@@ -82,6 +86,8 @@ impl Call {
             Call::Drop => "drop",
             Call::Report => "report",
             Call::Witness3 => "witness3",
+            Call::Rows => "rows",
+            Call::ReportRows => "report-rows",
         }
     }
 
@@ -92,7 +98,7 @@ impl Call {
             Call::Reduce | Call::Drop => &[2, 3, 4, 5, 6, 7, 8, 15],
             Call::Step | Call::Witness3 => &[2, 3, 4, 5, 6, 7, 8, 12, 15],
             Call::Witness => &[2, 3, 4, 5, 6, 7, 8, 12, 15, 20],
-            Call::Report => &[2, 3, 4, 5, 6, 7, 8, 12, 13, 15],
+            Call::Report | Call::Rows | Call::ReportRows => &[2, 3, 4, 5, 6, 7, 8, 12, 13, 15],
             Call::WriteText => &[1, 2, 3, 4, 5, 6, 7, 8, 10, 11],
             Call::WriteBinary => &[1, 2, 3, 4, 5, 6, 7, 8, 10, 11, 15],
         }
@@ -106,7 +112,7 @@ impl Call {
     /// The length of its answer: number, place, values.
     pub fn answers(self) -> u64 {
         match self {
-            Call::Check | Call::Step | Call::Report => 2,
+            Call::Check | Call::Step | Call::Report | Call::Rows | Call::ReportRows => 2,
             Call::WriteText | Call::WriteBinary | Call::Witness3 => 3,
             Call::Witness => 4,
             Call::Convert | Call::Reduce | Call::Drop => 9,
@@ -127,6 +133,7 @@ impl Call {
     pub fn sixth(self) -> Option<fn(&Counts) -> u64> {
         match self {
             Call::Report => Some(|counts| 4 * (counts.o + counts.l)),
+            Call::ReportRows => Some(|counts| 3 * counts.o),
             _ => None,
         }
     }
@@ -139,12 +146,12 @@ pub struct Lent {
     /// All but scratch.
     pub tables: [Memory<u32>; 7],
     pub scratch: Memory<u32>,
-    /// The same tables again, of conversion, reduction and dropping; of a report table 6.
+    /// The same tables again, of conversion, reduction and dropping; of the reports table 6.
     pub written: Vec<Memory<u32>>,
-    /// How many vectors, of the witness questions and of a report; of that of fillings the allowance too.
+    /// How many vectors, of the witness questions, of a report and of rows; of that of fillings the allowance too.
     pub numbers: Vec<u64>,
     /// Of a writer the tail and the buffer; of the stepper state, inputs, outputs; of the witness questions and of a
-    /// report the list.
+    /// report the list; of rows next states, inputs, outputs.
     pub bytes: Vec<Memory<u8>>,
     pub answer: Memory<u64>,
 }

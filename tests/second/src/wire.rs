@@ -34,6 +34,8 @@ fn number(call: Call) -> u32 {
         Call::Drop => 11,
         Call::Report => 12,
         Call::Witness3 => 13,
+        Call::Rows => 14,
+        Call::ReportRows => 15,
     }
 }
 

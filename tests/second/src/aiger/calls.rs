@@ -3,6 +3,7 @@
 
 use super::fillings::{self, Verdict, MOST_X};
 use super::report::{self, Numbers, MOST_STEPS};
+use super::rows::{self, Rows, LANES};
 use super::step::{self, Step};
 use super::tables::{self, binary_order, Given};
 use super::{convert, reduce, refuse, tail, unused, write, Circuit, Form, Refusal, Version};
@@ -73,6 +74,34 @@ pub fn report(given: &Given, number: u64, list: &[u8]) -> Result<Vec<Numbers>, R
     }
     let vectors = vectors(&circuit, number, list)?;
     Ok(report::report(&circuit, vectors.into_iter()))
+}
+
+/// `next` and `output` are the lengths of the bytes lent for next states and for outputs.
+pub fn rows(given: &Given, number: u64, [next, output]: [u64; 2], list: &[u8]) -> Result<Rows, Refusal> {
+    let circuit = in_order(given)?;
+    lanes(number)?;
+    if next != number * given.counts.l {
+        return refuse(12, 1);
+    }
+    let vectors = vectors(&circuit, number, list)?;
+    if output != number * given.counts.o {
+        return refuse(12, 3);
+    }
+    Ok(rows::rows(&circuit, &vectors))
+}
+
+pub fn report_rows(given: &Given, number: u64, list: &[u8]) -> Result<Vec<[u32; 3]>, Refusal> {
+    let circuit = in_order(given)?;
+    lanes(number)?;
+    Ok(rows::report(&circuit, &vectors(&circuit, number, list)?))
+}
+
+/// 13: more rows than lanes.
+fn lanes(number: u64) -> Result<(), Refusal> {
+    if number > LANES {
+        return refuse(13, LANES as usize);
+    }
+    Ok(())
 }
 
 /// The vectors of a list, which is judged as a whole before the first step. Its length is compared as a true product.

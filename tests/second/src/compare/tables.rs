@@ -83,6 +83,11 @@ pub fn after(call: Call, before: &Lent) -> Lent {
             let report = calls::report(&given, before.number(), before.bytes[0].lent());
             reported(&mut after, report.map(|report| report.concat()));
         }
+        Call::Rows => rowed(&mut after, &given),
+        Call::ReportRows => {
+            let report = calls::report_rows(&given, before.number(), before.bytes[0].lent());
+            reported(&mut after, report.map(|report| report.concat()));
+        }
     }
     after
 }
@@ -131,6 +136,21 @@ fn stepped(after: &mut Lent, given: &Given) {
         output.lent_mut().copy_from_slice(&step.output);
     }
     answer(after, step, |_| Vec::new());
+}
+
+/// Next states and outputs of accepted rows; a refusal changes neither.
+fn rowed(after: &mut Lent, given: &Given) {
+    let number = after.number();
+    let [next, input, output] = after.bytes.as_mut_slice() else {
+        unreachable!("rows have three buffers");
+    };
+    let lengths = [&*next, &*output].map(|memory| memory.lent().len() as u64);
+    let rows = calls::rows(given, number, lengths, input.lent());
+    if let Ok(rows) = &rows {
+        next.lent_mut().copy_from_slice(&rows.nexts);
+        output.lent_mut().copy_from_slice(&rows.outputs);
+    }
+    answer(after, rows, |_| Vec::new());
 }
 
 /// The circuit of tables that hold one.

@@ -2,6 +2,7 @@
 
 mod fillings;
 mod reports;
+mod rows;
 
 use super::at_least;
 use crate::aiger::{Circuit, Refusal};
@@ -22,6 +23,8 @@ type Kind = (&'static str, u64, fn(&Seen) -> bool);
 fn of(call: Call) -> &'static [Kind] {
     match call {
         Call::Report => reports::KINDS,
+        Call::Rows => rows::KINDS,
+        Call::ReportRows => rows::OF_REPORTS,
         Call::Witness => fillings::KINDS,
         _ => &[],
     }

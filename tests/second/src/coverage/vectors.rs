@@ -51,8 +51,14 @@ impl NewCoverage {
 
 /// The vectors of a witness question that is accepted.
 pub fn list<'a>(lent: &'a Lent, circuit: &Circuit) -> Vec<&'a [u8]> {
+    list_of(lent, 0, circuit)
+}
+
+/// The vectors in a byte buffer.
+pub fn list_of<'a>(lent: &'a Lent, buffer: usize, circuit: &Circuit) -> Vec<&'a [u8]> {
     let (i, number) = (circuit.inputs.len(), lent.number() as usize);
-    (0..number).map(|k| &lent.bytes[0].lent()[k * i..(k + 1) * i]).collect()
+    let bytes = lent.bytes[buffer].lent();
+    (0..number).map(|k| &bytes[k * i..(k + 1) * i]).collect()
 }
 
 impl VectorCoverage {

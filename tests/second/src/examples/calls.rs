@@ -20,7 +20,16 @@ pub fn called(library: &dyn Library, circuit: &Circuit, tail: &[u8], list: &[&[u
                     compare(library, call, &stepping(circuit, &state, input))?;
                 }
             }
-            Call::Witness | Call::Witness3 | Call::Report => {
+            Call::Rows => {
+                let mut lent = exactly(call, circuit, &[]);
+                let lengths = [circuit.latches.len(), circuit.inputs.len(), circuit.outputs.len()];
+                let rows = lengths.map(|length| Memory::junk((length * list.len()) as u64, JUNK));
+                lent.bytes = rows.into_iter().collect();
+                lent.bytes[1] = Memory::around(&list.concat(), JUNK);
+                lent.numbers = vec![list.len() as u64];
+                compare(library, call, &lent)?;
+            }
+            Call::Witness | Call::Witness3 | Call::Report | Call::ReportRows => {
                 let mut lent = exactly(call, circuit, &[&list.concat()]);
                 lent.numbers = vec![list.len() as u64];
                 lent.numbers.extend((call == Call::Witness).then_some(1000));

@@ -2,6 +2,7 @@
 
 mod fillings;
 mod reports;
+mod rows;
 mod slips;
 mod vectors;
 
@@ -12,6 +13,7 @@ use crate::library::{Call, Question, Reply};
 use crate::tally::Tally;
 use fillings::FILLINGS;
 use reports::REPORT;
+use rows::{ROWS, ROW_REPORT};
 use slips::{Slip, ANY, CHANGES, WRITERS};
 use vectors::{STEPPER, WITNESS};
 
@@ -24,6 +26,8 @@ fn slips(call: Call) -> Vec<(&'static str, Slip)> {
         Call::Witness => [ANY, FILLINGS].concat(),
         Call::Witness3 => [ANY, WITNESS].concat(),
         Call::Report => [ANY, REPORT].concat(),
+        Call::Rows => [ANY, ROWS].concat(),
+        Call::ReportRows => [ANY, ROW_REPORT].concat(),
     }
 }
 

@@ -3,6 +3,7 @@
 mod counts;
 mod fillings;
 mod order;
+mod rows;
 mod vectors;
 mod words;
 mod writing;
@@ -83,6 +84,8 @@ pub fn case(call: Call, seed: u64, number: u64) -> TablesCase {
         Call::Witness => fillings::add(&mut random, &circuit, &mut case),
         Call::Witness3 => vectors::witness(&mut random, &circuit, &mut case),
         Call::Report => vectors::report(&mut random, &circuit, &mut case),
+        Call::Rows => rows::add(&mut random, &circuit, &mut case),
+        Call::ReportRows => rows::add_report(&mut random, &circuit, &mut case),
     }
     case
 }

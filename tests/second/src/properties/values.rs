@@ -5,6 +5,7 @@ use crate::aiger::calls;
 use crate::aiger::convert::Converted;
 use crate::aiger::fillings::{self, MOST_X, NO, UNDECIDED, YES};
 use crate::aiger::report::MOST_STEPS;
+use crate::aiger::rows::Rows;
 use crate::aiger::step::{self, Step};
 use crate::aiger::tables::Given;
 use crate::aiger::{refuse, variable, Circuit};
@@ -53,6 +54,7 @@ pub fn check(
     witness(&converted.circuit, reduced, &list, shown(&steps))?;
     reports(&converted.circuit, &list, &steps)?;
     fillings(random, &converted.circuit, &list, shown(&steps))?;
+    rows(&converted.circuit, &list)?;
     if circuit.gates.len() <= FEW_GATES {
         slowly(random, circuit, converted, unknown)?;
     }
@@ -176,6 +178,41 @@ fn fillings(random: &mut Random, circuit: &Circuit, list: &[Vec<u8>], shown: boo
             "{allowance} allowed: expected {expected:?}, given {verdict:?}"
         );
     }
+    Ok(())
+}
+
+/// Each row is the first step of a list of its own, and the report tells what the rows have.
+fn rows(circuit: &Circuit, list: &[Vec<u8>]) -> Result<(), String> {
+    let first: Vec<Step> = list
+        .iter()
+        .map(|input| run(circuit, None, std::slice::from_ref(input)).remove(0).1)
+        .collect();
+    let (number, bytes) = (list.len() as u64, list.concat());
+    let lengths = [
+        number * circuit.latches.len() as u64,
+        number * circuit.outputs.len() as u64,
+    ];
+    let rows = calls::rows(&Given::exactly(circuit), number, lengths, &bytes);
+    let expected = Rows {
+        nexts: first
+            .iter()
+            .map(|step| step.next.as_slice())
+            .collect::<Vec<_>>()
+            .concat(),
+        outputs: first
+            .iter()
+            .map(|step| step.output.as_slice())
+            .collect::<Vec<_>>()
+            .concat(),
+    };
+    ensure!(rows == Ok(expected.clone()), "rows {rows:?}, steps {expected:?}");
+    let report = calls::report_rows(&given::exactly(Call::ReportRows, circuit), number, &bytes);
+    let mut counted = vec![[0; 3]; circuit.outputs.len()];
+    for (at, value) in expected.outputs.iter().enumerate() {
+        let value = b"01x".iter().position(|known| known == value).expect("a value");
+        counted[at % circuit.outputs.len()][value] += 1;
+    }
+    ensure!(report == Ok(counted.clone()), "report {report:?}, counted {counted:?}");
     Ok(())
 }
 

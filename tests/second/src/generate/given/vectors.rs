@@ -8,7 +8,7 @@ use crate::memory::Memory;
 use crate::random::Random;
 
 /// A wrong length or a byte that is no value.
-fn spoil(random: &mut Random, vector: &mut Vec<u8>) {
+pub fn spoil(random: &mut Random, vector: &mut Vec<u8>) {
     match random.below(5) {
         0 if !vector.is_empty() => drop(vector.pop()),
         1 if !vector.is_empty() => vector.clear(),
