@@ -1,0 +1,55 @@
+use borrow.Author.Needs.{needs}
+use Prim.Native.Nat.{ℕ, _-_, _<_}
+use native.Mathlib.Omega.{arith}
+use Rattle.explain.proofs.Blaming.{Walking, walking-start, walking-more, walking-end}
+use Rattle.explain.proofs.blame.Statement.{statement}
+use Rattle.explain.proofs.blame.Tie as tie
+
+abbrev Inv-loop : tie.InvT-loop
+Inv-loop gates a lits m n t₀ k₀ t k = Walking gates a lits m n t₀ t k
+
+abbrev μ-loop : tie.MeasureT-loop
+μ-loop gates a lits m n t₀ k₀ t k = k
+
+loop-holds : tie.Need-loop-holds Inv-loop μ-loop
+loop-holds c = walking-start _ _ _ _ _ _
+
+sub-k : tie.Need-sub-k Inv-loop μ-loop
+sub-k c = search needs
+
+blame-from-requires : tie.Need-blame-from-requires Inv-loop μ-loop
+blame-from-requires c κs =
+    let d = c .before in
+    let s = d .before .before .before .before in
+    let l = d .before .loop in
+    let lt : l .k - 1 < s .args .a = omega (arith, d .loop-test .taken, l .inv .within) in
+    (omega (arith, s .pre .0), (s .pre .1 .0 (l .k - 1) lt, record { apart = s .pre .1 .1 .apart; long = omega (arith, s .pre .1 .1 .long, l .inv .size) }))
+
+loop-less : tie.Need-loop-less Inv-loop μ-loop
+loop-less c = search needs
+
+loop-again : tie.Need-loop-again Inv-loop μ-loop
+loop-again c =
+    let d = c .before .before .before .before in
+    let l = d .before .loop in
+    walking-more _ _ _ _ _ _ _ _ (l .k) (l .k - 1) (omega (arith, d .loop-test .taken)) (l .inv) (c .before .t .given) (c .before .before .blame-from .ensures)
+
+same-length : tie.Need-same-length Inv-loop μ-loop
+same-length c = c .before .loop .inv .size
+
+returns : tie.Need-returns Inv-loop μ-loop
+returns c = walking-end _ _ _ _ _ _ _ _ (omega (arith, c .loop-test .left)) (c .before .loop .inv)
+
+pub blame-spec : {M : Type 1} → statement M
+blame-spec =
+    tie.close
+    (tie.spec
+    Inv-loop
+    μ-loop
+    loop-holds
+    sub-k
+    blame-from-requires
+    loop-less
+    loop-again
+    same-length
+    returns)

@@ -1,0 +1,297 @@
+use Prim.Native.Nat.{ℕ, _+_, _*_}
+use mathlib.Core.Path.{_≡_, sym, ap, _∙_, subst}
+use mathlib.Core.List.{List, _∷_}
+use native.Mathlib.Omega.{arith}
+use lib.ListN.{getD}
+use Rattle.plan.specs.declared.Lit.{Lit}
+use Rattle.plan.specs.Literals.{varOf, wordOf, indexOf}
+use Rattle.plan.specs.Circuit.{Gate}
+use Rattle.theorems.proofs.Tables.{gateAt}
+use Rattle.drop.specs.Marks.{Below}
+use Rattle.explain.specs.Known.{Space, Known}
+use Rattle.explain.proofs.Blaming.{not-come, at-x, at-1, first-0, second-0}
+use borrow.Author.Needs.{needs}
+use Rattle.explain.proofs.blame_from.Statement.{statement}
+use Rattle.explain.proofs.blame_from.Tie as tie
+
+-- the call's arguments where the gate is read, and its three literals
+abbrev start : tie.After-at3 → tie.Start
+start d = d .before .before .before .before .before .before .before .before .before .before
+
+abbrev gate : tie.After-at3 → Gate
+gate d = gateAt (start d .args .gates .now) (start d .args .k)
+
+abbrev table : tie.After-at3 → List ℕ
+table d = start d .args .t .now
+
+below : (d : tie.After-at3) → Below (start d .args .n) (gate d)
+below d = start d .pre .1 .0
+
+space : (d : tie.After-at3) → let a = start d .args in Space (a .lits) (a .m) (a .n) (table d)
+space d = start d .pre .1 .1
+
+v-is : (d : tie.After-at3) → d .before .before .before .before .index .result ≡ varOf (gate d .lhs)
+v-is d =
+    let i = d .before .before .before .before in
+    i .index .ensures ∙ ap indexOf (i .before .var .ensures) ∙ ap (λ (l : Lit). varOf (wordOf l)) (i .before .before .at .ensures)
+
+r0-is : (d : tie.After-at3) → wordOf (d .before .before .at2 .result) ≡ gate d .rhs0
+r0-is d = ap wordOf (d .before .before .at2 .ensures)
+
+r1-is : (d : tie.After-at3) → wordOf (d .at3 .result) ≡ gate d .rhs1
+r1-is d = ap wordOf (d .at3 .ensures)
+
+-- back to it from where the gate is come to, where it may be 0, where it is 0
+abbrev read : tie.Else1 → tie.After-at3
+read e = e .before .before
+
+abbrev first : tie.Else2 → tie.Else1
+first e = e .before .before
+
+abbrev second : tie.Else3 → tie.Else2
+second e = e .before .before
+
+come-to : (e : tie.Else1) → let d = read e in getD (table d) (start d .args .m + varOf (gate d .lhs)) 0 ≡ 1 → ⊥
+come-to e z = let d = read e in e .if1 .left (ap (λ (v : ℕ). getD (table d) (start d .args .m + v) 0) (v-is d) ∙ z)
+
+may-be-0 : (e : tie.Else2) → let d = read (first e) in getD (table d) (start d .args .lits + 2 * varOf (gate d .lhs) + 1) 0 ≡ 0 → ⊥
+may-be-0 e z =
+    let d = read (first e) in
+    e .if2 .left (ap (λ (v : ℕ). getD (table d) (start d .args .lits + 2 * v + 1) 0) (v-is d) ∙ z)
+
+at-zero : (e : tie.Else3) → let d = read (first (second e)) in getD (table d) (start d .args .lits + 2 * varOf (gate d .lhs)) 0 ≡ 0
+at-zero e =
+    let d = read (first (second e)) in
+    ap (λ (v : ℕ). getD (table d) (start d .args .lits + 2 * v) 0) (sym (v-is d)) ∙ e .if3 .left
+
+side-is : (f : tie.After-word) → f .word .result ≡ gate (read (first (second (f .before)))) .rhs0
+side-is f = f .word .ensures ∙ r0-is (read (first (second (f .before))))
+
+mul-at : tie.Need-mul-at
+mul-at c = search needs
+
+mul-at-2 : tie.Need-mul-at-2
+mul-at-2 c = search needs
+
+shared-slice-read-at : tie.Need-shared-slice-read-at
+shared-slice-read-at c = search needs
+
+at-requires : tie.Need-at-requires
+at-requires c κs = search needs
+
+var-requires : tie.Need-var-requires
+var-requires c κs = search needs
+
+index-requires : tie.Need-index-requires
+index-requires c κs = search needs
+
+cast-v : tie.Need-cast-v
+cast-v c = search needs
+
+mul-at-3 : tie.Need-mul-at-3
+mul-at-3 c = search needs
+
+add-at : tie.Need-add-at
+add-at c = search needs
+
+mul-at-4 : tie.Need-mul-at-4
+mul-at-4 c = search needs
+
+shared-slice-read-at-2 : tie.Need-shared-slice-read-at-2
+shared-slice-read-at-2 c = search needs
+
+at-requires-2 : tie.Need-at-requires-2
+at-requires-2 c κs = search needs
+
+mul-at-5 : tie.Need-mul-at-5
+mul-at-5 c = search needs
+
+add-at-2 : tie.Need-add-at-2
+add-at-2 c = search needs
+
+mul-at-6 : tie.Need-mul-at-6
+mul-at-6 c = search needs
+
+shared-slice-read-at-3 : tie.Need-shared-slice-read-at-3
+shared-slice-read-at-3 c = search needs
+
+at-requires-3 : tie.Need-at-requires-3
+at-requires-3 c κs = search needs
+
+add-if1 : tie.Need-add-if1
+add-if1 c = search needs
+
+mul-if1 : tie.Need-mul-if1
+mul-if1 c = search needs
+
+slice-read-if1 : tie.Need-slice-read-if1
+slice-read-if1 c = let d = c .before in omega (arith, v-is d, below d .lhs, space d .long)
+
+returns : tie.Need-returns
+returns c = λ w seen k.
+    let d = c .before .before in
+    let a = start d .args in
+    not-come w (a .lits) (a .m) (a .n) (gate d) (below d .lhs) seen (table d) k
+    (ap (λ (v : ℕ). getD (table d) (a .m + v) 0) (sym (v-is d)) ∙ c .if1 .taken)
+
+mul-own : tie.Need-mul-own
+mul-own c = search needs
+
+add-own : tie.Need-add-own
+add-own c = search needs
+
+add-if2 : tie.Need-add-if2
+add-if2 c = search needs
+
+mul-if2 : tie.Need-mul-if2
+mul-if2 c = search needs
+
+slice-read-if2 : tie.Need-slice-read-if2
+slice-read-if2 c = let d = read (c .before) in omega (arith, v-is d, below d .lhs, space d .apart, space d .long)
+
+mark-requires : tie.Need-mark-requires
+mark-requires c κs = let d = read (c .before .before .before) in omega (arith, ap varOf (r1-is d), below d .rhs1, space d .long)
+
+mark-requires-2 : tie.Need-mark-requires-2
+mark-requires-2 c κs =
+    let d = read (c .before .before .before .before .before .before .before) in
+    omega (arith, ap varOf (r0-is d), below d .rhs0, space d .long, c .before .before .t .given)
+
+same-length : tie.Need-same-length
+same-length c = search needs
+
+returns-2 : tie.Need-returns-2
+returns-2 c = λ w seen k.
+    let q = c .before .before .before .before .before .before in
+    let e = q .before .before .before .before in
+    let d = read e in
+    let a = start d .args in
+    let g = gate d in
+    at-1 w (a .lits) (a .m) (a .n) g (below d .lhs) seen (table d) k (come-to e) (c .before .before .mark2 .last .1 .1 .0)
+    (ap (λ (v : ℕ). getD (table d) (a .lits + 2 * v + 1) 0) (sym (v-is d)) ∙ q .before .before .if2 .taken)
+    (subst (λ (v : ℕ). Known w (a .lits) (a .m) (a .n) (v ∷ varOf (g .rhs1) ∷ seen) (c .before .before .mark2 .last .1 .1 .0))
+    (ap varOf (r0-is d))
+    (c .before .before .mark2 .ensures w (a .lits) (a .n) (varOf (g .rhs1) ∷ seen) (space d .apart)
+    (omega (arith, ap varOf (r0-is d), below d .rhs0))
+    (subst (λ (v : ℕ). Known w (a .lits) (a .m) (a .n) (v ∷ seen) (q .mark .last .1 .1 .0)) (ap varOf (r1-is d))
+    (q .mark .ensures w (a .lits) (a .n) seen (space d .apart) (omega (arith, ap varOf (r1-is d), below d .rhs1)) k))))
+
+mul-if3 : tie.Need-mul-if3
+mul-if3 c = search needs
+
+slice-read-if3 : tie.Need-slice-read-if3
+slice-read-if3 c = let d = read (first (c .before)) in omega (arith, v-is d, below d .lhs, space d .apart, space d .long)
+
+returns-3 : tie.Need-returns-3
+returns-3 c = λ w seen k.
+    let e = c .before .before in
+    let d = read (first e) in
+    let a = start d .args in
+    at-x w (a .lits) (a .m) (a .n) (gate d) (below d .lhs) seen (table d) k (come-to (first e)) (may-be-0 e)
+    (λ z. c .if3 .taken (ap (λ (v : ℕ). getD (table d) (a .lits + 2 * v) 0) (v-is d) ∙ z))
+
+word-requires : tie.Need-word-requires
+word-requires c κs = search needs
+
+cast-side : tie.Need-cast-side
+cast-side c = search needs
+
+add-if4 : tie.Need-add-if4
+add-if4 c = search needs
+
+mul-if4 : tie.Need-mul-if4
+mul-if4 c = search needs
+
+slice-read-if4 : tie.Need-slice-read-if4
+slice-read-if4 c =
+    let d = read (first (second (c .before .before))) in
+    omega (arith, side-is (c .before), below d .rhs0, space d .apart, space d .long)
+
+mark-requires-3 : tie.Need-mark-requires-3
+mark-requires-3 c κs =
+    let d = read (first (second (c .before .before .before .before))) in
+    omega (arith, ap varOf (r0-is d), below d .rhs0, space d .long)
+
+same-length-2 : tie.Need-same-length-2
+same-length-2 c = search needs
+
+returns-4 : tie.Need-returns-4
+returns-4 c = λ w seen k.
+    let f = c .before .before .before .before .before .before in
+    let e = second (f .before) in
+    let d = read (first e) in
+    let a = start d .args in
+    first-0 w (a .lits) (a .m) (a .n) (gate d) (below d .lhs) seen (table d) k (come-to (first e)) (at-zero (f .before))
+    (omega (arith, below d .rhs0)) (c .before .before .mark3 .last .1 .1 .0)
+    (ap (λ (l : ℕ). getD (table d) (a .lits + l) 0) (sym (side-is f)) ∙ c .before .before .before .before .if4 .taken)
+    (subst (λ (v : ℕ). Known w (a .lits) (a .m) (a .n) (v ∷ seen) (c .before .before .mark3 .last .1 .1 .0)) (ap varOf (r0-is d))
+    (c .before .before .mark3 .ensures w (a .lits) (a .n) seen (space d .apart) (omega (arith, ap varOf (r0-is d), below d .rhs0)) k))
+
+mark-requires-4 : tie.Need-mark-requires-4
+mark-requires-4 c κs =
+    let d = read (first (second (c .before .before .before .before))) in
+    omega (arith, ap varOf (r1-is d), below d .rhs1, space d .long)
+
+same-length-3 : tie.Need-same-length-3
+same-length-3 c = search needs
+
+returns-5 : tie.Need-returns-5
+returns-5 c = λ w seen k.
+    let f = c .before .before .before .before .before .before in
+    let e = second (f .before) in
+    let d = read (first e) in
+    let a = start d .args in
+    second-0 w (a .lits) (a .m) (a .n) (gate d) (below d .lhs) seen (table d) k (come-to (first e)) (at-zero (f .before))
+    (omega (arith, below d .rhs0)) (c .before .before .mark4 .last .1 .1 .0)
+    (λ z. c .before .before .before .before .if4 .left (ap (λ (l : ℕ). getD (table d) (a .lits + l) 0) (side-is f) ∙ z))
+    (subst (λ (v : ℕ). Known w (a .lits) (a .m) (a .n) (v ∷ seen) (c .before .before .mark4 .last .1 .1 .0)) (ap varOf (r1-is d))
+    (c .before .before .mark4 .ensures w (a .lits) (a .n) seen (space d .apart) (omega (arith, ap varOf (r1-is d), below d .rhs1)) k))
+
+pub blame-from-spec : {M : Type 1} → statement M
+blame-from-spec =
+    tie.close
+    (tie.spec
+    mul-at
+    mul-at-2
+    shared-slice-read-at
+    at-requires
+    var-requires
+    index-requires
+    cast-v
+    mul-at-3
+    add-at
+    mul-at-4
+    shared-slice-read-at-2
+    at-requires-2
+    mul-at-5
+    add-at-2
+    mul-at-6
+    shared-slice-read-at-3
+    at-requires-3
+    add-if1
+    mul-if1
+    slice-read-if1
+    returns
+    mul-own
+    add-own
+    add-if2
+    mul-if2
+    slice-read-if2
+    mark-requires
+    mark-requires-2
+    same-length
+    returns-2
+    mul-if3
+    slice-read-if3
+    returns-3
+    word-requires
+    cast-side
+    add-if4
+    mul-if4
+    slice-read-if4
+    mark-requires-3
+    same-length-2
+    returns-4
+    mark-requires-4
+    same-length-3
+    returns-5)
