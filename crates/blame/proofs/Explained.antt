@@ -1,13 +1,12 @@
 -- The marks: exactly those of the walk; only where 0 or 1 stood; and with all else turned to x the output keeps its value.
-use Prim.Native.Nat.{ℕ, zero, suc, _+_, _<_}
+use Prim.Native.Nat.{ℕ, zero, suc, _+_}
 use mathlib.Core.Path.{_≡_, refl, sym, ap, ap₂, _∙_, subst}
 use mathlib.Core.Bool.{Bool, true, false, cond, false≢true}
 use mathlib.Core.Logic.{_↔_}
 use mathlib.Core.Option.{Option, none, some}
 use mathlib.Core.List.{List, [], _∷_, _++_, map, map-append}
 use native.Mathlib.Omega.{arith}
-use native.Mathlib.Nat.{not-suc-le-zero}
-use borrow.Author.Tests.{eqb-true, eqb-false, eq-eqb}
+use borrow.Author.Tests.{eqb-true}
 use lib.Dec.{eqb}
 use lib.ListN.{length, getD, take, drop, length-append, length-map}
 use lib.Seq.{take-at, drop-at}
@@ -16,20 +15,19 @@ use Rattle.plan.specs.Circuit.{Gate, Circuit, Latch, vars, currents, has}
 use Rattle.plan.specs.Depends.{find, both, settled, isNone}
 use Rattle.plan.specs.Reading.{WellFormed}
 use Rattle.plan.specs.Binary.{binaryOrder}
-use Rattle.plan.specs.Convert.{leaves, index}
-use Rattle.plan.specs.Step.{Value, v0, v1, vx, inv, and, signedValue, lit, gateValue, leafValue, valuesOf}
+use Rattle.plan.specs.Convert.{index}
+use Rattle.plan.specs.Step.{Value, v0, v1, vx, and, signedValue, lit, gateValue, leafValue, valuesOf}
 use Rattle.theorems.proofs.Reading.Common.{and-left, and-right}
 use Rattle.theorems.proofs.Reading.Members.{has-self, has-later, has-cases}
 use Rattle.theorems.proofs.Reading.Runs.{order-exactly}
-use Rattle.theorems.proofs.Running.Values.{value-solves}
 use Rattle.theorems.proofs.Running.Found.{AllG, FindSays, find-says, all-map}
 use Rattle.theorems.proofs.Running.Accepted.{accepted}
 use Rattle.theorems.proofs.Running.GateValue.{gates-found, values-solve}
 use Rattle.theorems.proofs.Running.Binary.{Binary, inner}
 use Rattle.theorems.proofs.Running.InOrder.{order-binary}
-use Rattle.plan.specs.Walk.{Walked, start, onward, walk}
+use Rattle.plan.specs.Walk.{start, onward}
 use Rattle.plan.specs.Drop.{sidesOf}
-use Rattle.blame.specs.Explain.{is0, zeroSide, blamesAt, blames, Blamed, blamed, mark, places, marksFor, only, onlyState, onlyInputs}
+use Rattle.blame.specs.Explain.{is0, blamesAt, blames, Blamed, blamed, mark, marksFor, only, onlyState, onlyInputs}
 use Rattle.walks.proofs.Walk.{Falls, from-walked, walk-closed, walk-exactly}
 use Rattle.walks.proofs.Used.{sides-fall}
 
@@ -112,6 +110,15 @@ blames-sides w g v h = go (w (varOf (g .lhs))) h
     go v0 k = side (is0 (lit w (g .rhs0))) k
     go v1 k = k
     go vx k = absurd (false≢true k)
+
+-- one variable for each latch and input
+pub length-currents : (ls : List Latch) → length (currents ls) ≡ length ls
+length-currents [] = refl
+length-currents (x ∷ ls) = ap suc (length-currents ls)
+
+pub length-vars : (ls : List ℕ) → length (vars ls) ≡ length ls
+length-vars [] = refl
+length-vars (x ∷ ls) = ap suc (length-vars ls)
 
 -- the values of places that are not turned to x
 leaf-only : (vs us : List ℕ) (xs : List Value) → length us ≡ length xs → (v : ℕ) → has v vs ≡ true
@@ -213,14 +220,6 @@ module _ (c : Circuit) (w : WellFormed c) (t : binaryOrder c ≡ true) (s i : Li
 
   after : ℕ → Value
   after = valuesOf c s′ i′
-
-  length-currents : (ls : List Latch) → length (currents ls) ≡ length ls
-  length-currents [] = refl
-  length-currents (x ∷ ls) = ap suc (length-currents ls)
-
-  length-vars : (ls : List ℕ) → length (vars ls) ≡ length ls
-  length-vars [] = refl
-  length-vars (x ∷ ls) = ap suc (length-vars ls)
 
   state-only : s′ ≡ only (map (mark (blamed c s i l)) (currents (c .latches))) s
   unfolding s′ marks

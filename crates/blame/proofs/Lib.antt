@@ -1,2 +1,4 @@
 pub mod Explained
 pub mod Marked
+pub mod Calls
+pub mod Examples

@@ -1,6 +1,6 @@
 -- The marks, place by place: "1" exactly where the walk comes, and only where 0 or 1 stood.
 use Prim.Native.Nat.{ℕ, zero, suc, _+_, _-_, _<_}
-use mathlib.Core.Path.{_≡_, refl, sym, ap, _∙_, subst}
+use mathlib.Core.Path.{_≡_, refl, sym, ap, _∙_}
 use mathlib.Core.Bool.{Bool, true, false, cond}
 use mathlib.Core.Logic.{_↔_}
 use mathlib.Core.List.{List, [], _∷_, _++_, map}
@@ -9,24 +9,16 @@ use native.Mathlib.Nat.{not-suc-le-zero}
 use native.Mathlib.Decide.{decLt}
 use lib.ListN.{length, getD, length-append, List·getD-append}
 use lib.Seq.{getD-append-add}
-use Rattle.plan.specs.Circuit.{Circuit, Latch, vars, currents, lefts, has}
+use Rattle.plan.specs.Circuit.{Circuit, vars, currents, lefts, has}
 use Rattle.plan.specs.Reading.{WellFormed}
 use Rattle.plan.specs.Binary.{binaryOrder}
-use Rattle.plan.specs.Convert.{leaves, index}
-use Rattle.plan.specs.Step.{Value, v0, vx, lit, leafValue, valuesOf}
+use Rattle.plan.specs.Convert.{leaves}
+use Rattle.plan.specs.Step.{Value, v0, vx, lit, valuesOf}
 use Rattle.theorems.proofs.Running.Lists.{distinct-left, has-at, index-at}
 use Rattle.theorems.proofs.Running.Accepted.{accepted}
 use Rattle.theorems.proofs.Running.GateValue.{leaf-value}
 use Rattle.blame.specs.Explain.{Blamed, blamed, mark, places, marksFor}
-use Rattle.blame.proofs.Explained.{blamed-exactly, blamed-known}
-
-length-vars : (ls : List ℕ) → length (vars ls) ≡ length ls
-length-vars [] = refl
-length-vars (x ∷ ls) = ap suc (length-vars ls)
-
-length-currents : (ls : List Latch) → length (currents ls) ≡ length ls
-length-currents [] = refl
-length-currents (x ∷ ls) = ap suc (length-currents ls)
+use Rattle.blame.proofs.Explained.{length-currents, length-vars, blamed-exactly, blamed-known}
 
 pub length-places : (c : Circuit) → length (places c) ≡ length (c .latches) + length (c .inputs)
 length-places c =

@@ -1,7 +1,7 @@
 -- Marks beside values: one more, those of one gate, those of the walk.
-use Prim.Native.Nat.{ℕ, zero, suc, _+_, _-_, _*_, _≤_, _<_}
-use mathlib.Core.Path.{_≡_, refl, sym, ap, ap₂, _∙_, subst}
-use mathlib.Core.Bool.{Bool, true, false, cond, _||_, false≢true}
+use Prim.Native.Nat.{ℕ, suc, _+_, _-_, _*_, _≤_, _<_}
+use mathlib.Core.Path.{_≡_, refl, sym, ap, _∙_, subst}
+use mathlib.Core.Bool.{Bool, true, false, cond, _||_}
 use mathlib.Core.List.{List, [], _∷_, _++_}
 use native.Mathlib.Omega.{arith}
 use borrow.Author.Tests.{eqb-true, eqb-false}
@@ -16,7 +16,6 @@ use Rattle.theorems.proofs.Running.Signs.{lit-double, lit-neg}
 use Rattle.values.specs.Words.{may0, may1, word}
 use Rattle.sweep.proofs.NotAnd.{may-not}
 use Rattle.plan.specs.Walk.{walk}
-use Rattle.plan.specs.Drop.{sidesOf}
 use Rattle.blame.specs.Explain.{is0, blamesAt, blames}
 use Rattle.drop.proofs.Marking.{walk-append}
 use Rattle.explain.specs.Known.{flag, Known}
@@ -141,7 +140,8 @@ walking-more gates a lits m n t₀ t t′ k j e q size f = record {
       let s = q .walked w seen x in (
         walk (blames w) (gateAt gates j ∷ []) (s .0),
         f w (s .0) (s .1),
-        sym (walk-append (blames w) (gatesAt gates j) (gateAt gates j ∷ []) (s .0)) ∙ ap (λ (i : ℕ). walk (blames w) (gatesAt gates i) (s .0)) (sym e) ∙ s .2,
+        sym (walk-append (blames w) (gatesAt gates j) (gateAt gates j ∷ []) (s .0))
+            ∙ ap (λ (i : ℕ). walk (blames w) (gatesAt gates i) (s .0)) (sym e) ∙ s .2,
       );
 }
 

@@ -1,6 +1,6 @@
 -- No marks yet; and codes put into a part of a buffer.
 use Prim.Native.Nat.{ℕ, _+_, _-_, _*_, _≤_, _<_}
-use mathlib.Core.Path.{_≡_, refl, sym, ap, ap₂, _∙_, subst}
+use mathlib.Core.Path.{_≡_, refl, ap, ap₂, _∙_, subst}
 use mathlib.Core.List.{List, [], _++_, map}
 use native.Mathlib.Omega.{arith}
 use native.Mathlib.Decide.{ℕ-discrete}
@@ -54,9 +54,6 @@ module _ (t out : List ℕ) (first count at : ℕ) (inside : first + count ≤ l
   long =
       length-map (valuesAt t first count) codeOf ∙ length-map (take count (drop first t)) told
       ∙ length-take-le count (drop first t) (omega (arith, length-drop first t))
-
-  pub part-lent : first + length (midOf at (at + count - at) out) ≤ length t
-  part-lent = omega (arith, lent)
 
   pub part-put : (ys : List ℕ) → ys ≡ map codeOf (valuesAt t first (length (midOf at (at + count - at) out)))
       → putMid at (at + count - at) out ys ≡ put out at codes

@@ -1,27 +1,27 @@
 -- An output after a step: its word, its literal, and what is asked to explain it.
-use Prim.Native.Nat.{ℕ, zero, suc, _+_, _≤_, _<_}
+use Prim.Native.Nat.{ℕ, zero, suc, _+_, _<_}
 use mathlib.Core.Path.{_≡_, refl, sym, ap, _∙_}
 use mathlib.Core.Bool.{true, false}
 use mathlib.Core.List.{List, [], _∷_, map}
 use native.Mathlib.Omega.{arith}
 use native.Mathlib.Nat.{not-suc-le-zero}
-use lib.ListN.{length, getD, take, drop, replicate, length-map, length-replicate}
+use lib.ListN.{length, getD, drop, replicate, length-map, length-replicate}
 use lib.Seq.{getD-take, getD-drop, length-take-le}
 use Rattle.plan.specs.declared.Counts.{Counts}
 use Rattle.plan.specs.Literals.{varOf, inRange}
-use Rattle.plan.specs.Circuit.{Tables, circuitOf, gateLine, inside, allInside}
+use Rattle.plan.specs.Circuit.{Tables, circuitOf, gateLine, inside}
 use Rattle.plan.specs.Step.{Value, v0, v1, vx, lit, valuesOf}
 use Rattle.theorems.proofs.Reading.Common.{and-right}
 use Rattle.theorems.proofs.Ranges.{first-var, second-var, inside-at}
 use Rattle.theorems.proofs.Tables.{gateAt, gates-rows}
 use Rattle.values.specs.Words.{word, words}
-use Rattle.sweep.specs.Running.{these, Runs}
+use Rattle.sweep.specs.Running.{Runs}
 use Rattle.sweep.proofs.Literals.{literal-up}
 use Rattle.step.specs.Asked as stepping
 use Rattle.drop.specs.Marks.{Below}
 use Rattle.blame.specs.Explain.{places, marksFor}
 use Rattle.blame.proofs.Marked.{length-places}
-use Rattle.explain.specs.Asked.{Settled, Vectors, Asked}
+use Rattle.explain.specs.Asked.{Settled, Vectors}
 
 -- a step's vectors, with outputs that are not looked at
 pub with-outputs : {n : Counts} {state ins : List ℕ} → Vectors n state ins → stepping.Vectors n state ins (replicate (n .O) 0)
@@ -51,10 +51,11 @@ module _ {n : Counts} {x : Tables} (r : Runs n x) where
   gates-below k h =
       let g = gateAt (x .gates) k in
       let p = gates-inside k h in
+      let rest = and-right (inRange true (n .M) (g .lhs)) (inside false (n .M) (g .rhs0 ∷ g .rhs1 ∷ [])) p in
       record {
         lhs = omega (arith, first-var true (n .M) (g .lhs) (g .rhs0 ∷ g .rhs1 ∷ []) p);
         rhs0 = omega (arith, second-var true (n .M) (g .lhs) (g .rhs0) (g .rhs1 ∷ []) p);
-        rhs1 = omega (arith, second-var false (n .M) (g .rhs0) (g .rhs1) [] (and-right (inRange true (n .M) (g .lhs)) (inside false (n .M) (g .rhs0 ∷ g .rhs1 ∷ [])) p));
+        rhs1 = omega (arith, second-var false (n .M) (g .rhs0) (g .rhs1) [] rest);
       }
 
   module _ (k : ℕ) (low : k < n .O) where

@@ -1,10 +1,10 @@
 -- The marks of the pass, as codes from the latches' words and then from the inputs', are the bytes that the explainer writes.
-use Prim.Native.Nat.{ℕ, zero, suc, _+_, _*_, _≤_, _<_}
-use mathlib.Core.Path.{_≡_, refl, sym, ap, ap₂, _∙_, subst}
+use Prim.Native.Nat.{ℕ, zero, suc, _+_, _≤_, _<_}
+use mathlib.Core.Path.{_≡_, refl, sym, ap, ap₂, _∙_}
 use mathlib.Core.Bool.{Bool, true, false, cond}
 use mathlib.Core.List.{List, [], _∷_, _++_, map, map-append}
 use native.Mathlib.Omega.{arith}
-use lib.ListN.{length, getD, take, drop}
+use lib.ListN.{length, getD, take}
 use lib.Seq.{drop-cons}
 use Rattle.plan.specs.declared.Counts.{Counts}
 use Rattle.plan.specs.Literals.{varOf}
@@ -14,7 +14,7 @@ use Rattle.theorems.proofs.Reading.Runs.{upFrom, vars-lits, currents-latches, l
 use Rattle.theorems.proofs.Tables.{gatesAt, gates-rows}
 use Rattle.values.specs.Words.{word, told, valuesAt}
 use Rattle.plan.specs.Walk.{walk}
-use Rattle.blame.specs.Explain.{blames, blamed, mark, places, marksFor}
+use Rattle.blame.specs.Explain.{blames, blamed, mark, marksFor}
 use Rattle.explain.specs.Known.{Space, flag, Known}
 
 code-flag : (b : Bool) → codeOf (told (word (flag b))) ≡ cond b 49 48

@@ -1,5 +1,5 @@
 use borrow.Author.Needs.{needs}
-use Prim.Native.Nat.{ℕ, _-_, _<_}
+use Prim.Native.Nat.{_-_, _<_}
 use native.Mathlib.Omega.{arith}
 use Rattle.explain.proofs.Blaming.{Walking, walking-start, walking-more, walking-end}
 use Rattle.explain.proofs.blame.Statement.{statement}
@@ -23,7 +23,8 @@ blame-from-requires c κs =
     let s = d .before .before .before .before in
     let l = d .before .loop in
     let lt : l .k - 1 < s .args .a = omega (arith, d .loop-test .taken, l .inv .within) in
-    (omega (arith, s .pre .0), (s .pre .1 .0 (l .k - 1) lt, record { apart = s .pre .1 .1 .apart; long = omega (arith, s .pre .1 .1 .long, l .inv .size) }))
+    let space = s .pre .1 .1 in
+    (omega (arith, s .pre .0), (s .pre .1 .0 (l .k - 1) lt, record { apart = space .apart; long = omega (arith, space .long, l .inv .size) }))
 
 loop-less : tie.Need-loop-less Inv-loop μ-loop
 loop-less c = search needs
@@ -32,7 +33,8 @@ loop-again : tie.Need-loop-again Inv-loop μ-loop
 loop-again c =
     let d = c .before .before .before .before in
     let l = d .before .loop in
-    walking-more _ _ _ _ _ _ _ _ (l .k) (l .k - 1) (omega (arith, d .loop-test .taken)) (l .inv) (c .before .t .given) (c .before .before .blame-from .ensures)
+    walking-more _ _ _ _ _ _ _ _ (l .k) (l .k - 1) (omega (arith, d .loop-test .taken)) (l .inv) (c .before .t .given)
+    (c .before .before .blame-from .ensures)
 
 same-length : tie.Need-same-length Inv-loop μ-loop
 same-length c = c .before .loop .inv .size

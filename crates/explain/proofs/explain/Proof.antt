@@ -103,7 +103,8 @@ returns-3 c =
     let f = s .before .before .before in
     let d = f .before .before in
     let e = entry (start d) in
-    let zero = c .before .before .clear2 .ensures ∙ ap (λ (k : ℕ). replicate k 0) (c .before .before .before .before .before .before .before .scratch3 .given ∙ same d) in
+    let long = c .before .before .before .before .before .before .before .scratch3 .given ∙ same d in
+    let zero = c .before .before .clear2 .ensures ∙ ap (λ (k : ℕ). replicate k 0) long in
     answered e _ zero (says d) (told d) (sym (bad-is e) ∙ no-table _ _ (f .if1 .left) (f .before .bad-vector .ensures)) _ _
     (s .explain-output .ensures (e .circuit .tables) (e .circuit .scratch) (runs (e .circuit) (vectorsStage e) (says d) (told d)))
 

@@ -27,7 +27,9 @@ blame-requires : tie.Need-blame-requires
 blame-requires c κs =
     let s = c .before .before .before .before .before .before .before .before .before .before .before .before .before .before in
     let p = s .pre in
-    (p .gates-long, (p .below, record { apart = omega arith; long = omega (arith, p .scratch, c .before .before .t2 .given, c .before .before .before .before .before .before .t .given) }))
+    let one = c .before .before .t2 .given in
+    let two = c .before .before .before .before .before .before .t .given in
+    (p .gates-long, (p .below, record { apart = omega arith; long = omega (arith, p .scratch, one, two) }))
 
 add-show : tie.Need-add-show
 add-show c = search needs
@@ -57,7 +59,8 @@ returns c = λ x latches outputs s i r settled.
     let k = b .before .before .before .before in
     let u = k .before .before .before .before in
     let p = u .before .before .before .before .before .before .before .pre in
-    explained x latches outputs s i r p settled _ _ _ _ _ (f .before .before .before .before .before .t3 .given ∙ b .before .before .before .t2 .given ∙ k .before .before .before .t .given)
+    let same = f .before .before .before .before .before .t3 .given ∙ b .before .before .before .t2 .given ∙ k .before .before .before .t .given in
+    explained x latches outputs s i r p settled _ _ _ _ _ same
     (u .unmark .ensures) (k .mark .ensures) (b .blame .ensures) (f .show .ensures) (c .before .before .show2 .ensures)
 
 pub explain-literal-spec : {M : Type 1} → statement M

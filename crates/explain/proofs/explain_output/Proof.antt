@@ -6,7 +6,7 @@ use lib.ListN.{getD, length}
 use Rattle.plan.specs.declared.Lit.{Lit}
 use Rattle.plan.specs.Literals.{varOf, wordOf}
 use Rattle.plan.specs.Circuit.{Tables, circuitOf}
-use Rattle.plan.specs.Step.{valueOf, vx}
+use Rattle.plan.specs.Step.{valueOf}
 use Rattle.plan.specs.Outcome.{put}
 use Rattle.given.specs.Judged.{givenAt}
 use Rattle.values.specs.Words.{word}

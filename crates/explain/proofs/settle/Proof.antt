@@ -1,6 +1,6 @@
-use mathlib.Core.Path.{_≡_, _∙_}
+use mathlib.Core.Path.{_∙_}
 use native.Mathlib.Omega.{arith}
-use lib.ListN.{length, length-set}
+use lib.ListN.{length-set}
 use Rattle.step.proofs.Buffers.{stands, ready}
 use Rattle.explain.proofs.Outputs.{with-outputs}
 use borrow.Author.Needs.{needs}

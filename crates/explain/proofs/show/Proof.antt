@@ -1,4 +1,4 @@
-use Rattle.explain.proofs.Cleared.{part-lent, part-put}
+use Rattle.explain.proofs.Cleared.{part-put}
 use borrow.Author.Needs.{needs}
 use Rattle.explain.proofs.show.Statement.{statement}
 use Rattle.explain.proofs.show.Tie as tie
