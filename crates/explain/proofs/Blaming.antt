@@ -8,7 +8,8 @@ use borrow.Author.Tests.{eqb-true, eqb-false}
 use lib.Dec.{eqb}
 use lib.ListN.{length, getD, set}
 use lib.Seq.{getD-set-same, getD-set-other}
-use Rattle.plan.specs.Literals.{litOf, varOf, negOf}
+use Rattle.plan.specs.declared.Lit.{Lit}
+use Rattle.plan.specs.Literals.{litOf, varOf, negOf, wordOf}
 use Rattle.plan.specs.Circuit.{Gate, has}
 use Rattle.plan.specs.Step.{Value, v0, v1, vx, inv, lit}
 use Rattle.theorems.proofs.Tables.{gateAt, gatesAt}
@@ -18,7 +19,7 @@ use Rattle.sweep.proofs.NotAnd.{may-not}
 use Rattle.plan.specs.Walk.{walk}
 use Rattle.blame.specs.Explain.{is0, blamesAt, blames}
 use Rattle.drop.proofs.Marking.{walk-append}
-use Rattle.explain.specs.Known.{flag, Known}
+use Rattle.explain.specs.Known.{sideAt, flag, Known}
 
 pub mark-more : (w : ℕ → Value) (lits m n : ℕ) (seen t : List ℕ) (v : ℕ) → lits + 2 * n ≤ m → v < n → m + v < length t
     → Known w lits m n seen t → Known w lits m n (v ∷ seen) (set t (m + v) 2)
@@ -30,6 +31,14 @@ mark-more w lits m n seen t v apart lt h k = record {
     go : (u : ℕ) → u < n → (b : Bool) → eqb v u ≡ b → getD (set t (m + v) 2) (m + u) 0 ≡ word (flag (b || has u seen))
     go u q true e = subst (λ (x : ℕ). getD (set t (m + v) 2) (m + x) 0 ≡ 2) (eqb-true v u e) (getD-set-same t (m + v) 2 0 h)
     go u q false e = getD-set-other t (m + v) (m + u) 2 0 (λ p. eqb-false v u e (omega arith)) ∙ k .marks u q
+
+-- one of two literals
+pub side-below : (lits : ℕ) (t : List ℕ) (a b : Lit) (n : ℕ) → varOf (wordOf a) < n → varOf (wordOf b) < n → varOf (wordOf (sideAt lits t a b)) < n
+side-below lits t a b n ha hb = go (eqb (getD t (lits + wordOf a) 0) 0)
+  where
+    go : (r : Bool) → varOf (wordOf (cond r a b)) < n
+    go true = ha
+    go false = hb
 
 -- bits back to values
 one : (a : Value) → may0 a ≡ 0 → a ≡ v1
@@ -108,17 +117,23 @@ module _ (w : ℕ → Value) (lits m n : ℕ) (g : Gate) (low : varOf (g .lhs) <
       at-0 : w (varOf (g .lhs)) ≡ v0
       at-0 = zero-value (w (varOf (g .lhs))) (sym own ∙ z)
 
-      pub first-0 : (t′ : List ℕ) → getD t (lits + g .rhs0) 0 ≡ 0 → Known w lits m n (varOf (g .rhs0) ∷ seen) t′
-          → Known w lits m n (walk (blames w) (g ∷ []) seen) t′
-      first-0 t′ e q =
-          blaming v0 at-0 t′ (subst (λ (b : Bool). Known w lits m n (cond b (varOf (g .rhs0)) (varOf (g .rhs1)) ∷ seen) t′)
-          (sym (is0-bit (lit w (g .rhs0)) (sym (k .values (g .rhs0) l0) ∙ e))) q)
+      -- the first right side that is 0
+      pub side-0 : (a b : Lit) → wordOf a ≡ g .rhs0 → wordOf b ≡ g .rhs1 → (t′ : List ℕ)
+          → Known w lits m n (varOf (wordOf (sideAt lits t a b)) ∷ seen) t′ → Known w lits m n (walk (blames w) (g ∷ []) seen) t′
+      side-0 a b ea eb t′ q =
+          blaming v0 at-0 t′ (subst (λ (v : ℕ). Known w lits m n (v ∷ seen) t′) (go (eqb (getD t (lits + wordOf a) 0) 0) refl) q)
+        where
+          first : getD t (lits + wordOf a) 0 ≡ may1 (lit w (g .rhs0))
+          first = ap (λ (l : ℕ). getD t (lits + l) 0) ea ∙ k .values (g .rhs0) l0
 
-      pub second-0 : (t′ : List ℕ) → (getD t (lits + g .rhs0) 0 ≡ 0 → ⊥) → Known w lits m n (varOf (g .rhs1) ∷ seen) t′
-          → Known w lits m n (walk (blames w) (g ∷ []) seen) t′
-      second-0 t′ e q =
-          blaming v0 at-0 t′ (subst (λ (b : Bool). Known w lits m n (cond b (varOf (g .rhs0)) (varOf (g .rhs1)) ∷ seen) t′)
-          (sym (is0-not (lit w (g .rhs0)) (λ f. e (k .values (g .rhs0) l0 ∙ f)))) q)
+          go : (r : Bool) → eqb (getD t (lits + wordOf a) 0) 0 ≡ r
+              → varOf (wordOf (cond r a b)) ≡ cond (is0 (lit w (g .rhs0))) (varOf (g .rhs0)) (varOf (g .rhs1))
+          go true e =
+              ap varOf ea ∙ ap (λ (x : Bool). cond x (varOf (g .rhs0)) (varOf (g .rhs1)))
+              (sym (is0-bit (lit w (g .rhs0)) (sym first ∙ eqb-true _ 0 e)))
+          go false e =
+              ap varOf eb ∙ ap (λ (x : Bool). cond x (varOf (g .rhs0)) (varOf (g .rhs1)))
+              (sym (is0-not (lit w (g .rhs0)) (λ f. eqb-false _ 0 e (first ∙ f))))
 
 -- the loop
 pub record Walking (gates : List ℕ) (a lits m n : ℕ) (t₀ t : List ℕ) (k : ℕ) : Type 0 where

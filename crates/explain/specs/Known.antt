@@ -3,7 +3,10 @@ use Prim.Native.Nat.{ℕ, _+_, _*_, _<_, _≤_}
 use mathlib.Core.Path.{_≡_}
 use mathlib.Core.Bool.{Bool, cond}
 use mathlib.Core.List.{List}
+use lib.Dec.{eqb}
 use lib.ListN.{length, getD}
+use Rattle.plan.specs.declared.Lit.{Lit}
+use Rattle.plan.specs.Literals.{wordOf}
 use Rattle.plan.specs.Circuit.{has}
 use Rattle.plan.specs.Step.{Value, v0, v1, lit}
 use Rattle.values.specs.Words.{may1, word}
@@ -12,6 +15,10 @@ use Rattle.values.specs.Words.{may1, word}
 pub record Space (lits m n : ℕ) (t : List ℕ) : Type 0 where
   pub apart : lits + 2 * n ≤ m
   pub long : m + n ≤ length t
+
+-- of two literals the first if it can't be 1, by its word
+abbrev pub sideAt : ℕ → List ℕ → Lit → Lit → Lit
+sideAt lits t a b = cond (eqb (getD t (lits + wordOf a) 0) 0) a b
 
 -- a mark is the value 1
 abbrev pub flag : Bool → Value

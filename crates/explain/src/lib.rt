@@ -15,7 +15,7 @@ ghost use Rattle.drop.specs.Marks.{Below};
 ghost use Rattle.values.specs.Words.{may1, valuesAt};
 ghost use Rattle.sweep.specs.Running.{these, Runs};
 ghost use Rattle.step.specs.Asked.{Room};
-ghost use Rattle.explain.specs.Known.{Space, Known};
+ghost use Rattle.explain.specs.Known.{Space, sideAt, Known};
 ghost use Rattle.explain.specs.Asked.{Settled, Vectors, Asked, Explains};
 use codes::bad_vector;
 use given::judge_in_order;
@@ -54,6 +54,18 @@ fn unmark(m: usize, n: usize, t: &mut [u32])
     }
 }
 
+// The first right side that is 0, of a gate at 0.
+fn zero_side(rhs0: Lit, rhs1: Lit, lits: usize, t: &[u32]) -> Lit
+    requires { ⌜ lits + wordOf rhs0 < length (now t) ⌝ }
+    ensures { λ r. ⌜ r ≡ sideAt lits (now (t .entry)) rhs0 rhs1 ⌝ }
+{
+    let at = lits + rhs0.word() as usize;
+    if t[at] == 0 {
+        return rhs0;
+    }
+    rhs1
+}
+
 // A gate that is come to: at 1 it blames both sides, at 0 the first right side that is 0.
 fn blame_from(gates: &[u32], k: usize, lits: usize, m: usize, n: usize, t: &mut [u32])
     requires { ⌜ 3 * k + 2 < length (now gates) ⌝ }
@@ -79,12 +91,8 @@ fn blame_from(gates: &[u32], k: usize, lits: usize, m: usize, n: usize, t: &mut 
     if t[own] != 0 {
         return;
     }
-    let side = rhs0.word() as usize;
-    if t[lits + side] == 0 {
-        mark(rhs0, m, t);
-        return;
-    }
-    mark(rhs1, m, t);
+    let side = zero_side(rhs0, rhs1, lits, t);
+    mark(side, m, t);
 }
 
 // From the last gate to the first: in binary order a gate is marked, if at all, before it is come to.

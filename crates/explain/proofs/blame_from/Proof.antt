@@ -1,4 +1,4 @@
-use Prim.Native.Nat.{ℕ, _+_, _*_}
+use Prim.Native.Nat.{ℕ, _+_, _*_, _<_}
 use mathlib.Core.Path.{_≡_, sym, ap, _∙_, subst}
 use mathlib.Core.List.{List, _∷_}
 use native.Mathlib.Omega.{arith}
@@ -9,7 +9,7 @@ use Rattle.plan.specs.Circuit.{Gate}
 use Rattle.theorems.proofs.Tables.{gateAt}
 use Rattle.drop.specs.Marks.{Below}
 use Rattle.explain.specs.Known.{Space, Known}
-use Rattle.explain.proofs.Blaming.{not-come, at-x, at-1, first-0, second-0}
+use Rattle.explain.proofs.Blaming.{not-come, at-x, at-1, side-below, side-0}
 use borrow.Author.Needs.{needs}
 use Rattle.explain.proofs.blame_from.Statement.{statement}
 use Rattle.explain.proofs.blame_from.Tie as tie
@@ -63,9 +63,6 @@ at-zero : (e : tie.Else3) → let d = read (first (second e)) in getD (table d) 
 at-zero e =
     let d = read (first (second e)) in
     ap (λ (v : ℕ). getD (table d) (start d .args .lits + 2 * v) 0) (sym (v-is d)) ∙ e .if3 .left
-
-side-is : (f : tie.After-word) → f .word .result ≡ gate (read (first (second (f .before)))) .rhs0
-side-is f = f .word .ensures ∙ r0-is (read (first (second (f .before))))
 
 mul-at : tie.Need-mul-at
 mul-at c = search needs
@@ -190,62 +187,42 @@ returns-3 c = λ w seen k.
     at-x w (a .lits) (a .m) (a .n) (gate d) (below d .lhs) seen (table d) k (come-to (first e)) (may-be-0 e)
     (λ z. c .if3 .taken (ap (λ (v : ℕ). getD (table d) (a .lits + 2 * v) 0) (v-is d) ∙ z))
 
-word-requires : tie.Need-word-requires
-word-requires c κs = search needs
+zero-side-requires : tie.Need-zero-side-requires
+zero-side-requires c κs =
+    let d = read (first (second (c .before))) in
+    omega (arith, r0-is d, below d .rhs0, space d .apart, space d .long)
 
-cast-side : tie.Need-cast-side
-cast-side c = search needs
-
-add-if4 : tie.Need-add-if4
-add-if4 c = search needs
-
-mul-if4 : tie.Need-mul-if4
-mul-if4 c = search needs
-
-slice-read-if4 : tie.Need-slice-read-if4
-slice-read-if4 c =
-    let d = read (first (second (c .before .before))) in
-    omega (arith, side-is (c .before), below d .rhs0, space d .apart, space d .long)
+-- the side that is blamed has a word
+side-low : (f : tie.After-zero-side) → let d = read (first (second (f .before .before))) in
+    varOf (wordOf (f .zero-side .result)) < start d .args .n
+side-low f =
+    let d = read (first (second (f .before .before))) in
+    omega (
+      arith,
+      ap (λ (l : Lit). varOf (wordOf l)) (f .zero-side .ensures),
+      side-below (start d .args .lits) (table d) (d .before .before .at2 .result) (d .at3 .result) (start d .args .n)
+          (omega (arith, ap varOf (r0-is d), below d .rhs0)) (omega (arith, ap varOf (r1-is d), below d .rhs1)),
+    )
 
 mark-requires-3 : tie.Need-mark-requires-3
 mark-requires-3 c κs =
-    let d = read (first (second (c .before .before .before .before))) in
-    omega (arith, ap varOf (r0-is d), below d .rhs0, space d .long)
+    let f = c .before in
+    omega (arith, side-low f, space (read (first (second (f .before .before)))) .long)
 
 same-length-2 : tie.Need-same-length-2
 same-length-2 c = search needs
 
 returns-4 : tie.Need-returns-4
 returns-4 c = λ w seen k.
-    let f = c .before .before .before .before .before .before in
-    let e = second (f .before) in
+    let f = c .before .before .before .before in
+    let z = f .before .before in
+    let e = second z in
     let d = read (first e) in
     let a = start d .args in
-    first-0 w (a .lits) (a .m) (a .n) (gate d) (below d .lhs) seen (table d) k (come-to (first e)) (at-zero (f .before))
-    (omega (arith, below d .rhs0)) (c .before .before .mark3 .last .1 .1 .0)
-    (ap (λ (l : ℕ). getD (table d) (a .lits + l) 0) (sym (side-is f)) ∙ c .before .before .before .before .if4 .taken)
-    (subst (λ (v : ℕ). Known w (a .lits) (a .m) (a .n) (v ∷ seen) (c .before .before .mark3 .last .1 .1 .0)) (ap varOf (r0-is d))
-    (c .before .before .mark3 .ensures w (a .lits) (a .n) seen (space d .apart) (omega (arith, ap varOf (r0-is d), below d .rhs0)) k))
-
-mark-requires-4 : tie.Need-mark-requires-4
-mark-requires-4 c κs =
-    let d = read (first (second (c .before .before .before .before))) in
-    omega (arith, ap varOf (r1-is d), below d .rhs1, space d .long)
-
-same-length-3 : tie.Need-same-length-3
-same-length-3 c = search needs
-
-returns-5 : tie.Need-returns-5
-returns-5 c = λ w seen k.
-    let f = c .before .before .before .before .before .before in
-    let e = second (f .before) in
-    let d = read (first e) in
-    let a = start d .args in
-    second-0 w (a .lits) (a .m) (a .n) (gate d) (below d .lhs) seen (table d) k (come-to (first e)) (at-zero (f .before))
-    (omega (arith, below d .rhs0)) (c .before .before .mark4 .last .1 .1 .0)
-    (λ z. c .before .before .before .before .if4 .left (ap (λ (l : ℕ). getD (table d) (a .lits + l) 0) (side-is f) ∙ z))
-    (subst (λ (v : ℕ). Known w (a .lits) (a .m) (a .n) (v ∷ seen) (c .before .before .mark4 .last .1 .1 .0)) (ap varOf (r1-is d))
-    (c .before .before .mark4 .ensures w (a .lits) (a .n) seen (space d .apart) (omega (arith, ap varOf (r1-is d), below d .rhs1)) k))
+    side-0 w (a .lits) (a .m) (a .n) (gate d) (below d .lhs) seen (table d) k (come-to (first e)) (at-zero z) (omega (arith, below d .rhs0))
+    (d .before .before .at2 .result) (d .at3 .result) (r0-is d) (r1-is d) (c .before .before .mark3 .last .1 .1 .0)
+    (subst (λ (l : Lit). Known w (a .lits) (a .m) (a .n) (varOf (wordOf l) ∷ seen) (c .before .before .mark3 .last .1 .1 .0))
+    (f .zero-side .ensures) (c .before .before .mark3 .ensures w (a .lits) (a .n) seen (space d .apart) (side-low f) k))
 
 pub blame-from-spec : {M : Type 1} → statement M
 blame-from-spec =
@@ -284,14 +261,7 @@ blame-from-spec =
     mul-if3
     slice-read-if3
     returns-3
-    word-requires
-    cast-side
-    add-if4
-    mul-if4
-    slice-read-if4
+    zero-side-requires
     mark-requires-3
     same-length-2
-    returns-4
-    mark-requires-4
-    same-length-3
-    returns-5)
+    returns-4)
