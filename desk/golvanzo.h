@@ -3,8 +3,9 @@
    are in words. Nothing is kept or allocated.
 
    An answer starts with a refusal's number, 0 if there is none, and its place; what follows is 0 after a refusal.
-   After one every table lent for writing is zero, and no byte of `out`, `state` and `outs` has changed. Scratch
-   is zero after every call, given tables are never changed, and words of written tables past the counts are zero. */
+   After one every table lent for writing is zero, and no byte of `out`, `state`, `outs` and `marks` has changed.
+   Scratch is zero after every call, given tables are never changed, and words of written tables past the counts are
+   zero. */
 #ifndef GOLVANZO_H
 #define GOLVANZO_H
 
@@ -76,6 +77,14 @@ void golvanzo_drop(const uint64_t *counts /* 7 words */, GOLVANZO_GIVEN, GOLVANZ
 void golvanzo_step(const uint64_t *counts /* 7 words */, GOLVANZO_GIVEN, GOLVANZO_SCRATCH, uint8_t *state,
                    size_t state_len, const uint8_t *ins, size_t ins_len, uint8_t *outs, size_t outs_len,
                    uint64_t *answer /* 2 words */);
+
+/* Which places of a state (L bytes) and of inputs (I) made output number `output`, counted from 0, 0 or 1 in a step of
+   tables in binary order: the first L + I bytes of `marks` become "1" for marked and "0" for not, state first, and the
+   others stay. With every unmarked place turned to "x" the output keeps its value. `answer` is number (0: explained)
+   and place. */
+void golvanzo_explain(const uint64_t *counts /* 7 words */, GOLVANZO_GIVEN, GOLVANZO_SCRATCH, const uint8_t *state,
+                      size_t state_len, const uint8_t *ins, size_t ins_len, uint64_t output, uint8_t *marks,
+                      size_t marks_len, uint64_t *answer /* 2 words */);
 
 /* Whether every filling, by 0 or 1, of the x of the resets and of `number` input vectors, one after another in `bytes` (I
    bytes each), gives 1 on some output or bad state when stepped from the resets, every constraint being 1 at that step

@@ -9,7 +9,9 @@ use Rattle.plan.specs.Outcome.{CheckExit, FileEntry, FileExit, MakeEntry, MakeE
 use Rattle.plan.specs.Outcome as outcome
 use Rattle.trying.specs.Fillings.{FilledExit}
 use Rattle.trying.specs.Fillings as fillings
-use Rattle.desk.specs.Told.{CheckTold, check, FileTold, toldFile, MakeTold, toldMade, StepTold, step, WitnessTold, witness, witness3}
+use Rattle.desk.specs.Told.{CheckTold, check, FileTold, toldFile, MakeTold, toldMade, StepTold, step, WitnessTold, witness, witness3, ExplainTold, explain}
+use Rattle.blame.specs.Explain.{ExplainExit}
+use Rattle.blame.specs.Explain as blame
 
 -- counts that C gives
 abbrev pub counted : Given → Counts → Given
@@ -57,6 +59,16 @@ witness-told g number bytes allowance n x answer e says told =
     ap (λ (a : List ℕ). record { answer = a; scratch = x .scratch }) told
     ∙ (ap (λ (y : FilledExit). record { answer = findingValues (y .answer); scratch = y .scratch }) says
     ∙ ap (λ (m : Counts). witness (record { list = record { circuit = counted g m; number = number; bytes = bytes }; allowance = allowance })) e)
+
+pub explain-told : (g : Given) (state ins : List ℕ) (output : ℕ) (marks : List ℕ) (n : Counts) (x : ExplainExit) (answer : List ℕ) → n ≡ g .counts
+    → x ≡ blame.explain (record { circuit = counted g n; state = state; inputs = ins; output = output; marks = marks })
+    → answer ≡ steppedValues (x .answer)
+    → _≡_ {A = ExplainTold} (record { answer = answer; scratch = x .scratch; marks = x .marks })
+    (explain (record { circuit = g; state = state; inputs = ins; output = output; marks = marks }))
+explain-told g state ins output marks n x answer e says told =
+    ap (λ (a : List ℕ). record { answer = a; scratch = x .scratch; marks = x .marks }) told
+    ∙ (ap (λ (y : ExplainExit). record { answer = steppedValues (y .answer); scratch = y .scratch; marks = y .marks }) says
+    ∙ ap (λ (m : Counts). explain (record { circuit = counted g m; state = state; inputs = ins; output = output; marks = marks })) e)
 
 pub witness3-told : (g : Given) (number : ℕ) (bytes : List ℕ) (n : Counts) (x : WitnessExit) (answer : List ℕ) → n ≡ g .counts
     → x ≡ outcome.witness3 (record { circuit = counted g n; number = number; bytes = bytes }) → answer ≡ verdictValues (x .answer)

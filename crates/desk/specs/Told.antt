@@ -8,6 +8,7 @@ use Rattle.plan.specs.Outcome as outcome
 use Rattle.plan.specs.Drop as drop
 use Rattle.trying.specs.Fillings.{FilledEntry}
 use Rattle.trying.specs.Fillings as fillings
+use Rattle.blame.specs.Explain as blame
 
 pub record CheckTold : Type 0 where
   pub answer : List ℕ
@@ -50,6 +51,7 @@ abbrev pub dropping : MakeEntry → MakeTold
 dropping e = toldMade (drop.dropping e)
 
 -- the stepper and the witness question, by fillings and in three values
+-- the stepper
 pub record StepTold : Type 0 where
   pub answer : List ℕ
   pub scratch : List ℕ
@@ -59,6 +61,16 @@ pub record StepTold : Type 0 where
 abbrev pub step : StepEntry → StepTold
 step e = let x = outcome.step e in record { answer = steppedValues (x .answer); scratch = x .scratch; state = x .state; outputs = x .outputs }
 
+-- the explainer
+pub record ExplainTold : Type 0 where
+  pub answer : List ℕ
+  pub scratch : List ℕ
+  pub marks : List ℕ
+
+abbrev pub explain : blame.ExplainEntry → ExplainTold
+explain e = let x = blame.explain e in record { answer = steppedValues (x .answer); scratch = x .scratch; marks = x .marks }
+
+-- the witness question
 pub record WitnessTold : Type 0 where
   pub answer : List ℕ
   pub scratch : List ℕ

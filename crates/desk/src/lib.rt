@@ -5,7 +5,7 @@ ghost use Rattle.plan.specs.Circuit.{seven};
 ghost use Rattle.plan.specs.Header.{wordsFor, countsFrom};
 ghost use Rattle.plan.specs.Outcome.{Says, read, read2007};
 ghost use Rattle.given.specs.Judged.{givenAt};
-ghost use Rattle.desk.specs.Told.{check, writeText, writeBinary, conversion, reduction, dropping, step, witness, witness3};
+ghost use Rattle.desk.specs.Told.{check, writeText, writeBinary, conversion, reduction, dropping, step, witness, witness3, explain};
 ghost use Rattle.desk.specs.Reported.{report};
 ghost use Rattle.desk.specs.RowsTold.{stepRows, reportRows};
 use plan::Version;
@@ -504,6 +504,56 @@ pub extern "C" fn golvanzo_witness(
         allowance as usize,
     );
     findings::finding(r, answer);
+}
+
+// What made an output 0 or 1 in a step of given tables, which are in binary order: number (0: explained) and place.
+#[no_mangle]
+pub extern "C" fn golvanzo_explain(
+    counts: &[u64; 7],
+    inputs: &[u32],
+    latches: &[u32],
+    outputs: &[u32],
+    gates: &[u32],
+    resets: &[u32],
+    bads: &[u32],
+    constraints: &[u32],
+    scratch: &mut [u32],
+    state: &[u8],
+    ins: &[u8],
+    output: u64,
+    marks: &mut [u8],
+    answer: &mut [u64; 2],
+)
+    ensures { λ _. ⌜ Says explain
+        (record {
+          circuit = givenAt (countsFrom (now (counts .entry)))
+              (seven (now (inputs .entry)) (now (latches .entry)) (now (outputs .entry)) (now (gates .entry)) (now (resets .entry)) (now (bads .entry))
+              (now (constraints .entry)))
+              (now (scratch .entry));
+          state = now (state .entry);
+          inputs = now (ins .entry);
+          output = output;
+          marks = now (marks .entry);
+        })
+        (record { answer = now (answer .exit); scratch = now (scratch .exit); marks = now (marks .exit) }) ⌝ }
+{
+    let n = told::counts(counts);
+    let r = explain::explain(
+        n,
+        inputs,
+        latches,
+        outputs,
+        gates,
+        resets,
+        bads,
+        constraints,
+        scratch,
+        state,
+        ins,
+        output as usize,
+        marks,
+    );
+    told::stepped(r, answer);
 }
 
 // The witness question in three values, in which nothing is filled: number (0: answered), place, and 1 for yes or 0 for no.
