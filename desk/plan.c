@@ -233,6 +233,17 @@ struct plan_end plan_witness(struct plan *plan, uint64_t number, const uint8_t *
     return end_of(answer);
 }
 
+struct plan_end plan_explain(struct plan *plan, const uint8_t *state, const uint8_t *inputs, uint64_t output,
+                             uint8_t *marks) {
+    const uint64_t *n = plan->counts;
+    uint64_t answer[2];
+    if (!ready(plan))
+        return no_memory;
+    golvanzo_explain(n, TABLES(plan), SCRATCH(plan), state, (size_t)n[PLAN_L], inputs, (size_t)n[PLAN_I], output, marks,
+                     (size_t)(n[PLAN_L] + n[PLAN_I]), answer);
+    return end_of(answer);
+}
+
 struct plan_end plan_witness3(struct plan *plan, uint64_t number, const uint8_t *vectors, size_t length, int *yes) {
     uint64_t answer[3];
     if (!ready(plan))

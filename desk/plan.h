@@ -77,6 +77,11 @@ struct plan_finding {
 /* An allowance that decides every list: with more x than 20 it is refused. */
 #define PLAN_ALL_FILLINGS ((uint64_t)1 << 20)
 
+/* Which of L bytes of state and I bytes of inputs made output number `output` 0 or 1 in a step in binary order: L + I bytes of
+   marks, state first. */
+struct plan_end plan_explain(struct plan *plan, const uint8_t *state, const uint8_t *inputs, uint64_t output,
+                             uint8_t *marks);
+
 /* The witness question for a number of vectors, I bytes each, one after another, and for as many fillings as are allowed;
    the same in three values, where *yes is 1 or 0. */
 struct plan_end plan_witness(struct plan *plan, uint64_t number, const uint8_t *vectors, size_t length,

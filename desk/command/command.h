@@ -12,7 +12,7 @@
 enum { DONE = 0, REFUSED = 1, DIFFERENT = 1, FAILED = 2 };
 
 /* The paper's numbers that the command itself says, as the programs do: their places are the paper's too. */
-enum { WRONG_BYTE = 1, BAD_VECTOR = 12, UNREADABLE = 14, MANY_X = 20 };
+enum { WRONG_BYTE = 1, BAD_VECTOR = 12, UNREADABLE = 14, NOT_EXPLAINED = 17, MANY_X = 20 };
 
 /* A file as it was read, with the name that people know it by. */
 struct source {
@@ -21,9 +21,10 @@ struct source {
     size_t length;
 };
 
-/* What is asked: the words of the command line. `second` is the file of vectors or the other plan; it and `out` may be null. */
+/* What is asked: the words of the command line. `second` is the file of vectors or the other plan; it and `out` may be null.
+   `output` and `step` say what to explain. */
 struct request {
-    const char *file, *second, *out;
+    const char *file, *second, *out, *output, *step;
     int vcd, large, names, three, count;
 };
 
@@ -80,6 +81,7 @@ int run_convert(const struct request *request, const struct source *file, struct
 int run_reduce(const struct request *request, const struct source *file, struct plan *plan);
 int run_drop(const struct request *request, const struct source *file, struct plan *plan);
 int run_trace(const struct request *request, const struct source *file, struct plan *plan);
+int run_explain(const struct request *request, const struct source *file, struct plan *plan);
 int run_witness(const struct request *request, const struct source *file, struct plan *plan);
 int run_report(const struct request *request, const struct source *file, struct plan *plan);
 int run_rows(const struct request *request, const struct source *file, struct plan *plan);

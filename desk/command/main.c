@@ -5,7 +5,8 @@
 #include "command.h"
 
 /* What a command may take, beside FILE, -o FILE and --help, which all take: a second file, which some need, and options. */
-enum { TAKES_SECOND = 1, NEEDS_SECOND = 2, TAKES_VCD = 4, TAKES_LARGE = 8, TAKES_NAMES = 16, TAKES_THREE = 32, TAKES_COUNT = 64 };
+enum { TAKES_SECOND = 1, NEEDS_SECOND = 2, TAKES_VCD = 4, TAKES_LARGE = 8, TAKES_NAMES = 16, TAKES_THREE = 32 };
+enum { TAKES_COUNT = 64, NEEDS_OUTPUT = 128 };
 
 /* A command is given the plan of its file, or the file alone where only the header is looked at. */
 struct command {
@@ -29,6 +30,11 @@ static const struct command commands[] = {
      "--vcd writes a waveform instead, for GTKWave and others, with the names of the plan.\n"
      "Without VECTORS they are read from standard input.",
      TAKES_SECOND | TAKES_VCD, run_trace, NULL},
+    {"explain", "--output O --step K FILE [VECTORS]", "says which inputs and latches made an output 0 or 1",
+     "Vectors are as for trace. The plan is stepped up to step K, the first being 0, and output O of that step is\n"
+     "explained: O is its position, the first being 0, or its name. A line with its value, then one for each latch\n"
+     "and input that made it so: with these alone known, and all others x, the output would have the same value.",
+     TAKES_SECOND | NEEDS_OUTPUT, run_explain, NULL},
     {"witness", "[--three] FILE [VECTORS]", "says whether the vectors give 1 on some output or bad state",
      "Vectors are as for trace. \"yes\" if they do whatever the x of resets and vectors are, 0 or 1, else \"no\", and how\n"
      "many fillings of the x were tried; every constraint must be 1 at that step and before it. At most 20 x are filled.\n"
@@ -59,17 +65,20 @@ static const struct command commands[] = {
 
 enum { COMMANDS = sizeof commands / sizeof commands[0] };
 
-/* Options without a word of their own: the commands that take them, and what they set. */
+/* Options: the commands that take them, what they set, and whether that is the word after them or 1. */
 static const struct {
     const char *word;
     int takes;
     size_t sets;
+    int has_word;
 } options[] = {
-    {"--vcd", TAKES_VCD, offsetof(struct request, vcd)},
-    {"--large", TAKES_LARGE, offsetof(struct request, large)},
-    {"--names", TAKES_NAMES, offsetof(struct request, names)},
-    {"--three", TAKES_THREE, offsetof(struct request, three)},
-    {"--count", TAKES_COUNT, offsetof(struct request, count)},
+    {"--vcd", TAKES_VCD, offsetof(struct request, vcd), 0},
+    {"--large", TAKES_LARGE, offsetof(struct request, large), 0},
+    {"--names", TAKES_NAMES, offsetof(struct request, names), 0},
+    {"--three", TAKES_THREE, offsetof(struct request, three), 0},
+    {"--count", TAKES_COUNT, offsetof(struct request, count), 0},
+    {"--output", NEEDS_OUTPUT, offsetof(struct request, output), 1},
+    {"--step", NEEDS_OUTPUT, offsetof(struct request, step), 1},
 };
 
 enum { OPTIONS = sizeof options / sizeof options[0] };
@@ -85,7 +94,7 @@ static int help(FILE *to, const struct command *command) {
         return DONE;
     }
     for (int k = 0; k < COMMANDS; k++)
-        fprintf(to, "plan %-8s %-24s %s\n", commands[k].name, commands[k].words, commands[k].what);
+        fprintf(to, "plan %-8s %-34s %s\n", commands[k].name, commands[k].words, commands[k].what);
     fprintf(to, "%s\"plan COMMAND --help\" says more of a command.\n", common);
     return DONE;
 }
@@ -106,27 +115,34 @@ static int is_help(const char *word) {
     return strcmp(word, "--help") == 0 || strcmp(word, "-h") == 0;
 }
 
-/* Whether a word is an option that the command takes, which is set then. */
-static int set_option(const struct command *command, const char *word, struct request *request) {
-    for (int k = 0; k < OPTIONS; k++)
-        if (command->takes & options[k].takes && strcmp(options[k].word, word) == 0) {
-            *(int *)((char *)request + options[k].sets) = 1;
-            return 1;
-        }
+/* How many words an option that the command takes has, which is set then; 0 if none stands here. */
+static int set_option(const struct command *command, char **words, struct request *request) {
+    for (int k = 0; k < OPTIONS; k++) {
+        char *sets = (char *)request + options[k].sets;
+        if (!(command->takes & options[k].takes) || strcmp(options[k].word, words[0]) != 0)
+            continue;
+        if (options[k].has_word && words[1] == NULL)
+            return 0;
+        if (options[k].has_word)
+            *(const char **)sets = words[1];
+        else
+            *(int *)sets = 1;
+        return 1 + options[k].has_word;
+    }
     return 0;
 }
 
 /* The words after the command; 0 if they are none that it takes. */
 static int parse(const struct command *command, char **words, struct request *request) {
-    int may_be_option = 1;
+    int may_be_option = 1, used;
     for (; *words != NULL; words++) {
         const char *word = *words;
         if (may_be_option && strcmp(word, "--") == 0)
             may_be_option = 0;
         else if (may_be_option && strcmp(word, "-o") == 0 && words[1] != NULL && request->out == NULL)
             request->out = *++words;
-        else if (may_be_option && set_option(command, word, request))
-            continue;
+        else if (may_be_option && (used = set_option(command, words, request)) > 0)
+            words += used - 1;
         else if (may_be_option && word[0] == '-' && word[1] != '\0')
             return 0;
         else if (request->file == NULL)
@@ -136,7 +152,8 @@ static int parse(const struct command *command, char **words, struct request *re
         else
             return 0;
     }
-    return request->file != NULL && (request->second != NULL || !(command->takes & NEEDS_SECOND));
+    return request->file != NULL && (request->second != NULL || !(command->takes & NEEDS_SECOND)) &&
+           ((request->output != NULL && request->step != NULL) || !(command->takes & NEEDS_OUTPUT));
 }
 
 /* Standard input can't be both files. */

@@ -259,6 +259,45 @@ static void trace(void) {
     }
 }
 
+/* The selector of examples/, with its four places: the row, the borders and the pattern. */
+static const char selector_text[] =
+    "aag 10 3 1 2 6\n2\n4\n6\n8 9\n15\n21\n10 8 2\n12 6 3\n14 13 11\n16 9 4\n18 6 5\n20 19 17\n";
+
+/* Marks of a step, given as a state and three inputs; "." for a byte that stays. */
+static void explained(const char *step, uint64_t output, const char *marks, const char *what) {
+    struct circuit c = read_file(FILE_OF(selector_text));
+    struct bytes state = bytes_of(step, 1), ins = bytes_of(step + 1, 3), out = FILE_OF("......");
+    uint64_t answer[2];
+    golvanzo_explain(COUNTS(c), SEVEN(c), TABLE(c, SCRATCH), state.at, 1, ins.at, 3, output, out.at, 6, answer);
+    expect(answer[0] == 0 && memcmp(out.at, marks, 6) == 0, what, "explain");
+    expect(all_zero(TABLE(c, SCRATCH)), "scratch is zero", "explain");
+    expect(memcmp(state.at, step, 1) == 0 && memcmp(ins.at, step + 1, 3) == 0, "the vectors stay", "explain");
+}
+
+static void not_explained(const char *step, uint64_t output, size_t room, uint64_t number, uint64_t place) {
+    struct circuit c = read_file(FILE_OF(selector_text));
+    struct bytes state = bytes_of(step, 1), ins = bytes_of(step + 1, strlen(step) - 1), out = bytes_of("......", room);
+    uint64_t answer[2];
+    golvanzo_explain(COUNTS(c), SEVEN(c), TABLE(c, SCRATCH), state.at, 1, ins.at, ins.length, output, out.at, room,
+                     answer);
+    expect(answer[0] == number && answer[1] == place, step, "explain is refused");
+    expect(memcmp(out.at, "......", room) == 0 && all_zero(TABLE(c, SCRATCH)), "nothing is left", "explain is refused");
+}
+
+/* By hand: an odd row in both borders lifts the left needle by the row and the left border; the right one rests since there is
+   no pattern outside the border and the row is odd in it. */
+static void needles(void) {
+    explained("1110", 0, "1100..", "the row and the left border lift the left needle");
+    explained("1110", 1, "1001..", "without pattern and in an odd row the right needle rests");
+    explained("0x11", 1, "1010..", "an unknown left border is not to blame");
+    explained("x001", 1, "0011..", "outside the border the pattern lifts it, whatever the row is");
+    not_explained("111", 7, 0, 12, 2);
+    not_explained("1110", 2, 0, 17, 1);
+    not_explained("1110", UINT64_MAX, 4, 17, 1);
+    not_explained("1xx1", 0, 0, 17, 2);
+    not_explained("1110", 0, 3, 11, 4);
+}
+
 static void witness3(struct circuit c, uint64_t number, struct bytes list, uint64_t says, const char *what) {
     uint64_t answer[3];
     golvanzo_witness3(COUNTS(c), SEVEN(c), TABLE(c, SCRATCH), number, list.at, list.length, answer);
@@ -516,6 +555,7 @@ int main(void) {
     fillings();
     fillings_of_starts();
     rows();
+    needles();
     refusals();
     table_refusals();
     little_scratch();

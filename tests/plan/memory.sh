@@ -8,6 +8,9 @@ valgrind_on_small() {
     accepts examples/guard.aag convert examples/guard.aig
     accepts examples/toggle.aig reduce examples/toggle.aag
     accepts examples/guard.trace trace examples/guard.aag examples/guard.vectors
+    printf '%s\n' 'left needle (o0) is 1 at step 5, because' 'odd row (l0) is 1' 'left border (i0) is 1' >"$room/told"
+    accepts "$room/told" explain --output 'left needle' --step 5 examples/selector.aag examples/selector.vectors
+    refuses "refused 17 at 2" explain --output 1 --step 4 examples/selector.aag examples/selector.vectors
     echo same >"$room/same"
     accepts "$room/same" same examples/guard.aig tests/plan/same/guard.aag
     sed 's/^16$/1/' tests/plan/same/guard.aag >"$room/plan"

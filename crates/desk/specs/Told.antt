@@ -50,7 +50,6 @@ reduction e = toldMade (outcome.reduction e)
 abbrev pub dropping : MakeEntry → MakeTold
 dropping e = toldMade (drop.dropping e)
 
--- the stepper and the witness question, by fillings and in three values
 -- the stepper
 pub record StepTold : Type 0 where
   pub answer : List ℕ
