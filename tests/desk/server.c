@@ -19,6 +19,7 @@
    13 witness3  given, u64 number, list, answer                           all of these but the number
    14 rows      given, u64 rows, next states, inputs, outputs, answer     all of these but the number
    15 rowreport given, table 6, u64 rows, inputs, answer                  all of these but the number
+   16 explain   given, u64 output, state, inputs, marks, answer           all of these but the number
 
    Given are counts, a circuit's tables (1 to 4, 7 to 9) and scratch. What these are is said in wire.h. */
 #include <stdint.h>
@@ -147,6 +148,18 @@ static void call_rows(void) {
     put_memory(answer);
 }
 
+static void call_explain(void) {
+    struct given given = get_given();
+    uint64_t output = get_number();
+    struct memory state = get_vector(), ins = get_vector(), marks = get_vector(), answer = get_numbers();
+    golvanzo_explain(CIRCUIT_OF(given), LENT(given.scratch), LENT(state), LENT(ins), output, LENT(marks), answer.lent);
+    put_given(given);
+    put_memory(state);
+    put_memory(ins);
+    put_memory(marks);
+    put_memory(answer);
+}
+
 int main(void) {
     uint32_t call;
     while (fread(&call, sizeof call, 1, stdin) == 1) {
@@ -197,6 +210,9 @@ int main(void) {
             break;
         case 15:
             call_report(golvanzo_report_rows);
+            break;
+        case 16:
+            call_explain();
             break;
         default:
             give_up("no such call");

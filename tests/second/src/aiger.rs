@@ -3,6 +3,7 @@
 pub mod bytes;
 pub mod calls;
 pub mod convert;
+pub mod explain;
 pub mod fillings;
 pub mod meaning;
 pub mod programs;

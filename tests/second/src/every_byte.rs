@@ -51,6 +51,11 @@ fn values(library: &dyn Library, byte: u8) -> Result<(), String> {
             question.numbers = numbers;
             compare(library, call, &question)?;
         }
+        for vectors in [[byte, other], [other, byte]] {
+            let mut explain = lent(Call::Explain, &[&vectors[..1], &vectors[1..], b"??"]);
+            explain.numbers = vec![0];
+            compare(library, Call::Explain, &explain)?;
+        }
         let mut rows = lent(Call::Rows, &[b"??", &[other, byte], b"??"]);
         rows.numbers = vec![2];
         compare(library, Call::Rows, &rows)?;

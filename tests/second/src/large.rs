@@ -86,6 +86,12 @@ fn compared(library: &dyn Library, a: usize) -> Result<(), String> {
     [MOST_STEPS, MOST_STEPS + 1]
         .into_iter()
         .try_for_each(|number| reported(library, number))?;
+    let mut explain = given::lend(Call::Explain, &given::exactly(Call::Explain, &chain(a)), JUNK);
+    explain.numbers = vec![0];
+    explain.bytes = [&b""[..], b"1", b"?"]
+        .map(|vector| Memory::around(vector, JUNK))
+        .to_vec();
+    tables::compare(library, Call::Explain, &explain)?;
     let mut rows = given::lend(Call::Rows, &given::exactly(Call::Rows, &chain(a)), JUNK);
     rows.numbers = vec![LANES];
     let inputs: Vec<u8> = (0..LANES as usize).map(|row| b"01x"[row * row % 5 % 3]).collect();

@@ -52,10 +52,11 @@ pub enum Call {
     Witness3,
     Rows,
     ReportRows,
+    Explain,
 }
 
 impl Call {
-    pub const ALL: [Call; 12] = [
+    pub const ALL: [Call; 13] = [
         Call::Check,
         Call::WriteText,
         Call::WriteBinary,
@@ -68,6 +69,7 @@ impl Call {
         Call::Witness3,
         Call::Rows,
         Call::ReportRows,
+        Call::Explain,
     ];
 
     pub fn named(name: &str) -> Option<Call> {
@@ -88,6 +90,7 @@ impl Call {
             Call::Witness3 => "witness3",
             Call::Rows => "rows",
             Call::ReportRows => "report-rows",
+            Call::Explain => "explain",
         }
     }
 
@@ -98,6 +101,7 @@ impl Call {
             Call::Reduce | Call::Drop => &[2, 3, 4, 5, 6, 7, 8, 15],
             Call::Step | Call::Witness3 => &[2, 3, 4, 5, 6, 7, 8, 12, 15],
             Call::Witness => &[2, 3, 4, 5, 6, 7, 8, 12, 15, 20],
+            Call::Explain => &[2, 3, 4, 5, 6, 7, 8, 11, 12, 15, 17],
             Call::Report | Call::Rows | Call::ReportRows => &[2, 3, 4, 5, 6, 7, 8, 12, 13, 15],
             Call::WriteText => &[1, 2, 3, 4, 5, 6, 7, 8, 10, 11],
             Call::WriteBinary => &[1, 2, 3, 4, 5, 6, 7, 8, 10, 11, 15],
@@ -112,7 +116,7 @@ impl Call {
     /// The length of its answer: number, place, values.
     pub fn answers(self) -> u64 {
         match self {
-            Call::Check | Call::Step | Call::Report | Call::Rows | Call::ReportRows => 2,
+            Call::Check | Call::Step | Call::Report | Call::Rows | Call::ReportRows | Call::Explain => 2,
             Call::WriteText | Call::WriteBinary | Call::Witness3 => 3,
             Call::Witness => 4,
             Call::Convert | Call::Reduce | Call::Drop => 9,
@@ -149,9 +153,10 @@ pub struct Lent {
     /// The same tables again, of conversion, reduction and dropping; of the reports table 6.
     pub written: Vec<Memory<u32>>,
     /// How many vectors, of the witness questions, of a report and of rows; of that of fillings the allowance too.
+    /// Of an explanation the output's number.
     pub numbers: Vec<u64>,
     /// Of a writer the tail and the buffer; of the stepper state, inputs, outputs; of the witness questions and of a
-    /// report the list; of rows next states, inputs, outputs.
+    /// report the list; of rows next states, inputs, outputs; of an explanation state, inputs, marks.
     pub bytes: Vec<Memory<u8>>,
     pub answer: Memory<u64>,
 }

@@ -96,3 +96,23 @@ pub fn fillings(values: &[u8], all: &mut Vec<Vec<u8>>) {
         fillings(&fewer, all);
     }
 }
+
+/// What the walk from a variable blames: gates pass the blame on again and again, until nothing changes.
+pub fn blamed(circuit: &Circuit, values: &[u8], from: usize) -> Vec<bool> {
+    let mut blamed = vec![false; circuit.m as usize + 1];
+    blamed[from] = true;
+    loop {
+        let before = blamed.clone();
+        for &[lhs, rhs0, rhs1] in circuit.gates.iter().rev().filter(|gate| before[variable(gate[0])]) {
+            let sides = [rhs0, rhs1].into_iter();
+            let passes = |side: &u32| step::value(values, lhs) == b'1' || step::value(values, *side) == b'0';
+            let most = if step::value(values, lhs) == b'1' { 2 } else { 1 };
+            for side in sides.filter(passes).take(most) {
+                blamed[variable(side)] = true;
+            }
+        }
+        if blamed == before {
+            return blamed;
+        }
+    }
+}

@@ -1,7 +1,7 @@
 //! What must hold of this program's own answers, whatever the case.
 
 mod given;
-mod values;
+pub mod values;
 
 use crate::aiger::convert::{convert, Converted};
 use crate::aiger::reduce::reduce;

@@ -36,6 +36,7 @@ fn number(call: Call) -> u32 {
         Call::Witness3 => 13,
         Call::Rows => 14,
         Call::ReportRows => 15,
+        Call::Explain => 16,
     }
 }
 

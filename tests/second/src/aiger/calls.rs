@@ -1,12 +1,12 @@
 //! The calls that are given tables, each with all of its refusals in the paper's order: 2 to 8, 15, the tail
-//! by 1 and 10, 13, 12, 20, 11.
+//! by 1 and 10, 13, 12, 17 or 20, 11.
 
 use super::fillings::{self, Verdict, MOST_X};
 use super::report::{self, Numbers, MOST_STEPS};
 use super::rows::{self, Rows, LANES};
 use super::step::{self, Step};
 use super::tables::{self, binary_order, Given};
-use super::{convert, reduce, refuse, tail, unused, write, Circuit, Form, Refusal, Version};
+use super::{convert, explain, reduce, refuse, tail, unused, write, Circuit, Form, Refusal, Version};
 
 pub fn check(given: &Given) -> Result<(), Refusal> {
     tables::check(given).map(drop)
@@ -39,16 +39,35 @@ pub fn drop_unused(given: &Given) -> Result<Circuit, Refusal> {
 /// `output` is the length of the vector lent for the outputs.
 pub fn step(given: &Given, state: &[u8], input: &[u8], output: u64) -> Result<Step, Refusal> {
     let circuit = in_order(given)?;
+    state_and_input(given, state, input)?;
+    if output != given.counts.o {
+        return refuse(12, 3);
+    }
+    Ok(step::step(&circuit, state, input))
+}
+
+/// 12, the state before the input.
+fn state_and_input(given: &Given, state: &[u8], input: &[u8]) -> Result<(), Refusal> {
     if state.len() as u64 != given.counts.l || !are_values(state) {
         return refuse(12, 1);
     }
     if input.len() as u64 != given.counts.i || !are_values(input) {
         return refuse(12, 2);
     }
-    if output != given.counts.o {
-        return refuse(12, 3);
+    Ok(())
+}
+
+/// `room` is the length of the buffer lent for the marks.
+pub fn explain(given: &Given, state: &[u8], input: &[u8], output: u64, room: u64) -> Result<Vec<u8>, Refusal> {
+    let circuit = in_order(given)?;
+    state_and_input(given, state, input)?;
+    if output >= given.counts.o {
+        return refuse(17, 1);
     }
-    Ok(step::step(&circuit, state, input))
+    match explain::explain(&circuit, state, input, circuit.outputs[output as usize]) {
+        None => refuse(17, 2),
+        Some(marks) => write::fits(marks, room),
+    }
 }
 
 pub fn witness(given: &Given, number: u64, list: &[u8], allowance: u64) -> Result<Verdict, Refusal> {

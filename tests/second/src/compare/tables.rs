@@ -84,6 +84,7 @@ pub fn after(call: Call, before: &Lent) -> Lent {
             reported(&mut after, report.map(|report| report.concat()));
         }
         Call::Rows => rowed(&mut after, &given),
+        Call::Explain => explained(&mut after, &given),
         Call::ReportRows => {
             let report = calls::report_rows(&given, before.number(), before.bytes[0].lent());
             reported(&mut after, report.map(|report| report.concat()));
@@ -151,6 +152,20 @@ fn rowed(after: &mut Lent, given: &Given) {
         output.lent_mut().copy_from_slice(&rows.outputs);
     }
     answer(after, rows, |_| Vec::new());
+}
+
+/// Marks on the first bytes of the buffer; a refusal changes none.
+fn explained(after: &mut Lent, given: &Given) {
+    let output = after.number();
+    let [state, input, buffer] = after.bytes.as_mut_slice() else {
+        unreachable!("an explanation has two vectors and a buffer");
+    };
+    let room = buffer.lent().len() as u64;
+    let marks = calls::explain(given, state.lent(), input.lent(), output, room);
+    if let Ok(marks) = &marks {
+        buffer.lent_mut()[..marks.len()].copy_from_slice(marks);
+    }
+    answer(after, marks, |_| Vec::new());
 }
 
 /// The circuit of tables that hold one.

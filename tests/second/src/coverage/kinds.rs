@@ -1,6 +1,7 @@
 //! Kinds of cases that a call must have had.
 
 mod fillings;
+mod marks;
 mod reports;
 mod rows;
 
@@ -24,6 +25,7 @@ fn of(call: Call) -> &'static [Kind] {
     match call {
         Call::Report => reports::KINDS,
         Call::Rows => rows::KINDS,
+        Call::Explain => marks::KINDS,
         Call::ReportRows => rows::OF_REPORTS,
         Call::Witness => fillings::KINDS,
         _ => &[],

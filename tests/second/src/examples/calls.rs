@@ -20,6 +20,15 @@ pub fn called(library: &dyn Library, circuit: &Circuit, tail: &[u8], list: &[&[u
                     compare(library, call, &stepping(circuit, &state, input))?;
                 }
             }
+            Call::Explain => {
+                for ((state, _), input) in step::run(circuit, list.iter().copied()).zip(list) {
+                    for output in 0..=circuit.outputs.len() as u64 {
+                        let mut lent = exactly(call, circuit, &[&state, input, &[b'?'; 9]]);
+                        lent.numbers = vec![output];
+                        compare(library, call, &lent)?;
+                    }
+                }
+            }
             Call::Rows => {
                 let mut lent = exactly(call, circuit, &[]);
                 let lengths = [circuit.latches.len(), circuit.inputs.len(), circuit.outputs.len()];

@@ -1,6 +1,7 @@
 //! Slips in the calls on tables.
 
 mod fillings;
+mod marks;
 mod reports;
 mod rows;
 mod slips;
@@ -12,6 +13,7 @@ use crate::generate::given;
 use crate::library::{Call, Question, Reply};
 use crate::tally::Tally;
 use fillings::FILLINGS;
+use marks::MARKS;
 use reports::REPORT;
 use rows::{ROWS, ROW_REPORT};
 use slips::{Slip, ANY, CHANGES, WRITERS};
@@ -27,6 +29,7 @@ fn slips(call: Call) -> Vec<(&'static str, Slip)> {
         Call::Witness3 => [ANY, WITNESS].concat(),
         Call::Report => [ANY, REPORT].concat(),
         Call::Rows => [ANY, ROWS].concat(),
+        Call::Explain => [ANY, MARKS].concat(),
         Call::ReportRows => [ANY, ROW_REPORT].concat(),
     }
 }

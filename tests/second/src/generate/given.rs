@@ -2,6 +2,7 @@
 
 mod counts;
 mod fillings;
+mod marks;
 mod order;
 mod rows;
 mod vectors;
@@ -85,6 +86,7 @@ pub fn case(call: Call, seed: u64, number: u64) -> TablesCase {
         Call::Witness3 => vectors::witness(&mut random, &circuit, &mut case),
         Call::Report => vectors::report(&mut random, &circuit, &mut case),
         Call::Rows => rows::add(&mut random, &circuit, &mut case),
+        Call::Explain => marks::add(&mut random, &circuit, &mut case),
         Call::ReportRows => rows::add_report(&mut random, &circuit, &mut case),
     }
     case

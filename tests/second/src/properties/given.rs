@@ -150,6 +150,11 @@ fn writers(circuit: &Circuit, tail: &[u8]) -> Result<(), String> {
         expect("no binary order", calls::reduce(&given), refuse(15, 0))?;
         expect("no binary order", calls::drop_unused(&given), refuse(15, 0))?;
         expect("no binary order", calls::step(&given, b"?", b"", 0), refuse(15, 0))?;
+        expect(
+            "no binary order",
+            calls::explain(&given, b"?", b"", 9, 0),
+            refuse(15, 0),
+        )?;
         expect("no binary order", calls::rows(&given, 65, [9, 9], b"?"), refuse(15, 0))?;
         expect("no binary order", calls::report(&given, u64::MAX, b"?"), refuse(15, 0))?;
         expect("no binary order", calls::witness(&given, 1, b"?", 0), refuse(15, 0))?;

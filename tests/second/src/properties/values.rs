@@ -55,6 +55,7 @@ pub fn check(
     reports(&converted.circuit, &list, &steps)?;
     fillings(random, &converted.circuit, &list, shown(&steps))?;
     rows(&converted.circuit, &list)?;
+    explanations(&converted.circuit, &steps, &list)?;
     if circuit.gates.len() <= FEW_GATES {
         slowly(random, circuit, converted, unknown)?;
     }
@@ -214,6 +215,59 @@ fn rows(circuit: &Circuit, list: &[Vec<u8>]) -> Result<(), String> {
     }
     ensure!(report == Ok(counted.clone()), "report {report:?}, counted {counted:?}");
     Ok(())
+}
+
+/// So many outputs are explained.
+const FEW_OUTPUTS: usize = 3;
+
+/// With every unmarked place turned to x the output keeps its value; marks stand on 0 or 1, where the walk leads.
+fn explanations(circuit: &Circuit, steps: &[(Vec<u8>, Step)], list: &[Vec<u8>]) -> Result<(), String> {
+    let given = Given::exactly(circuit);
+    let ((state, step), input) = (&steps[STEPS - 1], &list[STEPS - 1]);
+    let places = state.len() + input.len();
+    let explain = |output: usize, room: usize| calls::explain(&given, state, input, output as u64, room as u64);
+    let outputs = circuit.outputs.len();
+    ensure!(explain(outputs, 0) == refuse(17, 1), "an output not there");
+    for (k, &output) in circuit.outputs.iter().enumerate().take(FEW_OUTPUTS) {
+        if step.output[k] == b'x' {
+            ensure!(explain(k, 0) == refuse(17, 2), "an output that is x");
+            continue;
+        }
+        if places > 0 {
+            ensure!(explain(k, places - 1) == refuse(11, places), "a short buffer");
+        }
+        let marks = explain(k, places).map_err(|refusal| refusal.line())?;
+        let [masked_state, masked_input] = masked(&marks, state, input);
+        let again = step::step(circuit, &masked_state, &masked_input).output[k];
+        ensure!(again == step.output[k], "output {k} is lost with marks {marks:?}");
+        let values = [state.as_slice(), input].concat();
+        let mut marked = marks.iter().zip(&values).filter(|(&mark, _)| mark == b'1');
+        ensure!(marked.all(|(_, &value)| value != b'x'), "an x is marked: {marks:?}");
+        if circuit.gates.len() <= FEW_GATES {
+            let all = step::values(circuit, state, input);
+            let blamed = naive::blamed(circuit, &all, variable(output));
+            let sources = circuit
+                .latches
+                .iter()
+                .map(|latch| latch[0])
+                .chain(circuit.inputs.clone());
+            let expected: Vec<u8> = sources
+                .map(|source| b"01"[usize::from(blamed[variable(source)])])
+                .collect();
+            ensure!(marks == expected, "marked {marks:?}, blamed {expected:?}");
+        }
+    }
+    Ok(())
+}
+
+/// State and input with x at every place without a mark.
+pub fn masked(marks: &[u8], state: &[u8], input: &[u8]) -> [Vec<u8>; 2] {
+    let (latches, inputs) = marks.split_at(state.len());
+    [(latches, state), (inputs, input)].map(|(marks, values)| {
+        let all = marks.iter().zip(values);
+        all.map(|(&mark, &value)| if mark == b'1' { value } else { b'x' })
+            .collect()
+    })
 }
 
 /// One step against the slow definition, and each variable against its new name.

@@ -51,7 +51,7 @@ fn writable(random: &mut Random, form: Form, circuit: &Circuit, case: &TablesCas
 }
 
 /// Too short by one byte, by many or empty; else exactly enough or with spare bytes.
-fn room(random: &mut Random, short: bool, needed: usize) -> usize {
+pub fn room(random: &mut Random, short: bool, needed: usize) -> usize {
     match (short, random.below(4)) {
         (true, 0) => 0,
         (true, 1) => random.below(needed),
