@@ -1,0 +1,46 @@
+-- The plain engine, for teaching circuits of at most 24 gates; and the comparer, which runs it beside the stepper.
+use Prim.Native.Nat.{ℕ}
+use mathlib.Core.Bool.{cond}
+use mathlib.Core.Option.{Option, none, some}
+use mathlib.Core.List.{List, [], _∷_, _++_, map}
+use lib.Dec.{leb}
+use lib.ListN.{length}
+use Rattle.plan.specs.declared.Refusal.{Refusal}
+use Rattle.plan.specs.declared.Refusal.the-variants.{ManyGates}
+use Rattle.plan.specs.Refusals.{got, _then_, unless, stage, firstOf}
+use Rattle.plan.specs.Reading.{readToWork}
+use Rattle.plan.specs.Given.{Given, lentAlone, stages, orderStage}
+use Rattle.plan.specs.Convert.{convert}
+use Rattle.plan.specs.Step.{valueOf, run, first}
+use Rattle.plan.specs.Outcome.{StepEntry, StepExit, stepStage, steppedBy}
+use Rattle.plan.specs.Programs.{lentWords, printed, input, stimulus, stepLines}
+use Rattle.plan.specs.Whole.{TraceEntry, TraceExit, traceStage, tracedBy}
+
+-- 24: more gates than a teaching circuit has, place their number
+abbrev pub manyGates : ℕ → Option ℕ
+manyGates a = cond (leb a 24) none (some a)
+
+abbrev pub gatesStage : Given → Option Refusal
+gatesStage g = stage ManyGates (manyGates (g .counts .A))
+
+-- one step: the stepper's outcome, with 24 just after 15
+abbrev pub plainStep : StepEntry → StepExit
+plainStep e =
+    let g = e .circuit in
+    steppedBy (firstOf (stages g (lentAlone g) ++ (orderStage g ∷ gatesStage g ∷ stepStage e ∷ []))) e
+
+-- a part of a run: the tracer's outcome, with 24 just after 15
+abbrev pub plainTrace : TraceEntry → TraceExit
+plainTrace e =
+    let g = e .circuit in
+    tracedBy (firstOf (stages g (lentAlone g) ++ (orderStage g ∷ gatesStage g ∷ traceStage e ∷ []))) e
+
+-- the comparer writes the tracer's lines, which both engines give; 24 is judged with plan.in, before standard input is read
+abbrev pub comparer : Option (List ℕ) → Option (List ℕ) → List ℕ
+comparer planIn standardIn =
+    printed (input planIn λ file.
+    readToWork file lentWords lentWords then λ c _.
+    unless (manyGates (length (c .gates))) ManyGates
+    (input standardIn λ bytes.
+    stimulus (length (c .inputs)) bytes then λ list end.
+    got (stepLines (run (convert c) (first (convert c)) (map (map valueOf) list))) end))
