@@ -139,7 +139,7 @@ fn trace_from(
 }
 
 // As many of `lines` as fit whole into `room` bytes.
-fn fitting(n: Counts, lines: usize, room: usize) -> usize
+pub fn fitting(n: Counts, lines: usize, room: usize) -> usize
     requires { ⌜ (n .I + n .L ≤ most) × (n .O ≤ most) ⌝ }
     ensures { λ r. ⌜ r ≡ min lines (room / lineWidth n) ⌝ }
 {
@@ -151,7 +151,7 @@ fn fitting(n: Counts, lines: usize, room: usize) -> usize
 }
 
 // The lines of vectors, by 12: place 1 the state, 2 the vectors.
-fn judge(n: Counts, state: &[u8], vectors: &[u8]) -> Traced
+pub fn judge(n: Counts, state: &[u8], vectors: &[u8]) -> Traced
     ensures { λ r. ⌜ r ≡ judged (eqb (length (now (state .entry))) (n .L) && allCodes (now (state .entry)))
         (ended (now (vectors .entry)) && allVectors (n .I) (linesIn (now (vectors .entry)))) (length (linesIn (now (vectors .entry)))) ⌝ }
 {
