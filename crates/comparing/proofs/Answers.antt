@@ -1,0 +1,53 @@
+-- The outcome of a part of a run by the plain engine, which is the tracer's where there are at most 24 gates.
+use Prim.Native.Nat.{ℕ, _≤_}
+use mathlib.Core.Path.{_≡_, refl, sym, ap, _∙_}
+use mathlib.Core.Bool.{Bool, true, false, _&&_}
+use mathlib.Core.List.{List}
+use mathlib.Core.Option.{Option, some}
+use native.Mathlib.Omega.{arith}
+use lib.Dec.{eqb}
+use lib.ListN.{length}
+use Rattle.plan.specs.declared.Refusal.{Refusal}
+use Rattle.plan.specs.declared.Traced.{Traced}
+use Rattle.plan.specs.declared.Traced.the-variants.{Lines, Refused}
+use Rattle.plan.specs.Circuit.{cleared}
+use Rattle.plan.specs.Outcome.{allCodes}
+use Rattle.plan.specs.Programs.{linesIn, allVectors}
+use Rattle.plan.specs.Whole.{TraceEntry, TraceExit, traceStage, tracedBy, trace}
+use Rattle.theorems.proofs.Reading.Common.{and-right}
+use Rattle.codes.proofs.Places.{codesIn}
+use Rattle.stimulus.specs.Scan.{ended}
+use Rattle.trace.specs.Tracing.{judged}
+use Rattle.trace.proofs.Answers.{state-long}
+use Rattle.plain.specs.Plain.{plainTrace}
+use Rattle.plain.proofs.Beyond.{plainAnswer, answer-few}
+use Rattle.comparing.specs.Lined.{Vector}
+
+-- For every circuit of at most 24 gates, every state and every list of vectors, the plain engine writes the lines that the stepper writes and
+-- leaves the same state, refusals too: the comparer never writes "differ".
+pub same-lines : (e : TraceEntry) → e .circuit .counts .A ≤ 24 → plainTrace e ≡ trace e
+same-lines e h = ap (λ (o : Option Refusal). tracedBy o e) (answer-few (e .circuit) (traceStage e) h)
+
+pub refused-lines : (e : TraceEntry) (t : List ℕ) → t ≡ cleared (e .circuit .scratch) → (r : Refusal)
+    → plainAnswer (e .circuit) (traceStage e) ≡ some r
+    → _≡_ {A = TraceExit} (record { answer = Refused r; scratch = t; state = e .state; out = e .out }) (plainTrace e)
+refused-lines e t blank r q =
+    (λ j. record { answer = Refused r; scratch = blank j; state = e .state; out = e .out })
+    ∙ sym (ap (λ (o : Option Refusal). tracedBy o e) q)
+
+-- a state that is not refused is one of codes
+state-good : (s v : Bool) (k m : ℕ) → judged s v k ≡ Lines m → s ≡ true
+state-good true v k m e = refl
+state-good false v k m e = let z : _≡_ {A = ℕ} 0 1 = cc in absurd (omega arith)
+
+module _ (e : TraceEntry) (a : Traced)
+    (says : a ≡ judged (codesIn (e .state) (e .circuit .counts .L))
+    (ended (e .vectors) && allVectors (e .circuit .counts .I) (linesIn (e .vectors))) (length (linesIn (e .vectors)))) where
+  pub state-vector : (m : ℕ) → a ≡ Lines m → Vector (e .circuit .counts .L) (e .state)
+  state-vector m is = record {
+    long = state-long e a says m is;
+    codes =
+        and-right (eqb (length (e .state)) (e .circuit .counts .L)) (allCodes (e .state))
+        (state-good (codesIn (e .state) (e .circuit .counts .L))
+        (ended (e .vectors) && allVectors (e .circuit .counts .I) (linesIn (e .vectors))) (length (linesIn (e .vectors))) m (sym says ∙ is));
+  }
