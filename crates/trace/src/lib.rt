@@ -164,6 +164,25 @@ pub fn judge(n: Counts, state: &[u8], vectors: &[u8]) -> Traced
     }
 }
 
+// The position past the next `count` lines, or the end of the bytes.
+pub fn past(bytes: &[u8], from: usize, count: usize) -> usize
+    requires { ⌜ from ≤ length (now bytes) ⌝ }
+    ensures { λ r. ⌜ r ≤ length (now (bytes .entry)) ⌝ }
+{
+    let mut at = from;
+    let mut left = count;
+    while at < bytes.len() {
+        if left == 0 {
+            return at;
+        }
+        if bytes[at] == b'\n' {
+            left -= 1;
+        }
+        at += 1;
+    }
+    at
+}
+
 // A part of a run: as many whole lines as fit into `out`, from the state that is given; the state after them goes over it. The answer is
 // the number of lines. On a refusal neither changes; scratch is zero afterwards (the paper, programs and their output).
 pub fn trace(

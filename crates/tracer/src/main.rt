@@ -1,29 +1,8 @@
 // Traces the circuit of plan.in, converted, from its first state on the vectors of standard input, or writes the line of the refusal (the
 // paper, programs). 14, 13, the reader's refusals and 4 are decided by crate opening, those of standard input by crate trace.
-ghost use Prim.Native.Nat.{_≤_};
-ghost use lib.ListN.{length};
 use plan::Counts;
 use plan::Made;
 use plan::Traced;
-
-// The position past the next `count` lines, or the end of the bytes.
-fn past(bytes: &[u8], from: usize, count: usize) -> usize
-    requires { ⌜ from ≤ length (now bytes) ⌝ }
-    ensures { λ r. ⌜ r ≤ length (now (bytes .entry)) ⌝ }
-{
-    let mut at = from;
-    let mut left = count;
-    while at < bytes.len() {
-        if left == 0 {
-            return at;
-        }
-        if bytes[at] == b'\n' {
-            left -= 1;
-        }
-        at += 1;
-    }
-    at
-}
 
 // The steps of all lines, printed in parts of as many lines as fit into `out`. A part has a line at least, so there are no more parts than
 // lines.
@@ -62,8 +41,8 @@ fn trace_all(
         let Traced::Lines(k) = part else {
             return;
         };
-        office::print(out, past(out, 0, k));
-        at = past(vectors, at, k);
+        office::print(out, trace::past(out, 0, k));
+        at = trace::past(vectors, at, k);
         if at == vectors.len() {
             return;
         }

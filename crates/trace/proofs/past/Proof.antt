@@ -2,8 +2,8 @@
 use Prim.Native.Nat.{_-_, _≤_}
 use borrow.Author.Needs.{needs}
 use lib.ListN.{length}
-use Rattle.tracer.proofs.past.Statement.{statement}
-use Rattle.tracer.proofs.past.Tie as tie
+use Rattle.trace.proofs.past.Statement.{statement}
+use Rattle.trace.proofs.past.Tie as tie
 
 abbrev Inv-loop : tie.InvT-loop
 Inv-loop bytes from count at₀ left₀ at left = at ≤ length bytes
