@@ -2,7 +2,10 @@
 ghost use mathlib.Core.Path.{_≡_};
 ghost use mathlib.Core.List.{[], _∷_, _++_};
 ghost use Prim.Native.Nat.{_+_, _≤_, _<_};
+ghost use mathlib.Core.Bool.{_&&_};
+ghost use lib.Dec.{eqb};
 ghost use lib.ListN.{length};
+ghost use Rattle.plan.specs.Refusals.{numberOf, placeOf};
 ghost use Rattle.plan.specs.Circuit.{Tables, circuitOf, seven};
 ghost use Rattle.plan.specs.Outcome.{Says, put};
 ghost use Rattle.plan.specs.Whole.{lineWidth};
@@ -11,6 +14,8 @@ ghost use Rattle.step.specs.Asked.{Room};
 ghost use Rattle.trace.specs.Tracing.{Listed, firstOnes, Left};
 ghost use Rattle.plain.specs.Plain.{plainTrace};
 ghost use Rattle.comparing.specs.Lined.{Vector, Lined};
+ghost use Rattle.comparing.specs.Both.{sameAnswer, compare};
+use check::same;
 use forms::append;
 use given::judge_in_order;
 use plain::TEACHING;
@@ -19,9 +24,18 @@ use plan::Checked;
 use plan::Counts;
 use plan::Refusal;
 use plan::Traced;
+use refusals::told_number;
+use refusals::told_place;
 use tables::clear;
 use trace::fitting;
 use trace::judge;
+
+// What both engines answer, or that they part.
+pub enum Compared {
+    Lines(usize),
+    Differ,
+    Refused(Refusal),
+}
 
 // Bytes, and the byte after them; the position past it.
 fn put_bytes(bytes: &[u8], last: u8, out: &mut [u8], at: usize) -> usize
@@ -183,5 +197,116 @@ pub fn trace_plain(
                 }
             }
         }
+    }
+}
+
+fn same_refusal(r: Refusal, s: Refusal) -> bool
+    ensures { λ x. ⌜ x ≡ (eqb (numberOf r) (numberOf s) && eqb (placeOf r) (placeOf s)) ⌝ }
+{
+    if told_number(r) != told_number(s) {
+        return false;
+    }
+    told_place(r) == told_place(s)
+}
+
+// As many lines, or the same refusal.
+fn same_answer(a: Traced, b: Traced) -> bool
+    ensures { λ r. ⌜ r ≡ sameAnswer a b ⌝ }
+{
+    match a {
+        Traced::Lines(k) => match b {
+            Traced::Lines(m) => k == m,
+            Traced::Refused(_) => false,
+        },
+        Traced::Refused(r) => match b {
+            Traced::Lines(_) => false,
+            Traced::Refused(s) => same_refusal(r, s),
+        },
+    }
+}
+
+// A part of a run by both engines, the stepper into `state` and `out`, the plain engine into `twin` and `again`; and whether they leave the
+// same. From the same state and buffer, and with at most 24 gates, they never part.
+pub fn compare(
+    n: Counts,
+    inputs: &[u32],
+    latches: &[u32],
+    outputs: &[u32],
+    gates: &[u32],
+    resets: &[u32],
+    bads: &[u32],
+    constraints: &[u32],
+    scratch: &mut [u32],
+    state: &mut [u8],
+    vectors: &[u8],
+    out: &mut [u8],
+    twin: &mut [u8],
+    again: &mut [u8],
+) -> Compared
+    ensures { λ r. ⌜ Says compare
+        (record {
+          part = (record {
+            circuit = (record {
+              counts = n;
+              tables = seven (now (inputs .entry)) (now (latches .entry)) (now (outputs .entry)) (now (gates .entry)) (now (resets .entry))
+                  (now (bads .entry)) (now (constraints .entry));
+              scratch = now (scratch .entry);
+            });
+            state = now (state .entry);
+            vectors = now (vectors .entry);
+            out = now (out .entry);
+          });
+          twin = now (twin .entry);
+          again = now (again .entry);
+        })
+        (record {
+          answer = r;
+          scratch = now (scratch .exit);
+          state = now (state .exit);
+          out = now (out .exit);
+          twin = now (twin .exit);
+          again = now (again .exit);
+        }) ⌝ }
+{
+    let part = trace::trace(
+        n,
+        inputs,
+        latches,
+        outputs,
+        gates,
+        resets,
+        bads,
+        constraints,
+        scratch,
+        state,
+        vectors,
+        out,
+    );
+    let plain = trace_plain(
+        n,
+        inputs,
+        latches,
+        outputs,
+        gates,
+        resets,
+        bads,
+        constraints,
+        scratch,
+        twin,
+        vectors,
+        again,
+    );
+    if !same_answer(part, plain) {
+        return Compared::Differ;
+    }
+    if !same(state, twin) {
+        return Compared::Differ;
+    }
+    if !same(out, again) {
+        return Compared::Differ;
+    }
+    match part {
+        Traced::Lines(k) => Compared::Lines(k),
+        Traced::Refused(refusal) => Compared::Refused(refusal),
     }
 }
