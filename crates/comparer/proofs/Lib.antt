@@ -1,0 +1,2 @@
+-- What the proofs of the comparer use.
+pub mod Within
