@@ -86,6 +86,11 @@ void golvanzo_explain(const uint64_t *counts /* 7 words */, GOLVANZO_GIVEN, GOLV
                       size_t state_len, const uint8_t *ins, size_t ins_len, uint64_t output, uint8_t *marks,
                       size_t marks_len, uint64_t *answer /* 2 words */);
 
+/* The same by the plain engine: circuits of at most 24 gates, else 24, place their number, just after 15. */
+void golvanzo_step_plain(const uint64_t *counts /* 7 words */, GOLVANZO_GIVEN, GOLVANZO_SCRATCH, uint8_t *state,
+                         size_t state_len, const uint8_t *ins, size_t ins_len, uint8_t *outs, size_t outs_len,
+                         uint64_t *answer /* 2 words */);
+
 /* Whether every filling, by 0 or 1, of the x of the resets and of `number` input vectors, one after another in `bytes` (I
    bytes each), gives 1 on some output or bad state when stepped from the resets, every constraint being 1 at that step
    and at all before. The x of the resets are numbered first; filling k has bit i of k at x number i; fillings are tried

@@ -5,11 +5,11 @@ use mathlib.Core.List.{List}
 use Rattle.plan.specs.declared.Counts.{Counts}
 use Rattle.plan.specs.Circuit.{Tables}
 use Rattle.plan.specs.Given.{Given}
-use Rattle.plan.specs.Outcome.{CheckExit, FileEntry, FileExit, MakeEntry, MakeExit, StepExit, WitnessExit, checkedValues, writtenValues, madeValues, steppedValues, verdictValues, findingValues}
+use Rattle.plan.specs.Outcome.{CheckExit, FileEntry, FileExit, MakeEntry, MakeExit, StepExit, WitnessExit, checkedValues, writtenValues, madeValues, steppedValues, verdictValues, findingValues, StepEntry}
 use Rattle.plan.specs.Outcome as outcome
 use Rattle.trying.specs.Fillings.{FilledExit}
 use Rattle.trying.specs.Fillings as fillings
-use Rattle.desk.specs.Told.{CheckTold, check, FileTold, toldFile, MakeTold, toldMade, StepTold, step, WitnessTold, witness, witness3, ExplainTold, explain}
+use Rattle.desk.specs.Told.{CheckTold, check, FileTold, toldFile, MakeTold, toldMade, StepTold, step, WitnessTold, witness, witness3, ExplainTold, explain, toldStep}
 use Rattle.blame.specs.Explain.{ExplainExit}
 use Rattle.blame.specs.Explain as blame
 
@@ -41,14 +41,14 @@ made-told f g t n x answer e says told =
     ap (λ (a : List ℕ). record { answer = a; written = x .written; scratch = x .scratch }) told
     ∙ (ap toldMade says ∙ ap (λ (m : Counts). toldMade (f (record { circuit = counted g m; written = t }))) e)
 
-pub step-told : (g : Given) (state ins outs : List ℕ) (n : Counts) (x : StepExit) (answer : List ℕ) → n ≡ g .counts
-    → x ≡ outcome.step (record { circuit = counted g n; state = state; inputs = ins; outputs = outs }) → answer ≡ steppedValues (x .answer)
+-- a step, by whichever engine
+pub step-told : (f : StepEntry → StepExit) (g : Given) (state ins outs : List ℕ) (n : Counts) (x : StepExit) (answer : List ℕ) → n ≡ g .counts
+    → x ≡ f (record { circuit = counted g n; state = state; inputs = ins; outputs = outs }) → answer ≡ steppedValues (x .answer)
     → _≡_ {A = StepTold} (record { answer = answer; scratch = x .scratch; state = x .state; outputs = x .outputs })
-    (step (record { circuit = g; state = state; inputs = ins; outputs = outs }))
-step-told g state ins outs n x answer e says told =
+    (toldStep (f (record { circuit = g; state = state; inputs = ins; outputs = outs })))
+step-told f g state ins outs n x answer e says told =
     ap (λ (a : List ℕ). record { answer = a; scratch = x .scratch; state = x .state; outputs = x .outputs }) told
-    ∙ (ap (λ (y : StepExit). record { answer = steppedValues (y .answer); scratch = y .scratch; state = y .state; outputs = y .outputs }) says
-    ∙ ap (λ (m : Counts). step (record { circuit = counted g m; state = state; inputs = ins; outputs = outs })) e)
+    ∙ (ap toldStep says ∙ ap (λ (m : Counts). toldStep (f (record { circuit = counted g m; state = state; inputs = ins; outputs = outs }))) e)
 
 pub witness-told : (g : Given) (number : ℕ) (bytes : List ℕ) (allowance : ℕ) (n : Counts) (x : FilledExit) (answer : List ℕ) → n ≡ g .counts
     → x ≡ fillings.witness (record { list = record { circuit = counted g n; number = number; bytes = bytes }; allowance = allowance })

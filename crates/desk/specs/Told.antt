@@ -3,12 +3,13 @@ use Prim.Native.Nat.{ℕ}
 use mathlib.Core.List.{List}
 use Rattle.plan.specs.Given.{Given}
 use Rattle.plan.specs.Circuit.{Tables}
-use Rattle.plan.specs.Outcome.{FileEntry, FileExit, MakeEntry, MakeExit, StepEntry, WitnessEntry, checkedValues, writtenValues, madeValues, steppedValues, verdictValues, findingValues}
+use Rattle.plan.specs.Outcome.{FileEntry, FileExit, MakeEntry, MakeExit, StepEntry, WitnessEntry, checkedValues, writtenValues, madeValues, steppedValues, verdictValues, findingValues, StepExit}
 use Rattle.plan.specs.Outcome as outcome
 use Rattle.plan.specs.Drop as drop
 use Rattle.trying.specs.Fillings.{FilledEntry}
 use Rattle.trying.specs.Fillings as fillings
 use Rattle.blame.specs.Explain as blame
+use Rattle.plain.specs.Plain as plain
 
 pub record CheckTold : Type 0 where
   pub answer : List ℕ
@@ -50,15 +51,15 @@ reduction e = toldMade (outcome.reduction e)
 abbrev pub dropping : MakeEntry → MakeTold
 dropping e = toldMade (drop.dropping e)
 
--- the stepper
+-- both engines
 pub record StepTold : Type 0 where
   pub answer : List ℕ
   pub scratch : List ℕ
   pub state : List ℕ
   pub outputs : List ℕ
 
-abbrev pub step : StepEntry → StepTold
-step e = let x = outcome.step e in record { answer = steppedValues (x .answer); scratch = x .scratch; state = x .state; outputs = x .outputs }
+abbrev pub toldStep : StepExit → StepTold
+toldStep x = record { answer = steppedValues (x .answer); scratch = x .scratch; state = x .state; outputs = x .outputs }
 
 -- the explainer
 pub record ExplainTold : Type 0 where
@@ -68,6 +69,12 @@ pub record ExplainTold : Type 0 where
 
 abbrev pub explain : blame.ExplainEntry → ExplainTold
 explain e = let x = blame.explain e in record { answer = steppedValues (x .answer); scratch = x .scratch; marks = x .marks }
+
+abbrev pub step : StepEntry → StepTold
+step e = toldStep (outcome.step e)
+
+abbrev pub stepPlain : StepEntry → StepTold
+stepPlain e = toldStep (plain.plainStep e)
 
 -- the witness question
 pub record WitnessTold : Type 0 where

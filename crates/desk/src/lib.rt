@@ -5,7 +5,7 @@ ghost use Rattle.plan.specs.Circuit.{seven};
 ghost use Rattle.plan.specs.Header.{wordsFor, countsFrom};
 ghost use Rattle.plan.specs.Outcome.{Says, read, read2007};
 ghost use Rattle.given.specs.Judged.{givenAt};
-ghost use Rattle.desk.specs.Told.{check, writeText, writeBinary, conversion, reduction, dropping, step, witness, witness3, explain};
+ghost use Rattle.desk.specs.Told.{check, writeText, writeBinary, conversion, reduction, dropping, step, witness, witness3, explain, stepPlain};
 ghost use Rattle.desk.specs.Reported.{report};
 ghost use Rattle.desk.specs.RowsTold.{stepRows, reportRows};
 use plan::Version;
@@ -552,6 +552,53 @@ pub extern "C" fn golvanzo_explain(
         ins,
         output as usize,
         marks,
+    );
+    told::stepped(r, answer);
+}
+
+// The same by the plain engine, for at most 24 gates.
+#[no_mangle]
+pub extern "C" fn golvanzo_step_plain(
+    counts: &[u64; 7],
+    inputs: &[u32],
+    latches: &[u32],
+    outputs: &[u32],
+    gates: &[u32],
+    resets: &[u32],
+    bads: &[u32],
+    constraints: &[u32],
+    scratch: &mut [u32],
+    state: &mut [u8],
+    ins: &[u8],
+    outs: &mut [u8],
+    answer: &mut [u64; 2],
+)
+    ensures { λ _. ⌜ Says stepPlain
+        (record {
+          circuit = givenAt (countsFrom (now (counts .entry)))
+              (seven (now (inputs .entry)) (now (latches .entry)) (now (outputs .entry)) (now (gates .entry)) (now (resets .entry)) (now (bads .entry))
+              (now (constraints .entry)))
+              (now (scratch .entry));
+          state = now (state .entry);
+          inputs = now (ins .entry);
+          outputs = now (outs .entry);
+        })
+        (record { answer = now (answer .exit); scratch = now (scratch .exit); state = now (state .exit); outputs = now (outs .exit) }) ⌝ }
+{
+    let n = told::counts(counts);
+    let r = plain::step_plain(
+        n,
+        inputs,
+        latches,
+        outputs,
+        gates,
+        resets,
+        bads,
+        constraints,
+        scratch,
+        state,
+        ins,
+        outs,
     );
     told::stepped(r, answer);
 }

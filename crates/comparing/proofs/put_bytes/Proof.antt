@@ -26,7 +26,7 @@ returns c =
     let s = a .before .before .before .before in (
       omega (arith, a .append .ensures .0),
       ap₂ (λ (l : List ℕ) (k : ℕ). set l k (s .args .last)) (a .append .ensures .1) (a .append .ensures .0)
-      ∙ put-last (s .args .out .now) (s .args .at) (s .args .bytes .now) (s .args .last) (s .pre),
+          ∙ put-last (s .args .out .now) (s .args .at) (s .args .bytes .now) (s .args .last) (s .pre),
     )
 
 pub put-bytes-spec : {M : Type 1} → statement M

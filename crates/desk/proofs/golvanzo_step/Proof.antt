@@ -4,7 +4,7 @@ use Rattle.plan.specs.Circuit.{seven}
 use Rattle.plan.specs.Header.{countsFrom}
 use Rattle.plan.specs.Given.{Given}
 use Rattle.given.specs.Judged.{givenAt}
-use Rattle.plan.specs.Outcome.{StepExit}
+use Rattle.plan.specs.Outcome.{StepExit, step}
 use Rattle.desk.proofs.Answers.{step-told}
 use Rattle.desk.proofs.golvanzo_step.Statement.{statement}
 use Rattle.desk.proofs.golvanzo_step.Tie as tie
@@ -43,7 +43,7 @@ returns c =
       state = l .1 .1 .1 .1 .1 .1 .1 .1 .1 .0;
       outputs = l .1 .1 .1 .1 .1 .1 .1 .1 .1 .1 .1 .0;
     } in
-    step-told g (a .state .now) (a .ins .now) (a .outs .now) _ x _ (counts′ .ensures) (stepped .ensures) (c .stepped .ensures)
+    step-told step g (a .state .now) (a .ins .now) (a .outs .now) _ x _ (counts′ .ensures) (stepped .ensures) (c .stepped .ensures)
 
 pub golvanzo-step-spec : {M : Type 1} → statement M
 golvanzo-step-spec =
