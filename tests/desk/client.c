@@ -243,8 +243,8 @@ static void unused_gates(void) {
     expect(to.answer[0] == 15 && to.answer[1] == 0, "15 at 0", "drop");
 }
 
-/* The tracer's four lines for T. */
-static void trace(void) {
+/* The tracer's four lines for T, by one of the engines. */
+static void trace(__typeof__(golvanzo_step) *engine, const char *of) {
     static const char *const lines[4] = {"0 11 01 1", "1 11 10 0", "0 x1 01 x", "x 10 xx 0"};
     struct circuit c = read_file(FILE_OF(toggle_binary));
     struct bytes state = FILE_OF("0"), outs = FILE_OF("??");
@@ -253,9 +253,9 @@ static void trace(void) {
         struct bytes ins = bytes_of(lines[k] + 2, 2);
         char line[10];
         line[0] = (char)state.at[0];
-        golvanzo_step(COUNTS(c), SEVEN(c), TABLE(c, SCRATCH), state.at, 1, ins.at, 2, outs.at, 2, answer);
+        engine(COUNTS(c), SEVEN(c), TABLE(c, SCRATCH), state.at, 1, ins.at, 2, outs.at, 2, answer);
         snprintf(line + 1, sizeof line - 1, " %.2s %.2s %c", (char *)ins.at, (char *)outs.at, state.at[0]);
-        expect(answer[0] == 0 && strcmp(line, lines[k]) == 0, lines[k], "step");
+        expect(answer[0] == 0 && strcmp(line, lines[k]) == 0, lines[k], of);
     }
 }
 
@@ -296,6 +296,42 @@ static void needles(void) {
     not_explained("1110", UINT64_MAX, 4, 17, 1);
     not_explained("1xx1", 0, 0, 17, 2);
     not_explained("1110", 0, 3, 11, 4);
+}
+
+/* A binary file with one input and a chain of gates, each the And of the one below with itself; the last is the output. */
+static struct bytes chain(int gates) {
+    char head[64];
+    int length = snprintf(head, sizeof head, "aig %d 1 0 1 %d\n%d\n", 1 + gates, gates, 2 + 2 * gates);
+    struct bytes file = {lend((size_t)length + 2 * (size_t)gates), (size_t)length + 2 * (size_t)gates};
+    memcpy(file.at, head, (size_t)length);
+    for (int k = 0; k < gates; k++)
+        memcpy(file.at + length + 2 * k, "\x02\x00", 2);
+    return file;
+}
+
+/* The plain engine: 0, 1, 24 and 25 gates, the order of its refusals, and latches that take their values at once. */
+static void plain_engine(void) {
+    static const int sizes[4] = {0, 1, 24, 25};
+    uint64_t answer[2];
+    for (int k = 0; k < 4; k++) {
+        struct circuit c = read_file(chain(sizes[k]));
+        struct bytes in = FILE_OF("1"), out = FILE_OF("?");
+        golvanzo_step_plain(COUNTS(c), SEVEN(c), TABLE(c, SCRATCH), NULL, 0, in.at, 1, out.at, 1, answer);
+        if (sizes[k] <= 24)
+            expect(answer[0] == 0 && out.at[0] == '1', "up to 24 gates are stepped", "step_plain");
+        else
+            expect(answer[0] == 24 && answer[1] == 25 && out.at[0] == '?', "24 at 25", "step_plain");
+        expect(all_zero(c.table[SCRATCH], c.words[SCRATCH]), "scratch is zero", "step_plain");
+        golvanzo_step_plain(COUNTS(c), SEVEN(c), TABLE(c, SCRATCH), NULL, 0, in.at, 0, out.at, 1, answer);
+        expect(answer[0] == (sizes[k] <= 24 ? 12 : 24), "24 comes before 12", "step_plain");
+    }
+    struct circuit c = read_file(FILE_OF("aag 2 0 2 2 0\n2 4\n4 2\n2\n4\n"));
+    struct bytes state = FILE_OF("01"), outs = FILE_OF("??");
+    golvanzo_step_plain(COUNTS(c), SEVEN(c), TABLE(c, SCRATCH), state.at, 2, NULL, 0, outs.at, 2, answer);
+    expect(memcmp(state.at, "10", 2) == 0 && memcmp(outs.at, "01", 2) == 0, "latches exchange", "step_plain");
+    c = read_file(FILE_OF(toggle_text));
+    golvanzo_step_plain(COUNTS(c), SEVEN(c), TABLE(c, SCRATCH), state.at, 1, outs.at, 2, outs.at, 2, answer);
+    expect(answer[0] == 15 && answer[1] == 0, "15 at 0", "step_plain");
 }
 
 static void witness3(struct circuit c, uint64_t number, struct bytes list, uint64_t says, const char *what) {
@@ -549,13 +585,15 @@ int main(void) {
     aiger_19();
     contradiction();
     unused_gates();
-    trace();
     reports();
     witnesses3();
     fillings();
     fillings_of_starts();
     rows();
     needles();
+    trace(golvanzo_step, "step");
+    trace(golvanzo_step_plain, "step_plain");
+    plain_engine();
     refusals();
     table_refusals();
     little_scratch();

@@ -5,3 +5,4 @@ pub mod Asking
 pub mod Filling
 pub mod Beyond
 pub mod Answers
+pub mod Examples
