@@ -3,3 +3,4 @@ pub mod Lines
 pub mod Running
 pub mod Answers
 pub mod Parting
+pub mod Printed
