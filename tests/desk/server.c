@@ -20,6 +20,7 @@
    14 rows      given, u64 rows, next states, inputs, outputs, answer     all of these but the number
    15 rowreport given, table 6, u64 rows, inputs, answer                  all of these but the number
    16 explain   given, u64 output, state, inputs, marks, answer           all of these but the number
+   17 plain     as step                                                   as step
 
    Given are counts, a circuit's tables (1 to 4, 7 to 9) and scratch. What these are is said in wire.h. */
 #include <stdint.h>
@@ -90,10 +91,13 @@ static void call_change(change *change) {
     put_memory(answer);
 }
 
-static void call_step(void) {
+typedef void stepper(const uint64_t *, GOLVANZO_GIVEN, GOLVANZO_SCRATCH, uint8_t *, size_t, const uint8_t *, size_t,
+                     uint8_t *, size_t, uint64_t *);
+
+static void call_step(stepper *step) {
     struct given given = get_given();
     struct memory state = get_vector(), ins = get_vector(), outs = get_vector(), answer = get_numbers();
-    golvanzo_step(CIRCUIT_OF(given), LENT(given.scratch), LENT(state), LENT(ins), LENT(outs), answer.lent);
+    step(CIRCUIT_OF(given), LENT(given.scratch), LENT(state), LENT(ins), LENT(outs), answer.lent);
     put_given(given);
     put_memory(state);
     put_memory(ins);
@@ -188,7 +192,7 @@ int main(void) {
             call_change(golvanzo_reduce);
             break;
         case 8:
-            call_step();
+            call_step(golvanzo_step);
             break;
         case 9:
             call_witness();
@@ -213,6 +217,9 @@ int main(void) {
             break;
         case 16:
             call_explain();
+            break;
+        case 17:
+            call_step(golvanzo_step_plain);
             break;
         default:
             give_up("no such call");

@@ -6,6 +6,7 @@ pub mod convert;
 pub mod explain;
 pub mod fillings;
 pub mod meaning;
+pub mod plain;
 pub mod programs;
 pub mod read;
 pub mod reduce;

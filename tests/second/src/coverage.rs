@@ -13,6 +13,9 @@ use crate::spelling::Spelling;
 use crate::tally::Tally;
 use places::{PlaceCoverage, OF_FILES};
 
+/// One more than the largest number of a refusal.
+pub const NUMBERS: usize = 25;
+
 /// Cases that each refusal of a call must have at least.
 const PER_REFUSAL: u64 = 200;
 
@@ -26,9 +29,9 @@ const REFUSALS: [&[u64]; 2] = [
 pub struct Coverage {
     cases: u64,
     /// By version, at the refusal's number: in text, in binary.
-    refused: [[[u64; 2]; 22]; 2],
+    refused: [[[u64; 2]; NUMBERS]; 2],
     /// Those of them whose answer the generator knew.
-    promised: [[u64; 22]; 2],
+    promised: [[u64; NUMBERS]; 2],
     without_gates: [u64; 2],
     with_gates: [u64; 2],
     /// Kinds of accepted files.

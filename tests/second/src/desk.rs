@@ -1,6 +1,6 @@
 //! The calls on tables, each on cases of its own.
 
-use crate::aiger::step;
+use crate::aiger::{step, Refusal};
 use crate::compare::tables::{after, ask, circuit, judge, outcome};
 use crate::coverage::calls::CallCoverage;
 use crate::ensure;
@@ -63,10 +63,13 @@ fn begin(options: &Options, library: Option<&dyn Library>, call: Call, number: u
     }
 }
 
-/// A call that must agree: a step with x at every place that an explanation does not mark.
+/// A call that must agree: a step with x at every place that an explanation does not mark, and one that the plain engine
+/// makes too.
 fn also(call: Call, before: &Lent, after: &Lent) -> Option<(Call, Lent)> {
     match (call, outcome(after)) {
         (Call::Explain, Ok(())) => Some((Call::Step, unmarked(before, after))),
+        (Call::StepPlain, Err(Refusal { number: 24, .. })) => None,
+        (Call::StepPlain, _) => Some((Call::Step, before.clone())),
         _ => None,
     }
 }
@@ -126,9 +129,13 @@ impl Begun {
 
     /// Whether the other call says what it must.
     fn agrees(&self) -> Result<(), String> {
-        let (Call::Explain, Some(step)) = (self.call, &self.also) else {
+        let Some(step) = &self.also else {
             return Ok(());
         };
+        if self.call == Call::StepPlain {
+            ensure!(*step == self.expected, "the stepper leaves {step:?}");
+            return Ok(());
+        }
         let (lent, output) = (&self.case.lent, self.case.lent.number() as usize);
         let values = step::values(&circuit(lent), lent.bytes[0].lent(), lent.bytes[1].lent());
         let value = step::value(&values, lent.tables[2].lent()[output]);

@@ -39,8 +39,10 @@ pub fn run(tally: &mut Tally, library: &dyn Library) {
 
 fn values(library: &dyn Library, byte: u8) -> Result<(), String> {
     for other in *b"01x" {
-        compare(library, Call::Step, &lent(Call::Step, &[&[byte], &[other], b"?"]))?;
-        compare(library, Call::Step, &lent(Call::Step, &[&[other], &[byte], b"?"]))?;
+        for call in [Call::Step, Call::StepPlain] {
+            compare(library, call, &lent(call, &[&[byte], &[other], b"?"]))?;
+            compare(library, call, &lent(call, &[&[other], &[byte], b"?"]))?;
+        }
         for (call, numbers) in [
             (Call::Witness, vec![3, 5]),
             (Call::Witness3, vec![3]),

@@ -2,6 +2,7 @@
 
 use crate::aiger::convert::convert;
 use crate::aiger::fillings::MOST_X;
+use crate::aiger::plain::MOST_GATES;
 use crate::aiger::report::MOST_STEPS;
 use crate::aiger::rows::LANES;
 use crate::aiger::{literal, meaning, read, step, write, Circuit, Form, Version};
@@ -27,6 +28,13 @@ fn chain(a: usize) -> Circuit {
         gates: (1..=a).map(|below| [literal(below + 1), literal(below), 2]).collect(),
         ..Circuit::default()
     }
+}
+
+/// As many gates as the plain engine takes, each asking for the one below it twice.
+fn doubling() -> Circuit {
+    let mut circuit = chain(MOST_GATES as usize);
+    circuit.gates.iter_mut().for_each(|gate| gate[2] = gate[1]);
+    circuit
 }
 
 /// The chain with its output in the middle: nothing uses the gates above.
@@ -86,6 +94,11 @@ fn compared(library: &dyn Library, a: usize) -> Result<(), String> {
     [MOST_STEPS, MOST_STEPS + 1]
         .into_iter()
         .try_for_each(|number| reported(library, number))?;
+    let mut plain = given::lend(Call::StepPlain, &given::exactly(Call::StepPlain, &doubling()), JUNK);
+    plain.bytes = [&b""[..], b"1", b"?"]
+        .map(|vector| Memory::around(vector, JUNK))
+        .to_vec();
+    tables::compare(library, Call::StepPlain, &plain)?;
     let mut explain = given::lend(Call::Explain, &given::exactly(Call::Explain, &chain(a)), JUNK);
     explain.numbers = vec![0];
     explain.bytes = [&b""[..], b"1", b"?"]

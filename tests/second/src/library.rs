@@ -53,10 +53,11 @@ pub enum Call {
     Rows,
     ReportRows,
     Explain,
+    StepPlain,
 }
 
 impl Call {
-    pub const ALL: [Call; 13] = [
+    pub const ALL: [Call; 14] = [
         Call::Check,
         Call::WriteText,
         Call::WriteBinary,
@@ -70,6 +71,7 @@ impl Call {
         Call::Rows,
         Call::ReportRows,
         Call::Explain,
+        Call::StepPlain,
     ];
 
     pub fn named(name: &str) -> Option<Call> {
@@ -91,6 +93,7 @@ impl Call {
             Call::Rows => "rows",
             Call::ReportRows => "report-rows",
             Call::Explain => "explain",
+            Call::StepPlain => "step-plain",
         }
     }
 
@@ -101,6 +104,7 @@ impl Call {
             Call::Reduce | Call::Drop => &[2, 3, 4, 5, 6, 7, 8, 15],
             Call::Step | Call::Witness3 => &[2, 3, 4, 5, 6, 7, 8, 12, 15],
             Call::Witness => &[2, 3, 4, 5, 6, 7, 8, 12, 15, 20],
+            Call::StepPlain => &[2, 3, 4, 5, 6, 7, 8, 12, 15, 24],
             Call::Explain => &[2, 3, 4, 5, 6, 7, 8, 11, 12, 15, 17],
             Call::Report | Call::Rows | Call::ReportRows => &[2, 3, 4, 5, 6, 7, 8, 12, 13, 15],
             Call::WriteText => &[1, 2, 3, 4, 5, 6, 7, 8, 10, 11],
@@ -116,7 +120,8 @@ impl Call {
     /// The length of its answer: number, place, values.
     pub fn answers(self) -> u64 {
         match self {
-            Call::Check | Call::Step | Call::Report | Call::Rows | Call::ReportRows | Call::Explain => 2,
+            Call::Check | Call::Step | Call::StepPlain | Call::Explain => 2,
+            Call::Report | Call::Rows | Call::ReportRows => 2,
             Call::WriteText | Call::WriteBinary | Call::Witness3 => 3,
             Call::Witness => 4,
             Call::Convert | Call::Reduce | Call::Drop => 9,
@@ -125,7 +130,7 @@ impl Call {
 
     /// Whether its values are counted.
     pub fn takes_vectors(self) -> bool {
-        matches!(self, Call::Step | Call::Witness3)
+        matches!(self, Call::Step | Call::StepPlain | Call::Witness3)
     }
 
     /// Whether it is lent a circuit's tables for writing.
@@ -155,7 +160,7 @@ pub struct Lent {
     /// How many vectors, of the witness questions, of a report and of rows; of that of fillings the allowance too.
     /// Of an explanation the output's number.
     pub numbers: Vec<u64>,
-    /// Of a writer the tail and the buffer; of the stepper state, inputs, outputs; of the witness questions and of a
+    /// Of a writer the tail and the buffer; of a stepper state, inputs, outputs; of the witness questions and of a
     /// report the list; of rows next states, inputs, outputs; of an explanation state, inputs, marks.
     pub bytes: Vec<Memory<u8>>,
     pub answer: Memory<u64>,

@@ -37,6 +37,7 @@ fn number(call: Call) -> u32 {
         Call::Rows => 14,
         Call::ReportRows => 15,
         Call::Explain => 16,
+        Call::StepPlain => 17,
     }
 }
 

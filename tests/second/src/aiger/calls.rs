@@ -1,7 +1,8 @@
 //! The calls that are given tables, each with all of its refusals in the paper's order: 2 to 8, 15, the tail
-//! by 1 and 10, 13, 12, 17 or 20, 11.
+//! by 1 and 10, 24, 13, 12, 17 or 20, 11.
 
 use super::fillings::{self, Verdict, MOST_X};
+use super::plain::{self, MOST_GATES};
 use super::report::{self, Numbers, MOST_STEPS};
 use super::rows::{self, Rows, LANES};
 use super::step::{self, Step};
@@ -44,6 +45,26 @@ pub fn step(given: &Given, state: &[u8], input: &[u8], output: u64) -> Result<St
         return refuse(12, 3);
     }
     Ok(step::step(&circuit, state, input))
+}
+
+/// The same by the plain engine.
+pub fn step_plain(given: &Given, state: &[u8], input: &[u8], output: u64) -> Result<Step, Refusal> {
+    let circuit = in_order(given)?;
+    few_gates(&circuit)?;
+    state_and_input(given, state, input)?;
+    if output != given.counts.o {
+        return refuse(12, 3);
+    }
+    Ok(plain::step(&circuit, state, input))
+}
+
+/// 24: more gates than the plain engine takes.
+pub fn few_gates(circuit: &Circuit) -> Result<(), Refusal> {
+    let gates = circuit.gates.len();
+    if gates as u64 > MOST_GATES {
+        return refuse(24, gates);
+    }
+    Ok(())
 }
 
 /// 12, the state before the input.

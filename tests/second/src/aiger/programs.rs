@@ -1,6 +1,6 @@
 //! The programs: from `plan.in` and standard input to every byte that they write.
 
-use super::calls::are_values;
+use super::calls::{are_values, few_gates};
 use super::{convert, read, reduce, refuse, report, step, tables, write, Circuit, Form, Lengths, Refusal, Version};
 
 #[derive(Clone, Copy, Debug, PartialEq, Eq, PartialOrd)]
@@ -9,10 +9,17 @@ pub enum Program {
     Reducer,
     Tracer,
     Reporter,
+    Comparer,
 }
 
 impl Program {
-    pub const ALL: [Program; 4] = [Program::Converter, Program::Reducer, Program::Tracer, Program::Reporter];
+    pub const ALL: [Program; 5] = [
+        Program::Converter,
+        Program::Reducer,
+        Program::Tracer,
+        Program::Reporter,
+        Program::Comparer,
+    ];
 
     pub fn name(self) -> &'static str {
         match self {
@@ -20,6 +27,7 @@ impl Program {
             Program::Reducer => "reducer",
             Program::Tracer => "tracer",
             Program::Reporter => "reporter",
+            Program::Comparer => "comparer",
         }
     }
 
@@ -35,14 +43,16 @@ impl Program {
 
     /// Whether it reads vectors from standard input.
     pub fn reads_vectors(self) -> bool {
-        matches!(self, Program::Tracer | Program::Reporter)
+        matches!(self, Program::Tracer | Program::Reporter | Program::Comparer)
     }
 
-    /// The refusals that it can give. The tracer and the reporter write line by line, so no buffer is too short for them.
+    /// The refusals that it can give. Those that read vectors write line by line, so no buffer is too short for
+    /// them.
     pub fn refusals(self) -> &'static [u64] {
         match self {
             Program::Converter | Program::Reducer => &[1, 2, 3, 4, 5, 6, 7, 8, 9, 10, 11, 13, 14, 16, 21],
             Program::Tracer | Program::Reporter => &[1, 2, 3, 4, 5, 6, 7, 8, 9, 10, 12, 13, 14, 16, 21],
+            Program::Comparer => &[1, 2, 3, 4, 5, 6, 7, 8, 9, 10, 12, 13, 14, 16, 21, 24],
         }
     }
 }
@@ -73,7 +83,8 @@ pub fn answer(program: Program, plan: Option<&[u8]>, input: Option<&[u8]>) -> Re
             Form::Binary => written(&circuit, Form::Text),
         },
         Program::Reducer => written(&reduce::reduce(&converted()), Form::Binary),
-        Program::Tracer => Ok(trace(&converted(), &vectors()?)),
+        // Both engines give the tracer's lines; that they part, and "differ" is written, can't be.
+        Program::Tracer | Program::Comparer => Ok(trace(&converted(), &vectors()?)),
         Program::Reporter => Ok(needles(&converted(), &vectors()?)),
     }
 }
@@ -86,6 +97,9 @@ pub fn opened(program: Program, plan: Option<&[u8]>) -> Result<(&[u8], Circuit, 
     tables::lengths(&counts.words(), &LENT)?;
     if program == Program::Reporter && 4 * (counts.o + counts.l) > SIXTH {
         return refuse(4, 6);
+    }
+    if program == Program::Comparer {
+        few_gates(&circuit)?;
     }
     Ok((file, circuit, &file[tail..]))
 }

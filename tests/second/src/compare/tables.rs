@@ -1,5 +1,6 @@
 //! Holds a library to this program's outcome of a call on tables: the answer, and every element of all that was lent.
 
+use crate::aiger::step::Step;
 use crate::aiger::tables::{self, Given, Sixth};
 use crate::aiger::{calls, Circuit, Counts, Refusal, CIRCUIT};
 use crate::library::{Call, Lent, Library, Question, Reply};
@@ -69,7 +70,12 @@ pub fn after(call: Call, before: &Lent) -> Lent {
         Call::Convert => changed(&mut after, calls::convert(&given)),
         Call::Reduce => changed(&mut after, calls::reduce(&given)),
         Call::Drop => changed(&mut after, calls::drop_unused(&given)),
-        Call::Step => stepped(&mut after, &given),
+        Call::Step => stepped(&mut after, |state, input, output| {
+            calls::step(&given, state, input, output)
+        }),
+        Call::StepPlain => stepped(&mut after, |state, input, output| {
+            calls::step_plain(&given, state, input, output)
+        }),
         Call::Witness => {
             let allowance = before.numbers[1];
             let verdict = calls::witness(&given, before.number(), before.bytes[0].lent(), allowance);
@@ -127,11 +133,11 @@ fn reported(after: &mut Lent, report: Result<Vec<u32>, Refusal>) {
 }
 
 /// The next state is written over the state; a refusal changes neither that nor the outputs.
-fn stepped(after: &mut Lent, given: &Given) {
+fn stepped(after: &mut Lent, step: impl Fn(&[u8], &[u8], u64) -> Result<Step, Refusal>) {
     let [state, input, output] = after.bytes.as_mut_slice() else {
         unreachable!("a step has three vectors");
     };
-    let step = calls::step(given, state.lent(), input.lent(), output.lent().len() as u64);
+    let step = step(state.lent(), input.lent(), output.lent().len() as u64);
     if let Ok(step) = &step {
         state.lent_mut().copy_from_slice(&step.next);
         output.lent_mut().copy_from_slice(&step.output);

@@ -3,7 +3,7 @@
 use super::kinds::KindCoverage;
 use super::places::{PlaceCoverage, OF_TABLES, SIXTH};
 use super::vectors::VectorCoverage;
-use super::{at_least, PER_REFUSAL};
+use super::{at_least, NUMBERS, PER_REFUSAL};
 use crate::compare::tables::outcome;
 use crate::generate::given::TablesCase;
 use crate::library::{Call, Lent};
@@ -13,9 +13,9 @@ pub struct CallCoverage {
     call: Call,
     cases: u64,
     /// At the refusal's number; at 0 accepted.
-    answered: [u64; 22],
+    answered: [u64; NUMBERS],
     /// Those of them whose answer the generator knew.
-    promised: [u64; 22],
+    promised: [u64; NUMBERS],
     /// Accepted with A > 0.
     with_gates: u64,
     /// Accepted by conversion or reduction, and the gates became others.
@@ -30,8 +30,8 @@ impl CallCoverage {
         CallCoverage {
             call,
             cases: 0,
-            answered: [0; 22],
-            promised: [0; 22],
+            answered: [0; NUMBERS],
+            promised: [0; NUMBERS],
             with_gates: 0,
             changed: 0,
             vectors: VectorCoverage::default(),

@@ -2,6 +2,7 @@
 
 mod fillings;
 mod marks;
+mod plain;
 mod reports;
 mod rows;
 
@@ -26,6 +27,7 @@ fn of(call: Call) -> &'static [Kind] {
         Call::Report => reports::KINDS,
         Call::Rows => rows::KINDS,
         Call::Explain => marks::KINDS,
+        Call::StepPlain => plain::KINDS,
         Call::ReportRows => rows::OF_REPORTS,
         Call::Witness => fillings::KINDS,
         _ => &[],

@@ -1,6 +1,6 @@
 //! The answers of the programs' runs.
 
-use super::at_least;
+use super::{at_least, NUMBERS};
 use crate::aiger::programs::{answer, opened, Program, LENT, LONGEST};
 use crate::aiger::{read, Form, Refusal, Version};
 use crate::generate::runs::Run;
@@ -19,7 +19,7 @@ const MANY: usize = 20_000;
 #[derive(Default)]
 pub struct RunCoverage {
     /// By program and the refusal's number; at 0 accepted.
-    answered: [[u64; 22]; PROGRAMS],
+    answered: [[u64; NUMBERS]; PROGRAMS],
     /// Accepted by program, in text and in binary.
     forms: [[u64; 2]; PROGRAMS],
     foretold: u64,
@@ -37,7 +37,7 @@ const PROGRAMS: usize = Program::ALL.len();
 #[derive(Default)]
 struct Traces {
     /// By the refusal of standard input.
-    refused: [u64; 22],
+    refused: [u64; NUMBERS],
     without_lines: u64,
     without_inputs: u64,
     many_lines: u64,
@@ -84,7 +84,7 @@ impl RunCoverage {
         }
     }
 
-    fn report_program(&self, tally: &mut Tally, program: Program, answered: &[u64; 22]) {
+    fn report_program(&self, tally: &mut Tally, program: Program, answered: &[u64; NUMBERS]) {
         let name = program.name();
         let [text, binary] = self.forms[program as usize];
         let refusals = program.refusals();
@@ -103,7 +103,7 @@ impl RunCoverage {
             tally.check(&format!("{name}, refusal {number}"), at_least(count, PER_KIND));
         }
         for (form, count) in [(Form::Text, text), (Form::Binary, binary)] {
-            let needed = FEWEST_ACCEPTED / if program.is_new() { 30 } else { 10 };
+            let needed = FEWEST_ACCEPTED / if program.is_new() { 50 } else { 10 };
             tally.check(&format!("{name}, accepted, {form:?}"), at_least(count, needed));
         }
     }

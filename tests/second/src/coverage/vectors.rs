@@ -1,4 +1,4 @@
-//! What the accepted cases of the stepper and of the witness question in three values had.
+//! What the accepted cases of the steppers and of the witness question in three values had.
 
 use super::at_least;
 use crate::aiger::{step, Circuit, Refusal};
@@ -64,13 +64,13 @@ pub fn list_of<'a>(lent: &'a Lent, buffer: usize, circuit: &Circuit) -> Vec<&'a 
 impl VectorCoverage {
     pub fn add(&mut self, call: Call, before: &Lent, after: &Lent) {
         match (call, outcome(after)) {
-            (Call::Step, Ok(())) => {
+            (Call::Step | Call::StepPlain, Ok(())) => {
                 let output = after.bytes[2].lent();
                 for (count, value) in self.outputs.iter_mut().zip(b"01x") {
                     *count += u64::from(output.contains(value));
                 }
             }
-            (Call::Step, Err(Refusal { number: 12, place })) => {
+            (Call::Step | Call::StepPlain, Err(Refusal { number: 12, place })) => {
                 self.places[place as usize - 1] += 1;
                 return;
             }

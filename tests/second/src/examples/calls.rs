@@ -15,9 +15,9 @@ pub fn called(library: &dyn Library, circuit: &Circuit, tail: &[u8], list: &[&[u
         match call {
             Call::WriteText => compare(library, call, &writing(call, Form::Text, circuit, tail))?,
             Call::WriteBinary => compare(library, call, &writing(call, form(circuit), circuit, tail))?,
-            Call::Step => {
+            Call::Step | Call::StepPlain => {
                 for ((state, _), input) in step::run(circuit, list.iter().copied()).zip(list) {
-                    compare(library, call, &stepping(circuit, &state, input))?;
+                    compare(library, call, &stepping(call, circuit, &state, input))?;
                 }
             }
             Call::Explain => {
@@ -74,8 +74,8 @@ fn writing(call: Call, form: Form, circuit: &Circuit, tail: &[u8]) -> Lent {
     lent
 }
 
-fn stepping(circuit: &Circuit, state: &[u8], input: &[u8]) -> Lent {
-    let mut lent = exactly(Call::Step, circuit, &[state, input]);
+fn stepping(call: Call, circuit: &Circuit, state: &[u8], input: &[u8]) -> Lent {
+    let mut lent = exactly(call, circuit, &[state, input]);
     lent.bytes.push(Memory::junk(circuit.outputs.len() as u64, JUNK));
     lent
 }

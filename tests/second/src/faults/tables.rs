@@ -17,7 +17,7 @@ use marks::MARKS;
 use reports::REPORT;
 use rows::{ROWS, ROW_REPORT};
 use slips::{Slip, ANY, CHANGES, WRITERS};
-use vectors::{STEPPER, WITNESS};
+use vectors::{PLAIN, STEPPER, WITNESS};
 
 fn slips(call: Call) -> Vec<(&'static str, Slip)> {
     match call {
@@ -25,6 +25,7 @@ fn slips(call: Call) -> Vec<(&'static str, Slip)> {
         Call::WriteText | Call::WriteBinary => [ANY, WRITERS].concat(),
         Call::Convert | Call::Reduce | Call::Drop => [ANY, CHANGES].concat(),
         Call::Step => [ANY, STEPPER].concat(),
+        Call::StepPlain => [ANY, STEPPER, PLAIN].concat(),
         Call::Witness => [ANY, FILLINGS].concat(),
         Call::Witness3 => [ANY, WITNESS].concat(),
         Call::Report => [ANY, REPORT].concat(),

@@ -11,6 +11,7 @@ mod writing;
 
 use super::circuit;
 use super::lend::enough;
+use crate::aiger::plain::MOST_GATES;
 use crate::aiger::tables::{Given, Sixth};
 use crate::aiger::{apart, with_scratch, Circuit, Counts, Form, Refusal};
 use crate::library::{Call, Lent};
@@ -66,6 +67,9 @@ pub fn case(call: Call, seed: u64, number: u64) -> TablesCase {
         size.o = size.o.min(1);
         size.b = size.b.min(2);
     }
+    if call == Call::StepPlain && size.i + size.unused < 100_000 {
+        size.a = few_gates(&mut random, size.a);
+    }
     let mut circuit = circuit::circuit(&mut random, form, &size);
     if call == Call::Witness {
         fillings::settle(&mut random, &mut circuit);
@@ -82,6 +86,7 @@ pub fn case(call: Call, seed: u64, number: u64) -> TablesCase {
         Call::WriteText => writing::add(&mut random, Form::Text, &circuit, &mut case),
         Call::WriteBinary => writing::add(&mut random, Form::Binary, &circuit, &mut case),
         Call::Step => vectors::step(&mut random, &circuit, &mut case),
+        Call::StepPlain => vectors::step_plain(&mut random, &circuit, &mut case),
         Call::Witness => fillings::add(&mut random, &circuit, &mut case),
         Call::Witness3 => vectors::witness(&mut random, &circuit, &mut case),
         Call::Report => vectors::report(&mut random, &circuit, &mut case),
@@ -102,6 +107,19 @@ pub fn exactly(call: Call, circuit: &Circuit) -> Given {
             length: needed(&given.counts),
         }),
         ..given
+    }
+}
+
+/// Mostly few enough for the plain engine, often on the line of what it takes.
+fn few_gates(random: &mut Random, any: usize) -> usize {
+    let most = MOST_GATES as usize;
+    match random.below(16) {
+        0 => 0,
+        1 => 1,
+        2 | 3 => most,
+        4 => most + 1,
+        5 => random.between(most + 1, 60),
+        _ => any.min(most - 1),
     }
 }
 

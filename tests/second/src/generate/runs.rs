@@ -58,10 +58,10 @@ pub struct Run {
 const APART: u64 = 1 << 62;
 
 /// The programs take turns, those of the base more often.
-const TURNS: [Program; 10] = {
+const TURNS: [Program; 11] = {
     use Program::*;
     [
-        Converter, Reducer, Tracer, Converter, Reducer, Tracer, Converter, Reducer, Tracer, Reporter,
+        Converter, Reducer, Tracer, Converter, Reducer, Tracer, Converter, Reducer, Tracer, Reporter, Comparer,
     ]
 };
 
@@ -80,7 +80,7 @@ pub fn run(seed: u64, number: u64) -> Run {
     let opened = opened(program, plan.bytes()).ok();
     let circuit = opened.map(|(_, circuit, _)| circuit);
     let read = circuit.as_ref().filter(|_| program.reads_vectors());
-    let input = input::input(&mut random, read);
+    let input = input::input(&mut random, program, read);
     Run {
         program,
         plan,

@@ -158,6 +158,11 @@ fn writers(circuit: &Circuit, tail: &[u8]) -> Result<(), String> {
         expect("no binary order", calls::rows(&given, 65, [9, 9], b"?"), refuse(15, 0))?;
         expect("no binary order", calls::report(&given, u64::MAX, b"?"), refuse(15, 0))?;
         expect("no binary order", calls::witness(&given, 1, b"?", 0), refuse(15, 0))?;
+        expect(
+            "no binary order",
+            calls::step_plain(&given, b"?", b"", 0),
+            refuse(15, 0),
+        )?;
         return expect("no binary order", calls::witness3(&given, 1, b"?"), refuse(15, 0));
     }
     let binary = write::file(circuit, Form::Binary, tail);

@@ -56,6 +56,7 @@ pub fn check(
     fillings(random, &converted.circuit, &list, shown(&steps))?;
     rows(&converted.circuit, &list)?;
     explanations(&converted.circuit, &steps, &list)?;
+    plainly(&converted.circuit, &steps, &list)?;
     if circuit.gates.len() <= FEW_GATES {
         slowly(random, circuit, converted, unknown)?;
     }
@@ -268,6 +269,23 @@ pub fn masked(marks: &[u8], state: &[u8], input: &[u8]) -> [Vec<u8>; 2] {
         all.map(|(&mark, &value)| if mark == b'1' { value } else { b'x' })
             .collect()
     })
+}
+
+/// The plain engine gives what the stepper gives.
+fn plainly(circuit: &Circuit, steps: &[(Vec<u8>, Step)], list: &[Vec<u8>]) -> Result<(), String> {
+    let given = Given::exactly(circuit);
+    let outputs = circuit.outputs.len() as u64;
+    for ((state, step), input) in steps.iter().zip(list) {
+        let plain = calls::step_plain(&given, state, input, outputs);
+        let gates = circuit.gates.len();
+        let expected = if gates > 24 {
+            refuse(24, gates)
+        } else {
+            Ok(step.clone())
+        };
+        ensure!(plain == expected, "plainly {plain:?}, stepped {expected:?}");
+    }
+    Ok(())
 }
 
 /// One step against the slow definition, and each variable against its new name.

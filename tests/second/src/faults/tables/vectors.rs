@@ -32,6 +32,35 @@ pub const STEPPER: &[(&str, Slip)] = &[
     ("writes behind the state", |_, after| margin(&mut after.bytes[0], true)),
 ];
 
+pub const PLAIN: &[(&str, Slip)] = &[
+    ("25 gates accepted", |_, after| {
+        if outcome(after).is_err_and(|refusal| refusal.number == 24 && refusal.place == 25) {
+            after.answer.lent_mut().fill(0);
+        }
+    }),
+    ("24 gates refused", |before, after| {
+        if outcome(after).is_ok() && before.counts.lent()[4] == 24 {
+            after.answer.lent_mut().copy_from_slice(&[24, 24]);
+        }
+    }),
+    ("24 after 12", |before, after| {
+        let late = outcome(after).is_err_and(|refusal| refusal.number == 24);
+        if late && before.bytes[0].lent().len() as u64 != before.counts.lent()[2] {
+            after.answer.lent_mut().copy_from_slice(&[12, 1]);
+        }
+    }),
+    ("the sign lost", |before, after| {
+        if outcome(after).is_ok() {
+            let signs = before.tables[2].lent().iter().map(|literal| literal % 2 == 1);
+            let outputs = after.bytes[2].lent_mut().iter_mut();
+            outputs
+                .zip(signs)
+                .filter(|(_, sign)| *sign)
+                .for_each(|(value, _)| *value = step::not(*value));
+        }
+    }),
+];
+
 /// Latches fed by a latch before them see its new value.
 fn one_after_another(before: &Lent, after: &mut Lent) {
     let latches = circuit(before).latches;

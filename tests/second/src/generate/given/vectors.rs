@@ -1,6 +1,7 @@
 //! The vectors of the stepper and the lists of the witness question and of a report: 12, 13.
 
 use super::TablesCase;
+use crate::aiger::plain::MOST_GATES;
 use crate::aiger::report::MOST_STEPS;
 use crate::aiger::{Circuit, Refusal};
 use crate::generate::values::{no_value, vector};
@@ -52,6 +53,19 @@ pub fn step(random: &mut Random, circuit: &Circuit, case: &mut TablesCase) {
         Memory::junk(output.len() as u64, junk),
     ];
     tell(case, promise);
+}
+
+/// The same for the plain engine, which counts the gates before it looks at vectors.
+pub fn step_plain(random: &mut Random, circuit: &Circuit, case: &mut TablesCase) {
+    step(random, circuit, case);
+    let judged = matches!(case.promise, Some(Ok(()) | Err(Refusal { number: 12, .. })));
+    let gates = circuit.gates.len() as u64;
+    if judged && gates > MOST_GATES {
+        case.promise = Some(Err(Refusal {
+            number: 24,
+            place: gates,
+        }));
+    }
 }
 
 /// A number of vectors and their bytes.

@@ -1,6 +1,7 @@
 //! What stands under the name `plan.in`.
 
 use super::Plan;
+use crate::aiger::plain::MOST_GATES;
 use crate::aiger::programs::{output, Program, LENT, LONGEST, SIXTH};
 use crate::aiger::{literal, Circuit, Form, Refusal};
 use crate::generate;
@@ -19,6 +20,7 @@ pub fn plan(random: &mut Random, program: Program) -> (Plan, Option<Refusal>) {
         30..=33 => to_read_alone(random),
         34..=51 if program.is_new() => (Plan::File(refused(random, program)), None),
         52..=57 if program == Program::Reporter => many_needles(random),
+        52..=61 if program == Program::Comparer => teaching(random),
         _ => (Plan::File(generate::case(random.word(), 0).file), None),
     }
 }
@@ -50,6 +52,26 @@ fn many_needles(random: &mut Random) -> (Plan, Option<Refusal>) {
     draft.comment.clear();
     let file = draft.layout().file;
     (Plan::File(file), (over == 1).then_some(Refusal { number: 4, place: 6 }))
+}
+
+/// As many gates as the plain engine takes, or one more. Whatever standard input is, the plan comes first.
+fn teaching(random: &mut Random) -> (Plan, Option<Refusal>) {
+    let over = random.below(2);
+    let size = Size {
+        i: random.below(4),
+        l: random.below(4),
+        o: random.below(4),
+        a: MOST_GATES as usize + over,
+        starts: random.once_in(2),
+        ..Size::default()
+    };
+    let form = form(random);
+    let circuit = circuit(random, form, &size);
+    let file = Draft::new(random, form, &circuit).layout().file;
+    (
+        Plan::File(file),
+        (over == 1).then_some(Refusal { number: 24, place: 25 }),
+    )
 }
 
 fn form(random: &mut Random) -> Form {
@@ -93,7 +115,7 @@ fn full(random: &mut Random, program: Program) -> (Plan, Option<Refusal>) {
     draft.comment.clear();
     let file = draft.layout().file;
     let writer = match program {
-        Program::Tracer | Program::Reporter => Program::Converter,
+        Program::Tracer | Program::Reporter | Program::Comparer => Program::Converter,
         writer => writer,
     };
     let written = output(writer, Some(&file), None).len();
