@@ -1,0 +1,1 @@
+// One gate rewired: definitions and laws. There is no code here: see specs/ and proofs/.
