@@ -1,0 +1,4 @@
+pub mod Rewired
+pub mod Screen
+pub mod Rows
+pub mod Call
