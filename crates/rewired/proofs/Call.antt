@@ -1,7 +1,7 @@
 -- What the call leaves: the edited circuit in the tables, its fresh step on the screen, and all else as it was.
-use Prim.Native.Nat.{ℕ, suc, _+_, _*_, _≤_, _<_, min, max}
-use mathlib.Core.Path.{_≡_, refl, sym, ap, ap₂, _∙_, subst}
-use mathlib.Core.Bool.{Bool, true, _&&_}
+use Prim.Native.Nat.{ℕ, _+_, _*_, _≤_, _<_, min, max}
+use mathlib.Core.Path.{_≡_, refl, sym, ap, _∙_, subst}
+use mathlib.Core.Bool.{true, _&&_}
 use mathlib.Core.Option.{Option, none, some}
 use mathlib.Core.List.{List, [], _∷_, _++_}
 use native.Mathlib.Omega.{arith}
@@ -10,11 +10,11 @@ use lib.Dec.{eqb, ltb}
 use lib.ListN.{length, getD, length-replicate}
 use Rattle.plan.specs.declared.Counts.{Counts}
 use Rattle.plan.specs.declared.Refusal.{Refusal}
-use Rattle.plan.specs.declared.Refusal.the-variants.{OutOfRange, NotInOrder, BadVector, NoGate, WrongValue}
+use Rattle.plan.specs.declared.Refusal.the-variants.{NotInOrder, BadVector, NoGate, WrongValue}
 use Rattle.plan.specs.declared.Stepped.the-variants as stepped
 use Rattle.plan.specs.Literals.{litOf}
 use Rattle.plan.specs.Refusals.{stage, firstOf}
-use Rattle.plan.specs.Circuit.{Gate, Circuit, Tables, countsOf, wordsToWork, against, short, lengthsOf, circuitOf, cleared}
+use Rattle.plan.specs.Circuit.{Circuit, Tables, countsOf, wordsToWork, against, short}
 use Rattle.plan.specs.Depends.{Depends}
 use Rattle.plan.specs.Reading.{WellFormed}
 use Rattle.plan.specs.Binary.{binaryOrder}
@@ -26,13 +26,13 @@ use Rattle.theorems.proofs.Reading.Short.{short-none}
 use Rattle.theorems.proofs.Put.{put-length}
 use Rattle.theorems.proofs.Tables.{gateAt, gatesAt, gates-rows}
 use Rattle.theorems.proofs.Running.Binary.{inner}
-use Rattle.theorems.proofs.Writing.Nothing.{some-none, stage-none, at-none, failing-none, first-all, first-both, both-first}
-use Rattle.theorems.proofs.Writing.Fine.{Fine, nothing-fine, fine-nothing, counts-given}
+use Rattle.theorems.proofs.Writing.Nothing.{stage-none, at-none, failing-none, first-all, first-both}
+use Rattle.theorems.proofs.Writing.Fine.{nothing-fine, fine-nothing, counts-given}
 use Rattle.theorems.proofs.Writing.Holding.{formed-fine}
 use Rattle.theorems.proofs.Writing.Later.{Left}
 use Rattle.rewired.specs.Rewire.{rewiredGates, rewire, screen, inputsOn, stateOn, wrongOn, leftAt, editStages, RewireEntry, rewiredBy, rewiring}
 use Rattle.rewired.proofs.Rewired.{length-rewired, rewire-in-order, rewire-well-formed, rewire-apart}
-use Rattle.rewired.proofs.Screen.{screen-exactly, screen-at, length-screen}
+use Rattle.rewired.proofs.Screen.{screen-exactly, screen-at}
 use Rattle.rewired.proofs.Rows.{other-gate, table-rewired, two-stores}
 
 -- the tables with another one of gates
@@ -95,7 +95,8 @@ module _ (e : RewireEntry) where
         there = ltb-true _ _ (at-none (e .gate) (ltb (e .gate) (n .A)) (stage-none NoGate (failingAt (e .gate) (ltb (e .gate) (n .A))) (k .1 .0)));
         below0 = subst (λ (x : ℕ). e .rhs0 < x) lefts (ltb-true _ _ (and-left b0 b1 both));
         below1 = subst (λ (x : ℕ). e .rhs1 < x) lefts (ltb-true _ _ (and-right b0 b1 both));
-        size = eqb-true _ _ (at-none 4 (eqb (length (e .values)) (n .M + 1)) (stage-none BadVector (failingAt 4 (eqb (length (e .values)) (n .M + 1))) (k .1 .1 .1 .1 .0)));
+        size = eqb-true _ _ (at-none 4 (eqb (length (e .values)) (n .M + 1))
+            (stage-none BadVector (failingAt 4 (eqb (length (e .values)) (n .M + 1))) (k .1 .1 .1 .1 .0)));
         right = stage-none WrongValue (wrongOn c (e .values)) (k .1 .1 .1 .1 .1 .0);
       }
 
@@ -124,7 +125,7 @@ module _ (e : RewireEntry) where
     gates-are : rewiring e .gates ≡ put (g .tables .gates) (3 * e .gate + 1) (max (e .rhs0) (e .rhs1) ∷ min (e .rhs0) (e .rhs1) ∷ [])
     gates-are = ap (λ (o : Option Refusal). rewiredBy o e .gates) nothing
 
-    values-are : rewiring e .values ≡ screen edited (stateOn c (e .values)) (inputsOn c (e .values))
+    pub values-are : rewiring e .values ≡ screen edited (stateOn c (e .values)) (inputsOn c (e .values))
     values-are = ap (λ (o : Option Refusal). rewiredBy o e .values) nothing
 
     -- the tables hold the edited circuit
@@ -143,7 +144,8 @@ module _ (e : RewireEntry) where
         gates-edited : given after .gates ≡ rewiredGates (e .gate) (e .rhs0) (e .rhs1) (c .gates)
         gates-edited =
             gates-rows (rewiring e .gates) (n .A)
-            ∙ ap (λ (t : List ℕ). gatesAt t (n .A)) (gates-are ∙ sym (two-stores (g .tables .gates) (e .gate) (max (e .rhs0) (e .rhs1)) (min (e .rhs0) (e .rhs1)) row-fits))
+            ∙ ap (λ (t : List ℕ). gatesAt t (n .A))
+            (gates-are ∙ sym (two-stores (g .tables .gates) (e .gate) (max (e .rhs0) (e .rhs1)) (min (e .rhs0) (e .rhs1)) row-fits))
             ∙ table-rewired (g .tables .gates) (e .gate) (e .rhs0) (e .rhs1) (n .A) row-fits (done-edits .there)
             ∙ ap (rewiredGates (e .gate) (e .rhs0) (e .rhs1)) (sym (gates-rows (g .tables .gates) (n .A)))
 
@@ -151,7 +153,7 @@ module _ (e : RewireEntry) where
     edited-in-order =
         let p = done-edits in rewire-in-order c (p .formed) (p .order) (e .gate) (e .rhs0) (e .rhs1) (p .below0) (p .below1)
 
-    edited-formed : WellFormed edited
+    pub edited-formed : WellFormed edited
     edited-formed =
         let p = done-edits in rewire-well-formed c (p .formed) (p .order) (e .gate) (e .rhs0) (e .rhs1) (p .below0) (p .below1)
 

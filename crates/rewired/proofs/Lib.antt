@@ -2,3 +2,5 @@ pub mod Rewired
 pub mod Screen
 pub mod Rows
 pub mod Call
+pub mod Again
+pub mod Examples

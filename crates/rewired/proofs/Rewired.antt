@@ -1,14 +1,13 @@
 -- One gate rewired: no other gate changes; in binary order still; no value changes of a variable that does not depend on the gate.
-use Prim.Native.Nat.{ℕ, zero, suc, _+_, _*_, _≤_, _<_, min, max}
+use Prim.Native.Nat.{ℕ, zero, suc, _+_, _<_, min, max}
 use mathlib.Core.Path.{_≡_, refl, sym, ap, ap₂, _∙_, subst}
 use mathlib.Core.Bool.{Bool, true, false, cond, false≢true}
 use mathlib.Core.Logic.{_↔_}
 use mathlib.Core.Option.{Option, none, some}
-use mathlib.Core.List.{List, [], _∷_, _++_, map}
+use mathlib.Core.List.{List, [], _∷_}
 use native.Mathlib.Omega.{arith}
-use native.Mathlib.Nat.{not-suc-le-zero}
 use native.Mathlib.Decide.{ℕ-discrete}
-use borrow.Author.Tests.{eq-eqb, ne-eqb}
+use borrow.Author.Tests.{ne-eqb}
 use lib.Dec.{eqb}
 use lib.ListN.{length}
 use Rattle.plan.specs.Literals.{litOf, varOf, signOf}
@@ -16,12 +15,12 @@ use Rattle.plan.specs.Circuit.{Gate, Circuit, nexts, has}
 use Rattle.plan.specs.Depends.{find, side, Uses, Depends, one, more, isNone, both, settled}
 use Rattle.plan.specs.Reading.{WellFormed}
 use Rattle.plan.specs.Binary.{binaryOrder}
-use Rattle.plan.specs.Step.{Value, and, signedValue, lit, gateValue, leafValue, valuesOf}
+use Rattle.plan.specs.Step.{Value, and, signedValue, gateValue, leafValue, valuesOf}
 use Rattle.theorems.proofs.Reading.Common.{and-left, and-right}
 use Rattle.theorems.proofs.Reading.Members.{has-self, has-later}
 use Rattle.theorems.proofs.Reading.Order.{InOrder}
 use Rattle.theorems.proofs.Reading.Runs.{BinaryOrder, order-exactly}
-use Rattle.theorems.proofs.Running.Found.{AllG, FindSays, find-says}
+use Rattle.theorems.proofs.Running.Found.{FindSays, find-says}
 use Rattle.theorems.proofs.Running.Accepted.{accepted}
 use Rattle.theorems.proofs.Running.GateValue.{values-solve}
 use Rattle.theorems.proofs.Running.Binary.{Binary, inner, Bounded}

@@ -1,5 +1,5 @@
 -- The values on the screen: none is wrong exactly if they are those of a step from the state and inputs among them.
-use Prim.Native.Nat.{ℕ, zero, suc, _+_, _-_, _*_, _≤_, _<_}
+use Prim.Native.Nat.{ℕ, zero, suc, _+_, _≤_, _<_}
 use mathlib.Core.Path.{_≡_, refl, sym, ap, ap₂, _∙_, subst}
 use mathlib.Core.Bool.{Bool, true, false, cond}
 use mathlib.Core.Logic.{_↔_}
@@ -9,7 +9,7 @@ use native.Mathlib.Omega.{arith}
 use native.Mathlib.Decide.{decLt, ℕ-discrete}
 use borrow.Author.Tests.{eqb-true, eqb-false, eq-eqb, ne-eqb}
 use lib.Dec.{eqb}
-use lib.ListN.{length, getD, take, drop, length-append, length-map, length-drop, List·getD-map, List·getD-eq-default}
+use lib.ListN.{length, getD, take, drop, length-map, length-drop, List·getD-map, List·getD-eq-default}
 use lib.Seq.{getD-take, getD-drop, drop-drop, length-take-le, take-add, ext-getD}
 use Rattle.plan.specs.Literals.{litOf, varOf, signOf}
 use Rattle.plan.specs.Circuit.{Gate, Circuit}
@@ -119,7 +119,9 @@ module _ (c : Circuit) (w : WellFormed c) (t : binaryOrder c ≡ true) (bytes : 
     where
       joined : take (length (c .inputs) + length (c .latches)) (drop 1 bytes)
           ≡ take (length (c .inputs)) (drop 1 bytes) ++ take (length (c .latches)) (drop (1 + length (c .inputs)) bytes)
-      joined = take-add (length (c .inputs)) (length (c .latches)) (drop 1 bytes) ∙ ap (λ (l : List ℕ). take (length (c .inputs)) (drop 1 bytes) ++ take (length (c .latches)) l) (drop-drop (length (c .inputs)) 1 bytes)
+      joined =
+          take-add (length (c .inputs)) (length (c .latches)) (drop 1 bytes)
+          ∙ ap (λ (l : List ℕ). take (length (c .inputs)) (drop 1 bytes) ++ take (length (c .latches)) l) (drop-drop (length (c .inputs)) 1 bytes)
 
   words-length : length words ≡ length (c .inputs) + length (c .latches)
   unfolding words
