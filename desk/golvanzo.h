@@ -3,9 +3,9 @@
    are in words. Nothing is kept or allocated.
 
    An answer starts with a refusal's number, 0 if there is none, and its place; what follows is 0 after a refusal.
-   After one every table lent for writing is zero, and no byte of `out`, `state`, `outs` and `marks` has changed.
-   Scratch is zero after every call, given tables are never changed, and words of written tables past the counts are
-   zero. */
+   After one every table lent for writing is zero, but for `golvanzo_rewire`, and no byte of a buffer lent for writing has
+   changed. Scratch is zero after every call, given tables are never changed, and words of written tables past the
+   counts are zero. */
 #ifndef GOLVANZO_H
 #define GOLVANZO_H
 
@@ -122,6 +122,16 @@ void golvanzo_rows(const uint64_t *counts /* 7 words */, GOLVANZO_GIVEN, GOLVANZ
 void golvanzo_report_rows(const uint64_t *counts /* 7 words */, GOLVANZO_GIVEN, GOLVANZO_SCRATCH, uint64_t rows,
                           const uint8_t *ins, size_t ins_len, uint32_t *report, size_t n6,
                           uint64_t *answer /* 2 words */);
+
+/* Give gate `gate` of tables in binary order, counted from 0, two right sides, in either order: they are put larger
+   first, and no other word of `gates` changes. `values` are the values of a step, M + 1 bytes "0", "1", "x", one for
+   each variable and the constant's first; they become those of a step of the edited circuit from the same inputs and
+   latches. `answer` is number (0: rewired) and place. A refusal leaves `gates` and `values` as they came. */
+void golvanzo_rewire(const uint64_t *counts /* 7 words */, const uint32_t *inputs, size_t n1, const uint32_t *latches,
+                     size_t n2, const uint32_t *outputs, size_t n3, uint32_t *gates, size_t n4, const uint32_t *resets,
+                     size_t n7, const uint32_t *bads, size_t n8, const uint32_t *constraints, size_t n9,
+                     GOLVANZO_SCRATCH, uint64_t gate, uint32_t rhs0, uint32_t rhs1, uint8_t *values, size_t values_len,
+                     uint64_t *answer /* 2 words */);
 
 #ifdef __cplusplus
 }

@@ -9,9 +9,11 @@ use Rattle.plan.specs.Outcome.{CheckExit, FileEntry, FileExit, MakeEntry, MakeE
 use Rattle.plan.specs.Outcome as outcome
 use Rattle.trying.specs.Fillings.{FilledExit}
 use Rattle.trying.specs.Fillings as fillings
-use Rattle.desk.specs.Told.{CheckTold, check, FileTold, toldFile, MakeTold, toldMade, StepTold, step, WitnessTold, witness, witness3, ExplainTold, explain, toldStep}
+use Rattle.desk.specs.Told.{CheckTold, check, FileTold, toldFile, MakeTold, toldMade, StepTold, step, WitnessTold, witness, witness3, ExplainTold, explain, toldStep, RewireTold, rewiring}
 use Rattle.blame.specs.Explain.{ExplainExit}
 use Rattle.blame.specs.Explain as blame
+use Rattle.rewired.specs.Rewire.{RewireExit}
+use Rattle.rewired.specs.Rewire as rewire
 
 -- counts that C gives
 abbrev pub counted : Given → Counts → Given
@@ -77,3 +79,13 @@ witness3-told g number bytes n x answer e says told =
     ap (λ (a : List ℕ). record { answer = a; scratch = x .scratch }) told
     ∙ (ap (λ (y : WitnessExit). record { answer = verdictValues (y .answer); scratch = y .scratch }) says
     ∙ ap (λ (m : Counts). witness3 (record { circuit = counted g m; number = number; bytes = bytes })) e)
+
+pub rewire-told : (g : Given) (gate rhs0 rhs1 : ℕ) (values : List ℕ) (n : Counts) (x : RewireExit) (answer : List ℕ) → n ≡ g .counts
+    → x ≡ rewire.rewiring (record { circuit = counted g n; gate = gate; rhs0 = rhs0; rhs1 = rhs1; values = values })
+    → answer ≡ steppedValues (x .answer)
+    → _≡_ {A = RewireTold} (record { answer = answer; gates = x .gates; scratch = x .scratch; values = x .values })
+    (rewiring (record { circuit = g; gate = gate; rhs0 = rhs0; rhs1 = rhs1; values = values }))
+rewire-told g gate rhs0 rhs1 values n x answer e says told =
+    ap (λ (a : List ℕ). record { answer = a; gates = x .gates; scratch = x .scratch; values = x .values }) told
+    ∙ (ap (λ (y : RewireExit). record { answer = steppedValues (y .answer); gates = y .gates; scratch = y .scratch; values = y .values }) says
+    ∙ ap (λ (m : Counts). rewiring (record { circuit = counted g m; gate = gate; rhs0 = rhs0; rhs1 = rhs1; values = values })) e)

@@ -10,6 +10,8 @@ use Rattle.trying.specs.Fillings.{FilledEntry}
 use Rattle.trying.specs.Fillings as fillings
 use Rattle.blame.specs.Explain as blame
 use Rattle.plain.specs.Plain as plain
+use Rattle.rewired.specs.Rewire.{RewireEntry}
+use Rattle.rewired.specs.Rewire as rewire
 
 pub record CheckTold : Type 0 where
   pub answer : List ℕ
@@ -86,3 +88,14 @@ witness e = let x = fillings.witness e in record { answer = findingValues (x .an
 
 abbrev pub witness3 : WitnessEntry → WitnessTold
 witness3 e = let x = outcome.witness3 e in record { answer = verdictValues (x .answer); scratch = x .scratch }
+
+-- the rewiring of one gate
+pub record RewireTold : Type 0 where
+  pub answer : List ℕ
+  pub gates : List ℕ
+  pub scratch : List ℕ
+  pub values : List ℕ
+
+abbrev pub rewiring : RewireEntry → RewireTold
+rewiring e =
+    let x = rewire.rewiring e in record { answer = steppedValues (x .answer); gates = x .gates; scratch = x .scratch; values = x .values }

@@ -5,7 +5,7 @@ ghost use Rattle.plan.specs.Circuit.{seven};
 ghost use Rattle.plan.specs.Header.{wordsFor, countsFrom};
 ghost use Rattle.plan.specs.Outcome.{Says, read, read2007};
 ghost use Rattle.given.specs.Judged.{givenAt};
-ghost use Rattle.desk.specs.Told.{check, writeText, writeBinary, conversion, reduction, dropping, step, witness, witness3, explain, stepPlain};
+ghost use Rattle.desk.specs.Told.{check, writeText, writeBinary, conversion, reduction, dropping, step, witness, witness3, explain, stepPlain, rewiring};
 ghost use Rattle.desk.specs.Reported.{report};
 ghost use Rattle.desk.specs.RowsTold.{stepRows, reportRows};
 use plan::Version;
@@ -787,6 +787,56 @@ pub extern "C" fn golvanzo_report_rows(
         rows as usize,
         ins,
         report,
+    );
+    told::stepped(r, answer);
+}
+
+// The right sides of one gate of given tables, which are in binary order, with the values of a step: number (0: rewired) and place.
+#[no_mangle]
+pub extern "C" fn golvanzo_rewire(
+    counts: &[u64; 7],
+    inputs: &[u32],
+    latches: &[u32],
+    outputs: &[u32],
+    gates: &mut [u32],
+    resets: &[u32],
+    bads: &[u32],
+    constraints: &[u32],
+    scratch: &mut [u32],
+    gate: u64,
+    rhs0: u32,
+    rhs1: u32,
+    values: &mut [u8],
+    answer: &mut [u64; 2],
+)
+    ensures { λ _. ⌜ Says rewiring
+        (record {
+          circuit = givenAt (countsFrom (now (counts .entry)))
+              (seven (now (inputs .entry)) (now (latches .entry)) (now (outputs .entry)) (now (gates .entry)) (now (resets .entry)) (now (bads .entry))
+              (now (constraints .entry)))
+              (now (scratch .entry));
+          gate = gate;
+          rhs0 = rhs0;
+          rhs1 = rhs1;
+          values = now (values .entry);
+        })
+        (record { answer = now (answer .exit); gates = now (gates .exit); scratch = now (scratch .exit); values = now (values .exit) }) ⌝ }
+{
+    let n = told::counts(counts);
+    let r = rewire::rewire(
+        n,
+        inputs,
+        latches,
+        outputs,
+        gates,
+        resets,
+        bads,
+        constraints,
+        scratch,
+        gate as usize,
+        rhs0,
+        rhs1,
+        values,
     );
     told::stepped(r, answer);
 }
