@@ -498,6 +498,67 @@ static void rows(void) {
     expect(answer[0] == 4 && answer[1] == 6 && all_zero(report, 11), "4 at 6, before 13", "report_rows");
 }
 
+/* An edit of one of three gates, 8 = 4 & 2, 10 = 8 & 6 and 12 = 11 & 9, over two inputs and a latch: what is answered, the
+   right sides and the values afterwards. */
+struct edit {
+    uint64_t gate;
+    uint32_t rhs0, rhs1;
+    const char *values;
+    uint64_t number, place;
+    const uint32_t *sides;
+    const char *after;
+};
+
+static void rewired(const struct edit *e, const char *what) {
+    struct circuit c = read_file(FILE_OF("aag 6 2 1 1 3\n2\n4\n6 12\n13\n8 4 2\n10 8 6\n12 11 9\n"));
+    struct bytes values = bytes_of(e->values, strlen(e->values));
+    uint64_t answer[2];
+    golvanzo_rewire(COUNTS(c), SEVEN(c), TABLE(c, SCRATCH), e->gate, e->rhs0, e->rhs1, values.at, values.length,
+                    answer);
+    expect(answer[0] == e->number && answer[1] == e->place, what, "rewire");
+    expect(memcmp(values.at, e->after, values.length) == 0, "the values afterwards", what);
+    for (uint32_t k = 0; k < 3; k++)
+        expect(c.table[3][3 * k] == 2 * (k + 4) && c.table[3][3 * k + 1] == e->sides[2 * k] &&
+                   c.table[3][3 * k + 2] == e->sides[2 * k + 1],
+               "the gates afterwards", what);
+    expect(all_zero(c.table[SCRATCH], c.words[SCRATCH]), "scratch is zero", what);
+}
+
+#define SIDES(...) ((const uint32_t[6]){__VA_ARGS__})
+
+static void edits(void) {
+    static const char now[] = "01x1xxx";
+    static const uint32_t stays[6] = {4, 2, 8, 6, 11, 9};
+    rewired(&(struct edit){0, 2, 2, now, 0, 0, SIDES(2, 2, 8, 6, 11, 9), "01x1110"}, "the first gate, equal sides");
+    rewired(&(struct edit){1, 3, 8, now, 0, 0, SIDES(4, 2, 8, 3, 11, 9), "01x1x0x"},
+            "the middle one, smaller side first");
+    rewired(&(struct edit){1, 8, 3, now, 0, 0, SIDES(4, 2, 8, 3, 11, 9), "01x1x0x"},
+            "the middle one, larger side first");
+    rewired(&(struct edit){2, 1, 2, now, 0, 0, SIDES(4, 2, 8, 6, 2, 1), "01x1xx1"}, "the last one, with a constant");
+    rewired(&(struct edit){3, 14, 14, "1", 22, 3, stays, "1"}, "22 at the number, before all that follow");
+    rewired(&(struct edit){UINT64_MAX, 2, 2, now, 22, UINT64_MAX, stays, now}, "22 at the largest number");
+    rewired(&(struct edit){0, 2, 14, "1", 5, 4, stays, "1"}, "5 at 4");
+    rewired(&(struct edit){1, 10, 2, "1", 15, 0, stays, "1"}, "15 at 0, of a gate's own left side");
+    rewired(&(struct edit){1, 8, 3, "11x1xx", 12, 4, stays, "11x1xx"}, "12 at 4");
+    rewired(&(struct edit){1, 8, 3, "11x1xxx", 23, 0, stays, "11x1xxx"}, "23 at the constant");
+    rewired(&(struct edit){1, 8, 3, "01y1000", 23, 2, stays, "01y1000"}, "23 at a byte but 0, 1, x");
+    rewired(&(struct edit){1, 8, 3, "01x1x0x", 23, 5, stays, "01x1x0x"}, "23 at the least gate that is wrong");
+}
+
+/* Tables that are refused before an edit is looked at: they stay as they are. */
+static void no_edits(void) {
+    struct circuit c = read_file(FILE_OF(toggle_text)), b = read_file(FILE_OF(toggle_binary));
+    struct bytes values = FILE_OF("????????");
+    uint64_t answer[2];
+    golvanzo_rewire(COUNTS(c), SEVEN(c), TABLE(c, SCRATCH), 9, 0, 0, values.at, values.length, answer);
+    expect(answer[0] == 15 && answer[1] == 0, "15 at 0, of tables", "rewire");
+    expect(c.table[3][1] == 4 && c.table[3][2] == 10, "the gates stay", "rewire");
+    golvanzo_rewire(COUNTS(b), SEVEN(b), b.table[SCRATCH], b.words[SCRATCH] - 1, 9, 0, 0, values.at, values.length,
+                    answer);
+    expect(answer[0] == 4 && answer[1] == 5, "4 at 5", "rewire");
+    expect(memcmp(values.at, "????????", values.length) == 0, "the values stay", "rewire");
+}
+
 static void refused(struct bytes file, uint64_t number, uint64_t place, const char *what) {
     struct circuit c = read_alone(file);
     expect(c.answer[0] == number && c.answer[1] == place, what, "read");
@@ -594,6 +655,8 @@ int main(void) {
     trace(golvanzo_step, "step");
     trace(golvanzo_step_plain, "step_plain");
     plain_engine();
+    edits();
+    no_edits();
     refusals();
     table_refusals();
     little_scratch();
