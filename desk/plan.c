@@ -244,6 +244,51 @@ struct plan_end plan_explain(struct plan *plan, const uint8_t *state, const uint
     return end_of(answer);
 }
 
+/* The values of all variables but the constant are the outputs of a plan whose outputs they all are. */
+static struct plan_end step_all(const struct plan *plan, uint8_t *state, const uint8_t *inputs, uint8_t *values) {
+    struct plan all = *plan;
+    size_t variables = (size_t)plan->counts[PLAN_M];
+    struct plan_end end = no_memory;
+    all.scratch = NULL;
+    all.counts[PLAN_O] = all.words[PLAN_OUTPUTS] = variables;
+    all.table[PLAN_OUTPUTS] = lent(4 * variables);
+    if (all.table[PLAN_OUTPUTS] != NULL) {
+        for (size_t v = 0; v < variables; v++)
+            all.table[PLAN_OUTPUTS][v] = (uint32_t)(2 * (v + 1));
+        values[0] = '0';
+        end = plan_step(&all, state, inputs, values + 1);
+    }
+    free(all.table[PLAN_OUTPUTS]);
+    free(all.scratch);
+    return end;
+}
+
+/* What is refused is refused of the plan itself, which is stepped first. */
+struct plan_end plan_values(struct plan *plan, const uint8_t *state, const uint8_t *inputs, uint8_t *values) {
+    size_t latches = (size_t)plan->counts[PLAN_L];
+    uint8_t *next = lent(latches), *outputs = lent((size_t)plan->counts[PLAN_O]);
+    struct plan_end end = no_memory;
+    if (next != NULL && outputs != NULL) {
+        memcpy(next, state, latches);
+        end = plan_step(plan, next, inputs, outputs);
+        memcpy(next, state, latches);
+        if (end.number == 0)
+            end = step_all(plan, next, inputs, values);
+    }
+    free(next);
+    free(outputs);
+    return end;
+}
+
+struct plan_end plan_rewire(struct plan *plan, uint64_t gate, uint32_t rhs0, uint32_t rhs1, uint8_t *values) {
+    uint64_t answer[2];
+    if (!ready(plan))
+        return no_memory;
+    golvanzo_rewire(plan->counts, TABLES(plan), SCRATCH(plan), gate, rhs0, rhs1, values,
+                    (size_t)plan->counts[PLAN_M] + 1, answer);
+    return end_of(answer);
+}
+
 struct plan_end plan_witness3(struct plan *plan, uint64_t number, const uint8_t *vectors, size_t length, int *yes) {
     uint64_t answer[3];
     if (!ready(plan))

@@ -82,6 +82,14 @@ struct plan_finding {
 struct plan_end plan_explain(struct plan *plan, const uint8_t *state, const uint8_t *inputs, uint64_t output,
                              uint8_t *marks);
 
+/* The values of a step in binary order on the screen: M + 1 bytes, one for each variable and the constant's first; state
+   and inputs are as for plan_step, and the state stays. */
+struct plan_end plan_values(struct plan *plan, const uint8_t *state, const uint8_t *inputs, uint8_t *values);
+
+/* Gives a gate, counted from 0, two right sides, in either order; the values on the screen become those of the edited plan. A
+   refusal leaves both as they were. */
+struct plan_end plan_rewire(struct plan *plan, uint64_t gate, uint32_t rhs0, uint32_t rhs1, uint8_t *values);
+
 /* The witness question for a number of vectors, I bytes each, one after another, and for as many fillings as are allowed;
    the same in three values, where *yes is 1 or 0. */
 struct plan_end plan_witness(struct plan *plan, uint64_t number, const uint8_t *vectors, size_t length,

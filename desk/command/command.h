@@ -22,9 +22,10 @@ struct source {
 };
 
 /* What is asked: the words of the command line. `second` is the file of vectors or the other plan; it and `out` may be null.
-   `output` and `step` say what to explain. */
+   `output` and `step` say what to explain, `edit` are the words of a gate's number and its right sides. */
+enum { EDIT_WORDS = 3 };
 struct request {
-    const char *file, *second, *out, *output, *step;
+    const char *file, *second, *out, *output, *step, *edit[EDIT_WORDS];
     int vcd, large, names, three, count;
 };
 
@@ -53,8 +54,10 @@ int no_memory(void);
 /* refusal.c: a call on the plan of this file ended; says why it is refused, and gives the status. */
 int ended(struct plan_end end, const struct source *file);
 
-/* convert.c: puts a plan in binary order; the status. */
+/* convert.c: puts a plan in binary order; the status. What a call wrote, to where it is asked for; it is given back. */
 int put_in_order(struct plan *plan, const struct source *file);
+int deliver(const struct request *request, const struct source *file, struct plan_end end,
+            const struct plan_bytes *made);
 
 /* vectors.c: the lines of a file of input vectors, judged as the tracer judges them. */
 struct vectors {
@@ -80,6 +83,7 @@ int run_check(const struct request *request, const struct source *file, struct p
 int run_convert(const struct request *request, const struct source *file, struct plan *plan);
 int run_reduce(const struct request *request, const struct source *file, struct plan *plan);
 int run_drop(const struct request *request, const struct source *file, struct plan *plan);
+int run_rewire(const struct request *request, const struct source *file, struct plan *plan);
 int run_trace(const struct request *request, const struct source *file, struct plan *plan);
 int run_explain(const struct request *request, const struct source *file, struct plan *plan);
 int run_witness(const struct request *request, const struct source *file, struct plan *plan);

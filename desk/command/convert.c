@@ -3,9 +3,8 @@
 
 #include "command.h"
 
-/* What a call wrote, to where it is asked for. */
-static int deliver(const struct request *request, const struct source *file, struct plan_end end,
-                   const struct plan_bytes *made) {
+int deliver(const struct request *request, const struct source *file, struct plan_end end,
+            const struct plan_bytes *made) {
     int status = ended(end, file);
     if (status == DONE)
         status = write_output(request->out, made->at, made->length);

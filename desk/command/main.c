@@ -4,9 +4,10 @@
 
 #include "command.h"
 
-/* What a command may take, beside FILE, -o FILE and --help, which all take: a second file, which some need, and options. */
+/* What a command may take, beside FILE, -o FILE and --help, which all take: a second file, which some need, options, and an
+   edit. */
 enum { TAKES_SECOND = 1, NEEDS_SECOND = 2, TAKES_VCD = 4, TAKES_LARGE = 8, TAKES_NAMES = 16, TAKES_THREE = 32 };
-enum { TAKES_COUNT = 64, NEEDS_OUTPUT = 128 };
+enum { TAKES_COUNT = 64, NEEDS_OUTPUT = 128, NEEDS_EDIT = 256 };
 
 /* A command is given the plan of its file, or the file alone where only the header is looked at. */
 struct command {
@@ -25,6 +26,10 @@ static const struct command commands[] = {
      "Gates with the same pair of sides become one, and trivial ones go.", 0, run_reduce, NULL},
     {"drop", "FILE", "writes the reduced plan without unused gates, in binary form",
      "As reduce; then gates go that no output, next state, bad state or constraint reaches.", 0, run_drop, NULL},
+    {"rewire", "FILE GATE RHS0 RHS1", "gives a gate other right sides, and writes the plan in its form",
+     "GATE counts from 0; RHS0 and RHS1 are literals below its left side, in either order.\n"
+     "The plan must be in binary order, as convert writes it.",
+     NEEDS_EDIT, run_rewire, NULL},
     {"trace", "[--vcd] FILE [VECTORS]", "steps the plan, a vector of inputs on each line of VECTORS",
      "A vector has a value for each input: 0, 1 or x. A line for each step: state, inputs, outputs, next state.\n"
      "--vcd writes a waveform instead, for GTKWave and others, with the names of the plan.\n"
@@ -134,7 +139,7 @@ static int set_option(const struct command *command, char **words, struct reques
 
 /* The words after the command; 0 if they are none that it takes. */
 static int parse(const struct command *command, char **words, struct request *request) {
-    int may_be_option = 1, used;
+    int may_be_option = 1, used, edits = command->takes & NEEDS_EDIT ? EDIT_WORDS : 0, edit = 0;
     for (; *words != NULL; words++) {
         const char *word = *words;
         if (may_be_option && strcmp(word, "--") == 0)
@@ -149,10 +154,12 @@ static int parse(const struct command *command, char **words, struct request *re
             request->file = word;
         else if (request->second == NULL && command->takes & TAKES_SECOND)
             request->second = word;
+        else if (edit < edits)
+            request->edit[edit++] = word;
         else
             return 0;
     }
-    return request->file != NULL && (request->second != NULL || !(command->takes & NEEDS_SECOND)) &&
+    return request->file != NULL && edit == edits && (request->second != NULL || !(command->takes & NEEDS_SECOND)) &&
            ((request->output != NULL && request->step != NULL) || !(command->takes & NEEDS_OUTPUT));
 }
 

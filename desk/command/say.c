@@ -167,8 +167,17 @@ void say_number(const char *name, struct plan_end end) {
     fputc('\n', stderr);
 }
 
-void say_unreadable(const char *name, const char *why) {
+void say_refused_of(const char *name, struct plan_end end, const char *format, ...) {
+    va_list more;
+    va_start(more, format);
     fprintf(stderr, "%s%s: %s", tone(BOLD), name, tone(PLAIN));
-    say_refusal((struct plan_end){UNREADABLE, 0});
-    fprintf(stderr, ": it can't be read: %s\n", why);
+    say_refusal(end);
+    fputs(": ", stderr);
+    vfprintf(stderr, format, more);
+    fputc('\n', stderr);
+    va_end(more);
+}
+
+void say_unreadable(const char *name, const char *why) {
+    say_refused_of(name, (struct plan_end){UNREADABLE, 0}, "it can't be read: %s", why);
 }

@@ -22,6 +22,10 @@ void say_more(const char *format, ...) __attribute__((format(printf, 1, 2)));
 /* "file: refused N at P", where nothing more is to be said. */
 void say_number(const char *name, struct plan_end end);
 
+/* "file: refused N at P: sentence", where the file has no place of it. */
+void say_refused_of(const char *name, struct plan_end end, const char *format, ...)
+    __attribute__((format(printf, 3, 4)));
+
 /* Refusal 14. */
 void say_unreadable(const char *name, const char *why);
 

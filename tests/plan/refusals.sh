@@ -169,7 +169,7 @@ transcript() {
         $command $line 2>&1
         echo
     done < <(sed -n 's/^\$ \.\/plan //p' "$room/told") >"$room/transcript"
-    holds "docs/REFUSALS.md has five refusals" test 5 = "$(grep -c '^\$ ' "$room/told")"
+    holds "docs/REFUSALS.md has eight refusals" test 8 = "$(grep -c '^\$ ' "$room/told")"
     holds "docs/REFUSALS.md has what the command says" diff "$room/told" "$room/transcript"
 }
 
