@@ -85,6 +85,14 @@ wrong-least gs bytes (suc n) v x e = go (eqb (getD bytes v 0) (codeOf (follows g
         here u a b (yes p) = subst (Right gs bytes) p (eqb-true (getD bytes v 0) (codeOf (follows gs bytes v)) q)
         here u a b (no p) = ih f .1 u (omega arith) b
 
+wrong-within : (gs : List Gate) (bytes : List ℕ) (n v x : ℕ) → wrongFrom gs bytes v n ≡ some x → x < v + n
+wrong-within gs bytes zero v x e = let z : _≡_ {A = ℕ} 0 1 = cc in absurd (omega arith)
+wrong-within gs bytes (suc n) v x e = go (eqb (getD bytes v 0) (codeOf (follows gs bytes v))) e (wrong-within gs bytes n (suc v) x)
+  where
+    go : (t : Bool) → cond t (wrongFrom gs bytes (suc v) n) (some v) ≡ some x → (wrongFrom gs bytes (suc v) n ≡ some x → x < suc v + n) → x < v + suc n
+    go false f ih = let same : v ≡ x = cc in omega arith
+    go true f ih = let lt = ih f in omega arith
+
 -- a variable of the gates' has a gate
 gate-there : (n : ℕ) (gs : List Gate) → Binary n gs → (v : ℕ) → n ≤ v → v < n + length gs → find v gs ≡ none → ⊥
 gate-there n [] b v h k e = omega arith
@@ -145,6 +153,55 @@ module _ (c : Circuit) (w : WellFormed c) (t : binaryOrder c ≡ true) (bytes : 
       at-word u k =
           let e : 1 + u ≡ suc u = omega arith in
           getD-take (length (c .inputs) + length (c .latches)) (drop 1 bytes) u 0 k ∙ getD-drop 1 bytes u 0 ∙ ap (λ (q : ℕ). getD bytes q 0) e
+
+  -- where all values below are the step's, what must be is the step's
+  follows-step : (v : ℕ) → v < c .M + 1 → ((u : ℕ) → u < v → valueOn bytes u ≡ valuesOf c s i u) → follows (c .gates) bytes v ≡ valuesOf c s i v
+  follows-step v h low = go (find v (c .gates)) refl
+    where
+      go : (o : Option Gate) → find v (c .gates) ≡ o → follows (c .gates) bytes v ≡ valuesOf c s i v
+      go (some g) f =
+          let fall = subst (FindSays v (c .gates)) f (find-says v (c .gates)) in
+          let lower = fall .1 (Falls sidesOf) (sides-fall (inner c) (c .gates) binary) in
+          let r0 = lower (varOf (g .rhs0)) (has-self (varOf (g .rhs0)) (varOf (g .rhs1) ∷ [])) in
+          let r1 = lower (varOf (g .rhs1)) (has-later (varOf (g .rhs1)) (varOf (g .rhs0)) (varOf (g .rhs1) ∷ []) (has-self (varOf (g .rhs1)) [])) in
+          ap (gateValue (valueOn bytes) (cond (eqb v 0) v0 (valueOn bytes v))) f
+          ∙ ap₂ and (ap (signedValue (signOf (g .rhs0))) (low (varOf (g .rhs0)) (omega (arith, r0, fall .0))))
+          (ap (signedValue (signOf (g .rhs1))) (low (varOf (g .rhs1)) (omega (arith, r1, fall .0))))
+          ∙ sym (values-solve c (accepted c w) s i v ∙ ap (gateValue (valuesOf c s i) (leafValue c s i v)) f)
+      go none f =
+          ap (gateValue (valueOn bytes) (cond (eqb v 0) v0 (valueOn bytes v))) f ∙ leaf (ℕ-discrete v 0) (decLt v (inner c))
+          ∙ sym (values-solve c (accepted c w) s i v ∙ ap (gateValue (valuesOf c s i) (leafValue c s i v)) f)
+        where
+          leaf : Dec (v ≡ 0) → Dec (v < inner c) → cond (eqb v 0) v0 (valueOn bytes v) ≡ leafValue c s i v
+          leaf (yes z) q =
+              ap (λ (b : Bool). cond b v0 (valueOn bytes v)) (eq-eqb v 0 z) ∙ sym (leaf-is v ∙ ap (λ (q : ℕ). getD (given s i) q vx) z)
+          leaf (no n) (yes q) = ap (λ (b : Bool). cond b v0 (valueOn bytes v)) (ne-eqb v 0 n) ∙ sym (leaf-on v q n)
+          leaf (no n) (no q) = absurd (gate-there (inner c) (c .gates) binary v (omega arith) (omega (arith, order .sum)) f)
+
+  low-values : (v : ℕ) → v ≤ c .M + 1 → ((u : ℕ) → u < v → Right (c .gates) bytes u) → (u : ℕ) → u < v → valueOn bytes u ≡ valuesOf c s i u
+  low-values zero h right u k = absurd (omega arith)
+  low-values (suc v) h right u k = go (decLt u v) (low-values v (omega arith) (λ x q. right x (omega arith)))
+    where
+      go : Dec (u < v) → ((x : ℕ) → x < v → valueOn bytes x ≡ valuesOf c s i x) → valueOn bytes u ≡ valuesOf c s i u
+      go (yes q) ih = ih u q
+      go (no q) ih =
+          let e : v ≡ u = omega arith in
+          subst (λ (x : ℕ). valueOn bytes x ≡ valuesOf c s i x) e
+          (ap valueOf (right v (omega arith)) ∙ value-code (follows (c .gates) bytes v) ∙ follows-step v (omega arith) ih)
+
+  -- 23 names the least variable whose byte is not that of the step from the state and inputs on the screen
+  pub least-of-step : (v : ℕ) → wrongOn c bytes ≡ some v
+      → (getD bytes v 0 ≡ codeOf (valuesOf c (stateOn c bytes) (inputsOn c bytes) v) → ⊥)
+      × ((u : ℕ) → u < v → getD bytes u 0 ≡ codeOf (valuesOf c (stateOn c bytes) (inputsOn c bytes) u))
+  unfolding s i
+  least-of-step v e =
+      let l = wrong-least (c .gates) bytes (c .M + 1) 0 v e in
+      let within : v < 0 + (c .M + 1) = wrong-within (c .gates) bytes (c .M + 1) 0 v e in
+      let right : (u : ℕ) → u < v → Right (c .gates) bytes u = λ u k. l .1 u (omega arith) k in
+      let low = low-values v (omega arith) right in (
+        λ q. l .0 (q ∙ ap codeOf (sym (follows-step v (omega arith) low))),
+        λ u k. right u k ∙ ap codeOf (sym (ap valueOf (right u k) ∙ value-code (follows (c .gates) bytes u)) ∙ low u k),
+      )
 
   past-end : (v : ℕ) → c .M + 1 ≤ v → valueOn bytes v ≡ leafValue c s i v
   past-end v h =
