@@ -14,7 +14,7 @@ use Rattle.plan.specs.declared.Refusal.the-variants.{NotInOrder, BadVector, NoG
 use Rattle.plan.specs.declared.Stepped.the-variants as stepped
 use Rattle.plan.specs.Literals.{litOf}
 use Rattle.plan.specs.Refusals.{stage, firstOf}
-use Rattle.plan.specs.Circuit.{Circuit, Tables, countsOf, wordsToWork, against, short}
+use Rattle.plan.specs.Circuit.{Gate, Circuit, Tables, countsOf, wordsToWork, against, short}
 use Rattle.plan.specs.Depends.{Depends}
 use Rattle.plan.specs.Reading.{WellFormed}
 use Rattle.plan.specs.Binary.{binaryOrder}
@@ -25,7 +25,9 @@ use Rattle.theorems.proofs.Reading.Common.{and-left, and-right}
 use Rattle.theorems.proofs.Reading.Short.{short-none}
 use Rattle.theorems.proofs.Put.{put-length}
 use Rattle.theorems.proofs.Tables.{gateAt, gatesAt, gates-rows}
-use Rattle.theorems.proofs.Running.Binary.{inner}
+use Rattle.theorems.proofs.Reading.Runs.{order-exactly}
+use Rattle.theorems.proofs.Running.Binary.{Binary, inner}
+use Rattle.theorems.proofs.Running.InOrder.{order-binary}
 use Rattle.theorems.proofs.Writing.Nothing.{stage-none, at-none, failing-none, first-all, first-both}
 use Rattle.theorems.proofs.Writing.Fine.{nothing-fine, fine-nothing, counts-given}
 use Rattle.theorems.proofs.Writing.Holding.{formed-fine}
@@ -33,7 +35,7 @@ use Rattle.theorems.proofs.Writing.Later.{Left}
 use Rattle.rewired.specs.Rewire.{rewiredGates, rewire, screen, inputsOn, stateOn, wrongOn, leftAt, editStages, RewireEntry, rewiredBy, rewiring}
 use Rattle.rewired.proofs.Rewired.{length-rewired, rewire-in-order, rewire-well-formed, rewire-apart}
 use Rattle.rewired.proofs.Screen.{screen-exactly, screen-at}
-use Rattle.rewired.proofs.Rows.{other-gate, table-rewired, two-stores}
+use Rattle.rewired.proofs.Rows.{left-side, other-gate, table-rewired, two-stores}
 
 -- the tables with another one of gates
 abbrev pub withGates : Tables → List ℕ → Tables
@@ -99,6 +101,18 @@ module _ (e : RewireEntry) where
             (stage-none BadVector (failingAt 4 (eqb (length (e .values)) (n .M + 1))) (k .1 .1 .1 .1 .0)));
         right = stage-none WrongValue (wrongOn c (e .values)) (k .1 .1 .1 .1 .1 .0);
       }
+
+  -- what 15 holds a right side to is the left side in the gate's row
+  pub left-judged : firstOf (stages g (lentAlone g) ++ (orderStage g ∷ [])) ≡ none → e .gate < n .A
+      → gateAt (g .tables .gates) (e .gate) .lhs ≡ leftAt n (e .gate)
+  left-judged f there =
+      let h = first-both (stages g (lentAlone g)) (orderStage g ∷ []) f in
+      let held = counts-given g (nothing-fine g (lentAlone g) (h .0) .room) in
+      let order = failing-none (binaryOrder c) (stage-none NotInOrder (failing (binaryOrder c)) (first-all (orderStage g ∷ []) (h .1) .0)) in
+      left-side (inner c) (g .tables .gates) (n .A) (e .gate) there
+      (subst (λ (gs : List Gate). Binary (inner c) gs) (gates-rows (g .tables .gates) (n .A))
+      (order-binary (inner c) (c .gates) (order-exactly c .0 order .gates)))
+      ∙ ap (λ (x : Counts). litOf (1 + x .I + x .L + e .gate)) held
 
   done-none : (o : Option Refusal) → rewiredBy o e .answer ≡ stepped.Done → o ≡ none
   done-none none d = refl

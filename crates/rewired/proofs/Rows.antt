@@ -9,7 +9,7 @@ use native.Mathlib.Decide.{decLt}
 use borrow.Author.Tests.{eq-eqb, ne-eqb}
 use lib.ListN.{length, getD, set, length-set}
 use lib.Seq.{getD-set-same, getD-set-other}
-use Rattle.plan.specs.Literals.{varOf}
+use Rattle.plan.specs.Literals.{litOf, varOf, signOf}
 use Rattle.plan.specs.Circuit.{Gate}
 use Rattle.plan.specs.Depends.{find}
 use Rattle.plan.specs.Outcome.{put}
@@ -53,6 +53,15 @@ pub found-at : (n : ℕ) (t : List ℕ) (a k : ℕ) → k < a → Binary n (gate
 found-at n t a k h b =
     ap (λ (v : ℕ). find v (gatesAt t a)) (sym (left-at n t a k h b))
     ∙ all-places (Own n (gatesAt t a)) (gateAt t) a (own-found n (gatesAt t a) b) k h .1
+
+-- a gate's left side is twice its variable
+even-lefts : (n : ℕ) (gs : List Gate) → Binary n gs → AllG (λ g. signOf (g .lhs) ≡ 0) gs
+even-lefts n [] b = tt
+even-lefts n (g ∷ gs) b = (omega (arith, b .0), even-lefts (suc n) gs (b .3))
+
+pub left-side : (n : ℕ) (t : List ℕ) (a k : ℕ) → k < a → Binary n (gatesAt t a) → gateAt t k .lhs ≡ litOf (n + k)
+left-side n t a k h b =
+    omega (arith, left-at n t a k h b, all-places (λ g. signOf (g .lhs) ≡ 0) (gateAt t) a (even-lefts n (gatesAt t a) b) k h)
 
 -- the right sides of row k are set: gate k is rewired, every other stays
 abbrev pub setSides : List ℕ → ℕ → ℕ → ℕ → List ℕ
