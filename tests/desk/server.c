@@ -21,6 +21,7 @@
    15 rowreport given, table 6, u64 rows, inputs, answer                  all of these but the number
    16 explain   given, u64 output, state, inputs, marks, answer           all of these but the number
    17 plain     as step                                                   as step
+   18 rewire    given, u64 gate, u64 rhs0, u64 rhs1, values, answer       all of these but the numbers
 
    Given are counts, a circuit's tables (1 to 4, 7 to 9) and scratch. What these are is said in wire.h. */
 #include <stdint.h>
@@ -164,6 +165,17 @@ static void call_explain(void) {
     put_memory(answer);
 }
 
+static void call_rewire(void) {
+    struct given given = get_given();
+    uint64_t gate = get_number();
+    uint32_t rhs0 = get_number(), rhs1 = get_number();
+    struct memory values = get_vector(), answer = get_numbers();
+    golvanzo_rewire(CIRCUIT_OF(given), LENT(given.scratch), gate, rhs0, rhs1, LENT(values), answer.lent);
+    put_given(given);
+    put_memory(values);
+    put_memory(answer);
+}
+
 int main(void) {
     uint32_t call;
     while (fread(&call, sizeof call, 1, stdin) == 1) {
@@ -220,6 +232,9 @@ int main(void) {
             break;
         case 17:
             call_step(golvanzo_step_plain);
+            break;
+        case 18:
+            call_rewire();
             break;
         default:
             give_up("no such call");

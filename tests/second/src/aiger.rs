@@ -11,6 +11,7 @@ pub mod programs;
 pub mod read;
 pub mod reduce;
 pub mod report;
+pub mod rewire;
 pub mod rows;
 pub mod step;
 pub mod tables;

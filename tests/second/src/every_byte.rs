@@ -58,6 +58,16 @@ fn values(library: &dyn Library, byte: u8) -> Result<(), String> {
             explain.numbers = vec![0];
             compare(library, Call::Explain, &explain)?;
         }
+        for values in [
+            [b'0', byte, other, other],
+            [b'0', other, byte, other],
+            [byte, b'1', other, other],
+            [b'0', b'1', other, byte],
+        ] {
+            let mut rewire = lent(Call::Rewire, &[&values]);
+            rewire.numbers = vec![0, 3, 5];
+            compare(library, Call::Rewire, &rewire)?;
+        }
         let mut rows = lent(Call::Rows, &[b"??", &[other, byte], b"??"]);
         rows.numbers = vec![2];
         compare(library, Call::Rows, &rows)?;

@@ -99,6 +99,11 @@ fn compared(library: &dyn Library, a: usize) -> Result<(), String> {
         .map(|vector| Memory::around(vector, JUNK))
         .to_vec();
     tables::compare(library, Call::StepPlain, &plain)?;
+    // The first gate of the chain is turned, and with it all the others.
+    let mut rewire = given::lend(Call::Rewire, &given::exactly(Call::Rewire, &chain(a)), JUNK);
+    rewire.numbers = vec![0, 0, 2];
+    rewire.bytes = vec![Memory::around(&step::values(&chain(a), b"", b"1"), JUNK)];
+    tables::compare(library, Call::Rewire, &rewire)?;
     let mut explain = given::lend(Call::Explain, &given::exactly(Call::Explain, &chain(a)), JUNK);
     explain.numbers = vec![0];
     explain.bytes = [&b""[..], b"1", b"?"]

@@ -54,10 +54,11 @@ pub enum Call {
     ReportRows,
     Explain,
     StepPlain,
+    Rewire,
 }
 
 impl Call {
-    pub const ALL: [Call; 14] = [
+    pub const ALL: [Call; 15] = [
         Call::Check,
         Call::WriteText,
         Call::WriteBinary,
@@ -72,6 +73,7 @@ impl Call {
         Call::ReportRows,
         Call::Explain,
         Call::StepPlain,
+        Call::Rewire,
     ];
 
     pub fn named(name: &str) -> Option<Call> {
@@ -94,6 +96,7 @@ impl Call {
             Call::ReportRows => "report-rows",
             Call::Explain => "explain",
             Call::StepPlain => "step-plain",
+            Call::Rewire => "rewire",
         }
     }
 
@@ -105,6 +108,7 @@ impl Call {
             Call::Step | Call::Witness3 => &[2, 3, 4, 5, 6, 7, 8, 12, 15],
             Call::Witness => &[2, 3, 4, 5, 6, 7, 8, 12, 15, 20],
             Call::StepPlain => &[2, 3, 4, 5, 6, 7, 8, 12, 15, 24],
+            Call::Rewire => &[2, 3, 4, 5, 6, 7, 8, 12, 15, 22, 23],
             Call::Explain => &[2, 3, 4, 5, 6, 7, 8, 11, 12, 15, 17],
             Call::Report | Call::Rows | Call::ReportRows => &[2, 3, 4, 5, 6, 7, 8, 12, 13, 15],
             Call::WriteText => &[1, 2, 3, 4, 5, 6, 7, 8, 10, 11],
@@ -120,7 +124,7 @@ impl Call {
     /// The length of its answer: number, place, values.
     pub fn answers(self) -> u64 {
         match self {
-            Call::Check | Call::Step | Call::StepPlain | Call::Explain => 2,
+            Call::Check | Call::Step | Call::StepPlain | Call::Explain | Call::Rewire => 2,
             Call::Report | Call::Rows | Call::ReportRows => 2,
             Call::WriteText | Call::WriteBinary | Call::Witness3 => 3,
             Call::Witness => 4,
@@ -158,10 +162,11 @@ pub struct Lent {
     /// The same tables again, of conversion, reduction and dropping; of the reports table 6.
     pub written: Vec<Memory<u32>>,
     /// How many vectors, of the witness questions, of a report and of rows; of that of fillings the allowance too.
-    /// Of an explanation the output's number.
+    /// Of an explanation the output's number; of rewiring the gate's number and two right sides.
     pub numbers: Vec<u64>,
     /// Of a writer the tail and the buffer; of a stepper state, inputs, outputs; of the witness questions and of a
-    /// report the list; of rows next states, inputs, outputs; of an explanation state, inputs, marks.
+    /// report the list; of rows next states, inputs, outputs; of an explanation state, inputs, marks; of rewiring
+    /// the values.
     pub bytes: Vec<Memory<u8>>,
     pub answer: Memory<u64>,
 }

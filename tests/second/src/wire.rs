@@ -38,6 +38,7 @@ fn number(call: Call) -> u32 {
         Call::ReportRows => 15,
         Call::Explain => 16,
         Call::StepPlain => 17,
+        Call::Rewire => 18,
     }
 }
 

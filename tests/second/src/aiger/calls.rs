@@ -7,7 +7,7 @@ use super::report::{self, Numbers, MOST_STEPS};
 use super::rows::{self, Rows, LANES};
 use super::step::{self, Step};
 use super::tables::{self, binary_order, Given};
-use super::{convert, explain, reduce, refuse, tail, unused, write, Circuit, Form, Refusal, Version};
+use super::{convert, explain, reduce, refuse, rewire, tail, unused, write, Circuit, Form, Refusal, Version};
 
 pub fn check(given: &Given) -> Result<(), Refusal> {
     tables::check(given).map(drop)
@@ -142,6 +142,36 @@ fn lanes(number: u64) -> Result<(), Refusal> {
         return refuse(13, LANES as usize);
     }
     Ok(())
+}
+
+/// The edited circuit and its values. All that is asked of the sides and of the values comes after what is asked of tables.
+pub fn rewire(given: &Given, gate: u64, sides: [u32; 2], values: &[u8]) -> Result<(Circuit, Vec<u8>), Refusal> {
+    let circuit = in_order(given)?;
+    if gate >= given.counts.a {
+        return Err(Refusal {
+            number: 22,
+            place: gate,
+        });
+    }
+    let gate = gate as usize;
+    if !sides
+        .iter()
+        .all(|&side| tables::in_range(side.into(), circuit.m, false))
+    {
+        return refuse(5, 4);
+    }
+    if !sides.iter().all(|&side| side < circuit.gates[gate][0]) {
+        return refuse(15, 0);
+    }
+    if values.len() as u64 != circuit.m + 1 {
+        return refuse(12, 4);
+    }
+    if let Some(least) = rewire::wrong(&circuit, values) {
+        return refuse(23, least);
+    }
+    let edited = rewire::rewired(&circuit, gate, sides);
+    let values = rewire::fresh(&edited, values);
+    Ok((edited, values))
 }
 
 /// The vectors of a list, which is judged as a whole before the first step. Its length is compared as a true product.

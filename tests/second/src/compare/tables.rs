@@ -91,6 +91,7 @@ pub fn after(call: Call, before: &Lent) -> Lent {
         }
         Call::Rows => rowed(&mut after, &given),
         Call::Explain => explained(&mut after, &given),
+        Call::Rewire => rewired(&mut after, &given),
         Call::ReportRows => {
             let report = calls::report_rows(&given, before.number(), before.bytes[0].lent());
             reported(&mut after, report.map(|report| report.concat()));
@@ -172,6 +173,25 @@ fn explained(after: &mut Lent, given: &Given) {
         buffer.lent_mut()[..marks.len()].copy_from_slice(marks);
     }
     answer(after, marks, |_| Vec::new());
+}
+
+/// One row of table 4 and the values; a refusal changes neither.
+fn rewired(after: &mut Lent, given: &Given) {
+    let [gate, one, other] = *after.numbers.as_slice() else {
+        unreachable!("rewiring has three numbers");
+    };
+    let outcome = calls::rewire(given, gate, [one as u32, other as u32], after.bytes[0].lent());
+    if let Ok((circuit, values)) = &outcome {
+        let gates = circuit.gates.as_flattened();
+        after.tables[3].lent_mut()[..gates.len()].copy_from_slice(gates);
+        after.bytes[0].lent_mut().copy_from_slice(values);
+    }
+    answer(after, outcome, |_| Vec::new());
+}
+
+/// Whether the tables hold a circuit in binary order.
+pub fn in_order(lent: &Lent) -> bool {
+    tables::check(&given(lent)).is_ok_and(|circuit| tables::binary_order(&circuit).is_ok())
 }
 
 /// The circuit of tables that hold one.

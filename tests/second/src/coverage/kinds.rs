@@ -5,6 +5,7 @@ mod marks;
 mod plain;
 mod reports;
 mod rows;
+mod sides;
 
 use super::at_least;
 use crate::aiger::{Circuit, Refusal};
@@ -28,6 +29,7 @@ fn of(call: Call) -> &'static [Kind] {
         Call::Rows => rows::KINDS,
         Call::Explain => marks::KINDS,
         Call::StepPlain => plain::KINDS,
+        Call::Rewire => sides::KINDS,
         Call::ReportRows => rows::OF_REPORTS,
         Call::Witness => fillings::KINDS,
         _ => &[],

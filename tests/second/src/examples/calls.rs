@@ -29,6 +29,16 @@ pub fn called(library: &dyn Library, circuit: &Circuit, tail: &[u8], list: &[&[u
                     }
                 }
             }
+            Call::Rewire => {
+                for ((state, _), input) in step::run(circuit, list.iter().copied()).zip(list) {
+                    for gate in 0..=circuit.gates.len() as u64 {
+                        let values = step::values(circuit, &state, input);
+                        let mut lent = exactly(call, circuit, &[&values]);
+                        lent.numbers = vec![gate, 1, 2];
+                        compare(library, call, &lent)?;
+                    }
+                }
+            }
             Call::Rows => {
                 let mut lent = exactly(call, circuit, &[]);
                 let lengths = [circuit.latches.len(), circuit.inputs.len(), circuit.outputs.len()];

@@ -4,6 +4,7 @@ mod fillings;
 mod marks;
 mod reports;
 mod rows;
+mod sides;
 mod slips;
 mod vectors;
 
@@ -16,6 +17,7 @@ use fillings::FILLINGS;
 use marks::MARKS;
 use reports::REPORT;
 use rows::{ROWS, ROW_REPORT};
+use sides::SIDES;
 use slips::{Slip, ANY, CHANGES, WRITERS};
 use vectors::{PLAIN, STEPPER, WITNESS};
 
@@ -31,6 +33,7 @@ fn slips(call: Call) -> Vec<(&'static str, Slip)> {
         Call::Report => [ANY, REPORT].concat(),
         Call::Rows => [ANY, ROWS].concat(),
         Call::Explain => [ANY, MARKS].concat(),
+        Call::Rewire => [ANY, SIDES].concat(),
         Call::ReportRows => [ANY, ROW_REPORT].concat(),
     }
 }

@@ -5,6 +5,7 @@ mod fillings;
 mod marks;
 mod order;
 mod rows;
+mod sides;
 mod vectors;
 mod words;
 mod writing;
@@ -92,6 +93,7 @@ pub fn case(call: Call, seed: u64, number: u64) -> TablesCase {
         Call::Report => vectors::report(&mut random, &circuit, &mut case),
         Call::Rows => rows::add(&mut random, &circuit, &mut case),
         Call::Explain => marks::add(&mut random, &circuit, &mut case),
+        Call::Rewire => sides::add(&mut random, &circuit, &mut case),
         Call::ReportRows => rows::add_report(&mut random, &circuit, &mut case),
     }
     case

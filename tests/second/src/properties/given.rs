@@ -163,6 +163,8 @@ fn writers(circuit: &Circuit, tail: &[u8]) -> Result<(), String> {
             calls::step_plain(&given, b"?", b"", 0),
             refuse(15, 0),
         )?;
+        let rewired = calls::rewire(&given, u64::MAX, [0, 0], b"");
+        expect("no binary order", rewired, refuse(15, 0))?;
         return expect("no binary order", calls::witness3(&given, 1, b"?"), refuse(15, 0));
     }
     let binary = write::file(circuit, Form::Binary, tail);

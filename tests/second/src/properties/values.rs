@@ -57,6 +57,7 @@ pub fn check(
     rows(&converted.circuit, &list)?;
     explanations(&converted.circuit, &steps, &list)?;
     plainly(&converted.circuit, &steps, &list)?;
+    rewired(random, &converted.circuit, &steps[0].0, &list[0])?;
     if circuit.gates.len() <= FEW_GATES {
         slowly(random, circuit, converted, unknown)?;
     }
@@ -285,6 +286,46 @@ fn plainly(circuit: &Circuit, steps: &[(Vec<u8>, Step)], list: &[Vec<u8>]) -> Re
         };
         ensure!(plain == expected, "plainly {plain:?}, stepped {expected:?}");
     }
+    Ok(())
+}
+
+/// After an edit values are those of a fresh step, other gates stay, and so do values that don't depend on the gate.
+fn rewired(random: &mut Random, circuit: &Circuit, state: &[u8], input: &[u8]) -> Result<(), String> {
+    let given = Given::exactly(circuit);
+    let values = step::values(circuit, state, input);
+    let a = circuit.gates.len();
+    let none = calls::rewire(&given, a as u64, [0, 0], &values);
+    ensure!(none == refuse(22, a), "no such gate: {none:?}");
+    if a == 0 || a > FEW_GATES {
+        return Ok(());
+    }
+    let gate = random.below(a);
+    let [lhs, ..] = circuit.gates[gate];
+    let [one, other] = [0, 1].map(|_| random.below(lhs as usize) as u32);
+    let (edited, after) =
+        calls::rewire(&given, gate as u64, [one, other], &values).map_err(|refusal| refusal.line())?;
+    let mut back = edited.clone();
+    back.gates[gate] = circuit.gates[gate];
+    ensure!(back == *circuit, "another gate changed: {edited:?}");
+    ensure!(
+        edited.gates[gate] == [lhs, one.max(other), one.min(other)],
+        "{edited:?}"
+    );
+    ensure!(
+        calls::reduce(&Given::exactly(&edited)).is_ok(),
+        "no longer in binary order"
+    );
+    ensure!(after == naive::values(&edited, state, input), "no fresh values");
+    let depends = naive::depends(&edited);
+    for (k, [lhs, ..]) in edited.gates.iter().enumerate() {
+        let v = variable(*lhs);
+        ensure!(
+            k == gate || depends[k][gate] || after[v] == values[v],
+            "variable {v} changed"
+        );
+    }
+    let exchanged = calls::rewire(&given, gate as u64, [other, one], &values);
+    ensure!(exchanged == Ok((edited, after)), "sides exchanged: {exchanged:?}");
     Ok(())
 }
 
