@@ -1,0 +1,118 @@
+-- The first of the four parts that has a wrong mark.
+use borrow.Author.Needs.{needs}
+use mathlib.Core.Path.{sym, _∙_}
+use Rattle.cardhead.proofs.Told.{in-head, in-latches, in-outputs, in-gates}
+use Rattle.cardhead.proofs.all_marks.Statement.{statement}
+use Rattle.cardhead.proofs.all_marks.Tie as tie
+
+check-marks-requires : tie.Need-check-marks-requires
+check-marks-requires c κs = search needs
+
+enum-known-head : tie.Need-enum-known-head
+enum-known-head c = search needs
+
+returns : tie.Need-returns
+returns c =
+    let d = c .before .before .before in
+    let a = d .before .before .args in
+    in-head (a .file .now) (a .n) _ (sym (d .check-marks .ensures) ∙ c .before .head .given .1)
+
+enum-told : tie.Need-enum-told
+enum-told c = search needs
+
+check-marks-requires-2 : tie.Need-check-marks-requires-2
+check-marks-requires-2 c κs = search needs
+
+enum-known-latches : tie.Need-enum-known-latches
+enum-known-latches c = search needs
+
+returns-2 : tie.Need-returns-2
+returns-2 c =
+    let d = c .before .before .before in
+    let e = d .before in
+    let g = e .before .before in
+    let a = g .before .before .args in
+    in-latches (a .file .now) (a .n) (sym (g .check-marks .ensures) ∙ e .enum-told .given .1) _
+    (sym (d .check-marks2 .ensures) ∙ c .before .latches .given .1)
+
+enum-told-2 : tie.Need-enum-told-2
+enum-told-2 c = search needs
+
+mul-check-marks : tie.Need-mul-check-marks
+mul-check-marks c = search needs
+
+add-check-marks : tie.Need-add-check-marks
+add-check-marks c = search needs
+
+check-marks-requires-3 : tie.Need-check-marks-requires-3
+check-marks-requires-3 c κs = search needs
+
+enum-known-outputs : tie.Need-enum-known-outputs
+enum-known-outputs c = search needs
+
+returns-3 : tie.Need-returns-3
+returns-3 c =
+    let d = c .before .before .before in
+    let e = d .before .before in
+    let g = e .before .before in
+    let h = g .before in
+    let k = h .before .before in
+    let a = k .before .before .args in
+    in-outputs (a .file .now) (a .n) (sym (k .check-marks .ensures) ∙ h .enum-told .given .1)
+    (sym (g .check-marks2 .ensures) ∙ e .enum-told2 .given .1) _ (sym (d .check-marks3 .ensures) ∙ c .before .outputs .given .1)
+
+enum-told-3 : tie.Need-enum-told-3
+enum-told-3 c = search needs
+
+mul-check-marks-2 : tie.Need-mul-check-marks-2
+mul-check-marks-2 c = search needs
+
+add-check-marks-2 : tie.Need-add-check-marks-2
+add-check-marks-2 c = search needs
+
+mul-check-marks-3 : tie.Need-mul-check-marks-3
+mul-check-marks-3 c = search needs
+
+add-check-marks-3 : tie.Need-add-check-marks-3
+add-check-marks-3 c = search needs
+
+check-marks-requires-4 : tie.Need-check-marks-requires-4
+check-marks-requires-4 c κs = search needs
+
+returns-4 : tie.Need-returns-4
+returns-4 c =
+    let f = c .before .before .before in
+    let d = f .before .before in
+    let e = d .before .before in
+    let g = e .before .before in
+    let h = g .before in
+    let k = h .before .before in
+    let a = k .before .before .args in
+    c .check-marks4 .ensures
+    ∙ in-gates (a .file .now) (a .n) (sym (k .check-marks .ensures) ∙ h .enum-told .given .1)
+    (sym (g .check-marks2 .ensures) ∙ e .enum-told2 .given .1) (sym (d .check-marks3 .ensures) ∙ f .enum-told3 .given .1)
+
+pub all-marks-spec : {M : Type 1} → statement M
+all-marks-spec =
+    tie.close
+    (tie.spec
+    check-marks-requires
+    enum-known-head
+    returns
+    enum-told
+    check-marks-requires-2
+    enum-known-latches
+    returns-2
+    enum-told-2
+    mul-check-marks
+    add-check-marks
+    check-marks-requires-3
+    enum-known-outputs
+    returns-3
+    enum-told-3
+    mul-check-marks-2
+    add-check-marks-2
+    mul-check-marks-3
+    add-check-marks-3
+    check-marks-requires-4
+    returns-4)
