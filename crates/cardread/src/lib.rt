@@ -1,109 +1,101 @@
 // Reading the old plan cards into tables (the paper, plan cards).
 ghost use mathlib.Core.Path.{_≡_};
-ghost use mathlib.Core.List.{map};
-ghost use Prim.Native.Nat.{_+_, _*_, _≤_};
-ghost use lib.ListN.{length, drop};
-ghost use Rattle.plan.specs.Refusals.{firstOf};
-ghost use Rattle.plan.specs.Circuit.{seven, flat, gateLine};
-ghost use Rattle.plan.specs.Outcome.{Says, put, checkedBy};
-ghost use Rattle.tables.specs.Held.{circuitIn, Fits};
+ghost use Rattle.plan.specs.Circuit.{seven, cleared};
+ghost use Rattle.plan.specs.Outcome.{Says};
 ghost use Rattle.tables.specs.Lengths.{lengthsIn, sizesOf};
 ghost use Rattle.rest.specs.Rest.{LoadedSays};
-ghost use Rattle.cards.specs.Cards.{wordsIn, gatesIn, carded, readCards, loadCards};
-ghost use Rattle.cardread.specs.Filled.{Ready, FirstHold, judgedBy};
+ghost use Rattle.cards.specs.Cards.{readCards, loadCards};
+use cardfill::fill;
+use cardfill::judge;
 use cardhead::read_head;
-use cards::word_at;
-use gates::run_on;
-use gates::spread;
 use plan::Checked;
-use plan::Counts;
 use plan::Headed;
 use plan::Loaded;
 use plan::Refusal;
-use plan::Var;
-use ranges::out_of_range;
-use sequence::in_binary_order;
 use tables::clear;
 use tables::clear_all;
 use tables::lengths;
 use tables::scratch_to_work;
 use tables::too_short;
 
-// The numbers of n records of one, from a position on.
-fn fill_words(file: &[u8], at: usize, n: usize, table: &mut [u32])
-    requires { ⌜ at + 6 * n ≤ length (now file) ⌝ }
-    requires { ⌜ n ≤ length (now table) ⌝ }
-    ensures { λ _. ⌜ now (table .exit) ≡ put (now (table .entry)) 0 (wordsIn n (drop at (now (file .entry)))) ⌝ }
-{
-    let mut i = 0;
-    while i < n {
-        table[i] = word_at(file, at + 6 * i + 2);
-        i += 1;
-    }
-}
-
-// The gates of n records of two right sides, from a position on; their left sides run from `first` on.
-fn fill_gates(file: &[u8], at: usize, n: usize, first: u32, table: &mut [u32])
-    requires { ⌜ at + 10 * n ≤ length (now file) ⌝ }
-    requires { ⌜ 3 * n ≤ length (now table) ⌝ }
-    requires { ⌜ first + n ≤ 1048576 ⌝ }
-    ensures { λ _. ⌜ now (table .exit) ≡ put (now (table .entry)) 0 (flat (map gateLine (gatesIn first n (drop at (now (file .entry)))))) ⌝ }
-{
-    let mut i: usize = 0;
-    while i < n {
-        let k = 3 * i;
-        let card = at + 10 * i;
-        table[k] = Var::at(first + i as u32).lit().word();
-        table[k + 1] = word_at(file, card + 2);
-        table[k + 2] = word_at(file, card + 6);
-        i += 1;
-    }
-}
-
-// Tables 1 to 4 from the records: the defining literals of inputs, latches and gates from their positions.
-fn fill(
+// The head by 1, 18, 2 and 3, then 4, then the records, then 5 and 15. The tables are zero on entry, and `words` are lent as scratch. After a
+// refusal the tables hold what was read before it.
+fn take_cards(
     file: &[u8],
-    n: Counts,
     inputs: &mut [u32],
     latches: &mut [u32],
     outputs: &mut [u32],
     gates: &mut [u32],
-)
-    requires { ⌜ Ready (now file) n (now inputs) (now latches) (now outputs) (now gates) ⌝ }
-    ensures { λ _. ⌜ FirstHold (now (inputs .entry)) (now (latches .entry)) (now (outputs .entry)) (now (gates .entry)) (carded (now (file .entry)) n)
-        (now (inputs .exit)) (now (latches .exit)) (now (outputs .exit)) (now (gates .exit)) ⌝ }
+    resets: &mut [u32],
+    bads: &mut [u32],
+    constraints: &mut [u32],
+    words: usize,
+) -> Loaded
+    requires { ⌜ now resets ≡ cleared (now resets) ⌝ }
+    ensures { λ r. ⌜ (let t = seven (now (inputs .entry)) (now (latches .entry)) (now (outputs .entry)) (now (gates .entry))
+        (now (resets .entry)) (now (bads .entry)) (now (constraints .entry)) in
+        LoadedSays t (readCards (now (file .entry)) (lengthsIn (sizesOf t) words)) r
+        (seven (now (inputs .exit)) (now (latches .exit)) (now (outputs .exit)) (now (gates .exit))
+        (now (resets .exit)) (now (bads .exit)) (now (constraints .exit)))) ⌝ }
 {
-    run_on(inputs, 1, n.I);
-    fill_words(file, 22, n.L, latches);
-    spread(latches, (1 + n.I) as u32, n.L);
-    fill_words(file, 22 + 6 * n.L, n.O, outputs);
-    fill_gates(
-        file,
-        22 + 6 * n.L + 6 * n.O,
-        n.A,
-        (1 + n.I + n.L) as u32,
-        gates,
-    );
+    match read_head(file) {
+        Headed::Refused(r) => Loaded::Refused(r),
+        Headed::Accepted(_, n, _) => {
+            let to = lengths(inputs, latches, outputs, gates, resets, bads, constraints);
+            let needed = scratch_to_work(n);
+            let short = too_short(n, to, needed, words);
+            if short != 0 {
+                return Loaded::Refused(Refusal::ShortTable(short));
+            }
+            fill(file, n, inputs, latches, outputs, gates);
+            match judge(
+                n,
+                inputs,
+                latches,
+                outputs,
+                gates,
+                resets,
+                bads,
+                constraints,
+            ) {
+                Checked::Refused(r) => Loaded::Refused(r),
+                Checked::Good => Loaded::Accepted(n, file.len()),
+            }
+        }
+    }
 }
 
-// 5 over filled tables, then 15. What is in binary order and in range can't meet 6, 7 or 8 (AIGER report, section 7).
-fn judge(
-    n: Counts,
-    inputs: &[u32],
-    latches: &[u32],
-    outputs: &[u32],
-    gates: &[u32],
-    resets: &[u32],
-    bads: &[u32],
-    constraints: &[u32],
-) -> Checked
-    requires { ⌜ Fits n (now inputs) (now latches) (now outputs) (now gates) (now resets) (now bads) (now constraints) ⌝ }
-    ensures { λ r. ⌜ r ≡ checkedBy (firstOf (judgedBy (circuitIn n (now (inputs .entry)) (now (latches .entry)) (now (outputs .entry))
-        (now (gates .entry)) (now (resets .entry)) (now (bads .entry)) (now (constraints .entry))))) ⌝ }
+// Reads cards into tables 1 to 4 and 7 to 9, whatever they hold on entry: the counts, and the file's length, since nothing follows the
+// records; or a refusal. Resets are 0, and there are no bad states and no constraints. Scratch, which is only measured, is zero afterwards.
+pub fn read_cards(
+    file: &[u8],
+    inputs: &mut [u32],
+    latches: &mut [u32],
+    outputs: &mut [u32],
+    gates: &mut [u32],
+    resets: &mut [u32],
+    bads: &mut [u32],
+    constraints: &mut [u32],
+    scratch: &mut [u32],
+) -> Loaded
+    ensures { λ r. ⌜ Says loadCards
+        (record {
+          file = now (file .entry);
+          tables = (seven (now (inputs .entry)) (now (latches .entry)) (now (outputs .entry)) (now (gates .entry))
+              (now (resets .entry)) (now (bads .entry)) (now (constraints .entry)));
+          scratch = now (scratch .entry);
+        })
+        (record {
+          answer = r;
+          tables = (seven (now (inputs .exit)) (now (latches .exit)) (now (outputs .exit)) (now (gates .exit))
+              (now (resets .exit)) (now (bads .exit)) (now (constraints .exit)));
+          scratch = now (scratch .exit);
+        }) ⌝ }
 {
-    let in_order = in_binary_order(n, inputs, latches, gates);
-    let out = out_of_range(
-        n,
+    clear_all(inputs, latches, outputs, gates, resets, bads, constraints);
+    clear(scratch);
+    let read = take_cards(
+        file,
         inputs,
         latches,
         outputs,
@@ -111,13 +103,11 @@ fn judge(
         resets,
         bads,
         constraints,
-        in_order,
+        scratch.len(),
     );
-    if out != 0 {
-        return Checked::Refused(Refusal::OutOfRange(out));
+    if let Loaded::Refused(r) = read {
+        clear_all(inputs, latches, outputs, gates, resets, bads, constraints);
+        return Loaded::Refused(r);
     }
-    if !in_order {
-        return Checked::Refused(Refusal::NotInOrder(0));
-    }
-    Checked::Good
+    read
 }

@@ -1,9 +1,9 @@
 -- A turn adds one number.
 use borrow.Author.Needs.{needs}
 use Prim.Native.Nat.{_-_}
-use Rattle.cardread.proofs.Filling.{Worded, none-worded, one-worded, all-worded}
-use Rattle.cardread.proofs.fill_words.Statement.{statement}
-use Rattle.cardread.proofs.fill_words.Tie as tie
+use Rattle.cardfill.proofs.Filling.{Worded, none-worded, one-worded, all-worded}
+use Rattle.cardfill.proofs.fill_words.Statement.{statement}
+use Rattle.cardfill.proofs.fill_words.Tie as tie
 
 abbrev Inv-loop : tie.InvT-loop
 Inv-loop file at n table₀ i₀ table i = Worded file at n table₀ table i

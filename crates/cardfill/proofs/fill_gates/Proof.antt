@@ -5,9 +5,9 @@ use mathlib.Core.Path.{_∙_}
 use native.Mathlib.Omega.{arith}
 use lib.ListN.{length-set}
 use Rattle.gates.proofs.Words.{lit-is}
-use Rattle.cardread.proofs.Filling.{Gated, none-gated, one-gated, all-gated}
-use Rattle.cardread.proofs.fill_gates.Statement.{statement}
-use Rattle.cardread.proofs.fill_gates.Tie as tie
+use Rattle.cardfill.proofs.Filling.{Gated, none-gated, one-gated, all-gated}
+use Rattle.cardfill.proofs.fill_gates.Statement.{statement}
+use Rattle.cardfill.proofs.fill_gates.Tie as tie
 
 abbrev Inv-loop : tie.InvT-loop
 Inv-loop file at n first table₀ i₀ table i = Gated file at n first table₀ table i

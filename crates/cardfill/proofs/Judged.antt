@@ -12,7 +12,7 @@ use Rattle.plan.specs.Circuit.{Circuit}
 use Rattle.plan.specs.Binary.{binaryOrder}
 use Rattle.plan.specs.Given.{failing, outsideIn}
 use Rattle.plan.specs.Outcome.{checkedBy}
-use Rattle.cardread.specs.Filled.{judgedBy}
+use Rattle.cardfill.specs.Filled.{judgedBy}
 
 module _ (c : Circuit) where
   by-both : (o : Option ℕ) (b : Bool) → outsideIn c ≡ o → binaryOrder c ≡ b

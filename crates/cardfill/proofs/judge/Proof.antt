@@ -5,10 +5,10 @@ use Rattle.tables.specs.Held.{circuitIn}
 use Rattle.plan.specs.Circuit.{Circuit}
 use Rattle.tables.proofs.Told.{some-table, no-table}
 use Rattle.given.proofs.Judging.{long-tables}
-use Rattle.cardread.proofs.Judged.{at-five, at-fifteen, good}
+use Rattle.cardfill.proofs.Judged.{at-five, at-fifteen, good}
 use borrow.Author.Needs.{needs}
-use Rattle.cardread.proofs.judge.Statement.{statement}
-use Rattle.cardread.proofs.judge.Tie as tie
+use Rattle.cardfill.proofs.judge.Statement.{statement}
+use Rattle.cardfill.proofs.judge.Tie as tie
 
 abbrev circuit : tie.Start → Circuit
 circuit s =
