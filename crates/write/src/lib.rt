@@ -135,7 +135,7 @@ fn check_tables(
 }
 
 // The same, then the tail by 1 and 10, whose offsets count from the tail's start. Scratch holds its marks and is zero afterwards.
-fn judge(
+pub fn judge(
     n: Counts,
     inputs: &[u32],
     latches: &[u32],
