@@ -1,45 +1,48 @@
+-- A turn passes one word.
+use borrow.Author.Needs.{needs}
+use Prim.Native.Nat.{_-_}
+use Rattle.cardwrite.proofs.Holding.{Zeros, none-seen, not-zero, one-seen, all-seen}
 use Rattle.cardwrite.proofs.all_zero.Statement.{statement}
 use Rattle.cardwrite.proofs.all_zero.Tie as tie
-use Rattle.cardwrite.proofs.all_zero.Reads as reads
-use Rattle.cardwrite.proofs.all_zero.Lts as lts
 
 abbrev Inv-loop : tie.InvT-loop
-Inv-loop table n i₀ i = ?
+Inv-loop table n i₀ i = Zeros table n i
 
 abbrev μ-loop : tie.MeasureT-loop
-μ-loop table n i₀ i = ?
+μ-loop table n i₀ i = n - i
 
--- src/lib.rt:23:5
 loop-holds : tie.Need-loop-holds Inv-loop μ-loop
-loop-holds c = ?
+loop-holds c = none-seen _ _
 
--- src/lib.rt:24:12
 mul-if1 : tie.Need-mul-if1 Inv-loop μ-loop
-mul-if1 c = ?
+mul-if1 c = search needs
 
--- src/lib.rt:24:12
 shared-slice-read-if1 : tie.Need-shared-slice-read-if1 Inv-loop μ-loop
-shared-slice-read-if1 c = ?
+shared-slice-read-if1 c = search needs
 
--- src/lib.rt:25:13
 returns : tie.Need-returns Inv-loop μ-loop
-returns c = ?
+returns c =
+    let s = c .before .before .before .loop in
+    let d = c .before .before .before .before in
+    not-zero (d .args .table .now) (d .args .n) (s .i) (s .inv) (d .pre) (c .before .before .loop-test .taken) (c .if1 .taken)
 
--- src/lib.rt:27:9
 add-i : tie.Need-add-i Inv-loop μ-loop
-add-i c = ?
+add-i c = search needs
 
--- src/lib.rt:23:5
 loop-less : tie.Need-loop-less Inv-loop μ-loop
-loop-less c = ?
+loop-less c = search needs
 
--- src/lib.rt:23:5
 loop-again : tie.Need-loop-again Inv-loop μ-loop
-loop-again c = ?
+loop-again c =
+    let s = c .before .before .before .loop in
+    let d = c .before .before .before .before in
+    one-seen (d .args .table .now) (d .args .n) (s .i) (s .inv) (d .pre) (c .before .before .loop-test .taken) (c .if1 .left)
 
--- src/lib.rt:18:1
 returns-2 : tie.Need-returns-2 Inv-loop μ-loop
-returns-2 c = ?
+returns-2 c =
+    let s = c .before .loop in
+    let d = c .before .before in
+    all-seen (d .args .table .now) (d .args .n) (s .i) (s .inv) (d .pre) (c .loop-test .left)
 
 pub all-zero-spec : {M : Type 1} → statement M
 all-zero-spec =
