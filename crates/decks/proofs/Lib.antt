@@ -3,4 +3,4 @@ pub mod Passing
 pub mod Exactly
 pub mod Spared
 pub mod Back
-pub mod Examples
+pub mod Huge

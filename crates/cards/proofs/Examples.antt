@@ -3,8 +3,12 @@ use Prim.Native.Nat.{ℕ}
 use mathlib.Core.Path.{_≡_, refl}
 use mathlib.Core.Option.{some}
 use mathlib.Core.List.{List, [], _∷_, _++_}
+use Rattle.plan.specs.declared.Refusal.the-variants.{NotOnCards}
+use Rattle.plan.specs.declared.Written.the-variants as written
+use Rattle.plan.specs.Circuit.{seven}
+use Rattle.plan.specs.Given.{Given}
 use Rattle.plan.specs.Programs.{bytesOf}
-use Rattle.cards.specs.Cards.{filer, carder}
+use Rattle.cards.specs.Cards.{writeCards, filer, carder}
 
 -- four bytes of a small number
 abbrev small : ℕ → List ℕ
@@ -42,15 +46,15 @@ emptyCards = bytesOf "PH" ++ (small 0 ++ (small 0 ++ (small 0 ++ (small 0 ++ sma
 pub empty-filed : filer (some emptyCards) ≡ bytesOf "aig 0 0 0 0 0\n"
 empty-filed = refl
 
+-- 1 comes before 18
+pub cut-unmarked : filer (some (bytesOf "XX")) ≡ bytesOf "refused 1 at 2\n"
+cut-unmarked = refl
+
 pub cut-short : filer (some (bytesOf "PH")) ≡ bytesOf "refused 1 at 2\n"
 cut-short = refl
 
 pub goes-on : filer (some (emptyCards ++ (0 ∷ []))) ≡ bytesOf "refused 1 at 22\n"
 goes-on = refl
-
--- counts of 2 ^ 32 - 1 ask for more bytes than there are: 1, before any mark or limit is looked at
-pub huge-count : filer (some (bytesOf "XX" ++ (small 0 ++ (small 0 ++ ((255 ∷ 255 ∷ 255 ∷ 255 ∷ []) ++ (small 0 ++ small 0)))))) ≡ bytesOf "refused 1 at 22\n"
-huge-count = refl
 
 -- the first wrong mark, in file order; then 2 at the number's first byte; then 3; 5 by the table; 15
 pub wrong-mark : filer (some (bytesOf "PH" ++ (small 0 ++ (small 0 ++ (small 1 ++ (small 0 ++ (small 0 ++ (bytesOf "PO" ++ small 0)))))))) ≡ bytesOf "refused 18 at 22\n"
@@ -81,3 +85,14 @@ no-bad = refl
 
 pub no-constraint : carder (some (bytesOf "aig 0 0 0 0 0 0 1\n0\n")) ≡ bytesOf "refused 19 at 0\n"
 no-constraint = refl
+
+-- 19 comes before 11: a comment of an empty circuit, with no room
+abbrev emptyTables : Given
+emptyTables = record {
+  counts = record { M = 0; I = 0; L = 0; O = 0; A = 0; B = 0; C = 0 };
+  tables = seven [] [] [] [] [] [] [];
+  scratch = 0 ∷ 0 ∷ 0 ∷ 0 ∷ [];
+}
+
+pub before-room : writeCards (record { circuit = emptyTables; tail = bytesOf "c\n"; out = [] }) .answer ≡ written.Refused (NotOnCards 0)
+before-room = refl
