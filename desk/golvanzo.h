@@ -58,6 +58,15 @@ void golvanzo_write_text(const uint64_t *counts /* 7 words */, GOLVANZO_GIVEN, G
 void golvanzo_write_binary(const uint64_t *counts /* 7 words */, GOLVANZO_GIVEN, GOLVANZO_SCRATCH, const uint8_t *tail,
                            size_t tail_len, uint8_t *out, size_t out_len, uint64_t *answer /* 3 words */);
 
+/* The old plan cards: records of a two-byte mark and four-byte numbers, low byte first, of circuits in binary order. Read
+   cards into the tables, `answer` being as `golvanzo_read` has it: resets are 0, and B and C are 0; scratch is as long
+   as for the calls on tables. Write the tables as cards, `answer` being as `golvanzo_write_binary` has it: a tail, a
+   reset that is not 0, a bad state and a constraint are refused by 19. */
+void golvanzo_read_cards(const uint8_t *file, size_t file_len, GOLVANZO_WRITTEN, GOLVANZO_SCRATCH,
+                         uint64_t *answer /* 9 words */);
+void golvanzo_write_cards(const uint64_t *counts /* 7 words */, GOLVANZO_GIVEN, GOLVANZO_SCRATCH, const uint8_t *tail,
+                          size_t tail_len, uint8_t *out, size_t out_len, uint64_t *answer /* 3 words */);
+
 /* Write the circuit in binary order, or reduced, to the written tables, which must be as long as the given counts
    ask; `answer` is number (0: made), place, M, I, L, O, A, B, C of what is written. Reduction needs tables in binary
    order. */

@@ -243,6 +243,74 @@ static void unused_gates(void) {
     expect(to.answer[0] == 15 && to.answer[1] == 0, "15 at 0", "drop");
 }
 
+/* A file of tests/cards; the folder that a run starts in is the project's. */
+static struct bytes stored(const char *name) {
+    static uint8_t buffer[1000];
+    FILE *f = fopen(name, "rb");
+    size_t length = f == NULL ? 0 : fread(buffer, 1, sizeof buffer, f);
+    if (f != NULL)
+        fclose(f);
+    return bytes_of((const char *)buffer, length);
+}
+
+static struct circuit read_cards(struct bytes file, size_t short_by) {
+    size_t words[TABLES] = {2, 2, 2, 12, 1, 0, 0, 34 - short_by};
+    struct circuit c = tables_like(words);
+    golvanzo_read_cards(file.at, file.length, SEVEN(c), TABLE(c, SCRATCH), c.answer);
+    return c;
+}
+
+static struct bytes cards_of(struct circuit c, struct bytes tail, size_t room, uint64_t *answer) {
+    struct bytes out = {lend(room), room};
+    golvanzo_write_cards(COUNTS(c), SEVEN(c), TABLE(c, SCRATCH), tail.at, tail.length, out.at, out.length, answer);
+    out.length = answer[0] == 0 ? (size_t)answer[2] : 0;
+    return out;
+}
+
+static void cards_refused(struct bytes file, size_t at, int byte, uint64_t number, uint64_t place, const char *what) {
+    struct bytes damaged = bytes_of((const char *)file.at, file.length);
+    if (byte >= 0)
+        damaged.at[at] = (uint8_t)byte;
+    else
+        damaged.length = at;
+    struct circuit c = read_cards(damaged, 0);
+    expect(c.answer[0] == number && c.answer[1] == place && c.answer[2] == 0, what, "cards");
+    expect(all_zero(c.table[3], c.words[3]) && all_zero(c.table[SCRATCH], c.words[SCRATCH]), "all is zero", what);
+}
+
+/* The toggle's cards, worked by hand, and its binary file, each written from the other. */
+static void cards(void) {
+    static const uint32_t latches[] = {6, 14}, gates[] = {8, 6, 2, 10, 7, 3, 12, 11, 9, 14, 12, 4};
+    static const uint64_t counts[] = {7, 2, 1, 2, 4, 0, 0};
+    struct bytes file = stored("tests/cards/toggle.cards"), none = {NULL, 0};
+    uint64_t answer[3];
+    struct circuit c = read_cards(file, 0);
+    expect(c.answer[0] == 0 && memcmp(COUNTS(c), counts, sizeof counts) == 0, "the counts of toggle.expected", "cards");
+    expect(memcmp(c.table[1], latches, sizeof latches) == 0 && memcmp(c.table[3], gates, sizeof gates) == 0 &&
+               c.table[4][0] == 0,
+           "the tables of toggle.expected", "cards");
+    expect(same(written(c, 1, none), FILE_OF(toggle_binary)), "written as binary", "cards");
+    struct circuit b = read_file(FILE_OF(toggle_binary));
+    expect(same(cards_of(b, none, 80, answer), file), "written from binary", "cards");
+    cards_of(b, none, 79, answer);
+    expect(answer[0] == 11 && answer[1] == 80, "11 at 80", "cards");
+    cards_of(b, FILE_OF("i0 p\n"), 0, answer);
+    expect(answer[0] == 19 && answer[1] == 0, "19 comes before 11", "cards");
+    struct circuit g = read_file(FILE_OF(guard_binary));
+    cards_of(g, none, ROOM, answer);
+    expect(answer[0] == 19 && answer[1] == 0, "a reset, a bad state and a constraint are no cards", "cards");
+    c = read_cards(file, 1);
+    expect(c.answer[0] == 4 && c.answer[1] == 5, "scratch as for calls on tables", "cards");
+    cards_refused(file, 79, -1, 1, 79, "ends early");
+    cards_refused(file, 10, 0, 1, 74, "goes on past what the counts ask");
+    cards_refused(file, 13, 255, 1, 80, "a count of four bytes");
+    cards_refused(file, 23, 'O', 18, 22, "a wrong mark");
+    cards_refused(file, 4, 16, 2, 2, "a count over the limit");
+    cards_refused(file, 2, 8, 3, 0, "a sum that is not equal");
+    cards_refused(file, 24, 16, 5, 2, "a next state out of range");
+    cards_refused(file, 42, 8, 15, 0, "a gate of itself");
+}
+
 /* The tracer's four lines for T, by one of the engines. */
 static void trace(__typeof__(golvanzo_step) *engine, const char *of) {
     static const char *const lines[4] = {"0 11 01 1", "1 11 10 0", "0 x1 01 x", "x 10 xx 0"};
@@ -657,6 +725,7 @@ int main(void) {
     plain_engine();
     edits();
     no_edits();
+    cards();
     refusals();
     table_refusals();
     little_scratch();

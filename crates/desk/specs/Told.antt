@@ -3,7 +3,7 @@ use Prim.Native.Nat.{ℕ}
 use mathlib.Core.List.{List}
 use Rattle.plan.specs.Given.{Given}
 use Rattle.plan.specs.Circuit.{Tables}
-use Rattle.plan.specs.Outcome.{FileEntry, FileExit, MakeEntry, MakeExit, StepEntry, WitnessEntry, checkedValues, writtenValues, madeValues, steppedValues, verdictValues, findingValues, StepExit}
+use Rattle.plan.specs.Outcome.{FileEntry, FileExit, MakeEntry, MakeExit, StepEntry, WitnessEntry, checkedValues, writtenValues, madeValues, steppedValues, verdictValues, findingValues, StepExit, ReadEntry, loadedValues}
 use Rattle.plan.specs.Outcome as outcome
 use Rattle.plan.specs.Drop as drop
 use Rattle.trying.specs.Fillings.{FilledEntry}
@@ -12,6 +12,7 @@ use Rattle.blame.specs.Explain as blame
 use Rattle.plain.specs.Plain as plain
 use Rattle.rewired.specs.Rewire.{RewireEntry}
 use Rattle.rewired.specs.Rewire as rewire
+use Rattle.cards.specs.Cards as cards
 
 pub record CheckTold : Type 0 where
   pub answer : List ℕ
@@ -34,6 +35,18 @@ writeText e = toldFile (outcome.writeText e)
 
 abbrev pub writeBinary : FileEntry → FileTold
 writeBinary e = toldFile (outcome.writeBinary e)
+
+-- plan cards
+abbrev pub writeCards : FileEntry → FileTold
+writeCards e = toldFile (cards.writeCards e)
+
+pub record CardsTold : Type 0 where
+  pub answer : List ℕ
+  pub tables : Tables
+  pub scratch : List ℕ
+
+abbrev pub readCards : ReadEntry → CardsTold
+readCards e = let x = cards.loadCards e in record { answer = loadedValues (x .answer); tables = x .tables; scratch = x .scratch }
 
 -- conversion, reduction and dropping
 pub record MakeTold : Type 0 where

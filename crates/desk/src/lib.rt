@@ -3,11 +3,13 @@ ghost use mathlib.Core.Path.{_≡_};
 ghost use lib.ListN.{drop};
 ghost use Rattle.plan.specs.Circuit.{seven};
 ghost use Rattle.plan.specs.Header.{wordsFor, countsFrom};
-ghost use Rattle.plan.specs.Outcome.{Says, read, read2007};
+ghost use Rattle.plan.specs.Outcome.{Says, read, read2007, loadedValues};
 ghost use Rattle.given.specs.Judged.{givenAt};
-ghost use Rattle.desk.specs.Told.{check, writeText, writeBinary, conversion, reduction, dropping, step, witness, witness3, explain, stepPlain, rewiring};
+ghost use Rattle.desk.specs.Told.{check, writeText, writeBinary, readCards, writeCards, conversion, reduction, dropping, step, stepPlain};
+ghost use Rattle.desk.specs.Told.{witness, witness3, explain, rewiring};
 ghost use Rattle.desk.specs.Reported.{report};
 ghost use Rattle.desk.specs.RowsTold.{stepRows, reportRows};
+use plan::Loaded;
 use plan::Version;
 
 // How many words table 1 to 5 or 7 to 9 needs for the file's header, or 2^64 - 1.
@@ -217,6 +219,111 @@ pub extern "C" fn golvanzo_write_binary(
 {
     let n = told::counts(counts);
     let r = write::write_binary(
+        n,
+        inputs,
+        latches,
+        outputs,
+        gates,
+        resets,
+        bads,
+        constraints,
+        scratch,
+        tail,
+        out,
+    );
+    told::written(r, answer);
+}
+
+// What a reader answers, as numbers: the refusal's number (0: none), its place, and the counts.
+fn loaded(r: Loaded, answer: &mut [u64; 9])
+    ensures { λ _. ⌜ now (answer .exit) ≡ loadedValues r ⌝ }
+{
+    match r {
+        Loaded::Accepted(n, _) => {
+            told::tell(answer, 0, 0, n);
+        }
+        Loaded::Refused(r) => {
+            told::tell(
+                answer,
+                refusals::told_number(r),
+                refusals::told_place(r) as u64,
+                told::no_counts(),
+            );
+        }
+    }
+}
+
+// Reads plan cards into the tables: number (0: read), place and the counts M, I, L, O, A, B, C. Nothing follows the records.
+#[no_mangle]
+pub extern "C" fn golvanzo_read_cards(
+    file: &[u8],
+    inputs: &mut [u32],
+    latches: &mut [u32],
+    outputs: &mut [u32],
+    gates: &mut [u32],
+    resets: &mut [u32],
+    bads: &mut [u32],
+    constraints: &mut [u32],
+    scratch: &mut [u32],
+    answer: &mut [u64; 9],
+)
+    ensures { λ _. ⌜ Says readCards
+        (record {
+          file = now (file .entry);
+          tables = (seven (now (inputs .entry)) (now (latches .entry)) (now (outputs .entry)) (now (gates .entry)) (now (resets .entry)) (now (bads .entry))
+              (now (constraints .entry)));
+          scratch = now (scratch .entry);
+        })
+        (record {
+          answer = now (answer .exit);
+          tables = (seven (now (inputs .exit)) (now (latches .exit)) (now (outputs .exit)) (now (gates .exit)) (now (resets .exit)) (now (bads .exit))
+              (now (constraints .exit)));
+          scratch = now (scratch .exit);
+        }) ⌝ }
+{
+    let r = cardread::read_cards(
+        file,
+        inputs,
+        latches,
+        outputs,
+        gates,
+        resets,
+        bads,
+        constraints,
+        scratch,
+    );
+    loaded(r, answer);
+}
+
+// Writes given tables in binary order as plan cards: number (0: written), place and the number of bytes.
+#[no_mangle]
+pub extern "C" fn golvanzo_write_cards(
+    counts: &[u64; 7],
+    inputs: &[u32],
+    latches: &[u32],
+    outputs: &[u32],
+    gates: &[u32],
+    resets: &[u32],
+    bads: &[u32],
+    constraints: &[u32],
+    scratch: &mut [u32],
+    tail: &[u8],
+    out: &mut [u8],
+    answer: &mut [u64; 3],
+)
+    ensures { λ _. ⌜ Says writeCards
+        (record {
+          circuit = givenAt (countsFrom (now (counts .entry)))
+              (seven (now (inputs .entry)) (now (latches .entry)) (now (outputs .entry)) (now (gates .entry)) (now (resets .entry)) (now (bads .entry))
+              (now (constraints .entry)))
+              (now (scratch .entry));
+          tail = now (tail .entry);
+          out = now (out .entry);
+        })
+        (record { answer = now (answer .exit); scratch = now (scratch .exit); out = now (out .exit) }) ⌝ }
+{
+    let n = told::counts(counts);
+    let r = cardwrite::write_cards(
         n,
         inputs,
         latches,

@@ -1,0 +1,49 @@
+use native.Mathlib.Omega.{arith}
+use borrow.Author.Needs.{needs}
+use Rattle.plan.specs.Circuit.{seven}
+use Rattle.plan.specs.Header.{countsFrom}
+use Rattle.plan.specs.Given.{Given}
+use Rattle.given.specs.Judged.{givenAt}
+use Rattle.plan.specs.Outcome.{FileExit}
+use Rattle.cards.specs.Cards.{writeCards}
+use Rattle.desk.proofs.Answers.{file-told}
+use Rattle.desk.proofs.golvanzo_write_cards.Statement.{statement}
+use Rattle.desk.proofs.golvanzo_write_cards.Tie as tie
+
+counts-requires : tie.Need-counts-requires
+counts-requires c κs = search needs
+
+write-cards-requires : tie.Need-write-cards-requires
+write-cards-requires c κs = search needs
+
+written-requires : tie.Need-written-requires
+written-requires c κs = search needs
+
+same-length : tie.Need-same-length
+same-length c = omega (arith, c .before .before .before .before .before .scratch .given)
+
+same-length-2 : tie.Need-same-length-2
+same-length-2 c = omega (arith, c .before .before .before .out .given)
+
+returns : tie.Need-returns
+returns c =
+    let s0 = c .before .before .before .before .before .before .before .before .before .before .before .before .before .before .before in
+    let start = s0 .before .before .before .before .before in
+    let counts′ = c .before .before .before .before .before .before .before .before .before .counts in
+    let wrote = c .before .before .before .before .before .before .write-cards in
+    let a = start .args in
+    let g : Given = givenAt (countsFrom (a .counts .now)) (seven (a .inputs .now) (a .latches .now) (a .outputs .now) (a .gates .now)
+    (a .resets .now) (a .bads .now) (a .constraints .now)) (a .scratch .now) in
+    let x : FileExit = record { answer = wrote .result; scratch = wrote .last .1 .1 .1 .1 .1 .1 .1 .1 .0; out = wrote .last .1 .1 .1 .1 .1 .1 .1 .1 .1 .1 .0 } in
+    file-told writeCards g (a .tail .now) (a .out .now) _ x _ (counts′ .ensures) (wrote .ensures) (c .written .ensures)
+
+pub golvanzo-write-cards-spec : {M : Type 1} → statement M
+golvanzo-write-cards-spec =
+    tie.close
+    (tie.spec
+    counts-requires
+    write-cards-requires
+    written-requires
+    same-length
+    same-length-2
+    returns)
