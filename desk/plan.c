@@ -117,6 +117,44 @@ struct plan_end plan_read(struct plan *plan, const uint8_t *file, size_t length)
     return end;
 }
 
+/* The words that a card file's counts ask for. None where the counts are not all there or one is above the limits: that is
+   refused before any table is looked at. */
+static void card_words(const uint8_t *file, size_t length, uint64_t asked[PLAN_TABLES + 1]) {
+    enum { HEADER = 22, NUMBERS = 5, MOST = 1048575 };
+    uint64_t n[PLAN_COUNTS] = {0};
+    memset(asked, 0, (PLAN_TABLES + 1) * sizeof *asked);
+    if (length < HEADER)
+        return;
+    for (int k = 0; k < NUMBERS; k++) {
+        const uint8_t *at = file + 2 + 4 * k;
+        n[k] = at[0] | (uint64_t)at[1] << 8 | (uint64_t)at[2] << 16 | (uint64_t)at[3] << 24;
+        if (n[k] > MOST)
+            return;
+    }
+    asked[PLAN_INPUTS] = n[PLAN_I];
+    asked[PLAN_LATCHES] = 2 * n[PLAN_L];
+    asked[PLAN_OUTPUTS] = n[PLAN_O];
+    asked[PLAN_GATES] = 3 * n[PLAN_A];
+    asked[PLAN_RESETS] = n[PLAN_L];
+    asked[PLAN_TABLES] = scratch_for(n);
+}
+
+struct plan_end plan_read_cards(struct plan *plan, const uint8_t *file, size_t length) {
+    uint64_t words[PLAN_TABLES + 1], answer[2 + PLAN_COUNTS] = {PLAN_NO_MEMORY};
+    memset(plan, 0, sizeof *plan);
+    card_words(file, length, words);
+    plan->tail = lent(0);
+    if (lend_for(plan, words) && plan->tail != NULL)
+        golvanzo_read_cards(file, length, TABLES(plan), SCRATCH(plan), answer);
+    if (answer[0] != 0) {
+        plan_free(plan);
+        return end_of(answer);
+    }
+    memcpy(plan->counts, answer + 2, sizeof plan->counts);
+    plan->binary = 1;
+    return done;
+}
+
 struct plan_end plan_check(struct plan *plan) {
     uint64_t answer[2];
     if (!ready(plan))
@@ -156,6 +194,10 @@ struct plan_end plan_drop(struct plan *plan) {
     return change(plan, golvanzo_drop);
 }
 
+/* A call that writes a file. */
+typedef void write_call(const uint64_t *counts, GOLVANZO_GIVEN, GOLVANZO_SCRATCH, const uint8_t *tail, size_t tail_len,
+                        uint8_t *out, size_t out_len, uint64_t *answer);
+
 /* Room for the longest file of these counts: a number within the limits has at most 7 digits, a difference 3 bytes. Should
    it not be enough, the library says how much is. */
 static size_t longest(const struct plan *plan, int binary) {
@@ -165,43 +207,40 @@ static size_t longest(const struct plan *plan, int binary) {
     return (size_t)(4 + 8 * lines + bytes) + plan->tail_length;
 }
 
-static struct plan_end write_into(struct plan *plan, int binary, struct plan_bytes *out) {
-    uint64_t answer[3];
-    if (binary)
-        golvanzo_write_binary(plan->counts, TABLES(plan), SCRATCH(plan), plan->tail, plan->tail_length, out->at,
-                              out->length, answer);
-    else
-        golvanzo_write_text(plan->counts, TABLES(plan), SCRATCH(plan), plan->tail, plan->tail_length, out->at,
-                            out->length, answer);
-    if (answer[0] == 0)
-        out->length = (size_t)answer[2];
-    return end_of(answer);
-}
-
-static struct plan_end write_form(struct plan *plan, int binary, struct plan_bytes *out) {
+/* Into a buffer of so many bytes, and once more if the library asks for more. */
+static struct plan_end write_file(struct plan *plan, write_call *call, size_t room, struct plan_bytes *out) {
     enum { SHORT_BUFFER = 11 };
-    struct plan_end end = {SHORT_BUFFER, longest(plan, binary)};
+    uint64_t answer[3] = {SHORT_BUFFER, room, 0};
     *out = (struct plan_bytes){NULL, 0};
     if (!ready(plan))
         return no_memory;
-    for (int turn = 0; turn < 2 && end.number == SHORT_BUFFER; turn++) {
+    for (int turn = 0; turn < 2 && answer[0] == SHORT_BUFFER; turn++) {
         free(out->at);
-        *out = (struct plan_bytes){lent((size_t)end.place), (size_t)end.place};
-        end = out->at == NULL ? no_memory : write_into(plan, binary, out);
+        *out = (struct plan_bytes){lent((size_t)answer[1]), (size_t)answer[1]};
+        if (out->at == NULL)
+            return no_memory;
+        call(plan->counts, TABLES(plan), SCRATCH(plan), plan->tail, plan->tail_length, out->at, out->length, answer);
     }
-    if (end.number != 0) {
+    out->length = (size_t)answer[2];
+    if (answer[0] != 0) {
         free(out->at);
         *out = (struct plan_bytes){NULL, 0};
     }
-    return end;
+    return end_of(answer);
 }
 
 struct plan_end plan_write_text(struct plan *plan, struct plan_bytes *out) {
-    return write_form(plan, 0, out);
+    return write_file(plan, golvanzo_write_text, longest(plan, 0), out);
 }
 
 struct plan_end plan_write_binary(struct plan *plan, struct plan_bytes *out) {
-    return write_form(plan, 1, out);
+    return write_file(plan, golvanzo_write_binary, longest(plan, 1), out);
+}
+
+/* As long as its counts say (docs/PAPER.md, "Plan cards"). */
+struct plan_end plan_write_cards(struct plan *plan, struct plan_bytes *out) {
+    const uint64_t *n = plan->counts;
+    return write_file(plan, golvanzo_write_cards, (size_t)(22 + 6 * (n[PLAN_L] + n[PLAN_O]) + 10 * n[PLAN_A]), out);
 }
 
 /* A reset is 0, 1 or the latch's own literal, which is x (docs/PAPER.md, "Stepping and the witness question"). */

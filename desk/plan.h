@@ -46,6 +46,9 @@ struct plan_end plan_words(const uint8_t *file, size_t length, uint64_t words[PL
 /* Reads a file; `plan` need not be set before. The file is not needed after it. A plan that was not read is empty. */
 struct plan_end plan_read(struct plan *plan, const uint8_t *file, size_t length);
 
+/* The same of a file of plan cards, which has no tail and is in binary order. */
+struct plan_end plan_read_cards(struct plan *plan, const uint8_t *file, size_t length);
+
 /* Gives back what the plan owns, and leaves it empty; an empty one may be given. */
 void plan_free(struct plan *plan);
 
@@ -58,9 +61,10 @@ struct plan_end plan_convert(struct plan *plan);
 struct plan_end plan_reduce(struct plan *plan);
 struct plan_end plan_drop(struct plan *plan);
 
-/* Write the plan and its tail as a file; `out` is empty after a refusal. */
+/* Write the plan and its tail as a file, or as plan cards, which hold no tail; `out` is empty after a refusal. */
 struct plan_end plan_write_text(struct plan *plan, struct plan_bytes *out);
 struct plan_end plan_write_binary(struct plan *plan, struct plan_bytes *out);
+struct plan_end plan_write_cards(struct plan *plan, struct plan_bytes *out);
 
 /* The first state, that of the resets: L bytes of "0", "1", "x". */
 void plan_first(const struct plan *plan, uint8_t *state);

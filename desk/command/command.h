@@ -92,5 +92,7 @@ int run_rows(const struct request *request, const struct source *file, struct pl
 int run_same(const struct request *request, const struct source *file, struct plan *plan);
 int run_draw(const struct request *request, const struct source *file, struct plan *plan);
 int run_words(const struct request *request, const struct source *file);
+int run_file(const struct request *request);
+int run_card(const struct request *request);
 
 #endif

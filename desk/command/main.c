@@ -9,63 +9,72 @@
 enum { TAKES_SECOND = 1, NEEDS_SECOND = 2, TAKES_VCD = 4, TAKES_LARGE = 8, TAKES_NAMES = 16, TAKES_THREE = 32 };
 enum { TAKES_COUNT = 64, NEEDS_OUTPUT = 128, NEEDS_EDIT = 256 };
 
-/* A command is given the plan of its file, or the file alone where only the header is looked at. */
+/* A command is given the plan of its file, the file alone where only the header is looked at, or what is asked alone where it
+   opens files itself. */
 struct command {
     const char *name, *words, *what, *more;
     int takes;
     int (*on_plan)(const struct request *, const struct source *, struct plan *);
     int (*on_file)(const struct request *, const struct source *);
+    int (*on_request)(const struct request *);
 };
 
 static const struct command commands[] = {
     {"check", "FILE", "says the form, the counts and the names of a plan, or why it is refused",
-     "A line with \"text\" or \"binary\" and the counts M I L O A B C, then a line for each name.", 0, run_check, NULL},
+     "A line with \"text\" or \"binary\" and the counts M I L O A B C, then a line for each name.", 0, run_check, NULL, NULL},
     {"convert", "FILE", "writes the plan in the other form, text or binary",
-     "Text becomes binary, its gates in the order of conversion; binary becomes text, as it is.", 0, run_convert, NULL},
+     "Text becomes binary, its gates in the order of conversion; binary becomes text, as it is.", 0, run_convert, NULL, NULL},
     {"reduce", "FILE", "writes the reduced plan, in binary form",
-     "Gates with the same pair of sides become one, and trivial ones go.", 0, run_reduce, NULL},
+     "Gates with the same pair of sides become one, and trivial ones go.", 0, run_reduce, NULL, NULL},
     {"drop", "FILE", "writes the reduced plan without unused gates, in binary form",
-     "As reduce; then gates go that no output, next state, bad state or constraint reaches.", 0, run_drop, NULL},
+     "As reduce; then gates go that no output, next state, bad state or constraint reaches.", 0, run_drop, NULL, NULL},
     {"rewire", "FILE GATE RHS0 RHS1", "gives a gate other right sides, and writes the plan in its form",
      "GATE counts from 0; RHS0 and RHS1 are literals below its left side, in either order.\n"
      "The plan must be in binary order, as convert writes it.",
-     NEEDS_EDIT, run_rewire, NULL},
+     NEEDS_EDIT, run_rewire, NULL, NULL},
     {"trace", "[--vcd] FILE [VECTORS]", "steps the plan, a vector of inputs on each line of VECTORS",
      "A vector has a value for each input: 0, 1 or x. A line for each step: state, inputs, outputs, next state.\n"
      "--vcd writes a waveform instead, for GTKWave and others, with the names of the plan.\n"
      "Without VECTORS they are read from standard input.",
-     TAKES_SECOND | TAKES_VCD, run_trace, NULL},
+     TAKES_SECOND | TAKES_VCD, run_trace, NULL, NULL},
     {"explain", "--output O --step K FILE [VECTORS]", "says which inputs and latches made an output 0 or 1",
      "Vectors are as for trace. The plan is stepped up to step K, the first being 0, and output O of that step is\n"
      "explained: O is its position, the first being 0, or its name. A line with its value, then one for each latch\n"
      "and input that made it so: with these alone known, and all others x, the output would have the same value.",
-     TAKES_SECOND | NEEDS_OUTPUT, run_explain, NULL},
+     TAKES_SECOND | NEEDS_OUTPUT, run_explain, NULL, NULL},
     {"witness", "[--three] FILE [VECTORS]", "says whether the vectors give 1 on some output or bad state",
      "Vectors are as for trace. \"yes\" if they do whatever the x of resets and vectors are, 0 or 1, else \"no\", and how\n"
      "many fillings of the x were tried; every constraint must be 1 at that step and before it. At most 20 x are filled.\n"
      "--three fills none and steps in three values: \"yes\" holds for every filling then, \"no\" says nothing of them.",
-     TAKES_SECOND | TAKES_THREE, run_witness, NULL},
+     TAKES_SECOND | TAKES_THREE, run_witness, NULL, NULL},
     {"report", "[--names] FILE [VECTORS]", "says for each output and latch its steps at 0, at 1, at x, and its changes",
      "Vectors are as for trace, at most 65536. A line for each output, then for each latch: o0 or l0 and so on, and four\n"
      "numbers; the last is that of steps with another value than the step before. A latch is looked at before each step.\n"
      "--names puts the names of the plan at the lines' ends.",
-     TAKES_SECOND | TAKES_NAMES, run_report, NULL},
+     TAKES_SECOND | TAKES_NAMES, run_report, NULL, NULL},
     {"rows", "[--count] FILE [VECTORS]", "steps the plan once from its start with each vector, 64 at a time",
      "Vectors are as for trace, and so are the lines, but that every one begins with the first state.\n"
      "--count says instead for each output at how many rows it is 0, 1 and x.",
-     TAKES_SECOND | TAKES_COUNT, run_rows, NULL},
+     TAKES_SECOND | TAKES_COUNT, run_rows, NULL, NULL},
     {"same", "FILE FILE", "says whether two plans are the same but for their numbers",
      "Both are converted and compared byte for byte, symbols and comments too: the form, M, the numbers of variables\n"
      "and the order of a gate's sides may differ, and the order of gates where conversion gives the same.\n"
      "\"same\", or \"different\" and for each plan the first place that differs, in the numbers of conversion.\n"
      "The exit status is 1 also if they are different.",
-     TAKES_SECOND | NEEDS_SECOND, run_same, NULL},
+     TAKES_SECOND | NEEDS_SECOND, run_same, NULL, NULL},
+    {"file", "CARDS", "writes a plan of plan cards in binary form, or all of a folder",
+     "CARDS may be a folder; then -o is the folder to write to, and each file has a line: what it became, or why it is\n"
+     "refused. A file that is refused leaves nothing behind and the others alone. The last line counts.",
+     0, NULL, NULL, run_file},
+    {"card", "FILE", "writes a plan in binary order as plan cards, or all of a folder",
+     "FILE may be a folder, as for file. Cards hold no symbols, comments, resets, bad states or constraints.", 0, NULL,
+     NULL, run_card},
     {"draw", "[--large] FILE", "writes a drawing of the plan, for Graphviz",
      "Inputs are boxes, latches double boxes, gates ellipses with their literal; a dotted edge negates.\n"
      "--large also draws a plan of more than 300 gates.",
-     TAKES_LARGE, run_draw, NULL},
+     TAKES_LARGE, run_draw, NULL, NULL},
     {"words", "FILE", "says how many words each table needs to read the file",
-     "A line for each table: its number, its name, its words. Only the header is looked at.", 0, NULL, run_words},
+     "A line for each table: its number, its name, its words. Only the header is looked at.", 0, NULL, run_words, NULL},
 };
 
 enum { COMMANDS = sizeof commands / sizeof commands[0] };
@@ -180,6 +189,8 @@ static int on_plan(const struct command *command, const struct request *request,
 
 static int run(const struct command *command, const struct request *request) {
     struct source file;
+    if (command->on_request != NULL)
+        return command->on_request(request);
     int status = read_source(request->file, &file);
     if (status != DONE)
         return status;
