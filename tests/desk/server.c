@@ -22,6 +22,8 @@
    16 explain   given, u64 output, state, inputs, marks, answer           all of these but the number
    17 plain     as step                                                   as step
    18 rewire    given, u64 gate, u64 rhs0, u64 rhs1, values, answer       all of these but the numbers
+   19 cards     file, tables by number, answer                            these tables, answer
+   20 to cards  as text                                                   as text
 
    Given are counts, a circuit's tables (1 to 4, 7 to 9) and scratch. What these are is said in wire.h. */
 #include <stdint.h>
@@ -56,6 +58,20 @@ static void call_read(reader *read) {
     free(file.bytes);
 }
 
+static void call_read_cards(void) {
+    struct file file = get_file();
+    struct memory t[TABLES];
+    for (int k = 0; k < TABLES; k++)
+        t[k] = get_table();
+    struct memory answer = get_numbers();
+    golvanzo_read_cards(file.bytes, file.length, LENT(t[0]), LENT(t[1]), LENT(t[2]), LENT(t[3]), LENT(t[5]), LENT(t[6]),
+                        LENT(t[7]), LENT(t[4]), answer.lent);
+    for (int k = 0; k < TABLES; k++)
+        put_memory(t[k]);
+    put_memory(answer);
+    free(file.bytes);
+}
+
 static void call_check(void) {
     struct given given = get_given();
     struct memory answer = get_numbers();
@@ -64,13 +80,13 @@ static void call_check(void) {
     put_memory(answer);
 }
 
-static void call_write(int binary) {
+typedef void writer(const uint64_t *, GOLVANZO_GIVEN, GOLVANZO_SCRATCH, const uint8_t *, size_t, uint8_t *, size_t,
+                    uint64_t *);
+
+static void call_write(writer *write) {
     struct given given = get_given();
     struct memory tail = get_vector(), out = get_vector(), answer = get_numbers();
-    if (binary)
-        golvanzo_write_binary(CIRCUIT_OF(given), LENT(given.scratch), LENT(tail), LENT(out), answer.lent);
-    else
-        golvanzo_write_text(CIRCUIT_OF(given), LENT(given.scratch), LENT(tail), LENT(out), answer.lent);
+    write(CIRCUIT_OF(given), LENT(given.scratch), LENT(tail), LENT(out), answer.lent);
     put_given(given);
     put_memory(tail);
     put_memory(out);
@@ -194,8 +210,10 @@ int main(void) {
             call_check();
             break;
         case 4:
+            call_write(golvanzo_write_text);
+            break;
         case 5:
-            call_write(call == 5);
+            call_write(golvanzo_write_binary);
             break;
         case 6:
             call_change(golvanzo_convert);
@@ -235,6 +253,12 @@ int main(void) {
             break;
         case 18:
             call_rewire();
+            break;
+        case 19:
+            call_read_cards();
+            break;
+        case 20:
+            call_write(golvanzo_write_cards);
             break;
         default:
             give_up("no such call");

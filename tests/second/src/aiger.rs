@@ -2,6 +2,7 @@
 
 pub mod bytes;
 pub mod calls;
+pub mod cards;
 pub mod convert;
 pub mod explain;
 pub mod fillings;

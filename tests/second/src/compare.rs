@@ -1,5 +1,6 @@
 //! Holds a library to this program's answers: number, place, counts, every word of every table, the tail.
 
+pub mod cards;
 pub mod tables;
 
 use crate::aiger::{read, with_scratch, Lengths, Version, TABLES};

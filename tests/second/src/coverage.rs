@@ -1,6 +1,7 @@
 //! Which answers the cases had, so that a generator that misses one counts as failed.
 
 pub mod calls;
+pub mod cards;
 mod kinds;
 mod places;
 pub mod programs;

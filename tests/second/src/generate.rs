@@ -1,6 +1,7 @@
 //! Cases for a reader, each made from a seed and a number: a file, the lengths of the lent tables, and, where
 //! the way it was made shows it, the answer.
 
+pub mod cards;
 pub mod circuit;
 pub mod damage;
 pub mod draft;

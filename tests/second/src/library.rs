@@ -55,10 +55,11 @@ pub enum Call {
     Explain,
     StepPlain,
     Rewire,
+    WriteCards,
 }
 
 impl Call {
-    pub const ALL: [Call; 15] = [
+    pub const ALL: [Call; 16] = [
         Call::Check,
         Call::WriteText,
         Call::WriteBinary,
@@ -74,6 +75,7 @@ impl Call {
         Call::Explain,
         Call::StepPlain,
         Call::Rewire,
+        Call::WriteCards,
     ];
 
     pub fn named(name: &str) -> Option<Call> {
@@ -97,6 +99,7 @@ impl Call {
             Call::Explain => "explain",
             Call::StepPlain => "step-plain",
             Call::Rewire => "rewire",
+            Call::WriteCards => "write-cards",
         }
     }
 
@@ -108,6 +111,7 @@ impl Call {
             Call::Step | Call::Witness3 => &[2, 3, 4, 5, 6, 7, 8, 12, 15],
             Call::Witness => &[2, 3, 4, 5, 6, 7, 8, 12, 15, 20],
             Call::StepPlain => &[2, 3, 4, 5, 6, 7, 8, 12, 15, 24],
+            Call::WriteCards => &[1, 2, 3, 4, 5, 6, 7, 8, 10, 11, 15, 19],
             Call::Rewire => &[2, 3, 4, 5, 6, 7, 8, 12, 15, 22, 23],
             Call::Explain => &[2, 3, 4, 5, 6, 7, 8, 11, 12, 15, 17],
             Call::Report | Call::Rows | Call::ReportRows => &[2, 3, 4, 5, 6, 7, 8, 12, 13, 15],
@@ -126,7 +130,7 @@ impl Call {
         match self {
             Call::Check | Call::Step | Call::StepPlain | Call::Explain | Call::Rewire => 2,
             Call::Report | Call::Rows | Call::ReportRows => 2,
-            Call::WriteText | Call::WriteBinary | Call::Witness3 => 3,
+            Call::WriteText | Call::WriteBinary | Call::WriteCards | Call::Witness3 => 3,
             Call::Witness => 4,
             Call::Convert | Call::Reduce | Call::Drop => 9,
         }
@@ -178,13 +182,28 @@ impl Lent {
     }
 }
 
+/// To read a card file into tables by number.
+pub struct CardsQuestion {
+    pub file: Vec<u8>,
+    pub tables: [Memory<u32>; 8],
+}
+
+pub struct CardsReply {
+    /// Number, place and the counts.
+    pub answer: [u64; 9],
+    /// As the read left them.
+    pub tables: [Memory<u32>; 8],
+}
+
 pub enum Question {
     File(FileQuestion),
+    Cards(CardsQuestion),
     Tables(Call, Lent),
 }
 
 pub enum Reply {
     File(FileReply),
+    Cards(Box<CardsReply>),
     /// What was lent, as the call left it.
     Tables(Box<Lent>),
 }

@@ -4,6 +4,7 @@
 #![forbid(unsafe_code)]
 
 mod aiger;
+mod cards;
 mod compare;
 mod coverage;
 mod desk;
@@ -97,6 +98,7 @@ fn all(tally: &mut Tally, options: &Options, library: Option<&dyn Library>, prog
     run_ahead(begun, |begun| begun.finish(tally, options, library));
     coverage.report(tally);
     desk::run(tally, options, library);
+    cards::run(tally, options, library);
     if let Some(library) = library {
         every_byte::run(tally, library);
         trips::run(tally, options, library);

@@ -1,7 +1,9 @@
 //! Questions and replies as the bytes that `tests/desk/server.c` reads and writes.
 
 use crate::aiger::Version;
-use crate::library::{Call, FileQuestion, FileReply, Lent, Question, ReadAnswer, ReadReply, Reply};
+use crate::library::{
+    Call, CardsQuestion, CardsReply, FileQuestion, FileReply, Lent, Question, ReadAnswer, ReadReply, Reply,
+};
 use crate::memory::{Element, Memory};
 use std::io::{self, Read};
 
@@ -13,6 +15,7 @@ pub fn request(question: &Question) -> Vec<u8> {
     let mut bytes = Vec::new();
     match question {
         Question::File(question) => put_file_question(&mut bytes, question),
+        Question::Cards(question) => put_cards_question(&mut bytes, question),
         Question::Tables(call, lent) => {
             put_call(&mut bytes, number(*call));
             put_lent(&mut bytes, lent);
@@ -39,6 +42,7 @@ fn number(call: Call) -> u32 {
         Call::Explain => 16,
         Call::StepPlain => 17,
         Call::Rewire => 18,
+        Call::WriteCards => 20,
     }
 }
 
@@ -71,6 +75,17 @@ fn put_file_question(bytes: &mut Vec<u8>, question: &FileQuestion) {
         tables.iter().for_each(|table| put_memory(bytes, table));
         put_memory(bytes, &answer);
     }
+}
+
+fn put_cards_question(bytes: &mut Vec<u8>, CardsQuestion { file, tables }: &CardsQuestion) {
+    put_call(bytes, 19);
+    put_file(bytes, file);
+    tables.iter().for_each(|table| put_memory(bytes, table));
+    let answer = Memory {
+        all: vec![UNANSWERED; 9],
+        margin: 0,
+    };
+    put_memory(bytes, &answer);
 }
 
 fn put_lent(bytes: &mut Vec<u8>, lent: &Lent) {
@@ -106,6 +121,7 @@ fn put_memory<T: Element>(bytes: &mut Vec<u8>, memory: &Memory<T>) {
 pub fn reply(from: &mut impl Read, question: Question) -> io::Result<Reply> {
     match question {
         Question::File(question) => Ok(Reply::File(get_file_reply(from, question)?)),
+        Question::Cards(question) => Ok(Reply::Cards(Box::new(get_cards(from, question.tables)?))),
         Question::Tables(_, lent) => Ok(Reply::Tables(Box::new(get_lent(from, lent)?))),
     }
 }
@@ -126,6 +142,13 @@ fn get_file_reply(from: &mut impl Read, question: FileQuestion) -> io::Result<Fi
     let reads = readers.map(|_| get_read(from, question.tables.clone()));
     let reads = reads.collect::<io::Result<_>>()?;
     Ok(FileReply { words, reads })
+}
+
+fn get_cards(from: &mut impl Read, mut tables: [Memory<u32>; 8]) -> io::Result<CardsReply> {
+    tables.iter_mut().try_for_each(|table| get_memory(from, table))?;
+    let answer: Vec<u64> = get(from, 9)?;
+    let answer = answer.try_into().expect("nine words");
+    Ok(CardsReply { answer, tables })
 }
 
 fn get_read(from: &mut impl Read, mut tables: [Memory<u32>; 8]) -> io::Result<ReadReply> {

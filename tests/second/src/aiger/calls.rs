@@ -1,5 +1,5 @@
 //! The calls that are given tables, each with all of its refusals in the paper's order: 2 to 8, 15, the tail
-//! by 1 and 10, 24, 13, 12, 17 or 20, 11.
+//! by 1 and 10, 24, 13, 12, 17, 19 or 20, 11.
 
 use super::fillings::{self, Verdict, MOST_X};
 use super::plain::{self, MOST_GATES};
@@ -7,7 +7,7 @@ use super::report::{self, Numbers, MOST_STEPS};
 use super::rows::{self, Rows, LANES};
 use super::step::{self, Step};
 use super::tables::{self, binary_order, Given};
-use super::{convert, explain, reduce, refuse, rewire, tail, unused, write, Circuit, Form, Refusal, Version};
+use super::{cards, convert, explain, reduce, refuse, rewire, tail, unused, write, Circuit, Form, Refusal, Version};
 
 pub fn check(given: &Given) -> Result<(), Refusal> {
     tables::check(given).map(drop)
@@ -23,6 +23,21 @@ pub fn write_binary(given: &Given, tail: &[u8], buffer: u64) -> Result<Vec<u8>, 
     let circuit = in_order(given)?;
     tail::check(tail, &given.counts, Version::V19)?;
     write::fits(write::file(&circuit, Form::Binary, tail), buffer)
+}
+
+pub fn write_cards(given: &Given, tail: &[u8], buffer: u64) -> Result<Vec<u8>, Refusal> {
+    let circuit = in_order(given)?;
+    tail::check(tail, &given.counts, Version::V19)?;
+    on_cards(&circuit, tail)?;
+    write::fits(cards::file(&circuit), buffer)
+}
+
+/// 19: what cards can't hold.
+pub fn on_cards(circuit: &Circuit, tail: &[u8]) -> Result<(), Refusal> {
+    if !tail.is_empty() || !cards::can_hold(circuit) {
+        return refuse(19, 0);
+    }
+    Ok(())
 }
 
 pub fn convert(given: &Given) -> Result<Circuit, Refusal> {

@@ -1,7 +1,9 @@
 //! The programs: from `plan.in` and standard input to every byte that they write.
 
-use super::calls::{are_values, few_gates};
-use super::{convert, read, reduce, refuse, report, step, tables, write, Circuit, Form, Lengths, Refusal, Version};
+use super::calls::{are_values, few_gates, on_cards};
+use super::{
+    cards, convert, read, reduce, refuse, report, step, tables, write, Circuit, Form, Lengths, Refusal, Version,
+};
 
 #[derive(Clone, Copy, Debug, PartialEq, Eq, PartialOrd)]
 pub enum Program {
@@ -10,6 +12,8 @@ pub enum Program {
     Tracer,
     Reporter,
     Comparer,
+    Filer,
+    Carder,
 }
 
 impl Program {
@@ -28,6 +32,8 @@ impl Program {
             Program::Tracer => "tracer",
             Program::Reporter => "reporter",
             Program::Comparer => "comparer",
+            Program::Filer => "filer",
+            Program::Carder => "carder",
         }
     }
 
@@ -47,12 +53,14 @@ impl Program {
     }
 
     /// The refusals that it can give. Those that read vectors write line by line, so no buffer is too short for
-    /// them.
+    /// them; nor is one for cards or what they become, since what is lent for tables is too short before.
     pub fn refusals(self) -> &'static [u64] {
         match self {
             Program::Converter | Program::Reducer => &[1, 2, 3, 4, 5, 6, 7, 8, 9, 10, 11, 13, 14, 16, 21],
             Program::Tracer | Program::Reporter => &[1, 2, 3, 4, 5, 6, 7, 8, 9, 10, 12, 13, 14, 16, 21],
             Program::Comparer => &[1, 2, 3, 4, 5, 6, 7, 8, 9, 10, 12, 13, 14, 16, 21, 24],
+            Program::Filer => &[1, 2, 3, 4, 5, 13, 14, 15, 18],
+            Program::Carder => &[1, 2, 3, 4, 5, 6, 7, 8, 9, 10, 13, 14, 15, 16, 19, 21],
         }
     }
 }
@@ -86,12 +94,21 @@ pub fn answer(program: Program, plan: Option<&[u8]>, input: Option<&[u8]>) -> Re
         // Both engines give the tracer's lines; that they part, and "differ" is written, can't be.
         Program::Tracer | Program::Comparer => Ok(trace(&converted(), &vectors()?)),
         Program::Reporter => Ok(needles(&converted(), &vectors()?)),
+        Program::Filer => written(&circuit, Form::Binary),
+        Program::Carder => {
+            tables::binary_order(&circuit)?;
+            on_cards(&circuit, tail)?;
+            write::fits(cards::file(&circuit), LONGEST as u64)
+        }
     }
 }
 
 /// `plan.in`: the file, its circuit and its tail. Every program goes on to a call that may need more of table 5 than the reader.
 pub fn opened(program: Program, plan: Option<&[u8]>) -> Result<(&[u8], Circuit, &[u8]), Refusal> {
     let file = bytes(plan)?;
+    if program == Program::Filer {
+        return Ok((file, cards::read(file, &LENT)?, &[]));
+    }
     let (circuit, tail) = read::read(file, &LENT, Version::V19)?;
     let counts = circuit.counts();
     tables::lengths(&counts.words(), &LENT)?;

@@ -67,6 +67,7 @@ pub fn after(call: Call, before: &Lent) -> Lent {
         Call::Check => answer(&mut after, calls::check(&given), |()| Vec::new()),
         Call::WriteText => written(&mut after, |tail, room| calls::write_text(&given, tail, room)),
         Call::WriteBinary => written(&mut after, |tail, room| calls::write_binary(&given, tail, room)),
+        Call::WriteCards => written(&mut after, |tail, room| calls::write_cards(&given, tail, room)),
         Call::Convert => changed(&mut after, calls::convert(&given)),
         Call::Reduce => changed(&mut after, calls::reduce(&given)),
         Call::Drop => changed(&mut after, calls::drop_unused(&given)),

@@ -1,5 +1,6 @@
 //! Kinds of cases that a call must have had.
 
+mod cards;
 mod fillings;
 mod marks;
 mod plain;
@@ -30,6 +31,7 @@ fn of(call: Call) -> &'static [Kind] {
         Call::Explain => marks::KINDS,
         Call::StepPlain => plain::KINDS,
         Call::Rewire => sides::KINDS,
+        Call::WriteCards => cards::KINDS,
         Call::ReportRows => rows::OF_REPORTS,
         Call::Witness => fillings::KINDS,
         _ => &[],

@@ -102,6 +102,9 @@ impl RunCoverage {
             let count = answered[number as usize];
             tally.check(&format!("{name}, refusal {number}"), at_least(count, PER_KIND));
         }
+        if program == Program::Filer {
+            return tally.check("filer, accepted", at_least(answered[0], FEWEST_ACCEPTED / 20));
+        }
         for (form, count) in [(Form::Text, text), (Form::Binary, binary)] {
             let needed = FEWEST_ACCEPTED / if program.is_new() { 50 } else { 10 };
             tally.check(&format!("{name}, accepted, {form:?}"), at_least(count, needed));

@@ -1,7 +1,7 @@
 //! The calls on tables, on the circuits of the examples.
 
 use crate::aiger::tables::binary_order;
-use crate::aiger::{step, write, Circuit, Form};
+use crate::aiger::{cards, step, write, Circuit, Form};
 use crate::compare::tables::compare;
 use crate::generate::given;
 use crate::library::{Call, Lent, Library};
@@ -13,6 +13,11 @@ const JUNK: u64 = 1 << 33 | 1;
 pub fn called(library: &dyn Library, circuit: &Circuit, tail: &[u8], list: &[&[u8]]) -> Result<(), String> {
     for call in Call::ALL {
         match call {
+            Call::WriteCards => {
+                let mut lent = exactly(call, circuit, &[if cards::can_hold(circuit) { b"" } else { tail }]);
+                lent.bytes.push(Memory::junk(cards::file(circuit).len() as u64, JUNK));
+                compare(library, call, &lent)?;
+            }
             Call::WriteText => compare(library, call, &writing(call, Form::Text, circuit, tail))?,
             Call::WriteBinary => compare(library, call, &writing(call, form(circuit), circuit, tail))?,
             Call::Step | Call::StepPlain => {

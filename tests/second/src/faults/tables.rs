@@ -18,13 +18,14 @@ use marks::MARKS;
 use reports::REPORT;
 use rows::{ROWS, ROW_REPORT};
 use sides::SIDES;
-use slips::{Slip, ANY, CHANGES, WRITERS};
+use slips::{Slip, ANY, CARDS, CHANGES, COPIES, WRITERS};
 use vectors::{PLAIN, STEPPER, WITNESS};
 
 fn slips(call: Call) -> Vec<(&'static str, Slip)> {
     match call {
         Call::Check => ANY.to_vec(),
-        Call::WriteText | Call::WriteBinary => [ANY, WRITERS].concat(),
+        Call::WriteText | Call::WriteBinary => [ANY, WRITERS, COPIES].concat(),
+        Call::WriteCards => [ANY, WRITERS, CARDS].concat(),
         Call::Convert | Call::Reduce | Call::Drop => [ANY, CHANGES].concat(),
         Call::Step => [ANY, STEPPER].concat(),
         Call::StepPlain => [ANY, STEPPER, PLAIN].concat(),

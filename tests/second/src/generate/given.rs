@@ -77,6 +77,14 @@ pub fn case(call: Call, seed: u64, number: u64) -> TablesCase {
     }
     let mut given = exactly(call, &circuit);
     let promise = treat(&mut random, call, &circuit, &mut given);
+    // Whole tables are mostly such as cards can hold.
+    if call == Call::WriteCards && promise == Some(Ok(())) && !random.once_in(6) {
+        circuit.resets.fill(0);
+        circuit.bads.clear();
+        circuit.constraints.clear();
+        given = exactly(call, &circuit);
+        spare(&mut random, &mut given);
+    }
     let mut case = TablesCase {
         lent: lend(call, &given, random.word()),
         promise: promise.filter(|promise| form == Form::Binary || !by_order(call, promise)),
@@ -84,6 +92,7 @@ pub fn case(call: Call, seed: u64, number: u64) -> TablesCase {
     };
     match call {
         Call::Check | Call::Convert | Call::Reduce | Call::Drop => {}
+        Call::WriteCards => writing::add_cards(&mut random, &circuit, &mut case),
         Call::WriteText => writing::add(&mut random, Form::Text, &circuit, &mut case),
         Call::WriteBinary => writing::add(&mut random, Form::Binary, &circuit, &mut case),
         Call::Step => vectors::step(&mut random, &circuit, &mut case),

@@ -240,6 +240,6 @@ fn pass(
 fn tables(reply: Reply) -> Result<Lent, String> {
     match reply {
         Reply::Tables(lent) => Ok(*lent),
-        Reply::File(_) => Err("the reply to another question".to_string()),
+        Reply::File(_) | Reply::Cards(_) => Err("the reply to another question".to_string()),
     }
 }

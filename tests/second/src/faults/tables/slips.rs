@@ -75,13 +75,44 @@ pub const WRITERS: &[(&str, Slip)] = &[
             after.answer.lent_mut()[2] = after.bytes[1].lent().len() as u64;
         }
     }),
-    ("tail left out", |_, after| {
-        if outcome(after).is_ok() {
-            after.answer.lent_mut()[2] -= after.bytes[0].lent().len() as u64;
-        }
-    }),
     ("tail changed", |_, after| after.bytes[0].lent_mut().fill(b'c')),
     ("a byte too many", |_, after| margin(&mut after.bytes[1], true)),
+];
+
+/// Of writers that copy the tail.
+pub const COPIES: &[(&str, Slip)] = &[("tail left out", |_, after| {
+    if outcome(after).is_ok() {
+        after.answer.lent_mut()[2] -= after.bytes[0].lent().len() as u64;
+    }
+})];
+
+pub const CARDS: &[(&str, Slip)] = &[
+    ("high byte first", |_, after| {
+        if outcome(after).is_ok() {
+            after.bytes[1].lent_mut()[2..6].reverse();
+        }
+    }),
+    ("PO for PL", |before, after| {
+        if outcome(after).is_ok() && before.counts.lent()[2] > 0 {
+            after.bytes[1].lent_mut()[23] = b'O';
+        }
+    }),
+    ("19 after 11", |before, after| {
+        let late = outcome(after).is_err_and(|refusal| refusal.number == 19);
+        let [_, _, l, o, a, ..] = *before.counts.lent() else {
+            return;
+        };
+        let needed = 22 + 6 * (l + o) + 10 * a;
+        if late && (before.bytes[1].lent().len() as u64) < needed {
+            after.answer.lent_mut()[..2].copy_from_slice(&[11, needed]);
+        }
+    }),
+    ("19 for a tail alone", |before, after| {
+        let late = outcome(after).is_err_and(|refusal| refusal.number == 19);
+        if late && before.bytes[0].lent().is_empty() {
+            after.answer.lent_mut().fill(0);
+        }
+    }),
 ];
 
 pub const CHANGES: &[(&str, Slip)] = &[

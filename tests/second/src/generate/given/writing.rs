@@ -1,7 +1,9 @@
-//! The tail and the buffer of a writer: 1, 10, 11.
+//! The tail and the buffer of a writer: 1, 10, 19, 11.
 
 use super::TablesCase;
+use crate::aiger::cards::can_hold;
 use crate::aiger::{Circuit, Form, Refusal};
+use crate::generate::cards::Cards;
 use crate::generate::damage::damage;
 use crate::generate::draft::Draft;
 use crate::memory::Memory;
@@ -60,4 +62,35 @@ pub fn room(random: &mut Random, short: bool, needed: usize) -> usize {
         (false, 2) => needed + 1,
         (false, _) => needed + random.between(2, 80),
     }
+}
+
+/// The same for cards, which hold no tail.
+pub fn add_cards(random: &mut Random, circuit: &Circuit, case: &mut TablesCase) {
+    let inputs = circuit.inputs.len();
+    let file = Cards::new(circuit).file();
+    let short = random.once_in(6);
+    let room = room(random, short, file.len());
+    let refused = |number: u64, place: usize| {
+        Err(Refusal {
+            number,
+            place: place as u64,
+        })
+    };
+    let (tail, promise) = match random.below(24) {
+        0 => (b"?".to_vec(), refused(1, 0)),
+        1 => (b"c\n\n?".to_vec(), refused(1, 4)),
+        2 => (format!("i{inputs} p\n").into_bytes(), refused(10, 0)),
+        3 if inputs > 0 => (b"i0 p\ni0 q\nc\n".to_vec(), refused(10, 5)),
+        4 if inputs > 0 => (b"i0 p\n".to_vec(), refused(19, 0)),
+        3..=5 => (b"c\n".to_vec(), refused(19, 0)),
+        _ if !can_hold(circuit) => (Vec::new(), refused(19, 0)),
+        _ if room < file.len() => (Vec::new(), refused(11, file.len())),
+        _ => (Vec::new(), Ok(())),
+    };
+    if case.promise == Some(Ok(())) {
+        case.file = promise.is_ok().then_some(file);
+        case.promise = Some(promise);
+    }
+    let junk = random.word();
+    case.lent.bytes = vec![Memory::around(&tail, junk), Memory::junk(room as u64, junk)];
 }

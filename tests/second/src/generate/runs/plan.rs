@@ -5,12 +5,16 @@ use crate::aiger::plain::MOST_GATES;
 use crate::aiger::programs::{output, Program, LENT, LONGEST, SIXTH};
 use crate::aiger::{literal, Circuit, Form, Refusal};
 use crate::generate;
+use crate::generate::cards::Cards;
 use crate::generate::circuit::{circuit, Size};
 use crate::generate::draft::Draft;
 use crate::random::Random;
 
 /// A plan, and its refusal if that is known from the way it was made.
 pub fn plan(random: &mut Random, program: Program) -> (Plan, Option<Refusal>) {
+    if program == Program::Filer {
+        return of_cards(random);
+    }
     match random.below(100) {
         0 | 1 => (Plan::Missing, Some(Refusal { number: 14, place: 0 })),
         2 | 3 => (Plan::Folder, Some(Refusal { number: 14, place: 0 })),
@@ -18,9 +22,11 @@ pub fn plan(random: &mut Random, program: Program) -> (Plan, Option<Refusal>) {
         9..=14 => full(random, program),
         15..=29 => (Plan::File(edge(random)), None),
         30..=33 => to_read_alone(random),
+        34..=57 if program == Program::Carder => (Plan::File(refused(random, program)), None),
         34..=51 if program.is_new() => (Plan::File(refused(random, program)), None),
         52..=57 if program == Program::Reporter => many_needles(random),
         52..=61 if program == Program::Comparer => teaching(random),
+        58..=88 if program == Program::Carder => (Plan::File(without_tail(random)), None),
         _ => (Plan::File(generate::case(random.word(), 0).file), None),
     }
 }
@@ -74,6 +80,60 @@ fn teaching(random: &mut Random) -> (Plan, Option<Refusal>) {
     )
 }
 
+/// Cards, whole and damaged, or about as many as the programs have room for.
+fn of_cards(random: &mut Random) -> (Plan, Option<Refusal>) {
+    match random.below(40) {
+        0 => (Plan::Missing, Some(Refusal { number: 14, place: 0 })),
+        1 => (Plan::Folder, Some(Refusal { number: 14, place: 0 })),
+        2..=5 => {
+            let length = *random.pick(&[LONGEST, LONGEST + 1, 2 * LONGEST]);
+            let file = (0..length).map(|k| b"PHPLPOPA\0\x01"[k % 10]).collect();
+            let foretold = (length > LONGEST).then_some(Refusal {
+                number: 13,
+                place: LONGEST as u64,
+            });
+            (Plan::File(file), foretold)
+        }
+        6..=13 => {
+            let over = random.below(2);
+            let mut size = Size {
+                i: random.below(5),
+                l: random.below(5),
+                o: random.below(5),
+                a: random.below(9),
+                ..Size::default()
+            };
+            match random.below(5) {
+                0 => size.i = LENT[0] as usize - 100 + 101 * over,
+                1 => size.l = LENT[1] as usize / 2 + over,
+                2 => size.o = LENT[2] as usize + over,
+                3 => size.a = LENT[3] as usize / 3 + over,
+                // Table 5: 4 x (M + 1) + O.
+                _ => (size.i, size.l, size.a, size.o) = (4000, 3, 2, 16_384 - 4 * 4006 + over),
+            }
+            let circuit = circuit(random, Form::Binary, &size);
+            (Plan::File(Cards::new(&circuit).file()), None)
+        }
+        _ => {
+            let case = generate::cards::case(random.word(), 0);
+            (Plan::File(case.file), None)
+        }
+    }
+}
+
+/// A circuit that cards can hold, in either form, mostly in binary order.
+fn without_tail(random: &mut Random) -> Vec<u8> {
+    let made = form(random);
+    let mut size = generate::circuit::size(random, Form::Binary);
+    (size.b, size.c, size.starts, size.i) = (0, 0, random.once_in(6), size.i.min(40));
+    let order = if random.once_in(6) { made } else { Form::Binary };
+    let circuit = circuit(random, order, &size);
+    let mut draft = Draft::new(random, made, &circuit);
+    draft.symbols.clear();
+    draft.comment.clear();
+    draft.layout().file
+}
+
 fn form(random: &mut Random) -> Form {
     *random.pick(&[Form::Text, Form::Binary])
 }
@@ -115,8 +175,8 @@ fn full(random: &mut Random, program: Program) -> (Plan, Option<Refusal>) {
     draft.comment.clear();
     let file = draft.layout().file;
     let writer = match program {
-        Program::Tracer | Program::Reporter | Program::Comparer => Program::Converter,
-        writer => writer,
+        Program::Converter | Program::Reducer => program,
+        _ => Program::Converter,
     };
     let written = output(writer, Some(&file), None).len();
     let length = *random.pick(&[LONGEST - 1, LONGEST, LONGEST + 1, LONGEST + 9]);
