@@ -10,7 +10,7 @@
 
 #include "work.h"
 
-enum { PASSES = 2, ROUNDS = 7, LEAST = 2, SIZES = 3, BASES = 3, MOST = 6, ROOM = 100, TURNS = 8 };
+enum { PASSES = 2, ROUNDS = 7, LEAST = 2, SIZES = 3, BASES = 3, MOST = 6, ROOM = 120, TURNS = 8 };
 
 /* After so many seconds no further round starts, but LEAST are had always. */
 static const double enough = 0.7;
@@ -200,12 +200,24 @@ static void never_one(struct work *w) {
 }
 
 static int was_never_one(struct work *w) {
-    desk_witness(w);
+    desk_witness3(w);
     return w->answer[2] == 0;
 }
 
+/* Every output is 1, so that each filling is stepped once, and all are tried. */
+static void always_one(struct work *w) {
+    for (uint64_t k = 0; k < w->given.counts[O]; k++)
+        w->given.table[OUTPUTS][k] = 1;
+}
+
+static int was_always_one(struct work *w) {
+    desk_witness(w);
+    return w->answer[2] == 1 && w->answer[3] == FILLINGS;
+}
+
 #define BASE(f) {#f, base_##f, 0}
-enum { READ_BINARY, READ_TEXT, WRITE_BINARY, WRITE_TEXT, CONVERT, REDUCE, DROP, STEP, WITNESS, ORDER, FILES, WORST, TASKS };
+enum { READ_BINARY, READ_TEXT, WRITE_BINARY, WRITE_TEXT, CONVERT, REDUCE, DROP, STEP };
+enum { WITNESS = STEP + 1, FILLED, ORDER, FILES, WORST, TASKS };
 static const struct task tasks[TASKS] = {
     {"read binary", desk_read, {BASE(decodec), BASE(decode)}, clear_written, NULL, base_encode, read_same, 2.0, 1},
     {"read text", desk_read, {BASE(textq), BASE(textc), BASE(text)}, clear_written, NULL, base_print, read_same, 2, 1},
@@ -215,7 +227,9 @@ static const struct task tasks[TASKS] = {
     {"reduce", desk_reduce, {BASE(strash)}, clear_written, desk_check, NULL, reduced_same, 2.0, 1},
     {"drop", desk_drop, {BASE(used)}, clear_written, desk_check, NULL, dropped_same, 1.5, 1},
     {"step", desk_step, {BASE(step3)}, clear_scratch, desk_check, NULL, stepped_same, 1.5, 1},
-    {"one of 8 steps", desk_witness, {BASE(steps)}, clear_scratch, desk_check, never_one, was_never_one, 1.5, STEPS},
+    {"one of 8 steps", desk_witness3, {BASE(steps)}, clear_scratch, desk_check, never_one, was_never_one, 1.5, STEPS},
+    {"one of 256 fillings", desk_witness, {BASE(fillings)}, clear_scratch, desk_check, always_one, was_always_one, 1.5,
+     FILLINGS},
     {"convert", desk_convert, {BASE(convert)}, NULL, NULL, NULL, converted_same, 2.5, 1},
     {"convert a file", desk_file, {BASE(file)}, NULL, NULL, base_print, filed_same, 2.5, 1},
     {"reduce, worst", desk_reduce, {BASE(strash)}, NULL, NULL, NULL, reduced_same, 0, 1}};
@@ -236,7 +250,7 @@ static const struct {
     int tasks[TASKS + 1];
 } plan[] = {
     {{"random", "", random_one, in_order, in_order, 0},
-     {READ_BINARY, WRITE_BINARY, WRITE_TEXT, REDUCE, DROP, STEP, WITNESS, TASKS}},
+     {READ_BINARY, WRITE_BINARY, WRITE_TEXT, REDUCE, DROP, STEP, WITNESS, FILLED, TASKS}},
     {{"in order", "", random_one, in_order, in_order, 0}, {READ_TEXT, CONVERT, TASKS}},
     {{"reversed", "", random_one, reversed, in_order, 0}, {READ_TEXT, CONVERT, TASKS}},
     {{"shuffled", "", random_one, shuffled, in_order, 0}, {READ_TEXT, CONVERT, TASKS}},
@@ -382,7 +396,8 @@ static void print_split(void) {
 
 static void print_orders(int of, const char *heading) {
     const struct result *first = NULL;
-    printf("\n| shape | order | %s, ns/gate | to binary order | baseline | its own to binary order | ratio |\n", heading);
+    printf("\n| shape | order | %s, ns/gate | to binary order | baseline | its own to binary order | ratio |\n",
+           heading);
     printf("|---|---|--:|--:|--:|--:|--:|\n");
     for (size_t k = 0; k < order_count; k++) {
         const struct result *r = result_of(&tasks[of], &orders[k], sizes[SIZES - 1]);

@@ -74,7 +74,8 @@ int main(void) {
                 {"reduce", desk_reduce, 0},
                 {"drop", desk_drop, 0},
                 {"step", desk_step, 0},
-                {"witness", desk_witness, 0}};
+                {"witness", desk_witness, 0},
+                {"witness3", desk_witness3, 0}};
     struct pair small = pair_of(10000), large = pair_of(1000000);
     /* The first call finds its own way through the dynamic linker. */
     used_by(desk_read, &small.easy);

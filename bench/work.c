@@ -13,16 +13,19 @@ struct work work_on(struct circuit given) {
     w.out = room(w.out_length);
     w.state = room(n[L]);
     w.ins = room(STEPS * n[I]);
+    w.few = room(n[I]);
     w.outs = room(n[O]);
     memset(w.state, '0', n[L]);
     for (uint32_t i = 0; i < STEPS * n[I]; i++)
         w.ins[i] = (uint8_t)"01x"[below(3)];
+    for (uint32_t i = 0; i < n[I]; i++)
+        w.few[i] = i < FEW_X ? 'x' : (uint8_t)"01"[below(2)];
     return w;
 }
 
 void free_work(struct work *w) {
     free_circuit(&w->given), free_circuit(&w->made), free_circuit(&w->base_made);
-    free(w->scratch), free(w->file), free(w->out), free(w->state), free(w->ins), free(w->outs);
+    free(w->scratch), free(w->file), free(w->out), free(w->state), free(w->ins), free(w->few), free(w->outs);
     free_base(&w->base);
 }
 
@@ -110,15 +113,31 @@ void base_step3(struct work *w) {
     step3(&w->base, &w->given, w->state, w->ins, w->outs);
 }
 
-void desk_witness(struct work *w) {
-    golvanzo_witness(w->given.counts, TABLES(w->given), SCRATCH(w), STEPS, w->ins, STEPS * w->given.counts[I],
-                     w->answer);
+void desk_witness3(struct work *w) {
+    golvanzo_witness3(w->given.counts, TABLES(w->given), SCRATCH(w), STEPS, w->ins, STEPS * w->given.counts[I],
+                      w->answer);
 }
 
 void base_steps(struct work *w) {
     memset(w->state, '0', w->given.counts[L]);
     for (int k = 0; k < STEPS; k++)
         step3(&w->base, &w->given, w->state, w->ins + k * w->given.counts[I], w->outs);
+}
+
+void desk_witness(struct work *w) {
+    golvanzo_witness(w->given.counts, TABLES(w->given), SCRATCH(w), 1, w->few, w->given.counts[I], FILLINGS, w->answer);
+}
+
+/* Filling k of one vector has bit i of k at x number i. */
+void base_fillings(struct work *w) {
+    const uint64_t *n = w->given.counts;
+    for (uint32_t k = 0; k < FILLINGS; k++) {
+        uint32_t x = 0;
+        memset(w->state, '0', n[L]);
+        for (uint64_t i = 0; i < n[I]; i++)
+            w->out[i] = w->few[i] == 'x' ? (uint8_t)('0' + (k >> x++ & 1)) : w->few[i];
+        step3(&w->base, &w->given, w->state, w->out, w->outs);
+    }
 }
 
 void desk_file(struct work *w) {
