@@ -13,7 +13,8 @@ struct base base_for(const uint64_t *counts) {
                      .start = room(4 * m),
                      .users = room(8 * a),
                      .queue = room(4 * a),
-                     .value = room(m)};
+                     .value = room(m),
+                     .plane = room(16 * m)};
     for (b.mask = 16; b.mask < 2 * a; b.mask *= 2)
         ;
     b.slots = room(4 * (size_t)b.mask);
@@ -23,7 +24,7 @@ struct base base_for(const uint64_t *counts) {
 
 void free_base(struct base *b) {
     free(b->kind), free(b->number), free(b->waits), free(b->start), free(b->users), free(b->queue);
-    free(b->slots), free(b->value);
+    free(b->slots), free(b->value), free(b->plane);
 }
 
 /* Numbers without checks, and the header: the file is known to be well formed. */
@@ -463,6 +464,55 @@ void step3(struct base *b, const struct circuit *c, uint8_t *state, const uint8_
         outs[k] = (uint8_t)"01x"[valued(value, c->table[OUTPUTS][k])];
     for (uint32_t k = 0; k < l; k++)
         state[k] = (uint8_t)"01x"[valued(value, c->table[LATCHES][2 * k + 1])];
+}
+
+/* The planes of all literals after one step of 64 rows. */
+static void sweep_planes(struct base *b, const struct circuit *c, const uint8_t *ins) {
+    const uint32_t *g = c->table[GATES], i = (uint32_t)c->counts[I], l = (uint32_t)c->counts[L];
+    const uint32_t a = (uint32_t)c->counts[A];
+    uint64_t *p = b->plane;
+    p[0] = 0, p[1] = UINT64_MAX;
+    for (uint32_t j = 0; j < i; j++) {
+        uint64_t one = 0, zero = 0;
+        for (uint32_t k = 0; k < 64; k++) {
+            uint8_t code = ins[(size_t)k * i + j];
+            one |= (uint64_t)(code != '0') << k;
+            zero |= (uint64_t)(code != '1') << k;
+        }
+        p[2 * (1 + j)] = one, p[2 * (1 + j) + 1] = zero;
+    }
+    for (uint32_t k = 0; k < l; k++)
+        p[2 * (1 + i + k)] = 0, p[2 * (1 + i + k) + 1] = UINT64_MAX;
+    for (uint32_t k = 0; k < a; k++, g += 3) {
+        p[g[0]] = p[g[1]] & p[g[2]];
+        p[g[0] + 1] = p[g[1] ^ 1] | p[g[2] ^ 1];
+    }
+}
+
+/* Row by row, the codes of n literals that stand `stride` words apart. */
+static void put_rows(const uint64_t *plane, const uint32_t *literals, int stride, uint32_t n, uint8_t *to) {
+    for (uint32_t j = 0; j < n; j++) {
+        uint64_t one = plane[literals[stride * j]], both = one & plane[literals[stride * j] ^ 1];
+        for (uint32_t k = 0; k < 64; k++)
+            to[(size_t)k * n + j] = (uint8_t)('0' + (one >> k & 1) + 71 * (both >> k & 1));
+    }
+}
+
+void lanes(struct base *b, const struct circuit *c, const uint8_t *ins, uint8_t *nexts, uint8_t *outs) {
+    sweep_planes(b, c, ins);
+    put_rows(b->plane, c->table[LATCHES] + 1, 2, (uint32_t)c->counts[L], nexts);
+    put_rows(b->plane, c->table[OUTPUTS], 1, (uint32_t)c->counts[O], outs);
+}
+
+void lane_counts(struct base *b, const struct circuit *c, const uint8_t *ins, uint32_t *report) {
+    sweep_planes(b, c, ins);
+    for (uint32_t j = 0; j < c->counts[O]; j++) {
+        uint32_t l = c->table[OUTPUTS][j];
+        uint64_t one = b->plane[l], zero = b->plane[l ^ 1];
+        report[3 * j] = (uint32_t)__builtin_popcountll(zero & ~one);
+        report[3 * j + 1] = (uint32_t)__builtin_popcountll(one & ~zero);
+        report[3 * j + 2] = (uint32_t)__builtin_popcountll(one & zero);
+    }
 }
 
 static uint8_t *put_number(uint8_t *to, uint32_t n, uint8_t stop) {

@@ -13,6 +13,7 @@ struct base {
     uint32_t *number, *waits, *start, *users, *queue;
     uint32_t *slots, mask, retained;
     uint8_t *value;
+    uint64_t *plane; /* of a literal: the rows in which it may be 1 */
 };
 
 struct base base_for(const uint64_t *counts);
@@ -39,5 +40,9 @@ void used(struct base *b, const struct circuit *c, struct circuit *to);
 
 /* One step in three values. */
 void step3(struct base *b, const struct circuit *c, uint8_t *state, const uint8_t *ins, uint8_t *outs);
+
+/* 64 rows in lanes, each one step from the state of zeros: their bytes, or per output the rows at 0, 1 and x. */
+void lanes(struct base *b, const struct circuit *c, const uint8_t *ins, uint8_t *nexts, uint8_t *outs);
+void lane_counts(struct base *b, const struct circuit *c, const uint8_t *ins, uint32_t *report);
 
 #endif

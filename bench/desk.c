@@ -183,6 +183,35 @@ static int stepped_same(struct work *w) {
     return same;
 }
 
+/* Row k of 64 that were stepped at once, by a step of its own. */
+static int row_same(struct work *w, const uint8_t *nexts, const uint8_t *outs, size_t k) {
+    const uint64_t *n = w->given.counts;
+    memset(w->state, '0', n[L]);
+    golvanzo_step(n, TABLES(w->given), SCRATCH(w), w->state, n[L], w->row_ins + k * n[I], n[I], w->outs, n[O],
+                  w->answer);
+    return memcmp(nexts + k * n[L], w->state, n[L]) == 0 && memcmp(outs + k * n[O], w->outs, n[O]) == 0;
+}
+
+static int rows_same(struct work *w) {
+    size_t l = ROWS * w->given.counts[L], o = ROWS * w->given.counts[O];
+    uint8_t *kept = room(l + o);
+    desk_rows(w);
+    memcpy(kept, w->row_nexts, l);
+    memcpy(kept + l, w->row_outs, o);
+    base_lanes(w);
+    int same = memcmp(kept, w->row_nexts, l) == 0 && memcmp(kept + l, w->row_outs, o) == 0;
+    for (size_t k = 0; k < ROWS; k++)
+        same = same && row_same(w, kept, kept + l, k);
+    free(kept);
+    return same;
+}
+
+static int row_reports_same(struct work *w) {
+    desk_report_rows(w);
+    base_lane_counts(w);
+    return memcmp(w->report, w->base_report, 4 * 3 * w->given.counts[O]) == 0;
+}
+
 static int filed_same(struct work *w) {
     desk_file(w);
     size_t length = w->answer[2];
@@ -216,8 +245,9 @@ static int was_always_one(struct work *w) {
 }
 
 #define BASE(f) {#f, base_##f, 0}
-enum { READ_BINARY, READ_TEXT, WRITE_BINARY, WRITE_TEXT, CONVERT, REDUCE, DROP, STEP };
-enum { WITNESS = STEP + 1, FILLED, ORDER, FILES, WORST, TASKS };
+#define ONE_STEP {"one step", desk_step, 0}
+enum { READ_BINARY, READ_TEXT, WRITE_BINARY, WRITE_TEXT, CONVERT, REDUCE, DROP, STEP, ROWS_STEP, ROWS_REPORT };
+enum { WITNESS = ROWS_REPORT + 1, FILLED, ORDER, FILES, WORST, TASKS };
 static const struct task tasks[TASKS] = {
     {"read binary", desk_read, {BASE(decodec), BASE(decode)}, clear_written, NULL, base_encode, read_same, 2.0, 1},
     {"read text", desk_read, {BASE(textq), BASE(textc), BASE(text)}, clear_written, NULL, base_print, read_same, 2, 1},
@@ -227,6 +257,9 @@ static const struct task tasks[TASKS] = {
     {"reduce", desk_reduce, {BASE(strash)}, clear_written, desk_check, NULL, reduced_same, 2.0, 1},
     {"drop", desk_drop, {BASE(used)}, clear_written, desk_check, NULL, dropped_same, 1.5, 1},
     {"step", desk_step, {BASE(step3)}, clear_scratch, desk_check, NULL, stepped_same, 1.5, 1},
+    {"64 rows", desk_rows, {ONE_STEP, BASE(lanes)}, clear_scratch, desk_check, NULL, rows_same, 4, 1},
+    {"report of 64 rows", desk_report_rows, {ONE_STEP, BASE(lane_counts)}, clear_scratch, desk_check, NULL,
+     row_reports_same, 4, 1},
     {"one of 8 steps", desk_witness3, {BASE(steps)}, clear_scratch, desk_check, never_one, was_never_one, 1.5, STEPS},
     {"one of 256 fillings", desk_witness, {BASE(fillings)}, clear_scratch, desk_check, always_one, was_always_one, 1.5,
      FILLINGS},
@@ -250,7 +283,7 @@ static const struct {
     int tasks[TASKS + 1];
 } plan[] = {
     {{"random", "", random_one, in_order, in_order, 0},
-     {READ_BINARY, WRITE_BINARY, WRITE_TEXT, REDUCE, DROP, STEP, WITNESS, FILLED, TASKS}},
+     {READ_BINARY, WRITE_BINARY, WRITE_TEXT, REDUCE, DROP, STEP, ROWS_STEP, ROWS_REPORT, WITNESS, FILLED, TASKS}},
     {{"in order", "", random_one, in_order, in_order, 0}, {READ_TEXT, CONVERT, TASKS}},
     {{"reversed", "", random_one, reversed, in_order, 0}, {READ_TEXT, CONVERT, TASKS}},
     {{"shuffled", "", random_one, shuffled, in_order, 0}, {READ_TEXT, CONVERT, TASKS}},
@@ -367,14 +400,19 @@ static void print_results(void) {
         if (t >= &tasks[ORDER])
             continue;
         first = r->gates == sizes[0] ? r->desk : first;
-        /* a step's limit is without the check */
-        double limit = t == &tasks[STEP] ? 0 : t->limit;
+        /* the limits of a step and of 64 rows are without the check */
+        double limit = t >= &tasks[STEP] && t <= &tasks[ROWS_REPORT] ? 0 : t->limit;
         printf("| %s | %s | %llu | %.1f | %.1f | %s %.1f | %s | %s | ", t->name, r->kind->name,
                (unsigned long long)r->gates, r->desk, 1e3 / r->desk, t->base[0].name, r->base[0],
                marked(r->desk / r->base[0], limit), marked(r->desk / first, 4));
         print_others(r);
         printf(" |\n");
     }
+}
+
+/* The first baseline without the check, which it makes if it is a call of the desk's. */
+static double base_rest(const struct result *r) {
+    return r->task->base[0].run == desk_step ? r->base[0] - r->checks : r->base[0];
 }
 
 /* The parts of a call that can be timed alone, and the rest beside the baseline. */
@@ -388,7 +426,7 @@ static void print_split(void) {
         printf("| %s | %s | %llu | %.1f | %.1f | ", r->task->name, r->kind->name, (unsigned long long)r->gates, r->desk,
                r->clears);
         if (r->checks > 0)
-            printf("%.1f | %.1f | %s |\n", r->checks, rest, marked(rest / r->base[0], r->task->limit));
+            printf("%.1f | %.1f | %s |\n", r->checks, rest, marked(rest / base_rest(r), r->task->limit));
         else
             printf("| | |\n");
     }

@@ -74,6 +74,8 @@ int main(void) {
                 {"reduce", desk_reduce, 0},
                 {"drop", desk_drop, 0},
                 {"step", desk_step, 0},
+                {"rows", desk_rows, 0},
+                {"report_rows", desk_report_rows, 0},
                 {"witness", desk_witness, 0},
                 {"witness3", desk_witness3, 0}};
     struct pair small = pair_of(10000), large = pair_of(1000000);

@@ -3,6 +3,11 @@
 #include <stdlib.h>
 #include <string.h>
 
+static void put_any(uint8_t *values, uint64_t length) {
+    for (uint64_t i = 0; i < length; i++)
+        values[i] = (uint8_t)"01x"[below(3)];
+}
+
 struct work work_on(struct circuit given) {
     const uint64_t *n = given.counts;
     struct work w = {.given = given, .made = tables_for(n), .base_made = tables_for(n), .base = base_for(n)};
@@ -15,9 +20,14 @@ struct work work_on(struct circuit given) {
     w.ins = room(STEPS * n[I]);
     w.few = room(n[I]);
     w.outs = room(n[O]);
+    w.row_ins = room(ROWS * n[I]);
+    w.row_nexts = room(ROWS * n[L]);
+    w.row_outs = room(ROWS * n[O]);
+    w.report = room(4 * 3 * n[O]);
+    w.base_report = room(4 * 3 * n[O]);
     memset(w.state, '0', n[L]);
-    for (uint32_t i = 0; i < STEPS * n[I]; i++)
-        w.ins[i] = (uint8_t)"01x"[below(3)];
+    put_any(w.ins, STEPS * n[I]);
+    put_any(w.row_ins, ROWS * n[I]);
     for (uint32_t i = 0; i < n[I]; i++)
         w.few[i] = i < FEW_X ? 'x' : (uint8_t)"01"[below(2)];
     return w;
@@ -26,6 +36,7 @@ struct work work_on(struct circuit given) {
 void free_work(struct work *w) {
     free_circuit(&w->given), free_circuit(&w->made), free_circuit(&w->base_made);
     free(w->scratch), free(w->file), free(w->out), free(w->state), free(w->ins), free(w->few), free(w->outs);
+    free(w->row_ins), free(w->row_nexts), free(w->row_outs), free(w->report), free(w->base_report);
     free_base(&w->base);
 }
 
@@ -111,6 +122,26 @@ void desk_step(struct work *w) {
 
 void base_step3(struct work *w) {
     step3(&w->base, &w->given, w->state, w->ins, w->outs);
+}
+
+void desk_rows(struct work *w) {
+    const uint64_t *n = w->given.counts;
+    golvanzo_rows(n, TABLES(w->given), SCRATCH(w), ROWS, w->row_nexts, ROWS * n[L], w->row_ins, ROWS * n[I],
+                  w->row_outs, ROWS * n[O], w->answer);
+}
+
+void base_lanes(struct work *w) {
+    lanes(&w->base, &w->given, w->row_ins, w->row_nexts, w->row_outs);
+}
+
+void desk_report_rows(struct work *w) {
+    const uint64_t *n = w->given.counts;
+    golvanzo_report_rows(n, TABLES(w->given), SCRATCH(w), ROWS, w->row_ins, ROWS * n[I], w->report, 3 * n[O],
+                         w->answer);
+}
+
+void base_lane_counts(struct work *w) {
+    lane_counts(&w->base, &w->given, w->row_ins, w->base_report);
 }
 
 void desk_witness3(struct work *w) {

@@ -6,14 +6,16 @@
 #include "circuit.h"
 #include "golvanzo.h"
 
-/* Steps of one list; x of one vector, and the fillings of it. */
-enum { STEPS = 8, FEW_X = 8, FILLINGS = 1 << FEW_X };
+/* Steps of one list; x of one vector, and the fillings of it; rows at once. */
+enum { STEPS = 8, FEW_X = 8, FILLINGS = 1 << FEW_X, ROWS = 64 };
 
 struct work {
     struct circuit given, made, base_made;
     uint32_t *scratch;
     size_t scratch_length, file_length, out_length, base_length;
     uint8_t *file, *out, *state, *ins, *few, *outs;
+    uint8_t *row_ins, *row_nexts, *row_outs; /* of ROWS rows */
+    uint32_t *report, *base_report;
     uint64_t answer[2 + COUNTS];
     struct base base;
 };
@@ -31,11 +33,11 @@ typedef void call(struct work *);
 
 /* The desk. desk_file reads a text file, converts it and writes it as binary. */
 call desk_read, desk_check, desk_write_text, desk_write_binary, desk_convert, desk_reduce, desk_drop, desk_step,
-    desk_witness, desk_witness3, desk_file;
+    desk_rows, desk_report_rows, desk_witness, desk_witness3, desk_file;
 
 /* The baseline; a reader that refuses ends the run. */
 call base_decode, base_decodec, base_text, base_textc, base_textq, base_print, base_encode, base_convert, base_strash,
-    base_used, base_step3, base_steps, base_fillings, base_file;
+    base_used, base_step3, base_lanes, base_lane_counts, base_steps, base_fillings, base_file;
 
 /* What the contracts ask to be cleared: the scratch, and the tables that are written. */
 call clear_scratch, clear_written;
