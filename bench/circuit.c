@@ -153,6 +153,15 @@ struct circuit chain_circuit(uint32_t gates) {
     return c;
 }
 
+/* A chain without signs: where every leaf is 1 every gate is. */
+struct circuit tower_circuit(uint32_t gates) {
+    struct circuit c = begun(gates);
+    uint32_t base = (uint32_t)(c.counts[I] + c.counts[L]);
+    for (uint32_t i = 0; i < gates; i++)
+        put_gate(&c, i, 2 * (base + i), 2 + 2 * below(base));
+    return c;
+}
+
 /* Each gate takes the one before it and one far before it: near in binary order, anywhere in memory in another. */
 struct circuit braid_circuit(uint32_t gates) {
     struct circuit c = begun(gates);

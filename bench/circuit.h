@@ -27,6 +27,7 @@ void free_circuit(struct circuit *c);
 /* Circuits in binary order: I = L = O = a fiftieth of the gates. */
 struct circuit random_circuit(uint32_t gates, uint32_t copies);
 struct circuit chain_circuit(uint32_t gates);
+struct circuit tower_circuit(uint32_t gates);
 struct circuit braid_circuit(uint32_t gates);
 struct circuit colliding_circuit(uint32_t gates);
 struct circuit crowded_circuit(uint32_t gates);

@@ -244,10 +244,34 @@ static int was_always_one(struct work *w) {
     return w->answer[2] == 1 && w->answer[3] == FILLINGS;
 }
 
+/* Inputs of 1 alone, so that every value is known; the last gate is the first output. */
+static void all_known(struct work *w) {
+    memset(w->ins, '1', w->given.counts[I]);
+    w->given.table[OUTPUTS][0] = (uint32_t)(2 * w->given.counts[M]);
+}
+
+static void only_marked(uint8_t *values, const uint8_t *marks, size_t n) {
+    for (size_t k = 0; k < n; k++)
+        values[k] = marks[k] == '1' ? '1' : 'x';
+}
+
+/* With every unmarked place turned to x the output keeps its value. */
+static int explained_well(struct work *w) {
+    size_t l = w->given.counts[L], i = w->given.counts[I];
+    desk_ones(w);
+    uint8_t value = w->outs[0];
+    desk_explain(w);
+    only_marked(w->state, w->out, l);
+    only_marked(w->ins, w->out + l, i);
+    desk_step(w);
+    memset(w->ins, '1', i);
+    return value != 'x' && w->outs[0] == value;
+}
+
 #define BASE(f) {#f, base_##f, 0}
-#define ONE_STEP {"one step", desk_step, 0}
+#define ONE_STEP(f) {"one step", desk_##f, 0}
 enum { READ_BINARY, READ_TEXT, WRITE_BINARY, WRITE_TEXT, CONVERT, REDUCE, DROP, STEP, ROWS_STEP, ROWS_REPORT };
-enum { WITNESS = ROWS_REPORT + 1, FILLED, ORDER, FILES, WORST, TASKS };
+enum { WITNESS = ROWS_REPORT + 1, FILLED, EXPLAIN, ORDER, FILES, WORST, TASKS };
 static const struct task tasks[TASKS] = {
     {"read binary", desk_read, {BASE(decodec), BASE(decode)}, clear_written, NULL, base_encode, read_same, 2.0, 1},
     {"read text", desk_read, {BASE(textq), BASE(textc), BASE(text)}, clear_written, NULL, base_print, read_same, 2, 1},
@@ -257,12 +281,13 @@ static const struct task tasks[TASKS] = {
     {"reduce", desk_reduce, {BASE(strash)}, clear_written, desk_check, NULL, reduced_same, 2.0, 1},
     {"drop", desk_drop, {BASE(used)}, clear_written, desk_check, NULL, dropped_same, 1.5, 1},
     {"step", desk_step, {BASE(step3)}, clear_scratch, desk_check, NULL, stepped_same, 1.5, 1},
-    {"64 rows", desk_rows, {ONE_STEP, BASE(lanes)}, clear_scratch, desk_check, NULL, rows_same, 4, 1},
-    {"report of 64 rows", desk_report_rows, {ONE_STEP, BASE(lane_counts)}, clear_scratch, desk_check, NULL,
+    {"64 rows", desk_rows, {ONE_STEP(step), BASE(lanes)}, clear_scratch, desk_check, NULL, rows_same, 4, 1},
+    {"report of 64 rows", desk_report_rows, {ONE_STEP(step), BASE(lane_counts)}, clear_scratch, desk_check, NULL,
      row_reports_same, 4, 1},
     {"one of 8 steps", desk_witness3, {BASE(steps)}, clear_scratch, desk_check, never_one, was_never_one, 1.5, STEPS},
     {"one of 256 fillings", desk_witness, {BASE(fillings)}, clear_scratch, desk_check, always_one, was_always_one, 1.5,
      FILLINGS},
+    {"explain", desk_explain, {ONE_STEP(ones)}, clear_scratch, desk_check, all_known, explained_well, 3, 1},
     {"convert", desk_convert, {BASE(convert)}, NULL, NULL, NULL, converted_same, 2.5, 1},
     {"convert a file", desk_file, {BASE(file)}, NULL, NULL, base_print, filed_same, 2.5, 1},
     {"reduce, worst", desk_reduce, {BASE(strash)}, NULL, NULL, NULL, reduced_same, 0, 1}};
@@ -283,7 +308,9 @@ static const struct {
     int tasks[TASKS + 1];
 } plan[] = {
     {{"random", "", random_one, in_order, in_order, 0},
-     {READ_BINARY, WRITE_BINARY, WRITE_TEXT, REDUCE, DROP, STEP, ROWS_STEP, ROWS_REPORT, WITNESS, FILLED, TASKS}},
+     {READ_BINARY, WRITE_BINARY, WRITE_TEXT, REDUCE, DROP, STEP, ROWS_STEP, ROWS_REPORT, WITNESS, FILLED, EXPLAIN,
+      TASKS}},
+    {{"every gate blamed", "", tower_circuit, in_order, in_order, 0}, {EXPLAIN, TASKS}},
     {{"in order", "", random_one, in_order, in_order, 0}, {READ_TEXT, CONVERT, TASKS}},
     {{"reversed", "", random_one, reversed, in_order, 0}, {READ_TEXT, CONVERT, TASKS}},
     {{"shuffled", "", random_one, shuffled, in_order, 0}, {READ_TEXT, CONVERT, TASKS}},
@@ -412,7 +439,8 @@ static void print_results(void) {
 
 /* The first baseline without the check, which it makes if it is a call of the desk's. */
 static double base_rest(const struct result *r) {
-    return r->task->base[0].run == desk_step ? r->base[0] - r->checks : r->base[0];
+    call *base = r->task->base[0].run;
+    return base == desk_step || base == desk_ones ? r->base[0] - r->checks : r->base[0];
 }
 
 /* The parts of a call that can be timed alone, and the rest beside the baseline. */

@@ -53,6 +53,8 @@ static struct pair pair_of(uint32_t gates) {
     struct circuit c = random_circuit(gates, 12);
     uint32_t *order = shuffled(gates), *names = shuffled(gates);
     struct pair p = {.hard = work_on(arranged(&c, order, names)), .easy = work_on(c)};
+    /* so that an output can be explained */
+    memset(p.easy.ins, '1', p.easy.given.counts[I]);
     base_encode(&p.easy);
     base_print(&p.hard);
     free(order);
@@ -74,6 +76,7 @@ int main(void) {
                 {"reduce", desk_reduce, 0},
                 {"drop", desk_drop, 0},
                 {"step", desk_step, 0},
+                {"explain", desk_explain, 0},
                 {"rows", desk_rows, 0},
                 {"report_rows", desk_report_rows, 0},
                 {"witness", desk_witness, 0},

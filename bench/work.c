@@ -120,6 +120,17 @@ void desk_step(struct work *w) {
                   w->given.counts[I], w->outs, w->given.counts[O], w->answer);
 }
 
+void desk_ones(struct work *w) {
+    memset(w->state, '1', w->given.counts[L]);
+    desk_step(w);
+}
+
+void desk_explain(struct work *w) {
+    const uint64_t *n = w->given.counts;
+    memset(w->state, '1', n[L]);
+    golvanzo_explain(n, TABLES(w->given), SCRATCH(w), w->state, n[L], w->ins, n[I], 0, w->out, n[L] + n[I], w->answer);
+}
+
 void base_step3(struct work *w) {
     step3(&w->base, &w->given, w->state, w->ins, w->outs);
 }

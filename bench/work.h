@@ -31,9 +31,10 @@ void free_work(struct work *w);
 
 typedef void call(struct work *);
 
-/* The desk. desk_file reads a text file, converts it and writes it as binary. */
+/* The desk. desk_file reads a text file, converts it and writes it as binary; desk_ones steps from a state of 1, of
+   which desk_explain explains the first output. */
 call desk_read, desk_check, desk_write_text, desk_write_binary, desk_convert, desk_reduce, desk_drop, desk_step,
-    desk_rows, desk_report_rows, desk_witness, desk_witness3, desk_file;
+    desk_ones, desk_explain, desk_rows, desk_report_rows, desk_witness, desk_witness3, desk_file;
 
 /* The baseline; a reader that refuses ends the run. */
 call base_decode, base_decodec, base_text, base_textc, base_textq, base_print, base_encode, base_convert, base_strash,
