@@ -466,6 +466,13 @@ void step3(struct base *b, const struct circuit *c, uint8_t *state, const uint8_
         state[k] = (uint8_t)"01x"[valued(value, c->table[LATCHES][2 * k + 1])];
 }
 
+void count3(uint32_t *numbers, const uint8_t *values, const uint8_t *before, size_t length) {
+    for (size_t k = 0; k < length; k++, numbers += 4) {
+        numbers[values[k] == 'x' ? 2 : values[k] - '0']++;
+        numbers[3] += before != NULL && before[k] != values[k];
+    }
+}
+
 /* The planes of all literals after one step of 64 rows. */
 static void sweep_planes(struct base *b, const struct circuit *c, const uint8_t *ins) {
     const uint32_t *g = c->table[GATES], i = (uint32_t)c->counts[I], l = (uint32_t)c->counts[L];

@@ -41,6 +41,9 @@ void used(struct base *b, const struct circuit *c, struct circuit *to);
 /* One step in three values. */
 void step3(struct base *b, const struct circuit *c, uint8_t *state, const uint8_t *ins, uint8_t *outs);
 
+/* Four numbers for each value: at 0, at 1, at x, and how often it differs from the one before, if there is one. */
+void count3(uint32_t *numbers, const uint8_t *values, const uint8_t *before, size_t length);
+
 /* 64 rows in lanes, each one step from the state of zeros: their bytes, or per output the rows at 0, 1 and x. */
 void lanes(struct base *b, const struct circuit *c, const uint8_t *ins, uint8_t *nexts, uint8_t *outs);
 void lane_counts(struct base *b, const struct circuit *c, const uint8_t *ins, uint32_t *report);

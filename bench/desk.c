@@ -233,6 +233,25 @@ static int was_never_one(struct work *w) {
     return w->answer[2] == 0;
 }
 
+/* Outputs that are 1 at a step become 0, so that no step ends the question, and the others still differ. */
+static void no_longer_one(struct work *w) {
+    const uint64_t *n = w->given.counts;
+    memset(w->state, '0', n[L]);
+    for (int k = 0; k < STEPS; k++) {
+        step3(&w->base, &w->given, w->state, w->ins + k * n[I], w->outs);
+        for (uint64_t j = 0; j < n[O]; j++)
+            if (w->outs[j] == '1')
+                w->given.table[OUTPUTS][j] = 0;
+    }
+}
+
+static int reported_same(struct work *w) {
+    const uint64_t *n = w->given.counts;
+    base_count3(w);
+    desk_report(w);
+    return memcmp(w->report, w->base_report, 4 * 4 * (n[O] + n[L])) == 0 && was_never_one(w);
+}
+
 /* Every output is 1, so that each filling is stepped once, and all are tried. */
 static void always_one(struct work *w) {
     for (uint64_t k = 0; k < w->given.counts[O]; k++)
@@ -271,7 +290,7 @@ static int explained_well(struct work *w) {
 #define BASE(f) {#f, base_##f, 0}
 #define ONE_STEP(f) {"one step", desk_##f, 0}
 enum { READ_BINARY, READ_TEXT, WRITE_BINARY, WRITE_TEXT, CONVERT, REDUCE, DROP, STEP, ROWS_STEP, ROWS_REPORT };
-enum { WITNESS = ROWS_REPORT + 1, FILLED, EXPLAIN, ORDER, FILES, WORST, TASKS };
+enum { REPORT = ROWS_REPORT + 1, WITNESS, FILLED, EXPLAIN, ORDER, FILES, WORST, TASKS };
 static const struct task tasks[TASKS] = {
     {"read binary", desk_read, {BASE(decodec), BASE(decode)}, clear_written, NULL, base_encode, read_same, 2.0, 1},
     {"read text", desk_read, {BASE(textq), BASE(textc), BASE(text)}, clear_written, NULL, base_print, read_same, 2, 1},
@@ -284,6 +303,8 @@ static const struct task tasks[TASKS] = {
     {"64 rows", desk_rows, {ONE_STEP(step), BASE(lanes)}, clear_scratch, desk_check, NULL, rows_same, 4, 1},
     {"report of 64 rows", desk_report_rows, {ONE_STEP(step), BASE(lane_counts)}, clear_scratch, desk_check, NULL,
      row_reports_same, 4, 1},
+    {"report, one of 8 steps", desk_report, {{"witness3", desk_witness3, 0}, BASE(count3)}, clear_scratch, desk_check,
+     no_longer_one, reported_same, 1.5, STEPS},
     {"one of 8 steps", desk_witness3, {BASE(steps)}, clear_scratch, desk_check, never_one, was_never_one, 1.5, STEPS},
     {"one of 256 fillings", desk_witness, {BASE(fillings)}, clear_scratch, desk_check, always_one, was_always_one, 1.5,
      FILLINGS},
@@ -308,8 +329,8 @@ static const struct {
     int tasks[TASKS + 1];
 } plan[] = {
     {{"random", "", random_one, in_order, in_order, 0},
-     {READ_BINARY, WRITE_BINARY, WRITE_TEXT, REDUCE, DROP, STEP, ROWS_STEP, ROWS_REPORT, WITNESS, FILLED, EXPLAIN,
-      TASKS}},
+     {READ_BINARY, WRITE_BINARY, WRITE_TEXT, REDUCE, DROP, STEP, ROWS_STEP, ROWS_REPORT, REPORT, WITNESS, FILLED,
+      EXPLAIN, TASKS}},
     {{"every gate blamed", "", tower_circuit, in_order, in_order, 0}, {EXPLAIN, TASKS}},
     {{"in order", "", random_one, in_order, in_order, 0}, {READ_TEXT, CONVERT, TASKS}},
     {{"reversed", "", random_one, reversed, in_order, 0}, {READ_TEXT, CONVERT, TASKS}},
@@ -440,7 +461,8 @@ static void print_results(void) {
 /* The first baseline without the check, which it makes if it is a call of the desk's. */
 static double base_rest(const struct result *r) {
     call *base = r->task->base[0].run;
-    return base == desk_step || base == desk_ones ? r->base[0] - r->checks : r->base[0];
+    int checks = base == desk_step || base == desk_ones || base == desk_witness3;
+    return checks ? r->base[0] - r->checks : r->base[0];
 }
 
 /* The parts of a call that can be timed alone, and the rest beside the baseline. */

@@ -80,7 +80,8 @@ int main(void) {
                 {"rows", desk_rows, 0},
                 {"report_rows", desk_report_rows, 0},
                 {"witness", desk_witness, 0},
-                {"witness3", desk_witness3, 0}};
+                {"witness3", desk_witness3, 0},
+                {"report", desk_report, 0}};
     struct pair small = pair_of(10000), large = pair_of(1000000);
     /* The first call finds its own way through the dynamic linker. */
     used_by(desk_read, &small.easy);

@@ -8,6 +8,10 @@ static void put_any(uint8_t *values, uint64_t length) {
         values[i] = (uint8_t)"01x"[below(3)];
 }
 
+static size_t report_length(const uint64_t *counts) {
+    return 4 * (counts[O] + counts[L]);
+}
+
 struct work work_on(struct circuit given) {
     const uint64_t *n = given.counts;
     struct work w = {.given = given, .made = tables_for(n), .base_made = tables_for(n), .base = base_for(n)};
@@ -23,8 +27,8 @@ struct work work_on(struct circuit given) {
     w.row_ins = room(ROWS * n[I]);
     w.row_nexts = room(ROWS * n[L]);
     w.row_outs = room(ROWS * n[O]);
-    w.report = room(4 * 3 * n[O]);
-    w.base_report = room(4 * 3 * n[O]);
+    w.report = room(4 * report_length(n));
+    w.base_report = room(4 * report_length(n));
     memset(w.state, '0', n[L]);
     put_any(w.ins, STEPS * n[I]);
     put_any(w.row_ins, ROWS * n[I]);
@@ -179,6 +183,28 @@ void base_fillings(struct work *w) {
         for (uint64_t i = 0; i < n[I]; i++)
             w->out[i] = w->few[i] == 'x' ? (uint8_t)('0' + (k >> x++ & 1)) : w->few[i];
         step3(&w->base, &w->given, w->state, w->out, w->outs);
+    }
+}
+
+void desk_report(struct work *w) {
+    const uint64_t *n = w->given.counts;
+    golvanzo_report(n, TABLES(w->given), SCRATCH(w), STEPS, w->ins, STEPS * n[I], w->report, report_length(n),
+                    w->answer);
+}
+
+/* The steps of base_steps, each counted from its bytes. */
+void base_count3(struct work *w) {
+    const uint64_t *n = w->given.counts;
+    uint32_t *outs = w->base_report, *latches = outs + 4 * n[O];
+    uint8_t *outs_before = w->out, *state_before = w->out + n[O];
+    memset(outs, 0, 4 * report_length(n));
+    memset(w->state, '0', n[L]);
+    for (int k = 0; k < STEPS; k++) {
+        count3(latches, w->state, k == 0 ? NULL : state_before, n[L]);
+        memcpy(state_before, w->state, n[L]);
+        step3(&w->base, &w->given, w->state, w->ins + k * n[I], w->outs);
+        count3(outs, w->outs, k == 0 ? NULL : outs_before, n[O]);
+        memcpy(outs_before, w->outs, n[O]);
     }
 }
 

@@ -15,7 +15,7 @@ struct work {
     size_t scratch_length, file_length, out_length, base_length;
     uint8_t *file, *out, *state, *ins, *few, *outs;
     uint8_t *row_ins, *row_nexts, *row_outs; /* of ROWS rows */
-    uint32_t *report, *base_report;
+    uint32_t *report, *base_report;          /* of a list, and the shorter ones of rows */
     uint64_t answer[2 + COUNTS];
     struct base base;
 };
@@ -34,11 +34,11 @@ typedef void call(struct work *);
 /* The desk. desk_file reads a text file, converts it and writes it as binary; desk_ones steps from a state of 1, of
    which desk_explain explains the first output. */
 call desk_read, desk_check, desk_write_text, desk_write_binary, desk_convert, desk_reduce, desk_drop, desk_step,
-    desk_ones, desk_explain, desk_rows, desk_report_rows, desk_witness, desk_witness3, desk_file;
+    desk_ones, desk_explain, desk_rows, desk_report_rows, desk_witness, desk_witness3, desk_report, desk_file;
 
 /* The baseline; a reader that refuses ends the run. */
 call base_decode, base_decodec, base_text, base_textc, base_textq, base_print, base_encode, base_convert, base_strash,
-    base_used, base_step3, base_lanes, base_lane_counts, base_steps, base_fillings, base_file;
+    base_used, base_step3, base_lanes, base_lane_counts, base_steps, base_fillings, base_count3, base_file;
 
 /* What the contracts ask to be cleared: the scratch, and the tables that are written. */
 call clear_scratch, clear_written;
