@@ -24,7 +24,7 @@ use Rattle.plan.specs.Outcome.{allCodes}
 use Rattle.theorems.proofs.Reading.Common.{and-left}
 use Rattle.theorems.proofs.Writing.Nothing.{stage-none, at-none, failing-none, or-none, first-all, first-both}
 use Rattle.theorems.proofs.Writing.Fine.{Fine, nothing-fine, counts-given}
-use Rattle.blame.specs.Explain.{isX, Blamed, places, onlyState, onlyInputs, ExplainEntry, stateOf, inputsOf, asked, valueAsked, marksAsked, vectorsStage, outputStage, explainedBy, explain}
+use Rattle.plan.specs.Explain.{isX, Blamed, places, onlyState, onlyInputs, ExplainEntry, stateOf, inputsOf, asked, valueAsked, marksAsked, vectorsStage, outputStage, explainedBy, explain}
 use Rattle.blame.proofs.Explained.{explain-keeps}
 use Rattle.blame.proofs.Marked.{length-places, marks-exactly, marks-known}
 

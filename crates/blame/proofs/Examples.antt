@@ -11,7 +11,7 @@ use Rattle.plan.specs.Circuit.{seven}
 use Rattle.plan.specs.Reading.{readFile}
 use Rattle.plan.specs.Step.{valueOf}
 use Rattle.plan.specs.Programs.{bytesOf, lentWords, printed}
-use Rattle.blame.specs.Explain.{marksFor, ExplainEntry, ExplainExit, explain}
+use Rattle.plan.specs.Explain.{marksFor, ExplainEntry, ExplainExit, explain}
 
 -- the marks for output k of a file's circuit
 abbrev marks : List ℕ → List ℕ → List ℕ → ℕ → List ℕ

@@ -27,7 +27,7 @@ use Rattle.theorems.proofs.Running.Binary.{Binary, inner}
 use Rattle.theorems.proofs.Running.InOrder.{order-binary}
 use Rattle.plan.specs.Walk.{start, onward}
 use Rattle.plan.specs.Drop.{sidesOf}
-use Rattle.blame.specs.Explain.{is0, blamesAt, blames, Blamed, blamed, mark, marksFor, only, onlyState, onlyInputs}
+use Rattle.plan.specs.Explain.{is0, blamesAt, blames, Blamed, blamed, mark, marksFor, only, onlyState, onlyInputs}
 use Rattle.walks.proofs.Walk.{Falls, from-walked, walk-closed, walk-exactly}
 use Rattle.walks.proofs.Used.{sides-fall}
 

@@ -17,7 +17,7 @@ use Rattle.plan.specs.Step.{Value, v0, vx, lit, valuesOf}
 use Rattle.theorems.proofs.Running.Lists.{distinct-left, has-at, index-at}
 use Rattle.theorems.proofs.Running.Accepted.{accepted}
 use Rattle.theorems.proofs.Running.GateValue.{leaf-value}
-use Rattle.blame.specs.Explain.{Blamed, blamed, mark, places, marksFor}
+use Rattle.plan.specs.Explain.{Blamed, blamed, mark, places, marksFor}
 use Rattle.blame.proofs.Explained.{length-currents, length-vars, blamed-exactly, blamed-known}
 
 pub length-places : (c : Circuit) → length (places c) ≡ length (c .latches) + length (c .inputs)

@@ -12,7 +12,7 @@ use Rattle.plan.specs.Outcome.{put}
 use Rattle.theorems.proofs.Put.{put-none, put-one, put-put}
 use Rattle.theorems.proofs.Writing.Holding.{length-gate-words}
 use Rattle.gates.proofs.Words.{three-put}
-use Rattle.cards.specs.Cards.{word, wordAt, wordsIn, gatesIn}
+use Rattle.plan.specs.Cards.{word, wordAt, wordsIn, gatesIn}
 use Rattle.decks.proofs.Records.{length-words-in, length-gates-in}
 
 -- numbers of records of one

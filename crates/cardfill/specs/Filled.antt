@@ -13,7 +13,7 @@ use Rattle.plan.specs.Circuit.{Circuit, Tables, flat, latchLine, gateLine}
 use Rattle.plan.specs.Binary.{binaryOrder}
 use Rattle.plan.specs.Given.{failing, outsideIn}
 use Rattle.plan.specs.Outcome.{put}
-use Rattle.cards.specs.Cards.{cardBytes}
+use Rattle.plan.specs.Cards.{cardBytes}
 
 -- a file of the length that its counts ask, counts within the limits that add up, and tables that are long enough
 pub record Ready (file : List ℕ) (n : Counts) (inputs latches outputs gates : List ℕ) : Type 0 where

@@ -7,7 +7,7 @@ ghost use Rattle.plan.specs.Refusals.{firstOf};
 ghost use Rattle.plan.specs.Circuit.{flat, gateLine};
 ghost use Rattle.plan.specs.Outcome.{put, checkedBy};
 ghost use Rattle.tables.specs.Held.{circuitIn, Fits};
-ghost use Rattle.cards.specs.Cards.{wordsIn, gatesIn, carded};
+ghost use Rattle.plan.specs.Cards.{wordsIn, gatesIn, carded};
 ghost use Rattle.cardfill.specs.Filled.{Ready, FirstHold, judgedBy};
 use cards::word_at;
 use gates::run_on;

@@ -8,7 +8,7 @@ use native.Mathlib.Nat.{mul-suc}
 use native.Mathlib.Omega.{arith}
 use lib.ListN.{length, drop}
 use lib.Seq.{drop-drop}
-use Rattle.cards.specs.Cards.{marked, wrongIn}
+use Rattle.plan.specs.Cards.{marked, wrongIn}
 
 pub record Marking (file : List ℕ) (letter size n at next left : ℕ) : Type 0 where
   pub room : next + size * left ≤ length file

@@ -20,7 +20,7 @@ use Rattle.plan.specs.Refusals.{Parse, got, refused, stage}
 use Rattle.plan.specs.Header.{binary, listOf, over, adds}
 use Rattle.plan.specs.Given.{counted, orElse, failing}
 use Rattle.plan.specs.Outcome.{checkedBy}
-use Rattle.cards.specs.Cards.{countsAt, countsPlaced, cardBytes, wrongLength, badLength, latchesAt, outputsAt, gatesAt, wrongIn, wrongMarks, cardHead}
+use Rattle.plan.specs.Cards.{countsAt, countsPlaced, cardBytes, wrongLength, badLength, latchesAt, outputsAt, gatesAt, wrongIn, wrongMarks, cardHead}
 use Rattle.decks.proofs.Passing.{past-none, past-some}
 use Rattle.cardhead.specs.Head.{headedCards}
 

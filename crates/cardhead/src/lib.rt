@@ -5,7 +5,7 @@ ghost use lib.ListN.{length, drop};
 ghost use Rattle.plan.specs.declared.Refusal.the-variants.{WrongByte, WrongMark};
 ghost use Rattle.plan.specs.Refusals.{stage};
 ghost use Rattle.plan.specs.Outcome.{checkedBy};
-ghost use Rattle.cards.specs.Cards.{countsAt, cardBytes, badLength, wrongIn, wrongMarks, cardHead};
+ghost use Rattle.plan.specs.Cards.{countsAt, cardBytes, badLength, wrongIn, wrongMarks, cardHead};
 ghost use Rattle.cardhead.specs.Head.{headedCards, Within};
 use cards::mark_at;
 use cards::word_at;

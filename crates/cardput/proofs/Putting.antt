@@ -11,7 +11,7 @@ use Rattle.plan.specs.Outcome.{put}
 use Rattle.theorems.proofs.Put.{put-none, put-put}
 use Rattle.theorems.proofs.Tables.{firsts, length-firsts, gateAt, gates-rows, latchAt, latches-rows}
 use Rattle.theorems.proofs.Reading.Runs.{length-nexts}
-use Rattle.cards.specs.Cards.{markBytes, wordBytes, wordCards, gateCards}
+use Rattle.plan.specs.Cards.{markBytes, wordBytes, wordCards, gateCards}
 use Rattle.decks.proofs.Records.{length-words, length-gates}
 use Rattle.cardput.specs.Parts.{latchCards, outputCards, gatesCards}
 

@@ -5,7 +5,7 @@ use lib.ListN.{length, take}
 use Rattle.plan.specs.declared.Counts.{Counts}
 use Rattle.plan.specs.Literals.{most}
 use Rattle.plan.specs.Circuit.{latchOf, gateOf, rowsOf, nexts}
-use Rattle.cards.specs.Cards.{headCard, wordCards, gateCards}
+use Rattle.plan.specs.Cards.{headCard, wordCards, gateCards}
 
 abbrev pub latchCards : ℕ → List ℕ → List ℕ
 latchCards n latches = wordCards 76 (nexts (map latchOf (rowsOf 2 n latches)))

@@ -4,7 +4,7 @@ ghost use mathlib.Core.List.{_++_};
 ghost use Prim.Native.Nat.{_+_, _*_, _≤_};
 ghost use lib.ListN.{length};
 ghost use Rattle.plan.specs.Outcome.{put};
-ghost use Rattle.cards.specs.Cards.{markBytes, wordBytes, headCard, cardBytes};
+ghost use Rattle.plan.specs.Cards.{markBytes, wordBytes, headCard, cardBytes};
 ghost use Rattle.cardput.specs.Parts.{latchCards, outputCards, gatesCards, tableCards, Cardable};
 use cards::put_mark;
 use cards::put_word;

@@ -14,7 +14,7 @@ use Rattle.plan.specs.Outcome.{ReadEntry, loadBy}
 use Rattle.theorems.proofs.Held.{holds-filled}
 use Rattle.tables.specs.Lengths.{lengthsIn, sizesOf}
 use Rattle.rest.specs.Rest.{LoadedSays}
-use Rattle.cards.specs.Cards.{readCards, loadCards}
+use Rattle.plan.specs.Cards.{readCards, loadCards}
 
 -- a table that was cleared is zero throughout
 pub stays-cleared : (table x : List ℕ) → x ≡ cleared table → x ≡ cleared x

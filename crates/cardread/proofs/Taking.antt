@@ -26,7 +26,7 @@ use Rattle.theorems.proofs.Reading.Short.{short-none}
 use Rattle.tables.specs.Held.{Fits}
 use Rattle.tables.specs.Lengths.{lengthsIn, sizesOf}
 use Rattle.rest.specs.Rest.{LoadedSays}
-use Rattle.cards.specs.Cards.{countsAt, cardBytes, carded, past, cardHead, readCards}
+use Rattle.plan.specs.Cards.{countsAt, cardBytes, carded, past, cardHead, readCards}
 use Rattle.decks.proofs.Exactly.{head-accepted, made-counts}
 use Rattle.decks.proofs.Passing.{past-none, past-some}
 use Rattle.cardhead.specs.Head.{headedCards}

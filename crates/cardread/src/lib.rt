@@ -4,7 +4,7 @@ ghost use Rattle.plan.specs.Circuit.{seven, cleared};
 ghost use Rattle.plan.specs.Outcome.{Says};
 ghost use Rattle.tables.specs.Lengths.{lengthsIn, sizesOf};
 ghost use Rattle.rest.specs.Rest.{LoadedSays};
-ghost use Rattle.cards.specs.Cards.{readCards, loadCards};
+ghost use Rattle.plan.specs.Cards.{readCards, loadCards};
 use cardfill::fill;
 use cardfill::judge;
 use cardhead::read_head;

@@ -11,7 +11,7 @@ use lib.Dec.{eqb}
 use lib.ListN.{length, getD, set, take, drop}
 use lib.Seq.{sets-eq, getD-drop}
 use Rattle.plan.specs.Outcome.{put}
-use Rattle.cards.specs.Cards.{wordAt, wordBytes, marked, markBytes}
+use Rattle.plan.specs.Cards.{wordAt, wordBytes, marked, markBytes}
 
 -- `x & 0xff`
 pub low8 : (x : ℕ) → bitAnd x 255 ≡ x % 256

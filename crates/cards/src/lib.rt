@@ -4,7 +4,7 @@ ghost use mathlib.Core.Path.{_≡_};
 ghost use Prim.Native.Nat.{_+_, _≤_};
 ghost use lib.ListN.{length, drop};
 ghost use Rattle.plan.specs.Outcome.{put};
-ghost use Rattle.cards.specs.Cards.{wordAt, wordBytes, marked, markBytes};
+ghost use Rattle.plan.specs.Cards.{wordAt, wordBytes, marked, markBytes};
 
 // The number at a position.
 pub fn word_at(file: &[u8], at: usize) -> u32

@@ -23,7 +23,7 @@ use Rattle.theorems.proofs.Writing.Nothing.{both-first, some-first, one-stage}
 use Rattle.theorems.proofs.Writing.Fine.{counts-held}
 use Rattle.tables.specs.Held.{Fits}
 use Rattle.write.specs.Judged.{writerStages}
-use Rattle.cards.specs.Cards.{allZero, holdable, headCard, cardsOf, cardBytes, cardStage}
+use Rattle.plan.specs.Cards.{allZero, holdable, headCard, cardsOf, cardBytes, cardStage}
 use Rattle.cardput.specs.Parts.{latchCards, outputCards, gatesCards, tableCards, Cardable}
 use Rattle.cardput.proofs.Putting.{latches-size, outputs-size, gates-size}
 use Rattle.cardwrite.specs.Held.{holdableIn}

@@ -9,7 +9,7 @@ use Rattle.plan.specs.declared.Counts.{Counts}
 use Rattle.plan.specs.declared.Refusal.{Refusal}
 use Rattle.plan.specs.Given.{Given}
 use Rattle.write.specs.Judged.{writerStages}
-use Rattle.cards.specs.Cards.{allZero, cardStage}
+use Rattle.plan.specs.Cards.{allZero, cardStage}
 
 -- no tail, resets of 0, no bad states and no constraints
 abbrev pub holdableIn : Counts → List ℕ → List ℕ → Bool

@@ -4,7 +4,7 @@ ghost use Prim.Native.Nat.{_≤_};
 ghost use lib.ListN.{length, take};
 ghost use Rattle.plan.specs.Outcome.{Says, putBytes};
 ghost use Rattle.write.specs.Judged.{givenIn};
-ghost use Rattle.cards.specs.Cards.{allZero, writeCards};
+ghost use Rattle.plan.specs.Cards.{allZero, writeCards};
 ghost use Rattle.cardput.specs.Parts.{tableCards, Cardable};
 ghost use Rattle.cardwrite.specs.Held.{holdableIn};
 use cardput::fill_cards;
@@ -47,13 +47,7 @@ fn on_cards(n: Counts, resets: &[u32], tail: &[u8]) -> bool
 }
 
 // The cards of given tables, or 11 with the length needed. Nothing is written before the length is known.
-fn put_cards(
-    n: Counts,
-    latches: &[u32],
-    outputs: &[u32],
-    gates: &[u32],
-    out: &mut [u8],
-) -> Written
+fn put_cards(n: Counts, latches: &[u32], outputs: &[u32], gates: &[u32], out: &mut [u8]) -> Written
     requires { ⌜ Cardable n (now latches) (now outputs) (now gates) ⌝ }
     ensures { λ r. ⌜ record { answer = r; out = now (out .exit) } ≡ putBytes (now (out .entry)) 0
         (tableCards n (now (latches .entry)) (now (outputs .entry)) (now (gates .entry))) ⌝ }

@@ -19,7 +19,7 @@ use Rattle.codes.proofs.Places.{codesIn}
 use Rattle.stimulus.specs.Scan.{ended}
 use Rattle.trace.specs.Tracing.{judged}
 use Rattle.trace.proofs.Answers.{state-long}
-use Rattle.plain.specs.Plain.{plainTrace}
+use Rattle.plan.specs.Plain.{plainTrace}
 use Rattle.plain.proofs.Beyond.{plainAnswer, answer-few}
 use Rattle.comparing.specs.Lined.{Vector}
 

@@ -20,7 +20,7 @@ use Rattle.plan.specs.Whole.{TraceEntry, TraceExit, traceStage, nextLines, stat
 use Rattle.theorems.proofs.Reading.Common.{and-left, and-right}
 use Rattle.tables.specs.Lengths.{lengthsIn, sizesOf}
 use Rattle.step.proofs.Checks.{answer}
-use Rattle.plain.specs.Plain.{plainTrace}
+use Rattle.plan.specs.Plain.{plainTrace}
 use Rattle.comparing.specs.declared.Compared.{Compared}
 use Rattle.comparing.specs.declared.Compared.the-variants.{Differ}
 use Rattle.comparing.specs.Both.{sameBytes, sameAnswer, agree, CompareEntry, CompareExit, comparedBy, both, twinOf, compare}

@@ -13,7 +13,7 @@ use Rattle.plan.specs.Reading.{readToWork}
 use Rattle.plan.specs.Convert.{convert}
 use Rattle.plan.specs.Step.{valueOf, run, first}
 use Rattle.plan.specs.Programs.{lentWords, refusalLine, printed, input, stimulus, stepLines, tracer}
-use Rattle.plain.specs.Plain.{manyGates, comparer}
+use Rattle.plan.specs.Plain.{manyGates, comparer}
 
 module _ (file : List ℕ) (c : Circuit) (start : ℕ) (short : length file ≤ 65536) (reads : readToWork file lentWords lentWords ≡ got c start)
     (source : Option (List ℕ)) where

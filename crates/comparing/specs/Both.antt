@@ -7,7 +7,7 @@ use Rattle.plan.specs.declared.Traced.{Traced}
 use Rattle.plan.specs.declared.Traced.the-variants as traced
 use Rattle.plan.specs.Refusals.{numberOf, placeOf}
 use Rattle.plan.specs.Whole.{TraceEntry, TraceExit, trace}
-use Rattle.plain.specs.Plain.{plainTrace}
+use Rattle.plan.specs.Plain.{plainTrace}
 use Rattle.comparing.specs.declared.Compared.{Compared}
 use Rattle.comparing.specs.declared.Compared.the-variants.{Lines, Differ, Refused}
 

@@ -12,7 +12,7 @@ ghost use Rattle.plan.specs.Whole.{lineWidth};
 ghost use Rattle.sweep.specs.Running.{these, Runs};
 ghost use Rattle.step.specs.Asked.{Room};
 ghost use Rattle.trace.specs.Tracing.{Listed, firstOnes, Left};
-ghost use Rattle.plain.specs.Plain.{plainTrace};
+ghost use Rattle.plan.specs.Plain.{plainTrace};
 ghost use Rattle.comparing.specs.Lined.{Vector, Lined};
 ghost use Rattle.comparing.specs.Both.{sameAnswer, compare};
 use check::same;

@@ -23,7 +23,7 @@ use Rattle.plan.specs.Reading.{readFile, readToWork, WellFormed, States, Shorte
 use Rattle.plan.specs.Given.{failing, room}
 use Rattle.plan.specs.Programs.{lentWords, input, fitting, printed}
 use Rattle.plan.specs.Whole.{fittingIn}
-use Rattle.cards.specs.Cards.{cardsOf, holdable, CardStates, past, readCards, readToCard, CardEntry, movedBy, fileWhole, cardWhole, filer, carder}
+use Rattle.plan.specs.Cards.{cardsOf, holdable, CardStates, past, readCards, readToCard, CardEntry, movedBy, fileWhole, cardWhole, filer, carder}
 use Rattle.theorems.proofs.Put.{put-first}
 use Rattle.theorems.proofs.Reading.Common.{then-got, got-value, got-next, not-got, and-left, and-right, and-intro}
 use Rattle.theorems.proofs.Reading.Differences.{Bytes}

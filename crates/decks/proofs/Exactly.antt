@@ -20,7 +20,7 @@ use Rattle.plan.specs.Header.{binary, over, adds}
 use Rattle.plan.specs.Binary.{litsFrom, latchesFrom, binaryOrder}
 use Rattle.plan.specs.Reading.{WellFormed, Room}
 use Rattle.plan.specs.Given.{orElse, failing, outsideIn}
-use Rattle.cards.specs.Cards.{wordAt, wordBytes, markBytes, marked, headCard, wordCards, gateCards, cardsOf, allZero, holdable, CardStates, countsAt, countsPlaced, cardBytes, wrongLength, badLength, latchesAt, outputsAt, gatesAt, wrongIn, wrongMarks, wordsIn, gatesIn, carded, cardHead, readCards}
+use Rattle.plan.specs.Cards.{wordAt, wordBytes, markBytes, marked, headCard, wordCards, gateCards, cardsOf, allZero, holdable, CardStates, countsAt, countsPlaced, cardBytes, wrongLength, badLength, latchesAt, outputsAt, gatesAt, wrongIn, wrongMarks, wordsIn, gatesIn, carded, cardHead, readCards}
 use Rattle.theorems.proofs.Reading.Common.{got-value, got-next, then-got, and-left, and-right, and-intro}
 use Rattle.theorems.proofs.Reading.Differences.{Bytes}
 use Rattle.theorems.proofs.Reading.Headers.{AllMost, over-none, most-none}

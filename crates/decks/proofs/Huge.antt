@@ -4,7 +4,7 @@ use mathlib.Core.Path.{_≡_, refl}
 use mathlib.Core.Option.{some}
 use mathlib.Core.List.{List, [], _∷_, _++_}
 use Rattle.plan.specs.Programs.{bytesOf}
-use Rattle.cards.specs.Cards.{filer}
+use Rattle.plan.specs.Cards.{filer}
 
 abbrev nothing : List ℕ
 nothing = 0 ∷ 0 ∷ 0 ∷ 0 ∷ []

@@ -4,7 +4,7 @@ use mathlib.Core.Path.{_≡_, refl, ap}
 use mathlib.Core.Option.{Option, none, some}
 use Rattle.plan.specs.declared.Refusal.{Refusal}
 use Rattle.plan.specs.Refusals.{Parse, got, refused, _then_}
-use Rattle.cards.specs.Cards.{past}
+use Rattle.plan.specs.Cards.{past}
 use Rattle.theorems.proofs.Reading.Common.{not-got}
 
 module _ {A : Type 0} (r : ℕ → Refusal) (f : ℕ → ℕ → Parse A) where

@@ -10,7 +10,7 @@ use lib.Dec.{eqb}
 use lib.ListN.{length, getD, drop, length-drop}
 use lib.Seq.{drop-drop, getD-drop}
 use Rattle.plan.specs.Circuit.{Gate}
-use Rattle.cards.specs.Cards.{word, wordBytes, markBytes, marked, wordCards, gateCards, wrongIn, wordsIn, gatesIn}
+use Rattle.plan.specs.Cards.{word, wordBytes, markBytes, marked, wordCards, gateCards, wrongIn, wordsIn, gatesIn}
 use Rattle.theorems.proofs.Reading.Common.{and-left, and-right, and-intro}
 use Rattle.theorems.proofs.Reading.Differences.{Bytes}
 use Rattle.theorems.proofs.Reading.Order.{InOrder}

@@ -14,7 +14,7 @@ use Rattle.plan.specs.Binary.{binaryOrder}
 use Rattle.plan.specs.Depends.{undefinedIn, cyclicIn}
 use Rattle.plan.specs.Header.{binary, over, adds}
 use Rattle.plan.specs.Given.{failing, outsideIn, twiceIn}
-use Rattle.cards.specs.Cards.{countsAt, countsPlaced, badLength, wrongMarks, carded, past, cardHead, readCards}
+use Rattle.plan.specs.Cards.{countsAt, countsPlaced, badLength, wrongMarks, carded, past, cardHead, readCards}
 use Rattle.theorems.proofs.Reading.Differences.{Bytes}
 use Rattle.theorems.proofs.Reading.NoSixSevenEight.{Apart}
 use Rattle.theorems.proofs.Running.NoSixToEight.{no-six-to-eight}

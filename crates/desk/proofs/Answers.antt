@@ -7,13 +7,13 @@ use Rattle.plan.specs.Circuit.{Tables}
 use Rattle.plan.specs.Given.{Given}
 use Rattle.plan.specs.Outcome.{CheckExit, FileEntry, FileExit, MakeEntry, MakeExit, StepExit, WitnessExit, checkedValues, writtenValues, madeValues, steppedValues, verdictValues, findingValues, StepEntry}
 use Rattle.plan.specs.Outcome as outcome
-use Rattle.trying.specs.Fillings.{FilledExit}
-use Rattle.trying.specs.Fillings as fillings
+use Rattle.plan.specs.Fillings.{FilledExit}
+use Rattle.plan.specs.Fillings as fillings
 use Rattle.desk.specs.Told.{CheckTold, check, FileTold, toldFile, MakeTold, toldMade, StepTold, step, WitnessTold, witness, witness3, ExplainTold, explain, toldStep, RewireTold, rewiring}
-use Rattle.blame.specs.Explain.{ExplainExit}
-use Rattle.blame.specs.Explain as blame
-use Rattle.rewired.specs.Rewire.{RewireExit}
-use Rattle.rewired.specs.Rewire as rewire
+use Rattle.plan.specs.Explain.{ExplainExit}
+use Rattle.plan.specs.Explain as blame
+use Rattle.plan.specs.Rewire.{RewireExit}
+use Rattle.plan.specs.Rewire as rewire
 
 -- counts that C gives
 abbrev pub counted : Given → Counts → Given

@@ -5,8 +5,8 @@ use mathlib.Core.List.{List}
 use Rattle.plan.specs.declared.Counts.{Counts}
 use Rattle.plan.specs.Given.{Given}
 use Rattle.plan.specs.Outcome.{steppedValues}
-use Rattle.needles.specs.Report.{ReportExit}
-use Rattle.needles.specs.Report as needles
+use Rattle.plan.specs.Report.{ReportExit}
+use Rattle.plan.specs.Report as needles
 use Rattle.desk.specs.Reported.{ReportTold, report}
 use Rattle.desk.proofs.Answers.{counted}
 

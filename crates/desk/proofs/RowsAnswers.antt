@@ -5,8 +5,8 @@ use mathlib.Core.List.{List}
 use Rattle.plan.specs.declared.Counts.{Counts}
 use Rattle.plan.specs.Given.{Given}
 use Rattle.plan.specs.Outcome.{steppedValues}
-use Rattle.planes.specs.Rows.{RowsExit, RowReportExit}
-use Rattle.planes.specs.Rows as outcome
+use Rattle.plan.specs.Rows.{RowsExit, RowReportExit}
+use Rattle.plan.specs.Rows as outcome
 use Rattle.desk.specs.RowsTold.{RowsTold, toldRows, stepRows, RowReportTold, toldReport, reportRows}
 use Rattle.desk.proofs.Answers.{counted}
 

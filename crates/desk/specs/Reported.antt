@@ -2,8 +2,8 @@
 use Prim.Native.Nat.{ℕ}
 use mathlib.Core.List.{List}
 use Rattle.plan.specs.Outcome.{steppedValues}
-use Rattle.needles.specs.Report.{ReportEntry}
-use Rattle.needles.specs.Report as needles
+use Rattle.plan.specs.Report.{ReportEntry}
+use Rattle.plan.specs.Report as needles
 
 pub record ReportTold : Type 0 where
   pub answer : List ℕ

@@ -2,8 +2,8 @@
 use Prim.Native.Nat.{ℕ}
 use mathlib.Core.List.{List}
 use Rattle.plan.specs.Outcome.{steppedValues}
-use Rattle.planes.specs.Rows.{RowsEntry, RowsExit, RowReportEntry, RowReportExit}
-use Rattle.planes.specs.Rows as rows
+use Rattle.plan.specs.Rows.{RowsEntry, RowsExit, RowReportEntry, RowReportExit}
+use Rattle.plan.specs.Rows as rows
 
 pub record RowsTold : Type 0 where
   pub answer : List ℕ

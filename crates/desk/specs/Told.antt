@@ -6,13 +6,13 @@ use Rattle.plan.specs.Circuit.{Tables}
 use Rattle.plan.specs.Outcome.{FileEntry, FileExit, MakeEntry, MakeExit, StepEntry, WitnessEntry, checkedValues, writtenValues, madeValues, steppedValues, verdictValues, findingValues, StepExit, ReadEntry, loadedValues}
 use Rattle.plan.specs.Outcome as outcome
 use Rattle.plan.specs.Drop as drop
-use Rattle.trying.specs.Fillings.{FilledEntry}
-use Rattle.trying.specs.Fillings as fillings
-use Rattle.blame.specs.Explain as blame
-use Rattle.plain.specs.Plain as plain
-use Rattle.rewired.specs.Rewire.{RewireEntry}
-use Rattle.rewired.specs.Rewire as rewire
-use Rattle.cards.specs.Cards as cards
+use Rattle.plan.specs.Fillings.{FilledEntry}
+use Rattle.plan.specs.Fillings as fillings
+use Rattle.plan.specs.Explain as blame
+use Rattle.plan.specs.Plain as plain
+use Rattle.plan.specs.Rewire.{RewireEntry}
+use Rattle.plan.specs.Rewire as rewire
+use Rattle.plan.specs.Cards as cards
 
 pub record CheckTold : Type 0 where
   pub answer : List ℕ

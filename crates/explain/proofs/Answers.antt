@@ -24,7 +24,7 @@ use Rattle.theorems.proofs.Writing.Nothing.{some-none, some-first, both-first}
 use Rattle.given.specs.Judged.{allStages}
 use Rattle.given.proofs.Sound.{good-none, refused-some}
 use Rattle.codes.proofs.Places.{codesIn, firstBad}
-use Rattle.blame.specs.Explain.{isX, ExplainEntry, ExplainExit, valueAsked, marksAsked, vectorsStage, outputStage, explainedBy, explain}
+use Rattle.plan.specs.Explain.{isX, ExplainEntry, ExplainExit, valueAsked, marksAsked, vectorsStage, outputStage, explainedBy, explain}
 use Rattle.explain.specs.Asked.{Vectors, Explains}
 
 not-x : (a : Value) → (a ≡ vx → ⊥) → isX a ≡ false

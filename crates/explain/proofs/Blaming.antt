@@ -17,7 +17,7 @@ use Rattle.theorems.proofs.Running.Signs.{lit-double, lit-neg}
 use Rattle.values.specs.Words.{may0, may1, word}
 use Rattle.sweep.proofs.NotAnd.{may-not}
 use Rattle.plan.specs.Walk.{walk}
-use Rattle.blame.specs.Explain.{is0, blamesAt, blames}
+use Rattle.plan.specs.Explain.{is0, blamesAt, blames}
 use Rattle.drop.proofs.Marking.{walk-append}
 use Rattle.explain.specs.Known.{sideAt, flag, Known}
 

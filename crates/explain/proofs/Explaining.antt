@@ -15,7 +15,7 @@ use Rattle.theorems.proofs.Put.{put-put}
 use Rattle.theorems.proofs.Reading.Runs.{order-exactly}
 use Rattle.theorems.proofs.Tables.{gatesAt}
 use Rattle.values.specs.Words.{may1, told, valuesAt}
-use Rattle.blame.specs.Explain.{blames, marksFor}
+use Rattle.plan.specs.Explain.{blames, marksFor}
 use Rattle.sweep.specs.Running.{these, litsOf, Runs, Stepped}
 use Rattle.explain.specs.Known.{Space, Known}
 use Rattle.explain.specs.Asked.{Asked}

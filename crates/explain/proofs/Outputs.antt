@@ -19,7 +19,7 @@ use Rattle.sweep.specs.Running.{Runs}
 use Rattle.sweep.proofs.Literals.{literal-up}
 use Rattle.step.specs.Asked as stepping
 use Rattle.drop.specs.Marks.{Below}
-use Rattle.blame.specs.Explain.{places, marksFor}
+use Rattle.plan.specs.Explain.{places, marksFor}
 use Rattle.blame.proofs.Marked.{length-places}
 use Rattle.explain.specs.Asked.{Settled, Vectors}
 

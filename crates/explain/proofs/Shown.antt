@@ -14,7 +14,7 @@ use Rattle.theorems.proofs.Reading.Runs.{upFrom, vars-lits, currents-latches, l
 use Rattle.theorems.proofs.Tables.{gatesAt, gates-rows}
 use Rattle.values.specs.Words.{word, told, valuesAt}
 use Rattle.plan.specs.Walk.{walk}
-use Rattle.blame.specs.Explain.{blames, blamed, mark, marksFor}
+use Rattle.plan.specs.Explain.{blames, blamed, mark, marksFor}
 use Rattle.explain.specs.Known.{Space, flag, Known}
 
 code-flag : (b : Bool) → codeOf (told (word (flag b))) ≡ cond b 49 48

@@ -14,7 +14,7 @@ use Rattle.theorems.proofs.Tables.{gateAt}
 use Rattle.tables.specs.Held.{Scratch}
 use Rattle.sweep.specs.Running as running
 use Rattle.drop.specs.Marks.{Below}
-use Rattle.blame.specs.Explain.{ExplainEntry, ExplainExit, marksAsked, outputStage, explainedBy}
+use Rattle.plan.specs.Explain.{ExplainEntry, ExplainExit, marksAsked, outputStage, explainedBy}
 
 -- a step's values stand in scratch
 abbrev pub Settled : Counts → Circuit → List Value → List Value → List ℕ → Type 0

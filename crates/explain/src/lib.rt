@@ -9,7 +9,7 @@ ghost use Rattle.plan.specs.Step.{Value, codeOf, valueOf, lit};
 ghost use Rattle.plan.specs.Outcome.{Says, put};
 ghost use Rattle.plan.specs.Walk.{walk};
 ghost use Rattle.theorems.proofs.Tables.{gateAt, gatesAt};
-ghost use Rattle.blame.specs.Explain.{blames, marksFor, explain};
+ghost use Rattle.plan.specs.Explain.{blames, marksFor, explain};
 ghost use Rattle.given.specs.Judged.{givenAt};
 ghost use Rattle.drop.specs.Marks.{Below};
 ghost use Rattle.values.specs.Words.{may1, valuesAt};

@@ -10,7 +10,7 @@ use lib.ListN.{length, length-map}
 use Rattle.plan.specs.declared.Counts.{Counts}
 use Rattle.plan.specs.declared.Finding.the-variants.{Yes, No, Undecided}
 use Rattle.plan.specs.Step.{valueOf}
-use Rattle.trying.specs.Fillings.{filling, tryAll}
+use Rattle.plan.specs.Fillings.{filling, tryAll}
 use Rattle.trying.specs.Reaching.{Reaches}
 use Rattle.trying.proofs.Numbering.{fill-length}
 use Rattle.trying.proofs.Trying.{reached-no, reached-yes, reached-cut}

@@ -7,7 +7,7 @@ use lib.ListN.{take, drop}
 use Rattle.plan.specs.Step.{valueOf}
 use Rattle.plan.specs.Outcome.{put}
 use Rattle.values.specs.Words.{words}
-use Rattle.trying.specs.Fillings.{xCount, fillFrom}
+use Rattle.plan.specs.Fillings.{xCount, fillFrom}
 use Rattle.trying.proofs.Numbering.{fill-part}
 use Rattle.trying.proofs.Counting.{count-take, count-part}
 

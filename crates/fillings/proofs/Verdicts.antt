@@ -14,7 +14,7 @@ use Rattle.plan.specs.Circuit.{cleared}
 use Rattle.plan.specs.Given.{given}
 use Rattle.plan.specs.Outcome.{WitnessEntry, vector, listStage}
 use Rattle.codes.proofs.Places.{codesIn}
-use Rattle.trying.specs.Fillings.{xCount, asked, question, FilledEntry, FilledExit, xStage, findingBy, witness}
+use Rattle.plan.specs.Fillings.{xCount, asked, question, FilledEntry, FilledExit, xStage, findingBy, witness}
 use Rattle.trying.proofs.Calls.{x-few, x-many}
 use Rattle.fillings.proofs.Beyond.{answer}
 

@@ -13,7 +13,7 @@ use Rattle.plan.specs.Step.{Value, v0, v1, vx, codeOf, valueOf, resetValue}
 use Rattle.theorems.proofs.Tables.{firsts}
 use Rattle.values.specs.Words.{word, words}
 use Rattle.values.proofs.Codes.{loaded}
-use Rattle.trying.specs.Fillings.{isX, xOf, xCount, bitOf, fillFrom}
+use Rattle.plan.specs.Fillings.{isX, xOf, xCount, bitOf, fillFrom}
 use Rattle.trying.proofs.Numbering.{fill-length, fill-at, bit-small}
 use Rattle.fillings.specs.Asked.{codesOf}
 

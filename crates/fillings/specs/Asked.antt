@@ -8,7 +8,7 @@ use Rattle.plan.specs.Circuit.{seven}
 use Rattle.plan.specs.Step.{codeOf, resetValue}
 use Rattle.tables.specs.Held.{Scratch}
 use Rattle.sweep.specs.Running.{Runs}
-use Rattle.trying.specs.Fillings.{xCount}
+use Rattle.plan.specs.Fillings.{xCount}
 
 -- the codes of n resets
 abbrev pub codesOf : List ℕ → ℕ → List ℕ

@@ -10,7 +10,7 @@ ghost use Rattle.plan.specs.Outcome.{Says, put};
 ghost use Rattle.values.specs.Words.{word, words};
 ghost use Rattle.sweep.specs.Running.{Runs, Rests};
 ghost use Rattle.witness.specs.Listing.{Starts, showsFrom};
-ghost use Rattle.trying.specs.Fillings.{isX, xOf, xCount, bitOf, fillFrom, filling, filledShows, question, witness};
+ghost use Rattle.plan.specs.Fillings.{isX, xOf, xCount, bitOf, fillFrom, filling, filledShows, question, witness};
 ghost use Rattle.trying.specs.Reaching.{Reaches};
 ghost use Rattle.fillings.specs.Asked.{codesOf, Loads, Begins, Holds};
 use codes::whole_list;

@@ -20,7 +20,7 @@ use Rattle.values.proofs.Filling.{map-firsts}
 use Rattle.sweep.specs.Running.{Runs}
 use Rattle.sweep.proofs.NotAnd.{negated-may}
 use Rattle.sweep.proofs.Literals.{outputs-every, nexts-every, output-up, next-up}
-use Rattle.planes.specs.Rows.{same, rowSteps, outputsOfRow, nextOfRow, outputBytes, nextBytes, rowsAt, reportFrom, reportOf}
+use Rattle.plan.specs.Rows.{same, rowSteps, outputsOfRow, nextOfRow, outputBytes, nextBytes, rowsAt, reportFrom, reportOf}
 use Rattle.planes.specs.Planes.{bit}
 use Rattle.planes.proofs.Bits.{sum, bit-and}
 use Rattle.planes.proofs.Counting.{rows-all}

@@ -7,7 +7,7 @@ use lib.ListN.{length, getD, take, drop, set}
 use lib.Seq.{getD-drop}
 use Rattle.plan.specs.Outcome.{put}
 use Rattle.theorems.proofs.Put.{put-none, put-length}
-use Rattle.needles.specs.Report.{inTurn}
+use Rattle.plan.specs.Report.{inTurn}
 use Rattle.needles.specs.Tally.{counted, finished, rowFrom, Counts1, CountsAll, countedAll, finishedAll}
 use Rattle.needles.proofs.Rows.{turn-length, next-put, rest-stays}
 use Rattle.needles.proofs.Counting.{finished-put}

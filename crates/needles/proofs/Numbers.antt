@@ -7,7 +7,7 @@ use native.Mathlib.Omega.{arith}
 use lib.Dec.{eqb}
 use Rattle.plan.specs.Step.{Value, v0, v1, vx}
 use Rattle.values.specs.Words.{word}
-use Rattle.needles.specs.Report.{same, times, changesAfter, changes, numbersOf}
+use Rattle.plan.specs.Report.{same, times, changesAfter, changes, numbersOf}
 use Rattle.needles.specs.Tally.{lastAfter, lastWord, kept, differs, counted, finished}
 
 -- a value more at the end of a list

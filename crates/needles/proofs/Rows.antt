@@ -8,7 +8,7 @@ use lib.ListN.{length, getD, take, drop, length-append, length-drop}
 use lib.Seq.{drop-at, take-at, drop-drop}
 use Rattle.plan.specs.Outcome.{put}
 use Rattle.theorems.proofs.Put.{put-put, put-there}
-use Rattle.needles.specs.Report.{inTurn}
+use Rattle.plan.specs.Report.{inTurn}
 
 -- the same rows
 pub same-turn : (f g : ℕ → List ℕ) (n : ℕ) → ((i : ℕ) → i < n → f i ≡ g i) → inTurn f n ≡ inTurn g n

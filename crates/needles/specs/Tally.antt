@@ -6,7 +6,7 @@ use lib.Dec.{eqb}
 use lib.ListN.{length, getD, take, drop}
 use Rattle.plan.specs.Step.{Value, v0, v1, vx}
 use Rattle.values.specs.Words.{word}
-use Rattle.needles.specs.Report.{times, changes, inTurn}
+use Rattle.plan.specs.Report.{times, changes, inTurn}
 
 abbrev pub lastAfter : Value → List Value → Value
 lastAfter a [] = a

@@ -13,7 +13,7 @@ use Rattle.plan.specs.Circuit.{cleared}
 use Rattle.plan.specs.Outcome.{StepEntry, StepExit, allCodes, stepStage, steppedBy, step}
 use Rattle.theorems.proofs.Reading.Common.{and-right}
 use Rattle.codes.proofs.Places.{codesIn, firstBad}
-use Rattle.plain.specs.Plain.{plainStep}
+use Rattle.plan.specs.Plain.{plainStep}
 use Rattle.plain.proofs.Beyond.{plainAnswer, answer-few}
 
 -- For every circuit of at most 24 gates, every state and input, the plain engine gives the stepper's outputs, next state and answer, refusals

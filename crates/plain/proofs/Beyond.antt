@@ -16,7 +16,7 @@ use Rattle.theorems.proofs.Writing.Nothing.{some-first, both-first}
 use Rattle.given.specs.Judged.{allStages}
 use Rattle.given.proofs.Sound.{good-none, refused-some}
 use Rattle.step.proofs.Checks.{answer}
-use Rattle.plain.specs.Plain.{gatesStage}
+use Rattle.plan.specs.Plain.{gatesStage}
 
 -- 24 is given exactly where there are more gates
 pub gates-few : (g : Given) → g .counts .A ≤ 24 → gatesStage g ≡ none

@@ -3,7 +3,7 @@ use mathlib.Core.Path.{_≡_, refl}
 use mathlib.Core.Option.{none, some}
 use mathlib.Core.List.{[], _∷_, _++_}
 use Rattle.plan.specs.Programs.{bytesOf}
-use Rattle.plain.specs.Plain.{manyGates, comparer}
+use Rattle.plan.specs.Plain.{manyGates, comparer}
 
 -- the paper's four lines
 pub toggle-lines :

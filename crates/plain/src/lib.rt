@@ -11,7 +11,7 @@ ghost use Rattle.plan.specs.Step.{codeOf, valueOf, inv, and, lit};
 ghost use Rattle.plan.specs.Outcome.{Says, allCodes, put};
 ghost use Rattle.sweep.specs.Running.{these, Runs};
 ghost use Rattle.step.specs.Asked.{Room, Vectors, Leaves};
-ghost use Rattle.plain.specs.Plain.{plainStep};
+ghost use Rattle.plan.specs.Plain.{plainStep};
 ghost use Rattle.plain.specs.Asked.{variableIn, Teaches, Outs, Nexts, Bytes, outputCodes, nextCodes};
 use codes::bad_vector;
 use given::judge_in_order;

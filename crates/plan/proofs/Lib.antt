@@ -1,3 +1,5 @@
 pub mod Bits
 pub mod Examples
 pub mod Ranges
+pub mod Rewiring
+pub mod Carding

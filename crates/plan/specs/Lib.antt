@@ -19,3 +19,12 @@ pub mod Programs
 pub mod Whole
 pub mod Walk
 pub mod Drop
+pub mod Sixth
+pub mod Report
+pub mod Reporter
+pub mod Fillings
+pub mod Rows
+pub mod Explain
+pub mod Plain
+pub mod Rewire
+pub mod Cards

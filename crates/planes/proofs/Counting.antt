@@ -8,7 +8,7 @@ use lib.Count.{ones}
 use Rattle.plan.specs.Step.{Value, v0, v1, vx}
 use Rattle.values.specs.Words.{may0, may1}
 use Rattle.planes.specs.Planes.{bit}
-use Rattle.planes.specs.Rows.{same}
+use Rattle.plan.specs.Rows.{same}
 use Rattle.planes.proofs.Bits.{bit-small, bit-and, bit-xor, plane-self, sum, ones-plane}
 
 -- a plane masked to n lanes has as many ones as these lanes have bits: spare lanes count nothing

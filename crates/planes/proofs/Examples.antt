@@ -8,7 +8,7 @@ use Rattle.plan.specs.declared.Stepped.the-variants.{Done, Refused}
 use Rattle.plan.specs.Circuit.{seven}
 use Rattle.plan.specs.Given.{Given}
 use Rattle.plan.specs.Programs.{bytesOf}
-use Rattle.planes.specs.Rows.{RowsEntry, stepRows, RowReportEntry, reportRows}
+use Rattle.plan.specs.Rows.{RowsEntry, stepRows, RowReportEntry, reportRows}
 
 -- one input, one latch that starts as x, one gate, the And of both: it is the next state and an output, the negated input another
 abbrev small : Given

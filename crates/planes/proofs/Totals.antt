@@ -6,7 +6,7 @@ use native.Mathlib.Omega.{arith}
 use lib.ListN.{length, getD, drop, length-map}
 use Rattle.plan.specs.Circuit.{Circuit, rowsOf}
 use Rattle.plan.specs.Step.{Value, v0, v1, vx, Step, stepOf, first, valueOf, vectorsOf}
-use Rattle.planes.specs.Rows.{same, rowsAt, rowSteps}
+use Rattle.plan.specs.Rows.{same, rowsAt, rowSteps}
 
 one-value : (a : Value) → same v0 a + same v1 a + same vx a ≡ 1
 one-value v0 = refl

@@ -19,10 +19,10 @@ use Rattle.theorems.proofs.Reading.Common.{and-left}
 use Rattle.theorems.proofs.Writing.Nothing.{stage-none, at-none, first-all, first-both, both-first, some-first}
 use Rattle.given.proofs.Sound.{good-none, refused-some}
 use Rattle.codes.proofs.Places.{codesIn}
-use Rattle.sixth.specs.Sixth.{sixthStages}
+use Rattle.plan.specs.Sixth.{sixthStages}
 use Rattle.sixth.specs.Judged.{withSixth}
 use Rattle.sixth.proofs.Among.{with-sixth, nothing-refused}
-use Rattle.needles.specs.Report.{ReportEntry, mostSteps, longStage, reportStages}
+use Rattle.plan.specs.Report.{ReportEntry, mostSteps, longStage, reportStages}
 
 module _ (e : ReportEntry) where
   abbrev g : Given

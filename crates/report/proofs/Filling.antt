@@ -9,7 +9,7 @@ use Rattle.plan.specs.declared.Counts.{Counts}
 use Rattle.plan.specs.Circuit.{Circuit, filled, cleared}
 use Rattle.plan.specs.Step.{Value, Step}
 use Rattle.plan.specs.Outcome.{put}
-use Rattle.needles.specs.Report.{numbersOf, outputAlong, latchAlong, inTurn, needles}
+use Rattle.plan.specs.Report.{numbersOf, outputAlong, latchAlong, inTurn, needles}
 use Rattle.needles.specs.Tally.{kept, finished, rowFrom, finishedAll}
 use Rattle.needles.proofs.Rows.{same-turn, turn-add, turn-length, turn-row}
 use Rattle.needles.proofs.Numbers.{finished-kept}

@@ -12,7 +12,7 @@ use Rattle.plan.specs.Step.{Value, valueOf, nextOf, Step, stepOf, run, vectorsO
 use Rattle.theorems.proofs.Tables.{row-ends}
 use Rattle.theorems.proofs.Running.Runs.{next-length}
 use Rattle.sweep.specs.Running.{Runs, Rests}
-use Rattle.needles.specs.Report.{mostSteps}
+use Rattle.plan.specs.Report.{mostSteps}
 use Rattle.report.specs.Tallying.{tally, Turned}
 
 -- vector k of a whole list starts at `at`

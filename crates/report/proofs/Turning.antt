@@ -15,7 +15,7 @@ use Rattle.tables.specs.Held.{Scratch}
 use Rattle.values.specs.Words.{word, words}
 use Rattle.sweep.specs.Running.{Runs, Rests, Stands, Ready}
 use Rattle.sweep.proofs.Loading.{stands-loaded}
-use Rattle.needles.specs.Report.{same, times, changesAfter, changes, inTurn, outputAlong, latchAlong, mostSteps}
+use Rattle.plan.specs.Report.{same, times, changesAfter, changes, inTurn, outputAlong, latchAlong, mostSteps}
 use Rattle.needles.specs.Tally.{lastAfter, lastWord, kept, counted, rowFrom, CountsAll, countedAll}
 use Rattle.needles.proofs.Rows.{same-turn, turn-length, turn-row}
 use Rattle.needles.proofs.Numbers.{counted-kept}

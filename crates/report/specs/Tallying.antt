@@ -8,7 +8,7 @@ use Rattle.plan.specs.Circuit.{Circuit, Tables, seven}
 use Rattle.plan.specs.Step.{Value, nextOf, Step, stepOf}
 use Rattle.tables.specs.Held.{Scratch}
 use Rattle.sweep.specs.Running.{these, Runs, Rests}
-use Rattle.needles.specs.Report.{inTurn, outputAlong, latchAlong, mostSteps}
+use Rattle.plan.specs.Report.{inTurn, outputAlong, latchAlong, mostSteps}
 use Rattle.needles.specs.Tally.{kept}
 
 -- the words of all needles after some steps

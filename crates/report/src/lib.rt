@@ -10,7 +10,7 @@ ghost use Rattle.plan.specs.Circuit.{Tables, circuitOf, seven, cleared};
 ghost use Rattle.plan.specs.Step.{Value, valueOf, Step, run, vectorsOf};
 ghost use Rattle.plan.specs.Outcome.{Says, checkedBy};
 ghost use Rattle.sweep.specs.Running.{these, Runs, Rests};
-ghost use Rattle.needles.specs.Report.{reportOf, reportStages, report};
+ghost use Rattle.plan.specs.Report.{reportOf, reportStages, report};
 ghost use Rattle.report.specs.Tallying.{tally, Turns, Turned, Tallies, Fills};
 use codes::whole_list;
 use given::check_in_order;

@@ -5,7 +5,7 @@ use mathlib.Core.Option.{none, some}
 use mathlib.Core.List.{List}
 use Rattle.plan.specs.Programs.{bytesOf}
 use Rattle.theorems.proofs.Paper.{toggle}
-use Rattle.reporting.specs.Reporter.{reporter}
+use Rattle.plan.specs.Reporter.{reporter}
 
 -- the toggle circuit over the four lines of the paper
 pub toggle-lines : reporter (some toggle) (some (bytesOf "11\n11\nx1\n10\n")) ≡ bytesOf "o0 2 1 1 3\no1 1 2 1 3\nl0 2 1 1 3\n"

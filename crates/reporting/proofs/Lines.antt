@@ -10,8 +10,8 @@ use Rattle.plan.specs.Bytes.{digits, endOf, lineOf, linesOf}
 use Rattle.plan.specs.Outcome.{put}
 use Rattle.theorems.proofs.Put.{put-none, put-put, put-one, put-length}
 use Rattle.print.proofs.Sizes.{digits-ten}
-use Rattle.needles.specs.Report.{inTurn}
-use Rattle.reporting.specs.Reporter.{needleLine}
+use Rattle.plan.specs.Report.{inTurn}
+use Rattle.plan.specs.Reporter.{needleLine}
 
 -- after i of them
 pub record Lined (f : ℕ → List ℕ) (out₀ : List ℕ) (at i next : ℕ) (out : List ℕ) : Type 0 where

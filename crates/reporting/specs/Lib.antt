@@ -1,2 +1,1 @@
-pub mod Reporter
 pub mod Packing

@@ -4,8 +4,8 @@ ghost use mathlib.Core.List.{[], _∷_};
 ghost use Prim.Native.Nat.{_+_, _*_, _<_, _≤_};
 ghost use lib.ListN.{length, take, drop};
 ghost use Rattle.plan.specs.Outcome.{put};
-ghost use Rattle.needles.specs.Report.{inTurn};
-ghost use Rattle.reporting.specs.Reporter.{needleLine, needleLines};
+ghost use Rattle.plan.specs.Report.{inTurn};
+ghost use Rattle.plan.specs.Reporter.{needleLine, needleLines};
 ghost use Rattle.reporting.specs.Packing.{packed};
 use print::write_lines;
 

@@ -16,7 +16,7 @@ use Rattle.theorems.proofs.Running.Runs.{Sized, convert-run}
 use Rattle.theorems.proofs.Running.WithoutX.{NoX, NoXs}
 use Rattle.theorems.proofs.Running.Resets.{first-convert, first-length}
 use Rattle.theorems.proofs.Running.DemandThree.{demand-three}
-use Rattle.needles.specs.Report.{numbersOf, outputAlong, latchAlong, inTurn, needles}
+use Rattle.plan.specs.Report.{numbersOf, outputAlong, latchAlong, inTurn, needles}
 
 -- the numbers of a list, from the resets
 abbrev pub reported : Circuit → List (List Value) → List ℕ

@@ -7,7 +7,7 @@ use Rattle.plan.specs.Refusals.{got, _then_}
 use Rattle.plan.specs.Reading.{readFile}
 use Rattle.plan.specs.Programs.{bytesOf, lentWords, printed}
 use Rattle.theorems.proofs.Paper.{toggle}
-use Rattle.needles.specs.Report.{reportOf}
+use Rattle.plan.specs.Report.{reportOf}
 
 -- the numbers of a file's circuit over a list
 abbrev reported : List ℕ → ℕ → List ℕ → List ℕ

@@ -9,7 +9,7 @@ use lib.ListN.{getD}
 use Rattle.plan.specs.Circuit.{Circuit}
 use Rattle.plan.specs.Step.{Value, vx, nextOf, Step, stepOf, run}
 use Rattle.plan.specs.Whole.{stateAfter}
-use Rattle.needles.specs.Report.{same, times, changesAfter, changes, outputAlong, latchAlong}
+use Rattle.plan.specs.Report.{same, times, changesAfter, changes, outputAlong, latchAlong}
 
 pub times-parts : (a : Value) (l m : List Value) → times a (l ++ m) ≡ times a l + times a m
 times-parts a [] m = omega arith

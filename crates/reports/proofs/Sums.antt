@@ -7,7 +7,7 @@ use native.Mathlib.Omega.{arith}
 use lib.ListN.{length, getD, drop, length-map}
 use Rattle.plan.specs.Circuit.{Circuit, rowsOf}
 use Rattle.plan.specs.Step.{Value, v0, v1, vx, valueOf, nextOf, Step, run, first, vectorsOf}
-use Rattle.needles.specs.Report.{same, times, changesAfter, changes, numbersOf, outputAlong, latchAlong}
+use Rattle.plan.specs.Report.{same, times, changesAfter, changes, numbersOf, outputAlong, latchAlong}
 
 -- a value is one of the three
 one-of : (b : Value) → cond (same b v0) 1 0 + cond (same b v1) 1 0 + cond (same b vx) 1 0 ≡ 1

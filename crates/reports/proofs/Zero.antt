@@ -14,7 +14,7 @@ use Rattle.plan.specs.Circuit.{Circuit, cleared}
 use Rattle.plan.specs.Given.{given}
 use Rattle.plan.specs.Step.{Step, run, first, vectorsOf}
 use Rattle.theorems.proofs.Marks.{zeros}
-use Rattle.needles.specs.Report.{numbersOf, outputAlong, latchAlong, inTurn, needles, ReportEntry, reportStages, reportedBy, report}
+use Rattle.plan.specs.Report.{numbersOf, outputAlong, latchAlong, inTurn, needles, ReportEntry, reportStages, reportedBy, report}
 use Rattle.needles.proofs.Rows.{turn-length}
 
 -- whatever is refused, every word is zero

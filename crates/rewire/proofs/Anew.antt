@@ -20,7 +20,7 @@ use Rattle.theorems.proofs.Running.GateValue.{GateEq, gates-hold}
 use Rattle.theorems.proofs.Running.Binary.{Binary, inner}
 use Rattle.theorems.proofs.Running.InOrder.{order-binary}
 use Rattle.walks.proofs.Places.{left-at}
-use Rattle.rewired.specs.Rewire.{rewire, screen, stateOn, inputsOn, wrongOn, rewiredScreen}
+use Rattle.plan.specs.Rewire.{rewire, screen, stateOn, inputsOn, wrongOn, rewiredScreen}
 use Rattle.rewired.proofs.Rewired.{rewire-in-order, rewire-well-formed, rewire-below}
 use Rattle.rewired.proofs.Screen.{screen-exactly, screen-at, length-screen}
 use Rattle.rewired.proofs.Rows.{all-places}

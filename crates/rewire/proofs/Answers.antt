@@ -27,7 +27,7 @@ use Rattle.theorems.proofs.Running.InOrder.{order-binary}
 use Rattle.theorems.proofs.Writing.Nothing.{at-none, stage-none, first-all, some-first, both-first, one-stage}
 use Rattle.given.specs.Judged.{allStages}
 use Rattle.given.proofs.Sound.{Good, good-none, refused-some, good-alone}
-use Rattle.rewired.specs.Rewire.{rewiredGates, rewiredScreen, wrongFrom, wrongOn, editStages, RewireEntry, RewireExit, rewiredBy, rewiring}
+use Rattle.plan.specs.Rewire.{rewiredGates, rewiredScreen, wrongFrom, wrongOn, editStages, RewireEntry, RewireExit, rewiredBy, rewiring}
 use Rattle.rewired.proofs.Rows.{table-rewired, two-stores}
 use Rattle.rewired.proofs.Call.{Edits, found-nothing}
 use Rattle.rewire.specs.Shown.{Shows, Follows, Ordered, Counted}

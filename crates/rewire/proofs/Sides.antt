@@ -13,7 +13,7 @@ use Rattle.plan.specs.Literals.{litOf, inRange}
 use Rattle.plan.specs.Refusals.{stage, firstOf}
 use Rattle.plan.specs.Given.{failingAt, failing}
 use Rattle.plan.specs.Outcome.{vector, checkedBy}
-use Rattle.rewired.specs.Rewire.{leftAt, editStages}
+use Rattle.plan.specs.Rewire.{leftAt, editStages}
 use Rattle.rewire.specs.Shown.{Counted}
 
 -- by what the tests said

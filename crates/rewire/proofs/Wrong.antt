@@ -24,7 +24,7 @@ use Rattle.plan.specs.Outcome.{checkedBy}
 use Rattle.theorems.proofs.Tables.{gateAt, gatesAt}
 use Rattle.theorems.proofs.Running.Binary.{Binary, find-none}
 use Rattle.theorems.proofs.Running.Sides.{sides-below}
-use Rattle.rewired.specs.Rewire.{valueOn, follows, wrongFrom}
+use Rattle.plan.specs.Rewire.{valueOn, follows, wrongFrom}
 use Rattle.rewired.proofs.Screen.{Right, value-code, all-right}
 use Rattle.rewired.proofs.Rows.{found-at}
 use Rattle.rewire.specs.Shown.{Shows, Row, Ordered}

@@ -11,7 +11,7 @@ ghost use Rattle.plan.specs.Circuit.{seven};
 ghost use Rattle.plan.specs.Step.{Value, codeOf, and, signedValue, lit};
 ghost use Rattle.plan.specs.Outcome.{Says, put, checkedBy};
 ghost use Rattle.theorems.proofs.Tables.{gateAt, gatesAt};
-ghost use Rattle.rewired.specs.Rewire.{valueOn, wrongFrom, editStages, rewiring};
+ghost use Rattle.plan.specs.Rewire.{valueOn, wrongFrom, editStages, rewiring};
 ghost use Rattle.given.specs.Judged.{givenAt};
 ghost use Rattle.rewire.specs.Shown.{Shows, Follows, Row, Ordered, Counted};
 use codes::is_code;

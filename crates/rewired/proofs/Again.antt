@@ -25,7 +25,7 @@ use Rattle.theorems.proofs.Running.Binary.{inner}
 use Rattle.theorems.proofs.Running.InOrder.{order-binary}
 use Rattle.theorems.proofs.Writing.Nothing.{both-first}
 use Rattle.theorems.proofs.Writing.Later.{Left}
-use Rattle.rewired.specs.Rewire.{screen, inputsOn, stateOn, wrongOn, leftAt, editStages, RewireEntry, rewiredBy, rewiring}
+use Rattle.plan.specs.Rewire.{screen, inputsOn, stateOn, wrongOn, leftAt, editStages, RewireEntry, rewiredBy, rewiring}
 use Rattle.rewired.proofs.Rewired.{depends-below}
 use Rattle.rewired.proofs.Screen.{screen-exactly, length-screen}
 use Rattle.rewired.proofs.Call.{edited, after, done-edits, values-are, edited-in-order, edited-formed, holds-edited, apart-stays}

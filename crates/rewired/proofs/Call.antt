@@ -32,7 +32,7 @@ use Rattle.theorems.proofs.Writing.Nothing.{stage-none, at-none, failing-none, 
 use Rattle.theorems.proofs.Writing.Fine.{nothing-fine, fine-nothing, counts-given}
 use Rattle.theorems.proofs.Writing.Holding.{formed-fine}
 use Rattle.theorems.proofs.Writing.Later.{Left}
-use Rattle.rewired.specs.Rewire.{rewiredGates, rewire, screen, inputsOn, stateOn, wrongOn, leftAt, editStages, RewireEntry, rewiredBy, rewiring}
+use Rattle.plan.specs.Rewire.{rewiredGates, rewire, screen, inputsOn, stateOn, wrongOn, leftAt, editStages, RewireEntry, rewiredBy, rewiring}
 use Rattle.rewired.proofs.Rewired.{length-rewired, rewire-in-order, rewire-well-formed, rewire-apart}
 use Rattle.rewired.proofs.Screen.{screen-exactly, screen-at}
 use Rattle.rewired.proofs.Rows.{left-side, other-gate, table-rewired, two-stores}

@@ -3,4 +3,3 @@ pub mod Screen
 pub mod Rows
 pub mod Call
 pub mod Again
-pub mod Examples

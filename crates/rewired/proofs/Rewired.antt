@@ -26,7 +26,7 @@ use Rattle.theorems.proofs.Running.GateValue.{values-solve}
 use Rattle.theorems.proofs.Running.Binary.{Binary, inner, Bounded}
 use Rattle.theorems.proofs.Running.InOrder.{order-binary, well-ordered, well-formed}
 use Rattle.plan.specs.Drop.{sidesOf}
-use Rattle.rewired.specs.Rewire.{rewiredGates, rewire}
+use Rattle.plan.specs.Rewire.{rewiredGates, rewire}
 use Rattle.walks.proofs.Walk.{Falls}
 use Rattle.walks.proofs.Used.{sides-fall}
 

@@ -18,7 +18,7 @@ use Rattle.theorems.proofs.Tables.{firsts, length-firsts, gateAt, gatesAt}
 use Rattle.theorems.proofs.Running.Found.{AllG, all-map}
 use Rattle.theorems.proofs.Running.Binary.{Binary}
 use Rattle.walks.proofs.Places.{left-at}
-use Rattle.rewired.specs.Rewire.{rewiredGates}
+use Rattle.plan.specs.Rewire.{rewiredGates}
 
 all-front : (P : Gate → Type 0) (gs hs : List Gate) → AllG P (gs ++ hs) → AllG P gs
 all-front P [] hs a = tt

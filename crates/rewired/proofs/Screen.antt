@@ -28,7 +28,7 @@ use Rattle.theorems.proofs.Running.Binary.{Binary, find-none, find-above, inner
 use Rattle.theorems.proofs.Running.Upward.{given, leaf-at, lits-at}
 use Rattle.theorems.proofs.Running.InOrder.{order-binary, leaves-order}
 use Rattle.plan.specs.Drop.{sidesOf}
-use Rattle.rewired.specs.Rewire.{screen, inputsOn, stateOn, valueOn, follows, wrongFrom, wrongOn}
+use Rattle.plan.specs.Rewire.{screen, inputsOn, stateOn, valueOn, follows, wrongFrom, wrongOn}
 use Rattle.walks.proofs.Walk.{Falls}
 use Rattle.walks.proofs.Used.{sides-fall}
 

@@ -25,7 +25,7 @@ use Rattle.theorems.proofs.Reading.Common.{and-left}
 use Rattle.codes.proofs.Places.{firstBad}
 use Rattle.step.proofs.Checks.{answer}
 use Rattle.sweep.proofs.Literals.{output-up, next-up}
-use Rattle.planes.specs.Rows.{RowsEntry, RowsExit, badRows, rowStage, steppedRows, stepRows}
+use Rattle.plan.specs.Rows.{RowsEntry, RowsExit, badRows, rowStage, steppedRows, stepRows}
 use Rattle.lanes.specs.Working.{these, Ready, Shows}
 use Rattle.rows.specs.Asked.{Room, Lists, Leaves}
 

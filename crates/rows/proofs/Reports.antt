@@ -24,13 +24,13 @@ use Rattle.plan.specs.Outcome.{put, allCodes, checkedBy, checkInOrder}
 use Rattle.theorems.proofs.Reading.Common.{and-left}
 use Rattle.theorems.proofs.Writing.Nothing.{some-first, both-first}
 use Rattle.given.proofs.Sound.{good-none, refused-some}
-use Rattle.sixth.specs.Sixth.{sixthStages}
+use Rattle.plan.specs.Sixth.{sixthStages}
 use Rattle.sixth.specs.Judged.{withSixth}
 use Rattle.sixth.proofs.Among.{with-sixth, nothing-refused}
 use Rattle.sweep.specs.Running.{Runs}
 use Rattle.sweep.proofs.Literals.{output-up}
 use Rattle.step.proofs.Checks as checks
-use Rattle.planes.specs.Rows.{RowReportEntry, RowReportExit, lentForRows, rowReportStage, reportedRows, reportRows, reportOf, rowSteps}
+use Rattle.plan.specs.Rows.{RowReportEntry, RowReportExit, lentForRows, rowReportStage, reportedRows, reportRows, reportOf, rowSteps}
 use Rattle.lanes.specs.Working.{these, Ready, Shows}
 use Rattle.rows.specs.Asked.{Reports}
 

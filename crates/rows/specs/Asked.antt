@@ -7,7 +7,7 @@ use Rattle.plan.specs.declared.Counts.{Counts}
 use Rattle.plan.specs.Circuit.{Circuit, Tables}
 use Rattle.tables.specs.Held.{Scratch}
 use Rattle.sweep.specs.Running.{Runs}
-use Rattle.planes.specs.Rows.{rowSteps, outputBytes, nextBytes}
+use Rattle.plan.specs.Rows.{rowSteps, outputBytes, nextBytes}
 use Rattle.lanes.specs.Working.{these}
 
 -- tables that hold an accepted circuit in binary order, and room in scratch

@@ -12,7 +12,7 @@ ghost use Rattle.plan.specs.Step.{isCode};
 ghost use Rattle.plan.specs.Outcome.{Says, allCodes};
 ghost use Rattle.tables.specs.Lengths.{tableOf};
 ghost use Rattle.sweep.specs.Running.{Runs};
-ghost use Rattle.planes.specs.Rows.{badRows, stepRows, rowSteps, reportOf, reportRows};
+ghost use Rattle.plan.specs.Rows.{badRows, stepRows, rowSteps, reportOf, reportRows};
 ghost use Rattle.lanes.specs.Working.{these};
 ghost use Rattle.rows.specs.Asked.{Room, Lists, Leaves, Reports};
 use codes::is_code;

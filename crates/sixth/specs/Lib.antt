@@ -1,2 +1,1 @@
-pub mod Sixth
 pub mod Judged

@@ -16,7 +16,7 @@ use Rattle.plan.specs.Circuit.{Circuit}
 use Rattle.plan.specs.Given.{given, lentAlone, stages, orderStage}
 use Rattle.plan.specs.Step.{witnessed}
 use Rattle.plan.specs.Outcome.{WitnessEntry, listStage, verdictBy, witness3}
-use Rattle.trying.specs.Fillings.{xCount, asked, totalOf, question, FilledEntry, xStage, findingBy, witness}
+use Rattle.plan.specs.Fillings.{xCount, asked, totalOf, question, FilledEntry, xStage, findingBy, witness}
 use Rattle.trying.proofs.Question.{EveryShows, yes-every, every-yes, old-yes, larger-yes, larger-no}
 
 -- an answer but a refusal is the question's

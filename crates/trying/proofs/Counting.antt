@@ -8,7 +8,7 @@ use native.Mathlib.Numerals.{add-one}
 use native.Mathlib.Omega.{arith}
 use lib.ListN.{length, getD, take, drop}
 use lib.Seq.{take-add, take-suc, take-all}
-use Rattle.trying.specs.Fillings.{isX, xOf, xCount}
+use Rattle.plan.specs.Fillings.{isX, xOf, xCount}
 use Rattle.trying.proofs.Numbering.{count-append}
 
 pub x-small : (code : ℕ) → xOf code ≤ 1

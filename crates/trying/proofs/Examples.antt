@@ -6,7 +6,7 @@ use mathlib.Core.List.{List, [], _∷_, map}
 use Rattle.plan.specs.declared.Finding.the-variants.{Yes, No, Undecided}
 use Rattle.plan.specs.Circuit.{Circuit}
 use Rattle.plan.specs.Step.{witnessed}
-use Rattle.trying.specs.Fillings.{filling, question}
+use Rattle.plan.specs.Fillings.{filling, question}
 
 -- filling 1 puts its 1 at the first x
 first-x-first : map (λ (k : ℕ). filling k (120 ∷ 49 ∷ 120 ∷ [])) (0 ∷ 1 ∷ 2 ∷ 3 ∷ [])

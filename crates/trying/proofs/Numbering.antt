@@ -10,8 +10,8 @@ use borrow.Author.Tests.{eqb-true, eq-eqb}
 use lib.Dec.{eqb}
 use lib.ListN.{length, getD, take, drop}
 use lib.Seq.{take-at, drop-at}
-use Rattle.trying.specs.Fillings.{isX, xOf, xCount, bitOf, fillFrom, filling}
-use Rattle.trying.specs.Fillings.{FillsAt, Fills}
+use Rattle.plan.specs.Fillings.{isX, xOf, xCount, bitOf, fillFrom, filling}
+use Rattle.plan.specs.Fillings.{FillsAt, Fills}
 
 pub fill-length : (k i : ℕ) (l : List ℕ) → length (fillFrom k i l) ≡ length l
 fill-length k i [] = refl

@@ -18,7 +18,7 @@ use Rattle.theorems.proofs.Running.Monotone.{Replaced}
 use Rattle.theorems.proofs.Running.Shown.{shows-replaced}
 use Rattle.theorems.proofs.Writing.Stepping.{codes-values}
 use Rattle.theorems.proofs.Running.WithoutX.{NotX, NoX}
-use Rattle.trying.specs.Fillings.{isX, xCount, FillsAt, Fills, fillFrom, filling, startOf, asked, showsAt, filledShows, totalOf, question}
+use Rattle.plan.specs.Fillings.{isX, xCount, FillsAt, Fills, fillFrom, filling, startOf, asked, showsAt, filledShows, totalOf, question}
 use Rattle.trying.proofs.Numbering.{fill-fills, Numbered, fills-number, start-filled, list-filled}
 use Rattle.trying.proofs.Trying.{AllShow, Means, try-means, yes-told, yes-stays, no-stays}
 

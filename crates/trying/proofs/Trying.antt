@@ -11,7 +11,7 @@ use lib.Dec.{leb}
 use Rattle.plan.specs.declared.Refusal.{Refusal}
 use Rattle.plan.specs.declared.Finding.{Finding}
 use Rattle.plan.specs.declared.Finding.the-variants.{Yes, No, Undecided, Refused}
-use Rattle.trying.specs.Fillings.{firstFailing, findingOf, tryAll}
+use Rattle.plan.specs.Fillings.{firstFailing, findingOf, tryAll}
 use Rattle.trying.specs.Reaching.{Reaches}
 
 module _ (shows : ℕ → Bool) where

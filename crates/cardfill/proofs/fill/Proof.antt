@@ -4,7 +4,7 @@ use Prim.Native.Nat.{_+_}
 use mathlib.Core.Path.{_∙_}
 use native.Mathlib.Omega.{arith}
 use lib.ListN.{drop}
-use Rattle.cards.specs.Cards.{wordsIn}
+use Rattle.plan.specs.Cards.{wordsIn}
 use Rattle.decks.proofs.Records.{length-words-in}
 use Rattle.cardfill.proofs.Spreading.{latches-spread}
 use Rattle.cardfill.proofs.fill.Statement.{statement}

@@ -1,7 +1,7 @@
 -- Too small for a head, ended early, gone on, or of the right length.
 use mathlib.Core.Path.{ap, _∙_}
 use Rattle.plan.specs.declared.Refusal.the-variants.{WrongByte}
-use Rattle.cards.specs.Cards.{cardBytes, badLength}
+use Rattle.plan.specs.Cards.{cardBytes, badLength}
 use Rattle.cardhead.proofs.Told.{found, nothing, too-small, ends-early, goes-on, ends-right}
 use borrow.Author.Needs.{needs}
 use Rattle.cardhead.proofs.check_length.Statement.{statement}

@@ -5,7 +5,7 @@ use mathlib.Core.Path.{_≡_, refl, sym, ap, _∙_}
 use native.Mathlib.Omega.{arith}
 use borrow.Author.Tests.{not-true, not-false}
 use Rattle.plan.specs.declared.Refusal.the-variants.{WrongMark}
-use Rattle.cards.specs.Cards.{wrongIn}
+use Rattle.plan.specs.Cards.{wrongIn}
 use lib.ListN.{length, drop}
 use Rattle.cardhead.proofs.Told.{found, nothing}
 use Rattle.cardhead.proofs.Marking.{Marking, in-room, mark-wrong, mark-fine}

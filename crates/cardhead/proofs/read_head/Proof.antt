@@ -13,7 +13,7 @@ use Rattle.plan.specs.Given.{counted}
 use Rattle.plan.specs.Outcome.{checkedBy}
 use Rattle.tables.specs.Lengths.{tableOf}
 use Rattle.tables.proofs.Told.{some-table, no-table}
-use Rattle.cards.specs.Cards.{countsAt, countsPlaced, cardBytes, badLength, wrongMarks}
+use Rattle.plan.specs.Cards.{countsAt, countsPlaced, cardBytes, badLength, wrongMarks}
 use Rattle.decks.proofs.Exactly.{length-none}
 use Rattle.cardhead.proofs.Told.{was-nothing, head-1, head-18, head-2, head-3, head-good, large-placed, none-large}
 use borrow.Author.Needs.{needs}

@@ -6,7 +6,7 @@ use Prim.Native.Nat.{ℕ, _+_, _≤_}
 use native.Mathlib.Omega.{arith}
 use lib.ListN.{length, length-append}
 use Rattle.plan.specs.Outcome.{put}
-use Rattle.cards.specs.Cards.{headCard}
+use Rattle.plan.specs.Cards.{headCard}
 use Rattle.cardput.specs.Parts.{latchCards, outputCards, gatesCards}
 use Rattle.cardput.proofs.Putting.{two-parts, latches-size, outputs-size, gates-size}
 use Rattle.cardput.proofs.fill_cards.Statement.{statement}
@@ -40,8 +40,7 @@ put-outputs-requires c κs =
 
 put-gates-requires : tie.Need-put-gates-requires
 put-gates-requires c κs =
-    let s = c .before .before .before .before .before .before .before .before .before .before .before .before .before .before .before .before .before .before .before .before .before .before in
-    (
+    let s = c .before .before .before .before .before .before .before .before .before .before .before .before .before .before .before .before .before .before .before .before .before .before in (
       omega (
         arith,
         s .pre .1,

@@ -5,7 +5,7 @@ use mathlib.Core.Path.{refl, sym, _∙_}
 use mathlib.Core.List.{_++_}
 use native.Mathlib.Omega.{arith}
 use lib.ListN.{getD}
-use Rattle.cards.specs.Cards.{markBytes, wordBytes}
+use Rattle.plan.specs.Cards.{markBytes, wordBytes}
 use Rattle.cardput.specs.Parts.{gatesCards}
 use Rattle.cardput.proofs.Putting.{two-parts, Put, none-put, one-put, all-put, gates-more, gates-size}
 use Rattle.cardput.proofs.put_gates.Statement.{statement}

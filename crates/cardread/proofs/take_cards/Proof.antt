@@ -11,7 +11,7 @@ use Rattle.plan.specs.Circuit.{Tables, seven, wordsWith, wordsToWork, against, 
 use Rattle.tables.specs.declared.Sizes.{Sizes}
 use Rattle.tables.specs.Lengths.{tableOf, lengthsIn, sizesOf}
 use Rattle.tables.proofs.Told.{some-table, no-table}
-use Rattle.cards.specs.Cards.{cardHead}
+use Rattle.plan.specs.Cards.{cardHead}
 use Rattle.cardread.proofs.Taking.{head-got, head-refused, small, take-head, take-short, ready, fits, take-judged, take-good}
 use Rattle.cardread.proofs.take_cards.Statement.{statement}
 use Rattle.cardread.proofs.take_cards.Tie as tie

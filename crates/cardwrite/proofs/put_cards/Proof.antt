@@ -36,8 +36,7 @@ returns c =
 fill-cards-requires : tie.Need-fill-cards-requires
 fill-cards-requires c κs =
     let s = c .before .before .before .before .before .before .before .before .before .before in
-    let a = s .args in
-    (
+    let a = s .args in (
       s .pre,
       enough (a .n) (a .latches .now) (a .outputs .now) (a .gates .now) (s .pre) (a .out .now) _ refl _ (c .before .before .holds .ensures) (not-false _ (c .before .if1 .left)),
     )

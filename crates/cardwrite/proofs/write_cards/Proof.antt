@@ -15,7 +15,7 @@ use Rattle.given.proofs.Sound.{good-none, refused-some}
 use Rattle.write.specs.Judged.{givenIn, writerStages}
 use Rattle.write.proofs.Judging.{good-judged}
 use Rattle.write.proofs.Writing.{refused-file, written-file}
-use Rattle.cards.specs.Cards.{cardsOf, holdable}
+use Rattle.plan.specs.Cards.{cardsOf, holdable}
 use Rattle.cardwrite.proofs.Holding.{held-same, cards-same, cardable, refused-first, at-nineteen, past-nineteen}
 use Rattle.cardwrite.proofs.write_cards.Statement.{statement}
 use Rattle.cardwrite.proofs.write_cards.Tie as tie

@@ -2,7 +2,7 @@ use mathlib.Core.Path.{_≡_, sym, _∙_}
 use borrow.Author.Tests.{not-true, not-false}
 use Rattle.plan.specs.Circuit.{seven}
 use Rattle.plan.specs.Whole.{TraceExit, trace}
-use Rattle.plain.specs.Plain.{plainTrace}
+use Rattle.plan.specs.Plain.{plainTrace}
 use Rattle.comparing.specs.Both.{CompareEntry, twinOf}
 use Rattle.comparing.proofs.Parting.{same-is, answers-part, states-part, lines-part, none-parts}
 use borrow.Author.Needs.{needs}

@@ -4,7 +4,7 @@ use Rattle.plan.specs.Circuit.{seven}
 use Rattle.plan.specs.Header.{countsFrom}
 use Rattle.plan.specs.Given.{Given}
 use Rattle.given.specs.Judged.{givenAt}
-use Rattle.blame.specs.Explain.{ExplainExit}
+use Rattle.plan.specs.Explain.{ExplainExit}
 use Rattle.desk.proofs.Answers.{explain-told}
 use Rattle.desk.proofs.golvanzo_explain.Statement.{statement}
 use Rattle.desk.proofs.golvanzo_explain.Tie as tie

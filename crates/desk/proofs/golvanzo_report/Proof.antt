@@ -4,7 +4,7 @@ use Rattle.plan.specs.Circuit.{seven}
 use Rattle.plan.specs.Header.{countsFrom}
 use Rattle.plan.specs.Given.{Given}
 use Rattle.given.specs.Judged.{givenAt}
-use Rattle.needles.specs.Report.{ReportExit}
+use Rattle.plan.specs.Report.{ReportExit}
 use Rattle.desk.proofs.Reporting.{report-told}
 use Rattle.desk.proofs.golvanzo_report.Statement.{statement}
 use Rattle.desk.proofs.golvanzo_report.Tie as tie

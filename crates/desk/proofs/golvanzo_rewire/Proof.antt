@@ -3,7 +3,7 @@ use Rattle.plan.specs.Circuit.{seven}
 use Rattle.plan.specs.Header.{countsFrom}
 use Rattle.plan.specs.Given.{Given}
 use Rattle.given.specs.Judged.{givenAt}
-use Rattle.rewired.specs.Rewire.{RewireExit}
+use Rattle.plan.specs.Rewire.{RewireExit}
 use Rattle.desk.proofs.Answers.{rewire-told}
 use Rattle.desk.proofs.golvanzo_rewire.Statement.{statement}
 use Rattle.desk.proofs.golvanzo_rewire.Tie as tie

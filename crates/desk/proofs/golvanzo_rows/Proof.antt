@@ -4,7 +4,7 @@ use Rattle.plan.specs.Circuit.{seven}
 use Rattle.plan.specs.Header.{countsFrom}
 use Rattle.plan.specs.Given.{Given}
 use Rattle.given.specs.Judged.{givenAt}
-use Rattle.planes.specs.Rows.{RowsExit}
+use Rattle.plan.specs.Rows.{RowsExit}
 use Rattle.desk.proofs.RowsAnswers.{rows-told}
 use Rattle.desk.proofs.golvanzo_rows.Statement.{statement}
 use Rattle.desk.proofs.golvanzo_rows.Tie as tie

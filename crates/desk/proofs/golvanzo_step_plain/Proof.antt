@@ -5,7 +5,7 @@ use Rattle.plan.specs.Header.{countsFrom}
 use Rattle.plan.specs.Given.{Given}
 use Rattle.given.specs.Judged.{givenAt}
 use Rattle.plan.specs.Outcome.{StepExit}
-use Rattle.plain.specs.Plain.{plainStep}
+use Rattle.plan.specs.Plain.{plainStep}
 use Rattle.desk.proofs.Answers.{step-told}
 use Rattle.desk.proofs.golvanzo_step_plain.Statement.{statement}
 use Rattle.desk.proofs.golvanzo_step_plain.Tie as tie

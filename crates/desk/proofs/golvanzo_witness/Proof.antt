@@ -4,7 +4,7 @@ use Rattle.plan.specs.Circuit.{seven}
 use Rattle.plan.specs.Header.{countsFrom}
 use Rattle.plan.specs.Given.{Given}
 use Rattle.given.specs.Judged.{givenAt}
-use Rattle.trying.specs.Fillings.{FilledExit}
+use Rattle.plan.specs.Fillings.{FilledExit}
 use Rattle.desk.proofs.Answers.{witness-told}
 use Rattle.desk.proofs.golvanzo_witness.Statement.{statement}
 use Rattle.desk.proofs.golvanzo_witness.Tie as tie

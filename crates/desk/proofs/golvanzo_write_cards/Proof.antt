@@ -5,7 +5,7 @@ use Rattle.plan.specs.Header.{countsFrom}
 use Rattle.plan.specs.Given.{Given}
 use Rattle.given.specs.Judged.{givenAt}
 use Rattle.plan.specs.Outcome.{FileExit}
-use Rattle.cards.specs.Cards.{writeCards}
+use Rattle.plan.specs.Cards.{writeCards}
 use Rattle.desk.proofs.Answers.{file-told}
 use Rattle.desk.proofs.golvanzo_write_cards.Statement.{statement}
 use Rattle.desk.proofs.golvanzo_write_cards.Tie as tie

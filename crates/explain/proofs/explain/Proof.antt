@@ -7,7 +7,7 @@ use Rattle.plan.specs.Outcome.{checkInOrder}
 use Rattle.tables.proofs.Told.{some-table, no-table}
 use Rattle.given.specs.Judged.{givenAt}
 use Rattle.step.proofs.Checks.{runs, room}
-use Rattle.blame.specs.Explain.{ExplainEntry, vectorsStage}
+use Rattle.plan.specs.Explain.{ExplainEntry, vectorsStage}
 use Rattle.explain.proofs.Answers.{bad-is, good-vectors, refused-tables, refused-vector, answered}
 use borrow.Author.Needs.{needs}
 use Rattle.explain.proofs.explain.Statement.{statement}

@@ -11,7 +11,7 @@ use Rattle.plan.specs.Outcome.{put}
 use Rattle.given.specs.Judged.{givenAt}
 use Rattle.values.specs.Words.{word}
 use Rattle.sweep.specs.Running.{these, Runs}
-use Rattle.blame.specs.Explain.{ExplainEntry, stateOf, inputsOf, asked, valueAsked, marksAsked, marksFor}
+use Rattle.plan.specs.Explain.{ExplainEntry, stateOf, inputsOf, asked, valueAsked, marksAsked, marksFor}
 use Rattle.explain.specs.Asked.{Settled}
 use Rattle.explain.proofs.Outputs.{x-word, gates-below, literal-is, literal-low, output-word, marks-long}
 use Rattle.explain.proofs.Answers.{not-there, is-x, too-short, marked}

@@ -2,7 +2,7 @@ use Prim.Native.Nat.{ℕ, _+_, _-_, _≤_}
 use mathlib.Core.Path.{_≡_, refl, sym, ap, _∙_}
 use native.Mathlib.Omega.{arith}
 use lib.ListN.{length, getD, take}
-use Rattle.trying.specs.Fillings.{xOf, xCount}
+use Rattle.plan.specs.Fillings.{xOf, xCount}
 use Rattle.trying.proofs.Counting.{count-more, count-all, x-small}
 use Rattle.fillings.specs.Asked.{codesOf}
 use Rattle.fillings.proofs.Words.{codes-length, code-at}

@@ -2,7 +2,7 @@ use Prim.Native.Nat.{_-_, _≤_}
 use mathlib.Core.Path.{_≡_, refl, sym, ap₂, _∙_}
 use native.Mathlib.Omega.{arith}
 use lib.ListN.{length, getD, take}
-use Rattle.trying.specs.Fillings.{xCount}
+use Rattle.plan.specs.Fillings.{xCount}
 use Rattle.trying.proofs.Counting.{count-more, count-all, x-small}
 use borrow.Author.Needs.{needs}
 use Rattle.fillings.proofs.count_x.Statement.{statement}

@@ -6,7 +6,7 @@ use lib.ListN.{length}
 use Rattle.plan.specs.Circuit.{Circuit, circuitOf, seven}
 use Rattle.plan.specs.Step.{Value, valueOf}
 use Rattle.witness.specs.Listing.{showsFrom}
-use Rattle.trying.specs.Fillings.{fillFrom, filling}
+use Rattle.plan.specs.Fillings.{fillFrom, filling}
 use Rattle.trying.proofs.Question.{number-shows}
 use Rattle.fillings.specs.Asked.{codesOf}
 use Rattle.fillings.proofs.Attempts.{start-length}

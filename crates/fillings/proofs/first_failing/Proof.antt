@@ -8,7 +8,7 @@ use borrow.Author.Tests.{not-true, not-false}
 use lib.ListN.{length}
 use Rattle.plan.specs.Circuit.{circuitOf, seven}
 use Rattle.sweep.specs.Running.{Runs}
-use Rattle.trying.specs.Fillings.{filledShows}
+use Rattle.plan.specs.Fillings.{filledShows}
 use Rattle.fillings.proofs.Attempts.{holds-again}
 use borrow.Author.Needs.{needs}
 use Rattle.fillings.proofs.first_failing.Statement.{statement}

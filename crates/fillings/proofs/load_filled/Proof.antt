@@ -4,7 +4,7 @@ use native.Mathlib.Nat.{add-zero}
 use native.Mathlib.Omega.{arith}
 use lib.ListN.{length, getD, take}
 use Rattle.plan.specs.Step.{valueOf}
-use Rattle.trying.specs.Fillings.{xCount, fillFrom}
+use Rattle.plan.specs.Fillings.{xCount, fillFrom}
 use Rattle.plan.specs.Outcome.{put}
 use Rattle.values.specs.Words.{word}
 use Rattle.values.proofs.Filling.{Filled, filled-none, filled-more, filled-all}

@@ -8,7 +8,7 @@ use Rattle.plan.specs.Step.{valueOf}
 use Rattle.plan.specs.Outcome.{put}
 use Rattle.values.specs.Words.{word}
 use Rattle.values.proofs.Filling.{Filled, filled-none, filled-more, filled-all}
-use Rattle.trying.specs.Fillings.{xOf, xCount, filling}
+use Rattle.plan.specs.Fillings.{xOf, xCount, filling}
 use Rattle.trying.proofs.Counting.{count-more, count-all, count-take, x-small}
 use Rattle.fillings.specs.Asked.{codesOf}
 use Rattle.fillings.proofs.Words.{filledWord, codes-length, code-at, filled-word-at, filled-words}

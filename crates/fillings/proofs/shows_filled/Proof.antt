@@ -15,7 +15,7 @@ use Rattle.sweep.specs.Running.{Runs, Rests, Stepped}
 use Rattle.sweep.proofs.Seeing.{sees-constraints}
 use Rattle.witness.proofs.Listing.{Turn, Going, part-short, vectorOf, going-first, vector-ends, vector-stands, vector-ready}
 use Rattle.witness.proofs.Listing.{shown-asks, none-counts, found-one, going-on, none-shown}
-use Rattle.trying.specs.Fillings.{xCount, fillFrom}
+use Rattle.plan.specs.Fillings.{xCount, fillFrom}
 use Rattle.trying.proofs.Numbering.{fill-length}
 use Rattle.fillings.proofs.Vectors.{filled-vector, next-x, few-x}
 use borrow.Author.Needs.{needs}

@@ -4,7 +4,7 @@ use native.Mathlib.Omega.{arith}
 use lib.ListN.{length, set, length-set}
 use Rattle.plan.specs.Step.{valueOf}
 use Rattle.sweep.proofs.Loading.{constant-set, rests-loaded}
-use Rattle.trying.specs.Fillings.{filling}
+use Rattle.plan.specs.Fillings.{filling}
 use Rattle.fillings.specs.Asked.{codesOf}
 use Rattle.fillings.proofs.Words.{codes-length}
 use Rattle.fillings.proofs.Attempts.{start-length}

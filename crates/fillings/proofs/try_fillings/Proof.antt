@@ -3,7 +3,7 @@ use mathlib.Core.Path.{_≡_, sym, ap, _∙_}
 use mathlib.Core.List.{List, []}
 use native.Mathlib.Omega.{arith}
 use Rattle.plan.specs.Circuit.{Circuit, circuitOf, seven}
-use Rattle.trying.specs.Fillings.{xCount, asked, filledShows}
+use Rattle.plan.specs.Fillings.{xCount, asked, filledShows}
 use Rattle.trying.proofs.Numbering.{count-append}
 use Rattle.fillings.specs.Asked.{codesOf}
 use Rattle.fillings.proofs.Attempts.{total-is, total-small, found-no, found-yes, found-cut}

@@ -14,7 +14,7 @@ use Rattle.codes.proofs.Places.{codesIn}
 use Rattle.sweep.specs.Running.{Runs}
 use Rattle.step.proofs.Checks.{runs, room}
 use Rattle.witness.proofs.Verdicts.{good-list}
-use Rattle.trying.specs.Fillings.{xCount, asked, FilledEntry}
+use Rattle.plan.specs.Fillings.{xCount, asked, FilledEntry}
 use Rattle.trying.proofs.Numbering.{count-append}
 use Rattle.trying.proofs.Counting.{count-small}
 use Rattle.fillings.specs.Asked.{codesOf}

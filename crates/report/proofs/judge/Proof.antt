@@ -7,7 +7,7 @@ use lib.Dec.{ltb}
 use lib.ListN.{length}
 use Rattle.plan.specs.Circuit.{seven, cleared}
 use Rattle.plan.specs.Outcome.{CheckExit, checkInOrder}
-use Rattle.needles.specs.Report.{ReportEntry}
+use Rattle.plan.specs.Report.{ReportEntry}
 use Rattle.report.proofs.Checks.{refused-first, refused-long, refused-list, nothing-found}
 use Rattle.report.proofs.judge.Statement.{statement}
 use Rattle.report.proofs.judge.Tie as tie

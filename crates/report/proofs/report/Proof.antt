@@ -15,7 +15,7 @@ use Rattle.plan.specs.Outcome.{checkedBy}
 use Rattle.given.proofs.Sound.{good-none, refused-some}
 use Rattle.sweep.specs.Running.{Runs}
 use Rattle.step.proofs.Checks.{runs, room}
-use Rattle.needles.specs.Report.{ReportEntry, ReportExit, reportStages, reportedBy}
+use Rattle.plan.specs.Report.{ReportEntry, ReportExit, reportStages, reportedBy}
 use Rattle.report.specs.Tallying.{tally}
 use Rattle.report.proofs.Checks.{tables-good, six-long, steps-few, list-whole}
 use Rattle.report.proofs.Filling.{blank-tally, filled-report}

@@ -6,7 +6,7 @@ use borrow.Author.Needs.{needs}
 use lib.ListN.{length, take, drop, length-drop}
 use lib.Seq.{length-take-le}
 use Rattle.plan.specs.Outcome.{put}
-use Rattle.reporting.specs.Reporter.{needleLine}
+use Rattle.plan.specs.Reporter.{needleLine}
 use Rattle.reporting.proofs.Lines.{Lined, lined-none, lined-more, lined-all}
 use Rattle.reporting.proofs.put_needles.Statement.{statement}
 use Rattle.reporting.proofs.put_needles.Tie as tie

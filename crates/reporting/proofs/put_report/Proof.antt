@@ -4,9 +4,9 @@ use mathlib.Core.List.{List}
 use native.Mathlib.Omega.{arith}
 use borrow.Author.Needs.{needs}
 use lib.ListN.{take, drop}
-use Rattle.needles.specs.Report.{inTurn}
+use Rattle.plan.specs.Report.{inTurn}
 use Rattle.needles.proofs.Rows.{same-turn}
-use Rattle.reporting.specs.Reporter.{needleLine}
+use Rattle.plan.specs.Reporter.{needleLine}
 use Rattle.reporting.proofs.Lines.{two-parts}
 use Rattle.reporting.proofs.put_report.Statement.{statement}
 use Rattle.reporting.proofs.put_report.Tie as tie

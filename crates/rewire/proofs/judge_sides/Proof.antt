@@ -4,7 +4,7 @@ use native.Mathlib.Omega.{arith}
 use borrow.Author.Tests.{not-true, not-false, lt-ltb, le-ltb, eq-eqb, ne-eqb}
 use lib.Dec.{ltb}
 use Rattle.plan.specs.Literals.{wordOf, inRange, doubled}
-use Rattle.rewired.specs.Rewire.{leftAt}
+use Rattle.plan.specs.Rewire.{leftAt}
 use Rattle.rewire.proofs.Sides.{left-word, no-gate, out-first, out-second, high-first, high-second, wrong-length, all-pass}
 use borrow.Author.Needs.{needs}
 use Rattle.rewire.proofs.judge_sides.Statement.{statement}

@@ -9,7 +9,7 @@ use lib.Dec.{ltb}
 use lib.ListN.{length, replicate}
 use Rattle.plan.specs.Refusals.{firstOf}
 use Rattle.plan.specs.Circuit.{seven}
-use Rattle.planes.specs.Rows.{RowReportEntry, rowReportStage}
+use Rattle.plan.specs.Rows.{RowReportEntry, rowReportStage}
 use Rattle.rows.proofs.Reports.{reply, third, many, wrong, right, refused-six, past-six, runs, reports, refused-report, done-report, late}
 use borrow.Author.Needs.{needs}
 use Rattle.rows.proofs.report_rows.Statement.{statement}

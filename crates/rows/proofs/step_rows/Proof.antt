@@ -7,7 +7,7 @@ use Rattle.plan.specs.Circuit.{seven}
 use Rattle.plan.specs.Outcome.{checkInOrder}
 use Rattle.tables.proofs.Told.{some-table, no-table}
 use Rattle.step.proofs.Checks.{refused-by, past-check, runs, room}
-use Rattle.planes.specs.Rows.{RowsEntry, rowStage}
+use Rattle.plan.specs.Rows.{RowsEntry, rowStage}
 use Rattle.rows.proofs.Lists.{good-lists, too-many, few-bad, few-good, refused-rows, refused-late, done-rows}
 use borrow.Author.Needs.{needs}
 use Rattle.rows.proofs.step_rows.Statement.{statement}

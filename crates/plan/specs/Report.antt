@@ -6,16 +6,16 @@ use mathlib.Core.Option.{Option, none, some}
 use mathlib.Core.List.{List, [], _∷_, _++_, map}
 use lib.Dec.{eqb, leb}
 use lib.ListN.{length, getD}
 use Rattle.plan.specs.declared.Refusal.{Refusal}
 use Rattle.plan.specs.declared.Refusal.the-variants.{LongInput}
 use Rattle.plan.specs.declared.Stepped.{Stepped}
 use Rattle.plan.specs.declared.Stepped.the-variants.{Done, Refused}
 use Rattle.plan.specs.Refusals.{stage, firstOf}
 use Rattle.plan.specs.Circuit.{Circuit, filled, cleared}
 use Rattle.plan.specs.Given.{Given, given, failingAt}
 use Rattle.plan.specs.Step.{Value, v0, v1, vx, codeOf, Step, run, first, vectorsOf}
 use Rattle.plan.specs.Outcome.{listStage}
-use Rattle.sixth.specs.Sixth.{sixthStages}
+use Rattle.plan.specs.Sixth.{sixthStages}
 
 -- two values are the same; x is the same as x alone
 abbrev pub same : Value → Value → Bool

@@ -3,12 +3,12 @@ use Prim.Native.Nat.{ℕ}
 use mathlib.Core.Path.{_≡_, refl}
 use mathlib.Core.Option.{some}
 use mathlib.Core.List.{List, [], _∷_, _++_}
 use Rattle.plan.specs.declared.Refusal.the-variants.{NotOnCards}
 use Rattle.plan.specs.declared.Written.the-variants as written
 use Rattle.plan.specs.Circuit.{seven}
 use Rattle.plan.specs.Given.{Given}
 use Rattle.plan.specs.Programs.{bytesOf}
-use Rattle.cards.specs.Cards.{writeCards, filer, carder}
+use Rattle.plan.specs.Cards.{writeCards, filer, carder}
 
 -- four bytes of a small number
 abbrev small : ℕ → List ℕ

@@ -3,10 +3,10 @@ use Prim.Native.Nat.{ℕ}
 use mathlib.Core.Path.{_≡_, refl}
 use mathlib.Core.List.{List, [], _∷_, map}
 use lib.ListN.{replicate}
 use Rattle.plan.specs.Circuit.{seven}
 use Rattle.plan.specs.Outcome.{steppedValues}
 use Rattle.plan.specs.Programs.{bytesOf}
-use Rattle.rewired.specs.Rewire.{RewireEntry, RewireExit, rewiring}
+use Rattle.plan.specs.Rewire.{RewireEntry, RewireExit, rewiring}
 
 -- two inputs, a latch, and gates 8 = 4 & 2, 10 = 8 & 6 and 12 = 11 & 9; a spare word in the gates' table, and junk in scratch
 abbrev edit : ℕ → ℕ → ℕ → List ℕ → RewireEntry

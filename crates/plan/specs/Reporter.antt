@@ -5,16 +5,16 @@ use mathlib.Core.Option.{Option}
 use mathlib.Core.List.{List, [], _∷_, _++_, map}
 use lib.Dec.{leb}
 use lib.ListN.{length, take, drop}
 use Rattle.plan.specs.declared.Refusal.the-variants.{ShortTable}
 use Rattle.plan.specs.Refusals.{Parse, got, _then_, unless}
 use Rattle.plan.specs.Circuit.{Circuit}
 use Rattle.plan.specs.Bytes.{digits, lineOf}
 use Rattle.plan.specs.Reading.{readToWork}
 use Rattle.plan.specs.Given.{failingAt}
 use Rattle.plan.specs.Convert.{convert}
 use Rattle.plan.specs.Step.{valueOf, run, first}
 use Rattle.plan.specs.Programs.{lentWords, printed, input, stimulus}
-use Rattle.needles.specs.Report.{inTurn, needles}
+use Rattle.plan.specs.Report.{inTurn, needles}
 
 -- 16,384 words for table 6
 abbrev pub sixWords : ℕ
