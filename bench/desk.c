@@ -10,7 +10,7 @@
 
 #include "work.h"
 
-enum { PASSES = 2, ROUNDS = 7, LEAST = 2, SIZES = 3, BASES = 3, MOST = 6, ROOM = 120, TURNS = 8 };
+enum { PASSES = 2, ROUNDS = 7, LEAST = 2, SIZES = 3, BASES = 3, MOST = 6, ROOM = 150, TURNS = 8 };
 
 /* After so many seconds no further round starts, but LEAST are had always. */
 static const double enough = 0.7;
