@@ -1,5 +1,5 @@
 # shellcheck shell=bash disable=SC2154 # of run, which sources this
-# The verbs against the programs, byte for byte, on plans below their sizes, whole and damaged.
+# The verbs against the programs, byte for byte, on plans and cards below their sizes, whole and damaged.
 
 # program NAME FILE VECTORS: runs a program in a folder where FILE is plan.in.
 program() {
@@ -28,6 +28,7 @@ agree() {
     agrees reducer "$1" /dev/null reduce "$1"
     agrees tracer "$1" "$2" trace "$1" "$2"
     agrees reporter "$1" "$2" report "$1" "$2"
+    agrees carder "$1" /dev/null card "$1"
 }
 
 on_whole() {
@@ -58,8 +59,25 @@ on_damaged() {
     for vectors in "$room/streams"/*; do agrees tracer examples/toggle.aag "$vectors" trace examples/toggle.aag "$vectors"; done
 }
 
+# The cards of every plan that they can hold.
+on_cards() {
+    local plan cards=$room/cards
+    mkdir "$cards"
+    for plan in tests/accepted/*.aig; do
+        # shellcheck disable=SC2086 # the words that start it
+        $command card -o "$cards/${plan##*/}" "$plan" 2>"$room/error" || rm -f "$cards/${plan##*/}"
+    done
+    holds "cards of five plans at least" [ "$(find "$cards" -type f | wc -l)" -ge 5 ]
+    for plan in "$cards"/*; do agrees filer "$plan" /dev/null file "$plan"; done
+    rm -rf "$room/damaged"
+    mkdir "$room/damaged"
+    $make damaged 8 "$room/damaged" "$cards"/*
+    for damaged in "$room/damaged"/*; do agrees filer "$damaged" /dev/null file "$damaged"; done
+}
+
 starts=$(starter)
 mkdir "$room/in"
-build_programs converter reducer tracer reporter
+build_programs converter reducer tracer reporter filer carder
 on_whole
 on_damaged
+on_cards

@@ -17,12 +17,14 @@ pub enum Program {
 }
 
 impl Program {
-    pub const ALL: [Program; 5] = [
+    pub const ALL: [Program; 7] = [
         Program::Converter,
         Program::Reducer,
         Program::Tracer,
         Program::Reporter,
         Program::Comparer,
+        Program::Filer,
+        Program::Carder,
     ];
 
     pub fn name(self) -> &'static str {

@@ -58,10 +58,11 @@ pub struct Run {
 const APART: u64 = 1 << 62;
 
 /// The programs take turns, those of the base more often.
-const TURNS: [Program; 11] = {
+const TURNS: [Program; 13] = {
     use Program::*;
     [
-        Converter, Reducer, Tracer, Converter, Reducer, Tracer, Converter, Reducer, Tracer, Reporter, Comparer,
+        Converter, Reducer, Tracer, Converter, Reducer, Tracer, Converter, Reducer, Tracer, Reporter, Comparer, Filer,
+        Carder,
     ]
 };
 
