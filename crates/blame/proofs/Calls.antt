@@ -19,12 +19,12 @@ use Rattle.plan.specs.Refusals.{firstOf}
 use Rattle.plan.specs.Circuit.{Circuit, countsOf}
 use Rattle.plan.specs.Binary.{binaryOrder}
 use Rattle.plan.specs.Given.{given, lentAlone, failing, failingAt, stages, orderStage, roomStage}
-use Rattle.plan.specs.Step.{Value, v0, v1, vx, valueOf, lit, valuesOf, outputsOf}
+use Rattle.plan.specs.Step.{Value, v0, v1, vx, valueOf, lit, valuesOf, outputsOf, same}
 use Rattle.plan.specs.Outcome.{allCodes}
 use Rattle.theorems.proofs.Reading.Common.{and-left}
 use Rattle.theorems.proofs.Writing.Nothing.{stage-none, at-none, failing-none, or-none, first-all, first-both}
 use Rattle.theorems.proofs.Writing.Fine.{Fine, nothing-fine, counts-given}
-use Rattle.plan.specs.Explain.{isX, Blamed, places, onlyState, onlyInputs, ExplainEntry, stateOf, inputsOf, asked, valueAsked, marksAsked, vectorsStage, outputStage, explainedBy, explain}
+use Rattle.plan.specs.Explain.{Blamed, places, onlyState, onlyInputs, ExplainEntry, stateOf, inputsOf, asked, valueAsked, marksAsked, vectorsStage, outputStage, explainedBy, explain}
 use Rattle.blame.proofs.Explained.{explain-keeps}
 use Rattle.blame.proofs.Marked.{length-places, marks-exactly, marks-known}
 
@@ -54,7 +54,7 @@ done-none : (e : ExplainEntry) (o : Option Refusal) → explainedBy o e .answer 
 done-none e none q = refl
 done-none e (some r) q = let z : _≡_ {A = ℕ} 0 1 = cc in absurd (omega arith)
 
-x-not : (a : Value) → not (isX a) ≡ true → a ≡ vx → ⊥
+x-not : (a : Value) → not (same a vx) ≡ true → a ≡ vx → ⊥
 x-not v0 h q = let z : _≡_ {A = ℕ} 0 1 = cc in omega arith
 x-not v1 h q = let z : _≡_ {A = ℕ} 0 1 = cc in omega arith
 x-not vx h q = false≢true h
@@ -97,7 +97,7 @@ module _ (e : ExplainEntry) (done : explain e .answer ≡ Done) where
   not-x : valueAsked e ≡ vx → ⊥
   not-x =
       let there = failingAt 1 (ltb (e .output) (n .O)) in
-      let known = not (isX (valueAsked e)) in
+      let known = not (same (valueAsked e) vx) in
       x-not (valueAsked e) (at-none 2 known (or-none there (failingAt 2 known) (stage-none NotExplained _ (last .2)) .1))
 
   state-long : length (stateOf e) ≡ length (c .latches)

@@ -16,7 +16,7 @@ use Rattle.plan.specs.Depends.{find, both, settled, isNone}
 use Rattle.plan.specs.Reading.{WellFormed}
 use Rattle.plan.specs.Binary.{binaryOrder}
 use Rattle.plan.specs.Convert.{index}
-use Rattle.plan.specs.Step.{Value, v0, v1, vx, and, signedValue, lit, gateValue, leafValue, valuesOf}
+use Rattle.plan.specs.Step.{Value, v0, v1, vx, and, signedValue, lit, gateValue, leafValue, valuesOf, same}
 use Rattle.theorems.proofs.Reading.Common.{and-left, and-right}
 use Rattle.theorems.proofs.Reading.Members.{has-self, has-later, has-cases}
 use Rattle.theorems.proofs.Reading.Runs.{order-exactly}
@@ -27,7 +27,7 @@ use Rattle.theorems.proofs.Running.Binary.{Binary, inner}
 use Rattle.theorems.proofs.Running.InOrder.{order-binary}
 use Rattle.plan.specs.Walk.{start, onward}
 use Rattle.plan.specs.Drop.{sidesOf}
-use Rattle.plan.specs.Explain.{is0, blamesAt, blames, Blamed, blamed, mark, marksFor, only, onlyState, onlyInputs}
+use Rattle.plan.specs.Explain.{blamesAt, blames, Blamed, blamed, mark, marksFor, only, onlyState, onlyInputs}
 use Rattle.walks.proofs.Walk.{Falls, from-walked, walk-closed, walk-exactly}
 use Rattle.walks.proofs.Used.{sides-fall}
 
@@ -59,7 +59,7 @@ and-1 vx v1 e = absurd (v1-not-x (sym e))
 and-1 vx vx e = absurd (v1-not-x (sym e))
 
 -- of an And that is 0 the first side is 0, or else the second
-and-0 : (a b : Value) → and a b ≡ v0 → is0 a ≡ false → b ≡ v0
+and-0 : (a b : Value) → and a b ≡ v0 → same a v0 ≡ false → b ≡ v0
 and-0 v0 b e h = absurd (false≢true (sym h))
 and-0 v1 v0 e h = refl
 and-0 v1 v1 e h = absurd (v0-not-1 (sym e))
@@ -68,7 +68,7 @@ and-0 vx v0 e h = refl
 and-0 vx v1 e h = absurd (v0-not-x (sym e))
 and-0 vx vx e h = absurd (v0-not-x (sym e))
 
-is0-0 : (a : Value) → is0 a ≡ true → a ≡ v0
+is0-0 : (a : Value) → same a v0 ≡ true → a ≡ v0
 is0-0 v0 e = refl
 is0-0 v1 e = absurd (false≢true e)
 is0-0 vx e = absurd (false≢true e)
@@ -107,7 +107,7 @@ blames-sides w g v h = go (w (varOf (g .lhs))) h
     side false k = has-later v (varOf (g .rhs0)) (varOf (g .rhs1) ∷ []) k
 
     go : (a : Value) → has v (blamesAt a w g) ≡ true → has v (sidesOf g) ≡ true
-    go v0 k = side (is0 (lit w (g .rhs0))) k
+    go v0 k = side (same (lit w (g .rhs0)) v0) k
     go v1 k = k
     go vx k = absurd (false≢true k)
 
@@ -191,9 +191,9 @@ module _ (c : Circuit) (w : WellFormed c) (t : binaryOrder c ≡ true) (s i : Li
       (λ k. has-cases ⊥ (varOf (g .rhs1)) v [] k (λ r. v1-not-x (sym (both-1 .1) ∙ x-lit before (g .rhs1) (ap before r ∙ q)))
       (λ f. false≢true f))
   side-known u v g e vx p h q = false≢true h
-  side-known u v g e v0 p h q = go (is0 (lit before (g .rhs0))) refl h
+  side-known u v g e v0 p h q = go (same (lit before (g .rhs0)) v0) refl h
     where
-      go : (r : Bool) → is0 (lit before (g .rhs0)) ≡ r → has v (cond r (varOf (g .rhs0)) (varOf (g .rhs1)) ∷ []) ≡ true → ⊥
+      go : (r : Bool) → same (lit before (g .rhs0)) v0 ≡ r → has v (cond r (varOf (g .rhs0)) (varOf (g .rhs1)) ∷ []) ≡ true → ⊥
       go true f k =
           has-cases ⊥ (varOf (g .rhs0)) v [] k
           (λ r. v0-not-x (sym (is0-0 (lit before (g .rhs0)) f) ∙ x-lit before (g .rhs0) (ap before r ∙ q))) (λ z. false≢true z)
@@ -275,19 +275,19 @@ module _ (c : Circuit) (w : WellFormed c) (t : binaryOrder c ≡ true) (s i : Li
       ap₂ and (ap (signedValue (signOf (g .rhs0))) (ih (varOf (g .rhs0)) r0 (blamed-side (varOf (g .rhs0)) r0)))
       (ap (signedValue (signOf (g .rhs1))) (ih (varOf (g .rhs1)) r1 (blamed-side (varOf (g .rhs1)) r1)))
       ∙ sym (gate-and v g e)
-  gate-kept v g e h ih v0 p = go (is0 (lit before (g .rhs0))) refl ∙ sym p
+  gate-kept v g e h ih v0 p = go (same (lit before (g .rhs0)) v0) refl ∙ sym p
     where
       at : before (varOf (g .lhs)) ≡ v0
       at = ap before (found-left v g e) ∙ p
 
-      chosen : (r : Bool) → is0 (lit before (g .rhs0)) ≡ r → has (cond r (varOf (g .rhs0)) (varOf (g .rhs1))) (blamed c s i l) ≡ true
+      chosen : (r : Bool) → same (lit before (g .rhs0)) v0 ≡ r → has (cond r (varOf (g .rhs0)) (varOf (g .rhs1))) (blamed c s i l) ≡ true
       chosen r f =
           blamed-closed v (cond r (varOf (g .rhs0)) (varOf (g .rhs1))) g e
           (subst (λ (a : Value). has (cond r (varOf (g .rhs0)) (varOf (g .rhs1))) (blamesAt a before g) ≡ true) (sym at)
           (subst (λ (q : Bool). has (cond r (varOf (g .rhs0)) (varOf (g .rhs1))) (cond q (varOf (g .rhs0)) (varOf (g .rhs1)) ∷ []) ≡ true)
           (sym f) (has-self (cond r (varOf (g .rhs0)) (varOf (g .rhs1))) []))) h
 
-      go : (r : Bool) → is0 (lit before (g .rhs0)) ≡ r → and (lit after (g .rhs0)) (lit after (g .rhs1)) ≡ v0
+      go : (r : Bool) → same (lit before (g .rhs0)) v0 ≡ r → and (lit after (g .rhs0)) (lit after (g .rhs1)) ≡ v0
       go true f =
           zero-left (lit after (g .rhs0)) (lit after (g .rhs1))
           (ap (signedValue (signOf (g .rhs0)))

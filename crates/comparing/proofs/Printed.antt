@@ -9,6 +9,7 @@ use lib.ListN.{length}
 use Rattle.plan.specs.declared.Refusal.the-variants.{LongInput, ManyGates}
 use Rattle.plan.specs.Refusals.{Parse, got, refused, _then_, unless}
 use Rattle.plan.specs.Circuit.{Circuit}
+use Rattle.plan.specs.Given.{failingAt}
 use Rattle.plan.specs.Reading.{readToWork}
 use Rattle.plan.specs.Convert.{convert}
 use Rattle.plan.specs.Step.{valueOf, run, first}
@@ -33,7 +34,7 @@ module _ (file : List ℕ) (c : Circuit) (start : ℕ) (short : length file ≤ 
   judged = opened (λ d m. unless (manyGates (length (d .gates))) ManyGates (after d m))
 
   abbrev byCount : Bool → List ℕ
-  byCount t = printed (unless (cond t none (some (length (c .gates)))) ManyGates (after c start))
+  byCount t = printed (unless (failingAt (length (c .gates)) t) ManyGates (after c start))
 
   pub comparer-traces : length (c .gates) ≤ 24 → comparer (some file) source ≡ tracer (some file) source
   comparer-traces few = judged ∙ (ap byCount (le-leb (length (c .gates)) 24 few) ∙ sym (opened after))

@@ -17,17 +17,17 @@ use Rattle.plan.specs.declared.Checked.the-variants as checked
 use Rattle.plan.specs.Refusals.{stage, firstOf}
 use Rattle.plan.specs.Circuit.{cleared}
 use Rattle.plan.specs.Given.{lentAlone, orElse, failingAt, roomStage}
-use Rattle.plan.specs.Step.{Value, v0, v1, vx}
+use Rattle.plan.specs.Step.{Value, v0, v1, vx, same}
 use Rattle.plan.specs.Outcome.{put, allCodes, vector, checkInOrder}
 use Rattle.theorems.proofs.Reading.Common.{and-left}
 use Rattle.theorems.proofs.Writing.Nothing.{some-none, some-first, both-first}
 use Rattle.given.specs.Judged.{allStages}
 use Rattle.given.proofs.Sound.{good-none, refused-some}
 use Rattle.codes.proofs.Places.{codesIn, firstBad}
-use Rattle.plan.specs.Explain.{isX, ExplainEntry, ExplainExit, valueAsked, marksAsked, vectorsStage, outputStage, explainedBy, explain}
+use Rattle.plan.specs.Explain.{ExplainEntry, ExplainExit, valueAsked, marksAsked, vectorsStage, outputStage, explainedBy, explain}
 use Rattle.explain.specs.Asked.{Vectors, Explains}
 
-not-x : (a : Value) → (a ≡ vx → ⊥) → isX a ≡ false
+not-x : (a : Value) → (a ≡ vx → ⊥) → same a vx ≡ false
 not-x v0 h = refl
 not-x v1 h = refl
 not-x vx h = absurd (h refl)
@@ -47,23 +47,23 @@ module _ (e : ExplainEntry) where
   abbrev fits : Bool
   fits = leb (0 + length (marksAsked e)) (length (e .marks))
 
-  refused : (r : Refusal) → lastOf there (isX (valueAsked e)) fits needed ≡ some r → Explains e (Refused r) (e .marks)
+  refused : (r : Refusal) → lastOf there (same (valueAsked e) vx) fits needed ≡ some r → Explains e (Refused r) (e .marks)
   refused r q = sym (ap (λ (o : Option Refusal). explainedBy o e) q)
 
   pub not-there : e .circuit .counts .O ≤ e .output → Explains e (Refused (NotExplained 1)) (e .marks)
   not-there h =
       refused (NotExplained 1)
-      (ap (λ (b : Bool). lastOf b (isX (valueAsked e)) fits needed) (le-ltb (e .output) (e .circuit .counts .O) h))
+      (ap (λ (b : Bool). lastOf b (same (valueAsked e) vx) fits needed) (le-ltb (e .output) (e .circuit .counts .O) h))
 
   module _ (low : e .output < e .circuit .counts .O) where
     is-there : there ≡ true
     is-there = lt-ltb (e .output) (e .circuit .counts .O) low
 
     pub is-x : valueAsked e ≡ vx → Explains e (Refused (NotExplained 2)) (e .marks)
-    is-x q = refused (NotExplained 2) (ap₂ (λ (b x : Bool). lastOf b x fits needed) is-there (ap isX q))
+    is-x q = refused (NotExplained 2) (ap₂ (λ (b x : Bool). lastOf b x fits needed) is-there (ap (λ (a : Value). same a vx) q))
 
     module _ (known : valueAsked e ≡ vx → ⊥) where
-      only-room : (b : Bool) → fits ≡ b → lastOf there (isX (valueAsked e)) fits needed ≡ lastOf true false b needed
+      only-room : (b : Bool) → fits ≡ b → lastOf there (same (valueAsked e) vx) fits needed ≡ lastOf true false b needed
       only-room b q =
           ap₂ (λ (t x : Bool). lastOf t x fits needed) is-there (not-x (valueAsked e) known) ∙ ap (λ (f : Bool). lastOf true false f needed) q
 

@@ -11,13 +11,13 @@ use lib.Seq.{getD-set-same, getD-set-other}
 use Rattle.plan.specs.declared.Lit.{Lit}
 use Rattle.plan.specs.Literals.{litOf, varOf, negOf, wordOf}
 use Rattle.plan.specs.Circuit.{Gate, has}
-use Rattle.plan.specs.Step.{Value, v0, v1, vx, inv, lit}
+use Rattle.plan.specs.Step.{Value, v0, v1, vx, inv, lit, same}
 use Rattle.theorems.proofs.Tables.{gateAt, gatesAt}
 use Rattle.theorems.proofs.Running.Signs.{lit-double, lit-neg}
 use Rattle.values.specs.Words.{may0, may1, word}
 use Rattle.sweep.proofs.NotAnd.{may-not}
 use Rattle.plan.specs.Walk.{walk}
-use Rattle.plan.specs.Explain.{is0, blamesAt, blames}
+use Rattle.plan.specs.Explain.{blamesAt, blames}
 use Rattle.drop.proofs.Marking.{walk-append}
 use Rattle.explain.specs.Known.{sideAt, flag, Known}
 
@@ -56,10 +56,10 @@ neither v0 e f = absurd (f refl)
 neither v1 e f = absurd (e refl)
 neither vx e f = refl
 
-is0-bit : (a : Value) → may1 a ≡ 0 → is0 a ≡ true
-is0-bit a e = ap is0 (zero-value a e)
+is0-bit : (a : Value) → may1 a ≡ 0 → same a v0 ≡ true
+is0-bit a e = ap (λ (b : Value). same b v0) (zero-value a e)
 
-is0-not : (a : Value) → (may1 a ≡ 0 → ⊥) → is0 a ≡ false
+is0-not : (a : Value) → (may1 a ≡ 0 → ⊥) → same a v0 ≡ false
 is0-not v0 e = absurd (e refl)
 is0-not v1 e = refl
 is0-not vx e = refl
@@ -127,7 +127,7 @@ module _ (w : ℕ → Value) (lits m n : ℕ) (g : Gate) (low : varOf (g .lhs) <
           first = ap (λ (l : ℕ). getD t (lits + l) 0) ea ∙ k .values (g .rhs0) l0
 
           go : (r : Bool) → eqb (getD t (lits + wordOf a) 0) 0 ≡ r
-              → varOf (wordOf (cond r a b)) ≡ cond (is0 (lit w (g .rhs0))) (varOf (g .rhs0)) (varOf (g .rhs1))
+              → varOf (wordOf (cond r a b)) ≡ cond (same (lit w (g .rhs0)) v0) (varOf (g .rhs0)) (varOf (g .rhs1))
           go true e =
               ap varOf ea ∙ ap (λ (x : Bool). cond x (varOf (g .rhs0)) (varOf (g .rhs1)))
               (sym (is0-bit (lit w (g .rhs0)) (sym first ∙ eqb-true _ 0 e)))

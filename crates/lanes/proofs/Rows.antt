@@ -12,7 +12,7 @@ use Rattle.plan.specs.declared.Counts.{Counts}
 use Rattle.plan.specs.Literals.{varOf, negOf}
 use Rattle.plan.specs.Circuit.{Circuit, Tables, circuitOf, flat, nexts, rowsOf}
 use Rattle.plan.specs.Step.{Value, v0, v1, vx, codeOf, valueOf, lit, valuesOf, outputsOf, Step, stepOf, first}
-use Rattle.theorems.proofs.Tables.{firsts, length-firsts, rowAt, rows-firsts}
+use Rattle.theorems.proofs.Tables.{firsts, length-firsts, rowAt, rows-firsts, flat-snoc}
 use Rattle.used.specs.Least.{every}
 use Rattle.used.proofs.Walked.{one-word}
 use Rattle.values.specs.Words.{may0, may1}
@@ -20,10 +20,11 @@ use Rattle.values.proofs.Filling.{map-firsts}
 use Rattle.sweep.specs.Running.{Runs}
 use Rattle.sweep.proofs.NotAnd.{negated-may}
 use Rattle.sweep.proofs.Literals.{outputs-every, nexts-every, output-up, next-up}
-use Rattle.plan.specs.Rows.{same, rowSteps, outputsOfRow, nextOfRow, outputBytes, nextBytes, rowsAt, reportFrom, reportOf}
+use Rattle.plan.specs.Report.{times, timesOf, outputAlong, inTurn}
+use Rattle.plan.specs.Rows.{rowSteps, outputsOfRow, nextOfRow, outputBytes, nextBytes, rowReport}
 use Rattle.planes.specs.Planes.{bit}
 use Rattle.planes.proofs.Bits.{sum, bit-and}
-use Rattle.planes.proofs.Counting.{rows-all}
+use Rattle.planes.proofs.Counting.{one-if, rows-all}
 use Rattle.lanes.specs.Words.{planeAt, codeAt}
 use Rattle.lanes.specs.Working.{Holds, codesIn, codesOf, countsAt, countsOf}
 use Rattle.lanes.proofs.Storing.{firsts-same}
@@ -45,10 +46,6 @@ getD-firsts f (suc n) i d h = go (decLt i n) (getD-firsts f n i d)
         let e : i ≡ length (firsts f n) = omega (arith, length-firsts f n) in
         let last : n ≡ i = omega arith in
         ap (λ (k : ℕ). getD (firsts f n ++ (f n ∷ [])) k d) e ∙ (getD-append-seam (firsts f n) (f n) [] d ∙ ap f last)
-
-firsts-cons : {A : Type 0} (f : ℕ → A) (n : ℕ) → firsts f (suc n) ≡ f 0 ∷ firsts (λ i. f (suc i)) n
-firsts-cons f zero = refl
-firsts-cons f (suc n) = ap (λ l. l ++ (f (suc n) ∷ [])) (firsts-cons f n)
 
 -- the steps of all rows
 module _ {n : Counts} {x : Tables} (r : Runs n x) (bytes : List ℕ) (rows : ℕ) where
@@ -111,17 +108,14 @@ module _ {n : Counts} {x : Tables} (r : Runs n x) (bytes : List ℕ) (rows : ℕ
         (λ k h. row-codes latches 1 2 (n .L) (nexts (c .latches)) (nexts-every r) (next-up r) k h)
         ∙ sym (ap (map nextOfRow) steps-firsts ∙ map-firsts nextOfRow (λ k. stepOf c (first c) (row k)) rows))
 
-    -- the rows at a value, added up
-    rows-snoc : (a : Value) (j : ℕ) (ss : List Step) (s : Step)
-        → rowsAt a j (ss ++ (s ∷ [])) ≡ same a (getD (s .outputs) j vx) + rowsAt a j ss
-    rows-snoc a j [] s = refl
-    rows-snoc a j (x ∷ ss) s =
-        ap (λ (m : ℕ). same a (getD (x .outputs) j vx) + m) (rows-snoc a j ss s) ∙ omega arith
+    -- the values of an output in all rows, and how many are a
+    times-snoc : (a : Value) (l : List Value) (b : Value) → times a (l ++ (b ∷ [])) ≡ one-if a b + times a l
+    times-snoc a [] b = refl
+    times-snoc a (x ∷ l) b = ap (λ (m : ℕ). one-if a x + m) (times-snoc a l b) ∙ omega arith
 
-    rows-sum : (a : Value) (j : ℕ) (st : ℕ → Step) (m : ℕ) → rowsAt a j (firsts st m) ≡ sum (λ k. same a (getD (st k .outputs) j vx)) m
-    rows-sum a j st zero = refl
-    rows-sum a j st (suc m) =
-        rows-snoc a j (firsts st m) (st m) ∙ ap (λ (x : ℕ). same a (getD (st m .outputs) j vx) + x) (rows-sum a j st m)
+    times-sum : (a : Value) (v : ℕ → Value) (m : ℕ) → times a (firsts v m) ≡ sum (λ k. one-if a (v k)) m
+    times-sum a v zero = refl
+    times-sum a v (suc m) = times-snoc a (firsts v m) (v m) ∙ ap (λ (x : ℕ). one-if a (v m) + x) (times-sum a v m)
 
     output-value : (k j : ℕ) → j < n .O
         → getD (outputsOf c (first c) (row k)) j vx ≡ lit (valuesOf c (first c) (row k)) (getD outputs (1 * j + 0) 0)
@@ -135,8 +129,7 @@ module _ {n : Counts} {x : Tables} (r : Runs n x) (bytes : List ℕ) (rows : ℕ
 
     -- per output the rows at 0, at 1 and at x
     abbrev counted : ℕ → List ℕ
-    counted j =
-        rowsAt v0 j (rowSteps c rows bytes) ∷ rowsAt v1 j (rowSteps c rows bytes) ∷ rowsAt vx j (rowSteps c rows bytes) ∷ []
+    counted j = timesOf (outputAlong (rowSteps c rows bytes) j)
 
     output-counts : (j : ℕ) → j < n .O → countsAt t (2 ^ rows - 1) (getD outputs j 0) ≡ counted j
     output-counts j h =
@@ -154,26 +147,19 @@ module _ {n : Counts} {x : Tables} (r : Runs n x) (bytes : List ℕ) (rows : ℕ
           negated k q (getD outputs (1 * j + 0) 0) (output-up r j h) ∙ sym (ap may0 (output-value k j h)),
         )
 
-        back : (a : Value) → sum (λ k. same a (v k)) rows ≡ rowsAt a j (rowSteps c rows bytes)
-        back a = sym (ap (rowsAt a j) steps-firsts ∙ rows-sum a j (λ k. stepOf c (first c) (row k)) rows)
+        along : outputAlong (rowSteps c rows bytes) j ≡ firsts v rows
+        along =
+            ap (λ (steps : List Step). outputAlong steps j) steps-firsts
+            ∙ map-firsts (λ (s : Step). getD (s .outputs) j vx) (λ k. stepOf c (first c) (row k)) rows
 
-    report-flat : (j m : ℕ) → reportFrom j m (rowSteps c rows bytes) ≡ flat (firsts (λ i. counted (j + i)) m)
-    report-flat j zero = refl
-    report-flat j (suc m) =
-        let here : j ≡ j + 0 = omega arith in
-        sym (ap flat (firsts-cons (λ i. counted (j + i)) m)
-        ∙ (ap (λ (i : ℕ). counted i ++ flat (firsts (λ i. counted (j + suc i)) m)) (sym here)
-        ∙ ap (λ (l : List ℕ). counted j ++ l)
-        (ap flat (firsts-same (λ i. counted (j + suc i)) (λ i. counted (j + 1 + i)) m (λ i h. ap counted (next i)))
-        ∙ sym (report-flat (j + 1) m))))
-      where
-        next : (i : ℕ) → j + suc i ≡ j + 1 + i
-        next i = omega arith
+        back : (a : Value) → sum (λ k. one-if a (v k)) rows ≡ times a (outputAlong (rowSteps c rows bytes) j)
+        back a = sym (ap (times a) along ∙ times-sum a v rows)
 
-    pub report-is : countsOf outputs (n .O) (2 ^ rows - 1) t ≡ reportOf c (rowSteps c rows bytes)
+    turn-flat : (f : ℕ → List ℕ) (m : ℕ) → inTurn f m ≡ flat (firsts f m)
+    turn-flat f zero = refl
+    turn-flat f (suc m) = ap (λ (l : List ℕ). l ++ f m) (turn-flat f m) ∙ sym (flat-snoc (firsts f m) (f m))
+
+    pub report-is : countsOf outputs (n .O) (2 ^ rows - 1) t ≡ rowReport c (rowSteps c rows bytes)
     report-is =
-        ap flat (firsts-same _ (λ j. counted (0 + j)) (n .O) (λ j h. output-counts j h ∙ ap counted (zero-plus j)))
-        ∙ (sym (report-flat 0 (n .O)) ∙ ap (λ (m : ℕ). reportFrom 0 m (rowSteps c rows bytes)) (sym (ap (λ (m : Counts). m .O) (r .counts))))
-      where
-        zero-plus : (j : ℕ) → j ≡ 0 + j
-        zero-plus j = omega arith
+        ap flat (firsts-same _ counted (n .O) output-counts)
+        ∙ (sym (turn-flat counted (n .O)) ∙ ap (inTurn counted) (sym (ap (λ (m : Counts). m .O) (r .counts))))

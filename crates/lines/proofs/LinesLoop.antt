@@ -18,16 +18,12 @@ use Rattle.plan.specs.Outcome.{passedBy, put}
 use Rattle.theorems.proofs.Marks.{Agrees, agrees-more}
 use Rattle.theorems.proofs.Put.{put-none, put-length, put-there, put-put}
 use Rattle.theorems.proofs.Reading.Steps.{onRows, lines-turn, lines-stop, lines-done}
-use Rattle.theorems.proofs.Tables.{heads-snoc}
+use Rattle.theorems.proofs.Tables.{heads-snoc, flat-snoc}
 use Rattle.bitmap.specs.Bitmap.{raised}
 use Rattle.bitmap.proofs.Places.{raised-length}
 use Rattle.lines.specs.Rows.{row, MarksFor, marked, marking, seenAfter, LinesSay}
 use Rattle.lines.proofs.Marks.{marks-less}
 use Rattle.lines.proofs.OneLine.{line-row, line-refused, row-long, row-var}
-
-flat-snoc : (rows : List (List ℕ)) (ls : List ℕ) → flat (rows ++ (ls ∷ [])) ≡ flat rows ++ ls
-flat-snoc [] ls = append-nil ls
-flat-snoc (r ∷ rows) ls = ap (λ (x : List ℕ). r ++ x) (flat-snoc rows ls) ∙ sym (append-assoc r (flat rows) ls)
 
 -- the answer of a line's numbers and ranges
 pub passed-to : (p : Parse (List ℕ)) (next : ℕ) → To next ≡ passedBy p → (ls : List ℕ) × (p ≡ got ls next)

@@ -5,9 +5,9 @@ use mathlib.Core.Bool.{Bool, true, false, cond}
 use mathlib.Core.List.{List, [], _∷_, _++_}
 use native.Mathlib.Omega.{arith}
 use lib.Dec.{eqb}
-use Rattle.plan.specs.Step.{Value, v0, v1, vx}
+use Rattle.plan.specs.Step.{Value, v0, v1, vx, same}
 use Rattle.values.specs.Words.{word}
-use Rattle.plan.specs.Report.{same, times, changesAfter, changes, numbersOf}
+use Rattle.plan.specs.Report.{times, changesAfter, changes, numbersOf}
 use Rattle.needles.specs.Tally.{lastAfter, lastWord, kept, differs, counted, finished}
 
 -- a value more at the end of a list

@@ -1,7 +1,7 @@
 -- What the check of given tables tells where 24 and one stage more come after 15: the refusal that is answered, or what that stage says.
 use Prim.Native.Nat.{ℕ, _≤_, _<_}
 use mathlib.Core.Path.{_≡_, refl, sym, ap, _∙_}
-use mathlib.Core.Bool.{Bool, true, cond}
+use mathlib.Core.Bool.{Bool, true}
 use mathlib.Core.Option.{Option, none, some}
 use mathlib.Core.List.{List, [], _∷_, _++_}
 use borrow.Author.Tests.{le-leb, lt-leb}
@@ -10,7 +10,7 @@ use Rattle.plan.specs.declared.Refusal.the-variants.{ManyGates}
 use Rattle.plan.specs.declared.Checked.{Checked}
 use Rattle.plan.specs.declared.Checked.the-variants as checked
 use Rattle.plan.specs.Refusals.{stage, firstOf}
-use Rattle.plan.specs.Given.{Given, lentAlone, stages, orderStage}
+use Rattle.plan.specs.Given.{Given, lentAlone, failingAt, stages, orderStage}
 use Rattle.plan.specs.Outcome.{checkInOrder}
 use Rattle.theorems.proofs.Writing.Nothing.{some-first, both-first}
 use Rattle.given.specs.Judged.{allStages}
@@ -20,10 +20,10 @@ use Rattle.plan.specs.Plain.{gatesStage}
 
 -- 24 is given exactly where there are more gates
 pub gates-few : (g : Given) → g .counts .A ≤ 24 → gatesStage g ≡ none
-gates-few g h = ap (λ (b : Bool). stage ManyGates (cond b none (some (g .counts .A)))) (le-leb (g .counts .A) 24 h)
+gates-few g h = ap (λ (b : Bool). stage ManyGates (failingAt (g .counts .A) b)) (le-leb (g .counts .A) 24 h)
 
 pub gates-many : (g : Given) → 24 < g .counts .A → gatesStage g ≡ some (ManyGates (g .counts .A))
-gates-many g h = ap (λ (b : Bool). stage ManyGates (cond b none (some (g .counts .A)))) (lt-leb (g .counts .A) 24 h)
+gates-many g h = ap (λ (b : Bool). stage ManyGates (failingAt (g .counts .A) b)) (lt-leb (g .counts .A) 24 h)
 
 -- a stage that finds nothing is as good as none
 skip : (os : List (Option Refusal)) (o l : Option Refusal) → firstOf (os ++ (o ∷ none ∷ l ∷ [])) ≡ firstOf (os ++ (o ∷ l ∷ []))

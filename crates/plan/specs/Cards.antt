@@ -7,7 +7,6 @@ use mathlib.Core.List.{List, [], _∷_, _++_}
 use lib.Dec.{eqb, ltb}
 use lib.ListN.{length, getD, drop, replicate}
 use Rattle.plan.specs.declared.Counts.{Counts}
-use Rattle.plan.specs.declared.Version.the-variants.{V19}
 use Rattle.plan.specs.declared.Refusal.{Refusal}
 use Rattle.plan.specs.declared.Refusal.the-variants.{WrongByte, LargeCount, WrongSum, ShortTable, OutOfRange, NotInOrder, WrongMark, NotOnCards}
 use Rattle.plan.specs.declared.Written.{Written}
@@ -19,7 +18,7 @@ use Rattle.plan.specs.Bytes.{Placed}
 use Rattle.plan.specs.Header.{binary, over, adds}
 use Rattle.plan.specs.Binary.{litsFrom, latchesFrom, binaryOf, binaryOrder}
 use Rattle.plan.specs.Reading.{WellFormed, readToWork}
-use Rattle.plan.specs.Given.{Given, given, lentAlone, orElse, failing, outsideIn, stages, orderStage, tailStage, room, roomStage}
+use Rattle.plan.specs.Given.{Given, given, lentAlone, orElse, failing, outsideIn, stages, orderStage, tailStage, roomStage}
 use Rattle.plan.specs.Outcome.{ReadEntry, LoadExit, loadBy, FileEntry, FileExit, writtenBy, put}
 use Rattle.plan.specs.Programs.{lentWords, input, fitting, printed}
 use Rattle.plan.specs.Whole.{fittingIn}
@@ -64,13 +63,16 @@ cardsOf c =
     headCard (countsOf c)
     ++ (wordCards 76 (nexts (c .latches)) ++ (wordCards 79 (c .outputs) ++ gateCards (c .gates)))
 
--- what cards can hold: every reset is 0, and there is no bad state and no constraint
+-- what cards can hold: every reset is 0, and there is no bad state and no constraint, nor a tail
 abbrev pub allZero : List ℕ → Bool
 allZero [] = true
 allZero (r ∷ rs) = eqb r 0 && allZero rs
 
 abbrev pub holdable : Circuit → Bool
 holdable c = allZero (c .resets) && (eqb (length (c .bads)) 0 && eqb (length (c .constraints)) 0)
+
+abbrev pub onCards : Circuit → List ℕ → Bool
+onCards c tail = eqb (length tail) 0 && holdable c
 
 -- the cards state the circuit
 pub record CardStates (file : List ℕ) (c : Circuit) : Type 0 where
@@ -183,7 +185,7 @@ loadCards e = loadBy e (readCards (e .file) (lengthsOf (e .tables) (e .scratch))
 
 -- 19: a tail, a reset but 0, a bad state or a constraint
 abbrev pub cardStage : Given → List ℕ → Option Refusal
-cardStage g tail = stage NotOnCards (failing (eqb (length tail) 0 && holdable (given g)))
+cardStage g tail = stage NotOnCards (failing (onCards (given g) tail))
 
 -- the writer of cards: given tables, 15, the tail by 1 and 10, then 19, then 11
 abbrev pub writeCards : FileEntry → FileExit
@@ -225,7 +227,7 @@ abbrev pub readToCard : List ℕ → List ℕ → Parse Circuit
 readToCard file lengths =
     readToWork file lengths lengths then λ c start.
     past (failing (binaryOrder c)) NotInOrder then λ _ _.
-    past (failing (eqb (length (drop start file)) 0 && holdable c)) NotOnCards then λ _ _.
+    past (failing (onCards c (drop start file))) NotOnCards then λ _ _.
     got c start
 
 -- cards to binary AIGER, and AIGER to cards

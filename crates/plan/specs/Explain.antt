@@ -1,6 +1,6 @@
 -- Why does this needle lift: the places of state and inputs that made an output 0 or 1 in a step.
 use Prim.Native.Nat.{ℕ}
-use mathlib.Core.Bool.{Bool, true, false, not, cond, _&&_}
+use mathlib.Core.Bool.{not, cond}
 use mathlib.Core.Option.{Option, none, some}
 use mathlib.Core.List.{List, [], _∷_, _++_, map}
 use lib.Dec.{eqb, ltb}
@@ -13,24 +13,14 @@ use Rattle.plan.specs.Literals.{varOf}
 use Rattle.plan.specs.Refusals.{stage, firstOf}
 use Rattle.plan.specs.Circuit.{Gate, Circuit, cleared, vars, currents, has}
 use Rattle.plan.specs.Given.{Given, given, lentAlone, orElse, failingAt, stages, orderStage, roomStage}
-use Rattle.plan.specs.Step.{Value, v0, v1, vx, valueOf, lit, valuesOf}
-use Rattle.plan.specs.Outcome.{put, allCodes, vector}
+use Rattle.plan.specs.Step.{Value, v0, v1, vx, valueOf, same, lit, valuesOf}
+use Rattle.plan.specs.Outcome.{put, vectorOf}
 use Rattle.plan.specs.Walk.{Walked, walk}
 use Rattle.plan.specs.Drop.{sidesOf}
 
-abbrev pub is0 : Value → Bool
-is0 v0 = true
-is0 v1 = false
-is0 vx = false
-
-abbrev pub isX : Value → Bool
-isX v0 = false
-isX v1 = false
-isX vx = true
-
 -- the first right side that is 0
 abbrev pub zeroSide : (ℕ → Value) → Gate → ℕ
-zeroSide w g = cond (is0 (lit w (g .rhs0))) (varOf (g .rhs0)) (varOf (g .rhs1))
+zeroSide w g = cond (same (lit w (g .rhs0)) v0) (varOf (g .rhs0)) (varOf (g .rhs1))
 
 -- a gate at 1 blames both sides; a gate at 0 blames the first right side that is 0
 abbrev pub blamesAt : Value → (ℕ → Value) → Gate → List ℕ
@@ -105,20 +95,20 @@ abbrev pub vectorsStage : ExplainEntry → Option Refusal
 vectorsStage e =
     let n = e .circuit .counts in
     stage BadVector
-    (orElse (vector 1 (eqb (length (e .state)) (n .L) && allCodes (e .state)))
-    (vector 2 (eqb (length (e .inputs)) (n .I) && allCodes (e .inputs))))
+    (orElse (vectorOf 1 (n .L) (e .state)) (vectorOf 2 (n .I) (e .inputs)))
 
 -- 17: place 1 an output number that is not there, 2 an output that is x
 abbrev pub outputStage : ExplainEntry → Option Refusal
 outputStage e =
     stage NotExplained
     (orElse (failingAt 1 (ltb (e .output) (e .circuit .counts .O)))
-    (failingAt 2 (not (isX (valueAsked e)))))
+    (failingAt 2 (not (same (valueAsked e) vx))))
 
 abbrev pub explainedBy : Option Refusal → ExplainEntry → ExplainExit
 explainedBy none e = record { answer = Done; scratch = cleared (e .circuit .scratch); marks = put (e .marks) 0 (marksAsked e) }
 explainedBy (some r) e = record { answer = Refused r; scratch = cleared (e .circuit .scratch); marks = e .marks }
 
+-- 11 with L + I, after 12 and 17
 abbrev pub explain : ExplainEntry → ExplainExit
 explain e =
     let g = e .circuit in

@@ -12,7 +12,7 @@ use Rattle.plan.specs.declared.Finding.{Finding}
 use Rattle.plan.specs.declared.Finding.the-variants.{Yes, No, Undecided, Refused}
 use Rattle.plan.specs.Refusals.{stage, firstOf}
 use Rattle.plan.specs.Circuit.{Circuit, cleared}
-use Rattle.plan.specs.Given.{given, lentAlone, stages, orderStage}
+use Rattle.plan.specs.Given.{given, lentAlone, failingAt, stages, orderStage}
 use Rattle.plan.specs.Step.{codeOf, valueOf, first, run, vectorsOf, shows1}
 use Rattle.plan.specs.Outcome.{WitnessEntry, listStage}
 
@@ -99,7 +99,7 @@ pub record FilledExit : Type 0 where
 
 -- 20: more than 20 x, after 12; the place is their number
 abbrev pub overX : ℕ → Option ℕ
-overX n = cond (leb n 20) none (some n)
+overX n = failingAt n (leb n 20)
 
 abbrev pub xStage : WitnessEntry → Option Refusal
 xStage w = stage ManyX (overX (xCount (asked (given (w .circuit)) (w .bytes))))

@@ -259,6 +259,9 @@ allCodes (b ∷ l) = isCode b && allCodes l
 abbrev pub vector : ℕ → Bool → Option ℕ
 vector place t = failingAt place t
 
+abbrev pub vectorOf : ℕ → ℕ → List ℕ → Option ℕ
+vectorOf place n bytes = vector place (eqb (length bytes) n && allCodes bytes)
+
 -- the stepper: given tables, the state, which the next state is written over, the inputs and a buffer for the outputs
 pub record StepEntry : Type 0 where
   pub circuit : Given
@@ -276,8 +279,8 @@ abbrev pub stepStage : StepEntry → Option Refusal
 stepStage e =
     let n = e .circuit .counts in
     stage BadVector
-    (orElse (vector 1 (eqb (length (e .state)) (n .L) && allCodes (e .state)))
-    (orElse (vector 2 (eqb (length (e .inputs)) (n .I) && allCodes (e .inputs)))
+    (orElse (vectorOf 1 (n .L) (e .state))
+    (orElse (vectorOf 2 (n .I) (e .inputs))
     (vector 3 (eqb (length (e .outputs)) (n .O)))))
 
 abbrev pub steppedBy : Option Refusal → StepEntry → StepExit
@@ -310,7 +313,7 @@ verdictBy none false = verdict.No
 verdictBy (some r) seen = verdict.Refused r
 
 abbrev pub listStage : WitnessEntry → Option Refusal
-listStage e = stage BadVector (vector 2 (eqb (length (e .bytes)) (e .number * e .circuit .counts .I) && allCodes (e .bytes)))
+listStage e = stage BadVector (vectorOf 2 (e .number * e .circuit .counts .I) (e .bytes))
 
 abbrev pub witness3 : WitnessEntry → WitnessExit
 witness3 e =

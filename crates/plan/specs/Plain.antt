@@ -1,7 +1,6 @@
 -- The plain engine, for teaching circuits of at most 24 gates; and the comparer, which runs it beside the stepper.
 use Prim.Native.Nat.{ℕ}
-use mathlib.Core.Bool.{cond}
-use mathlib.Core.Option.{Option, none, some}
+use mathlib.Core.Option.{Option}
 use mathlib.Core.List.{List, [], _∷_, _++_, map}
 use lib.Dec.{leb}
 use lib.ListN.{length}
@@ -9,7 +8,7 @@ use Rattle.plan.specs.declared.Refusal.{Refusal}
 use Rattle.plan.specs.declared.Refusal.the-variants.{ManyGates}
 use Rattle.plan.specs.Refusals.{got, _then_, unless, stage, firstOf}
 use Rattle.plan.specs.Reading.{readToWork}
-use Rattle.plan.specs.Given.{Given, lentAlone, stages, orderStage}
+use Rattle.plan.specs.Given.{Given, lentAlone, failingAt, stages, orderStage}
 use Rattle.plan.specs.Convert.{convert}
 use Rattle.plan.specs.Step.{valueOf, run, first}
 use Rattle.plan.specs.Outcome.{StepEntry, StepExit, stepStage, steppedBy}
@@ -18,7 +17,7 @@ use Rattle.plan.specs.Whole.{TraceEntry, TraceExit, traceStage, tracedBy
 
 -- 24: more gates than a teaching circuit has, place their number
 abbrev pub manyGates : ℕ → Option ℕ
-manyGates a = cond (leb a 24) none (some a)
+manyGates a = failingAt a (leb a 24)
 
 abbrev pub gatesStage : Given → Option Refusal
 gatesStage g = stage ManyGates (manyGates (g .counts .A))

@@ -1,10 +1,10 @@
 -- The needle report: for each output and each latch, over a list of vectors, the steps at 0, at 1, at x, and the steps whose value differs from
 -- the step before.
 use Prim.Native.Nat.{ℕ, zero, suc, _+_, _*_}
-use mathlib.Core.Bool.{Bool, cond}
+use mathlib.Core.Bool.{cond}
 use mathlib.Core.Option.{Option, none, some}
 use mathlib.Core.List.{List, [], _∷_, _++_, map}
-use lib.Dec.{eqb, leb}
+use lib.Dec.{leb}
 use lib.ListN.{length, getD}
 use Rattle.plan.specs.declared.Refusal.{Refusal}
 use Rattle.plan.specs.declared.Refusal.the-variants.{LongInput}
@@ -13,13 +13,9 @@ use Rattle.plan.specs.declared.Stepped.the-variants.{Done, Refused}
 use Rattle.plan.specs.Refusals.{stage, firstOf}
 use Rattle.plan.specs.Circuit.{Circuit, filled, cleared}
 use Rattle.plan.specs.Given.{Given, given, failingAt}
-use Rattle.plan.specs.Step.{Value, v0, v1, vx, codeOf, Step, run, first, vectorsOf}
+use Rattle.plan.specs.Step.{Value, v0, v1, vx, same, Step, run, first, vectorsOf}
 use Rattle.plan.specs.Outcome.{listStage}
 use Rattle.plan.specs.Sixth.{sixthStages}
-
--- two values are the same; x is the same as x alone
-abbrev pub same : Value → Value → Bool
-same a b = eqb (codeOf a) (codeOf b)
 
 -- how many of a needle's values are a
 abbrev pub times : Value → List Value → ℕ
@@ -35,9 +31,12 @@ abbrev pub changes : List Value → ℕ
 changes [] = 0
 changes (a ∷ l) = changesAfter a l
 
--- the four numbers of a needle, by its values step by step
+-- how many are 0, 1 and x; and the four numbers of a needle, by its values step by step
+abbrev pub timesOf : List Value → List ℕ
+timesOf l = times v0 l ∷ times v1 l ∷ times vx l ∷ []
+
 abbrev pub numbersOf : List Value → List ℕ
-numbersOf l = times v0 l ∷ times v1 l ∷ times vx l ∷ changes l ∷ []
+numbersOf l = timesOf l ++ (changes l ∷ [])
 
 -- the values of output i, and of latch i by the state at the start of each step
 abbrev pub outputAlong : List Step → ℕ → List Value
@@ -71,7 +70,7 @@ pub record ReportExit : Type 0 where
   pub scratch : List ℕ
   pub six : List ℕ
 
--- 13: more steps than a word of table 6 is sure to hold
+-- 13: more than 65,536 steps
 abbrev pub mostSteps : ℕ
 mostSteps = 65536
 

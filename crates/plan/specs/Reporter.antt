@@ -1,13 +1,11 @@
 -- The program `reporter` and its output: every byte that it writes.
 use Prim.Native.Nat.{ℕ, _+_, _*_}
-use mathlib.Core.Bool.{Bool, cond}
 use mathlib.Core.Option.{Option}
-use mathlib.Core.List.{List, [], _∷_, _++_, map}
+use mathlib.Core.List.{List, _∷_, _++_, map}
 use lib.Dec.{leb}
 use lib.ListN.{length, take, drop}
 use Rattle.plan.specs.declared.Refusal.the-variants.{ShortTable}
-use Rattle.plan.specs.Refusals.{Parse, got, _then_, unless}
-use Rattle.plan.specs.Circuit.{Circuit}
+use Rattle.plan.specs.Refusals.{got, _then_, unless}
 use Rattle.plan.specs.Bytes.{digits, lineOf}
 use Rattle.plan.specs.Reading.{readToWork}
 use Rattle.plan.specs.Given.{failingAt}

@@ -25,6 +25,10 @@ valueOf b = cond (eqb b 48) v0 (cond (eqb b 49) v1 vx)
 abbrev pub isCode : ℕ → Bool
 isCode b = eqb b 48 || (eqb b 49 || eqb b 120)
 
+-- two values are the same; x is the same as x alone
+abbrev pub same : Value → Value → Bool
+same a b = eqb (codeOf a) (codeOf b)
+
 -- 0 and 1 exchange, x stays
 abbrev pub inv : Value → Value
 inv v0 = v1

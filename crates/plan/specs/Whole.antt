@@ -25,7 +25,7 @@ use Rattle.plan.specs.Given.{Given, given, lentAlone, orElse, stages, or
 use Rattle.plan.specs.Convert.{convert}
 use Rattle.plan.specs.Reduce.{reduce}
 use Rattle.plan.specs.Step.{Value, codeOf, valueOf, nextOf, run}
-use Rattle.plan.specs.Outcome.{WriteExit, putBytes, put, allCodes, vector}
+use Rattle.plan.specs.Outcome.{WriteExit, putBytes, put, vector, vectorOf}
 use Rattle.plan.specs.Programs.{refusalLine, input, otherForm, linesIn, allVectors, stimulus, stepLines}
 
 -- the line of a refusal, put into a buffer
@@ -143,7 +143,7 @@ abbrev pub traceStage : TraceEntry → Option Refusal
 traceStage e =
     let n = e .circuit .counts in
     stage BadVector
-    (orElse (vector 1 (eqb (length (e .state)) (n .L) && allCodes (e .state)))
+    (orElse (vectorOf 1 (n .L) (e .state))
     (vector 2 ((eqb (length (e .vectors)) 0 || endsLine (e .vectors)) && allVectors (n .I) (linesIn (e .vectors)))))
 
 -- the bytes of a line; and of the lines as many as fit whole

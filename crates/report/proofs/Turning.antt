@@ -9,13 +9,13 @@ use lib.ListN.{length, getD, take, drop, length-append, length-map}
 use lib.Seq.{getD-take, getD-drop, take-at, drop-at, drop-drop, drop-append-add}
 use Rattle.plan.specs.declared.Counts.{Counts}
 use Rattle.plan.specs.Circuit.{Tables, circuitOf}
-use Rattle.plan.specs.Step.{Value, v0, v1, vx, lit, valuesOf, outputsOf, Step}
+use Rattle.plan.specs.Step.{Value, v0, v1, vx, lit, valuesOf, outputsOf, Step, same}
 use Rattle.plan.specs.Outcome.{put}
 use Rattle.tables.specs.Held.{Scratch}
 use Rattle.values.specs.Words.{word, words}
 use Rattle.sweep.specs.Running.{Runs, Rests, Stands, Ready}
 use Rattle.sweep.proofs.Loading.{stands-loaded}
-use Rattle.plan.specs.Report.{same, times, changesAfter, changes, inTurn, outputAlong, latchAlong, mostSteps}
+use Rattle.plan.specs.Report.{times, changesAfter, changes, inTurn, outputAlong, latchAlong, mostSteps}
 use Rattle.needles.specs.Tally.{lastAfter, lastWord, kept, counted, rowFrom, CountsAll, countedAll}
 use Rattle.needles.proofs.Rows.{same-turn, turn-length, turn-row}
 use Rattle.needles.proofs.Numbers.{counted-kept}

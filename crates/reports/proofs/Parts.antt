@@ -7,9 +7,9 @@ use mathlib.Core.List.{List, [], _∷_, _++_, map, map-append}
 use native.Mathlib.Omega.{arith}
 use lib.ListN.{getD}
 use Rattle.plan.specs.Circuit.{Circuit}
-use Rattle.plan.specs.Step.{Value, vx, nextOf, Step, stepOf, run}
+use Rattle.plan.specs.Step.{Value, vx, nextOf, Step, stepOf, run, same}
 use Rattle.plan.specs.Whole.{stateAfter}
-use Rattle.plan.specs.Report.{same, times, changesAfter, changes, outputAlong, latchAlong}
+use Rattle.plan.specs.Report.{times, changesAfter, changes, outputAlong, latchAlong}
 
 pub times-parts : (a : Value) (l m : List Value) → times a (l ++ m) ≡ times a l + times a m
 times-parts a [] m = omega arith

@@ -6,19 +6,10 @@ use mathlib.Core.List.{List, [], _∷_, map}
 use native.Mathlib.Omega.{arith}
 use lib.ListN.{length, getD, drop, length-map}
 use Rattle.plan.specs.Circuit.{Circuit, rowsOf}
-use Rattle.plan.specs.Step.{Value, v0, v1, vx, valueOf, nextOf, Step, run, first, vectorsOf}
-use Rattle.plan.specs.Report.{same, times, changesAfter, changes, numbersOf, outputAlong, latchAlong}
-
--- a value is one of the three
-one-of : (b : Value) → cond (same b v0) 1 0 + cond (same b v1) 1 0 + cond (same b vx) 1 0 ≡ 1
-one-of v0 = refl
-one-of v1 = refl
-one-of vx = refl
-
--- of the values of a needle
-pub all-counted : (l : List Value) → times v0 l + times v1 l + times vx l ≡ length l
-all-counted [] = refl
-all-counted (b ∷ l) = omega (arith, one-of b, all-counted l)
+use Rattle.plan.specs.Step.{Value, v0, v1, vx, same, valueOf, nextOf, Step, run, first, vectorsOf}
+use Rattle.plan.specs.Report.{times, changesAfter, changes, numbersOf, outputAlong, latchAlong}
+use Rattle.theorems.proofs.Writing.Fine.{length-rows}
+use Rattle.theorems.proofs.Running.Times.{all-counted}
 
 at-most-one : (b : Bool) → cond b 0 1 ≤ 1
 at-most-one true = omega arith
@@ -37,10 +28,6 @@ run-length : (c : Circuit) (s : List Value) (list : List (List Value)) → lengt
 run-length c s [] = refl
 run-length c s (i ∷ list) = ap suc (run-length c (nextOf c s i) list)
 
-rows-length : (k n : ℕ) (t : List ℕ) → length (rowsOf k n t) ≡ n
-rows-length k zero t = refl
-rows-length k (suc n) t = ap suc (rows-length k n (drop k t))
-
 module _ (c : Circuit) (number : ℕ) (bytes : List ℕ) where
   abbrev pub steps : List Step
   steps = run c (first c) (vectorsOf c number bytes)
@@ -48,7 +35,7 @@ module _ (c : Circuit) (number : ℕ) (bytes : List ℕ) where
   steps-length : length steps ≡ number
   steps-length =
       run-length c (first c) (vectorsOf c number bytes)
-      ∙ (length-map (rowsOf (length (c .inputs)) number bytes) (map valueOf) ∙ rows-length (length (c .inputs)) number bytes)
+      ∙ (length-map (rowsOf (length (c .inputs)) number bytes) (map valueOf) ∙ length-rows (length (c .inputs)) number bytes)
 
   -- the first three numbers of each output and of each latch add up to the number of vectors
   pub output-sums : (i : ℕ) → let l = outputAlong steps i in times v0 l + times v1 l + times vx l ≡ number

@@ -25,7 +25,7 @@ use Rattle.theorems.proofs.Reading.Common.{and-left}
 use Rattle.codes.proofs.Places.{firstBad}
 use Rattle.step.proofs.Checks.{answer}
 use Rattle.sweep.proofs.Literals.{output-up, next-up}
-use Rattle.plan.specs.Rows.{RowsEntry, RowsExit, badRows, rowStage, steppedRows, stepRows}
+use Rattle.plan.specs.Rows.{RowsEntry, RowsExit, rowVectors, rowStage, steppedRows, stepRows}
 use Rattle.lanes.specs.Working.{these, Ready, Shows}
 use Rattle.rows.specs.Asked.{Room, Lists, Leaves}
 
@@ -114,9 +114,7 @@ all-good false i o e = let z : _≡_ {A = ℕ} 0 1 = cc in absurd (omega arith)
 
 module _ (e : RowsEntry) where
   abbrev pub bad : Option ℕ
-  bad =
-      let n = e .circuit .counts in
-      badRows (e .rows) (n .I) (n .L) (n .O) (length (e .nexts)) (e .inputs) (length (e .outputs))
+  bad = rowVectors e
 
   pub good-lists : e .rows ≤ 64 → bad ≡ none → Lists (e .circuit .counts) (e .rows) (e .nexts) (e .inputs) (e .outputs)
   good-lists most q =

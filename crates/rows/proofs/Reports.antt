@@ -19,7 +19,7 @@ use Rattle.plan.specs.declared.Stepped.{Stepped}
 use Rattle.plan.specs.declared.Stepped.the-variants.{Done, Refused}
 use Rattle.plan.specs.Refusals.{firstOf}
 use Rattle.plan.specs.Circuit.{filled, cleared}
-use Rattle.plan.specs.Given.{given, stages, orderStage}
+use Rattle.plan.specs.Given.{given}
 use Rattle.plan.specs.Outcome.{put, allCodes, checkedBy, checkInOrder}
 use Rattle.theorems.proofs.Reading.Common.{and-left}
 use Rattle.theorems.proofs.Writing.Nothing.{some-first, both-first}
@@ -30,7 +30,7 @@ use Rattle.sixth.proofs.Among.{with-sixth, nothing-refused}
 use Rattle.sweep.specs.Running.{Runs}
 use Rattle.sweep.proofs.Literals.{output-up}
 use Rattle.step.proofs.Checks as checks
-use Rattle.plan.specs.Rows.{RowReportEntry, RowReportExit, lentForRows, rowReportStage, reportedRows, reportRows, reportOf, rowSteps}
+use Rattle.plan.specs.Rows.{RowReportEntry, RowReportExit, rowReportStage, reportedRows, reportRows, rowReport, rowSteps}
 use Rattle.lanes.specs.Working.{these, Ready, Shows}
 use Rattle.rows.specs.Asked.{Reports}
 
@@ -89,7 +89,7 @@ module _ (e : RowReportEntry) where
   needed = 3 * e .circuit .counts .O
 
   abbrev pub reply : Option Refusal
-  reply = firstOf (stages (e .circuit) (lentForRows e) ++ (orderStage (e .circuit) ∷ rowReportStage e ∷ []))
+  reply = firstOf (sixthStages (e .circuit) needed (e .report) ++ (rowReportStage e ∷ []))
 
   -- 13, then 12
   pub many : 64 < e .rows → rowReportStage e ≡ some (LongInput 64)
@@ -142,7 +142,7 @@ module _ (e : RowReportEntry) where
         ∙ sym (ap (λ (o : Option Refusal). reportedRows o e) h)
 
     pub done-report : (w : List ℕ)
-        → w ≡ filled (e .report) (reportOf (given (e .circuit)) (rowSteps (given (e .circuit)) (e .rows) (e .inputs)))
+        → w ≡ filled (e .report) (rowReport (given (e .circuit)) (rowSteps (given (e .circuit)) (e .rows) (e .inputs)))
         → reply ≡ none
         → _≡_ {A = RowReportExit} (record { answer = Done; scratch = t; report = w }) (reportRows e)
     done-report w ew h =

@@ -1,10 +1,14 @@
 -- What is asked where nothing is refused, and what is left in the buffers and in table 6.
 use Prim.Native.Nat.{ℕ, _*_, _≤_}
 use mathlib.Core.Path.{_≡_}
+use mathlib.Core.Option.{Option}
 use mathlib.Core.List.{List}
+use lib.Dec.{eqb}
 use lib.ListN.{length}
 use Rattle.plan.specs.declared.Counts.{Counts}
 use Rattle.plan.specs.Circuit.{Circuit, Tables}
+use Rattle.plan.specs.Given.{orElse}
+use Rattle.plan.specs.Outcome.{vector, vectorOf}
 use Rattle.tables.specs.Held.{Scratch}
 use Rattle.sweep.specs.Running.{Runs}
 use Rattle.plan.specs.Rows.{rowSteps, outputBytes, nextBytes}
@@ -15,6 +19,11 @@ pub record Room (n : Counts) (latches outputs gates resets scratch : List ℕ) :
   pub others : Tables
   pub runs : Runs n (these others latches outputs gates resets)
   pub scratch-long : Scratch n scratch
+
+-- 12 by the lengths of the buffers
+abbrev pub badRows : Counts → ℕ → ℕ → List ℕ → ℕ → Option ℕ
+badRows n rows nexts ins outs =
+    orElse (vector 1 (eqb nexts (rows * n .L))) (orElse (vectorOf 2 (rows * n .I) ins) (vector 3 (eqb outs (rows * n .O))))
 
 -- rows that have lanes, their inputs and buffers
 pub record Lists (n : Counts) (rows : ℕ) (nexts ins outs : List ℕ) : Type 0 where

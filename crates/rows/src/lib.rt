@@ -12,9 +12,9 @@ ghost use Rattle.plan.specs.Step.{isCode};
 ghost use Rattle.plan.specs.Outcome.{Says, allCodes};
 ghost use Rattle.tables.specs.Lengths.{tableOf};
 ghost use Rattle.sweep.specs.Running.{Runs};
-ghost use Rattle.plan.specs.Rows.{badRows, stepRows, rowSteps, reportOf, reportRows};
+ghost use Rattle.plan.specs.Rows.{stepRows, rowSteps, rowReport, reportRows};
 ghost use Rattle.lanes.specs.Working.{these};
-ghost use Rattle.rows.specs.Asked.{Room, Lists, Leaves, Reports};
+ghost use Rattle.rows.specs.Asked.{badRows, Room, Lists, Leaves, Reports};
 use codes::is_code;
 use given::judge_in_order;
 use lanes::count_rows;
@@ -66,7 +66,7 @@ fn whole_rows(ins: &[u8], rows: usize, each: usize) -> bool
 fn bad_rows(n: Counts, rows: usize, nexts: usize, ins: &[u8], outs: usize) -> usize
     requires { ⌜ rows ≤ 64 ⌝ }
     requires { ⌜ (n .I ≤ most) × (n .L ≤ most) × (n .O ≤ most) ⌝ }
-    ensures { λ r. ⌜ tableOf r ≡ badRows rows (n .I) (n .L) (n .O) nexts (now (ins .entry)) outs ⌝ }
+    ensures { λ r. ⌜ tableOf r ≡ badRows n rows nexts (now (ins .entry)) outs ⌝ }
 {
     if nexts != rows * n.L {
         return 1;
@@ -190,7 +190,7 @@ fn report_lists(
     requires { ⌜ Reports n (now outputs) (now gates) (now resets) rows (now ins) (now scratch) (now report) ⌝ }
     ensures { λ _. ⌜ ((x : Tables) → Runs n (these x (x .latches) (now (outputs .entry)) (now (gates .entry)) (now (resets .entry)))
         → now (report .exit) ≡ filled (now (report .entry))
-        (reportOf (circuitOf n (these x (x .latches) (now (outputs .entry)) (now (gates .entry)) (now (resets .entry))))
+        (rowReport (circuitOf n (these x (x .latches) (now (outputs .entry)) (now (gates .entry)) (now (resets .entry))))
         (rowSteps (circuitOf n (these x (x .latches) (now (outputs .entry)) (now (gates .entry)) (now (resets .entry)))) rows (now (ins .entry))))) ⌝ }
 {
     step_lanes(n, gates, resets, ins, rows, scratch);

@@ -37,3 +37,4 @@ pub mod EachStep
 pub mod Runs
 pub mod DemandThree
 pub mod Shown
+pub mod Times

@@ -1,19 +1,24 @@
 -- A table's rows, each at its own place: a list of n rows grows by its last one.
 use Prim.Native.Nat.{ℕ, zero, suc, _+_, _*_, _≤_, _<_}
 use mathlib.Core.Path.{_≡_, refl, sym, ap, ap₂, _∙_}
-use mathlib.Core.List.{List, [], _∷_, _++_, map, map-append}
+use mathlib.Core.List.{List, [], _∷_, _++_, map, map-append, append-nil, append-assoc}
 use native.Mathlib.Nat.{mul-zero, mul-suc, mul-le-mul-left}
 use native.Mathlib.Numerals.{add-one}
 use native.Mathlib.Omega.{arith}
 use lib.ListN.{length, getD, take, drop, length-append, length-drop}
 use lib.Seq.{getD-take, getD-drop, drop-drop, take-suc, length-take-le}
 use Rattle.plan.specs.Literals.{varOf}
-use Rattle.plan.specs.Circuit.{Gate, Latch, oneLine, latchLine, gateLine, literalOf, latchOf, gateOf, rowsOf, heads, vars, currents, lefts}
+use Rattle.plan.specs.Circuit.{Gate, Latch, oneLine, latchLine, gateLine, literalOf, latchOf, gateOf, rowsOf, flat, heads, vars, currents, lefts}
 use Rattle.theorems.proofs.Reading.Rows.{Long, one-back, latch-back, gate-back}
 
 -- row i of k words
 abbrev pub rowAt : ℕ → List ℕ → ℕ → List ℕ
 rowAt k t i = take k (drop (k * i) t)
+
+-- rows one after the other, and one more
+pub flat-snoc : (rows : List (List ℕ)) (row : List ℕ) → flat (rows ++ (row ∷ [])) ≡ flat rows ++ row
+flat-snoc [] row = append-nil row
+flat-snoc (r ∷ rows) row = ap (λ (x : List ℕ). r ++ x) (flat-snoc rows row) ∙ sym (append-assoc r (flat rows) row)
 
 rows-snoc : (k n : ℕ) (t : List ℕ) → rowsOf k (suc n) t ≡ rowsOf k n t ++ (rowAt k t n ∷ [])
 rows-snoc k zero t = ap (λ (m : ℕ). take k (drop m t) ∷ []) (sym (mul-zero k))

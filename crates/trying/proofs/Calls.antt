@@ -1,7 +1,7 @@
 -- The laws over whole calls, refusals too: what a yes says, a larger allowance, and the yes of the question in three values.
 use Prim.Native.Nat.{ℕ, _≤_}
 use mathlib.Core.Path.{_≡_, refl, sym, ap, ap₂, _∙_}
-use mathlib.Core.Bool.{Bool, true, false, cond}
+use mathlib.Core.Bool.{Bool, true, false}
 use mathlib.Core.Option.{Option, none, some}
 use mathlib.Core.List.{List, [], _∷_, _++_}
 use native.Mathlib.Omega.{arith}
@@ -13,7 +13,7 @@ use Rattle.plan.specs.declared.Finding.{Finding}
 use Rattle.plan.specs.declared.Finding.the-variants.{Yes, No, Undecided, Refused}
 use Rattle.plan.specs.Refusals.{stage, firstOf}
 use Rattle.plan.specs.Circuit.{Circuit}
-use Rattle.plan.specs.Given.{given, lentAlone, stages, orderStage}
+use Rattle.plan.specs.Given.{given, lentAlone, failingAt, stages, orderStage}
 use Rattle.plan.specs.Step.{witnessed}
 use Rattle.plan.specs.Outcome.{WitnessEntry, listStage, verdictBy, witness3}
 use Rattle.plan.specs.Fillings.{xCount, asked, totalOf, question, FilledEntry, xStage, findingBy, witness}
@@ -51,10 +51,10 @@ module _ (w : WitnessEntry) where
 
   -- 20 is given exactly where there are more x
   pub x-few : count ≤ 20 → xStage w ≡ none
-  x-few h = ap (λ (b : Bool). stage ManyX (cond b none (some count))) (le-leb count 20 h)
+  x-few h = ap (λ (b : Bool). stage ManyX (failingAt count b)) (le-leb count 20 h)
 
   pub x-many : 21 ≤ count → xStage w ≡ some (ManyX count)
-  x-many h = ap (λ (b : Bool). stage ManyX (cond b none (some count))) (lt-leb count 20 h)
+  x-many h = ap (λ (b : Bool). stage ManyX (failingAt count b)) (lt-leb count 20 h)
 
   -- the question with an allowance
   abbrev pub allowing : ℕ → FilledEntry
