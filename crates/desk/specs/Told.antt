@@ -1,9 +1,14 @@
 -- What C sees of each call: the answer as numbers, and the exit contents of all that is lent.
 use Prim.Native.Nat.{ℕ}
 use mathlib.Core.List.{List}
+use lib.ListN.{length}
+use Rattle.plan.specs.declared.Loaded.{Loaded}
+use Rattle.plan.specs.declared.Loaded.the-variants.{Accepted, Refused}
+use Rattle.plan.specs.declared.Version.the-variants.{V2007, V19}
 use Rattle.plan.specs.Given.{Given}
 use Rattle.plan.specs.Circuit.{Tables}
-use Rattle.plan.specs.Outcome.{FileEntry, FileExit, MakeEntry, MakeExit, StepEntry, WitnessEntry, checkedValues, writtenValues, madeValues, steppedValues, verdictValues, findingValues, StepExit, ReadEntry, loadedValues}
+use Rattle.plan.specs.Outcome.{ReadEntry, LoadExit, FileEntry, FileExit, MakeEntry, MakeExit, StepEntry, StepExit, WitnessEntry}
+use Rattle.plan.specs.Outcome.{loadedValues, checkedValues, writtenValues, madeValues, steppedValues, verdictValues, findingValues}
 use Rattle.plan.specs.Outcome as outcome
 use Rattle.plan.specs.Drop as drop
 use Rattle.plan.specs.Fillings.{FilledEntry}
@@ -13,6 +18,26 @@ use Rattle.plan.specs.Plain as plain
 use Rattle.plan.specs.Rewire.{RewireEntry}
 use Rattle.plan.specs.Rewire as rewire
 use Rattle.plan.specs.Cards as cards
+
+-- both readers: where the tail starts, which after a refusal is the file's end
+pub record ReadTold : Type 0 where
+  pub start : ℕ
+  pub answer : List ℕ
+  pub tables : Tables
+  pub scratch : List ℕ
+
+abbrev pub startOf : List ℕ → Loaded → ℕ
+startOf file (Accepted n start) = start
+startOf file (Refused r) = length file
+
+abbrev pub toldRead : ReadEntry → LoadExit → ReadTold
+toldRead e x = record { start = startOf (e .file) (x .answer); answer = loadedValues (x .answer); tables = x .tables; scratch = x .scratch }
+
+abbrev pub read : ReadEntry → ReadTold
+read e = toldRead e (outcome.loadAs V19 e)
+
+abbrev pub read2007 : ReadEntry → ReadTold
+read2007 e = toldRead e (outcome.loadAs V2007 e)
 
 pub record CheckTold : Type 0 where
   pub answer : List ℕ
@@ -76,6 +101,12 @@ pub record StepTold : Type 0 where
 abbrev pub toldStep : StepExit → StepTold
 toldStep x = record { answer = steppedValues (x .answer); scratch = x .scratch; state = x .state; outputs = x .outputs }
 
+abbrev pub step : StepEntry → StepTold
+step e = toldStep (outcome.step e)
+
+abbrev pub stepPlain : StepEntry → StepTold
+stepPlain e = toldStep (plain.plainStep e)
+
 -- the explainer
 pub record ExplainTold : Type 0 where
   pub answer : List ℕ
@@ -84,12 +115,6 @@ pub record ExplainTold : Type 0 where
 
 abbrev pub explain : blame.ExplainEntry → ExplainTold
 explain e = let x = blame.explain e in record { answer = steppedValues (x .answer); scratch = x .scratch; marks = x .marks }
-
-abbrev pub step : StepEntry → StepTold
-step e = toldStep (outcome.step e)
-
-abbrev pub stepPlain : StepEntry → StepTold
-stepPlain e = toldStep (plain.plainStep e)
 
 -- the witness question
 pub record WitnessTold : Type 0 where

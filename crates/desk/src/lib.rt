@@ -1,11 +1,10 @@
 // What C calls: numbers and slices only. The header for C is desk/golvanzo.h.
 ghost use mathlib.Core.Path.{_≡_};
-ghost use lib.ListN.{drop};
 ghost use Rattle.plan.specs.Circuit.{seven};
 ghost use Rattle.plan.specs.Header.{wordsFor, countsFrom};
-ghost use Rattle.plan.specs.Outcome.{Says, read, read2007, loadedValues};
+ghost use Rattle.plan.specs.Outcome.{Says, loadedValues};
 ghost use Rattle.given.specs.Judged.{givenAt};
-ghost use Rattle.desk.specs.Told.{check, writeText, writeBinary, readCards, writeCards, conversion, reduction, dropping, step, stepPlain};
+ghost use Rattle.desk.specs.Told.{read, read2007, check, writeText, writeBinary, readCards, writeCards, conversion, reduction, dropping, step, stepPlain};
 ghost use Rattle.desk.specs.Told.{witness, witness3, explain, rewiring};
 ghost use Rattle.desk.specs.Reported.{report};
 ghost use Rattle.desk.specs.RowsTold.{stepRows, reportRows};
@@ -42,8 +41,8 @@ pub extern "C" fn golvanzo_read(
           scratch = now (scratch .entry);
         })
         (record {
+          start = r;
           answer = now (answer .exit);
-          tail = drop r (now (file .entry));
           tables = (seven (now (inputs .exit)) (now (latches .exit)) (now (outputs .exit)) (now (gates .exit)) (now (resets .exit)) (now (bads .exit))
               (now (constraints .exit)));
           scratch = now (scratch .exit);
@@ -87,8 +86,8 @@ pub extern "C" fn golvanzo_read2007(
           scratch = now (scratch .entry);
         })
         (record {
+          start = r;
           answer = now (answer .exit);
-          tail = drop r (now (file .entry));
           tables = (seven (now (inputs .exit)) (now (latches .exit)) (now (outputs .exit)) (now (gates .exit)) (now (resets .exit)) (now (bads .exit))
               (now (constraints .exit)));
           scratch = now (scratch .exit);
@@ -563,10 +562,9 @@ pub extern "C" fn golvanzo_step(
     told::stepped(r, answer);
 }
 
-// The witness question by fillings, of which at most `allowance` are tried: number (0: answered), place, 1 for yes, 0 for no or 2 for undecided,
-// and how many were tried.
+// The same by the plain engine, for at most 24 gates.
 #[no_mangle]
-pub extern "C" fn golvanzo_witness(
+pub extern "C" fn golvanzo_step_plain(
     counts: &[u64; 7],
     inputs: &[u32],
     latches: &[u32],
@@ -576,27 +574,25 @@ pub extern "C" fn golvanzo_witness(
     bads: &[u32],
     constraints: &[u32],
     scratch: &mut [u32],
-    number: u64,
-    bytes: &[u8],
-    allowance: u64,
-    answer: &mut [u64; 4],
+    state: &mut [u8],
+    ins: &[u8],
+    outs: &mut [u8],
+    answer: &mut [u64; 2],
 )
-    ensures { λ _. ⌜ Says witness
+    ensures { λ _. ⌜ Says stepPlain
         (record {
-          list = (record {
-            circuit = givenAt (countsFrom (now (counts .entry)))
-                (seven (now (inputs .entry)) (now (latches .entry)) (now (outputs .entry)) (now (gates .entry)) (now (resets .entry)) (now (bads .entry))
-                (now (constraints .entry)))
-                (now (scratch .entry));
-            number = number;
-            bytes = now (bytes .entry);
-          });
-          allowance = allowance;
+          circuit = givenAt (countsFrom (now (counts .entry)))
+              (seven (now (inputs .entry)) (now (latches .entry)) (now (outputs .entry)) (now (gates .entry)) (now (resets .entry)) (now (bads .entry))
+              (now (constraints .entry)))
+              (now (scratch .entry));
+          state = now (state .entry);
+          inputs = now (ins .entry);
+          outputs = now (outs .entry);
         })
-        (record { answer = now (answer .exit); scratch = now (scratch .exit) }) ⌝ }
+        (record { answer = now (answer .exit); scratch = now (scratch .exit); state = now (state .exit); outputs = now (outs .exit) }) ⌝ }
 {
     let n = told::counts(counts);
-    let r = fillings::witness(
+    let r = plain::step_plain(
         n,
         inputs,
         latches,
@@ -606,11 +602,11 @@ pub extern "C" fn golvanzo_witness(
         bads,
         constraints,
         scratch,
-        number as usize,
-        bytes,
-        allowance as usize,
+        state,
+        ins,
+        outs,
     );
-    findings::finding(r, answer);
+    told::stepped(r, answer);
 }
 
 // What made an output 0 or 1 in a step of given tables, which are in binary order: number (0: explained) and place.
@@ -663,9 +659,10 @@ pub extern "C" fn golvanzo_explain(
     told::stepped(r, answer);
 }
 
-// The same by the plain engine, for at most 24 gates.
+// The witness question by fillings, of which at most `allowance` are tried: number (0: answered), place, 1 for yes, 0 for no or 2 for undecided,
+// and how many were tried.
 #[no_mangle]
-pub extern "C" fn golvanzo_step_plain(
+pub extern "C" fn golvanzo_witness(
     counts: &[u64; 7],
     inputs: &[u32],
     latches: &[u32],
@@ -675,25 +672,27 @@ pub extern "C" fn golvanzo_step_plain(
     bads: &[u32],
     constraints: &[u32],
     scratch: &mut [u32],
-    state: &mut [u8],
-    ins: &[u8],
-    outs: &mut [u8],
-    answer: &mut [u64; 2],
+    number: u64,
+    bytes: &[u8],
+    allowance: u64,
+    answer: &mut [u64; 4],
 )
-    ensures { λ _. ⌜ Says stepPlain
+    ensures { λ _. ⌜ Says witness
         (record {
-          circuit = givenAt (countsFrom (now (counts .entry)))
-              (seven (now (inputs .entry)) (now (latches .entry)) (now (outputs .entry)) (now (gates .entry)) (now (resets .entry)) (now (bads .entry))
-              (now (constraints .entry)))
-              (now (scratch .entry));
-          state = now (state .entry);
-          inputs = now (ins .entry);
-          outputs = now (outs .entry);
+          list = (record {
+            circuit = givenAt (countsFrom (now (counts .entry)))
+                (seven (now (inputs .entry)) (now (latches .entry)) (now (outputs .entry)) (now (gates .entry)) (now (resets .entry)) (now (bads .entry))
+                (now (constraints .entry)))
+                (now (scratch .entry));
+            number = number;
+            bytes = now (bytes .entry);
+          });
+          allowance = allowance;
         })
-        (record { answer = now (answer .exit); scratch = now (scratch .exit); state = now (state .exit); outputs = now (outs .exit) }) ⌝ }
+        (record { answer = now (answer .exit); scratch = now (scratch .exit) }) ⌝ }
 {
     let n = told::counts(counts);
-    let r = plain::step_plain(
+    let r = fillings::witness(
         n,
         inputs,
         latches,
@@ -703,11 +702,11 @@ pub extern "C" fn golvanzo_step_plain(
         bads,
         constraints,
         scratch,
-        state,
-        ins,
-        outs,
+        number as usize,
+        bytes,
+        allowance as usize,
     );
-    told::stepped(r, answer);
+    findings::finding(r, answer);
 }
 
 // The witness question in three values, in which nothing is filled: number (0: answered), place, and 1 for yes or 0 for no.
