@@ -44,7 +44,7 @@ nil-is (x ∷ l) e = absurd (omega arith)
 
 -- what an AIGER file for cards says
 module _ (file lengths : List ℕ) (c : Circuit) (start : ℕ) (q : readToCard file lengths ≡ got c start) where
-  card-parts : (readFile V19 file lengths ≡ got c start) × Room c lengths × (binaryOrder c ≡ true) × (drop start file ≡ []) × (holdable c ≡ true)
+  pub card-parts : (readFile V19 file lengths ≡ got c start) × Room c lengths × (binaryOrder c ≡ true) × (drop start file ≡ []) × (holdable c ≡ true)
   card-parts =
       let t = then-got (readToWork file lengths lengths) _ c start q in
       let d = t .0 in

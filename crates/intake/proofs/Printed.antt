@@ -37,7 +37,7 @@ pub record Lends (e : WholeEntry) : Type 0 where
   pub bytes : (file : List ℕ) → e .plan ≡ some file → Bytes file
 
 -- a buffer of the programs' length
-fits-alike : (out bytes : List ℕ) → length out ≡ lentBytes → length bytes < 2 ^ 64 → fittingIn out bytes ≡ fitting bytes
+pub fits-alike : (out bytes : List ℕ) → length out ≡ lentBytes → length bytes < 2 ^ 64 → fittingIn out bytes ≡ fitting bytes
 fits-alike out bytes e h =
     let same : 0 + length bytes ≡ length bytes = omega arith in
     let least : min (0 + length bytes) (2 ^ 64 - 1) ≡ length bytes = omega arith in
