@@ -2,10 +2,11 @@
    and as long as said; no null pointer with a length above 0, and none for `counts` and `answer`. Lengths of tables
    are in words. Nothing is kept or allocated.
 
-   An answer starts with a refusal's number, 0 if there is none, and its place; what follows is 0 after a refusal.
-   After one every table lent for writing is zero, but for `golvanzo_rewire`, and no byte of a buffer lent for writing has
-   changed. Scratch is zero after every call, given tables are never changed, and words of written tables past the
-   counts are zero. */
+   An answer starts with a refusal's number, 0 if there is none, and its place (docs/REFUSALS.md has them all); what
+   follows is 0 after a refusal. After one every table lent for writing is zero, and no byte of a buffer lent for
+   writing has changed. Words of written tables past the counts are zero, scratch is zero after every call, and given
+   tables are never changed. `golvanzo_rewire` alone writes into a given table, that of gates: what it does not change
+   there stays as it came, and after a refusal all of it. */
 #ifndef GOLVANZO_H
 #define GOLVANZO_H
 
@@ -87,18 +88,18 @@ void golvanzo_step(const uint64_t *counts /* 7 words */, GOLVANZO_GIVEN, GOLVANZ
                    size_t state_len, const uint8_t *ins, size_t ins_len, uint8_t *outs, size_t outs_len,
                    uint64_t *answer /* 2 words */);
 
-/* Which places of a state (L bytes) and of inputs (I) made output number `output`, counted from 0, 0 or 1 in a step of
-   tables in binary order: the first L + I bytes of `marks` become "1" for marked and "0" for not, state first, and the
-   others stay. With every unmarked place turned to "x" the output keeps its value. `answer` is number (0: explained)
-   and place. */
-void golvanzo_explain(const uint64_t *counts /* 7 words */, GOLVANZO_GIVEN, GOLVANZO_SCRATCH, const uint8_t *state,
-                      size_t state_len, const uint8_t *ins, size_t ins_len, uint64_t output, uint8_t *marks,
-                      size_t marks_len, uint64_t *answer /* 2 words */);
-
 /* The same by the plain engine: circuits of at most 24 gates, else 24, place their number, just after 15. */
 void golvanzo_step_plain(const uint64_t *counts /* 7 words */, GOLVANZO_GIVEN, GOLVANZO_SCRATCH, uint8_t *state,
                          size_t state_len, const uint8_t *ins, size_t ins_len, uint8_t *outs, size_t outs_len,
                          uint64_t *answer /* 2 words */);
+
+/* Which places of a state (L bytes) and of inputs (I) made output number `output`, counted from 0, 0 or 1 in a step of
+   tables in binary order: the first L + I bytes of `marks` become "1" for marked and "0" for not, state first, and the
+   others stay. With every unmarked place turned to "x" the output keeps its value. `answer` is number (0: explained)
+   and place: 17 at 1 if there is no such output, at 2 if it is x; 11 with L + I if `marks` are fewer bytes. */
+void golvanzo_explain(const uint64_t *counts /* 7 words */, GOLVANZO_GIVEN, GOLVANZO_SCRATCH, const uint8_t *state,
+                      size_t state_len, const uint8_t *ins, size_t ins_len, uint64_t output, uint8_t *marks,
+                      size_t marks_len, uint64_t *answer /* 2 words */);
 
 /* Whether every filling, by 0 or 1, of the x of the resets and of `number` input vectors, one after another in `bytes` (I
    bytes each), gives 1 on some output or bad state when stepped from the resets, every constraint being 1 at that step
@@ -124,7 +125,8 @@ void golvanzo_report(const uint64_t *counts /* 7 words */, GOLVANZO_GIVEN, GOLVA
 /* Up to 64 rows at once, of tables in binary order: each row is one input vector, stepped once from the resets. `ins`
    are rows * I bytes, a vector a row; `nexts` (rows * L bytes) and `outs` (rows * O) are written in the same way. The
    second writes no bytes but a report to table 6, of 3 * O words or more: per output the rows at 0, at 1 and at x, and
-   zero past them. `answer` is number (0: done) and place. */
+   zero past them. `answer` is number (0: done) and place: 13 at 64 for more rows; 12 at 1 for the length of `nexts`, at
+   2 for `ins`, at 3 for the length of `outs`. */
 void golvanzo_rows(const uint64_t *counts /* 7 words */, GOLVANZO_GIVEN, GOLVANZO_SCRATCH, uint64_t rows,
                    uint8_t *nexts, size_t nexts_len, const uint8_t *ins, size_t ins_len, uint8_t *outs,
                    size_t outs_len, uint64_t *answer /* 2 words */);
@@ -135,7 +137,9 @@ void golvanzo_report_rows(const uint64_t *counts /* 7 words */, GOLVANZO_GIVEN, 
 /* Give gate `gate` of tables in binary order, counted from 0, two right sides, in either order: they are put larger
    first, and no other word of `gates` changes. `values` are the values of a step, M + 1 bytes "0", "1", "x", one for
    each variable and the constant's first; they become those of a step of the edited circuit from the same inputs and
-   latches. `answer` is number (0: rewired) and place. A refusal leaves `gates` and `values` as they came. */
+   latches. `answer` is number (0: rewired) and place: 22 for no such gate, 5 at 4 and 15 at 0 for a right side, 12 at 4
+   for the length of `values`, 23 at the least variable whose value is wrong. A refusal leaves `gates` and `values` as
+   they came. */
 void golvanzo_rewire(const uint64_t *counts /* 7 words */, const uint32_t *inputs, size_t n1, const uint32_t *latches,
                      size_t n2, const uint32_t *outputs, size_t n3, uint32_t *gates, size_t n4, const uint32_t *resets,
                      size_t n7, const uint32_t *bads, size_t n8, const uint32_t *constraints, size_t n9,
