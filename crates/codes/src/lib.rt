@@ -1,4 +1,4 @@
-// Refusal 12: a vector of wrong length, or a byte of a state or of inputs but "0", "1", "x" (the paper, refusals).
+// Refusal 12: a vector of wrong length, or a byte of a state or of inputs but "0", "1", "x" (the paper, refusal numbers).
 ghost use mathlib.Core.Path.{_≡_};
 ghost use mathlib.Core.Bool.{_&&_};
 ghost use Prim.Native.Nat.{_*_};

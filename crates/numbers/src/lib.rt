@@ -1,4 +1,4 @@
-// Numbers of the text form: "0", or a digit 1 to 9 and then any digits (the paper, text form; AIGER report, section 7).
+// Numbers of the text form: "0", or a digit 1 to 9 and then any digits (the paper, text form; AIGER report, section 5).
 ghost use mathlib.Core.Path.{_≡_};
 ghost use Prim.Native.Nat.{_+_, _*_, _≤_, min};
 ghost use lib.ListN.{length};

@@ -1,4 +1,4 @@
-// Refusal 6 over given tables: no variable is defined twice (the paper, order of checks).
+// Refusal 6 over given tables: no variable is defined twice (the paper, refusal numbers).
 ghost use mathlib.Core.List.{List};
 ghost use Prim.Native.Nat.{ℕ, _*_, _<_, _≤_};
 ghost use lib.ListN.{length};

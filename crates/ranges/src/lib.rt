@@ -1,4 +1,4 @@
-// Refusal 5 over given tables: each literal must be in its range (the paper, order of checks; AIGER report, section 6).
+// Refusal 5 over given tables: each literal must be in its range (the paper, refusal numbers; AIGER report, section 6).
 ghost use mathlib.Core.Path.{_≡_};
 ghost use mathlib.Core.Bool.{true};
 ghost use mathlib.Core.List.{[], map};

@@ -1,4 +1,4 @@
-// What follows a file's header: the body, the tail, then 7 and 8 (the paper, the order of checks).
+// What follows a file's header: the body, the tail, then 7 and 8 (the paper, refusal numbers).
 ghost use mathlib.Core.Path.{_≡_};
 ghost use Prim.Native.Nat.{_+_, _≤_};
 ghost use Rattle.plan.specs.Circuit.{seven};

@@ -1,4 +1,4 @@
-// Table 6 judged among the tables: 4 names the least that is too short, and 6 stands between 5 and 7 (the paper, what is lent).
+// Table 6 judged among the tables: 4 names the least that is too short, and 6 stands between 5 and 7 (the paper, the needle report).
 ghost use mathlib.Core.Path.{_≡_};
 ghost use Rattle.sixth.specs.Judged.{beforeSixth, withSixth};
 use plan::Checked;

@@ -1,5 +1,5 @@
 // The one check of a symbol and comment part, of a whole file and of a tail alone (the paper, symbols and comments; AIGER report,
-// section 12).
+// sections 8 and 9).
 ghost use mathlib.Core.Path.{_≡_};
 ghost use Prim.Native.Nat.{_+_, _≤_, _<_};
 ghost use lib.ListN.{length, drop};

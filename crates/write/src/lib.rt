@@ -1,4 +1,4 @@
-// Writing given tables in text form or binary form, and their tail (the paper, text form, binary form, and the order of checks; AIGER
+// Writing given tables in text form or binary form, and their tail (the paper, text form, binary form, and refusal numbers; AIGER
 // report, sections 7, 11 and 12; AIGER 1.9).
 ghost use mathlib.Core.Path.{_≡_};
 ghost use mathlib.Core.List.{_++_};
