@@ -20,14 +20,14 @@ use Rattle.plan.specs.Convert.{convert}
 use Rattle.plan.specs.Reduce.{reduce}
 use Rattle.plan.specs.Programs.{input, otherForm}
 use Rattle.plan.specs.Outcome.{WriteExit, putBy, putBytes, isBinary, headedBy, formOf}
-use Rattle.plan.specs.Whole.{WholeEntry, WholeExit, inputOf, fittingIn, wholeBy}
+use Rattle.plan.specs.Whole.{WholeEntry, WholeExit, inputOf, fittingIn, wholeBy, convertedFile, reducedFile}
 use Rattle.tables.specs.declared.Sizes.{Sizes}
 use Rattle.tables.specs.Lengths.{sizesOf}
 use Rattle.read.proofs.Answers.{part-from}
 use Rattle.theorems.proofs.Reading.Common.{not-got, then-got, cond-got}
 use Rattle.theorems.proofs.Reading.Exactly.{work-read}
 use Rattle.intake.specs.Opening.{OpenEntry, opening, opened, Ready}
-use Rattle.intake.specs.Parts.{convertedFile, reducedFile, toldBy, binaryBy}
+use Rattle.intake.specs.Parts.{toldBy, binaryBy}
 
 -- what follows an input that can be read
 pub after-input : {A B : Type 0} (b : Bool) (file : List ℕ) (f : List ℕ → Parse A) (k : List ℕ → A → ℕ → Parse B)

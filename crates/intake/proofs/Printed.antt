@@ -21,12 +21,11 @@ use Rattle.plan.specs.Reading.{readToWork, WellFormed}
 use Rattle.plan.specs.Convert.{convert}
 use Rattle.plan.specs.Reduce.{reduce}
 use Rattle.plan.specs.Programs.{lentWords, lentBytes, refusalLine, printed, input, fitting, otherForm, converter, reducer}
-use Rattle.plan.specs.Whole.{WholeEntry, loaded, fittingIn, wholeBy, convertWhole, reduceWhole}
+use Rattle.plan.specs.Whole.{WholeEntry, loaded, fittingIn, wholeBy, convertWhole, reduceWhole, convertedFile, reducedFile}
 use Rattle.theorems.proofs.Put.{put-first}
 use Rattle.theorems.proofs.Reading.Differences.{Bytes}
 use Rattle.theorems.proofs.Reading.Exactly.{sound, formed, work-read}
 use Rattle.theorems.proofs.Running.Results.{convert-well-formed, convert-in-order, reduce-well-formed}
-use Rattle.intake.specs.Parts.{convertedFile, reducedFile}
 use Rattle.intake.proofs.Bounds.{text-most, binary-most}
 
 -- what the programs lend, and an input of bytes

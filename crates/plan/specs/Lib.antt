@@ -15,10 +15,10 @@ pub mod Convert
 pub mod Reduce
 pub mod Step
 pub mod Outcome
-pub mod Programs
-pub mod Whole
 pub mod Walk
 pub mod Drop
+pub mod Programs
+pub mod Whole
 pub mod Sixth
 pub mod Report
 pub mod Reporter

@@ -24,6 +24,7 @@ use Rattle.plan.specs.Reading.{readToWork}
 use Rattle.plan.specs.Given.{Given, given, lentAlone, orElse, stages, orderStage, room}
 use Rattle.plan.specs.Convert.{convert}
 use Rattle.plan.specs.Reduce.{reduce}
+use Rattle.plan.specs.Drop.{dropUnused}
 use Rattle.plan.specs.Step.{Value, codeOf, valueOf, nextOf, run}
 use Rattle.plan.specs.Outcome.{WriteExit, putBytes, put, vector, vectorOf}
 use Rattle.plan.specs.Programs.{refusalLine, input, otherForm, linesIn, allVectors, stimulus, stepLines}
@@ -79,19 +80,35 @@ wholeBy e (refused r) = record {
 }
 
 -- the other form, with the same tail
-abbrev pub convertWhole : WholeEntry → WholeExit
-convertWhole e =
-    wholeBy e (input (e .plan) λ file.
+abbrev pub convertedFile : WholeEntry → Parse (List ℕ)
+convertedFile e =
+    input (e .plan) λ file.
     loaded e file then λ c start.
     header V19 file 0 then λ h _.
-    fittingIn (e .out) (otherForm (h .form) c ++ drop start file))
+    fittingIn (e .out) (otherForm (h .form) c ++ drop start file)
+
+abbrev pub convertWhole : WholeEntry → WholeExit
+convertWhole e = wholeBy e (convertedFile e)
 
 -- reduced binary, with the same tail
-abbrev pub reduceWhole : WholeEntry → WholeExit
-reduceWhole e =
-    wholeBy e (input (e .plan) λ file.
+abbrev pub reducedFile : WholeEntry → Parse (List ℕ)
+reducedFile e =
+    input (e .plan) λ file.
     loaded e file then λ c start.
-    fittingIn (e .out) (binaryOf (reduce (convert c)) ++ drop start file))
+    fittingIn (e .out) (binaryOf (reduce (convert c)) ++ drop start file)
+
+abbrev pub reduceWhole : WholeEntry → WholeExit
+reduceWhole e = wholeBy e (reducedFile e)
+
+-- reduced binary without its unused gates, with the same tail
+abbrev pub droppedFile : WholeEntry → Parse (List ℕ)
+droppedFile e =
+    input (e .plan) λ file.
+    loaded e file then λ c start.
+    fittingIn (e .out) (binaryOf (dropUnused (reduce (convert c))) ++ drop start file)
+
+abbrev pub dropWhole : WholeEntry → WholeExit
+dropWhole e = wholeBy e (droppedFile e)
 
 -- the converted circuit of a file, in the tables to make one in
 pub record OpenExit : Type 0 where

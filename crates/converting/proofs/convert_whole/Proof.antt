@@ -2,9 +2,8 @@
 use mathlib.Core.Path.{_∙_}
 use borrow.Author.Needs.{needs}
 use Rattle.plan.specs.Circuit.{Tables, seven}
-use Rattle.plan.specs.Whole.{WholeEntry, inputOf}
+use Rattle.plan.specs.Whole.{WholeEntry, inputOf, convertedFile}
 use Rattle.read.proofs.Loads.{same-cleared, all-same}
-use Rattle.intake.specs.Parts.{convertedFile}
 use Rattle.intake.proofs.Files.{all-zero}
 use Rattle.converting.proofs.convert_whole.Statement.{statement}
 use Rattle.converting.proofs.convert_whole.Tie as tie

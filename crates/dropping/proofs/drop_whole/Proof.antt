@@ -2,9 +2,8 @@
 use mathlib.Core.Path.{_∙_}
 use borrow.Author.Needs.{needs}
 use Rattle.plan.specs.Circuit.{Tables, seven}
-use Rattle.plan.specs.Whole.{WholeEntry, inputOf}
+use Rattle.plan.specs.Whole.{WholeEntry, inputOf, droppedFile}
 use Rattle.read.proofs.Loads.{same-cleared, all-same}
-use Rattle.dropping.specs.Whole.{droppedFile}
 use Rattle.intake.proofs.Files.{all-zero}
 use Rattle.dropping.proofs.drop_whole.Statement.{statement}
 use Rattle.dropping.proofs.drop_whole.Tie as tie

@@ -2,9 +2,8 @@
 use mathlib.Core.Path.{_∙_}
 use borrow.Author.Needs.{needs}
 use Rattle.plan.specs.Circuit.{Tables, seven}
-use Rattle.plan.specs.Whole.{WholeEntry, inputOf}
+use Rattle.plan.specs.Whole.{WholeEntry, inputOf, reducedFile}
 use Rattle.read.proofs.Loads.{same-cleared, all-same}
-use Rattle.intake.specs.Parts.{reducedFile}
 use Rattle.intake.proofs.Files.{all-zero}
 use Rattle.reducing.proofs.reduce_whole.Statement.{statement}
 use Rattle.reducing.proofs.reduce_whole.Tie as tie
