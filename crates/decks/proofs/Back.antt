@@ -1,46 +1,34 @@
 -- The same bytes there and back, over the definitions: cards to binary AIGER to cards; and a binary file in the shortest form, without
--- symbols, comment, bad states and constraints and with resets of 0, to cards and back. Of the definitions, of whole files and of the programs.
-use Prim.Native.Nat.{ℕ, _+_, _≤_}
+-- symbols, comment, bad states and constraints and with resets of 0, to cards and back.
+use Prim.Native.Nat.{ℕ}
 use mathlib.Core.Path.{_≡_, refl, sym, ap, ap₂, _∙_, subst}
-use mathlib.Core.Bool.{Bool, true, _&&_}
-use mathlib.Core.Option.{Option, none, some}
-use mathlib.Core.List.{List, [], _∷_, _++_, append-nil}
-use native.Mathlib.Omega.{arith}
-use borrow.Author.Tests.{eqb-true, eq-eqb, le-leb}
+use mathlib.Core.Bool.{true, _&&_}
+use mathlib.Core.List.{List, [], append-nil}
+use borrow.Author.Tests.{eqb-true, eq-eqb}
 use lib.Dec.{eqb}
 use lib.ListN.{length, drop}
 use lib.Seq.{drop-length}
 use Rattle.plan.specs.declared.Version.the-variants.{V19}
-use Rattle.plan.specs.declared.Refusal.{Refusal}
 use Rattle.plan.specs.declared.Refusal.the-variants.{NotInOrder, NotOnCards}
-use Rattle.plan.specs.declared.Written.the-variants as written
-use Rattle.plan.specs.Refusals.{Parse, got, refused, _then_}
-use Rattle.plan.specs.Circuit.{Circuit, countsOf, lengthsOf}
+use Rattle.plan.specs.Refusals.{Parse, got, _then_}
+use Rattle.plan.specs.Circuit.{Circuit, countsOf}
 use Rattle.plan.specs.Header.{Head, binary, header}
 use Rattle.plan.specs.Binary.{binaryOf, binaryOrder}
 use Rattle.plan.specs.Tail.{TailOk, empty}
 use Rattle.plan.specs.Reading.{readFile, readToWork, WellFormed, States, Shortest, Room}
 use Rattle.plan.specs.Given.{failing, room}
-use Rattle.plan.specs.Programs.{lentWords, input, fitting, printed}
-use Rattle.plan.specs.Whole.{fittingIn}
-use Rattle.plan.specs.Cards.{cardsOf, holdable, CardStates, past, readCards, readToCard, CardEntry, movedBy, fileWhole, cardWhole, filer, carder}
-use Rattle.theorems.proofs.Put.{put-first}
-use Rattle.theorems.proofs.Reading.Common.{then-got, got-value, got-next, not-got, and-left, and-right, and-intro}
+use Rattle.plan.specs.Cards.{cardsOf, holdable, past, readCards, readToCard}
+use Rattle.theorems.proofs.Reading.Common.{then-got, got-value, got-next, and-left, and-right, and-intro}
 use Rattle.theorems.proofs.Reading.Differences.{Bytes}
-use Rattle.theorems.proofs.Reading.Exactly.{sound, formed, unique, work-read}
-use Rattle.theorems.proofs.Reading.Shortest.{states-binary}
+use Rattle.theorems.proofs.Reading.Exactly.{sound, formed, work-read}
 use Rattle.theorems.proofs.Writing.Back.{binary-back}
 use Rattle.theorems.proofs.Writing.Nothing.{failing-none}
 use Rattle.theorems.proofs.Writing.ThereAndBack.{binary-shortest}
 use Rattle.decks.proofs.Passing.{past-none, past-got}
-use Rattle.decks.proofs.Exactly.{cards-state, cards-room, cards-read}
+use Rattle.decks.proofs.Exactly.{empty-list, cards-state, cards-room, cards-read}
 
-no-tail : (c : Circuit) → TailOk V19 (countsOf c) []
+pub no-tail : (c : Circuit) → TailOk V19 (countsOf c) []
 no-tail c = record { symbols = []; rest = []; parts = refl; good = refl; remark = empty }
-
-nil-is : (l : List ℕ) → length l ≡ 0 → l ≡ []
-nil-is [] e = refl
-nil-is (x ∷ l) e = absurd (omega arith)
 
 -- what an AIGER file for cards says
 module _ (file lengths : List ℕ) (c : Circuit) (start : ℕ) (q : readToCard file lengths ≡ got c start) where
@@ -57,7 +45,7 @@ module _ (file lengths : List ℕ) (c : Circuit) (start : ℕ) (q : readToCard f
         r .0 ∙ ap₂ got c-is s-is,
         subst (λ (x : Circuit). Room x lengths) c-is (r .1),
         ap binaryOrder (sym c-is) ∙ failing-none (binaryOrder d) (p15 .0),
-        ap (λ (k : ℕ). drop k file) (sym s-is) ∙ nil-is (drop (t .1) file) (eqb-true _ _ (and-left (eqb (length (drop (t .1) file)) 0) _ both)),
+        ap (λ (k : ℕ). drop k file) (sym s-is) ∙ empty-list (drop (t .1) file) (eqb-true _ _ (and-left (eqb (length (drop (t .1) file)) 0) _ both)),
         ap holdable (sym c-is) ∙ and-right (eqb (length (drop (t .1) file)) 0) _ both,
       )
 
@@ -90,7 +78,7 @@ cards-back file lengths bytes c start q =
 
 -- a binary file in the shortest form that is read for cards: its cards are read as the same circuit, whose binary file it is
 module _ (file lengths : List ℕ) (bytes : Bytes file) (c : Circuit) (start : ℕ) (q : readToCard file lengths ≡ got c start) where
-  stated : States V19 file c []
+  pub stated : States V19 file c []
   stated =
       let p = card-parts file lengths c start q in
       subst (States V19 file c) (p .3) (sound V19 file lengths bytes c start (p .0) .0)

@@ -1,23 +1,22 @@
 -- With room, cards are read as a circuit exactly if they state it; what they state they state alone.
-use Prim.Native.Nat.{ℕ, zero, suc, _+_, _*_, _/_, _<_, _≤_}
+use Prim.Native.Nat.{ℕ, zero, suc, _+_, _*_, _≤_}
 use mathlib.Core.Path.{_≡_, refl, sym, ap, ap₂, _∙_, subst}
-use mathlib.Core.Bool.{Bool, true, false, cond, _&&_, false≢true}
+use mathlib.Core.Bool.{Bool, true, false, cond}
 use mathlib.Core.Option.{Option, none, some}
 use mathlib.Core.Logic.{_↔_}
-use mathlib.Core.List.{List, [], _∷_, _++_, append-nil, map}
+use mathlib.Core.List.{List, [], _∷_, _++_, append-nil}
 use native.Mathlib.Omega.{arith}
-use borrow.Author.Tests.{eqb-true, eq-eqb, ltb-false, le-ltb, ltb-true}
+use borrow.Author.Tests.{eqb-true, eq-eqb, ltb-false, le-ltb}
 use lib.Dec.{eqb, ltb}
-use lib.ListN.{length, getD, drop, replicate, length-append, length-drop, length-replicate, drop-of-length-le}
+use lib.ListN.{length, drop, replicate, length-append, length-drop, drop-of-length-le}
 use lib.Seq.{drop-drop, drop-at}
 use Rattle.plan.specs.declared.Counts.{Counts}
 use Rattle.plan.specs.declared.Refusal.the-variants.{WrongByte, LargeCount, WrongSum, ShortTable, OutOfRange, NotInOrder, WrongMark}
-use Rattle.plan.specs.Literals.{most}
 use Rattle.plan.specs.Refusals.{got}
-use Rattle.plan.specs.Circuit.{Latch, Gate, Circuit, countsOf, wordsToWork, against, short, nexts, oneLine, latchLine, allInside, resetsOk}
+use Rattle.plan.specs.Circuit.{Circuit, countsOf, wordsToWork, against, short, nexts}
 use Rattle.plan.specs.Bytes.{values}
 use Rattle.plan.specs.Header.{binary, over, adds}
-use Rattle.plan.specs.Binary.{litsFrom, latchesFrom, binaryOrder}
+use Rattle.plan.specs.Binary.{latchesFrom, binaryOrder}
 use Rattle.plan.specs.Reading.{WellFormed, Room}
 use Rattle.plan.specs.Given.{orElse, failing, outsideIn}
 use Rattle.plan.specs.Cards.{wordAt, wordBytes, markBytes, marked, headCard, wordCards, gateCards, cardsOf, allZero, holdable, CardStates, countsAt, countsPlaced, cardBytes, wrongLength, badLength, latchesAt, outputsAt, gatesAt, wrongIn, wrongMarks, wordsIn, gatesIn, carded, cardHead, readCards}
@@ -37,7 +36,7 @@ bounded-words : (n : ℕ) (ls : List ℕ) → n ≤ 2000000 → Bounded n ls →
 bounded-words n [] h b = tt
 bounded-words n (l ∷ ls) h b = (omega (arith, b .0), bounded-words n ls h (b .1))
 
-empty-list : (l : List ℕ) → length l ≡ 0 → l ≡ []
+pub empty-list : (l : List ℕ) → length l ≡ 0 → l ≡ []
 empty-list [] e = refl
 empty-list (x ∷ l) e = absurd (omega arith)
 
@@ -342,23 +341,29 @@ module _ (file lengths : List ℕ) (c : Circuit) (start : ℕ) (q : readCards fi
       let a = parts .0 in
       let d = made file in
       let i = none-inside d (a .inside) in
-      well-formed d (order-exactly d .0 (a .order)) (a .small .0) (omega (arith, a .small .1 .1 .1 .0, length-words-in (told file .O) (drop (outputsAt (told file)) file)))
-      (omega arith) (omega arith) (i .resets)
+      well-formed d (order-exactly d .0 (a .order)) (a .small .0)
+      (omega (arith, a .small .1 .1 .1 .0, length-words-in (told file .O) (drop (outputsAt (told file)) file))) (omega arith) (omega arith) (i .resets)
       (nexts-bounded (d .M) (suc (d .M)) (d .latches) (omega arith) (i .latches))
       (outputs-bounded (d .M) (suc (d .M)) (d .outputs) (omega arith) (i .outputs)) tt tt
 
+  pub cards-formed : WellFormed c
+  cards-formed = subst WellFormed (parts .1) made-formed
+
+  pub cards-order : binaryOrder c ≡ true
+  cards-order = ap binaryOrder (sym (parts .1)) ∙ parts .0 .order
+
   pub cards-state : Bytes file → CardStates file c
-  cards-state bytes =
-      let a = parts .0 in
-      subst (CardStates file) (parts .1) (record {
-        cards = cards-are file bytes (a .size) (a .marks);
-        formed = made-formed;
-        order = a .order;
-        held = made-held file;
-      })
+  cards-state bytes = record {
+    cards = cards-are file bytes (parts .0 .size) (parts .0 .marks) ∙ ap cardsOf (parts .1);
+    formed = cards-formed;
+    order = cards-order;
+    held = ap holdable (sym (parts .1)) ∙ made-held file;
+  }
 
   pub cards-room : Room c lengths
-  cards-room = subst (λ (d : Circuit). Room d lengths) (parts .1) (ap (λ (x : Counts). short (against 1 (wordsToWork x) lengths)) (made-counts file) ∙ parts .0 .room)
+  cards-room =
+      subst (λ (d : Circuit). Room d lengths) (parts .1)
+      (ap (λ (x : Counts). short (against 1 (wordsToWork x) lengths)) (made-counts file) ∙ parts .0 .room)
 
 -- with room, exactly if
 pub cards-exactly : (file lengths : List ℕ) → Bytes file → (c : Circuit) → Room c lengths

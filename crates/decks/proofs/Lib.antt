@@ -3,4 +3,7 @@ pub mod Passing
 pub mod Exactly
 pub mod Spared
 pub mod Back
+pub mod Calls
+pub mod WithRoom
+pub mod Toggle
 pub mod Huge

@@ -1,17 +1,17 @@
 -- Records of cards: what is written is read, and what is read under the right marks was written so.
 use Prim.Native.Nat.{ℕ, zero, suc, _+_, _*_, _/_, _%_, _<_, _≤_}
 use mathlib.Core.Path.{_≡_, refl, sym, ap, ap₂, _∙_}
-use mathlib.Core.Bool.{Bool, true, false, cond, _&&_}
+use mathlib.Core.Bool.{Bool, true, false, cond}
 use mathlib.Core.Option.{Option, none, some}
 use mathlib.Core.List.{List, [], _∷_, _++_}
 use native.Mathlib.Omega.{arith}
 use borrow.Author.Tests.{eqb-true, eq-eqb}
 use lib.Dec.{eqb}
-use lib.ListN.{length, getD, drop, length-drop}
+use lib.ListN.{length, drop, length-drop}
 use lib.Seq.{drop-drop, getD-drop}
 use Rattle.plan.specs.Circuit.{Gate}
 use Rattle.plan.specs.Cards.{word, wordBytes, markBytes, marked, wordCards, gateCards, wrongIn, wordsIn, gatesIn}
-use Rattle.theorems.proofs.Reading.Common.{and-left, and-right, and-intro}
+use Rattle.theorems.proofs.Reading.Common.{and-left, and-right}
 use Rattle.theorems.proofs.Reading.Differences.{Bytes}
 use Rattle.theorems.proofs.Reading.Order.{InOrder}
 

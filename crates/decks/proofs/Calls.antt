@@ -1,0 +1,167 @@
+-- Cards and binary AIGER there and back, of calls in a row that answered without a refusal, each handed what the one before left, whatever else it
+-- is lent: the bytes that the last one wrote are the first one's file.
+use Prim.Native.Nat.{ℕ}
+use mathlib.Core.Path.{_≡_, refl, sym, ap, ap₂, _∙_, subst}
+use mathlib.Core.Bool.{_&&_}
+use mathlib.Core.Option.{Option}
+use mathlib.Core.List.{List, [], _∷_, _++_}
+use native.Mathlib.Omega.{arith}
+use borrow.Author.Tests.{eqb-true}
+use lib.Dec.{eqb}
+use lib.ListN.{length, length-replicate}
+use Rattle.plan.specs.declared.Version.the-variants.{V19}
+use Rattle.plan.specs.declared.Counts.{Counts}
+use Rattle.plan.specs.declared.Refusal.{Refusal}
+use Rattle.plan.specs.declared.Refusal.the-variants.{NotInOrder, NotOnCards}
+use Rattle.plan.specs.declared.Loaded.the-variants as loaded
+use Rattle.plan.specs.Refusals.{Parse, got, refused, firstOf}
+use Rattle.plan.specs.Circuit.{Circuit, Tables, countsOf, circuitOf, lengthsOf, wordsToWork, against, short, holding, cleared}
+use Rattle.plan.specs.Header.{Head, binary, header}
+use Rattle.plan.specs.Binary.{binaryOf, binaryOrder}
+use Rattle.plan.specs.Reading.{WellFormed, States, Shortest, Room}
+use Rattle.plan.specs.Given.{Given, given, lentAlone, failing, stages, orderStage, tailStage, roomStage}
+use Rattle.plan.specs.Outcome.{ReadEntry, loadBy, load, writeBinary}
+use Rattle.plan.specs.Cards.{cardsOf, holdable, CardStates, readCards, loadCards, cardStage, writeCards}
+use Rattle.theorems.proofs.Reading.Common.{and-left, and-right}
+use Rattle.theorems.proofs.Reading.Differences.{Bytes}
+use Rattle.theorems.proofs.Reading.Exactly.{unique}
+use Rattle.theorems.proofs.Reading.Short.{short-none}
+use Rattle.theorems.proofs.Running.Resets.{resets-length}
+use Rattle.theorems.proofs.Writing.Nothing.{stage-none, failing-none, first-all, first-both}
+use Rattle.theorems.proofs.Writing.Fine.{nothing-fine, fine-nothing}
+use Rattle.theorems.proofs.Writing.Holding.{Enough, holding-circuit, holding-lengths, formed-fine}
+use Rattle.theorems.proofs.Writing.Written.{wrote, binary-bytes, binary-states}
+use Rattle.theorems.proofs.Writing.Later.{Left, load-left}
+use Rattle.theorems.proofs.Writing.ThereAndBack.{binary-shortest}
+use Rattle.theorems.proofs.Writing.Calls.{ReadCall, WriteCall, readCircuit, readTail, fileOf, read-states}
+use Rattle.decks.proofs.Exactly.{empty-list, cards-formed, cards-state, cards-room, cards-unique}
+
+-- an accepted read of cards, of bytes, and the circuit that it leaves
+pub record CardCall : Type 0 where
+  pub entry : ReadEntry
+  pub counts : Counts
+  pub end : ℕ
+  pub bytes : Bytes (entry .file)
+  pub accepted : loadCards entry .answer ≡ loaded.Accepted counts end
+
+abbrev pub cardCircuit : CardCall → Circuit
+cardCircuit k = circuitOf (k .counts) (loadCards (k .entry) .tables)
+
+-- a call is handed these counts and, up to them, the words of these tables, whatever stands past them
+abbrev pub Handed : Given → Counts → Tables → Type 0
+Handed g n t = (g .counts ≡ n) × (given g ≡ circuitOf n t)
+
+-- the tables that hold a circuit are as long as they were
+room-after : (c : Circuit) (t : Tables) (scratch : List ℕ) → WellFormed c → Room c (lengthsOf t scratch) → Room c (lengthsOf (holding t c) (cleared scratch))
+room-after c t scratch w room =
+    let l = short-none (against 1 (wordsToWork (countsOf c)) (lengthsOf t scratch)) .0 room in
+    let enough : Enough c t = record {
+      inputs = l .0;
+      latches = l .1 .0;
+      outputs = l .1 .1 .0;
+      gates = l .1 .1 .1 .0;
+      resets = omega (arith, l .1 .1 .1 .1 .1 .1 .0, resets-length (c .latches) (c .resets) (w .resets));
+      bads = l .1 .1 .1 .1 .1 .1 .1 .0;
+      constraints = l .1 .1 .1 .1 .1 .1 .1 .1 .0;
+    } in
+    ap (λ (x : List ℕ). short (against 1 (wordsToWork (countsOf c)) x))
+    (holding-lengths t c (cleared scratch) enough ∙ same-length (length-replicate {A = ℕ} (length scratch) 0))
+    ∙ room
+  where
+    same-length : length (cleared scratch) ≡ length scratch → lengthsOf t (cleared scratch) ≡ lengthsOf t scratch
+    same-length e = λ i. length (t .inputs) ∷ length (t .latches) ∷ length (t .outputs) ∷ length (t .gates) ∷ e i ∷ 0
+        ∷ length (t .resets) ∷ length (t .bads) ∷ length (t .constraints) ∷ []
+
+-- what a read of cards leaves every later call accepts, and it is what they state
+pub cards-left : (e : ReadEntry) (n : Counts) (end : ℕ) → loadCards e .answer ≡ loaded.Accepted n end
+    → (c : Circuit) × (readCards (e .file) (lengthsOf (e .tables) (e .scratch)) ≡ got c end)
+    × Left (record { counts = n; tables = loadCards e .tables; scratch = loadCards e .scratch }) c
+cards-left e n end a = go (readCards (e .file) (lengthsOf (e .tables) (e .scratch))) refl a
+  where
+    go : (p : Parse Circuit) → readCards (e .file) (lengthsOf (e .tables) (e .scratch)) ≡ p → loadBy e p .answer ≡ loaded.Accepted n end
+        → (c : Circuit) × (p ≡ got c end) × Left (record { counts = n; tables = loadBy e p .tables; scratch = loadBy e p .scratch }) c
+    go (got c s) q a =
+        let lengths = lengthsOf (e .tables) (e .scratch) in
+        let f = cards-formed (e .file) lengths c s q in
+        let holds = holding-circuit (e .tables) c f in
+        let after : Given = record { counts = countsOf c; tables = holding (e .tables) c; scratch = cleared (e .scratch) } in
+        let room = room-after c (e .tables) (e .scratch) f (cards-room (e .file) lengths c s q) in
+        let n-is : countsOf c ≡ n = cc in
+        let s-is : s ≡ end = cc in (
+          c,
+          ap (got c) s-is,
+          subst (λ (m : Counts). Left (record { counts = m; tables = holding (e .tables) c; scratch = cleared (e .scratch) }) c) n-is
+              (record { holds = holds; counts = refl; fine = fine-nothing after (lentAlone after) (formed-fine after (lentAlone after) c holds refl f room) }),
+        )
+    go (refused r) q a = let z : _≡_ {A = ℕ} 0 1 = cc in absurd (omega arith)
+
+module _ (k : CardCall) where
+  pub read-cards : (c : Circuit) × (readCards (k .entry .file) (lengthsOf (k .entry .tables) (k .entry .scratch)) ≡ got c (k .end))
+      × Left (record { counts = k .counts; tables = loadCards (k .entry) .tables; scratch = loadCards (k .entry) .scratch }) c
+  read-cards = cards-left (k .entry) (k .counts) (k .end) (k .accepted)
+
+  pub card-states : CardStates (k .entry .file) (cardCircuit k)
+  card-states =
+      let r = read-cards in
+      subst (CardStates (k .entry .file)) (sym (r .2 .holds))
+      (cards-state (k .entry .file) (lengthsOf (k .entry .tables) (k .entry .scratch)) (r .0) (k .end) (r .1) (k .bytes))
+
+  pub card-counts : k .counts ≡ countsOf (cardCircuit k)
+  card-counts = let l = read-cards .2 in l .counts ∙ ap countsOf (sym (l .holds))
+
+-- the counts that a reader of AIGER leaves
+pub read-counts : (r : ReadCall) → r .counts ≡ countsOf (readCircuit r)
+read-counts r = let l = load-left (r .entry) (r .bytes) (r .counts) (r .start) (r .accepted) in l .2 ∙ ap countsOf (sym (l .3))
+
+-- the bytes that a writer of cards wrote state the given circuit, and there was no tail
+module _ (w : WriteCall writeCards) where
+  abbrev g : Given
+  g = w .entry .circuit
+
+  abbrev last : List (Option Refusal)
+  last = orderStage g ∷ tailStage g (w .entry .tail) ∷ cardStage g (w .entry .tail) ∷ roomStage (w .entry .out) (cardsOf (given g)) ∷ []
+
+  pub cards-written : CardStates (fileOf writeCards w) (given (w .entry .circuit)) × (w .entry .tail ≡ [])
+  cards-written =
+      let x = wrote (w .entry) (cardsOf (given g)) (w .size) (firstOf (stages g (lentAlone g) ++ last)) (w .accepted) in
+      let s = first-both (stages g (lentAlone g)) last (x .0) in
+      let all = first-all last (s .1) in
+      let on-cards = eqb (length (w .entry .tail)) 0 && holdable (given g) in
+      let held = failing-none on-cards (stage-none NotOnCards (failing on-cards) (all .1 .1 .0)) in (
+        record {
+          cards = x .2;
+          formed = nothing-fine g (lentAlone g) (s .0) .formed;
+          order = failing-none (binaryOrder (given g)) (stage-none NotInOrder (failing (binaryOrder (given g))) (all .0));
+          held = and-right (eqb (length (w .entry .tail)) 0) (holdable (given g)) held;
+        },
+        empty-list (w .entry .tail) (eqb-true _ _ (and-left (eqb (length (w .entry .tail)) 0) (holdable (given g)) held)),
+      )
+
+-- cards, read, written as binary with any tail, read and written as cards: the same bytes
+pub cards-through-binary : (k : CardCall)
+    → (b : WriteCall writeBinary) → Handed (b .entry .circuit) (k .counts) (loadCards (k .entry) .tables)
+    → (r : ReadCall) → r .entry .file ≡ fileOf writeBinary b
+    → (w : WriteCall writeCards) → Handed (w .entry .circuit) (r .counts) (load (r .entry) .tables)
+    → fileOf writeCards w ≡ k .entry .file
+cards-through-binary k b b-given r r-file w w-given =
+    let again = subst (λ (x : List ℕ). States V19 x (readCircuit r) (readTail r)) r-file (read-states r) in
+    let same : readCircuit r ≡ given (b .entry .circuit)
+    = unique V19 (fileOf writeBinary b) (readCircuit r) (given (b .entry .circuit)) (readTail r) (b .entry .tail) again
+    (binary-states (b .entry) (b .size) (b .accepted)) .0 in
+    cards-written w .0 .cards ∙ (ap cardsOf (w-given .1 ∙ (same ∙ b-given .1)) ∙ sym (card-states k .cards))
+
+-- a binary file in the shortest form, read, written as cards with the tail that was read, read and written as binary: the same bytes
+pub binary-through-cards : (r : ReadCall) (h : Head) (at : ℕ) → header V19 (r .entry .file) 0 ≡ got h at → h .form ≡ binary
+    → Shortest (r .entry .file) (readCircuit r) (readTail r)
+    → (w : WriteCall writeCards) → Handed (w .entry .circuit) (r .counts) (load (r .entry) .tables) → w .entry .tail ≡ readTail r
+    → (k : CardCall) → k .entry .file ≡ fileOf writeCards w
+    → (b : WriteCall writeBinary) → Handed (b .entry .circuit) (k .counts) (loadCards (k .entry) .tables) → b .entry .tail ≡ []
+    → fileOf writeBinary b ≡ r .entry .file
+binary-through-cards r h at head form shortest w w-given w-tail k k-file b b-given b-tail =
+    let there = cards-written w in
+    let same : cardCircuit k ≡ given (w .entry .circuit)
+    = cards-unique (fileOf writeCards w) (cardCircuit k) (given (w .entry .circuit))
+    (subst (λ (x : List ℕ). CardStates x (cardCircuit k)) k-file (card-states k)) (there .0) in
+    binary-bytes (b .entry) (b .size) (b .accepted)
+    ∙ (ap₂ (λ (c : Circuit) (t : List ℕ). binaryOf c ++ t) (b-given .1 ∙ (same ∙ w-given .1)) (b-tail ∙ (sym (there .1) ∙ w-tail))
+    ∙ sym (binary-shortest (r .entry .file) (readCircuit r) (readTail r) h at head form shortest))
