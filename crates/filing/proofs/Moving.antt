@@ -1,6 +1,6 @@
 -- A whole file's answer by what was read and what was put into the buffer.
-use Prim.Native.Nat.{ℕ, _+_, _-_, _*_, _<_, _≤_}
-use mathlib.Core.Path.{_≡_, refl, sym, ap, ap₂, _∙_, subst}
+use Prim.Native.Nat.{ℕ, _-_, _<_, _≤_}
+use mathlib.Core.Path.{_≡_, refl, sym, ap, _∙_, subst}
 use mathlib.Core.Bool.{Bool, true, false, cond, _&&_}
 use mathlib.Core.Option.{Option, none, some}
 use mathlib.Core.List.{List, [], _∷_, _++_, append-nil}
@@ -8,39 +8,34 @@ use native.Mathlib.Omega.{arith}
 use borrow.Author.Tests.{le-leb, lt-leb}
 use borrow.Rule.Slice.PartMut.{midOf}
 use lib.Dec.{eqb, leb}
-use lib.ListN.{length, drop, length-replicate}
+use lib.ListN.{length, drop}
 use lib.Seq.{drop-length}
 use Rattle.plan.specs.declared.Version.the-variants.{V19}
 use Rattle.plan.specs.declared.Counts.{Counts}
 use Rattle.plan.specs.declared.Refusal.{Refusal}
 use Rattle.plan.specs.declared.Refusal.the-variants.{ShortBuffer, LongInput, Unreadable, NotInOrder, NotOnCards}
-use Rattle.plan.specs.declared.Loaded.{Loaded}
 use Rattle.plan.specs.declared.Loaded.the-variants as loaded
 use Rattle.plan.specs.declared.Written.the-variants as written
 use Rattle.plan.specs.Refusals.{Parse, got, refused, _then_, unless, stage, firstOf}
-use Rattle.plan.specs.Circuit.{Circuit, Tables, countsOf, lengthsOf, wordsToWork, against, short, holding, cleared, allCleared}
+use Rattle.plan.specs.Circuit.{Circuit, Tables, lengthsOf, cleared, allCleared}
 use Rattle.plan.specs.Binary.{binaryOf, binaryOrder}
 use Rattle.plan.specs.Tail.{TailOk}
-use Rattle.plan.specs.Reading.{WellFormed, Room}
 use Rattle.plan.specs.Given.{Given, given, lentAlone, failing, stages, orderStage, refusalOf, tailStage, room, roomStage}
 use Rattle.plan.specs.Outcome.{WriteExit, ReadEntry, LoadExit, loadBy, FileEntry, FileExit, writtenBy, writeBinary}
 use Rattle.plan.specs.Programs.{input}
 use Rattle.plan.specs.Whole.{inputOf, fittingIn}
-use Rattle.theorems.proofs.Reading.Differences.{Bytes}
-use Rattle.theorems.proofs.Reading.Short.{short-none}
 use Rattle.theorems.proofs.Reading.Tails.{tail-exactly}
-use Rattle.theorems.proofs.Running.Resets.{resets-length}
 use Rattle.theorems.proofs.Writing.Nothing.{both-first, one-stage}
-use Rattle.theorems.proofs.Writing.Fine.{fine-nothing}
-use Rattle.theorems.proofs.Writing.Holding.{Enough, holding-circuit, holding-lengths, formed-fine}
+use Rattle.theorems.proofs.Writing.Later.{Left}
 use Rattle.read.proofs.Answers.{part-from}
 use Rattle.tables.specs.Lengths.{sizesOf}
 use Rattle.intake.specs.Opening.{OpenEntry, opening, opened}
 use Rattle.intake.specs.Parts.{toldBy}
 use Rattle.intake.proofs.Files.{after-input}
-use Rattle.plan.specs.Cards.{cardsOf, holdable, past, readCards, loadCards, readToCard, cardStage, writeCards, CardEntry, CardExit, movedBy}
-use Rattle.decks.proofs.Exactly.{cards-state, cards-room, all-cards}
-use Rattle.filing.specs.Moved.{filedCards, cardedFile}
+use Rattle.plan.specs.Cards.{cardsOf, holdable, past, readCards, loadCards, cardStage, writeCards, CardEntry, CardExit, movedBy}
+use Rattle.decks.proofs.Exactly.{cards-order, all-cards}
+use Rattle.decks.proofs.Calls.{cards-left}
+use Rattle.filing.specs.Moved.{cardedFile}
 
 -- an input that can't be read, or is too long
 module _ (file out : List ℕ) (f : List ℕ → Parse (List ℕ)) (b : Bool) where
@@ -76,95 +71,41 @@ module _ (e : ReadEntry) (x : LoadExit) (said : x ≡ loadCards e) where
       go (refused j) k = let j-is : j ≡ r = cc in ap refused j-is
 
   module _ (n : Counts) (start : ℕ) (q : x .answer ≡ loaded.Accepted n start) where
-    pub cards-got : (c : Circuit) × (readCards (e .file) (lengthsOf (e .tables) (e .scratch)) ≡ got c start) × (n ≡ countsOf c)
-        × (x .tables ≡ holding (e .tables) c) × (x .scratch ≡ cleared (e .scratch))
-    cards-got = go (readCards (e .file) (lengthsOf (e .tables) (e .scratch))) refl (ap (λ (y : LoadExit). y .answer) (sym said) ∙ q) said
-      where
-        go : (p : Parse Circuit) → readCards (e .file) (lengthsOf (e .tables) (e .scratch)) ≡ p → loadBy e p .answer ≡ loaded.Accepted n start
-            → x ≡ loadCards e
-            → (c : Circuit) × (readCards (e .file) (lengthsOf (e .tables) (e .scratch)) ≡ got c start) × (n ≡ countsOf c)
-            × (x .tables ≡ holding (e .tables) c) × (x .scratch ≡ cleared (e .scratch))
-        go (got c s) r k h =
-            let n-is : countsOf c ≡ n = cc in
-            let s-is : s ≡ start = cc in
-            let whole : x ≡ loadBy e (got c s) = h ∙ ap (loadBy e) r in (
-              c,
-              r ∙ ap (got c) s-is,
-              sym n-is,
-              ap (λ (y : LoadExit). y .tables) whole,
-              ap (λ (y : LoadExit). y .scratch) whole,
-            )
-        go (refused j) r k h = let z : _≡_ {A = ℕ} 0 1 = cc in absurd (omega arith)
+    cards-got : (c : Circuit) × (readCards (e .file) (lengthsOf (e .tables) (e .scratch)) ≡ got c start)
+        × Left (record { counts = n; tables = x .tables; scratch = x .scratch }) c
+    cards-got =
+        let l = cards-left e n start (ap (λ (y : LoadExit). y .answer) (sym said) ∙ q) in
+        (l .0, l .1, subst (λ (y : LoadExit). Left (record { counts = n; tables = y .tables; scratch = y .scratch }) (l .0)) (sym said) (l .2))
 
     pub cards-end : start ≡ length (e .file)
     cards-end = all-cards (e .file) (lengthsOf (e .tables) (e .scratch)) (cards-got .0) start (cards-got .1)
 
     -- what stands in the tables passes every check, and is written as binary
-    module _ (bytes : Bytes (e .file)) where
-      abbrev c : Circuit
-      c = cards-got .0
-
-      abbrev g : Given
-      g = record { counts = n; tables = x .tables; scratch = x .scratch }
-
-      abbrev after : Given
-      after = record { counts = countsOf c; tables = holding (e .tables) c; scratch = cleared (e .scratch) }
-
-      g-is : g ≡ after
-      g-is = λ i. record { counts = cards-got .2 i; tables = cards-got .3 i; scratch = cards-got .4 i }
-
-      formed : WellFormed c
-      formed = cards-state (e .file) (lengthsOf (e .tables) (e .scratch)) c start (cards-got .1) bytes .formed
-
-      holds : given after ≡ c
-      holds = holding-circuit (e .tables) c formed
-
-      long : short (lentAlone after) ≡ none
-      long =
-          let room : Room c (lengthsOf (e .tables) (e .scratch)) = cards-room (e .file) (lengthsOf (e .tables) (e .scratch)) c start (cards-got .1) in
-          let l = short-none (against 1 (wordsToWork (countsOf c)) (lengthsOf (e .tables) (e .scratch))) .0 room in
-          let enough : Enough c (e .tables) = record {
-            inputs = l .0;
-            latches = l .1 .0;
-            outputs = l .1 .1 .0;
-            gates = l .1 .1 .1 .0;
-            resets = omega (arith, l .1 .1 .1 .1 .1 .1 .0, resets-length (c .latches) (c .resets) (formed .resets));
-            bads = l .1 .1 .1 .1 .1 .1 .1 .0;
-            constraints = l .1 .1 .1 .1 .1 .1 .1 .1 .0;
-          } in
-          ap (λ (y : List ℕ). short (against 1 (wordsToWork (countsOf c)) y))
-          (holding-lengths (e .tables) c (cleared (e .scratch)) enough ∙ scratched (length-replicate {A = ℕ} (length (e .scratch)) 0))
-          ∙ room
-        where
-          scratched : length (cleared (e .scratch)) ≡ length (e .scratch) → lengthsOf (e .tables) (cleared (e .scratch)) ≡ lengthsOf (e .tables) (e .scratch)
-          scratched h = λ i. length (e .tables .inputs) ∷ length (e .tables .latches) ∷ length (e .tables .outputs) ∷ length (e .tables .gates) ∷ h i ∷ 0
-              ∷ length (e .tables .resets) ∷ length (e .tables .bads) ∷ length (e .tables .constraints) ∷ []
-
-      fine : firstOf (stages after (lentAlone after)) ≡ none
-      fine = fine-nothing after (lentAlone after) (formed-fine after (lentAlone after) c holds refl formed long)
-
-      in-order : binaryOrder (given after) ≡ true
-      in-order = ap binaryOrder holds ∙ cards-state (e .file) (lengthsOf (e .tables) (e .scratch)) c start (cards-got .1) bytes .order
-
-      pub cards-filed : (tail out : List ℕ) → tail ≡ midOf start (length (e .file) - start) (e .file) → (y : FileExit)
-          → y ≡ writeBinary (record { circuit = record { counts = n; tables = x .tables; scratch = x .scratch }; tail = tail; out = out })
-          → _≡_ {A = WriteExit} (record { answer = y .answer; out = y .out })
-          (toldBy out (readCards (e .file) (lengthsOf (e .tables) (e .scratch)) then λ d _. fittingIn out (binaryOf d)))
-      cards-filed tail out t-is y y-is =
-          let nothing : tail ≡ []
-          = t-is ∙ (part-from start (e .file) ∙ (ap (λ (k : ℕ). drop k (e .file)) cards-end ∙ drop-length (e .file))) in
-          let f : FileEntry = record { circuit = after; tail = []; out = out } in
-          let file : List ℕ = binaryOf (given after) ++ [] in
-          let f-is : y ≡ writeBinary f = y-is ∙ ap₂ (λ (k : Given) (l : List ℕ). writeBinary (record { circuit = k; tail = l; out = out })) g-is nothing in
-          let last : firstOf (stages after (lentAlone after) ++ (orderStage after ∷ tailStage after [] ∷ roomStage out file ∷ [])) ≡ roomStage out file
-          = both-first (stages after (lentAlone after)) (orderStage after ∷ tailStage after [] ∷ roomStage out file ∷ []) fine
-          ∙ (ap (λ (b : Bool). firstOf (stage NotInOrder (failing b) ∷ none ∷ roomStage out file ∷ [])) in-order ∙ one-stage (roomStage out file)) in
-          let told : y ≡ writtenBy (roomStage out file) f file = f-is ∙ ap (λ (o : Option Refusal). writtenBy o f file) last in
-          let file-is : file ≡ binaryOf c = append-nil (binaryOf (given after)) ∙ ap binaryOf holds in
-          (λ i. record { answer = told i .answer; out = told i .out })
-          ∙ (wrote-by f file (room out 0 file)
-          ∙ (ap (λ (l : List ℕ). toldBy out (fittingIn out l)) file-is
-          ∙ ap (λ (p : Parse Circuit). toldBy out (p then λ d _. fittingIn out (binaryOf d))) (sym (cards-got .1))))
+    pub cards-filed : (tail out : List ℕ) → tail ≡ midOf start (length (e .file) - start) (e .file) → (y : FileExit)
+        → y ≡ writeBinary (record { circuit = record { counts = n; tables = x .tables; scratch = x .scratch }; tail = tail; out = out })
+        → _≡_ {A = WriteExit} (record { answer = y .answer; out = y .out })
+        (toldBy out (readCards (e .file) (lengthsOf (e .tables) (e .scratch)) then λ d _. fittingIn out (binaryOf d)))
+    cards-filed tail out t-is y y-is =
+        let g : Given = record { counts = n; tables = x .tables; scratch = x .scratch } in
+        let c : Circuit = cards-got .0 in
+        let l = cards-got .2 in
+        let nothing : tail ≡ []
+        = t-is ∙ (part-from start (e .file) ∙ (ap (λ (k : ℕ). drop k (e .file)) cards-end ∙ drop-length (e .file))) in
+        let f : FileEntry = record { circuit = g; tail = []; out = out } in
+        let file : List ℕ = binaryOf (given g) ++ [] in
+        let in-order : binaryOrder (given g) ≡ true
+        = ap binaryOrder (l .holds) ∙ cards-order (e .file) (lengthsOf (e .tables) (e .scratch)) c start (cards-got .1) in
+        let last : firstOf (stages g (lentAlone g) ++ (orderStage g ∷ tailStage g [] ∷ roomStage out file ∷ [])) ≡ roomStage out file
+        = both-first (stages g (lentAlone g)) (orderStage g ∷ tailStage g [] ∷ roomStage out file ∷ []) (l .fine)
+        ∙ (ap (λ (b : Bool). firstOf (stage NotInOrder (failing b) ∷ none ∷ roomStage out file ∷ [])) in-order ∙ one-stage (roomStage out file)) in
+        let told : y ≡ writtenBy (roomStage out file) f file
+        = y-is ∙ (ap (λ (t : List ℕ). writeBinary (record { circuit = g; tail = t; out = out })) nothing
+        ∙ ap (λ (o : Option Refusal). writtenBy o f file) last) in
+        let file-is : file ≡ binaryOf c = append-nil (binaryOf (given g)) ∙ ap binaryOf (l .holds) in
+        (λ i. record { answer = told i .answer; out = told i .out })
+        ∙ (wrote-by f file (room out 0 file)
+        ∙ (ap (λ (t : List ℕ). toldBy out (fittingIn out t)) file-is
+        ∙ ap (λ (p : Parse Circuit). toldBy out (p then λ d _. fittingIn out (binaryOf d))) (sym (cards-got .1))))
 
 -- AIGER to cards: 15, 19 and 11 after what was read for the call
 then-then : {A B C : Type 0} (p : Parse A) (f : A → ℕ → Parse B) (h : B → ℕ → Parse C) → ((p then f) then h) ≡ (p then λ a n. (f a n then h))

@@ -1,6 +1,6 @@
 -- A refusal before anything is written, or the binary form.
 use Prim.Native.Nat.{ℕ}
-use mathlib.Core.Path.{_≡_, refl, sym, ap, _∙_}
+use mathlib.Core.Path.{refl, sym, ap, _∙_}
 use mathlib.Core.List.{List}
 use native.Mathlib.Omega.{arith}
 use borrow.Author.Needs.{needs}
@@ -151,7 +151,7 @@ returns-4 c =
     let a = s .args in
     let n = c .before .before .before .before .before .before .before .before .before .before .before .before .before .before .before .before .n in
     cards-filed (entry d) (left d) (d .read-cards .ensures) (n .given .0 .0) (n .given .0 .1 .0) (n .given .1)
-    (λ (k : ℕ). omega (arith, c .before .before .before .before .before .before .before .before .before .before .before .before .before .before .before .before .before .before .before .before .before .before .before .before .before .before .before .before .before .before .before .before .before .before .before .before .before .before .before .before .before .before .before .before .before .before .before .before .before .before .before .before .before .before .shared-slice-known .given k)) _ (a .out .now) refl _ (c .before .before .before .before .write-binary .ensures)
+    _ (a .out .now) refl _ (c .before .before .before .before .write-binary .ensures)
     ∙ was-read (a .file .now) (a .out .now) (filed s) (a .readable) (not-false _ (c .before .before .before .before .before .before .before .before .before .before .before .before .before .before .before .before .before .before .before .before .before .before .before .before .before .before .before .before .before .before .before .before .before .before .before .before .before .before .before .before .before .before .before .before .if1 .left)) (c .before .before .before .before .before .before .before .before .before .before .before .before .before .before .before .before .before .before .before .before .before .before .before .before .before .before .before .before .before .before .before .before .before .before .before .before .before .before .before .before .before .before .before .if2 .left)
 
 pub file-cards-spec : {M : Type 1} → statement M
