@@ -9,7 +9,7 @@ use Rattle.plan.specs.declared.Refusal.{Refusal}
 use Rattle.plan.specs.declared.Refusal.the-variants.{OutOfRange, NotInOrder}
 use Rattle.plan.specs.Literals.{most}
 use Rattle.plan.specs.Refusals.{stage}
-use Rattle.plan.specs.Circuit.{Circuit, Tables, flat, latchLine, gateLine}
+use Rattle.plan.specs.Circuit.{Circuit, flat, latchLine, gateLine}
 use Rattle.plan.specs.Binary.{binaryOrder}
 use Rattle.plan.specs.Given.{failing, outsideIn}
 use Rattle.plan.specs.Outcome.{put}

@@ -9,6 +9,8 @@ ghost use Rattle.plan.specs.Outcome.{put, checkedBy};
 ghost use Rattle.tables.specs.Held.{circuitIn, Fits};
 ghost use Rattle.plan.specs.Cards.{wordsIn, gatesIn, carded};
 ghost use Rattle.cardfill.specs.Filled.{Ready, FirstHold, judgedBy};
+use cards::gates_at;
+use cards::outputs_at;
 use cards::word_at;
 use gates::run_on;
 use gates::spread;
@@ -66,14 +68,8 @@ pub fn fill(
     run_on(inputs, 1, n.I);
     fill_words(file, 22, n.L, latches);
     spread(latches, (1 + n.I) as u32, n.L);
-    fill_words(file, 22 + 6 * n.L, n.O, outputs);
-    fill_gates(
-        file,
-        22 + 6 * n.L + 6 * n.O,
-        n.A,
-        (1 + n.I + n.L) as u32,
-        gates,
-    );
+    fill_words(file, outputs_at(n), n.O, outputs);
+    fill_gates(file, gates_at(n), n.A, (1 + n.I + n.L) as u32, gates);
 }
 
 // 5 over filled tables, then 15. What is in binary order and in range can't meet 6, 7 or 8 (AIGER report, section 7).

@@ -49,6 +49,12 @@ module _ (r : ℕ → Refusal) where
   next-part none b e = refl
   next-part (some place) b e = let z : _≡_ {A = ℕ} 0 1 = cc in absurd (omega arith)
 
+-- a part's answer, by where it starts
+pub part-told : (file : List ℕ) (letter size n at there : ℕ) → at ≡ there → (x : Checked)
+    → x ≡ checkedBy (stage WrongMark (wrongIn letter size n at (drop at file)))
+    → checkedBy (stage WrongMark (wrongIn letter size n there (drop there file))) ≡ x
+part-told file letter size n at there e x q = sym (q ∙ ap (λ (k : ℕ). checkedBy (stage WrongMark (wrongIn letter size n k (drop k file)))) e)
+
 -- the four parts of a file
 module _ (file : List ℕ) (n : Counts) where
   abbrev heads : Option ℕ

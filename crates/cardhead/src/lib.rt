@@ -6,8 +6,12 @@ ghost use Rattle.plan.specs.declared.Refusal.the-variants.{WrongByte, WrongMark
 ghost use Rattle.plan.specs.Refusals.{stage};
 ghost use Rattle.plan.specs.Outcome.{checkedBy};
 ghost use Rattle.plan.specs.Cards.{countsAt, cardBytes, badLength, wrongIn, wrongMarks, cardHead};
-ghost use Rattle.cardhead.specs.Head.{headedCards, Within};
+ghost use Rattle.cards.specs.Within.{Within};
+ghost use Rattle.cardhead.specs.Head.{headedCards};
+use cards::bytes_asked;
+use cards::gates_at;
 use cards::mark_at;
+use cards::outputs_at;
 use cards::word_at;
 use given::large_count;
 use plan::Checked;
@@ -30,14 +34,6 @@ fn counts_at(file: &[u8]) -> Counts
         B: 0,
         C: 0,
     }
-}
-
-// The bytes that counts ask, as a true sum.
-fn bytes_asked(n: Counts) -> usize
-    requires { ⌜ Within n ⌝ }
-    ensures { λ r. ⌜ r ≡ cardBytes n ⌝ }
-{
-    22 + 6 * n.L + 6 * n.O + 10 * n.A
 }
 
 // Refusal 1, by the counts as read: a file that ends early, or goes on.
@@ -90,11 +86,11 @@ fn all_marks(file: &[u8], n: Counts) -> Checked
     if let Checked::Refused(r) = latches {
         return Checked::Refused(r);
     }
-    let outputs = check_marks(file, b'O', 6, n.O, 22 + 6 * n.L);
+    let outputs = check_marks(file, b'O', 6, n.O, outputs_at(n));
     if let Checked::Refused(r) = outputs {
         return Checked::Refused(r);
     }
-    check_marks(file, b'A', 10, n.A, 22 + 6 * n.L + 6 * n.O)
+    check_marks(file, b'A', 10, n.A, gates_at(n))
 }
 
 // The head of a file by 1, 18, 2 and 3. A count over the limit is named by its first byte: 2, 6, 10, 14 or 18.

@@ -1,6 +1,6 @@
 -- Four bytes joined at 32 bits and taken apart, as sums; stores in a row; a mark's two bytes.
 use Prim.Native.Nat.{ℕ, suc, _+_, _*_, _/_, _%_, _<_, _≤_}
-use mathlib.Core.Path.{_≡_, refl, sym, ap, ap₂, _∙_}
+use mathlib.Core.Path.{_≡_, sym, ap, ap₂, _∙_}
 use mathlib.Core.Bool.{true, false, _&&_}
 use mathlib.Core.List.{List, [], _∷_, append-assoc}
 use native.Mathlib.Nat.{add-zero}
@@ -11,7 +11,7 @@ use lib.Dec.{eqb}
 use lib.ListN.{length, getD, set, take, drop}
 use lib.Seq.{sets-eq, getD-drop}
 use Rattle.plan.specs.Outcome.{put}
-use Rattle.plan.specs.Cards.{wordAt, wordBytes, marked, markBytes}
+use Rattle.plan.specs.Cards.{wordAt, wordBytes, marked}
 
 -- `x & 0xff`
 pub low8 : (x : ℕ) → bitAnd x 255 ≡ x % 256

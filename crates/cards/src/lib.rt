@@ -1,10 +1,12 @@
-// The two bytes of a mark and the four of a number on the old plan cards, low byte first: each read and written here alone (the paper,
-// plan cards).
+// The two bytes of a mark and the four of a number on the old plan cards, low byte first: each read and written here alone; and where the
+// records start and end (the paper, plan cards).
 ghost use mathlib.Core.Path.{_≡_};
 ghost use Prim.Native.Nat.{_+_, _≤_};
 ghost use lib.ListN.{length, drop};
 ghost use Rattle.plan.specs.Outcome.{put};
-ghost use Rattle.plan.specs.Cards.{wordAt, wordBytes, marked, markBytes};
+ghost use Rattle.plan.specs.Cards.{wordAt, wordBytes, marked, markBytes, outputsAt, gatesAt, cardBytes};
+ghost use Rattle.cards.specs.Within.{Within};
+use plan::Counts;
 
 // The number at a position.
 pub fn word_at(file: &[u8], at: usize) -> u32
@@ -51,4 +53,28 @@ pub fn put_mark(out: &mut [u8], at: usize, letter: u8) -> usize
     out[at] = b'P';
     out[at + 1] = letter;
     at + 2
+}
+
+// Where the outputs start, by counts of 32 bits.
+pub fn outputs_at(n: Counts) -> usize
+    requires { ⌜ Within n ⌝ }
+    ensures { λ r. ⌜ r ≡ outputsAt n ⌝ }
+{
+    22 + 6 * n.L
+}
+
+// Where the gates start.
+pub fn gates_at(n: Counts) -> usize
+    requires { ⌜ Within n ⌝ }
+    ensures { λ r. ⌜ r ≡ gatesAt n ⌝ }
+{
+    outputs_at(n) + 6 * n.O
+}
+
+// The bytes that counts ask, as a true sum.
+pub fn bytes_asked(n: Counts) -> usize
+    requires { ⌜ Within n ⌝ }
+    ensures { λ r. ⌜ r ≡ cardBytes n ⌝ }
+{
+    gates_at(n) + 10 * n.A
 }

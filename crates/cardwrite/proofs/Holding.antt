@@ -1,6 +1,6 @@
 -- 19 over given tables, and the writer's answer by the checks before it.
-use Prim.Native.Nat.{ℕ, suc, _+_, _-_, _*_, _^_, _<_, _≤_, min}
-use mathlib.Core.Path.{_≡_, refl, sym, ap, ap₂, _∙_}
+use Prim.Native.Nat.{ℕ, suc, _+_, _-_, _^_, _<_, _≤_, min}
+use mathlib.Core.Path.{_≡_, sym, ap, ap₂, _∙_}
 use mathlib.Core.Bool.{Bool, true, false, _&&_}
 use mathlib.Core.Option.{Option, none, some}
 use mathlib.Core.List.{List, [], _∷_, _++_}
@@ -15,7 +15,7 @@ use Rattle.plan.specs.declared.Refusal.{Refusal}
 use Rattle.plan.specs.declared.Refusal.the-variants.{NotOnCards, ShortBuffer}
 use Rattle.plan.specs.declared.Written.the-variants.{Bytes, Refused}
 use Rattle.plan.specs.Refusals.{firstOf, stage}
-use Rattle.plan.specs.Circuit.{Circuit, countsOf}
+use Rattle.plan.specs.Circuit.{countsOf}
 use Rattle.plan.specs.Given.{Given, given, failing, lentAlone, stages, orderStage, tailStage, roomStage}
 use Rattle.plan.specs.Outcome.{WriteExit, put, putBytes}
 use Rattle.theorems.proofs.Put.{with-room, without-room}
@@ -24,6 +24,7 @@ use Rattle.theorems.proofs.Writing.Fine.{counts-held}
 use Rattle.tables.specs.Held.{Fits}
 use Rattle.write.specs.Judged.{writerStages}
 use Rattle.plan.specs.Cards.{allZero, holdable, headCard, cardsOf, cardBytes, cardStage}
+use Rattle.cards.specs.Within.{Within}
 use Rattle.cardput.specs.Parts.{latchCards, outputCards, gatesCards, tableCards, Cardable}
 use Rattle.cardput.proofs.Putting.{latches-size, outputs-size, gates-size}
 use Rattle.cardwrite.specs.Held.{holdableIn}
@@ -130,6 +131,16 @@ module _ (g : Given) (tail out bytes : List ℕ) where
   past-nineteen e h =
       both-first before last e
       ∙ (ap (λ (b : Bool). firstOf (stage NotOnCards (failing b) ∷ roomStage out bytes ∷ [])) h ∙ one-stage (roomStage out bytes))
+
+-- counts within the limits, in 32 bits
+pub within : {n : Counts} {latches outputs gates : List ℕ} → Cardable n latches outputs gates → Within n
+within k = record {
+  small-M = omega (arith, k .most-M);
+  small-I = omega (arith, k .most-I);
+  small-L = omega (arith, k .most-L);
+  small-O = omega (arith, k .most-O);
+  small-A = omega (arith, k .most-A);
+}
 
 -- how many bytes the cards of tables have
 module _ (n : Counts) (latches outputs gates : List ℕ) (k : Cardable n latches outputs gates) where

@@ -8,6 +8,7 @@ ghost use Rattle.plan.specs.Cards.{allZero, writeCards};
 ghost use Rattle.cardput.specs.Parts.{tableCards, Cardable};
 ghost use Rattle.cardwrite.specs.Held.{holdableIn};
 use cardput::fill_cards;
+use cards::bytes_asked;
 use plan::Checked;
 use plan::Counts;
 use plan::Refusal;
@@ -52,7 +53,7 @@ fn put_cards(n: Counts, latches: &[u32], outputs: &[u32], gates: &[u32], out: &m
     ensures { λ r. ⌜ record { answer = r; out = now (out .exit) } ≡ putBytes (now (out .entry)) 0
         (tableCards n (now (latches .entry)) (now (outputs .entry)) (now (gates .entry))) ⌝ }
 {
-    let size = 22 + 6 * n.L + 6 * n.O + 10 * n.A;
+    let size = bytes_asked(n);
     if !room::holds(out.len(), 0, size) {
         return Written::Refused(Refusal::ShortBuffer(size));
     }

@@ -1,14 +1,21 @@
 -- Each table in turn; next states are spread to latches.
 use borrow.Author.Needs.{needs}
-use Prim.Native.Nat.{_+_}
-use mathlib.Core.Path.{_∙_}
+use Prim.Native.Nat.{ℕ, _+_}
+use mathlib.Core.Path.{ap, _∙_}
+use mathlib.Core.List.{map}
 use native.Mathlib.Omega.{arith}
 use lib.ListN.{drop}
-use Rattle.plan.specs.Cards.{wordsIn}
+use Rattle.plan.specs.Circuit.{flat, gateLine}
+use Rattle.plan.specs.Outcome.{put}
+use Rattle.plan.specs.Cards.{wordsIn, gatesIn}
 use Rattle.decks.proofs.Records.{length-words-in}
-use Rattle.cardfill.proofs.Spreading.{latches-spread}
+use Rattle.cardfill.proofs.Spreading.{within, latches-spread}
 use Rattle.cardfill.proofs.fill.Statement.{statement}
 use Rattle.cardfill.proofs.fill.Tie as tie
+
+-- the start, from the first table that is filled
+abbrev start : tie.After-slice-known5 → tie.Start
+start d = d .before .before .before .before .before .before .before .before .before
 
 run-on-requires : tie.Need-run-on-requires
 run-on-requires c κs = search needs
@@ -25,55 +32,34 @@ cast-spread c = search needs
 spread-requires : tie.Need-spread-requires
 spread-requires c κs = search needs
 
-mul-fill-words : tie.Need-mul-fill-words
-mul-fill-words c = search needs
-
-add-fill-words : tie.Need-add-fill-words
-add-fill-words c = search needs
+outputs-at-requires : tie.Need-outputs-at-requires
+outputs-at-requires c κs = within (start (c .before .before .before .before .before .before .before .before .before) .pre)
 
 fill-words-requires-2 : tie.Need-fill-words-requires-2
 fill-words-requires-2 c κs = search needs
 
-mul-fill-gates : tie.Need-mul-fill-gates
-mul-fill-gates c =
-    let p = c .before .before .before .before .before .before .before .before .before .before .before .before .before .before .before .before .before .before .before .before .before .before .before .before .pre in omega (arith, p .most-M, p .most-O, p .sum)
+gates-at-requires : tie.Need-gates-at-requires
+gates-at-requires c κs = within (start (c .before .before .before .before .before .before .before .before .before .before .before .before .before .before) .pre)
 
 add-fill-gates : tie.Need-add-fill-gates
-add-fill-gates c =
-    let p = c .before .before .before .before .before .before .before .before .before .before .before .before .before .before .before .before .before .before .before .before .before .before .before .before .pre in omega (arith, p .most-M, p .most-O, p .sum)
-
-mul-fill-gates-2 : tie.Need-mul-fill-gates-2
-mul-fill-gates-2 c =
-    let p = c .before .before .before .before .before .before .before .before .before .before .before .before .before .before .before .before .before .before .before .before .before .before .before .before .before .pre in omega (arith, p .most-M, p .most-O, p .sum)
+add-fill-gates c = let p = start (c .before .before .before .before .before .before .before .before .before .before .before .before .before .before .before .before) .pre in omega (arith, p .most-M, p .sum)
 
 add-fill-gates-2 : tie.Need-add-fill-gates-2
-add-fill-gates-2 c =
-    let p = c .before .before .before .before .before .before .before .before .before .before .before .before .before .before .before .before .before .before .before .before .before .before .before .before .before .pre in omega (arith, p .most-M, p .most-O, p .sum)
-
-add-fill-gates-3 : tie.Need-add-fill-gates-3
-add-fill-gates-3 c =
-    let p = c .before .before .before .before .before .before .before .before .before .before .before .before .before .before .before .before .before .before .before .before .before .before .before .before .before .before .pre in omega (arith, p .most-M, p .most-O, p .sum)
-
-add-fill-gates-4 : tie.Need-add-fill-gates-4
-add-fill-gates-4 c =
-    let p = c .before .before .before .before .before .before .before .before .before .before .before .before .before .before .before .before .before .before .before .before .before .before .before .before .before .before .before .pre in omega (arith, p .most-M, p .most-O, p .sum)
+add-fill-gates-2 c = let p = start (c .before .before .before .before .before .before .before .before .before .before .before .before .before .before .before .before .before) .pre in omega (arith, p .most-M, p .sum)
 
 cast-fill-gates : tie.Need-cast-fill-gates
-cast-fill-gates c =
-    let p = c .before .before .before .before .before .before .before .before .before .before .before .before .before .before .before .before .before .before .before .before .before .before .before .before .before .before .before .pre in omega (arith, p .most-M, p .most-O, p .sum)
+cast-fill-gates c = let p = start (c .before .before .before .before .before .before .before .before .before .before .before .before .before .before .before .before .before) .pre in omega (arith, p .most-M, p .sum)
 
 fill-gates-requires : tie.Need-fill-gates-requires
 fill-gates-requires c κs =
-    let p = c .before .before .before .before .before .before .before .before .before .before .before .before .before .before .before .before .before .before .before .before .before .before .before .before .before .before .before .before .pre in
-    (omega (arith, p .size), (p .gates-long, omega (arith, p .most-M, p .sum)))
+    let p = start (c .before .before .before .before .before .before .before .before .before .before .before .before .before .before .before .before .before .before) .pre in
+    (omega (arith, p .size, c .before .before .before .gates-at .ensures), (p .gates-long, omega (arith, p .most-M, p .sum)))
 
 same-length : tie.Need-same-length
-same-length c =
-    c .before .before .before .before .before .before .before .before .before .before .before .before .before .before .before .before .before .before .before .before .before .before .before .inputs .given
+same-length c = c .before .before .before .before .before .before .before .before .before .before .before .before .before .before .before .before .before .before .before .before .before .before .inputs .given
 
 same-length-2 : tie.Need-same-length-2
-same-length-2 c =
-    c .before .before .before .before .before .before .before .before .before .before .before .before .before .before .latches2 .given ∙ c .before .before .before .before .before .before .before .before .before .before .before .before .before .before .before .before .before .before .before .latches .given
+same-length-2 c = c .before .before .before .before .before .before .before .before .before .before .before .before .before .latches2 .given ∙ c .before .before .before .before .before .before .before .before .before .before .before .before .before .before .before .before .before .before .latches .given
 
 same-length-3 : tie.Need-same-length-3
 same-length-3 c = search needs
@@ -83,14 +69,19 @@ same-length-4 c = search needs
 
 returns : tie.Need-returns
 returns c =
-    let a = c .before .before .before .before .before .before .before .before .before .before .before .before .before .before .before .before .before .before .before .before .before .before .before .before .before .before .before .before .before .before .before .args in
+    let f = c .before .before in
+    let o = f .before .before .before .before .before .before .before in
+    let l = o .before .before .before .before .before .before .before .before .before .before in
+    let a = start (l .before .before) .args in
     record {
-      inputs-held = c .before .before .before .before .before .before .before .before .before .before .before .before .before .before .before .before .before .before .before .before .before .before .before .before .run-on .ensures;
-      latches-held =
-          latches-spread (a .latches .now) _ _ (wordsIn (a .n .L) (drop 22 (a .file .now))) (1 + a .n .I) (a .n .L) (c .before .before .before .before .before .before .before .before .before .before .before .before .before .before .before .before .before .before .before .before .fill-words .ensures) (length-words-in (a .n .L) (drop 22 (a .file .now)))
-          (c .before .before .before .before .before .before .before .before .before .before .before .before .before .before .before .spread .ensures);
-      outputs-held = c .before .before .before .before .before .before .before .before .before .before .fill-words2 .ensures;
-      gates-held = c .before .before .fill-gates .ensures;
+      inputs-held = l .before .before .before .before .run-on .ensures;
+      latches-held = latches-spread (a .latches .now) _ _ (wordsIn (a .n .L) (drop 22 (a .file .now))) (1 + a .n .I) (a .n .L) (l .fill-words .ensures)
+          (length-words-in (a .n .L) (drop 22 (a .file .now))) (o .before .before .before .before .before .spread .ensures);
+      outputs-held = o .fill-words2 .ensures
+          ∙ ap (λ (at : ℕ). put (a .outputs .now) 0 (wordsIn (a .n .O) (drop at (a .file .now)))) (o .before .before .outputs-at .ensures);
+      gates-held = f .fill-gates .ensures
+          ∙ ap (λ (at : ℕ). put (a .gates .now) 0 (flat (map gateLine (gatesIn (1 + a .n .I + a .n .L) (a .n .A) (drop at (a .file .now))))))
+          (f .before .before .before .before .gates-at .ensures);
     }
 
 pub fill-spec : {M : Type 1} → statement M
@@ -102,15 +93,11 @@ fill-spec =
     add-spread
     cast-spread
     spread-requires
-    mul-fill-words
-    add-fill-words
+    outputs-at-requires
     fill-words-requires-2
-    mul-fill-gates
+    gates-at-requires
     add-fill-gates
-    mul-fill-gates-2
     add-fill-gates-2
-    add-fill-gates-3
-    add-fill-gates-4
     cast-fill-gates
     fill-gates-requires
     same-length

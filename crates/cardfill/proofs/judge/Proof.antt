@@ -1,12 +1,11 @@
 -- 5, then 15.
-use mathlib.Core.Path.{_≡_, sym, _∙_}
+use mathlib.Core.Path.{sym, _∙_}
 use borrow.Author.Tests.{not-true, not-false}
 use Rattle.tables.specs.Held.{circuitIn}
 use Rattle.plan.specs.Circuit.{Circuit}
 use Rattle.tables.proofs.Told.{some-table, no-table}
 use Rattle.given.proofs.Judging.{long-tables}
 use Rattle.cardfill.proofs.Judged.{at-five, at-fifteen, good}
-use borrow.Author.Needs.{needs}
 use Rattle.cardfill.proofs.judge.Statement.{statement}
 use Rattle.cardfill.proofs.judge.Tie as tie
 

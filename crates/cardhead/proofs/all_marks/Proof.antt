@@ -1,7 +1,8 @@
 -- The first of the four parts that has a wrong mark.
 use borrow.Author.Needs.{needs}
 use mathlib.Core.Path.{sym, _∙_}
-use Rattle.cardhead.proofs.Told.{in-head, in-latches, in-outputs, in-gates}
+use Rattle.plan.specs.Cards.{outputsAt, gatesAt}
+use Rattle.cardhead.proofs.Told.{part-told, in-head, in-latches, in-outputs, in-gates}
 use Rattle.cardhead.proofs.all_marks.Statement.{statement}
 use Rattle.cardhead.proofs.all_marks.Tie as tie
 
@@ -38,11 +39,8 @@ returns-2 c =
 enum-told-2 : tie.Need-enum-told-2
 enum-told-2 c = search needs
 
-mul-check-marks : tie.Need-mul-check-marks
-mul-check-marks c = search needs
-
-add-check-marks : tie.Need-add-check-marks
-add-check-marks c = search needs
+outputs-at-requires : tie.Need-outputs-at-requires
+outputs-at-requires c κs = search needs
 
 check-marks-requires-3 : tie.Need-check-marks-requires-3
 check-marks-requires-3 c κs = search needs
@@ -59,38 +57,31 @@ returns-3 c =
     let k = h .before .before in
     let a = k .before .before .args in
     in-outputs (a .file .now) (a .n) (sym (k .check-marks .ensures) ∙ h .enum-told .given .1)
-    (sym (g .check-marks2 .ensures) ∙ e .enum-told2 .given .1) _ (sym (d .check-marks3 .ensures) ∙ c .before .outputs .given .1)
+    (sym (g .check-marks2 .ensures) ∙ e .enum-told2 .given .1) _
+    (part-told (a .file .now) 79 6 (a .n .O) _ (outputsAt (a .n)) (d .before .outputs-at .ensures) _ (d .check-marks3 .ensures) ∙ c .before .outputs .given .1)
 
 enum-told-3 : tie.Need-enum-told-3
 enum-told-3 c = search needs
 
-mul-check-marks-2 : tie.Need-mul-check-marks-2
-mul-check-marks-2 c = search needs
-
-add-check-marks-2 : tie.Need-add-check-marks-2
-add-check-marks-2 c = search needs
-
-mul-check-marks-3 : tie.Need-mul-check-marks-3
-mul-check-marks-3 c = search needs
-
-add-check-marks-3 : tie.Need-add-check-marks-3
-add-check-marks-3 c = search needs
+gates-at-requires : tie.Need-gates-at-requires
+gates-at-requires c κs = search needs
 
 check-marks-requires-4 : tie.Need-check-marks-requires-4
 check-marks-requires-4 c κs = search needs
 
 returns-4 : tie.Need-returns-4
 returns-4 c =
-    let f = c .before .before .before in
+    let f = c .before .before in
     let d = f .before .before in
     let e = d .before .before in
     let g = e .before .before in
     let h = g .before in
     let k = h .before .before in
     let a = k .before .before .args in
-    c .check-marks4 .ensures
+    sym (part-told (a .file .now) 65 10 (a .n .A) _ (gatesAt (a .n)) (c .before .gates-at .ensures) _ (c .check-marks4 .ensures))
     ∙ in-gates (a .file .now) (a .n) (sym (k .check-marks .ensures) ∙ h .enum-told .given .1)
-    (sym (g .check-marks2 .ensures) ∙ e .enum-told2 .given .1) (sym (d .check-marks3 .ensures) ∙ f .enum-told3 .given .1)
+    (sym (g .check-marks2 .ensures) ∙ e .enum-told2 .given .1)
+    (part-told (a .file .now) 79 6 (a .n .O) _ (outputsAt (a .n)) (d .before .outputs-at .ensures) _ (d .check-marks3 .ensures) ∙ f .enum-told3 .given .1)
 
 pub all-marks-spec : {M : Type 1} → statement M
 all-marks-spec =
@@ -104,15 +95,11 @@ all-marks-spec =
     enum-known-latches
     returns-2
     enum-told-2
-    mul-check-marks
-    add-check-marks
+    outputs-at-requires
     check-marks-requires-3
     enum-known-outputs
     returns-3
     enum-told-3
-    mul-check-marks-2
-    add-check-marks-2
-    mul-check-marks-3
-    add-check-marks-3
+    gates-at-requires
     check-marks-requires-4
     returns-4)

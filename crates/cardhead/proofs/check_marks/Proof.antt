@@ -1,12 +1,11 @@
 -- A turn passes one mark.
 use borrow.Author.Needs.{needs}
-use Prim.Native.Nat.{_+_, _*_, _-_}
-use mathlib.Core.Path.{_≡_, refl, sym, ap, _∙_}
+use mathlib.Core.Path.{_≡_, refl, ap, _∙_}
 use native.Mathlib.Omega.{arith}
 use borrow.Author.Tests.{not-true, not-false}
 use Rattle.plan.specs.declared.Refusal.the-variants.{WrongMark}
 use Rattle.plan.specs.Cards.{wrongIn}
-use lib.ListN.{length, drop}
+use lib.ListN.{drop}
 use Rattle.cardhead.proofs.Told.{found, nothing}
 use Rattle.cardhead.proofs.Marking.{Marking, in-room, mark-wrong, mark-fine}
 use Rattle.cardhead.proofs.check_marks.Statement.{statement}

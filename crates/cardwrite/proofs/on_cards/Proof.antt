@@ -1,5 +1,4 @@
 -- The first thing that cards can't hold.
-use borrow.Author.Needs.{needs}
 use borrow.Author.Tests.{not-true, not-false}
 use Rattle.cardwrite.proofs.Holding.{has-tail, has-reset, has-bad, constraints-decide}
 use Rattle.cardwrite.proofs.on_cards.Statement.{statement}

@@ -1,44 +1,36 @@
 -- The length needed, or the cards.
 use borrow.Author.Needs.{needs}
-use mathlib.Core.Path.{refl}
 use borrow.Author.Tests.{not-true, not-false}
-use Rattle.cardwrite.proofs.Holding.{no-room, enough, with-cards}
+use Rattle.cardwrite.proofs.Holding.{within, no-room, enough, with-cards}
 use Rattle.cardwrite.proofs.put_cards.Statement.{statement}
 use Rattle.cardwrite.proofs.put_cards.Tie as tie
 
-mul-size : tie.Need-mul-size
-mul-size c = search needs
+-- the start, from where the length is known
+abbrev start : tie.After-bytes-asked → tie.Start
+start d = d .before .before .before .before .before
 
-add-size : tie.Need-add-size
-add-size c = search needs
-
-mul-size-2 : tie.Need-mul-size-2
-mul-size-2 c = search needs
-
-add-size-2 : tie.Need-add-size-2
-add-size-2 c = search needs
-
-mul-size-3 : tie.Need-mul-size-3
-mul-size-3 c = search needs
-
-add-size-3 : tie.Need-add-size-3
-add-size-3 c = search needs
+bytes-asked-requires : tie.Need-bytes-asked-requires
+bytes-asked-requires c κs = within (c .before .before .before .before .pre)
 
 holds-requires : tie.Need-holds-requires
 holds-requires c κs = search needs
 
 returns : tie.Need-returns
 returns c =
-    let s = c .before .before .before .before .before .before .before .before .before in
+    let d = c .before .before in
+    let s = start d in
     let a = s .args in
-    no-room (a .n) (a .latches .now) (a .outputs .now) (a .gates .now) (s .pre) (a .out .now) _ refl _ (c .before .holds .ensures) (not-true _ (c .if1 .taken))
+    no-room (a .n) (a .latches .now) (a .outputs .now) (a .gates .now) (s .pre) (a .out .now) _ (d .bytes-asked .ensures) _ (c .before .holds .ensures)
+    (not-true _ (c .if1 .taken))
 
 fill-cards-requires : tie.Need-fill-cards-requires
 fill-cards-requires c κs =
-    let s = c .before .before .before .before .before .before .before .before .before .before in
+    let d = c .before .before .before in
+    let s = start d in
     let a = s .args in (
       s .pre,
-      enough (a .n) (a .latches .now) (a .outputs .now) (a .gates .now) (s .pre) (a .out .now) _ refl _ (c .before .before .holds .ensures) (not-false _ (c .before .if1 .left)),
+      enough (a .n) (a .latches .now) (a .outputs .now) (a .gates .now) (s .pre) (a .out .now) _ (d .bytes-asked .ensures) _ (c .before .before .holds .ensures)
+          (not-false _ (c .before .if1 .left)),
     )
 
 same-length : tie.Need-same-length
@@ -46,22 +38,21 @@ same-length c = search needs
 
 returns-2 : tie.Need-returns-2
 returns-2 c =
-    let s = c .before .before .before .before .before .before .before .before .before .before .before .before .before in
+    let f = c .before .before in
+    let h = f .before .before .before in
+    let d = h .before in
+    let s = start d in
     let a = s .args in
     with-cards (a .n) (a .latches .now) (a .outputs .now) (a .gates .now) (s .pre) (a .out .now) _ _
-    (enough (a .n) (a .latches .now) (a .outputs .now) (a .gates .now) (s .pre) (a .out .now) _ refl _ (c .before .before .before .before .before .holds .ensures) (not-false _ (c .before .before .before .before .if1 .left)))
-    (c .before .before .fill-cards .ensures .0) (c .before .before .fill-cards .ensures .1)
+    (enough (a .n) (a .latches .now) (a .outputs .now) (a .gates .now) (s .pre) (a .out .now) _ (d .bytes-asked .ensures) _ (h .holds .ensures)
+    (not-false _ (f .before .before .if1 .left)))
+    (f .fill-cards .ensures .0) (f .fill-cards .ensures .1)
 
 pub put-cards-spec : {M : Type 1} → statement M
 put-cards-spec =
     tie.close
     (tie.spec
-    mul-size
-    add-size
-    mul-size-2
-    add-size-2
-    mul-size-3
-    add-size-3
+    bytes-asked-requires
     holds-requires
     returns
     fill-cards-requires

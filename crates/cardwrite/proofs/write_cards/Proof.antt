@@ -1,13 +1,8 @@
 -- A refusal before 19, 19, or what is put.
 use borrow.Author.Needs.{needs}
-use Prim.Native.Nat.{ℕ}
-use mathlib.Core.Path.{_≡_, sym, ap, _∙_}
-use mathlib.Core.Bool.{true, _&&_}
-use mathlib.Core.Option.{none}
-use mathlib.Core.List.{List}
+use mathlib.Core.Path.{sym, ap, _∙_}
+use mathlib.Core.Bool.{true}
 use borrow.Author.Tests.{not-true, not-false}
-use lib.Dec.{eqb}
-use lib.ListN.{length}
 use Rattle.plan.specs.Refusals.{firstOf}
 use Rattle.plan.specs.Given.{Given, given}
 use Rattle.plan.specs.Outcome.{FileEntry, putBytes}
@@ -15,7 +10,7 @@ use Rattle.given.proofs.Sound.{good-none, refused-some}
 use Rattle.write.specs.Judged.{givenIn, writerStages}
 use Rattle.write.proofs.Judging.{good-judged}
 use Rattle.write.proofs.Writing.{refused-file, written-file}
-use Rattle.plan.specs.Cards.{cardsOf, holdable}
+use Rattle.plan.specs.Cards.{cardsOf}
 use Rattle.cardwrite.proofs.Holding.{held-same, cards-same, cardable, refused-first, at-nineteen, past-nineteen}
 use Rattle.cardwrite.proofs.write_cards.Statement.{statement}
 use Rattle.cardwrite.proofs.write_cards.Tie as tie
