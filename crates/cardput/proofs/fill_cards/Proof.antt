@@ -1,10 +1,9 @@
 -- The head, then the three parts, each after the one before.
 use borrow.Author.Needs.{needs}
 use mathlib.Core.Path.{_≡_, ap, _∙_}
-use mathlib.Core.List.{List, _++_, append-assoc}
-use Prim.Native.Nat.{ℕ, _+_, _≤_}
+use mathlib.Core.List.{_++_, append-assoc}
 use native.Mathlib.Omega.{arith}
-use lib.ListN.{length, length-append}
+use lib.ListN.{length-append}
 use Rattle.plan.specs.Outcome.{put}
 use Rattle.plan.specs.Cards.{headCard}
 use Rattle.cardput.specs.Parts.{latchCards, outputCards, gatesCards}

@@ -1,5 +1,4 @@
 -- The mark, then the number.
-use mathlib.Core.Path.{_∙_}
 use native.Mathlib.Omega.{arith}
 use Rattle.plan.specs.Cards.{markBytes, wordBytes}
 use Rattle.cardput.proofs.Putting.{two-parts}

@@ -1,5 +1,4 @@
 -- The mark and M, then one number after the other.
-use mathlib.Core.Path.{_∙_}
 use mathlib.Core.List.{_++_}
 use native.Mathlib.Omega.{arith}
 use Rattle.plan.specs.Cards.{markBytes, wordBytes}

@@ -1,10 +1,10 @@
 -- A turn puts one record.
 use borrow.Author.Needs.{needs}
-use Prim.Native.Nat.{ℕ, _+_, _-_, _*_}
-use mathlib.Core.Path.{refl, sym, _∙_}
+use Prim.Native.Nat.{ℕ, _+_, _-_}
+use mathlib.Core.Path.{refl}
 use mathlib.Core.List.{_++_}
 use native.Mathlib.Omega.{arith}
-use lib.ListN.{getD, length-append}
+use lib.ListN.{getD}
 use Rattle.plan.specs.Cards.{markBytes, wordBytes}
 use Rattle.cardput.specs.Parts.{outputCards}
 use Rattle.cardput.proofs.Putting.{Put, none-put, one-put, all-put, outputs-more, outputs-size}

@@ -1,6 +1,6 @@
 -- Cleared, filled, and cleared again after a refusal.
 use borrow.Author.Needs.{needs}
-use mathlib.Core.Path.{_≡_, ap, _∙_}
+use mathlib.Core.Path.{ap, _∙_}
 use Rattle.plan.specs.Circuit.{Tables, seven}
 use Rattle.plan.specs.Outcome.{ReadEntry}
 use Rattle.read.proofs.Loads.{all-same}
