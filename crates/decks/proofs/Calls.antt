@@ -8,30 +8,27 @@ use mathlib.Core.List.{List, [], _∷_, _++_}
 use native.Mathlib.Omega.{arith}
 use borrow.Author.Tests.{eqb-true}
 use lib.Dec.{eqb}
-use lib.ListN.{length, length-replicate}
+use lib.ListN.{length}
 use Rattle.plan.specs.declared.Version.the-variants.{V19}
 use Rattle.plan.specs.declared.Counts.{Counts}
 use Rattle.plan.specs.declared.Refusal.{Refusal}
 use Rattle.plan.specs.declared.Refusal.the-variants.{NotInOrder, NotOnCards}
 use Rattle.plan.specs.declared.Loaded.the-variants as loaded
 use Rattle.plan.specs.Refusals.{Parse, got, refused, firstOf}
-use Rattle.plan.specs.Circuit.{Circuit, Tables, countsOf, circuitOf, lengthsOf, wordsToWork, against, short, holding, cleared}
+use Rattle.plan.specs.Circuit.{Circuit, Tables, countsOf, circuitOf, lengthsOf, holding, cleared}
 use Rattle.plan.specs.Header.{Head, binary, header}
 use Rattle.plan.specs.Binary.{binaryOf, binaryOrder}
-use Rattle.plan.specs.Reading.{WellFormed, States, Shortest, Room}
+use Rattle.plan.specs.Reading.{States, Shortest}
 use Rattle.plan.specs.Given.{Given, given, lentAlone, failing, stages, orderStage, tailStage, roomStage}
 use Rattle.plan.specs.Outcome.{ReadEntry, loadBy, load, writeBinary}
 use Rattle.plan.specs.Cards.{cardsOf, holdable, CardStates, readCards, loadCards, cardStage, writeCards}
 use Rattle.theorems.proofs.Reading.Common.{and-left, and-right}
 use Rattle.theorems.proofs.Reading.Differences.{Bytes}
 use Rattle.theorems.proofs.Reading.Exactly.{unique}
-use Rattle.theorems.proofs.Reading.Short.{short-none}
-use Rattle.theorems.proofs.Running.Resets.{resets-length}
 use Rattle.theorems.proofs.Writing.Nothing.{stage-none, failing-none, first-all, first-both}
-use Rattle.theorems.proofs.Writing.Fine.{nothing-fine, fine-nothing}
-use Rattle.theorems.proofs.Writing.Holding.{Enough, holding-circuit, holding-lengths, formed-fine}
+use Rattle.theorems.proofs.Writing.Fine.{nothing-fine}
 use Rattle.theorems.proofs.Writing.Written.{wrote, binary-bytes, binary-states}
-use Rattle.theorems.proofs.Writing.Later.{Left, load-left}
+use Rattle.theorems.proofs.Writing.Later.{Left, left, load-left}
 use Rattle.theorems.proofs.Writing.ThereAndBack.{binary-shortest}
 use Rattle.theorems.proofs.Writing.Calls.{ReadCall, WriteCall, readCircuit, readTail, fileOf, read-states}
 use Rattle.decks.proofs.Exactly.{empty-list, cards-formed, cards-state, cards-room, cards-unique}
@@ -51,27 +48,6 @@ cardCircuit k = circuitOf (k .counts) (loadCards (k .entry) .tables)
 abbrev pub Handed : Given → Counts → Tables → Type 0
 Handed g n t = (g .counts ≡ n) × (given g ≡ circuitOf n t)
 
--- the tables that hold a circuit are as long as they were
-room-after : (c : Circuit) (t : Tables) (scratch : List ℕ) → WellFormed c → Room c (lengthsOf t scratch) → Room c (lengthsOf (holding t c) (cleared scratch))
-room-after c t scratch w room =
-    let l = short-none (against 1 (wordsToWork (countsOf c)) (lengthsOf t scratch)) .0 room in
-    let enough : Enough c t = record {
-      inputs = l .0;
-      latches = l .1 .0;
-      outputs = l .1 .1 .0;
-      gates = l .1 .1 .1 .0;
-      resets = omega (arith, l .1 .1 .1 .1 .1 .1 .0, resets-length (c .latches) (c .resets) (w .resets));
-      bads = l .1 .1 .1 .1 .1 .1 .1 .0;
-      constraints = l .1 .1 .1 .1 .1 .1 .1 .1 .0;
-    } in
-    ap (λ (x : List ℕ). short (against 1 (wordsToWork (countsOf c)) x))
-    (holding-lengths t c (cleared scratch) enough ∙ same-length (length-replicate {A = ℕ} (length scratch) 0))
-    ∙ room
-  where
-    same-length : length (cleared scratch) ≡ length scratch → lengthsOf t (cleared scratch) ≡ lengthsOf t scratch
-    same-length e = λ i. length (t .inputs) ∷ length (t .latches) ∷ length (t .outputs) ∷ length (t .gates) ∷ e i ∷ 0
-        ∷ length (t .resets) ∷ length (t .bads) ∷ length (t .constraints) ∷ []
-
 -- what a read of cards leaves every later call accepts, and it is what they state
 pub cards-left : (e : ReadEntry) (n : Counts) (end : ℕ) → loadCards e .answer ≡ loaded.Accepted n end
     → (c : Circuit) × (readCards (e .file) (lengthsOf (e .tables) (e .scratch)) ≡ got c end)
@@ -82,16 +58,12 @@ cards-left e n end a = go (readCards (e .file) (lengthsOf (e .tables) (e .scratc
         → (c : Circuit) × (p ≡ got c end) × Left (record { counts = n; tables = loadBy e p .tables; scratch = loadBy e p .scratch }) c
     go (got c s) q a =
         let lengths = lengthsOf (e .tables) (e .scratch) in
-        let f = cards-formed (e .file) lengths c s q in
-        let holds = holding-circuit (e .tables) c f in
-        let after : Given = record { counts = countsOf c; tables = holding (e .tables) c; scratch = cleared (e .scratch) } in
-        let room = room-after c (e .tables) (e .scratch) f (cards-room (e .file) lengths c s q) in
+        let after = left c (e .tables) (e .scratch) (cards-formed (e .file) lengths c s q) (cards-room (e .file) lengths c s q) in
         let n-is : countsOf c ≡ n = cc in
         let s-is : s ≡ end = cc in (
           c,
           ap (got c) s-is,
-          subst (λ (m : Counts). Left (record { counts = m; tables = holding (e .tables) c; scratch = cleared (e .scratch) }) c) n-is
-              (record { holds = holds; counts = refl; fine = fine-nothing after (lentAlone after) (formed-fine after (lentAlone after) c holds refl f room) }),
+          subst (λ (m : Counts). Left (record { counts = m; tables = holding (e .tables) c; scratch = cleared (e .scratch) }) c) n-is after,
         )
     go (refused r) q a = let z : _≡_ {A = ℕ} 0 1 = cc in absurd (omega arith)
 

@@ -23,10 +23,9 @@ use Rattle.theorems.proofs.Reading.Common.{then-got, got-value, unless-got, con
 use Rattle.theorems.proofs.Reading.Differences.{Bytes}
 use Rattle.theorems.proofs.Reading.Exactly.{unique}
 use Rattle.theorems.proofs.Reading.Shortest.{states-binary}
-use Rattle.plan.specs.Cards.{cardsOf, CardStates, readCards, readToCard, CardEntry, movedBy, fileWhole, cardWhole}
+use Rattle.plan.specs.Cards.{cardsOf, CardStates, readCards, readToCard, CardEntry, movedBy, fileWhole, cardWhole, filedCards, cardedFile}
 use Rattle.decks.proofs.Exactly.{cards-state, cards-unique}
 use Rattle.decks.proofs.Back.{no-tail, stated, card-read, binary-again}
-use Rattle.filing.specs.Moved.{filedCards, cardedFile}
 
 -- an answer in bytes: they are what was to be written, and stand first in the buffer
 wrote : (e : CardEntry) (p : Parse (List ℕ)) (n : ℕ) → movedBy e p .answer ≡ written.Bytes n

@@ -32,10 +32,9 @@ use Rattle.tables.specs.Lengths.{sizesOf}
 use Rattle.intake.specs.Opening.{OpenEntry, opening, opened}
 use Rattle.intake.specs.Parts.{toldBy}
 use Rattle.intake.proofs.Files.{after-input}
-use Rattle.plan.specs.Cards.{cardsOf, holdable, past, readCards, loadCards, cardStage, writeCards, CardEntry, CardExit, movedBy}
+use Rattle.plan.specs.Cards.{cardsOf, holdable, past, readCards, loadCards, cardStage, writeCards, CardEntry, CardExit, movedBy, cardedFile}
 use Rattle.decks.proofs.Exactly.{cards-order, all-cards}
 use Rattle.decks.proofs.Calls.{cards-left}
-use Rattle.filing.specs.Moved.{cardedFile}
 
 -- an input that can't be read, or is too long
 module _ (file out : List ℕ) (f : List ℕ → Parse (List ℕ)) (b : Bool) where

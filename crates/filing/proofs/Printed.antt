@@ -16,7 +16,7 @@ use Rattle.plan.specs.Circuit.{Circuit, lengthsOf}
 use Rattle.plan.specs.Binary.{binaryOf}
 use Rattle.plan.specs.Programs.{lentWords, lentBytes, refusalLine, printed, input, fitting}
 use Rattle.plan.specs.Whole.{fittingIn}
-use Rattle.plan.specs.Cards.{cardsOf, readCards, readToCard, CardEntry, movedBy, fileWhole, cardWhole, filer, carder}
+use Rattle.plan.specs.Cards.{cardsOf, readCards, readToCard, CardEntry, movedBy, fileWhole, cardWhole, filer, carder, filedCards, cardedFile}
 use Rattle.theorems.proofs.Put.{put-first}
 use Rattle.theorems.proofs.Reading.Differences.{Bytes}
 use Rattle.theorems.proofs.Reading.Exactly.{sound, formed}
@@ -24,7 +24,6 @@ use Rattle.intake.proofs.Bounds.{binary-most}
 use Rattle.intake.proofs.Printed.{fits-alike}
 use Rattle.decks.proofs.Exactly.{size-is, cards-state}
 use Rattle.decks.proofs.Back.{card-parts}
-use Rattle.filing.specs.Moved.{filedCards, cardedFile}
 
 -- what the programs lend, and an input of bytes
 pub record Lends (e : CardEntry) : Type 0 where

@@ -230,18 +230,25 @@ readToCard file lengths =
     past (failing (onCards c (drop start file))) NotOnCards then λ _ _.
     got c start
 
--- cards to binary AIGER, and AIGER to cards
-abbrev pub fileWhole : CardEntry → CardExit
-fileWhole e =
-    movedBy e (input (e .plan) λ file.
+-- cards to binary AIGER
+abbrev pub filedCards : CardEntry → Parse (List ℕ)
+filedCards e =
+    input (e .plan) λ file.
     readCards file (lengthsOf (e .tables) (e .scratch)) then λ c _.
-    fittingIn (e .out) (binaryOf c))
+    fittingIn (e .out) (binaryOf c)
+
+abbrev pub fileWhole : CardEntry → CardExit
+fileWhole e = movedBy e (filedCards e)
+
+-- AIGER to cards
+abbrev pub cardedFile : CardEntry → Parse (List ℕ)
+cardedFile e =
+    input (e .plan) λ file.
+    readToCard file (lengthsOf (e .tables) (e .scratch)) then λ c _.
+    fittingIn (e .out) (cardsOf c)
 
 abbrev pub cardWhole : CardEntry → CardExit
-cardWhole e =
-    movedBy e (input (e .plan) λ file.
-    readToCard file (lengthsOf (e .tables) (e .scratch)) then λ c _.
-    fittingIn (e .out) (cardsOf c))
+cardWhole e = movedBy e (cardedFile e)
 
 -- the programs
 abbrev pub filer : Option (List ℕ) → List ℕ

@@ -5,8 +5,7 @@ use Rattle.plan.specs.Circuit.{Tables, seven}
 use Rattle.plan.specs.Outcome.{WriteExit}
 use Rattle.plan.specs.Whole.{inputOf}
 use Rattle.read.proofs.Loads.{same-cleared, all-same}
-use Rattle.plan.specs.Cards.{CardEntry}
-use Rattle.filing.specs.Moved.{filedCards}
+use Rattle.plan.specs.Cards.{CardEntry, filedCards}
 use Rattle.filing.proofs.Moving.{all-zero}
 use Rattle.filing.proofs.file_whole.Statement.{statement}
 use Rattle.filing.proofs.file_whole.Tie as tie

@@ -72,7 +72,7 @@ module _ (c : Circuit) (t : Tables) (scratch : List ℕ) where
       same-length e = λ i. length (t .inputs) ∷ length (t .latches) ∷ length (t .outputs) ∷ length (t .gates) ∷ e i ∷ 0
           ∷ length (t .resets) ∷ length (t .bads) ∷ length (t .constraints) ∷ []
 
-  left : WellFormed c → Room c (lengthsOf t scratch) → Left after c
+  pub left : WellFormed c → Room c (lengthsOf t scratch) → Left after c
   left w room = record {
     holds = holding-circuit t c w;
     counts = refl;
