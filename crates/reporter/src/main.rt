@@ -1,7 +1,5 @@
 // Reports on the circuit of plan.in, converted, over the vectors of standard input, or writes the line of the refusal (the paper, the needle
 // report). 14, 13, the reader's refusals and 4 are decided by crate opening, 4 at table 6 here, those of standard input by crate stimulus.
-ghost use Prim.Native.Nat.{_≤_};
-ghost use lib.ListN.{length};
 use plan::Counts;
 use plan::Made;
 use plan::Refusal;
@@ -11,12 +9,9 @@ use plan::Traced;
 // The words of table 6.
 const SIX: usize = 16384;
 
-// The lines of a report: of as many needles as table 6 and `out` have room for, which are all.
+// The lines of a report.
 fn print_report(outputs: usize, latches: usize, six: &[u32], out: &mut [u8]) {
-    let rows = tables::lesser(six.len() / 4, out.len() / reporting::LINE);
-    let o = tables::lesser(outputs, rows);
-    let l = tables::lesser(latches, rows - o);
-    let size = reporting::put_report(o, l, six, out);
+    let size = reporting::put_report(outputs, latches, six, out);
     office::print(out, size);
 }
 
@@ -36,9 +31,7 @@ fn report_lines(
     packed: &mut [u8],
     six: &mut [u32],
     out: &mut [u8],
-)
-    requires { ⌜ length (now bytes) ≤ length (now packed) ⌝ }
-{
+) {
     let size = reporting::pack(bytes, packed);
     let answer = report::report(
         n,

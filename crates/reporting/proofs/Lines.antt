@@ -1,5 +1,5 @@
 -- A needle's line and the lines of n needles, put one after the other.
-use Prim.Native.Nat.{ℕ, suc, _+_, _*_, _≤_, _<_}
+use Prim.Native.Nat.{ℕ, suc, _+_, _*_, _-_, _≤_, _<_, min}
 use mathlib.Core.Path.{_≡_, refl, sym, ap, ap₂, _∙_}
 use mathlib.Core.List.{List, [], _∷_, _++_, append-assoc, append-nil}
 use native.Mathlib.Omega.{arith}
@@ -11,7 +11,8 @@ use Rattle.plan.specs.Outcome.{put}
 use Rattle.theorems.proofs.Put.{put-none, put-put, put-one, put-length}
 use Rattle.print.proofs.Sizes.{digits-ten}
 use Rattle.plan.specs.Report.{inTurn}
-use Rattle.plan.specs.Reporter.{needleLine}
+use Rattle.plan.specs.Reporter.{needleLine, needleLines}
+use Rattle.reporting.specs.Fitting.{rowsFor, fittingLines}
 
 -- after i of them
 pub record Lined (f : ℕ → List ℕ) (out₀ : List ℕ) (at i next : ℕ) (out : List ℕ) : Type 0 where
@@ -98,3 +99,11 @@ two-parts out out1 out2 a a′ b next r same e1 n e2 q room =
       omega arith,
       e2 ∙ (ap₂ (λ (x : List ℕ) (k : ℕ). put x k b) (e1 ∙ ap (put out 0) same) place ∙ put-put out 0 a b (omega arith)),
     )
+
+-- with room all lines are written
+pub all-fit : (outputs latches : ℕ) (six out : List ℕ) → 4 * (outputs + latches) ≤ length six → 66 * (outputs + latches) ≤ length out
+    → fittingLines outputs latches six out ≡ needleLines outputs latches six
+all-fit outputs latches six out words bytes =
+    let o : min outputs (rowsFor six out) ≡ outputs = omega arith in
+    let l : min latches (rowsFor six out - min outputs (rowsFor six out)) ≡ latches = omega arith in
+    ap₂ (λ (n m : ℕ). needleLines n m six) o l

@@ -1,16 +1,17 @@
 -- Lines without their ends: a byte more, and whole lines of one width.
-use Prim.Native.Nat.{ℕ, suc, _+_, _≤_, _<_}
+use Prim.Native.Nat.{ℕ, suc, _+_, _≤_, _<_, min}
 use mathlib.Core.Path.{_≡_, refl, sym, ap, ap₂, _∙_}
 use mathlib.Core.Bool.{Bool, true, false, cond}
 use mathlib.Core.List.{List, [], _∷_, _++_}
 use native.Mathlib.Numerals.{add-one}
 use native.Mathlib.Omega.{arith}
-use lib.Dec.{eqb}
+use borrow.Author.Tests.{leb-true, leb-false}
+use lib.Dec.{eqb, leb}
 use lib.ListN.{length, getD, take, length-append}
 use lib.Seq.{take-suc, take-all}
 use Rattle.plan.specs.Outcome.{put}
 use Rattle.theorems.proofs.Put.{put-none, put-put, put-length}
-use Rattle.reporting.specs.Packing.{packed}
+use Rattle.reporting.specs.Packing.{packed, packedInto}
 
 packed-both : (l m : List ℕ) → packed (l ++ m) ≡ packed l ++ packed m
 packed-both [] m = refl
@@ -28,6 +29,19 @@ packed-short (b ∷ l) = go (eqb b 10) (packed-short l)
     go true e = omega arith
     go false e = omega arith
 
+-- as many bytes as there are, and no more than k
+take-min : (l : List ℕ) (k : ℕ) → take (min (length l) k) l ≡ take k l
+take-min l k = go (leb (length l) k) refl
+  where
+    go : (t : Bool) → leb (length l) k ≡ t → take (min (length l) k) l ≡ take k l
+    go true e =
+        let h : length l ≤ k = leb-true (length l) k e in
+        take-all (min (length l) k) l (omega arith) ∙ sym (take-all k l h)
+    go false e =
+        let h : k < length l = leb-false (length l) k e in
+        let all : min (length l) k ≡ k = omega arith in
+        ap (λ (n : ℕ). take n l) all
+
 -- after i bytes
 pub record Packs (lines out₀ : List ℕ) (i n : ℕ) (out : List ℕ) : Type 0 where
   pub place : n ≡ length (packed (take i lines))
@@ -38,7 +52,7 @@ pub record Packs (lines out₀ : List ℕ) (i n : ℕ) (out : List ℕ) : Type 0
 pub packs-none : (lines out₀ : List ℕ) → Packs lines out₀ 0 0 out₀
 packs-none lines out₀ = record { place = refl; so-far = sym (put-none out₀ 0); few = omega arith; size = refl }
 
-module _ {lines out₀ : List ℕ} {i n : ℕ} {out : List ℕ} (p : Packs lines out₀ i n out) (h : i < length lines) (room : length lines ≤ length out₀) where
+module _ {lines out₀ : List ℕ} {i n : ℕ} {out : List ℕ} (p : Packs lines out₀ i n out) (h : i < length lines) (room : i < length out₀) where
   pub packs-more : (n′ : ℕ) (out′ : List ℕ) → n′ ≡ n + length (packed (getD lines i 0 ∷ [])) → out′ ≡ put out n (packed (getD lines i 0 ∷ []))
       → length out′ ≡ length out → Packs lines out₀ (i + 1) n′ out′
   packs-more n′ out′ e o same =
@@ -58,10 +72,15 @@ module _ {lines out₀ : List ℕ} {i n : ℕ} {out : List ℕ} (p : Packs lines
         size = same ∙ p .size;
       }
 
-pub packs-all : {lines out₀ : List ℕ} {i n : ℕ} {out : List ℕ} → Packs lines out₀ i n out → length lines ≤ i
-    → (n ≡ length (packed lines)) × (out ≡ put out₀ 0 (packed lines))
+pub packs-all : {lines out₀ : List ℕ} {i n : ℕ} {out : List ℕ} → Packs lines out₀ i n out → i ≡ min (length lines) (length out₀)
+    → (n ≡ length (packedInto out₀ lines)) × (out ≡ put out₀ 0 (packedInto out₀ lines))
 packs-all {lines} {out₀} {i} p h =
-    (p .place ∙ ap (λ (l : List ℕ). length (packed l)) (take-all i lines h), p .so-far ∙ ap (λ (l : List ℕ). put out₀ 0 (packed l)) (take-all i lines h))
+    let all : take i lines ≡ take (length out₀) lines = ap (λ (k : ℕ). take k lines) h ∙ take-min lines (length out₀) in
+    (p .place ∙ ap (λ (l : List ℕ). length (packed l)) all, p .so-far ∙ ap (λ (l : List ℕ). put out₀ 0 (packed l)) all)
+
+-- with room nothing is left off
+pub all-packed : (out lines : List ℕ) → length lines ≤ length out → packedInto out lines ≡ packed lines
+all-packed out lines h = ap packed (take-all (length out) lines h)
 
 pub kept-end : (b at : ℕ) (out : List ℕ) → eqb b 10 ≡ true → (at ≡ at + length (packed (b ∷ []))) × (out ≡ put out at (packed (b ∷ [])))
 kept-end b at out e =

@@ -5,12 +5,14 @@ ghost use Prim.Native.Nat.{_+_, _*_, _<_, _≤_};
 ghost use lib.ListN.{length, take, drop};
 ghost use Rattle.plan.specs.Outcome.{put};
 ghost use Rattle.plan.specs.Report.{inTurn};
-ghost use Rattle.plan.specs.Reporter.{needleLine, needleLines};
-ghost use Rattle.reporting.specs.Packing.{packed};
+ghost use Rattle.plan.specs.Reporter.{needleLine};
+ghost use Rattle.reporting.specs.Packing.{packed, packedInto};
+ghost use Rattle.reporting.specs.Fitting.{fittingLines};
 use print::write_lines;
+use tables::lesser;
 
-// The bytes that are enough for a line.
-pub const LINE: usize = 66;
+// The bytes that are enough for a line: a letter, 20 digits and a space, and four times ten digits and a byte.
+const LINE: usize = 66;
 
 // A needle's line from a position on: a letter with its number, and its four numbers. The position after it.
 fn put_needle(letter: u8, number: usize, row: &[u32], out: &mut [u8], at: usize) -> usize
@@ -47,15 +49,17 @@ fn put_needles(letter: u8, n: usize, six: &[u32], first: usize, out: &mut [u8], 
     next
 }
 
-// The lines of a report, the outputs' and then the latches', from the start of a buffer; how many bytes.
+// The lines of a report, the outputs' and then the latches', from the start of a buffer, of as many needles as table 6 and the buffer have room
+// for; how many bytes.
 pub fn put_report(outputs: usize, latches: usize, six: &[u32], out: &mut [u8]) -> usize
-    requires { ⌜ 4 * (outputs + latches) ≤ length (now six) ⌝ }
-    requires { ⌜ 66 * (outputs + latches) ≤ length (now out) ⌝ }
-    ensures { λ r. ⌜ r ≡ length (needleLines outputs latches (now (six .entry))) ⌝ }
-    ensures { λ _. ⌜ now (out .exit) ≡ put (now (out .entry)) 0 (needleLines outputs latches (now (six .entry))) ⌝ }
+    ensures { λ r. ⌜ r ≡ length (fittingLines outputs latches (now (six .entry)) (now (out .entry))) ⌝ }
+    ensures { λ _. ⌜ now (out .exit) ≡ put (now (out .entry)) 0 (fittingLines outputs latches (now (six .entry)) (now (out .entry))) ⌝ }
 {
-    let next = put_needles(b'o', outputs, six, 0, out, 0);
-    put_needles(b'l', latches, six, outputs, out, next)
+    let rows = lesser(six.len() / 4, out.len() / LINE);
+    let o = lesser(outputs, rows);
+    let l = lesser(latches, rows - o);
+    let next = put_needles(b'o', o, six, 0, out, 0);
+    put_needles(b'l', l, six, o, out, next)
 }
 
 // A byte goes to a position, unless it ends a line; the position after it.
@@ -71,16 +75,16 @@ fn keep(b: u8, out: &mut [u8], at: usize) -> usize
     at + 1
 }
 
-// Lines without their ends, one after the other, as a report takes vectors; how many bytes.
+// Lines without their ends, one after the other, as a report takes vectors, of as many bytes as the buffer has; how many are left of them.
 pub fn pack(lines: &[u8], out: &mut [u8]) -> usize
-    requires { ⌜ length (now lines) ≤ length (now out) ⌝ }
-    ensures { λ r. ⌜ r ≡ length (packed (now (lines .entry))) ⌝ }
+    ensures { λ r. ⌜ r ≡ length (packedInto (now (out .entry)) (now (lines .entry))) ⌝ }
     ensures { λ r. ⌜ r ≤ length (now (out .exit)) ⌝ }
-    ensures { λ _. ⌜ now (out .exit) ≡ put (now (out .entry)) 0 (packed (now (lines .entry))) ⌝ }
+    ensures { λ _. ⌜ now (out .exit) ≡ put (now (out .entry)) 0 (packedInto (now (out .entry)) (now (lines .entry))) ⌝ }
 {
+    let taken = lesser(lines.len(), out.len());
     let mut n = 0;
     let mut i = 0;
-    while i < lines.len() {
+    while i < taken {
         n = keep(lines[i], out, n);
         i += 1;
     }

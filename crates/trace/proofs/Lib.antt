@@ -9,3 +9,4 @@ pub mod Together
 pub mod InParts
 pub mod Printed
 pub mod GoingOn
+pub mod Passing

@@ -1,9 +1,10 @@
 -- Lines of a run: what each function that writes them asks and leaves.
-use Prim.Native.Nat.{ℕ, _*_, _≤_}
+use Prim.Native.Nat.{ℕ, zero, suc, _+_, _*_, _≤_, min}
 use mathlib.Core.Path.{_≡_}
-use mathlib.Core.Bool.{Bool, true, false}
+use mathlib.Core.Bool.{Bool, true, false, cond}
 use mathlib.Core.List.{List, [], _∷_, _++_, map}
-use lib.ListN.{length, take}
+use lib.Dec.{eqb}
+use lib.ListN.{length, take, drop}
 use Rattle.plan.specs.declared.Counts.{Counts}
 use Rattle.plan.specs.declared.Refusal.the-variants.{BadVector}
 use Rattle.plan.specs.declared.Traced.{Traced}
@@ -60,3 +61,13 @@ abbrev pub judged : Bool → Bool → ℕ → Traced
 judged true true number = Lines number
 judged true false number = Refused (BadVector 2)
 judged false vectors number = Refused (BadVector 1)
+
+-- the bytes of the first k lines, or all
+abbrev pub bytesOfLines : ℕ → List ℕ → ℕ
+bytesOfLines k [] = zero
+bytesOfLines zero (b ∷ l) = zero
+bytesOfLines (suc k) (b ∷ l) = suc (bytesOfLines (cond (eqb b 10) k (suc k)) l)
+
+-- the position past k lines, from a position within the bytes
+abbrev pub pastLines : List ℕ → ℕ → ℕ → ℕ
+pastLines bytes from k = let at = min from (length bytes) in at + bytesOfLines k (drop at bytes)

@@ -14,7 +14,7 @@ ghost use Rattle.plan.specs.Whole.{lineWidth, trace};
 ghost use Rattle.sweep.specs.Running.{these, Runs, Rests};
 ghost use Rattle.step.specs.Asked.{Room};
 ghost use Rattle.stimulus.specs.Scan.{ended};
-ghost use Rattle.trace.specs.Tracing.{part, Resting, Wrote, Listed, firstOnes, Ran, Left, judged};
+ghost use Rattle.trace.specs.Tracing.{part, Resting, Wrote, Listed, firstOnes, Ran, Left, judged, pastLines};
 use codes::codes_in;
 use given::judge_in_order;
 use plan::Checked;
@@ -24,6 +24,7 @@ use plan::Traced;
 use stimulus::whole_lines;
 use sweep::step_values;
 use tables::clear;
+use tables::lesser;
 use values::MAY0;
 use values::load;
 use values::store;
@@ -164,12 +165,12 @@ pub fn judge(n: Counts, state: &[u8], vectors: &[u8]) -> Traced
     }
 }
 
-// The position past the next `count` lines, or the end of the bytes.
+// The position past the next `count` lines, or the end of the bytes; it starts at their end where `from` is past it.
 pub fn past(bytes: &[u8], from: usize, count: usize) -> usize
-    requires { ⌜ from ≤ length (now bytes) ⌝ }
+    ensures { λ r. ⌜ r ≡ pastLines (now (bytes .entry)) from count ⌝ }
     ensures { λ r. ⌜ r ≤ length (now (bytes .entry)) ⌝ }
 {
-    let mut at = from;
+    let mut at = lesser(from, bytes.len());
     let mut left = count;
     while at < bytes.len() {
         if left == 0 {

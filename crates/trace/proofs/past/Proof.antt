@@ -1,21 +1,27 @@
--- Within the bytes.
 use Prim.Native.Nat.{_-_, _≤_}
+use mathlib.Core.Logic.{⊎-elim}
+use native.Mathlib.Omega.{arith}
 use borrow.Author.Needs.{needs}
+use borrow.Author.Tests.{eq-eqb, ne-eqb}
 use lib.ListN.{length}
+use Rattle.trace.proofs.Passing.{Passing, passing-first, past-lines, past-bytes, past-end, past-byte}
 use Rattle.trace.proofs.past.Statement.{statement}
 use Rattle.trace.proofs.past.Tie as tie
 
 abbrev Inv-loop : tie.InvT-loop
-Inv-loop bytes from count at₀ left₀ at left = at ≤ length bytes
+Inv-loop bytes from count at₀ left₀ at left = Passing bytes from count at left
 
 abbrev μ-loop : tie.MeasureT-loop
 μ-loop bytes from count at₀ left₀ at left = length bytes - at
 
+lesser-requires : tie.Need-lesser-requires Inv-loop μ-loop
+lesser-requires c κs = search needs
+
 loop-holds : tie.Need-loop-holds Inv-loop μ-loop
-loop-holds c = search needs
+loop-holds c = let a = c .before .before .args in passing-first (a .bytes .now) (a .from) (a .count) _ (c .lesser .ensures)
 
 returns : tie.Need-returns Inv-loop μ-loop
-returns c = search needs
+returns c = let w = c .before .before .loop .inv in (past-lines w (c .if1 .taken), w .within)
 
 shared-slice-read-if2 : tie.Need-shared-slice-read-if2 Inv-loop μ-loop
 shared-slice-read-if2 c = search needs
@@ -30,10 +36,17 @@ loop-less : tie.Need-loop-less Inv-loop μ-loop
 loop-less c = search needs
 
 loop-again : tie.Need-loop-again Inv-loop μ-loop
-loop-again c = search needs
+loop-again c =
+    let some = c .before .before .if1 .left in
+    let q = c .before .before .before in
+    let w = q .before .loop .inv in
+    ⊎-elim
+    (λ t. past-end w (q .loop-test .taken) _ (omega (arith, some, t .1)) (eq-eqb _ 10 (t .0 .taken)))
+    (λ t. past-byte w (q .loop-test .taken) some (ne-eqb _ 10 (t .0 .left)) _ (t .1))
+    (c .if2 .came)
 
 returns-2 : tie.Need-returns-2 Inv-loop μ-loop
-returns-2 c = search needs
+returns-2 c = let w = c .before .loop .inv in (past-bytes w (c .loop-test .left), w .within)
 
 pub past-spec : {M : Type 1} → statement M
 past-spec =
@@ -41,6 +54,7 @@ past-spec =
     (tie.spec
     Inv-loop
     μ-loop
+    lesser-requires
     loop-holds
     returns
     shared-slice-read-if2
