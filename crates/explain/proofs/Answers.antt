@@ -3,7 +3,7 @@ use Prim.Native.Nat.{ℕ, _+_, _-_, _^_, _<_, _≤_, min}
 use mathlib.Core.Path.{_≡_, refl, sym, ap, ap₂, _∙_}
 use mathlib.Core.Bool.{Bool, true, false, not, cond}
 use mathlib.Core.Option.{Option, none, some}
-use mathlib.Core.List.{List, [], _∷_, _++_}
+use mathlib.Core.List.{List, [], _∷_}
 use native.Mathlib.Omega.{arith}
 use borrow.Author.Tests.{eqb-true, eq-eqb, lt-ltb, le-ltb, lt-leb, le-leb}
 use lib.Dec.{eqb, ltb, leb}
@@ -16,14 +16,13 @@ use Rattle.plan.specs.declared.Checked.{Checked}
 use Rattle.plan.specs.declared.Checked.the-variants as checked
 use Rattle.plan.specs.Refusals.{stage, firstOf}
 use Rattle.plan.specs.Circuit.{cleared}
-use Rattle.plan.specs.Given.{lentAlone, orElse, failingAt, roomStage}
+use Rattle.plan.specs.Given.{orElse, failingAt, roomStage}
 use Rattle.plan.specs.Step.{Value, v0, v1, vx, same}
 use Rattle.plan.specs.Outcome.{put, allCodes, vector, checkInOrder}
 use Rattle.theorems.proofs.Reading.Common.{and-left}
-use Rattle.theorems.proofs.Writing.Nothing.{some-none, some-first, both-first}
-use Rattle.given.specs.Judged.{allStages}
-use Rattle.given.proofs.Sound.{good-none, refused-some}
+use Rattle.theorems.proofs.Writing.Nothing.{some-none}
 use Rattle.codes.proofs.Places.{codesIn, firstBad}
+use Rattle.step.proofs.Beyond.{answer, refused-by, past-check}
 use Rattle.plan.specs.Explain.{ExplainEntry, ExplainExit, valueAsked, marksAsked, vectorsStage, outputStage, explainedBy, explain}
 use Rattle.explain.specs.Asked.{Vectors, Explains}
 
@@ -116,7 +115,7 @@ module _ (e : ExplainEntry) where
   rest = vectorsStage e ∷ outputStage e ∷ roomStage (e .marks) (marksAsked e) ∷ []
 
   module _ (t : List ℕ) (blank : t ≡ cleared (e .circuit .scratch)) where
-    told-refused : (r : Refusal) → firstOf (allStages true (e .circuit) (lentAlone (e .circuit)) ++ rest) ≡ some r
+    told-refused : (r : Refusal) → answer (e .circuit) rest ≡ some r
         → _≡_ {A = ExplainExit} (record { answer = Refused r; scratch = t; marks = e .marks }) (explain e)
     told-refused r q =
         (λ j. record { answer = Refused r; scratch = blank j; marks = e .marks }) ∙ sym (ap (λ (o : Option Refusal). explainedBy o e) q)
@@ -124,23 +123,22 @@ module _ (e : ExplainEntry) where
     module _ {a : Checked} (told : a ≡ checkInOrder (e .circuit) .answer) where
       pub refused-tables : (r : Refusal) → a ≡ checked.Refused r
           → _≡_ {A = ExplainExit} (record { answer = Refused r; scratch = t; marks = e .marks }) (explain e)
-      refused-tables r q =
-          told-refused r (some-first r (allStages true (e .circuit) (lentAlone (e .circuit))) rest (refused-some r _ (sym q ∙ told)))
+      refused-tables r q = told-refused r (refused-by (e .circuit) rest told r q)
 
       -- the tables are good
       module _ (q : a ≡ checked.Good) where
-        past-check : firstOf (allStages true (e .circuit) (lentAlone (e .circuit)) ++ rest) ≡ firstOf rest
-        past-check = both-first (allStages true (e .circuit) (lentAlone (e .circuit))) rest (good-none _ (sym q ∙ told))
+        vectors-next : (o : Option ℕ) → bad ≡ o
+            → answer (e .circuit) rest ≡ firstOf (stage BadVector o ∷ outputStage e ∷ roomStage (e .marks) (marksAsked e) ∷ [])
+        vectors-next o h =
+            past-check (e .circuit) rest told q
+            ∙ ap (λ (p : Option ℕ). firstOf (stage BadVector p ∷ outputStage e ∷ roomStage (e .marks) (marksAsked e) ∷ [])) h
 
         pub refused-vector : (k : ℕ) → bad ≡ some k
             → _≡_ {A = ExplainExit} (record { answer = Refused (BadVector k); scratch = t; marks = e .marks }) (explain e)
-        refused-vector k h =
-            told-refused (BadVector k) (past-check ∙ ap (λ (o : Option ℕ). firstOf (stage BadVector o ∷ outputStage e
-            ∷ roomStage (e .marks) (marksAsked e) ∷ [])) h)
+        refused-vector k h = told-refused (BadVector k) (vectors-next (some k) h)
 
         pub answered : bad ≡ none → (r : Stepped) (marks : List ℕ) → Explains e r marks
             → _≡_ {A = ExplainExit} (record { answer = r; scratch = t; marks = marks }) (explain e)
         answered h r marks x =
             (λ j. record { answer = r; scratch = blank j; marks = marks }) ∙ x
-            ∙ sym (ap (λ (o : Option Refusal). explainedBy o e) (past-check ∙ ap (λ (o : Option ℕ). firstOf (stage BadVector o ∷ outputStage e
-            ∷ roomStage (e .marks) (marksAsked e) ∷ [])) h))
+            ∙ sym (ap (λ (o : Option Refusal). explainedBy o e) (vectors-next none h))

@@ -1,5 +1,4 @@
 pub mod Words
 pub mod Vectors
 pub mod Attempts
-pub mod Beyond
 pub mod Verdicts

@@ -16,7 +16,7 @@ use Rattle.plan.specs.Outcome.{WitnessEntry, vector, listStage}
 use Rattle.codes.proofs.Places.{codesIn}
 use Rattle.plan.specs.Fillings.{xCount, asked, question, FilledEntry, FilledExit, xStage, findingBy, witness}
 use Rattle.trying.proofs.Calls.{x-few, x-many}
-use Rattle.fillings.proofs.Beyond.{answer}
+use Rattle.step.proofs.Beyond.{answer}
 
 module _ (e : FilledEntry) where
   abbrev w : WitnessEntry

@@ -1,7 +1,7 @@
 -- What the check of given tables tells where 24 and one stage more come after 15: the refusal that is answered, or what that stage says.
 use Prim.Native.Nat.{ℕ, _≤_, _<_}
-use mathlib.Core.Path.{_≡_, refl, sym, ap, _∙_}
-use mathlib.Core.Bool.{Bool, true}
+use mathlib.Core.Path.{_≡_, refl, ap, _∙_}
+use mathlib.Core.Bool.{Bool}
 use mathlib.Core.Option.{Option, none, some}
 use mathlib.Core.List.{List, [], _∷_, _++_}
 use borrow.Author.Tests.{le-leb, lt-leb}
@@ -12,9 +12,7 @@ use Rattle.plan.specs.declared.Checked.the-variants as checked
 use Rattle.plan.specs.Refusals.{stage, firstOf}
 use Rattle.plan.specs.Given.{Given, lentAlone, failingAt, stages, orderStage}
 use Rattle.plan.specs.Outcome.{checkInOrder}
-use Rattle.theorems.proofs.Writing.Nothing.{some-first, both-first}
-use Rattle.given.specs.Judged.{allStages}
-use Rattle.given.proofs.Sound.{good-none, refused-some}
+use Rattle.step.proofs.Beyond as beyond
 use Rattle.step.proofs.Checks.{answer}
 use Rattle.plan.specs.Plain.{gatesStage}
 
@@ -34,19 +32,18 @@ skip (some r ∷ os) o l = refl
 
 module _ (g : Given) (last : Option Refusal) where
   abbrev pub plainAnswer : Option Refusal
-  plainAnswer = firstOf (stages g (lentAlone g) ++ (orderStage g ∷ gatesStage g ∷ last ∷ []))
+  plainAnswer = beyond.answer g (gatesStage g ∷ last ∷ [])
 
   -- with few gates it is the answer without 24
   pub answer-few : g .counts .A ≤ 24 → plainAnswer ≡ answer g last
   answer-few h =
-      ap (λ (o : Option Refusal). firstOf (stages g (lentAlone g) ++ (orderStage g ∷ o ∷ last ∷ []))) (gates-few g h)
+      ap (λ (o : Option Refusal). beyond.answer g (o ∷ last ∷ [])) (gates-few g h)
       ∙ skip (stages g (lentAlone g)) (orderStage g) last
 
   module _ {a : Checked} (told : a ≡ checkInOrder g .answer) where
     pub refused-tables : (r : Refusal) → a ≡ checked.Refused r → plainAnswer ≡ some r
-    refused-tables r q = some-first r (allStages true g (lentAlone g)) (gatesStage g ∷ last ∷ []) (refused-some r _ (sym q ∙ told))
+    refused-tables = beyond.refused-by g (gatesStage g ∷ last ∷ []) told
 
     pub refused-gates : a ≡ checked.Good → 24 < g .counts .A → plainAnswer ≡ some (ManyGates (g .counts .A))
     refused-gates q h =
-        both-first (allStages true g (lentAlone g)) (gatesStage g ∷ last ∷ []) (good-none (firstOf (allStages true g (lentAlone g))) (sym q ∙ told))
-        ∙ ap (λ (o : Option Refusal). firstOf (o ∷ last ∷ [])) (gates-many g h)
+        beyond.past-check g (gatesStage g ∷ last ∷ []) told q ∙ ap (λ (o : Option Refusal). firstOf (o ∷ last ∷ [])) (gates-many g h)

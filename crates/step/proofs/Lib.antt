@@ -1,3 +1,4 @@
 pub mod Buffers
+pub mod Beyond
 pub mod Checks
 pub mod Answers

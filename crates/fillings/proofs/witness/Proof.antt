@@ -19,7 +19,7 @@ use Rattle.trying.proofs.Numbering.{count-append}
 use Rattle.trying.proofs.Counting.{count-small}
 use Rattle.fillings.specs.Asked.{codesOf}
 use Rattle.fillings.proofs.Words.{codes-length}
-use Rattle.fillings.proofs.Beyond.{refused-by, past-check}
+use Rattle.step.proofs.Beyond.{refused-by, past-check}
 use Rattle.fillings.proofs.Verdicts.{more, refused-filled, refused-list, refused-x, found-filled}
 use borrow.Author.Needs.{needs}
 use Rattle.fillings.proofs.witness.Statement.{statement}

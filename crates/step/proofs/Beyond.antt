@@ -1,4 +1,4 @@
--- What the check of given tables tells, where more stages come after 15: the refusal that is answered, or what the others say.
+-- What the check of given tables tells where more stages come after 15: the refusal that is answered, or what those stages say.
 use mathlib.Core.Path.{_≡_, sym, _∙_}
 use mathlib.Core.Bool.{true}
 use mathlib.Core.Option.{Option, some}
