@@ -22,7 +22,6 @@ use Rattle.tables.specs.Lengths.{lengthsIn, sizesOf}
 use Rattle.step.proofs.Checks.{answer}
 use Rattle.plan.specs.Plain.{plainTrace}
 use Rattle.comparing.specs.declared.Compared.{Compared}
-use Rattle.comparing.specs.declared.Compared.the-variants.{Differ}
 use Rattle.comparing.specs.Both.{sameBytes, sameAnswer, agree, CompareEntry, CompareExit, comparedBy, both, twinOf, compare}
 use Rattle.comparing.proofs.Answers.{same-lines}
 
@@ -50,42 +49,24 @@ answer-same : (t : Traced) → sameAnswer t t ≡ true
 answer-same (traced.Lines k) = eq-eqb k k refl
 answer-same (traced.Refused r) = ap₂ _&&_ (eq-eqb (numberOf r) (numberOf r) refl) (eq-eqb (placeOf r) (placeOf r) refl)
 
--- of three tests the first that fails
-second-fails : (x y z : Bool) → x ≡ true → y ≡ false → (x && (y && z)) ≡ false
-second-fails x y z e f = ap₂ (λ (a b : Bool). a && (b && z)) e f
+-- three tests in a row: the first or the second fails, or the third decides
+pub first-fails : (x y z : Bool) → x ≡ false → false ≡ (x && (y && z))
+first-fails x y z e = sym (ap (λ (a : Bool). a && (y && z)) e)
 
-all-hold : (x y z : Bool) → x ≡ true → y ≡ true → z ≡ true → (x && (y && z)) ≡ true
-all-hold x y z e f g = ap₂ (λ (a b : Bool). a && (b && z)) e f ∙ g
+pub second-fails : (x y z : Bool) → x ≡ true → y ≡ false → false ≡ (x && (y && z))
+second-fails x y z e f = sym (ap₂ (λ (a b : Bool). a && (b && z)) e f)
+
+pub third-decides : (x y z : Bool) → x ≡ true → y ≡ true → z ≡ (x && (y && z))
+third-decides x y z e f = sym (ap₂ (λ (a b : Bool). a && (b && z)) e f)
 
 module _ (e : CompareEntry) (a b : TraceExit) (ea : a ≡ trace (e .part)) (eb : b ≡ plainTrace (twinOf e (a .scratch))) where
   abbrev pub left : Compared → CompareExit
   left r = record { answer = r; scratch = b .scratch; state = a .state; out = a .out; twin = b .state; again = b .out }
 
-  answered : (t : Bool) → agree a b ≡ t → left (comparedBy t (a .answer)) ≡ compare e
-  answered t q =
-      ap (λ (x : Bool). left (comparedBy x (a .answer))) (sym q)
+  pub answered : (r : Bool) → r ≡ agree a b → (t : Traced) → a .answer ≡ t → left (comparedBy r t) ≡ compare e
+  answered r q t s =
+      ap₂ (λ (x : Bool) (u : Traced). left (comparedBy x u)) q (sym s)
       ∙ (ap (both a) eb ∙ ap (λ (x : TraceExit). both x (plainTrace (twinOf e (x .scratch)))) ea)
-
-  abbrev y : Bool
-  y = sameBytes (a .state) (b .state)
-
-  abbrev z : Bool
-  z = sameBytes (a .out) (b .out)
-
-  pub answers-part : sameAnswer (a .answer) (b .answer) ≡ false → left Differ ≡ compare e
-  answers-part p = answered false (ap (λ (x : Bool). x && (y && z)) p)
-
-  module _ (p : sameAnswer (a .answer) (b .answer) ≡ true) where
-    pub states-part : sameBytes (a .state) (b .state) ≡ false → left Differ ≡ compare e
-    states-part q = answered false (second-fails (sameAnswer (a .answer) (b .answer)) y z p q)
-
-    module _ (q : sameBytes (a .state) (b .state) ≡ true) where
-      pub lines-part : sameBytes (a .out) (b .out) ≡ false → left Differ ≡ compare e
-      lines-part r = answered false (ap₂ (λ (s t : Bool). s && (t && z)) p q ∙ r)
-
-      pub none-parts : sameBytes (a .out) (b .out) ≡ true → (t : Traced) → a .answer ≡ t → left (comparedBy true t) ≡ compare e
-      none-parts r t s =
-          ap (λ (x : Traced). left (comparedBy true x)) (sym s) ∙ answered true (all-hold (sameAnswer (a .answer) (b .answer)) y z p q r)
 
 -- of scratch only the length counts
 module _ (e : TraceEntry) (t : List ℕ) (same : length t ≡ length (e .circuit .scratch)) where
@@ -160,5 +141,6 @@ module _ (e : CompareEntry) (few : e .part .circuit .counts .A ≤ 24) (twins : 
     where
       same : agree stepped stepped ≡ true
       same =
-          all-hold (sameAnswer (stepped .answer) (stepped .answer)) (sameBytes (stepped .state) (stepped .state))
-          (sameBytes (stepped .out) (stepped .out)) (answer-same (stepped .answer)) (bytes-same (stepped .state)) (bytes-same (stepped .out))
+          sym (third-decides (sameAnswer (stepped .answer) (stepped .answer)) (sameBytes (stepped .state) (stepped .state))
+          (sameBytes (stepped .out) (stepped .out)) (answer-same (stepped .answer)) (bytes-same (stepped .state)))
+          ∙ bytes-same (stepped .out)

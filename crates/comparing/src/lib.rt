@@ -13,8 +13,8 @@ ghost use Rattle.sweep.specs.Running.{these, Runs};
 ghost use Rattle.step.specs.Asked.{Room};
 ghost use Rattle.trace.specs.Tracing.{Listed, firstOnes, Left};
 ghost use Rattle.plan.specs.Plain.{plainTrace};
-ghost use Rattle.comparing.specs.Lined.{Vector, Lined};
-ghost use Rattle.comparing.specs.Both.{sameAnswer, compare};
+ghost use Rattle.comparing.specs.Lined.{Vector, Lined, plainJudged};
+ghost use Rattle.comparing.specs.Both.{sameBytes, sameAnswer, compare};
 use check::same;
 use forms::append;
 use given::judge_in_order;
@@ -127,6 +127,16 @@ fn plain_lines(
     }
 }
 
+// The lines of vectors, by 24 and then 12 (the paper, the plain engine).
+fn judge_plain(n: Counts, state: &[u8], vectors: &[u8]) -> Traced
+    ensures { λ r. ⌜ r ≡ plainJudged n (now (state .entry)) (now (vectors .entry)) ⌝ }
+{
+    if TEACHING < n.A {
+        return Traced::Refused(Refusal::ManyGates(n.A));
+    }
+    judge(n, state, vectors)
+}
+
 // A part of a run by the plain engine: as many whole lines as fit into `out`, from the state that is given; the state after them goes over
 // it. The answer is the number of lines. On a refusal neither changes; scratch is zero afterwards.
 pub fn trace_plain(
@@ -169,34 +179,28 @@ pub fn trace_plain(
         scratch,
     ) {
         Checked::Refused(refusal) => Traced::Refused(refusal),
-        Checked::Good => {
-            if TEACHING < n.A {
+        Checked::Good => match judge_plain(n, state, vectors) {
+            Traced::Refused(refusal) => {
                 clear(scratch);
-                return Traced::Refused(Refusal::ManyGates(n.A));
+                Traced::Refused(refusal)
             }
-            match judge(n, state, vectors) {
-                Traced::Refused(refusal) => {
-                    clear(scratch);
-                    Traced::Refused(refusal)
-                }
-                Traced::Lines(lines) => {
-                    let number = fitting(n, lines, out.len());
-                    plain_lines(
-                        n,
-                        latches,
-                        outputs,
-                        gates,
-                        scratch,
-                        state,
-                        number,
-                        vectors,
-                        out,
-                    );
-                    clear(scratch);
-                    Traced::Lines(number)
-                }
+            Traced::Lines(lines) => {
+                let number = fitting(n, lines, out.len());
+                plain_lines(
+                    n,
+                    latches,
+                    outputs,
+                    gates,
+                    scratch,
+                    state,
+                    number,
+                    vectors,
+                    out,
+                );
+                clear(scratch);
+                Traced::Lines(number)
             }
-        }
+        },
     }
 }
 
@@ -223,6 +227,20 @@ fn same_answer(a: Traced, b: Traced) -> bool
             Traced::Refused(s) => same_refusal(r, s),
         },
     }
+}
+
+// Whether both engines answer the same, and leave the same state and the same lines.
+fn agree(part: Traced, plain: Traced, state: &[u8], twin: &[u8], out: &[u8], again: &[u8]) -> bool
+    ensures { λ r. ⌜ r ≡ (sameAnswer part plain
+        && (sameBytes (now (state .entry)) (now (twin .entry)) && sameBytes (now (out .entry)) (now (again .entry)))) ⌝ }
+{
+    if !same_answer(part, plain) {
+        return false;
+    }
+    if !same(state, twin) {
+        return false;
+    }
+    same(out, again)
 }
 
 // A part of a run by both engines, the stepper into `state` and `out`, the plain engine into `twin` and `again`; and whether they leave the
@@ -296,13 +314,7 @@ pub fn compare(
         vectors,
         again,
     );
-    if !same_answer(part, plain) {
-        return Compared::Differ;
-    }
-    if !same(state, twin) {
-        return Compared::Differ;
-    }
-    if !same(out, again) {
+    if !agree(part, plain, state, twin, out, again) {
         return Compared::Differ;
     }
     match part {

@@ -1,10 +1,11 @@
-use mathlib.Core.Path.{_≡_, sym, _∙_}
+use mathlib.Core.Path.{_≡_, refl, sym, _∙_}
+use mathlib.Core.Bool.{true, false}
 use borrow.Author.Tests.{not-true, not-false}
 use Rattle.plan.specs.Circuit.{seven}
 use Rattle.plan.specs.Whole.{TraceExit, trace}
 use Rattle.plan.specs.Plain.{plainTrace}
 use Rattle.comparing.specs.Both.{CompareEntry, twinOf}
-use Rattle.comparing.proofs.Parting.{same-is, answers-part, states-part, lines-part, none-parts}
+use Rattle.comparing.proofs.Parting.{answered}
 use borrow.Author.Needs.{needs}
 use Rattle.comparing.proofs.compare.Statement.{statement}
 use Rattle.comparing.proofs.compare.Tie as tie
@@ -66,8 +67,8 @@ trace-requires c κs = search needs
 trace-plain-requires : tie.Need-trace-plain-requires
 trace-plain-requires c κs = search needs
 
-same-answer-requires : tie.Need-same-answer-requires
-same-answer-requires c κs = search needs
+agree-requires : tie.Need-agree-requires
+agree-requires c κs = search needs
 
 same-length : tie.Need-same-length
 same-length c = search needs
@@ -86,11 +87,14 @@ same-length-5 c = search needs
 
 returns : tie.Need-returns
 returns c =
-    let p = c .before .before .before .before .before .before .before .before in
-    answers-part (entry (start p)) (stepped p) (plain p) (first p) (second p) (sym (c .before .same-answer .ensures) ∙ not-true _ (c .if1 .taken))
+    let p = c .before .before .before .before .before .before .before .before .before .before .before .before in
+    answered (entry (start p)) (stepped p) (plain p) (first p) (second p) false (sym (not-true _ (c .if1 .taken)) ∙ c .before .agree .ensures) _ refl
 
-same-requires : tie.Need-same-requires
-same-requires c κs = search needs
+enum-known-part : tie.Need-enum-known-part
+enum-known-part c = search needs
+
+enum-known-part-2 : tie.Need-enum-known-part-2
+enum-known-part-2 c = search needs
 
 same-length-6 : tie.Need-same-length-6
 same-length-6 c = search needs
@@ -109,13 +113,10 @@ same-length-10 c = search needs
 
 returns-2 : tie.Need-returns-2
 returns-2 c =
-    let i = c .before .before .before .before in
-    let p = i .before .before .before .before .before .before .before .before in
-    states-part (entry (start p)) (stepped p) (plain p) (first p) (second p) (sym (i .before .same-answer .ensures) ∙ not-false _ (i .if1 .left))
-    (sym (same-is _ _ _ (c .before .same .ensures)) ∙ not-true _ (c .if2 .taken))
-
-same-requires-2 : tie.Need-same-requires-2
-same-requires-2 c κs = search needs
+    let i = c .before .before .before in
+    let p = i .before .before .before .before .before .before .before .before .before .before .before .before in
+    answered (entry (start p)) (stepped p) (plain p) (first p) (second p) true (sym (not-false _ (i .if1 .left)) ∙ i .before .agree .ensures) _
+    (c .before .part .given .1)
 
 same-length-11 : tie.Need-same-length-11
 same-length-11 c = search needs
@@ -134,68 +135,10 @@ same-length-15 c = search needs
 
 returns-3 : tie.Need-returns-3
 returns-3 c =
-    let k = c .before .before .before .before in
-    let i = k .before .before .before .before in
-    let p = i .before .before .before .before .before .before .before .before in
-    lines-part (entry (start p)) (stepped p) (plain p) (first p) (second p) (sym (i .before .same-answer .ensures) ∙ not-false _ (i .if1 .left))
-    (sym (same-is _ _ _ (k .before .same .ensures)) ∙ not-false _ (k .if2 .left))
-    (sym (same-is _ _ _ (c .before .same2 .ensures)) ∙ not-true _ (c .if3 .taken))
-
-enum-known-part : tie.Need-enum-known-part
-enum-known-part c = search needs
-
-enum-known-part-2 : tie.Need-enum-known-part-2
-enum-known-part-2 c = search needs
-
-same-length-16 : tie.Need-same-length-16
-same-length-16 c = search needs
-
-same-length-17 : tie.Need-same-length-17
-same-length-17 c = search needs
-
-same-length-18 : tie.Need-same-length-18
-same-length-18 c = search needs
-
-same-length-19 : tie.Need-same-length-19
-same-length-19 c = search needs
-
-same-length-20 : tie.Need-same-length-20
-same-length-20 c = search needs
-
-returns-4 : tie.Need-returns-4
-returns-4 c =
-    let m = c .before .before .before in
-    let k = m .before .before .before .before in
-    let i = k .before .before .before .before in
-    let p = i .before .before .before .before .before .before .before .before in
-    none-parts (entry (start p)) (stepped p) (plain p) (first p) (second p) (sym (i .before .same-answer .ensures) ∙ not-false _ (i .if1 .left))
-    (sym (same-is _ _ _ (k .before .same .ensures)) ∙ not-false _ (k .if2 .left))
-    (sym (same-is _ _ _ (m .before .same2 .ensures)) ∙ not-false _ (m .if3 .left)) _ (c .before .part .given .1)
-
-same-length-21 : tie.Need-same-length-21
-same-length-21 c = search needs
-
-same-length-22 : tie.Need-same-length-22
-same-length-22 c = search needs
-
-same-length-23 : tie.Need-same-length-23
-same-length-23 c = search needs
-
-same-length-24 : tie.Need-same-length-24
-same-length-24 c = search needs
-
-same-length-25 : tie.Need-same-length-25
-same-length-25 c = search needs
-
-returns-5 : tie.Need-returns-5
-returns-5 c =
-    let m = c .before .before .before in
-    let k = m .before .before .before .before in
-    let i = k .before .before .before .before in
-    let p = i .before .before .before .before .before .before .before .before in
-    none-parts (entry (start p)) (stepped p) (plain p) (first p) (second p) (sym (i .before .same-answer .ensures) ∙ not-false _ (i .if1 .left))
-    (sym (same-is _ _ _ (k .before .same .ensures)) ∙ not-false _ (k .if2 .left))
-    (sym (same-is _ _ _ (m .before .same2 .ensures)) ∙ not-false _ (m .if3 .left)) _ (c .before .part2 .given .1)
+    let i = c .before .before .before in
+    let p = i .before .before .before .before .before .before .before .before .before .before .before .before in
+    answered (entry (start p)) (stepped p) (plain p) (first p) (second p) true (sym (not-false _ (i .if1 .left)) ∙ i .before .agree .ensures) _
+    (c .before .part2 .given .1)
 
 pub compare-spec : {M : Type 1} → statement M
 compare-spec =
@@ -203,38 +146,24 @@ compare-spec =
     (tie.spec
     trace-requires
     trace-plain-requires
-    same-answer-requires
+    agree-requires
     same-length
     same-length-2
     same-length-3
     same-length-4
     same-length-5
     returns
-    same-requires
+    enum-known-part
+    enum-known-part-2
     same-length-6
     same-length-7
     same-length-8
     same-length-9
     same-length-10
     returns-2
-    same-requires-2
     same-length-11
     same-length-12
     same-length-13
     same-length-14
     same-length-15
-    returns-3
-    enum-known-part
-    enum-known-part-2
-    same-length-16
-    same-length-17
-    same-length-18
-    same-length-19
-    same-length-20
-    returns-4
-    same-length-21
-    same-length-22
-    same-length-23
-    same-length-24
-    same-length-25
-    returns-5)
+    returns-3)

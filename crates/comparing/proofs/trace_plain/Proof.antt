@@ -7,9 +7,9 @@ use Rattle.plan.specs.Circuit.{seven}
 use Rattle.plan.specs.Outcome.{checkInOrder}
 use Rattle.plan.specs.Whole.{TraceEntry, traceStage}
 use Rattle.step.proofs.Checks.{past-check, runs, room}
-use Rattle.trace.proofs.Answers.{listed, refused-vectors, done-trace}
-use Rattle.plain.proofs.Beyond.{refused-tables, refused-gates}
-use Rattle.comparing.proofs.Answers.{same-lines, refused-lines, state-vector}
+use Rattle.trace.proofs.Answers.{listed, done-trace}
+use Rattle.plain.proofs.Beyond.{refused-tables}
+use Rattle.comparing.proofs.Answers.{same-lines, refused-lines, state-vector, few-gates, lines-judged, refused-plainly}
 use borrow.Author.Needs.{needs}
 use Rattle.comparing.proofs.trace_plain.Statement.{statement}
 use Rattle.comparing.proofs.trace_plain.Tie as tie
@@ -47,9 +47,9 @@ same : (d : tie.After-enum-told)
     → length (checking d .judge-in-order .last .1 .1 .1 .1 .1 .1 .1 .1 .0) ≡ length (start (checking d) .args .scratch .now)
 same d = d .before .before .before .scratch .given
 
--- from where the vectors were judged back to where the gates were few
-abbrev judging : tie.After-judge → tie.After-enum-told
-judging j = j .before .before .before .before
+-- from where the vectors were judged back to where the tables were
+abbrev judging : tie.After-judge-plain → tie.After-enum-told
+judging j = j .before .before
 
 judge-in-order-requires : tie.Need-judge-in-order-requires
 judge-in-order-requires c κs = search needs
@@ -60,28 +60,14 @@ enum-known-refusal c = search needs
 enum-told : tie.Need-enum-told
 enum-told c = search needs
 
-clear-requires : tie.Need-clear-requires
-clear-requires c κs = search needs
-
-same-length : tie.Need-same-length
-same-length c = search needs
-
-returns : tie.Need-returns
-returns c =
-    let f = c .before .before .before .before in
-    let d = f .before .before in
-    let e = entry (start (checking d)) in
-    let zero = c .before .before .clear .ensures ∙ ap (λ (k : ℕ). replicate k 0) (same d) in
-    refused-lines e _ zero _ (refused-gates (e .circuit) (traceStage e) (says d) (told d) (f .if1 .taken))
-
-judge-requires : tie.Need-judge-requires
-judge-requires c κs = search needs
+judge-plain-requires : tie.Need-judge-plain-requires
+judge-plain-requires c κs = search needs
 
 enum-known-refusal-2 : tie.Need-enum-known-refusal-2
 enum-known-refusal-2 c = search needs
 
-clear-requires-2 : tie.Need-clear-requires-2
-clear-requires-2 c κs = search needs
+clear-requires : tie.Need-clear-requires
+clear-requires c κs = search needs
 
 enum-known-lines : tie.Need-enum-known-lines
 enum-known-lines c = search needs
@@ -98,43 +84,42 @@ plain-lines-requires c κs =
     let j = c .before .before .before .before .before .before .before in
     let d = judging j in
     let e = entry (start (checking d)) in
-    let lines = c .before .before .before .before .before .lines .given .1 in (
+    let lines = c .before .before .before .before .before .lines .given .1 in
+    let judged = lines-judged e _ (j .judge-plain .ensures) _ lines in (
       room (e .circuit) (traceStage e) (says d) (told d) _ (same d),
-      (
-        state-vector e _ (j .judge .ensures) _ lines,
-        listed e _ (j .judge .ensures) _ lines _ (c .before .before .before .fitting .ensures),
-      ),
+      (state-vector e _ judged _ lines, listed e _ judged _ lines _ (c .before .before .before .fitting .ensures)),
     )
 
-clear-requires-3 : tie.Need-clear-requires-3
-clear-requires-3 c κs = search needs
+clear-requires-2 : tie.Need-clear-requires-2
+clear-requires-2 c κs = search needs
 
-same-length-2 : tie.Need-same-length-2
-same-length-2 c = search needs
+same-length : tie.Need-same-length
+same-length c = search needs
 
-returns-2 : tie.Need-returns-2
-returns-2 c =
+returns : tie.Need-returns
+returns c =
     let x = c .before .before .before .before .before in
     let e = entry (start x) in
     let refused = c .before .refusal .given .1 in
     refused-lines e _ (x .judge-in-order .ensures .1 _ refused) _
     (refused-tables (e .circuit) (traceStage e) (x .judge-in-order .ensures .0) _ refused)
 
+same-length-2 : tie.Need-same-length-2
+same-length-2 c = search needs
+
 same-length-3 : tie.Need-same-length-3
 same-length-3 c = search needs
 
-same-length-4 : tie.Need-same-length-4
-same-length-4 c = search needs
-
-returns-3 : tie.Need-returns-3
-returns-3 c =
+returns-2 : tie.Need-returns-2
+returns-2 c =
     let j = c .before .before .before .before .before .before .before in
     let d = judging j in
     let e = entry (start (checking d)) in
-    let zero = c .before .before .clear2 .ensures ∙ ap (λ (k : ℕ). replicate k 0) (same d) in
-    refused-vectors e _ (j .judge .ensures) _ zero (past-check (e .circuit) (traceStage e) (says d) (told d)) _
-    (c .before .before .before .before .before .refusal2 .given .1)
-    ∙ sym (same-lines e (j .before .before .if1 .left))
+    let zero = c .before .before .clear .ensures ∙ ap (λ (k : ℕ). replicate k 0) (same d) in
+    refused-plainly e _ (j .judge-plain .ensures) _ zero (says d) (told d) _ (c .before .before .before .before .before .refusal2 .given .1)
+
+same-length-4 : tie.Need-same-length-4
+same-length-4 c = search needs
 
 same-length-5 : tie.Need-same-length-5
 same-length-5 c = search needs
@@ -142,20 +127,19 @@ same-length-5 c = search needs
 same-length-6 : tie.Need-same-length-6
 same-length-6 c = search needs
 
-same-length-7 : tie.Need-same-length-7
-same-length-7 c = search needs
-
-returns-4 : tie.Need-returns-4
-returns-4 c =
-    let j = c .before .before .before .before .before .before .before .before .before .before .before .before .before .before .before .before .before .before in
+returns-3 : tie.Need-returns-3
+returns-3 c =
+    let p = c .before .before .before .before .before .before .before .before .before in
+    let f = p .before .before .before .before .before in
+    let j = f .before .before .before .before in
     let d = judging j in
     let e = entry (start (checking d)) in
-    let p = c .before .before .before .before .before .before .before .before .before in
-    let zero = c .before .before .clear3 .ensures ∙ ap (λ (k : ℕ). replicate k 0) (p .scratch4 .given ∙ same d) in
+    let lines = f .before .before .lines .given .1 in
+    let judged = j .judge-plain .ensures in
+    let zero = c .before .before .clear2 .ensures ∙ ap (λ (k : ℕ). replicate k 0) (p .scratch3 .given ∙ same d) in
     let left = p .before .plain-lines .ensures (e .circuit .tables) (runs (e .circuit) (traceStage e) (says d) (told d)) in
-    done-trace e _ (j .judge .ensures) _ zero (past-check (e .circuit) (traceStage e) (says d) (told d)) _
-    (c .before .before .before .before .before .before .before .before .before .before .before .before .before .before .before .before .lines .given .1) _ (c .before .before .before .before .before .before .before .before .before .before .before .before .before .before .fitting .ensures) _ _ left
-    ∙ sym (same-lines e (j .before .before .if1 .left))
+    done-trace e _ (lines-judged e _ judged _ lines) _ zero (past-check (e .circuit) (traceStage e) (says d) (told d)) _ lines _ (f .fitting .ensures) _ _ left
+    ∙ sym (same-lines e (few-gates e _ judged _ lines))
 
 pub trace-plain-spec : {M : Type 1} → statement M
 trace-plain-spec =
@@ -164,22 +148,19 @@ trace-plain-spec =
     judge-in-order-requires
     enum-known-refusal
     enum-told
-    clear-requires
-    same-length
-    returns
-    judge-requires
+    judge-plain-requires
     enum-known-refusal-2
-    clear-requires-2
+    clear-requires
     enum-known-lines
     fitting-requires
     plain-lines-requires
-    clear-requires-3
+    clear-requires-2
+    same-length
+    returns
     same-length-2
-    returns-2
     same-length-3
+    returns-2
     same-length-4
-    returns-3
     same-length-5
     same-length-6
-    same-length-7
-    returns-4)
+    returns-3)
