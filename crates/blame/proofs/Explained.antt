@@ -32,9 +32,6 @@ use Rattle.walks.proofs.Walk.{Falls, from-walked, walk-closed, walk-exactly}
 use Rattle.walks.proofs.Used.{sides-fall}
 
 -- values
-pub no-x : Value → Type 0
-no-x a = a ≡ vx → ⊥
-
 apart : (a b : ℕ) → a ≡ b → a ≡ suc b → ⊥
 apart a b e f = omega arith
 

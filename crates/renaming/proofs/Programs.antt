@@ -11,7 +11,7 @@ use Rattle.plan.specs.Circuit.{Circuit}
 use Rattle.plan.specs.Binary.{binaryOf}
 use Rattle.plan.specs.Convert.{convert}
 use Rattle.plan.specs.Reduce.{reduce}
-use Rattle.plan.specs.Programs.{lentWords, lentBytes, printed, fitting, converter, reducer}
+use Rattle.plan.specs.Programs.{lentWords, printed, fitting, converter, reducer}
 use Rattle.theorems.proofs.Reading.Differences.{Bytes}
 use Rattle.renaming.specs.Agreement.{Agree, AcceptedText, SamePlan}
 use Rattle.renaming.proofs.Circuits.{same-conversion}
@@ -29,10 +29,6 @@ module _ (file : List ℕ) (small : length file ≤ 65536) (c : Circuit) (tail :
   reducer-on-text =
       rw (le-leb (length file) 65536 small, t .accepted, text-room t)
       (ap (λ (x : List ℕ). printed (fitting (binaryOf (reduce (convert c)) ++ x))) (t .rest))
-
--- with room for the bytes, they are what is printed
-pub fits-printed : (bytes : List ℕ) → length bytes ≤ lentBytes → printed (fitting bytes) ≡ bytes
-fits-printed bytes h = rw (le-leb (length bytes) lentBytes h)
 
 module _ (file other : List ℕ) (small : length file ≤ 65536) (small′ : length other ≤ 65536) where
   -- on two, whose circuits convert to the same
