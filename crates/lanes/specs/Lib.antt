@@ -1,2 +1,3 @@
 pub mod Words
+pub mod Blocks
 pub mod Working

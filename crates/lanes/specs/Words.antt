@@ -1,5 +1,5 @@
 -- Planes of 64 lanes in words of scratch, two each, low lanes first.
-use Prim.Native.Nat.{ℕ, _+_, _*_, _/_, _%_}
+use Prim.Native.Nat.{ℕ, _+_, _*_, _/_, _%_, _^_}
 use mathlib.Core.Path.{_≡_}
 use mathlib.Core.List.{List, [], _∷_, _++_}
 use lib.Bits.{bitAnd}
@@ -26,9 +26,16 @@ everyRow b = b * 18446744073709551615
 abbrev pub codeBy : ℕ → ℕ → ℕ → ℕ
 codeBy one both k = 48 + bit k one + 71 * bit k both
 
--- the code of a literal in lane k
+-- where a literal may be both; its code in lane k
+abbrev pub bothAt : List ℕ → ℕ → ℕ
+bothAt t l = bitAnd (planeAt t l) (planeAt t (negOf l))
+
 abbrev pub codeAt : List ℕ → ℕ → ℕ → ℕ
-codeAt t k l = codeBy (planeAt t l) (bitAnd (planeAt t l) (planeAt t (negOf l))) k
+codeAt t k l = codeBy (planeAt t l) (bothAt t l) k
+
+-- byte g of a plane has the lanes from 8 g on
+abbrev pub byteOf : ℕ → ℕ → ℕ
+byteOf p g = p / 2 ^ (8 * g) % 256
 
 -- the constant; inputs, whose rows are given: a byte but "0" may be 1, and a byte but "1" may be 0; latches, by their resets, in every row
 -- the same: a reset but 0 may be 1, and a reset but 1 may be 0

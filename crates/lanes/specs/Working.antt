@@ -15,7 +15,7 @@ use Rattle.tables.specs.Held.{Scratch}
 use Rattle.sweep.specs.Running.{Runs}
 use Rattle.values.specs.Words.{may1}
 use Rattle.planes.specs.Planes.{bit, pairs, sweepPlanes}
-use Rattle.lanes.specs.Words.{planeAt, codeBy, codeAt, Begins}
+use Rattle.lanes.specs.Words.{planeAt, codeAt, Begins}
 
 -- a column of a list of rows
 pub record Column (bytes : List ℕ) (from stride rows : ℕ) : Type 0 where
@@ -65,23 +65,20 @@ pub record Holds (n : Counts) (c : Circuit) (bytes : List ℕ) (rows : ℕ) (t :
       → bit k (planeAt t l) ≡ may1 (lit (valuesOf c (first c) (map valueOf (rowAt (n .I) bytes k))) l)
 
 -- n literals of a table, from `start` on by `stride`, whose planes stand in a table
+abbrev pub literalAt : List ℕ → ℕ → ℕ → ℕ → ℕ
+literalAt table start stride j = getD table (stride * j + start) 0
+
 pub record Shows (table : List ℕ) (start stride n : ℕ) (t : List ℕ) : Type 0 where
   pub start-in : start < stride
   pub literals-long : stride * n ≤ length table
-  pub inside : (j : ℕ) → j < n → There (getD table (stride * j + start) 0) t
+  pub inside : (j : ℕ) → j < n → There (literalAt table start stride j) t
 
 -- their codes in row k, and in all rows
 abbrev pub codesIn : List ℕ → ℕ → ℕ → ℕ → List ℕ → ℕ → List ℕ
-codesIn table start stride n t k = firsts (λ j. codeAt t k (getD table (stride * j + start) 0)) n
+codesIn table start stride n t k = firsts (λ j. codeAt t k (literalAt table start stride j)) n
 
 abbrev pub codesOf : List ℕ → ℕ → ℕ → ℕ → ℕ → List ℕ → List ℕ
 codesOf table start stride n rows t = flat (firsts (λ k. codesIn table start stride n t k) rows)
-
--- one column of rows of n bytes is stored, and no other changes
-pub record Striped (one both from n rows : ℕ) (out out′ : List ℕ) : Type 0 where
-  pub same : length out′ ≡ length out
-  pub stored : (k : ℕ) → k < rows → getD out′ (n * k + from) 0 ≡ codeBy one both k
-  pub others : (k j : ℕ) → j < n → (j ≡ from → ⊥) → getD out′ (n * k + j) 0 ≡ getD out (n * k + j) 0
 
 -- the rows in which a literal is 0, 1 and x, under a mask; those of all literals
 abbrev pub countsAt : List ℕ → ℕ → ℕ → List ℕ

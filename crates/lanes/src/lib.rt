@@ -10,9 +10,10 @@ ghost use Rattle.plan.specs.Literals.{wordOf};
 ghost use Rattle.plan.specs.Circuit.{Tables, circuitOf};
 ghost use Rattle.plan.specs.Outcome.{put};
 ghost use Rattle.sweep.specs.Running.{Runs};
-ghost use Rattle.planes.specs.Planes.{other, column};
-ghost use Rattle.lanes.specs.Words.{planeAt, planeWords, everyRow};
-ghost use Rattle.lanes.specs.Working.{Column, Grows, Sweeps, Swept, There, gatePlanes, both, Ready, Holds, Shows, Striped, codesOf, countsAt, countsOf};
+ghost use Rattle.planes.specs.Planes.{bit, other, column};
+ghost use Rattle.lanes.specs.Words.{planeAt, bothAt, planeWords, everyRow, byteOf, codeBy, codeAt};
+ghost use Rattle.lanes.specs.Working.{Column, Grows, Sweeps, Swept, There, gatePlanes, both, Ready, Holds, Shows, literalAt, codesOf, countsAt, countsOf};
+ghost use Rattle.lanes.specs.Blocks.{Striped, Written, Packed, Block, Blocked};
 use plan::Counts;
 use plan::Lit;
 
@@ -180,23 +181,140 @@ pub fn step_lanes(
     sweep_lanes(gates, n.A, 1 + n.I + n.L, t);
 }
 
-// A literal's code in each row, by its two bits there, goes to its place in the row, which has n bytes. The rows of one literal are stored
-// together, so that its planes are read once.
-fn store_column(one: u64, both: u64, from: usize, n: usize, rows: usize, out: &mut [u8])
-    requires { ⌜ (from < n) × (n * rows ≤ length (now out)) ⌝ }
-    ensures { λ _. ⌜ Striped one both from n rows (now (out .entry)) (now (out .exit)) ⌝ }
+// Rows are stored 64 columns at a time. In such a block a byte has one column's bits in 8 rows, and columns stand side by side, so that the
+// codes of a row are made from bytes in a row, many at once. Here the bytes of a plane become column j of a block.
+fn put_bytes(plane: u64, j: usize, block: &mut [u8])
+    requires { ⌜ (j < 64) × (512 ≤ length (now block)) ⌝ }
+    ensures { λ _. ⌜ Striped (byteOf plane) j 64 8 (now (block .entry)) (now (block .exit)) ⌝ }
 {
-    let mut ones = one;
-    let mut boths = both;
-    let mut at = from;
+    let mut rest = plane;
+    let mut at = j;
+    let mut g: usize = 0;
+    while g < 8 {
+        block[at] = (rest % 256) as u8;
+        rest = rest / 256;
+        at += 64;
+        g += 1;
+    }
+}
+
+// The planes of w literals of a table, from the one of column `from` on, as blocks: where each may be 1, and where it may be both.
+fn pack(
+    table: &[u32],
+    start: usize,
+    stride: usize,
+    from: usize,
+    w: usize,
+    t: &[u32],
+    ones: &mut [u8],
+    boths: &mut [u8],
+)
+    requires { ⌜ Shows (now table) start stride (from + w) (now t) ⌝ }
+    requires { ⌜ (0 < w) × (w ≤ 64) × (512 ≤ length (now ones)) × (512 ≤ length (now boths)) ⌝ }
+    ensures { λ _. ⌜ Packed (λ j. planeAt (now (t .entry)) (literalAt (now (table .entry)) start stride (from + j))) w (now (ones .exit)) ⌝ }
+    ensures { λ _. ⌜ Packed (λ j. bothAt (now (t .entry)) (literalAt (now (table .entry)) start stride (from + j))) w (now (boths .exit)) ⌝ }
+{
+    let mut at = stride * from + start;
+    let mut j = 0;
+    while j < w {
+        let l = Lit::at(table[at]);
+        let one = plane_of(t, l);
+        let both = one & plane_of(t, l.negated());
+        put_bytes(one, j, ones);
+        put_bytes(both, j, boths);
+        at += stride;
+        j += 1;
+    }
+}
+
+// A byte's bit in a lane, by a sum instead of a test: 127 and the bit, where it is lit, make 128 or more.
+fn lane_of(byte: u8, lane: usize) -> u8
+    requires { ⌜ lane < 8 ⌝ }
+    ensures { λ r. ⌜ r ≡ bit lane byte ⌝ }
+{
+    ((byte & (1u8 << lane)) + 127) / 128
+}
+
+// The codes of w columns in one row, whose bits are those in a lane of the bytes from `from` on.
+fn put_codes(
+    ones: &[u8],
+    boths: &[u8],
+    from: usize,
+    lane: usize,
+    w: usize,
+    to: usize,
+    out: &mut [u8],
+)
+    requires { ⌜ lane < 8 ⌝ }
+    requires { ⌜ (from + w ≤ length (now ones)) × (from + w ≤ length (now boths)) × (to + w ≤ length (now out)) ⌝ }
+    ensures { λ _. ⌜ Written (λ j. codeBy (getD (now (ones .entry)) (from + j) 0) (getD (now (boths .entry)) (from + j) 0) lane) to w
+        (now (out .entry)) (now (out .exit)) ⌝ }
+{
+    let mut j = 0;
+    while j < w {
+        let one = lane_of(ones[from + j], lane);
+        let both = lane_of(boths[from + j], lane);
+        out[to + j] = 48 + one + 71 * both;
+        j += 1;
+    }
+}
+
+// The codes of a block in each row, which go to the columns from `from` on.
+fn put_block(
+    ones: &[u8],
+    boths: &[u8],
+    from: usize,
+    w: usize,
+    n: usize,
+    rows: usize,
+    out: &mut [u8],
+)
+    requires { ⌜ Block from w n rows (now out) ⌝ }
+    requires { ⌜ (512 ≤ length (now ones)) × (512 ≤ length (now boths)) ⌝ }
+    ensures { λ _. ⌜ Blocked (λ k j. codeBy (getD (now (ones .entry)) (64 * (k / 8) + j) 0) (getD (now (boths .entry)) (64 * (k / 8) + j) 0) (k % 8))
+        from w n rows (now (out .entry)) (now (out .exit)) ⌝ }
+{
+    let mut to = from;
     let mut k = 0;
     while k < rows {
-        out[at] = (48 + ones % 2 + 71 * (boths % 2)) as u8;
-        ones = ones / 2;
-        boths = boths / 2;
-        at += n;
+        put_codes(ones, boths, 64 * (k / 8), k % 8, w, to, out);
+        to += n;
         k += 1;
     }
+}
+
+// The codes of w literals of a table in each row.
+fn store_block(
+    table: &[u32],
+    start: usize,
+    stride: usize,
+    from: usize,
+    w: usize,
+    n: usize,
+    rows: usize,
+    t: &[u32],
+    out: &mut [u8],
+)
+    requires { ⌜ Shows (now table) start stride (from + w) (now t) ⌝ }
+    requires { ⌜ Block from w n rows (now out) ⌝ }
+    ensures { λ _. ⌜ Blocked (λ k j. codeAt (now (t .entry)) k (literalAt (now (table .entry)) start stride (from + j)))
+        from w n rows (now (out .entry)) (now (out .exit)) ⌝ }
+{
+    let mut ones: [u8; 512] = [0; 512];
+    let mut boths: [u8; 512] = [0; 512];
+    pack(table, start, stride, from, w, t, &mut ones, &mut boths);
+    put_block(&ones, &boths, from, w, n, rows, out);
+}
+
+// The columns of the next block.
+fn width(left: usize) -> usize
+    requires { ⌜ 0 < left ⌝ }
+    ensures { λ r. ⌜ (0 < r) × (r ≤ left) × (r ≤ 64) ⌝ }
+{
+    if left < 64 {
+        return left;
+    }
+    64
 }
 
 // The codes of n literals of a table in each row, n bytes a row.
@@ -210,18 +328,14 @@ pub fn store_rows(
     out: &mut [u8],
 )
     requires { ⌜ Shows (now table) start stride n (now t) ⌝ }
-    requires { ⌜ length (now out) ≡ n * rows ⌝ }
+    requires { ⌜ (rows ≤ 64) × (length (now out) ≡ n * rows) ⌝ }
     ensures { λ _. ⌜ now (out .exit) ≡ codesOf (now (table .entry)) start stride n rows (now (t .entry)) ⌝ }
 {
-    let mut at = start;
     let mut j = 0;
     while j < n {
-        let l = Lit::at(table[at]);
-        let one = plane_of(t, l);
-        let both = one & plane_of(t, l.negated());
-        store_column(one, both, j, n, rows, out);
-        at += stride;
-        j += 1;
+        let w = width(n - j);
+        store_block(table, start, stride, j, w, n, rows, t, out);
+        j += w;
     }
 }
 

@@ -15,13 +15,13 @@ store-rows-requires : tie.Need-store-rows-requires
 store-rows-requires c κs =
     let d = c .before .before .before in
     let s = d .before .before .before .before .before .before .before .before .before .before .before in
-    (shows-nexts (s .pre .0) (s .pre .1) _ (d .scratch .given), nexts-room (s .pre .0) (s .pre .1))
+    (shows-nexts (s .pre .0) (s .pre .1) _ (d .scratch .given), (s .pre .1 .most, nexts-room (s .pre .0) (s .pre .1)))
 
 store-rows-requires-2 : tie.Need-store-rows-requires-2
 store-rows-requires-2 c κs =
     let d = c .before .before .before .before .before .before .before .before in
     let s = d .before .before .before .before .before .before .before .before .before .before .before in
-    (shows-outputs (s .pre .0) (s .pre .1) _ (d .scratch .given), outs-room (s .pre .0) (s .pre .1))
+    (shows-outputs (s .pre .0) (s .pre .1) _ (d .scratch .given), (s .pre .1 .most, outs-room (s .pre .0) (s .pre .1)))
 
 same-length : tie.Need-same-length
 same-length c = search needs
