@@ -37,6 +37,16 @@ codeAt t k l = codeBy (planeAt t l) (bothAt t l) k
 abbrev pub byteOf : ℕ → ℕ → ℕ
 byteOf p g = p / 2 ^ (8 * g) % 256
 
+-- a column of a block as lane words, each in two halves, and as a plane
+abbrev pub halfIn : List ℕ → ℕ → ℕ
+halfIn block at = getD block at 0 + 256 * getD block (at + 64) 0
+
+abbrev pub wordIn : List ℕ → ℕ → ℕ
+wordIn block at = halfIn block at + 65536 * halfIn block (at + 128)
+
+abbrev pub blockPlane : List ℕ → ℕ → ℕ
+blockPlane block j = wordIn block j + wordIn block (j + 256) * 4294967296
+
 -- the constant; inputs, whose rows are given: a byte but "0" may be 1, and a byte but "1" may be 0; latches, by their resets, in every row
 -- the same: a reset but 0 may be 1, and a reset but 1 may be 0
 abbrev pub constantPlanes : List ℕ

@@ -17,12 +17,6 @@ use Rattle.values.specs.Words.{may1}
 use Rattle.planes.specs.Planes.{bit, pairs, sweepPlanes}
 use Rattle.lanes.specs.Words.{planeAt, codeAt, Begins}
 
--- a column of a list of rows
-pub record Column (bytes : List ℕ) (from stride rows : ℕ) : Type 0 where
-  pub inside : from < stride
-  pub most : rows ≤ 64
-  pub whole : stride * rows ≤ length bytes
-
 -- planes of n variables more, behind those of `before`
 abbrev pub Grows : ℕ → (ℕ → ℕ) → (ℕ → ℕ) → ℕ → List ℕ → List ℕ → Type 0
 Grows before f g n t t′ = (q : List ℕ) → length q ≡ 2 * before → Begins q t → Begins (q ++ pairs f g n) t′

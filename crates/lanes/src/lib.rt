@@ -2,7 +2,7 @@
 // 64 lanes in two words of scratch. Each literal has one, lit in the rows where the literal may be 1; where it may be 0 its negation may be 1.
 ghost use mathlib.Core.Path.{_≡_};
 ghost use mathlib.Core.List.{[], _∷_};
-ghost use Prim.Native.Nat.{_+_, _-_, _*_, _/_, _%_, _^_, _<_, _≤_};
+ghost use Prim.Native.Nat.{ℕ, _+_, _-_, _*_, _/_, _%_, _^_, _<_, _≤_};
 ghost use lib.Bits.{bitAnd};
 ghost use lib.Count.{ones};
 ghost use lib.ListN.{length, getD};
@@ -11,8 +11,8 @@ ghost use Rattle.plan.specs.Circuit.{Tables, circuitOf};
 ghost use Rattle.plan.specs.Outcome.{put};
 ghost use Rattle.sweep.specs.Running.{Runs};
 ghost use Rattle.planes.specs.Planes.{bit, other, column};
-ghost use Rattle.lanes.specs.Words.{planeAt, bothAt, planeWords, everyRow, byteOf, codeBy, codeAt};
-ghost use Rattle.lanes.specs.Working.{Column, Grows, Sweeps, Swept, There, gatePlanes, both, Ready, Holds, Shows, literalAt, codesOf, countsAt, countsOf};
+ghost use Rattle.lanes.specs.Words.{planeAt, bothAt, planeWords, everyRow, byteOf, halfIn, wordIn, blockPlane, codeBy, codeAt};
+ghost use Rattle.lanes.specs.Working.{Grows, Sweeps, Swept, There, gatePlanes, both, Ready, Holds, Shows, literalAt, codesOf, countsAt, countsOf};
 ghost use Rattle.lanes.specs.Blocks.{Striped, Written, Packed, Block, Blocked};
 use plan::Counts;
 use plan::Lit;
@@ -20,7 +20,7 @@ use plan::Lit;
 const FULL: u64 = 18446744073709551615;
 
 // 1 where a byte differs from a code.
-fn other_than(code: u8, b: u8) -> u64
+fn other_than(code: u8, b: u8) -> u8
     ensures { λ r. ⌜ r ≡ other code b ⌝ }
 {
     if b == code {
@@ -67,26 +67,101 @@ fn put_planes(one: u64, zero: u64, to: usize, t: &mut [u32])
     t[to + 3] = high(zero);
 }
 
-// An input's planes, from the column of its bytes: a byte but "0" may be 1, and a byte but "1" may be 0. The last row comes first, so that a
-// plane grows by doubling.
-fn load_column(bytes: &[u8], from: usize, stride: usize, rows: usize, to: usize, t: &mut [u32])
-    requires { ⌜ Column (now bytes) from stride rows ⌝ }
-    requires { ⌜ to + 4 ≤ length (now t) ⌝ }
-    ensures { λ _. ⌜ now (t .exit) ≡ put (now (t .entry)) to
-        (planeWords (column 48 (now (bytes .entry)) from stride rows ∷ column 49 (now (bytes .entry)) from stride rows ∷ [])) ⌝ }
+// One row of a block of 64 columns: where its byte differs from a code, the bit `lit` is added to the column's byte.
+fn add_row(code: u8, bytes: &[u8], from: usize, w: usize, lit: u8, to: usize, block: &mut [u8])
+    requires { ⌜ (from + w ≤ length (now bytes)) × (to + w ≤ length (now block)) ⌝ }
+    requires { ⌜ ((j : ℕ) → j < w → getD (now block) (to + j) 0 + lit < 256) ⌝ }
+    ensures { λ _. ⌜ Written (λ j. getD (now (block .entry)) (to + j) 0 + other code (getD (now (bytes .entry)) (from + j) 0) * lit) to w
+        (now (block .entry)) (now (block .exit)) ⌝ }
 {
-    let mut one = 0;
-    let mut zero = 0;
-    let mut at = stride * rows;
-    let mut k = rows;
-    while 0 < k {
-        at -= stride;
-        k -= 1;
-        let code = bytes[at + from];
-        one = 2 * one + other_than(b'0', code);
-        zero = 2 * zero + other_than(b'1', code);
+    let mut j = 0;
+    while j < w {
+        let differs = other_than(code, bytes[from + j]);
+        block[to + j] = block[to + j] + differs * lit;
+        j += 1;
     }
-    put_planes(one, zero, to, t);
+}
+
+// The columns from `from` on of rows of n bytes, as a block that is zero at first.
+fn load_block(code: u8, bytes: &[u8], from: usize, w: usize, n: usize, rows: usize, block: &mut [u8])
+    requires { ⌜ Block from w n rows (now bytes) ⌝ }
+    requires { ⌜ (512 ≤ length (now block)) × ((i : ℕ) → getD (now block) i 0 ≡ 0) ⌝ }
+    ensures { λ _. ⌜ Packed (λ j. column code (now (bytes .entry)) (from + j) n rows) w (now (block .exit)) ⌝ }
+{
+    let mut at = from;
+    let mut k = 0;
+    while k < rows {
+        add_row(code, bytes, at, w, 1u8 << (k % 8), 64 * (k / 8), block);
+        at += n;
+        k += 1;
+    }
+}
+
+fn wide(b: u8) -> u32
+    ensures { λ r. ⌜ (r ≡ b) × (r < 256) ⌝ }
+{
+    b as u32
+}
+
+// Two bytes of a column, and four: a lane word.
+fn half_of(block: &[u8], at: usize) -> u32
+    requires { ⌜ at + 64 < length (now block) ⌝ }
+    ensures { λ r. ⌜ (r ≡ halfIn (now (block .entry)) at) × (r < 65536) ⌝ }
+{
+    let low = wide(block[at]);
+    let high = wide(block[at + 64]);
+    low + 256 * high
+}
+
+fn word_of(block: &[u8], at: usize) -> u32
+    requires { ⌜ at + 192 < length (now block) ⌝ }
+    ensures { λ r. ⌜ r ≡ wordIn (now (block .entry)) at ⌝ }
+{
+    let low = half_of(block, at);
+    let high = half_of(block, at + 128);
+    low + 65536 * high
+}
+
+// The planes of a block's columns, behind those of `before` variables.
+fn put_columns(ones: &[u8], zeros: &[u8], w: usize, before: usize, t: &mut [u32])
+    requires { ⌜ (w ≤ 64) × (512 ≤ length (now ones)) × (512 ≤ length (now zeros)) ⌝ }
+    requires { ⌜ 4 * (before + w) ≤ length (now t) ⌝ }
+    ensures { λ _. ⌜ Grows before (blockPlane (now (ones .entry))) (blockPlane (now (zeros .entry))) w (now (t .entry)) (now (t .exit)) ⌝ }
+{
+    let mut to = 4 * before;
+    let mut j = 0;
+    while j < w {
+        let one = joined(word_of(ones, j), word_of(ones, j + 256));
+        let zero = joined(word_of(zeros, j), word_of(zeros, j + 256));
+        put_planes(one, zero, to, t);
+        to += 4;
+        j += 1;
+    }
+}
+
+// The planes of w inputs, from their bytes: a byte but "0" may be 1, and a byte but "1" may be 0.
+fn load_columns(bytes: &[u8], from: usize, w: usize, n: usize, rows: usize, t: &mut [u32])
+    requires { ⌜ Block from w n rows (now bytes) ⌝ }
+    requires { ⌜ 4 * (1 + from + w) ≤ length (now t) ⌝ }
+    ensures { λ _. ⌜ Grows (1 + from) (λ j. column 48 (now (bytes .entry)) (from + j) n rows)
+        (λ j. column 49 (now (bytes .entry)) (from + j) n rows) w (now (t .entry)) (now (t .exit)) ⌝ }
+{
+    let mut ones: [u8; 512] = [0; 512];
+    let mut zeros: [u8; 512] = [0; 512];
+    load_block(b'0', bytes, from, w, n, rows, &mut ones);
+    load_block(b'1', bytes, from, w, n, rows, &mut zeros);
+    put_columns(&ones, &zeros, w, 1 + from, t);
+}
+
+// The columns of the next block.
+fn width(left: usize) -> usize
+    requires { ⌜ 0 < left ⌝ }
+    ensures { λ r. ⌜ (0 < r) × (r ≤ left) × (r ≤ 64) ⌝ }
+{
+    if left < 64 {
+        return left;
+    }
+    64
 }
 
 // The inputs' planes, from the rows' bytes, behind the constant's.
@@ -95,12 +170,11 @@ fn load_rows(bytes: &[u8], n: usize, rows: usize, t: &mut [u32])
     ensures { λ _. ⌜ Grows 1 (λ j. column 48 (now (bytes .entry)) j n rows) (λ j. column 49 (now (bytes .entry)) j n rows) n
         (now (t .entry)) (now (t .exit)) ⌝ }
 {
-    let mut to = 4;
     let mut j = 0;
     while j < n {
-        load_column(bytes, j, n, rows, to, t);
-        to += 4;
-        j += 1;
+        let w = width(n - j);
+        load_columns(bytes, j, w, n, rows, t);
+        j += w;
     }
 }
 
@@ -304,17 +378,6 @@ fn store_block(
     let mut boths: [u8; 512] = [0; 512];
     pack(table, start, stride, from, w, t, &mut ones, &mut boths);
     put_block(&ones, &boths, from, w, n, rows, out);
-}
-
-// The columns of the next block.
-fn width(left: usize) -> usize
-    requires { ⌜ 0 < left ⌝ }
-    ensures { λ r. ⌜ (0 < r) × (r ≤ left) × (r ≤ 64) ⌝ }
-{
-    if left < 64 {
-        return left;
-    }
-    64
 }
 
 // The codes of n literals of a table in each row, n bytes a row.
