@@ -71,7 +71,7 @@ module _ (f : ℕ → ℕ) (bits : (k : ℕ) → f k < 2) (k : ℕ) where
       let less : suc (k % 8) ≤ 8 = omega arith in
       let also : k % 8 ≤ 8 = omega arith in
       let turned : f (8 * (k / 8) + k % 8) * 2 ^ (k % 8) + part f bits (k / 8) (k % 8)
-          ≡ part f bits (k / 8) (k % 8) + f (8 * (k / 8) + k % 8) * 2 ^ (k % 8) = omega arith in
+      ≡ part f bits (k / 8) (k % 8) + f (8 * (k / 8) + k % 8) * 2 ^ (k % 8) = omega arith in
       ap (λ (m : ℕ). byteOf (planeOf f m) (k / 8)) next
       ∙ (byte-part f bits (k / 8) (suc (k % 8)) less
       ∙ (turned ∙ ap₂ (λ (x y : ℕ). x + y)
@@ -92,8 +92,13 @@ module _ (f : ℕ → ℕ) (bits : (k : ℕ) → f k < 2) (k : ℕ) where
       let also : k % 8 ≤ 8 = omega arith in
       let less : suc (k % 8) ≤ 8 = omega arith in
       let top : 2 ^ suc (k % 8) ≤ 256 = pow-mono less in
-      omega (arith, ap (λ (m : ℕ). byteOf (planeOf f m) (k / 8)) whole ∙ byte-part f bits (k / 8) (k % 8) also,
-      part-lt f bits (k / 8) (k % 8), top, pow-suc 2 (k % 8))
+      omega (
+        arith,
+        ap (λ (m : ℕ). byteOf (planeOf f m) (k / 8)) whole ∙ byte-part f bits (k / 8) (k % 8) also,
+        part-lt f bits (k / 8) (k % 8),
+        top,
+        pow-suc 2 (k % 8),
+      )
 
 -- two bytes make up a half of a lane word, four a word, eight a plane of 64 lanes
 byte-up : (p a b : ℕ) → byteOf p (a + b) ≡ byteOf (p / 2 ^ (8 * a)) b

@@ -1,5 +1,8 @@
 // Many rows at once: up to 64 input vectors are stepped once from the resets, one bit lane for each row (the paper, many rows). A plane is
 // 64 lanes in two words of scratch. Each literal has one, lit in the rows where the literal may be 1; where it may be 0 its negation may be 1.
+//
+// Between bytes and planes stand blocks of up to 64 columns. A byte of a block has the bits of one column in 8 rows, that of column j in rows
+// 8 g to 8 g + 7 at 64 g + j, so that what a row's bytes need stands side by side and is worked on many at once.
 ghost use mathlib.Core.Path.{_≡_};
 ghost use mathlib.Core.List.{[], _∷_};
 ghost use Prim.Native.Nat.{ℕ, _+_, _-_, _*_, _/_, _%_, _^_, _<_, _≤_};
@@ -67,7 +70,7 @@ fn put_planes(one: u64, zero: u64, to: usize, t: &mut [u32])
     t[to + 3] = high(zero);
 }
 
-// One row of a block of 64 columns: where its byte differs from a code, the bit `lit` is added to the column's byte.
+// A row is added to a block: where its byte differs from a code, the bit `lit` of the column's byte is lit.
 fn add_row(code: u8, bytes: &[u8], from: usize, w: usize, lit: u8, to: usize, block: &mut [u8])
     requires { ⌜ (from + w ≤ length (now bytes)) × (to + w ≤ length (now block)) ⌝ }
     requires { ⌜ ((j : ℕ) → j < w → getD (now block) (to + j) 0 + lit < 256) ⌝ }
@@ -82,8 +85,16 @@ fn add_row(code: u8, bytes: &[u8], from: usize, w: usize, lit: u8, to: usize, bl
     }
 }
 
-// The columns from `from` on of rows of n bytes, as a block that is zero at first.
-fn load_block(code: u8, bytes: &[u8], from: usize, w: usize, n: usize, rows: usize, block: &mut [u8])
+// Where w columns of rows of n bytes, from column `from` on, differ from a code: a block, which is zero at first.
+fn load_block(
+    code: u8,
+    bytes: &[u8],
+    from: usize,
+    w: usize,
+    n: usize,
+    rows: usize,
+    block: &mut [u8],
+)
     requires { ⌜ Block from w n rows (now bytes) ⌝ }
     requires { ⌜ (512 ≤ length (now block)) × ((i : ℕ) → getD (now block) i 0 ≡ 0) ⌝ }
     ensures { λ _. ⌜ Packed (λ j. column code (now (bytes .entry)) (from + j) n rows) w (now (block .exit)) ⌝ }
@@ -255,8 +266,7 @@ pub fn step_lanes(
     sweep_lanes(gates, n.A, 1 + n.I + n.L, t);
 }
 
-// Rows are stored 64 columns at a time. In such a block a byte has one column's bits in 8 rows, and columns stand side by side, so that the
-// codes of a row are made from bytes in a row, many at once. Here the bytes of a plane become column j of a block.
+// The bytes of a plane, as column j of a block.
 fn put_bytes(plane: u64, j: usize, block: &mut [u8])
     requires { ⌜ (j < 64) × (512 ≤ length (now block)) ⌝ }
     ensures { λ _. ⌜ Striped (byteOf plane) j 64 8 (now (block .entry)) (now (block .exit)) ⌝ }

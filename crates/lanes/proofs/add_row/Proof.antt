@@ -39,13 +39,15 @@ added c =
     let q = turn c in
     let a = start q .args in
     let small : c .before .other-than .result < 2 =
-        omega (arith, c .before .other-than .ensures, other-small (a .code) (getD (a .bytes .now) (a .from + q .before .loop .j) 0)) in
+    omega (arith, c .before .other-than .ensures, other-small (a .code) (getD (a .bytes .now) (a .from + q .before .loop .j) 0)) in
     bit-times (c .before .other-than .result) (a .lit) small
 
 loop-holds : tie.Need-loop-holds Inv-loop μ-loop
 loop-holds c =
-    let a = c .before .before .args in
-    (omega arith, written-none (λ i. getD (a .block .now) (a .to + i) 0 + other (a .code) (getD (a .bytes .now) (a .from + i) 0) * a .lit) (a .to) (a .block .now))
+    let a = c .before .before .args in (
+      omega arith,
+      written-none (λ i. getD (a .block .now) (a .to + i) 0 + other (a .code) (getD (a .bytes .now) (a .from + i) 0) * a .lit) (a .to) (a .block .now),
+    )
 
 add-other-than : tie.Need-add-other-than Inv-loop μ-loop
 add-other-than c = omega (arith, start c .pre .0 .0, c .loop-test .taken)

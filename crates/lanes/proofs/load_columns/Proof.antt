@@ -34,7 +34,8 @@ add-put-columns c = omega (arith, c .before .before .before .before .before .bef
 put-columns-requires : tie.Need-put-columns-requires
 put-columns-requires c κs =
     let s = c .before .before .before .before .before .before .before .before .before .before .before in
-    ((s .pre .0 .narrow, omega (arith, c .before .before .before .before .before .before .ones2 .given), omega (arith, c .before .before .before .zeros2 .given)), s .pre .1)
+    let d = c .before .before .before in
+    ((s .pre .0 .narrow, omega (arith, d .before .before .before .ones2 .given), omega (arith, d .zeros2 .given)), s .pre .1)
 
 same-length : tie.Need-same-length
 same-length c = search needs

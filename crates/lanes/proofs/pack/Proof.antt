@@ -134,8 +134,8 @@ loop-again c =
     let less : w .j < 64 = omega (arith, q .loop-test .taken, start q .pre .1 .1) in
     let is-one = e .before .before .plane-of .ensures ∙ ap (planeAt (a .t .now)) (is-literal d) in
     let is-zero =
-        e .plane-of2 .ensures ∙ (ap (λ (x : Lit). planeAt (a .t .now) (wordOf x)) (e .before .negated .ensures)
-        ∙ ap (λ (l : ℕ). planeAt (a .t .now) (negOf l)) (is-literal d)) in (
+    e .plane-of2 .ensures ∙ (ap (λ (x : Lit). planeAt (a .t .now) (wordOf x)) (e .before .negated .ensures)
+    ∙ ap (λ (l : ℕ). planeAt (a .t .now) (negOf l)) (is-literal d)) in (
       omega (arith, q .loop-test .taken),
       next-at (a .stride) (a .start) (a .from + w .j) (w .at) (w .inv .1) ∙ ap (λ (m : ℕ). a .stride * m + a .start) next,
       c .before .before .before .before .before .ones .given ∙ w .inv .2,

@@ -43,12 +43,14 @@ put-codes-requires : tie.Need-put-codes-requires Inv-loop μ-loop
 put-codes-requires c κs =
     let q = c .before in
     let s = start q in
-    let w = q .before .loop in
-    (omega arith, (
-      omega (arith, q .loop-test .taken, s .pre .0 .most, s .pre .0 .narrow, s .pre .1 .0),
-      omega (arith, q .loop-test .taken, s .pre .0 .most, s .pre .0 .narrow, s .pre .1 .1),
-      omega (arith, row-fits q, s .pre .0 .inside, w .inv .1, w .inv .2 .same),
-    ))
+    let w = q .before .loop in (
+      omega arith,
+      (
+        omega (arith, q .loop-test .taken, s .pre .0 .most, s .pre .0 .narrow, s .pre .1 .0),
+        omega (arith, q .loop-test .taken, s .pre .0 .most, s .pre .0 .narrow, s .pre .1 .1),
+        omega (arith, row-fits q, s .pre .0 .inside, w .inv .1, w .inv .2 .same),
+      ),
+    )
 
 add-to : tie.Need-add-to Inv-loop μ-loop
 add-to c =

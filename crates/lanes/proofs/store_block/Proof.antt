@@ -39,10 +39,10 @@ returns c =
     let a = s .args in
     let packed = c .before .before .before .before .before .before .before .before .pack in
     blocked-same (λ k j h i.
-        packed-code (λ j. planeAt (a .t .now) (literalAt (a .table .now) (a .start) (a .stride) (a .from + j)))
-        (λ j. bothAt (a .t .now) (literalAt (a .table .now) (a .start) (a .stride) (a .from + j))) (a .w)
-        (packed .last .1 .1 .1 .1 .1 .1 .0) (packed .last .1 .1 .1 .1 .1 .1 .1 .0) (packed .ensures .0) (packed .ensures .1) k j
-        (omega (arith, h, s .pre .1 .most)) i)
+    packed-code (λ j. planeAt (a .t .now) (literalAt (a .table .now) (a .start) (a .stride) (a .from + j)))
+    (λ j. bothAt (a .t .now) (literalAt (a .table .now) (a .start) (a .stride) (a .from + j))) (a .w)
+    (packed .last .1 .1 .1 .1 .1 .1 .0) (packed .last .1 .1 .1 .1 .1 .1 .1 .0) (packed .ensures .0) (packed .ensures .1) k j
+    (omega (arith, h, s .pre .1 .most)) i)
     (c .before .before .put-block .ensures)
 
 pub store-block-spec : {M : Type 1} → statement M
