@@ -5,6 +5,8 @@ use mathlib.Core.List.{List, [], _∷_, _++_, append-assoc, append-nil}
 use native.Mathlib.Decide.{decLt}
 use native.Mathlib.Nat.{add-mul, mul-assoc, mul-comm, pow-suc}
 use native.Mathlib.Omega.{arith}
+use borrow.Author.Tests.{eq-eqb, ne-eqb}
+use lib.Bits.{bitXor, xor-add-and, xor-lt, xor-self, and-le-l, and-le-r}
 use lib.ListN.{length, getD, length-append, replicate}
 use lib.Pow.{high, low, pow-add, pow-mono, shr-shr}
 use Rattle.planes.specs.Planes.{planeOf, pairs, other, column}
@@ -215,6 +217,33 @@ module _ (code : ℕ) (bytes : List ℕ) (from n w : ℕ) where
           (ap₂ (λ (x y : ℕ). x + 256 * y) (byte g at (omega arith) e) (byte (g + 1) (at + 64) (omega arith) (omega arith)))
           (ap₂ (λ (x y : ℕ). x + 256 * y) (byte (g + 2) (at + 128) (omega arith) (omega arith))
           (byte (g + 3) (at + 128 + 64) (omega arith) (omega arith)))
+
+-- a difference by a sum
+xor-none : (a b : ℕ) → bitXor a b ≡ 0 → a ≡ b
+xor-none a b e = omega (arith, xor-add-and a b, and-le-l a b, and-le-r a b, e)
+
+pub differs-fits : (b code : ℕ) → b < 256 → code < 256 → bitXor b code < 256
+differs-fits b code h k = xor-lt 8 b code h k
+
+pub differs-is : (b code : ℕ) → b < 256 → code < 256 → (bitXor b code / 2 + bitXor b code % 2 + 127) / 128 ≡ other code b
+differs-is b code h k = go (decLt b code) (decLt code b)
+  where
+    some : (b ≡ code → ⊥) → (bitXor b code / 2 + bitXor b code % 2 + 127) / 128 ≡ other code b
+    some ne =
+        let lit : 0 < bitXor b code = up (bitXor b code) (λ e. ne (xor-none b code e)) in
+        let one : (bitXor b code / 2 + bitXor b code % 2 + 127) / 128 ≡ 1 = omega (arith, lit, differs-fits b code h k) in
+        one ∙ sym (simp (ne-eqb _ _ ne))
+      where
+        up : (x : ℕ) → (x ≡ 0 → ⊥) → 0 < x
+        up zero n = absurd (n refl)
+        up (suc x) n = omega arith
+
+    go : Dec (b < code) → Dec (code < b) → (bitXor b code / 2 + bitXor b code % 2 + 127) / 128 ≡ other code b
+    go (yes p) q = some (λ e. omega (arith, p, e))
+    go (no p) (yes q) = some (λ e. omega (arith, q, e))
+    go (no p) (no q) =
+        let same : b ≡ code = omega arith in
+        ap (λ (x : ℕ). (x / 2 + x % 2 + 127) / 128) (ap (λ (y : ℕ). bitXor y code) same ∙ xor-self code) ∙ sym (simp (eq-eqb _ _ same))
 
 -- a bit times a number is at most the number; a list of zeros
 pub bit-times : (b m : ℕ) → b < 2 → b * m ≤ m

@@ -1,12 +1,21 @@
-use borrow.Author.Tests.{eq-eqb, ne-eqb}
+use Prim.Native.Nat.{_<_}
+use native.Mathlib.Omega.{arith}
+use lib.Bits.{bitXor}
+use Rattle.lanes.proofs.Loading.{differs-fits, differs-is}
 use Rattle.lanes.proofs.other_than.Statement.{statement}
 use Rattle.lanes.proofs.other_than.Tie as tie
 
-returns : tie.Need-returns
-returns c = simp (eq-eqb _ _ (c .if1 .taken))
+fits : (c : tie.Start) → bitXor (c .args .b) (c .args .code) < 256
+fits c = differs-fits (c .args .b) (c .args .code) (omega arith) (omega arith)
 
-returns-2 : tie.Need-returns-2
-returns-2 c = simp (ne-eqb _ _ (c .if1 .left))
+add-result : tie.Need-add-result
+add-result c = omega (arith, fits c)
+
+add-result-2 : tie.Need-add-result-2
+add-result-2 c = omega (arith, fits c)
+
+returns : tie.Need-returns
+returns c = differs-is (c .args .b) (c .args .code) (omega arith) (omega arith)
 
 pub other-than-spec : {M : Type 1} → statement M
-other-than-spec = tie.close (tie.spec returns returns-2)
+other-than-spec = tie.close (tie.spec add-result add-result-2 returns)
