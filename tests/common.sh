@@ -51,10 +51,16 @@ archive_is_built() {
     is_younger target/staticlib/libdesk.a crates crates.txt
 }
 
+# on_proofs COMMAND..: an `rt` over the repository, while no other is: two would write over each other's words on what is proved.
+on_proofs() {
+    mkdir -p target
+    flock target/proofs-lock "$@"
+}
+
 build_archive() {
     mkdir -p target/desk
     archive_is_built && return
-    rt staticlib desk >target/desk/archive.log 2>&1 || {
+    on_proofs rt staticlib desk >target/desk/archive.log 2>&1 || {
         cat target/desk/archive.log
         give_up "the archive isn't built"
     }
@@ -71,7 +77,7 @@ build_over_desk() {
 # build_programs NAME..: target/bin/NAME, proved unless nothing changed since it was.
 build_programs() {
     mkdir -p target
-    rt check "$@" >target/programs.log 2>&1 || {
+    on_proofs rt check "$@" >target/programs.log 2>&1 || {
         cat target/programs.log
         give_up "$* not built"
     }
