@@ -23,7 +23,7 @@ abbrev pub after : List Gate → Parse (List Gate) → Parse (List Gate)
 after gs (got hs next) = got (gs ++ hs) next
 after gs (refused r) = refused r
 
-after-none : (p : Parse (List Gate)) → after [] p ≡ p
+pub after-none : (p : Parse (List Gate)) → after [] p ≡ p
 after-none (got hs next) = refl
 after-none (refused r) = refl
 
@@ -39,7 +39,7 @@ words-last : (gs : List Gate) (g : Gate) → wordsOf (gs ++ (g ∷ [])) ≡ word
 words-last [] g = refl
 words-last (h ∷ gs) g = ap (λ (l : List ℕ). h .lhs ∷ h .rhs0 ∷ h .rhs1 ∷ l) (words-last gs g)
 
-words-length : (gs : List Gate) → length (wordsOf gs) ≡ 3 * length gs
+pub words-length : (gs : List Gate) → length (wordsOf gs) ≡ 3 * length gs
 words-length [] = refl
 words-length (g ∷ gs) = let h = words-length gs in omega arith
 
