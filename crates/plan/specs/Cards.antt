@@ -18,7 +18,7 @@ use Rattle.plan.specs.Bytes.{Placed}
 use Rattle.plan.specs.Header.{binary, over, adds}
 use Rattle.plan.specs.Binary.{litsFrom, latchesFrom, binaryOf, binaryOrder}
 use Rattle.plan.specs.Reading.{WellFormed, readToWork}
-use Rattle.plan.specs.Given.{Given, given, lentAlone, orElse, failing, outsideIn, stages, orderStage, tailStage, roomStage}
+use Rattle.plan.specs.Given.{Given, given, orElse, failing, outsideIn, tailStage, roomStage, inOrderThen}
 use Rattle.plan.specs.Outcome.{ReadEntry, LoadExit, loadBy, FileEntry, FileExit, writtenBy, put}
 use Rattle.plan.specs.Programs.{lentWords, input, fitting, printed}
 use Rattle.plan.specs.Whole.{fittingIn}
@@ -192,8 +192,7 @@ abbrev pub writeCards : FileEntry → FileExit
 writeCards e =
     let g = e .circuit in
     let bytes = cardsOf (given g) in
-    writtenBy (firstOf (stages g (lentAlone g)
-    ++ (orderStage g ∷ tailStage g (e .tail) ∷ cardStage g (e .tail) ∷ roomStage (e .out) bytes ∷ []))) e bytes
+    writtenBy (firstOf (inOrderThen g (tailStage g (e .tail) ∷ cardStage g (e .tail) ∷ roomStage (e .out) bytes ∷ []))) e bytes
 
 -- whole files: from the bytes of an input to the bytes that are written, for any tables lent
 pub record CardEntry : Type 0 where

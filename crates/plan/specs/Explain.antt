@@ -12,7 +12,7 @@ use Rattle.plan.specs.declared.Stepped.the-variants.{Done, Refused}
 use Rattle.plan.specs.Literals.{varOf}
 use Rattle.plan.specs.Refusals.{stage, firstOf}
 use Rattle.plan.specs.Circuit.{Gate, Circuit, cleared, vars, currents, has}
-use Rattle.plan.specs.Given.{Given, given, lentAlone, orElse, failingAt, stages, orderStage, roomStage}
+use Rattle.plan.specs.Given.{Given, given, orElse, failingAt, roomStage, inOrderThen}
 use Rattle.plan.specs.Step.{Value, v0, v1, vx, valueOf, same, lit, valuesOf}
 use Rattle.plan.specs.Outcome.{put, vectorOf}
 use Rattle.plan.specs.Walk.{Walked, walk}
@@ -112,6 +112,4 @@ explainedBy (some r) e = record { answer = Refused r; scratch = cleared (e .circ
 abbrev pub explain : ExplainEntry → ExplainExit
 explain e =
     let g = e .circuit in
-    explainedBy
-    (firstOf (stages g (lentAlone g)
-    ++ (orderStage g ∷ vectorsStage e ∷ outputStage e ∷ roomStage (e .marks) (marksAsked e) ∷ []))) e
+    explainedBy (firstOf (inOrderThen g (vectorsStage e ∷ outputStage e ∷ roomStage (e .marks) (marksAsked e) ∷ []))) e

@@ -12,7 +12,7 @@ use Rattle.plan.specs.declared.Finding.{Finding}
 use Rattle.plan.specs.declared.Finding.the-variants.{Yes, No, Undecided, Refused}
 use Rattle.plan.specs.Refusals.{stage, firstOf}
 use Rattle.plan.specs.Circuit.{Circuit, cleared}
-use Rattle.plan.specs.Given.{given, lentAlone, failingAt, stages, orderStage}
+use Rattle.plan.specs.Given.{given, failingAt, inOrderThen}
 use Rattle.plan.specs.Step.{codeOf, valueOf, first, run, vectorsOf, shows1}
 use Rattle.plan.specs.Outcome.{WitnessEntry, listStage}
 
@@ -113,7 +113,7 @@ witness e =
     let w = e .list in
     let g = w .circuit in
     record {
-      answer = findingBy (firstOf (stages g (lentAlone g) ++ (orderStage g ∷ listStage w ∷ xStage w ∷ [])))
+      answer = findingBy (firstOf (inOrderThen g (listStage w ∷ xStage w ∷ [])))
           (question (given g) (w .number) (w .bytes) (e .allowance));
       scratch = cleared (g .scratch);
     }

@@ -97,6 +97,10 @@ stages g lent =
 abbrev pub orderStage : Given → Option Refusal
 orderStage g = stage NotInOrder (failing (binaryOrder (given g)))
 
+-- the stages of a call that asks for binary order: those of its tables, 15, and its own
+abbrev pub inOrderThen : Given → List (Option Refusal) → List (Option Refusal)
+inOrderThen g more = stages g (lentAlone g) ++ (orderStage g ∷ more)
+
 -- then the tail by 1 and 10, with offsets within the tail
 abbrev pub refusalOf : {A : Type 0} → Parse A → Option Refusal
 refusalOf (got a next) = none

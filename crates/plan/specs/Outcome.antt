@@ -39,7 +39,7 @@ use Rattle.plan.specs.Text.{textOf}
 use Rattle.plan.specs.Difference.{groupsOf}
 use Rattle.plan.specs.Binary.{binaryOf}
 use Rattle.plan.specs.Reading.{readFile}
-use Rattle.plan.specs.Given.{Given, given, lentAlone, lentWith, orElse, failingAt, stages, orderStage, tailStage, room, roomStage}
+use Rattle.plan.specs.Given.{Given, given, lentAlone, lentWith, orElse, failingAt, stages, orderStage, tailStage, room, roomStage, inOrderThen}
 use Rattle.plan.specs.Convert.{convert}
 use Rattle.plan.specs.Reduce.{reduce}
 use Rattle.plan.specs.Step.{codeOf, valueOf, isCode, outputsOf, nextOf, witnessed}
@@ -198,7 +198,7 @@ check g = checkBy (stages g (lentAlone g)) g
 
 -- the same, then 15
 abbrev pub checkInOrder : Given → CheckExit
-checkInOrder g = checkBy (stages g (lentAlone g) ++ (orderStage g ∷ [])) g
+checkInOrder g = checkBy (inOrderThen g []) g
 
 -- the writers: given tables, a tail and a buffer
 pub record FileEntry : Type 0 where
@@ -225,7 +225,7 @@ abbrev pub writeBinary : FileEntry → FileExit
 writeBinary e =
     let g = e .circuit in
     let bytes = binaryOf (given g) ++ e .tail in
-    writtenBy (firstOf (stages g (lentAlone g) ++ (orderStage g ∷ tailStage g (e .tail) ∷ roomStage (e .out) bytes ∷ []))) e bytes
+    writtenBy (firstOf (inOrderThen g (tailStage g (e .tail) ∷ roomStage (e .out) bytes ∷ []))) e bytes
 
 -- conversion and reduction: given tables, and tables lent for writing
 pub record MakeEntry : Type 0 where
@@ -295,7 +295,7 @@ steppedBy (some r) e = record { answer = stepped.Refused r; scratch = cleared (e
 abbrev pub step : StepEntry → StepExit
 step e =
     let g = e .circuit in
-    steppedBy (firstOf (stages g (lentAlone g) ++ (orderStage g ∷ stepStage e ∷ []))) e
+    steppedBy (firstOf (inOrderThen g (stepStage e ∷ []))) e
 
 -- the witness question in three values: given tables, a number of vectors and their bytes
 pub record WitnessEntry : Type 0 where
@@ -319,6 +319,6 @@ abbrev pub witness3 : WitnessEntry → WitnessExit
 witness3 e =
     let g = e .circuit in
     record {
-      answer = verdictBy (firstOf (stages g (lentAlone g) ++ (orderStage g ∷ listStage e ∷ []))) (witnessed (given g) (e .number) (e .bytes));
+      answer = verdictBy (firstOf (inOrderThen g (listStage e ∷ []))) (witnessed (given g) (e .number) (e .bytes));
       scratch = cleared (g .scratch);
     }

@@ -8,7 +8,7 @@ use Rattle.plan.specs.declared.Refusal.{Refusal}
 use Rattle.plan.specs.declared.Refusal.the-variants.{ManyGates}
 use Rattle.plan.specs.Refusals.{got, _then_, unless, stage, firstOf}
 use Rattle.plan.specs.Reading.{readToWork}
-use Rattle.plan.specs.Given.{Given, lentAlone, failingAt, stages, orderStage}
+use Rattle.plan.specs.Given.{Given, failingAt, inOrderThen}
 use Rattle.plan.specs.Convert.{convert}
 use Rattle.plan.specs.Step.{valueOf, run, first}
 use Rattle.plan.specs.Outcome.{StepEntry, StepExit, stepStage, steppedBy}
@@ -26,13 +26,13 @@ gatesStage g = stage ManyGates (manyGates (g .counts .A))
 abbrev pub plainStep : StepEntry → StepExit
 plainStep e =
     let g = e .circuit in
-    steppedBy (firstOf (stages g (lentAlone g) ++ (orderStage g ∷ gatesStage g ∷ stepStage e ∷ []))) e
+    steppedBy (firstOf (inOrderThen g (gatesStage g ∷ stepStage e ∷ []))) e
 
 -- a part of a run: the tracer's outcome, with 24 just after 15
 abbrev pub plainTrace : TraceEntry → TraceExit
 plainTrace e =
     let g = e .circuit in
-    tracedBy (firstOf (stages g (lentAlone g) ++ (orderStage g ∷ gatesStage g ∷ traceStage e ∷ []))) e
+    tracedBy (firstOf (inOrderThen g (gatesStage g ∷ traceStage e ∷ []))) e
 
 -- the comparer writes the tracer's lines, which both engines give; 24 is judged with plan.in, before standard input is read
 abbrev pub comparer : Option (List ℕ) → Option (List ℕ) → List ℕ

@@ -15,7 +15,7 @@ use Rattle.plan.specs.Refusals.{stage, firstOf}
 use Rattle.plan.specs.Circuit.{Gate, Circuit, cleared}
 use Rattle.plan.specs.Depends.{find}
 use Rattle.plan.specs.Binary.{litsFrom}
-use Rattle.plan.specs.Given.{Given, given, lentAlone, failingAt, failing, stages, orderStage}
+use Rattle.plan.specs.Given.{Given, given, failingAt, failing, inOrderThen}
 use Rattle.plan.specs.Step.{Value, v0, codeOf, valueOf, lit, gateValue, valuesOf}
 use Rattle.plan.specs.Outcome.{put, vector}
 
@@ -112,5 +112,5 @@ rewiredBy (some r) e = record {
 abbrev pub rewiring : RewireEntry → RewireExit
 rewiring e =
     let g = e .circuit in
-    rewiredBy (firstOf (stages g (lentAlone g) ++ (orderStage g
-    ∷ (editStages (g .counts) (e .gate) (e .rhs0) (e .rhs1) (length (e .values)) ++ (stage WrongValue (wrongOn (given g) (e .values)) ∷ []))))) e
+    rewiredBy (firstOf (inOrderThen g
+    (editStages (g .counts) (e .gate) (e .rhs0) (e .rhs1) (length (e .values)) ++ (stage WrongValue (wrongOn (given g) (e .values)) ∷ [])))) e

@@ -10,7 +10,7 @@ use Rattle.plan.specs.declared.Stepped.{Stepped}
 use Rattle.plan.specs.declared.Stepped.the-variants as stepped
 use Rattle.plan.specs.Refusals.{stage, firstOf}
 use Rattle.plan.specs.Circuit.{Circuit, flat, filled, cleared}
-use Rattle.plan.specs.Given.{Given, given, lentAlone, orElse, failingAt, stages, orderStage}
+use Rattle.plan.specs.Given.{Given, given, orElse, failingAt, inOrderThen}
 use Rattle.plan.specs.Step.{codeOf, Step, stepOf, first, vectorsOf}
 use Rattle.plan.specs.Outcome.{vector, vectorOf}
 use Rattle.plan.specs.Sixth.{sixthStages}
@@ -82,7 +82,7 @@ steppedRows (some r) e = record { answer = stepped.Refused r; scratch = cleared 
 abbrev pub stepRows : RowsEntry → RowsExit
 stepRows e =
     let g = e .circuit in
-    steppedRows (firstOf (stages g (lentAlone g) ++ (orderStage g ∷ rowStage e ∷ []))) e
+    steppedRows (firstOf (inOrderThen g (rowStage e ∷ []))) e
 
 -- the row report: given tables, a number of rows and their inputs, and table 6, of three words for each output
 pub record RowReportEntry : Type 0 where

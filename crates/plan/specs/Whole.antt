@@ -21,7 +21,7 @@ use Rattle.plan.specs.Header.{header}
 use Rattle.plan.specs.Binary.{binaryOf}
 use Rattle.plan.specs.Tail.{endsLine}
 use Rattle.plan.specs.Reading.{readToWork}
-use Rattle.plan.specs.Given.{Given, given, lentAlone, orElse, stages, orderStage, room}
+use Rattle.plan.specs.Given.{Given, given, orElse, room, inOrderThen}
 use Rattle.plan.specs.Convert.{convert}
 use Rattle.plan.specs.Reduce.{reduce}
 use Rattle.plan.specs.Drop.{dropUnused}
@@ -192,4 +192,4 @@ tracedBy (some r) e = record { answer = traced.Refused r; scratch = cleared (e .
 abbrev pub trace : TraceEntry → TraceExit
 trace e =
     let g = e .circuit in
-    tracedBy (firstOf (stages g (lentAlone g) ++ (orderStage g ∷ traceStage e ∷ []))) e
+    tracedBy (firstOf (inOrderThen g (traceStage e ∷ []))) e
