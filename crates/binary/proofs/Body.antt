@@ -15,7 +15,7 @@ use Rattle.plan.specs.Header.{moreResets}
 use Rattle.plan.specs.Binary.{gatesFrom, litsFrom, latchesFrom, binaryBody}
 use Rattle.plan.specs.Outcome.{put}
 use Rattle.theorems.proofs.Held.{Holds, BodySays}
-use Rattle.observed.specs.Observed.{Observed, observedAt}
+use Rattle.observed.specs.Observed.{observedAt}
 use Rattle.observed.proofs.Answers.{Read, Answered, was-read, was-refused}
 use Rattle.observed.proofs.Lists.{AllHeld, regroup}
 use Rattle.binary.proofs.Parts.{LatchesHeld, GatesHeld}

@@ -1,7 +1,7 @@
 -- The parts of the body: lines of next states with their resets, whatever the marks are, and gates.
 use Prim.Native.Nat.{ℕ, suc, zero, _≤_}
-use mathlib.Core.Path.{_≡_, refl, sym, ap, _∙_, subst}
-use mathlib.Core.Bool.{Bool, false}
+use mathlib.Core.Path.{_≡_, refl, ap, _∙_, subst}
+use mathlib.Core.Bool.{false}
 use mathlib.Core.List.{List, [], _∷_, _++_, map}
 use native.Mathlib.Omega.{arith}
 use Rattle.plan.specs.declared.Version.{Version}

@@ -1,15 +1,15 @@
 -- One line more of a run by the plain engine: the laws of the tracer's lines, over a table that would hold the state.
-use Prim.Native.Nat.{ℕ, _+_, _-_, _*_, _≤_, _<_}
+use Prim.Native.Nat.{ℕ, _+_, _-_, _≤_, _<_}
 use mathlib.Core.Path.{_≡_, refl, sym, ap, _∙_, subst}
 use mathlib.Core.Bool.{true, _&&_}
-use mathlib.Core.List.{List, [], _∷_, _++_, map}
+use mathlib.Core.List.{List, _∷_, _++_, map}
 use native.Mathlib.Omega.{arith}
 use borrow.Rule.Slice.PartMut.{midOf}
 use lib.Dec.{eqb}
 use lib.ListN.{length, take, drop, replicate, length-map, length-replicate}
 use lib.Seq.{take-length, drop-append-add}
 use Rattle.plan.specs.declared.Counts.{Counts}
-use Rattle.plan.specs.Circuit.{Circuit, Tables, circuitOf}
+use Rattle.plan.specs.Circuit.{Circuit}
 use Rattle.plan.specs.Step.{Value, codeOf, valueOf, nextOf}
 use Rattle.plan.specs.Outcome.{allCodes}
 use Rattle.plan.specs.Programs.{linesIn, allVectors}
@@ -18,10 +18,10 @@ use Rattle.theorems.proofs.Reading.Common.{and-left, and-right}
 use Rattle.theorems.proofs.Writing.Stepping.{codes-values, all-codes}
 use Rattle.values.specs.Words.{told, word, words}
 use Rattle.values.proofs.Codes.{told-words}
-use Rattle.sweep.specs.Running.{Runs, Rests}
+use Rattle.sweep.specs.Running.{Rests}
 use Rattle.trace.specs.Tracing.{Wrote, firstOnes, Ran, Left}
 use Rattle.trace.proofs.Lines.{next-line}
-use Rattle.trace.proofs.Running.{Lining, Going, going-first, all-gone, ins-long}
+use Rattle.trace.proofs.Running.{Lining, Going, all-gone, ins-long}
 use Rattle.comparing.specs.Lined.{Vector, Lined}
 use Rattle.comparing.proofs.Lines.{values-codes}
 

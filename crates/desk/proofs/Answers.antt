@@ -9,7 +9,7 @@ use Rattle.plan.specs.Outcome.{CheckExit, FileEntry, FileExit, MakeEntry, MakeE
 use Rattle.plan.specs.Outcome as outcome
 use Rattle.plan.specs.Fillings.{FilledExit}
 use Rattle.plan.specs.Fillings as fillings
-use Rattle.desk.specs.Told.{CheckTold, check, FileTold, toldFile, MakeTold, toldMade, StepTold, step, WitnessTold, witness, witness3, ExplainTold, explain, toldStep, RewireTold, rewiring}
+use Rattle.desk.specs.Told.{CheckTold, check, FileTold, toldFile, MakeTold, toldMade, StepTold, WitnessTold, witness, witness3, ExplainTold, explain, toldStep, RewireTold, rewiring}
 use Rattle.plan.specs.Explain.{ExplainExit}
 use Rattle.plan.specs.Explain as blame
 use Rattle.plan.specs.Rewire.{RewireExit}

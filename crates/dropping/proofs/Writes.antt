@@ -11,7 +11,7 @@ use Rattle.plan.specs.declared.Version.the-variants.{V19}
 use Rattle.plan.specs.declared.Refusal.{Refusal}
 use Rattle.plan.specs.declared.Made.the-variants as made
 use Rattle.plan.specs.Refusals.{firstOf}
-use Rattle.plan.specs.Circuit.{Circuit, Tables, countsOf, lengthsOf, wordsToWork, against, short}
+use Rattle.plan.specs.Circuit.{Tables, countsOf, lengthsOf, wordsToWork, against, short}
 use Rattle.plan.specs.Binary.{binaryOf, binaryOrder}
 use Rattle.plan.specs.Tail.{TailOk}
 use Rattle.plan.specs.Given.{Given, given, lentAlone, lentWith, stages, orderStage}

@@ -1,15 +1,14 @@
 -- The word of a filled place, and those of a filled vector; the codes of resets.
 use Prim.Native.Nat.{ℕ, zero, suc, _+_, _/_, _%_, _^_, _≤_, _<_}
 use mathlib.Core.Path.{_≡_, refl, sym, ap, ap₂, _∙_, subst}
-use mathlib.Core.Bool.{Bool, true, false, cond}
+use mathlib.Core.Bool.{Bool, cond}
 use mathlib.Core.List.{List, [], _∷_, map}
 use native.Mathlib.Omega.{arith}
 use borrow.Author.Tests.{ne-eqb}
 use lib.Bits.{bitAnd, and-mask}
-use lib.Dec.{eqb}
 use lib.ListN.{length, getD, take, length-map}
 use lib.Seq.{length-take-le}
-use Rattle.plan.specs.Step.{Value, v0, v1, vx, codeOf, valueOf, resetValue}
+use Rattle.plan.specs.Step.{v0, v1, vx, codeOf, valueOf, resetValue}
 use Rattle.theorems.proofs.Tables.{firsts}
 use Rattle.values.specs.Words.{word, words}
 use Rattle.values.proofs.Codes.{loaded}

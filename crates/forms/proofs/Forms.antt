@@ -5,7 +5,7 @@ use mathlib.Core.List.{List, [], _++_, append-nil}
 use native.Mathlib.Omega.{arith}
 use lib.ListN.{length}
 use Rattle.plan.specs.Outcome.{put}
-use Rattle.print.proofs.Filling.{Filling, none-filled, part-room, part-filled, all-filled, all-ends}
+use Rattle.print.proofs.Filling.{Filling, none-filled, part-filled, all-filled, all-ends}
 use Rattle.forms.proofs.Filled.{Puts, first-fits, first-filled, next-fits, next-filled, last-filled}
 
 -- three parts from a position on

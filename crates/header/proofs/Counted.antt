@@ -1,13 +1,13 @@
 -- Nine words that hold the counts of a line of five to nine numbers, those left off being 0.
 use Prim.Native.Nat.{ℕ, suc, zero, _+_, _≤_, _<_}
-use mathlib.Core.Path.{_≡_, refl, sym, ap, ap₂, _∙_}
+use mathlib.Core.Path.{_≡_, refl, sym, ap, _∙_}
 use mathlib.Core.Bool.{Bool, true, false, cond}
-use mathlib.Core.Option.{Option, none, some}
+use mathlib.Core.Option.{none, some}
 use mathlib.Core.List.{List, [], _∷_, _++_, map}
 use native.Mathlib.Omega.{arith}
 use native.Mathlib.Decide.{ℕ-discrete}
 use borrow.Author.Tests.{le-leb, lt-leb, eq-eqb, ne-eqb, leb-true, leb-false}
-use lib.Dec.{eqb, leb}
+use lib.Dec.{leb}
 use lib.ListN.{length, getD, drop, replicate}
 use lib.Seq.{getD-drop}
 use Rattle.plan.specs.declared.Counts.{Counts}
@@ -17,16 +17,15 @@ use Rattle.plan.specs.declared.Refusal.the-variants.{LargeCount, WrongSum, Just
 use Rattle.plan.specs.declared.Passed.the-variants.{To, Refused}
 use Rattle.plan.specs.declared.Headed.the-variants as headed
 use Rattle.plan.specs.Literals.{most}
-use Rattle.plan.specs.Refusals.{Parse, got, refused, _then_, unless}
+use Rattle.plan.specs.Refusals.{Parse, got, refused}
 use Rattle.plan.specs.Bytes.{Placed, numbers, values}
-use Rattle.plan.specs.Header.{moreCounts, Form, countsFrom, over, above0, adds, Head}
+use Rattle.plan.specs.Header.{moreCounts, Form, countsFrom, over, above0, adds}
 use Rattle.plan.specs.Outcome.{passedBy, put, headedBy, formOf}
 use Rattle.theorems.proofs.Marks.{zeros}
 use Rattle.theorems.proofs.Reading.Cut.{cut}
 use Rattle.theorems.proofs.Reading.Headers.{counts-at-most, values-drop}
 use Rattle.theorems.proofs.Reading.Lines.{numbers-took}
 use Rattle.lines.specs.Rows.{placesOf, Numbered}
-use Rattle.lines.proofs.Numbers.{values-length, places-length}
 use Rattle.header.specs.Parts.{Above, counted, sums}
 
 passed-to : {A : Type 0} (p : Parse A) (next : ℕ) → To next ≡ passedBy p → (a : A) × (p ≡ got a next)

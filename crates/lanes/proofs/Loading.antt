@@ -7,7 +7,7 @@ use native.Mathlib.Nat.{add-mul, mul-assoc, mul-comm, pow-suc}
 use native.Mathlib.Omega.{arith}
 use borrow.Author.Tests.{eq-eqb, ne-eqb}
 use lib.Bits.{bitXor, xor-add-and, xor-lt, xor-self, and-le-l, and-le-r}
-use lib.ListN.{length, getD, length-append, replicate}
+use lib.ListN.{getD, length-append, replicate}
 use lib.Pow.{high, low, pow-add, pow-mono, shr-shr}
 use Rattle.planes.specs.Planes.{planeOf, pairs, other, column}
 use Rattle.planes.proofs.Bits.{plane-lt}

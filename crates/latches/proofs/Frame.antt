@@ -1,8 +1,8 @@
 -- The three numbers of a latch, whichever of them stand in its line.
-use Prim.Native.Nat.{ℕ, suc, zero, _+_, _*_, _%_, _≤_, _<_}
+use Prim.Native.Nat.{ℕ, _+_, _*_, _≤_, _<_}
 use mathlib.Core.Path.{_≡_, refl, sym, ap, ap₂, _∙_}
-use mathlib.Core.Bool.{Bool, true, false, cond, _&&_, _||_, false≢true}
-use mathlib.Core.Option.{Option, none, some}
+use mathlib.Core.Bool.{Bool, true, false, cond, _||_, false≢true}
+use mathlib.Core.Option.{none, some}
 use mathlib.Core.List.{List, [], _∷_, map}
 use native.Mathlib.Omega.{arith}
 use borrow.Author.Tests.{eqb-true, eq-eqb, le-leb, leb-true}
@@ -14,7 +14,7 @@ use Rattle.plan.specs.Refusals.{got}
 use Rattle.plan.specs.Bytes.{Placed, numbers, values}
 use Rattle.plan.specs.Given.{orElse}
 use Rattle.plan.specs.Outcome.{passedBy, put}
-use Rattle.theorems.proofs.Reading.Common.{and-left, and-right}
+use Rattle.theorems.proofs.Reading.Common.{and-right}
 use Rattle.theorems.proofs.Reading.Cut.{cut}
 use Rattle.theorems.proofs.Reading.Lines.{numbers-took}
 use Rattle.theorems.proofs.Reading.Steps.{cut-range, cut-reset}

@@ -9,7 +9,7 @@ use lib.ListN.{length, length-append, length-map}
 use Rattle.plan.specs.declared.Refusal.{Refusal}
 use Rattle.plan.specs.declared.Refusal.the-variants.{DefinedTwice}
 use Rattle.plan.specs.declared.Passed.the-variants.{To, Refused}
-use Rattle.plan.specs.Literals.{varOf, litOf}
+use Rattle.plan.specs.Literals.{varOf}
 use Rattle.plan.specs.Refusals.{Parse, got, refused}
 use Rattle.plan.specs.Circuit.{Latch, literalOf, latchOf, latchLine, has, heads, flat}
 use Rattle.plan.specs.Bytes.{latchLineAt, latchLines, resetAfter}

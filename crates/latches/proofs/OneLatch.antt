@@ -1,5 +1,5 @@
 -- One line of a latch: by 1 and 5 first, then by 6.
-use Prim.Native.Nat.{ℕ, suc, zero, _+_, _*_, _/_, _≤_, _<_}
+use Prim.Native.Nat.{ℕ, suc, zero, _+_, _*_, _≤_, _<_}
 use mathlib.Core.Path.{_≡_, refl, sym, ap, ap₂, _∙_, subst}
 use mathlib.Core.Bool.{Bool, true, false, cond, _&&_}
 use mathlib.Core.Option.{Option, none, some}
@@ -11,7 +11,7 @@ use Rattle.plan.specs.declared.Refusal.the-variants.{OutOfRange, DefinedTwice}
 use Rattle.plan.specs.declared.Passed.the-variants.{To, Refused}
 use Rattle.plan.specs.Literals.{most, varOf, litOf}
 use Rattle.plan.specs.Refusals.{Parse, got, refused, _then_, unless}
-use Rattle.plan.specs.Circuit.{literalOf, has, inside, latchLine}
+use Rattle.plan.specs.Circuit.{literalOf, has, latchLine}
 use Rattle.plan.specs.Bytes.{number, goesOn, less, Placed, numbers, values, outside, wrongReset, ownOf, twice, latchLineAt, resetAfter}
 use Rattle.plan.specs.Given.{orElse}
 use Rattle.plan.specs.Outcome.{passedBy, put}

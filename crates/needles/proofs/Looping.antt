@@ -1,15 +1,15 @@
 -- One needle more: the rows before it are done, and its own is as it was.
 use Prim.Native.Nat.{ℕ, _+_, _*_, _/_, _≤_, _<_}
 use mathlib.Core.Path.{_≡_, refl, sym, ap, ap₂, _∙_}
-use mathlib.Core.List.{List, []}
+use mathlib.Core.List.{List}
 use native.Mathlib.Omega.{arith}
 use lib.ListN.{length, getD, take, drop, set}
 use lib.Seq.{getD-drop}
 use Rattle.plan.specs.Outcome.{put}
-use Rattle.theorems.proofs.Put.{put-none, put-length}
+use Rattle.theorems.proofs.Put.{put-none}
 use Rattle.plan.specs.Report.{inTurn}
-use Rattle.needles.specs.Tally.{counted, finished, rowFrom, Counts1, CountsAll, countedAll, finishedAll}
-use Rattle.needles.proofs.Rows.{turn-length, next-put, rest-stays}
+use Rattle.needles.specs.Tally.{counted, finished, rowFrom, Counts1, CountsAll}
+use Rattle.needles.proofs.Rows.{next-put, rest-stays}
 use Rattle.needles.proofs.Counting.{finished-put}
 
 -- after i rows

@@ -1,10 +1,10 @@
 -- Rows of four words, one after the other: each at its own place, and a list of rows that grows by its last one.
 use Prim.Native.Nat.{ℕ, zero, suc, _+_, _*_, _≤_, _<_}
 use mathlib.Core.Path.{_≡_, refl, sym, ap, ap₂, _∙_}
-use mathlib.Core.List.{List, [], _∷_, _++_, append-assoc, append-nil}
+use mathlib.Core.List.{List, _++_, append-assoc, append-nil}
 use native.Mathlib.Omega.{arith}
 use native.Mathlib.Decide.{decLt}
-use lib.ListN.{length, getD, take, drop, length-append, length-drop}
+use lib.ListN.{length, take, drop, length-append}
 use lib.Seq.{drop-at, take-at, drop-drop}
 use Rattle.plan.specs.Outcome.{put}
 use Rattle.theorems.proofs.Put.{put-put, put-there}

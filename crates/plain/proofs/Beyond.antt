@@ -1,5 +1,5 @@
 -- What the check of given tables tells where 24 and one stage more come after 15: the refusal that is answered, or what that stage says.
-use Prim.Native.Nat.{ℕ, _≤_, _<_}
+use Prim.Native.Nat.{_≤_, _<_}
 use mathlib.Core.Path.{_≡_, refl, ap, _∙_}
 use mathlib.Core.Bool.{Bool}
 use mathlib.Core.Option.{Option, none, some}

@@ -10,11 +10,10 @@ use lib.ListN.{length, getD, take, drop, drop-of-length-le, List·getD-append}
 use lib.Seq.{take-at, getD-take, getD-append-seam}
 use Rattle.plan.specs.declared.Counts.{Counts}
 use Rattle.plan.specs.Literals.{varOf}
-use Rattle.plan.specs.Circuit.{Circuit, Tables, circuitOf, nexts}
+use Rattle.plan.specs.Circuit.{Circuit, Tables, circuitOf}
 use Rattle.plan.specs.Step.{Value, v0, v1, vx, codeOf, valueOf, lit, valuesOf, outputsOf, nextOf}
 use Rattle.plan.specs.Outcome.{allCodes, put}
 use Rattle.theorems.proofs.Tables.{firsts, length-firsts, words-take}
-use Rattle.used.specs.Least.{every}
 use Rattle.used.proofs.Walked.{one-word}
 use Rattle.values.proofs.Filling.{map-firsts}
 use Rattle.sweep.specs.Running.{these, Runs}

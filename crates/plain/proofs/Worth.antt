@@ -1,16 +1,15 @@
 -- The value of each variable of tables in binary order: the constant's, an input's, a latch's, a gate's; and that it is the step's.
-use Prim.Native.Nat.{ℕ, suc, _+_, _-_, _*_, _≤_, _<_}
-use mathlib.Core.Path.{_≡_, sym, ap, ap₂, _∙_, subst}
+use Prim.Native.Nat.{ℕ, suc, _+_, _-_, _≤_, _<_}
+use mathlib.Core.Path.{_≡_, sym, ap, _∙_, subst}
 use mathlib.Core.Bool.{true}
-use mathlib.Core.List.{List, _++_, map}
+use mathlib.Core.List.{List, map}
 use native.Mathlib.Omega.{arith}
 use lib.ListN.{length, getD, length-map, length-append, List·getD-append, List·getD-map}
 use lib.Seq.{getD-append-add}
 use Rattle.plan.specs.declared.Counts.{Counts}
-use Rattle.plan.specs.Literals.{varOf}
 use Rattle.plan.specs.Circuit.{Gate, Circuit, Tables, circuitOf}
 use Rattle.plan.specs.Depends.{find}
-use Rattle.plan.specs.Step.{Value, v0, vx, codeOf, valueOf, and, lit, gateValue, valueIn, valuesOf}
+use Rattle.plan.specs.Step.{Value, vx, codeOf, valueOf, and, lit, gateValue, valueIn, valuesOf}
 use Rattle.plan.specs.Outcome.{allCodes}
 use Rattle.theorems.proofs.Tables.{gateAt, gatesAt, gates-rows}
 use Rattle.theorems.proofs.Reading.Runs.{BinaryOrder, order-exactly}

@@ -2,13 +2,12 @@
 use Prim.Native.Nat.{ℕ, suc, zero, _+_, _*_, _-_, _^_, _<_, _≤_}
 use mathlib.Core.Path.{_≡_, refl, sym, ap, ap₂, subst, _∙_}
 use mathlib.Core.Bool.{Bool, true, false}
-use mathlib.Core.List.{List, [], _∷_, _++_, map, append-assoc, append-nil}
+use mathlib.Core.List.{List, [], _∷_, _++_, append-assoc}
 use native.Mathlib.Numerals.{add-one}
 use native.Mathlib.Omega.{arith}
 use lib.ListN.{length, getD, take, drop, length-append}
 use lib.Seq.{drop-cons, drop-drop}
-use Rattle.plan.specs.Circuit.{rowsOf}
-use Rattle.plan.specs.Bytes.{digits, endOf, lineOf, linesOf, unlessZero}
+use Rattle.plan.specs.Bytes.{digits, endOf, linesOf}
 use Rattle.plan.specs.Outcome.{put}
 use Rattle.theorems.proofs.Tables.{row-word}
 use Rattle.theorems.proofs.Put.{put-put, put-length}

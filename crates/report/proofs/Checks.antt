@@ -2,9 +2,8 @@
 use Prim.Native.Nat.{ℕ, _+_, _*_, _≤_, _<_}
 use mathlib.Core.Path.{_≡_, refl, sym, ap, ap₂, _∙_}
 use mathlib.Core.Bool.{Bool, true, false}
-use mathlib.Core.Option.{Option, none, some}
-use mathlib.Core.List.{List, [], _∷_, _++_}
-use native.Mathlib.Omega.{arith}
+use mathlib.Core.Option.{Option, none}
+use mathlib.Core.List.{List, [], _∷_}
 use borrow.Author.Tests.{ltb-false, leb-true, le-leb, lt-leb, eqb-true}
 use lib.Dec.{eqb, ltb, leb}
 use lib.ListN.{length}

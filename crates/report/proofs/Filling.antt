@@ -3,11 +3,11 @@ use Prim.Native.Nat.{ℕ, zero, suc, _+_, _-_, _*_, _≤_, _<_}
 use mathlib.Core.Path.{_≡_, refl, sym, ap, ap₂, _∙_}
 use mathlib.Core.List.{List, [], _∷_, _++_, append-assoc}
 use native.Mathlib.Omega.{arith}
-use lib.ListN.{length, take, drop, replicate, length-append, length-replicate, replicate-append-replicate}
+use lib.ListN.{length, take, drop, replicate, length-append, replicate-append-replicate}
 use lib.Seq.{drop-at, drop-drop}
 use Rattle.plan.specs.declared.Counts.{Counts}
 use Rattle.plan.specs.Circuit.{Circuit, filled, cleared}
-use Rattle.plan.specs.Step.{Value, Step}
+use Rattle.plan.specs.Step.{Step}
 use Rattle.plan.specs.Outcome.{put}
 use Rattle.plan.specs.Report.{numbersOf, outputAlong, latchAlong, inTurn, needles}
 use Rattle.needles.specs.Tally.{kept, finished, rowFrom, finishedAll}

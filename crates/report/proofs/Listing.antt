@@ -1,6 +1,6 @@
 -- The vectors of a list, one after the other: what is left to step, the steps that are done, and the state that scratch keeps.
 use Prim.Native.Nat.{ℕ, suc, _+_, _-_, _*_, _≤_, _<_}
-use mathlib.Core.Path.{_≡_, refl, sym, ap, ap₂, _∙_}
+use mathlib.Core.Path.{_≡_, refl, sym, ap, _∙_}
 use mathlib.Core.List.{List, [], _∷_, _++_, map, append-assoc, append-nil}
 use native.Mathlib.Nat.{mul-comm}
 use native.Mathlib.Omega.{arith}
@@ -12,7 +12,6 @@ use Rattle.plan.specs.Step.{Value, valueOf, nextOf, Step, stepOf, run, vectorsO
 use Rattle.theorems.proofs.Tables.{row-ends}
 use Rattle.theorems.proofs.Running.Runs.{next-length}
 use Rattle.sweep.specs.Running.{Runs, Rests}
-use Rattle.plan.specs.Report.{mostSteps}
 use Rattle.report.specs.Tallying.{tally, Turned}
 
 -- vector k of a whole list starts at `at`

@@ -1,12 +1,11 @@
 -- One vector more: table 6 counts each latch's state before the step and each output's value after it.
 use Prim.Native.Nat.{ℕ, zero, suc, _+_, _*_, _≤_, _<_}
 use mathlib.Core.Path.{_≡_, refl, sym, ap, ap₂, _∙_, subst}
-use mathlib.Core.List.{List, [], _∷_, _++_, map, map-append, append-assoc}
+use mathlib.Core.List.{List, [], _∷_, _++_, map-append, append-assoc}
 use mathlib.Core.Bool.{Bool, true, false, cond}
 use native.Mathlib.Omega.{arith}
-use native.Mathlib.Decide.{decLt}
 use lib.ListN.{length, getD, take, drop, length-append, length-map}
-use lib.Seq.{getD-take, getD-drop, take-at, drop-at, drop-drop, drop-append-add}
+use lib.Seq.{getD-take, getD-drop, take-at, drop-at, drop-drop}
 use Rattle.plan.specs.declared.Counts.{Counts}
 use Rattle.plan.specs.Circuit.{Tables, circuitOf}
 use Rattle.plan.specs.Step.{Value, v0, v1, vx, lit, valuesOf, outputsOf, Step, same}

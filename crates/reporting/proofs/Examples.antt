@@ -1,8 +1,6 @@
 -- The reporter's whole output, computed.
-use Prim.Native.Nat.{ℕ}
 use mathlib.Core.Path.{_≡_, refl}
 use mathlib.Core.Option.{none, some}
-use mathlib.Core.List.{List}
 use Rattle.plan.specs.Programs.{bytesOf}
 use Rattle.theorems.proofs.Paper.{toggle}
 use Rattle.plan.specs.Reporter.{reporter}

@@ -10,7 +10,7 @@ use lib.Dec.{eqb, leb}
 use lib.ListN.{length, getD, take, length-append}
 use lib.Seq.{take-suc, take-all}
 use Rattle.plan.specs.Outcome.{put}
-use Rattle.theorems.proofs.Put.{put-none, put-put, put-length}
+use Rattle.theorems.proofs.Put.{put-none, put-put}
 use Rattle.reporting.specs.Packing.{packed, packedInto}
 
 packed-both : (l m : List ℕ) → packed (l ++ m) ≡ packed l ++ packed m

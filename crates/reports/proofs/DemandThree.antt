@@ -1,15 +1,15 @@
 -- Demand 3 for reports: after conversion and reduction, and with unused gates dropped, a list without x gives the same numbers, where no
 -- reset is x.
 use Prim.Native.Nat.{ℕ, _+_}
-use mathlib.Core.Path.{_≡_, refl, sym, ap, ap₂, _∙_}
-use mathlib.Core.List.{List, [], _∷_, _++_, map}
+use mathlib.Core.Path.{_≡_, sym, ap, ap₂, _∙_}
+use mathlib.Core.List.{List, [], _∷_, _++_}
 use lib.ListN.{length, length-map}
 use Rattle.plan.specs.Circuit.{Circuit}
 use Rattle.plan.specs.Reading.{WellFormed}
 use Rattle.plan.specs.Convert.{numbered, renumber, convert}
 use Rattle.plan.specs.Reduce.{reduced, becomes, latchBecomes, reduce}
 use Rattle.plan.specs.Step.{Value, Step, run, first}
-use Rattle.theorems.proofs.Running.Refinement.{Les, les-refl}
+use Rattle.theorems.proofs.Running.Refinement.{les-refl}
 use Rattle.theorems.proofs.Running.Monotone.{Replaced}
 use Rattle.theorems.proofs.Running.Converted.{latches-convert}
 use Rattle.theorems.proofs.Running.Runs.{Sized, convert-run}

@@ -1,13 +1,13 @@
 -- The first three numbers of a needle add up to the number of vectors, and its changes are fewer.
-use Prim.Native.Nat.{ℕ, zero, suc, _+_, _-_, _*_, _≤_, _<_}
-use mathlib.Core.Path.{_≡_, refl, sym, ap, _∙_}
+use Prim.Native.Nat.{ℕ, suc, _+_, _-_, _≤_}
+use mathlib.Core.Path.{_≡_, refl, ap, _∙_}
 use mathlib.Core.Bool.{Bool, true, false, cond}
 use mathlib.Core.List.{List, [], _∷_, map}
 use native.Mathlib.Omega.{arith}
-use lib.ListN.{length, getD, drop, length-map}
+use lib.ListN.{length, getD, length-map}
 use Rattle.plan.specs.Circuit.{Circuit, rowsOf}
 use Rattle.plan.specs.Step.{Value, v0, v1, vx, same, valueOf, nextOf, Step, run, first, vectorsOf}
-use Rattle.plan.specs.Report.{times, changesAfter, changes, numbersOf, outputAlong, latchAlong}
+use Rattle.plan.specs.Report.{times, changesAfter, changes, outputAlong, latchAlong}
 use Rattle.theorems.proofs.Writing.Fine.{length-rows}
 use Rattle.theorems.proofs.Running.Times.{all-counted}
 

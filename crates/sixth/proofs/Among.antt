@@ -20,7 +20,7 @@ use Rattle.plan.specs.Depends.{undefinedIn, cyclicIn}
 use Rattle.plan.specs.Binary.{binaryOrder}
 use Rattle.plan.specs.Given.{Given, given, counted, failing, lentAlone, outsideIn, twiceIn}
 use Rattle.plan.specs.Outcome.{checkedBy, checkInOrder}
-use Rattle.plan.specs.Sixth.{lentSixth, sixthStages}
+use Rattle.plan.specs.Sixth.{sixthStages}
 use Rattle.sixth.specs.Judged.{beforeSixth, withSixth}
 
 -- the least of two places, where there is one

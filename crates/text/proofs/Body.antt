@@ -1,7 +1,7 @@
 -- The body of the text form: the first part that is refused, or all of them.
 use Prim.Native.Nat.{ℕ, zero}
 use mathlib.Core.Path.{_≡_, refl, sym, ap, _∙_, subst}
-use mathlib.Core.Bool.{true, false}
+use mathlib.Core.Bool.{true}
 use mathlib.Core.List.{List, [], _∷_, _++_, append-assoc, map}
 use Rattle.plan.specs.declared.Counts.{Counts}
 use Rattle.plan.specs.declared.Version.{Version}
@@ -19,7 +19,7 @@ use Rattle.theorems.proofs.Held.{Holds, BodySays}
 use Rattle.theorems.proofs.Marks.{Agrees}
 use Rattle.theorems.proofs.Reading.Common.{not-got, got-value}
 use Rattle.theorems.proofs.Reading.Rows.{one-back, flat-one, gate-back}
-use Rattle.observed.specs.Observed.{Observed, observedAt}
+use Rattle.observed.specs.Observed.{observedAt}
 use Rattle.observed.proofs.Answers.{Read, Answered, was-read, was-refused}
 use Rattle.observed.proofs.Lists.{AllHeld, regroup}
 use Rattle.text.specs.Said.{TextSays}

@@ -1,6 +1,6 @@
 -- The laws over whole calls, refusals too: what a yes says, a larger allowance, and the yes of the question in three values.
 use Prim.Native.Nat.{ℕ, _≤_}
-use mathlib.Core.Path.{_≡_, refl, sym, ap, ap₂, _∙_}
+use mathlib.Core.Path.{_≡_, refl, ap, ap₂, _∙_}
 use mathlib.Core.Bool.{Bool, true, false}
 use mathlib.Core.Option.{Option, none, some}
 use mathlib.Core.List.{List, [], _∷_, _++_}
@@ -10,7 +10,7 @@ use Rattle.plan.specs.declared.Refusal.{Refusal}
 use Rattle.plan.specs.declared.Refusal.the-variants.{ManyX}
 use Rattle.plan.specs.declared.Verdict.the-variants as verdict
 use Rattle.plan.specs.declared.Finding.{Finding}
-use Rattle.plan.specs.declared.Finding.the-variants.{Yes, No, Undecided, Refused}
+use Rattle.plan.specs.declared.Finding.the-variants.{Yes, No}
 use Rattle.plan.specs.Refusals.{stage, firstOf}
 use Rattle.plan.specs.Circuit.{Circuit}
 use Rattle.plan.specs.Given.{given, lentAlone, failingAt, stages, orderStage}

@@ -15,7 +15,7 @@ use Rattle.plan.specs.Depends.{find}
 use Rattle.plan.specs.Reading.{WellFormed}
 use Rattle.plan.specs.Binary.{latchesFrom, binaryOrder}
 use Rattle.plan.specs.Convert.{leaves, past, pick, orderBy, order, sorted, numbered, index, renumber, renumberGates, convert}
-use Rattle.plan.specs.Step.{Value, nextOf, stepOf, Step, run, first}
+use Rattle.plan.specs.Step.{Value, nextOf, stepOf, Step, run}
 use Rattle.theorems.proofs.Reading.Common.{and-left, and-right, and-intro}
 use Rattle.theorems.proofs.Reading.Runs.{length-nexts, upFrom, BinaryOrder, order-exactly}
 use Rattle.theorems.proofs.Running.Lists.{has-left, has-seam}

@@ -9,7 +9,7 @@ use lib.ListN.{length, take, drop, length-map, length-take, length-drop}
 use lib.Seq.{length-take-le, drop-drop}
 use Rattle.plan.specs.declared.Counts.{Counts}
 use Rattle.plan.specs.Circuit.{Circuit, Tables, circuitOf}
-use Rattle.plan.specs.Step.{Value, valueOf, outputsOf, badsOf, constraintsOf, nextOf, stepOf, run, vectorsOf, any1, all1, shows1}
+use Rattle.plan.specs.Step.{Value, valueOf, outputsOf, badsOf, constraintsOf, nextOf, run, vectorsOf, any1, all1, shows1}
 use Rattle.plan.specs.Outcome.{put}
 use Rattle.theorems.proofs.Tables.{row-ends}
 use Rattle.theorems.proofs.Running.Runs.{next-length}

@@ -1,4 +1,4 @@
-use mathlib.Core.Path.{_≡_, sym, ap, _∙_}
+use mathlib.Core.Path.{sym, ap, _∙_}
 use mathlib.Core.Bool.{Bool, cond, _&&_}
 use borrow.Author.Tests.{le-leb, lt-leb}
 use lib.Dec.{eqb}

@@ -1,5 +1,5 @@
 -- A binary file is written as text; a text file is converted and written as binary, and nothing there is refused.
-use mathlib.Core.Path.{refl, sym, ap, _∙_}
+use mathlib.Core.Path.{sym, ap, _∙_}
 use mathlib.Core.Bool.{Bool}
 use mathlib.Core.List.{_++_}
 use borrow.Author.Needs.{needs}

@@ -1,5 +1,4 @@
 use mathlib.Core.Path.{sym, ap}
-use mathlib.Core.Bool.{cond}
 use Prim.Native.Nat.{ℕ}
 use Rattle.plan.specs.Step.{codeOf, resetValue}
 use Rattle.fillings.proofs.Words.{reset-other}

@@ -1,7 +1,7 @@
-use Prim.Native.Nat.{ℕ, _+_, _-_, _≤_}
-use mathlib.Core.Path.{_≡_, refl, sym, ap, _∙_}
+use Prim.Native.Nat.{_-_, _≤_}
+use mathlib.Core.Path.{_≡_, refl, ap, _∙_}
 use native.Mathlib.Omega.{arith}
-use lib.ListN.{length, getD, take}
+use lib.ListN.{getD, take}
 use Rattle.plan.specs.Fillings.{xOf, xCount}
 use Rattle.trying.proofs.Counting.{count-more, count-all, x-small}
 use Rattle.fillings.specs.Asked.{codesOf}

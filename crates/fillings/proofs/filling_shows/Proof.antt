@@ -1,4 +1,4 @@
-use Prim.Native.Nat.{ℕ, _≤_}
+use Prim.Native.Nat.{ℕ}
 use mathlib.Core.Path.{_≡_, sym, ap, _∙_}
 use mathlib.Core.List.{List, map}
 use native.Mathlib.Omega.{arith}
@@ -10,7 +10,6 @@ use Rattle.plan.specs.Fillings.{fillFrom, filling}
 use Rattle.trying.proofs.Question.{number-shows}
 use Rattle.fillings.specs.Asked.{codesOf}
 use Rattle.fillings.proofs.Attempts.{start-length}
-use borrow.Author.Needs.{needs}
 use Rattle.fillings.proofs.filling_shows.Statement.{statement}
 use Rattle.fillings.proofs.filling_shows.Tie as tie
 

@@ -1,14 +1,13 @@
 use mathlib.Core.Path.{_∙_}
 use mathlib.Core.List.{map}
 use native.Mathlib.Omega.{arith}
-use lib.ListN.{length, set, length-set}
+use lib.ListN.{set, length-set}
 use Rattle.plan.specs.Step.{valueOf}
 use Rattle.sweep.proofs.Loading.{constant-set, rests-loaded}
 use Rattle.plan.specs.Fillings.{filling}
 use Rattle.fillings.specs.Asked.{codesOf}
 use Rattle.fillings.proofs.Words.{codes-length}
 use Rattle.fillings.proofs.Attempts.{start-length}
-use borrow.Author.Needs.{needs}
 use Rattle.fillings.proofs.start_filled.Statement.{statement}
 use Rattle.fillings.proofs.start_filled.Tie as tie
 

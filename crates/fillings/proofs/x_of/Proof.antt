@@ -1,5 +1,4 @@
 use Rattle.fillings.proofs.Words.{x-here, x-not}
-use borrow.Author.Needs.{needs}
 use Rattle.fillings.proofs.x_of.Statement.{statement}
 use Rattle.fillings.proofs.x_of.Tie as tie
 

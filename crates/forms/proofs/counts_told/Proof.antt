@@ -1,7 +1,6 @@
 -- By the last count that is not 0.
 use native.Mathlib.Omega.{arith}
 use Rattle.forms.proofs.Headers.{seven-told, six-told, five-told}
-use borrow.Author.Needs.{needs}
 use Rattle.forms.proofs.counts_told.Statement.{statement}
 use Rattle.forms.proofs.counts_told.Tie as tie
 

@@ -1,5 +1,4 @@
 -- One part after another.
-use native.Mathlib.Omega.{arith}
 use mathlib.Core.Bool.{false}
 use Rattle.plan.specs.Bytes.{linesOf}
 use Rattle.print.specs.Latches.{latchRows}

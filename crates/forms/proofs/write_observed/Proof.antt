@@ -1,5 +1,4 @@
 -- One part after another.
-use native.Mathlib.Omega.{arith}
 use Rattle.forms.specs.Forms.{oneLines}
 use Rattle.forms.proofs.Forms.{fits-1, fits-2, fits-3, three-filled}
 use borrow.Author.Needs.{needs}

@@ -1,4 +1,3 @@
-use Prim.Native.Nat.{_+_}
 use native.Mathlib.Omega.{arith}
 use Rattle.lanes.proofs.Storing.{lane-fits, lane-is}
 use borrow.Author.Needs.{needs}

@@ -1,10 +1,6 @@
-use Prim.Native.Nat.{ℕ, _+_, _*_, _≤_}
-use mathlib.Core.Path.{_∙_}
-use mathlib.Core.List.{List}
+use Prim.Native.Nat.{_+_}
 use native.Mathlib.Omega.{arith}
-use lib.ListN.{length, length-replicate}
 use Rattle.planes.specs.Planes.{column}
-use Rattle.lanes.specs.Words.{blockPlane}
 use Rattle.lanes.proofs.Loading.{grows-same, block-plane, all-zero}
 use borrow.Author.Needs.{needs}
 use Rattle.lanes.proofs.load_columns.Statement.{statement}

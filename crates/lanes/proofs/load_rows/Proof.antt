@@ -1,4 +1,4 @@
-use Prim.Native.Nat.{ℕ, _+_, _*_, _-_, _≤_, _<_}
+use Prim.Native.Nat.{ℕ, _-_, _≤_}
 use mathlib.Core.Path.{_≡_, refl, _∙_}
 use mathlib.Core.List.{List}
 use native.Mathlib.Omega.{arith}
@@ -7,7 +7,6 @@ use Rattle.planes.specs.Planes.{column}
 use Rattle.lanes.specs.Working.{Grows}
 use Rattle.lanes.proofs.Turns.{grows-none, grows-all}
 use Rattle.lanes.proofs.Loading.{grows-join}
-use borrow.Author.Needs.{needs}
 use Rattle.lanes.proofs.load_rows.Statement.{statement}
 use Rattle.lanes.proofs.load_rows.Tie as tie
 

@@ -9,7 +9,6 @@ use Rattle.sweep.proofs.Lookups.{next-at}
 use Rattle.lanes.specs.Words.{codeBy}
 use Rattle.lanes.specs.Blocks.{Blocked}
 use Rattle.lanes.proofs.Storing.{blocked-none, blocked-more, blocked-all}
-use borrow.Author.Needs.{needs}
 use Rattle.lanes.proofs.put_block.Statement.{statement}
 use Rattle.lanes.proofs.put_block.Tie as tie
 

@@ -6,7 +6,6 @@ use Rattle.planes.proofs.Bits.{bit-small}
 use Rattle.lanes.specs.Words.{codeBy}
 use Rattle.lanes.specs.Blocks.{Written}
 use Rattle.lanes.proofs.Storing.{written-none, written-more, written-all}
-use borrow.Author.Needs.{needs}
 use Rattle.lanes.proofs.put_codes.Statement.{statement}
 use Rattle.lanes.proofs.put_codes.Tie as tie
 

@@ -1,6 +1,5 @@
-use Prim.Native.Nat.{ℕ, _+_, _≤_}
+use Prim.Native.Nat.{_+_}
 use native.Mathlib.Omega.{arith}
-use lib.ListN.{length}
 use Rattle.lanes.specs.Words.{planeAt, bothAt}
 use Rattle.lanes.specs.Working.{literalAt}
 use Rattle.lanes.proofs.Storing.{blocked-same, packed-code}

@@ -1,4 +1,4 @@
-use Prim.Native.Nat.{ℕ, _+_, _*_, _-_, _≤_, _<_}
+use Prim.Native.Nat.{ℕ, _-_, _≤_}
 use mathlib.Core.Path.{_≡_, refl, _∙_, subst}
 use mathlib.Core.List.{List}
 use native.Mathlib.Omega.{arith}
@@ -6,7 +6,6 @@ use lib.ListN.{length}
 use Rattle.lanes.specs.Words.{codeAt}
 use Rattle.lanes.specs.Working.{literalAt}
 use Rattle.lanes.proofs.Storing.{shows-less, Below, below-none, below-block, rows-are}
-use borrow.Author.Needs.{needs}
 use Rattle.lanes.proofs.store_rows.Statement.{statement}
 use Rattle.lanes.proofs.store_rows.Tie as tie
 

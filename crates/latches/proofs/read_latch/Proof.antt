@@ -1,7 +1,6 @@
-use Prim.Native.Nat.{_+_, _*_, _≤_}
-use mathlib.Core.Path.{_≡_, sym, ap, _∙_}
+use mathlib.Core.Path.{sym, ap, _∙_}
 use native.Mathlib.Omega.{arith}
-use lib.ListN.{length, length-set}
+use lib.ListN.{length-set}
 use Rattle.lines.specs.Rows.{foundOf}
 use Rattle.latches.proofs.OneLatch.{line-refused, out-of-range, all-fine}
 use borrow.Author.Needs.{needs}

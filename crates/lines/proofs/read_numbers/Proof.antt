@@ -1,9 +1,9 @@
-use Prim.Native.Nat.{_+_, _-_, _≤_}
-use mathlib.Core.Path.{refl, sym, ap, _∙_}
+use Prim.Native.Nat.{_+_, _-_}
+use mathlib.Core.Path.{sym, _∙_}
 use native.Mathlib.Omega.{arith}
 use borrow.Author.Needs.{needs}
 use lib.Dec.{ltb}
-use lib.ListN.{length, length-set}
+use lib.ListN.{length-set}
 use Rattle.lines.proofs.Numbers.{Scan, begins, wide, wide-places, wrong-number, wrong-end, stops, turns, ends-here, stop-inner, on-inner}
 use Rattle.lines.proofs.read_numbers.Statement.{statement}
 use Rattle.lines.proofs.read_numbers.Tie as tie

@@ -1,5 +1,4 @@
 use mathlib.Core.Path.{ap}
-use borrow.Author.Needs.{needs}
 use Rattle.plan.specs.Circuit.{Tables, seven}
 use Rattle.plan.specs.Header.{text, binary}
 use Rattle.plan.specs.Outcome.{formOf}

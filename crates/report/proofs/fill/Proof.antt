@@ -1,11 +1,11 @@
-use Prim.Native.Nat.{ℕ, _+_, _*_}
+use Prim.Native.Nat.{ℕ}
 use mathlib.Core.Path.{_≡_, ap, _∙_}
-use mathlib.Core.List.{List, [], _++_}
+use mathlib.Core.List.{List, []}
 use native.Mathlib.Omega.{arith}
 use borrow.Author.Needs.{needs}
 use lib.ListN.{length, length-append}
 use Rattle.plan.specs.declared.Counts.{Counts}
-use Rattle.plan.specs.Circuit.{Tables, Circuit, seven, circuitOf}
+use Rattle.plan.specs.Circuit.{Tables, seven, circuitOf}
 use Rattle.plan.specs.Step.{first, run, vectorsOf}
 use Rattle.theorems.proofs.Running.Resets.{first-length}
 use Rattle.sweep.specs.Running.{Runs}

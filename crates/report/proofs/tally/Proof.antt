@@ -3,13 +3,13 @@ use mathlib.Core.Path.{_≡_, refl, sym, _∙_}
 use mathlib.Core.List.{List, [], _++_}
 use native.Mathlib.Nat.{mul-zero}
 use native.Mathlib.Omega.{arith}
-use lib.ListN.{length, length-drop}
+use lib.ListN.{length}
 use borrow.Author.Needs.{needs}
 use Rattle.plan.specs.Circuit.{Tables, circuitOf}
 use Rattle.plan.specs.Step.{Value}
 use Rattle.theorems.proofs.Tables.{next-row}
 use Rattle.sweep.specs.Running.{these, Runs, Rests}
-use Rattle.report.specs.Tallying.{tally, Turns}
+use Rattle.report.specs.Tallying.{tally}
 use Rattle.report.proofs.Listing.{Vector, Going, vector-ends, vector-length, going-on, going-first, all-gone}
 use Rattle.report.proofs.tally.Statement.{statement}
 use Rattle.report.proofs.tally.Tie as tie

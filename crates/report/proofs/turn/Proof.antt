@@ -1,13 +1,11 @@
-use Prim.Native.Nat.{ℕ}
 use mathlib.Core.Path.{_≡_, refl, _∙_}
-use mathlib.Core.List.{List, _++_, map}
+use mathlib.Core.List.{List, map}
 use native.Mathlib.Omega.{arith}
 use lib.ListN.{length, length-map}
 use borrow.Author.Needs.{needs}
 use Rattle.plan.specs.Circuit.{Tables, Circuit, circuitOf}
-use Rattle.plan.specs.Step.{Value, valueOf, Step, stepOf}
+use Rattle.plan.specs.Step.{Value, valueOf, stepOf}
 use Rattle.sweep.specs.Running.{these, Runs, Rests, Stepped}
-use Rattle.report.specs.Tallying.{tally}
 use Rattle.report.proofs.Turning.{latches-counted, latches-count, outputs-counted, outputs-count, stands, ready, outputs-long}
 use Rattle.report.proofs.turn.Statement.{statement}
 use Rattle.report.proofs.turn.Tie as tie

@@ -1,11 +1,10 @@
-use Prim.Native.Nat.{ℕ, _+_, _*_, _≤_}
-use mathlib.Core.Path.{_≡_, ap, sym, _∙_}
+use Prim.Native.Nat.{ℕ, _+_, _≤_}
+use mathlib.Core.Path.{ap, _∙_}
 use mathlib.Core.List.{List, [], _∷_, _++_}
 use native.Mathlib.Omega.{arith}
 use borrow.Author.Needs.{needs}
 use lib.ListN.{length, set}
-use Rattle.plan.specs.Bytes.{digits, lineOf, linesOf}
-use Rattle.plan.specs.Circuit.{rowsOf}
+use Rattle.plan.specs.Bytes.{digits, lineOf}
 use Rattle.plan.specs.Outcome.{put}
 use Rattle.numbers.proofs.Length.{digits-twenty}
 use Rattle.reporting.proofs.Lines.{Wrote, wrote-first, wrote-more, wrote-byte, line-parts, one-line, line-short}

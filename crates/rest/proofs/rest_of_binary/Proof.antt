@@ -1,10 +1,10 @@
 use Prim.Native.Nat.{_+_, _-_, _≤_}
-use mathlib.Core.Path.{_≡_, refl, sym, ap, _∙_}
+use mathlib.Core.Path.{_≡_, _∙_}
 use native.Mathlib.Omega.{arith}
 use borrow.Author.Needs.{needs}
-use borrow.Rule.Slice.PartMut.{midOf, putMid, same-len-mid}
+use borrow.Rule.Slice.PartMut.{midOf, same-len-mid}
 use lib.ListN.{length}
-use Rattle.plan.specs.Circuit.{Circuit, Tables, seven}
+use Rattle.plan.specs.Circuit.{Tables, seven}
 use Rattle.plan.specs.Binary.{binaryBody}
 use Rattle.theorems.proofs.Reading.NoSixSevenEight.{no-six-seven-eight}
 use Rattle.rest.proofs.After.{stops, tail-told, good}

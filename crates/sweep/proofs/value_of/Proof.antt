@@ -1,7 +1,6 @@
 use Prim.Native.Nat.{ℕ, _*_, _%_}
 use mathlib.Core.Path.{ap₂}
 use lib.Bits.{bitOr}
-use native.Mathlib.Omega.{arith}
 use borrow.Author.Needs.{needs}
 use Rattle.sweep.proofs.value_of.Statement.{statement}
 use Rattle.sweep.proofs.value_of.Tie as tie

@@ -1,5 +1,4 @@
 use native.Mathlib.Omega.{arith}
-use borrow.Author.Needs.{needs}
 use borrow.Author.Tests.{ne-eqb}
 use Rattle.tail.proofs.count_of.Statement.{statement}
 use Rattle.tail.proofs.count_of.Tie as tie

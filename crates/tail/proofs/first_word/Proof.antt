@@ -1,6 +1,5 @@
 use native.Mathlib.Omega.{arith}
 use borrow.Author.Tests.{ne-eqb}
-use borrow.Author.Needs.{needs}
 use Rattle.tail.proofs.first_word.Statement.{statement}
 use Rattle.tail.proofs.first_word.Tie as tie
 

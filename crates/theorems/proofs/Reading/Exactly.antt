@@ -11,7 +11,7 @@ use lib.ListN.{getD, drop}
 use Rattle.plan.specs.Refusals.{got}
 use Rattle.plan.specs.declared.Counts.{Counts}
 use Rattle.plan.specs.declared.Version.{Version}
-use Rattle.plan.specs.declared.Version.the-variants.{V2007, V19}
+use Rattle.plan.specs.declared.Version.the-variants.{V19}
 use Rattle.plan.specs.Circuit.{Circuit, countsOf, against, short, scratchToWork, wordsToWork, definedIn, usedIn}
 use Rattle.plan.specs.Depends.{undefinedIn, cyclicIn}
 use Rattle.plan.specs.Header.{moreCounts, moreResets, Form, text, binary, header, headerOf, listOf, allCounts, adds, scratchToRead, wordsToRead, formIn}

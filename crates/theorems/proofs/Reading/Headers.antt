@@ -1,6 +1,6 @@
 -- A header is read from its text, and from nothing else.
 use Prim.Native.Nat.{ℕ, suc, zero, _+_, _-_, _≤_}
-use mathlib.Core.Path.{_≡_, refl, sym, ap, ap₂, _∙_, subst, subst₂}
+use mathlib.Core.Path.{_≡_, refl, sym, ap, ap₂, _∙_, subst}
 use mathlib.Core.Bool.{Bool, true, false, cond}
 use mathlib.Core.Option.{none, some}
 use mathlib.Core.List.{List, [], _∷_, _++_}
@@ -14,7 +14,7 @@ use Rattle.plan.specs.declared.Version.the-variants.{V2007, V19}
 use Rattle.plan.specs.Refusals.{got, refused}
 use Rattle.plan.specs.declared.Counts.{Counts}
 use Rattle.plan.specs.Literals.{most}
-use Rattle.plan.specs.Bytes.{expect, Placed, numbers, values, lineOf, Spells}
+use Rattle.plan.specs.Bytes.{expect, Placed, numbers, values, Spells}
 use Rattle.plan.specs.Header.{moreCounts, Form, text, binary, letterOf, letter, countsFrom, listOf, allCounts, over, above0, adds, Head, header, headerOf}
 use Rattle.theorems.proofs.Reading.Common.{not-got, got-value, got-next, then-got, unless-got, cond-got, Reads, byte-there, byte-is, byte-past, expect-took, expect-reads}
 use Rattle.theorems.proofs.Reading.Lines.{numbers-took, numbers-reads}

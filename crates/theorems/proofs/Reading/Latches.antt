@@ -1,18 +1,16 @@
 -- Lines of latches are read from any text that spells them, and from nothing else: their literals, and a reset that may be left off if it is 0.
 use Prim.Native.Nat.{ℕ, suc, zero, _+_, _-_, _<_, _≤_}
-use mathlib.Core.Path.{_≡_, refl, sym, ap, ap₂, _∙_, subst, subst₂}
-use mathlib.Core.Bool.{Bool, true, false, cond, _&&_, _||_}
+use mathlib.Core.Path.{_≡_, refl, sym, ap, ap₂, _∙_, subst}
+use mathlib.Core.Bool.{Bool, true, false, cond, _&&_}
 use mathlib.Core.Option.{none, some}
 use mathlib.Core.Logic.{_⊎_, inl, inr}
 use mathlib.Core.List.{List, [], _∷_, _++_, append-assoc, append-nil, map}
 use native.Mathlib.Omega.{arith}
-use borrow.Author.Tests.{eq-eqb}
-use lib.Dec.{eqb}
 use lib.ListN.{length, getD, take, drop, replicate, length-take, length-append, drop-of-length-le, List·getD-eq-default}
 use lib.Seq.{take-all, take-suc, drop-cons, take-at, drop-at, getD-append-add}
 use Rattle.plan.specs.Refusals.{got}
 use Rattle.plan.specs.Literals.{litOf, varOf, isReset}
-use Rattle.plan.specs.Circuit.{Latch, oneLine, latchLine, literalOf, latchOf, inside, heads, nexts, resetsOk}
+use Rattle.plan.specs.Circuit.{Latch, oneLine, latchLine, literalOf, latchOf, inside, heads, resetsOk}
 use Rattle.plan.specs.Bytes.{Placed, numbers, values, outside, twice, wrongReset, ownOf, latchLineAt, latchLines, resetAfter, lineOf, linesOf, withResets, Spells, AllSpell}
 use Rattle.plan.specs.Binary.{latchesFrom}
 use Rattle.theorems.proofs.Reading.Common.{got-value, got-next, then-got, unless-got, Reads, and-left, and-right, and-intro}

@@ -13,7 +13,7 @@ use Rattle.plan.specs.Refusals.{Parse, got, _then_}
 use Rattle.plan.specs.Literals.{varOf, inRange}
 use Rattle.plan.specs.Circuit.{literalOf, has, inside}
 use Rattle.plan.specs.Bytes.{classOf, digitClass, number, expect, endOf, Placed, goesOn, less, numbers, values, outside, twice, line, lines, digits, lineOf, linesOf}
-use Rattle.theorems.proofs.Reading.Common.{not-got, got-value, got-next, then-got, unless-got, Reads, byte-there, byte-is, byte-past, expect-took, expect-reads, and-left, and-right, and-intro}
+use Rattle.theorems.proofs.Reading.Common.{got-value, got-next, then-got, unless-got, Reads, byte-there, byte-is, byte-past, expect-took, expect-reads, and-left, and-right, and-intro}
 use Rattle.theorems.proofs.Reading.Number.{number-took, number-reads}
 
 pub end-pos : (k : ℕ) → 0 < endOf k

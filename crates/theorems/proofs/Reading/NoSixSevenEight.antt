@@ -16,13 +16,13 @@ use Rattle.plan.specs.declared.Version.{Version}
 use Rattle.plan.specs.declared.Difference.{Difference}
 use Rattle.plan.specs.declared.Difference.the-variants.{Value, Ends, Bad}
 use Rattle.plan.specs.declared.Refusal.{Refusal}
-use Rattle.plan.specs.declared.Refusal.the-variants.{WrongByte, ShortTable, OutOfRange, DefinedTwice, NotDefined, Cyclic, BadDifference, BadSymbol, LongDifference}
+use Rattle.plan.specs.declared.Refusal.the-variants.{WrongByte, ShortTable, OutOfRange, NotDefined, Cyclic, BadDifference, BadSymbol, LongDifference}
 use Rattle.plan.specs.Literals.{varOf, litOf}
 use Rattle.plan.specs.Refusals.{numberOf, Parse, got, refused, _then_, unless}
 use Rattle.plan.specs.Circuit.{Circuit, literalOf, definedIn, usedIn, allNew, against, short}
 use Rattle.plan.specs.Bytes.{classOf, nameClass, span, numberBy, number, expect, goesOn, less, Placed, numbers, values, outside, wrongReset, ownOf, line, lines, latchLineAt, latchLines}
 use Rattle.plan.specs.Depends.{undefinedIn, cyclicIn}
-use Rattle.plan.specs.Header.{moreResets, Form, text, binary, Head, header, adds, wordsToRead}
+use Rattle.plan.specs.Header.{moreResets, Form, binary, Head, header, adds, wordsToRead}
 use Rattle.plan.specs.Difference.{differenceAt, differenceSays, difference}
 use Rattle.plan.specs.Binary.{gate, gatesFrom, binaryBody}
 use Rattle.plan.specs.Tail.{Symbol, fits, symbol, endsLine, startsSymbol, tailFrom, tailAt}

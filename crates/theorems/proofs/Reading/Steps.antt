@@ -12,7 +12,7 @@ use Rattle.plan.specs.declared.Refusal.{Refusal}
 use Rattle.plan.specs.Refusals.{Parse, got, refused, _then_}
 use Rattle.plan.specs.Literals.{most, beyond, varOf, inRange, isReset}
 use Rattle.plan.specs.Circuit.{literalOf}
-use Rattle.plan.specs.Bytes.{number, expect, endOf, Placed, goesOn, less, numbers, line, lines, latchLineAt, latchLines}
+use Rattle.plan.specs.Bytes.{number, expect, endOf, Placed, goesOn, numbers, line, lines, latchLineAt, latchLines}
 
 -- the rows that are read, before the rest
 abbrev pub onRows : List (List ℕ) → Parse (List (List ℕ)) → Parse (List (List ℕ))

@@ -1,12 +1,11 @@
 -- Resets: conversion renames those that are literals of latches, reduction keeps them, and the first state stays the same.
-use Prim.Native.Nat.{ℕ, zero, suc, _+_, _*_, _%_, _≤_, _<_}
+use Prim.Native.Nat.{ℕ, zero, suc, _+_, _≤_, _<_}
 use mathlib.Core.Path.{_≡_, refl, sym, ap, ap₂, _∙_, subst}
 use mathlib.Core.Bool.{Bool, true, false, _&&_, _||_, false≢true}
 use mathlib.Core.List.{List, [], _∷_, _++_, append-assoc, map}
 use native.Mathlib.Omega.{arith}
-use native.Mathlib.Decide.{decLe}
 use borrow.Author.Tests.{eqb-true, eq-eqb, ne-eqb}
-use lib.Dec.{eqb, leb}
+use lib.Dec.{eqb}
 use lib.ListN.{length, length-map, length-append}
 use lib.Seq.{append-snoc}
 use Rattle.plan.specs.Literals.{litOf, varOf, signOf, inRange, isReset}
@@ -17,7 +16,7 @@ use Rattle.plan.specs.Convert.{leaves, sorted, numbered, index, renumber, conve
 use Rattle.plan.specs.Reduce.{latchBecomes, reduce}
 use Rattle.plan.specs.Step.{Value, vx, resetValue, first}
 use Rattle.theorems.proofs.Reading.Common.{and-left, and-right, and-intro}
-use Rattle.theorems.proofs.Reading.Members.{has-self, has-not, distinct}
+use Rattle.theorems.proofs.Reading.Members.{has-self, distinct}
 use Rattle.theorems.proofs.Reading.Runs.{length-nexts, BinaryOrder}
 use Rattle.theorems.proofs.Running.Lists.{apart, distinct-left}
 use Rattle.theorems.proofs.Running.Accepted.{Accepted}

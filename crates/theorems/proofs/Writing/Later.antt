@@ -1,7 +1,7 @@
 -- What an accepted read, conversion or reduction leaves, every later call accepts: the tables hold the circuit and pass the checks of given
 -- tables; after a conversion or a reduction they are in binary order too.
 use Prim.Native.Nat.{ℕ, _+_, _*_, _≤_}
-use mathlib.Core.Path.{_≡_, refl, sym, ap, ap₂, _∙_, subst}
+use mathlib.Core.Path.{_≡_, refl, sym, ap, _∙_, subst}
 use mathlib.Core.Bool.{true}
 use mathlib.Core.Option.{Option, none, some}
 use mathlib.Core.List.{List, [], _∷_, _++_}
