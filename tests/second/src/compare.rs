@@ -3,16 +3,27 @@
 pub mod cards;
 pub mod tables;
 
-use crate::aiger::{read, with_scratch, Lengths, Version, TABLES};
+use crate::aiger::{read, with_scratch, Circuit, Lengths, Version, TABLES};
 use crate::ensure;
 use crate::generate::{Answer, Answers};
 use crate::library::{FileQuestion, Library, Question, ReadAnswer, ReadReply, Reply};
 use crate::memory::Memory;
 
-/// Whether the table holds `start`, then zeros, and its margins are as they were.
-fn holds(table: &Memory<u32>, start: &[u32], junk: u64) -> bool {
-    let rest = table.lent().strip_prefix(start);
-    rest.is_some_and(|rest| rest.iter().all(|&word| word == 0)) && table.margins_stand(junk)
+/// Whether a reader left every table as it must: the circuit's words, then zeros; zeros alone after a refusal; and the
+/// margins as they were.
+fn left(tables: &[Memory<u32>; 8], circuit: Option<&Circuit>, junk: u64) -> Result<(), String> {
+    let words = circuit.map_or_else(Default::default, Circuit::tables);
+    let words = with_scratch(words, Vec::new());
+    for ((number, memory), start) in TABLES.iter().zip(tables).zip(&words) {
+        let rest = memory.lent().strip_prefix(start.as_slice());
+        ensure!(
+            rest.is_some_and(|rest| rest.iter().all(|&word| word == 0)) && memory.margins_stand(junk),
+            "table {number}: expected {start:?} and zeros, given {:?} with margins of {}",
+            &memory.all[..memory.all.len().min(start.len() + 20)],
+            memory.margin
+        );
+    }
+    Ok(())
 }
 
 /// The table numbers asked of the desk question: all that exist, their neighbours, and some that wrap.
@@ -80,20 +91,8 @@ fn read_as(file: &[u8], junk: u64, answer: &Answer, given: &ReadReply) -> Result
         "expected {expected:?}, given {:?}",
         given.answer
     );
-    let tables = match answer {
-        Ok((circuit, _)) => circuit.tables(),
-        Err(_) => Default::default(),
-    };
-    let tables = with_scratch(tables, Vec::new());
-    for ((number, memory), start) in TABLES.iter().zip(&given.tables).zip(&tables) {
-        ensure!(
-            holds(memory, start, junk),
-            "table {number}: expected {start:?} and zeros, given {:?} with margins of {}",
-            &memory.all[..memory.all.len().min(start.len() + 20)],
-            memory.margin
-        );
-    }
-    Ok(())
+    let circuit = answer.as_ref().ok().map(|(circuit, _)| circuit);
+    left(&given.tables, circuit, junk)
 }
 
 fn expected(file: &[u8], answer: &Answer) -> ReadAnswer {

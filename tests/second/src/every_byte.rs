@@ -75,26 +75,27 @@ fn values(library: &dyn Library, byte: u8) -> Result<(), String> {
     Ok(())
 }
 
-/// What may stand before the byte, and after it.
-const FILES: &[[&[u8]; 2]] = &[
-    [b"aag 0 0 0 0 0", b"\n"],
-    [b"aag 0 0 0 0 0", b"0\n"],
-    [b"aag 0 0 0 0 0 0", b"0 0 0\n"],
-    [b"aag 0 0 0 0 0 0 0 0 ", b"\n"],
-    [b"aag 1 0 1 0 0\n2 3", b"1\n"],
-    [b"aag 1 0 1 0 0\n2 3 ", b"\n"],
-    [b"aig 1 0 1 0 0\n3", b"2\n"],
-    [b"aag 1 0 1 0 0\n2 3 1", b"\n"],
-    [b"aag 0 0 0 0 0 1 1\n1\n1\n", b"0 p\n"],
-    [b"aag 0 0 0 0 0 1 1\n1\n1\nc", b" p\n"],
-    [b"aag 0 0 0 0 0 1 1\n1\n1\nc0", b"p\n"],
-    [b"aag 0 0 0 0 0\nc", b"p\n"],
-    [b"aag 0 0 0 0 0\nc\n", b""],
+/// Files with every byte in turn for "?".
+const FILES: &[&str] = &[
+    "aag 0 0 0 0 0?\n",
+    "aag 0 0 0 0 0?0\n",
+    "aag 0 0 0 0 0 0?0 0 0\n",
+    "aag 0 0 0 0 0 0 0 0 ?\n",
+    "aag 1 0 1 0 0\n2 3?1\n",
+    "aag 1 0 1 0 0\n2 3 ?\n",
+    "aig 1 0 1 0 0\n3?2\n",
+    "aag 1 0 1 0 0\n2 3 1?\n",
+    "aag 0 0 0 0 0 1 1\n1\n1\n?0 p\n",
+    "aag 0 0 0 0 0 1 1\n1\n1\nc? p\n",
+    "aag 0 0 0 0 0 1 1\n1\n1\nc0?p\n",
+    "aag 0 0 0 0 0\nc?p\n",
+    "aag 0 0 0 0 0\nc\n?",
 ];
 
 fn files(library: &dyn Library, byte: u8) -> Result<(), String> {
-    for &[before, after] in FILES {
-        let file = [before, &[byte], after].concat();
+    for file in FILES {
+        let put = |other: u8| if other == b'?' { byte } else { other };
+        let file: Vec<u8> = file.bytes().map(put).collect();
         let lengths = [9; 8];
         let answers = Version::ALL.map(|version| read::read(&file, &lengths, version));
         compare_file(library, &file, &lengths, JUNK, &answers)?;

@@ -91,37 +91,25 @@ fn compared(library: &dyn Library, a: usize) -> Result<(), String> {
     called(library, Call::Drop, &chain(a), &[])?;
     called(library, Call::Drop, &headless(a), &[])?;
     called(library, Call::Convert, &upside_down(FEWER), &[])?;
+    values(library, a)?;
     [MOST_STEPS, MOST_STEPS + 1]
         .into_iter()
         .try_for_each(|number| reported(library, number))?;
-    let mut plain = given::lend(Call::StepPlain, &given::exactly(Call::StepPlain, &doubling()), JUNK);
-    plain.bytes = [&b""[..], b"1", b"?"]
-        .map(|vector| Memory::around(vector, JUNK))
-        .to_vec();
-    tables::compare(library, Call::StepPlain, &plain)?;
-    // The first gate of the chain is turned, and with it all the others.
-    let mut rewire = given::lend(Call::Rewire, &given::exactly(Call::Rewire, &chain(a)), JUNK);
-    rewire.numbers = vec![0, 0, 2];
-    rewire.bytes = vec![Memory::around(&step::values(&chain(a), b"", b"1"), JUNK)];
-    tables::compare(library, Call::Rewire, &rewire)?;
-    let mut explain = given::lend(Call::Explain, &given::exactly(Call::Explain, &chain(a)), JUNK);
-    explain.numbers = vec![0];
-    explain.bytes = [&b""[..], b"1", b"?"]
-        .map(|vector| Memory::around(vector, JUNK))
-        .to_vec();
-    tables::compare(library, Call::Explain, &explain)?;
-    let mut rows = given::lend(Call::Rows, &given::exactly(Call::Rows, &chain(a)), JUNK);
-    rows.numbers = vec![LANES];
-    let inputs: Vec<u8> = (0..LANES as usize).map(|row| b"01x"[row * row % 5 % 3]).collect();
-    rows.bytes = vec![
-        Memory::junk(0, JUNK),
-        Memory::around(&inputs, JUNK),
-        Memory::junk(LANES, JUNK),
-    ];
-    tables::compare(library, Call::Rows, &rows)?;
     [u64::MAX, (1 << MOST_X) - 1]
         .into_iter()
         .try_for_each(|allowance| filled(library, allowance))
+}
+
+/// The calls that are given values.
+fn values(library: &dyn Library, a: usize) -> Result<(), String> {
+    asked(library, Call::StepPlain, &doubling(), &[], &[b"", b"1", b"?"])?;
+    asked(library, Call::Explain, &chain(a), &[0], &[b"", b"1", b"?"])?;
+    // The first gate of the chain is turned, and with it all the others.
+    let before = step::values(&chain(a), b"", b"1");
+    asked(library, Call::Rewire, &chain(a), &[0, 0, 2], &[&before])?;
+    let inputs: Vec<u8> = (0..LANES as usize).map(|row| b"01x"[row * row % 5 % 3]).collect();
+    let outputs = [b'?'; LANES as usize];
+    asked(library, Call::Rows, &chain(a), &[LANES], &[b"", &inputs, &outputs])
 }
 
 /// An input or its negation is 1 in each filling of as many x as there may be, half of them in the first state.
@@ -136,10 +124,8 @@ fn filled(library: &dyn Library, allowance: u64) -> Result<(), String> {
         latches: latches.collect(),
         ..Circuit::default()
     };
-    let mut lent = given::lend(Call::Witness, &given::exactly(Call::Witness, &circuit), JUNK);
-    lent.numbers = vec![MOST_X as u64 / 2, allowance];
-    lent.bytes = vec![Memory::around(&[b'x'; MOST_X / 2], JUNK)];
-    tables::compare(library, Call::Witness, &lent)
+    let numbers = [MOST_X as u64 / 2, allowance];
+    asked(library, Call::Witness, &circuit, &numbers, &[&[b'x'; MOST_X / 2]])
 }
 
 /// A report of so many vectors, which are all there.
@@ -152,15 +138,20 @@ fn reported(library: &dyn Library, number: u64) -> Result<(), String> {
         ..chain(2)
     };
     let list: Vec<u8> = (0..number).map(|k| b"01x"[(k * k % 7 % 3) as usize]).collect();
-    let mut lent = given::lend(Call::Report, &given::exactly(Call::Report, &circuit), JUNK);
-    lent.numbers = vec![number];
-    lent.bytes = vec![Memory::around(&list, JUNK)];
-    tables::compare(library, Call::Report, &lent)
+    asked(library, Call::Report, &circuit, &[number], &[&list])
 }
 
 /// A call on exactly the circuit's tables, with byte buffers of these lengths.
 fn called(library: &dyn Library, call: Call, circuit: &Circuit, lengths: &[u64]) -> Result<(), String> {
+    let buffers: Vec<Vec<u8>> = lengths.iter().map(|&length| vec![b'?'; length as usize]).collect();
+    let buffers: Vec<&[u8]> = buffers.iter().map(Vec::as_slice).collect();
+    asked(library, call, circuit, &[], &buffers)
+}
+
+/// The same with these numbers and bytes.
+fn asked(library: &dyn Library, call: Call, circuit: &Circuit, numbers: &[u64], bytes: &[&[u8]]) -> Result<(), String> {
     let mut lent = given::lend(call, &given::exactly(call, circuit), JUNK);
-    lent.bytes = lengths.iter().map(|&length| Memory::junk(length, JUNK)).collect();
+    lent.numbers = numbers.to_vec();
+    lent.bytes = bytes.iter().map(|buffer| Memory::around(buffer, JUNK)).collect();
     tables::compare(library, call, &lent)
 }

@@ -150,17 +150,22 @@ fn conversion(old: &Circuit, converted: &Converted, tail: &[u8]) -> Result<(), S
     Ok(())
 }
 
-fn reduction(old: &Circuit, new: &Circuit) -> Result<(), String> {
+/// A circuit in binary order with no more gates, and the same inputs and resets; done twice, it is done.
+fn fewer(old: &Circuit, new: &Circuit, change: fn(&Circuit) -> Circuit) -> Result<(), String> {
     ensure!(
-        tables::check(&Given::exactly(new)).as_ref() == Ok(new),
-        "reduced to {new:?}"
+        tables::check(&Given::exactly(new)).as_ref() == Ok(new) && binary_order(new).is_ok(),
+        "changed to {new:?}"
     );
-    ensure!(binary_order(new).is_ok(), "reduced to {new:?}");
     ensure!(
         new.inputs == old.inputs && new.resets == old.resets && new.gates.len() <= old.gates.len(),
-        "reduced to {new:?}"
+        "changed to {new:?}"
     );
-    ensure!(reduce(new) == *new, "reduced twice");
+    ensure!(change(new) == *new, "changed twice");
+    Ok(())
+}
+
+fn reduction(old: &Circuit, new: &Circuit) -> Result<(), String> {
+    fewer(old, new, reduce).map_err(|why| format!("reduction: {why}"))?;
     let mut pairs = HashSet::new();
     for &[_, rhs0, rhs1] in &new.gates {
         ensure!(
@@ -174,16 +179,7 @@ fn reduction(old: &Circuit, new: &Circuit) -> Result<(), String> {
 
 /// The gates that are left are all that something asks for, in the order they had.
 fn dropping(old: &Circuit, new: &Circuit) -> Result<(), String> {
-    ensure!(
-        tables::check(&Given::exactly(new)).as_ref() == Ok(new),
-        "dropped to {new:?}"
-    );
-    ensure!(binary_order(new).is_ok(), "dropped to {new:?}");
-    ensure!(
-        new.inputs == old.inputs && new.resets == old.resets && new.gates.len() <= old.gates.len(),
-        "dropped to {new:?}"
-    );
-    ensure!(drop_unused(new) == *new, "dropped twice");
+    fewer(old, new, drop_unused).map_err(|why| format!("dropping: {why}"))?;
     if old.gates.len() <= FEW_GATES {
         let [before, after] = [old, new].map(naive::reached);
         ensure!(after.iter().all(|&reached| reached), "an unused gate stays: {new:?}");

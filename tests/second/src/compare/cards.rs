@@ -1,7 +1,7 @@
 //! Holds a library's reader of cards to this program's answers.
 
-use super::holds;
-use crate::aiger::{with_scratch, Circuit, Lengths, Refusal, TABLES};
+use super::left;
+use crate::aiger::{Circuit, Lengths, Refusal};
 use crate::ensure;
 use crate::library::{CardsQuestion, Library, Question, Reply};
 use crate::memory::Memory;
@@ -39,15 +39,5 @@ pub fn judge(library: &dyn Library, junk: u64, answer: &Result<Circuit, Refusal>
         "expected {expected:?}, given {:?}",
         given.answer
     );
-    let tables = answer.as_ref().map_or_else(|_| Default::default(), Circuit::tables);
-    let tables = with_scratch(tables, Vec::new());
-    for ((number, memory), start) in TABLES.iter().zip(&given.tables).zip(&tables) {
-        ensure!(
-            holds(memory, start, junk),
-            "table {number}: expected {start:?} and zeros, given {:?} with margins of {}",
-            &memory.all[..memory.all.len().min(start.len() + 20)],
-            memory.margin
-        );
-    }
-    Ok(())
+    left(&given.tables, answer.as_ref().ok(), junk)
 }

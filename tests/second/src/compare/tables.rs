@@ -136,42 +136,39 @@ fn reported(after: &mut Lent, report: Result<Vec<u32>, Refusal>) {
 
 /// The next state is written over the state; a refusal changes neither that nor the outputs.
 fn stepped(after: &mut Lent, step: impl Fn(&[u8], &[u8], u64) -> Result<Step, Refusal>) {
-    let [state, input, output] = after.bytes.as_mut_slice() else {
-        unreachable!("a step has three vectors");
-    };
-    let step = step(state.lent(), input.lent(), output.lent().len() as u64);
-    if let Ok(step) = &step {
-        state.lent_mut().copy_from_slice(&step.next);
-        output.lent_mut().copy_from_slice(&step.output);
-    }
-    answer(after, step, |_| Vec::new());
+    let [state, input, output] = three(after);
+    let step = step(state, input, output.len() as u64);
+    put(after, step.map(|step| [step.next, step.output]));
 }
 
 /// Next states and outputs of accepted rows; a refusal changes neither.
 fn rowed(after: &mut Lent, given: &Given) {
-    let number = after.number();
-    let [next, input, output] = after.bytes.as_mut_slice() else {
-        unreachable!("rows have three buffers");
-    };
-    let lengths = [&*next, &*output].map(|memory| memory.lent().len() as u64);
-    let rows = calls::rows(given, number, lengths, input.lent());
-    if let Ok(rows) = &rows {
-        next.lent_mut().copy_from_slice(&rows.nexts);
-        output.lent_mut().copy_from_slice(&rows.outputs);
+    let [next, input, output] = three(after);
+    let lengths = [next, output].map(|buffer| buffer.len() as u64);
+    let rows = calls::rows(given, after.number(), lengths, input);
+    put(after, rows.map(|rows| [rows.nexts, rows.outputs]));
+}
+
+/// The buffers of a call that has three.
+fn three(lent: &Lent) -> [&[u8]; 3] {
+    [0, 1, 2].map(|k| lent.bytes[k].lent())
+}
+
+/// What goes over the first and the last of them.
+fn put(after: &mut Lent, outcome: Result<[Vec<u8>; 2], Refusal>) {
+    if let Ok([first, last]) = &outcome {
+        after.bytes[0].lent_mut().copy_from_slice(first);
+        after.bytes[2].lent_mut().copy_from_slice(last);
     }
-    answer(after, rows, |_| Vec::new());
+    answer(after, outcome, |_| Vec::new());
 }
 
 /// Marks on the first bytes of the buffer; a refusal changes none.
 fn explained(after: &mut Lent, given: &Given) {
-    let output = after.number();
-    let [state, input, buffer] = after.bytes.as_mut_slice() else {
-        unreachable!("an explanation has two vectors and a buffer");
-    };
-    let room = buffer.lent().len() as u64;
-    let marks = calls::explain(given, state.lent(), input.lent(), output, room);
+    let [state, input, buffer] = three(after);
+    let marks = calls::explain(given, state, input, after.number(), buffer.len() as u64);
     if let Ok(marks) = &marks {
-        buffer.lent_mut()[..marks.len()].copy_from_slice(marks);
+        after.bytes[2].lent_mut()[..marks.len()].copy_from_slice(marks);
     }
     answer(after, marks, |_| Vec::new());
 }

@@ -18,7 +18,7 @@ use marks::MARKS;
 use reports::REPORT;
 use rows::{ROWS, ROW_REPORT};
 use sides::SIDES;
-use slips::{Slip, ANY, CARDS, CHANGES, COPIES, WRITERS};
+use slips::{Slip, ANY, BUFFERS, CARDS, CHANGES, COPIES, WRITERS};
 use vectors::{PLAIN, STEPPER, WITNESS};
 
 fn slips(call: Call) -> Vec<(&'static str, Slip)> {
@@ -27,12 +27,12 @@ fn slips(call: Call) -> Vec<(&'static str, Slip)> {
         Call::WriteText | Call::WriteBinary => [ANY, WRITERS, COPIES].concat(),
         Call::WriteCards => [ANY, WRITERS, CARDS].concat(),
         Call::Convert | Call::Reduce | Call::Drop => [ANY, CHANGES].concat(),
-        Call::Step => [ANY, STEPPER].concat(),
-        Call::StepPlain => [ANY, STEPPER, PLAIN].concat(),
+        Call::Step => [ANY, BUFFERS, STEPPER].concat(),
+        Call::StepPlain => [ANY, BUFFERS, STEPPER, PLAIN].concat(),
         Call::Witness => [ANY, FILLINGS].concat(),
         Call::Witness3 => [ANY, WITNESS].concat(),
         Call::Report => [ANY, REPORT].concat(),
-        Call::Rows => [ANY, ROWS].concat(),
+        Call::Rows => [ANY, BUFFERS, ROWS].concat(),
         Call::Explain => [ANY, MARKS].concat(),
         Call::Rewire => [ANY, SIDES].concat(),
         Call::ReportRows => [ANY, ROW_REPORT].concat(),
@@ -48,25 +48,28 @@ fn answers(slip: Slip, question: Question) -> Result<Reply, String> {
     Ok(Reply::Tables(Box::new(lent)))
 }
 
-/// How many of the first cases must do to notice a slip.
-const CASES: u64 = 500;
+/// How many of the first cases must do to notice a slip, and how many must show none where there is none.
+const CASES: u64 = 3000;
+const WITHOUT: u64 = 500;
 
 pub fn run(tally: &mut Tally, seed: u64) {
     for call in Call::ALL {
         let name = call.name();
-        let none = notices(call, |_, _| {}, seed).map_or(Ok(()), Err);
+        let none = notices(call, |_, _| {}, seed, WITHOUT).map_or(Ok(()), Err);
         tally.check(&format!("{name} without a slip"), none);
         for (told, slip) in slips(call) {
-            let noticed = notices(call, slip, seed).map(drop).ok_or("not noticed".to_string());
+            let noticed = notices(call, slip, seed, CASES)
+                .map(drop)
+                .ok_or("not noticed".to_string());
             tally.check(&format!("{name} with the slip {told:?}"), noticed);
         }
     }
 }
 
 /// The first difference that a slip makes.
-fn notices(call: Call, slip: Slip, seed: u64) -> Option<String> {
+fn notices(call: Call, slip: Slip, seed: u64, cases: u64) -> Option<String> {
     let library = Slipping::new(|question| answers(slip, question));
-    (0..CASES).find_map(|number| {
+    (0..cases).find_map(|number| {
         let lent = given::case(call, seed, number).lent;
         ask(&library, call, &lent);
         judge(&library, &after(call, &lent)).err()

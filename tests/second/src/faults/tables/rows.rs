@@ -26,23 +26,10 @@ pub const ROWS: &[(&str, Slip)] = &[
             after.answer.lent_mut().copy_from_slice(&[13, 63]);
         }
     }),
-    ("next states changed after a refusal", |_, after| {
-        if outcome(after).is_err() {
-            after.bytes[0].lent_mut().fill(b'0');
-        }
-    }),
-    ("outputs changed after a refusal", |_, after| {
-        if outcome(after).is_err() {
-            after.bytes[2].lent_mut().fill(0);
-        }
-    }),
     ("13 after 12", |_, after| {
         if outcome(after).is_err_and(|refusal| refusal.number == 13) {
             after.answer.lent_mut().copy_from_slice(&[12, 2]);
         }
-    }),
-    ("writes behind the outputs", |_, after| {
-        margin(&mut after.bytes[2], true)
     }),
 ];
 

@@ -1,6 +1,7 @@
 //! What a call on tables may get wrong.
 
-use crate::compare::tables::outcome;
+use crate::aiger::cards;
+use crate::compare::tables::{circuit, outcome};
 use crate::library::Lent;
 use crate::memory::{Element, Memory};
 
@@ -86,6 +87,27 @@ pub const COPIES: &[(&str, Slip)] = &[("tail left out", |_, after| {
     }
 })];
 
+/// Of calls that write over the first of three buffers and over the last.
+pub const BUFFERS: &[(&str, Slip)] = &[
+    ("first buffer changed after a refusal", |_, after| {
+        if outcome(after).is_err() {
+            after.bytes[0].lent_mut().fill(b'0');
+        }
+    }),
+    ("outputs changed after a refusal", |_, after| {
+        if outcome(after).is_err() {
+            after.bytes[2].lent_mut().fill(0);
+        }
+    }),
+    ("inputs changed", |_, after| after.bytes[1].lent_mut().fill(b'x')),
+    ("writes behind the first buffer", |_, after| {
+        margin(&mut after.bytes[0], true)
+    }),
+    ("writes behind the outputs", |_, after| {
+        margin(&mut after.bytes[2], true)
+    }),
+];
+
 pub const CARDS: &[(&str, Slip)] = &[
     ("high byte first", |_, after| {
         if outcome(after).is_ok() {
@@ -98,13 +120,11 @@ pub const CARDS: &[(&str, Slip)] = &[
         }
     }),
     ("19 after 11", |before, after| {
-        let late = outcome(after).is_err_and(|refusal| refusal.number == 19);
-        let [_, _, l, o, a, ..] = *before.counts.lent() else {
-            return;
-        };
-        let needed = 22 + 6 * (l + o) + 10 * a;
-        if late && (before.bytes[1].lent().len() as u64) < needed {
-            after.answer.lent_mut()[..2].copy_from_slice(&[11, needed]);
+        if outcome(after).is_err_and(|refusal| refusal.number == 19) {
+            let needed = cards::file(&circuit(before)).len() as u64;
+            if (before.bytes[1].lent().len() as u64) < needed {
+                after.answer.lent_mut()[..2].copy_from_slice(&[11, needed]);
+            }
         }
     }),
     ("19 for a tail alone", |before, after| {

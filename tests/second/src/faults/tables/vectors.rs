@@ -1,6 +1,6 @@
 //! What the stepper and the witness question may get wrong.
 
-use super::slips::{margin, Slip};
+use super::slips::Slip;
 use crate::aiger::{step, Circuit};
 use crate::compare::tables::{circuit, outcome};
 use crate::coverage::vectors::{list, seen};
@@ -13,23 +13,11 @@ pub const STEPPER: &[(&str, Slip)] = &[
         }
     }),
     ("state stays", |before, after| after.bytes[0] = before.bytes[0].clone()),
-    ("state changed after a refusal", |_, after| {
-        if outcome(after).is_err() {
-            after.bytes[0].lent_mut().fill(b'0');
-        }
-    }),
-    ("outputs changed after a refusal", |_, after| {
-        if outcome(after).is_err() {
-            after.bytes[2].lent_mut().fill(0);
-        }
-    }),
-    ("inputs changed", |_, after| after.bytes[1].lent_mut().fill(b'x')),
     ("latches one after another", |before, after| {
         if outcome(after).is_ok() {
             one_after_another(before, after);
         }
     }),
-    ("writes behind the state", |_, after| margin(&mut after.bytes[0], true)),
 ];
 
 pub const PLAIN: &[(&str, Slip)] = &[
