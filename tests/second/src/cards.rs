@@ -4,7 +4,7 @@ use crate::aiger::{apart, cards, read, write, Circuit, Form, Lengths, Refusal, V
 use crate::compare::cards::{ask, compare, judge};
 use crate::coverage::cards::CardsCoverage;
 use crate::ensure;
-use crate::generate::cards::{case, Cards, CardsCase};
+use crate::generate::cards::{case, cases, Cards, CardsCase};
 use crate::generate::given;
 use crate::library::{Call, Library, Question, Reply};
 use crate::memory::Memory;
@@ -12,8 +12,8 @@ use crate::options::Options;
 use crate::run_ahead;
 use crate::tally::Tally;
 
-/// There is one card file for so many cases.
-const SHARE: u64 = 10;
+/// There is one round of card files for so many cases.
+const SHARE: u64 = 400;
 
 /// There is one round trip for so many card files.
 const TRIPS: u64 = 8;
@@ -35,7 +35,7 @@ pub fn run(tally: &mut Tally, options: &Options, library: Option<&dyn Library>) 
     worked(tally, library);
     slips(tally, options.seed);
     let mut coverage = CardsCoverage::default();
-    let begun = (0..options.cases / SHARE).map(|number| {
+    let begun = (0..cases(options.cases / SHARE)).map(|number| {
         let next = begin(options.seed, number, library);
         coverage.add(&next.case, &next.answer);
         next

@@ -1,50 +1,55 @@
 //! Which answers the cases had, so that a generator that misses one counts as failed.
 
+mod answered;
 pub mod calls;
 pub mod cards;
 mod kinds;
-mod places;
 pub mod programs;
 pub mod vectors;
 
 use crate::aiger::read::words;
-use crate::aiger::{Circuit, Form, Refusal, Version, MOST};
-use crate::generate::{Answer, Answers, Case};
+use crate::aiger::{Circuit, Form, Refusal, MOST, TABLES};
+use crate::generate::{Answers, Case};
+use crate::library::Told;
 use crate::spelling::Spelling;
 use crate::tally::Tally;
-use places::{PlaceCoverage, OF_FILES};
+use answered::{Answered, Needed, OF_CALLS, PER_REFUSAL};
 
-/// One more than the largest number of a refusal.
-pub const NUMBERS: usize = 25;
-
-/// Cases that each refusal of a call must have at least.
-const PER_REFUSAL: u64 = 200;
-
-/// The refusals of the readers.
-const REFUSALS: [&[u64]; 2] = [
-    &[1, 2, 3, 4, 5, 6, 7, 8, 9, 10, 16],
-    &[1, 2, 3, 4, 5, 6, 7, 8, 9, 10, 16, 21],
+/// What the reader of 2007 can tell. Bad states and constraints need no words there.
+const OF_2007: &[Told] = &[
+    (1, &[]),
+    (2, &[]),
+    (3, &[0]),
+    (4, &[1, 2, 3, 4, 5, 7]),
+    (5, &[]),
+    (6, &[]),
+    (7, &[]),
+    (8, &[]),
+    (9, &[]),
+    (10, &[]),
+    (16, &[]),
 ];
+
+/// What that of 1.9 can tell otherwise or more.
+const OF_19: &[Told] = &[(4, &TABLES), (21, &[])];
 
 #[derive(Default)]
 pub struct Coverage {
-    cases: u64,
-    /// By version, at the refusal's number: in text, in binary.
-    refused: [[[u64; 2]; NUMBERS]; 2],
-    /// Those of them whose answer the generator knew.
-    promised: [[u64; NUMBERS]; 2],
-    without_gates: [u64; 2],
+    /// By version.
+    answered: [Answered; 2],
+    /// Accepted with A > 0, in text and in binary.
     with_gates: [u64; 2],
     /// Kinds of accepted files.
     kinds: [u64; KINDS.len()],
-    /// By version.
-    places: [PlaceCoverage; 2],
-    /// Binary files whose table 5 is one word too short.
-    one_word_short: u64,
+    /// Refused by 2 or by 21 at each number of the header.
+    counts: [u64; 9],
+    properties: [u64; 9],
+    /// Tables one word too short, by number, in text and in binary.
+    one_word_short: [[u64; 2]; TABLES.len()],
 }
 
 /// Kinds of accepted files, and in how many cases there must be one of each.
-const KINDS: [(&str, u64); 12] = [
+const KINDS: [(&str, u64); 11] = [
     ("a difference of three bytes", 1000),
     ("tables exactly long enough", 12),
     ("a binary file, table 5 exactly long enough", 12),
@@ -56,10 +61,9 @@ const KINDS: [(&str, u64); 12] = [
     ("bad states and no outputs", 100),
     ("zeros that may be left off", 40),
     ("counts that may be left off", 100),
-    ("a circuit of 2007", 12),
 ];
 
-fn kinds(case: &Case, circuit: &Circuit, old: &Answer) -> [bool; KINDS.len()] {
+fn kinds(case: &Case, circuit: &Circuit) -> [bool; KINDS.len()] {
     let form = form(&case.file);
     let needed = circuit.counts().words_to_read(form);
     let spelled = Spelling::of(&case.file, circuit.latches.len());
@@ -75,7 +79,6 @@ fn kinds(case: &Case, circuit: &Circuit, old: &Answer) -> [bool; KINDS.len()] {
         !circuit.bads.is_empty() && circuit.outputs.is_empty(),
         !spelled.is_shortest(),
         spelled.zero_counts,
-        old.is_ok(),
     ]
 }
 
@@ -89,78 +92,78 @@ pub fn form(file: &[u8]) -> Form {
 
 impl Coverage {
     pub fn add(&mut self, case: &Case, answers: &Answers) {
-        let form = form(&case.file) as usize;
-        self.cases += 1;
         for (version, answer) in answers.iter().enumerate() {
-            if let Err(refusal) = answer {
-                let number = refusal.number as usize;
-                self.refused[version][number][form] += 1;
-                self.promised[version][number] += u64::from(case.promises[version].is_some());
-                self.places[version].add(refusal);
+            let foretold = case.promises[version].is_some();
+            match answer {
+                Ok((circuit, _)) => self.answered[version].accept(!circuit.gates.is_empty()),
+                Err(refusal) => self.answered[version].refuse(refusal, foretold),
             }
         }
-        self.one_word_short += u64::from(one_word_short(case, &answers[Version::V19 as usize]));
-        if let [old, Ok((circuit, _))] = answers {
-            let gates = if circuit.gates.is_empty() {
-                &mut self.without_gates
-            } else {
-                &mut self.with_gates
-            };
-            gates[form] += 1;
-            for (count, is) in self.kinds.iter_mut().zip(kinds(case, circuit, old)) {
-                *count += u64::from(is);
+        match answers {
+            [_, Ok((circuit, _))] => {
+                self.with_gates[form(&case.file) as usize] += u64::from(!circuit.gates.is_empty());
+                for (count, is) in self.kinds.iter_mut().zip(kinds(case, circuit)) {
+                    *count += u64::from(is);
+                }
             }
+            [_, Err(refusal)] => self.add_refused(case, refusal),
+        }
+    }
+
+    fn add_refused(&mut self, case: &Case, refusal: &Refusal) {
+        let number = || {
+            let before = &case.file[..refusal.place as usize];
+            before.iter().filter(|&&byte| byte == b' ').count() - 1
+        };
+        match refusal.number {
+            2 => self.counts[number()] += 1,
+            21 => self.properties[number()] += 1,
+            4 => {
+                let k = TABLES
+                    .iter()
+                    .position(|&table| table == refusal.place)
+                    .expect("a table");
+                let short = case.lengths[k] + 1 == words(&case.file, refusal.place);
+                self.one_word_short[k][form(&case.file) as usize] += u64::from(short);
+            }
+            _ => {}
         }
     }
 
     /// Prints the summary and counts what was missed.
     pub fn report(&self, tally: &mut Tally) {
-        for version in Version::ALL {
-            self.report_refusals(tally, version);
+        let [old, new] = &self.answered;
+        // What a damaged file is to the reader of 2007 the generator leaves open.
+        let any = Needed {
+            foretold: 0,
+            ..OF_CALLS
+        };
+        old.report(tally, "read2007", OF_2007, any);
+        new.report(tally, "read", &[OF_2007, OF_19].concat(), OF_CALLS);
+        let cases = new.cases;
+        for (form, count) in [Form::Text, Form::Binary].into_iter().zip(self.with_gates) {
+            println!("accepted, A > 0, {form:?}: {count}");
+            tally.check(&format!("accepted, A > 0, {form:?}"), at_least(count, cases / 12));
         }
-        self.places[Version::V19 as usize].report(tally, "read", OF_FILES);
-        let [text, binary] = self.with_gates;
-        println!(
-            "accepted, A > 0: {} ({text} text, {binary} binary) of {} cases",
-            text + binary,
-            self.cases
-        );
-        println!("accepted, A = 0: {}", self.without_gates.iter().sum::<u64>());
-        tally.check("accepted, A > 0", at_least(text + binary, self.cases.div_ceil(4)));
-        for (form, count) in [(Form::Text, text), (Form::Binary, binary)] {
-            tally.check(&format!("accepted, A > 0, {form:?}"), at_least(count, self.cases / 12));
+        each(tally, "refused by 2 at the number", &self.counts, PER_REFUSAL);
+        each(tally, "refused by 21 at the number", &self.properties[7..], PER_REFUSAL);
+        for (table, counts) in TABLES.iter().zip(&self.one_word_short) {
+            let name = format!("table {table} one word too short, in form");
+            each(tally, &name, counts, PER_REFUSAL / 4);
         }
-        println!("binary, table 5 one word too short: {}", self.one_word_short);
-        tally.check(
-            "binary, table 5 one word too short",
-            at_least(self.one_word_short, PER_REFUSAL / 4),
-        );
         for ((kind, share), &count) in KINDS.iter().zip(&self.kinds) {
             println!("accepted with {kind}: {count}");
-            tally.check(&format!("accepted with {kind}"), at_least(count, self.cases / share));
-        }
-    }
-
-    fn report_refusals(&self, tally: &mut Tally, version: Version) {
-        for &number in REFUSALS[version as usize] {
-            let [text, binary] = self.refused[version as usize][number as usize];
-            let promised = self.promised[version as usize][number as usize];
-            println!(
-                "{version:?}, refused by {number:2}: {:6} ({text} text, {binary} binary; {promised} foretold)",
-                text + binary
-            );
-            let name = format!("{version:?}, refusal {number}");
-            tally.check(&name, at_least(text + binary, PER_REFUSAL));
-            if version == Version::V19 {
-                tally.check(&format!("{name} foretold"), at_least(promised, PER_REFUSAL / 4));
-            }
+            tally.check(&format!("accepted with {kind}"), at_least(count, cases / share));
         }
     }
 }
 
-fn one_word_short(case: &Case, answer: &Answer) -> bool {
-    let short = Err(Refusal { number: 4, place: 5 });
-    form(&case.file) == Form::Binary && *answer == short && case.lengths[4] + 1 == words(&case.file, 5)
+/// Prints the counts of a kind and sees that each is large enough.
+fn each(tally: &mut Tally, name: &str, counts: &[u64], needed: u64) {
+    println!("{name}: {counts:?}");
+    for (k, &count) in counts.iter().enumerate() {
+        tally.check(&format!("{name} {k}"), at_least(count, needed));
+    }
 }
 
 fn far(circuit: &Circuit) -> bool {

@@ -4,6 +4,7 @@ use crate::aiger::{step, Refusal};
 use crate::compare::tables::{after, ask, circuit, judge, outcome};
 use crate::coverage::calls::CallCoverage;
 use crate::ensure;
+use crate::generate::given::turns::round;
 use crate::generate::given::{self, TablesCase};
 use crate::library::{Call, Lent, Library};
 use crate::memory::Memory;
@@ -12,13 +13,14 @@ use crate::properties::values::masked;
 use crate::run_ahead;
 use crate::tally::Tally;
 
-/// Each call has one case for so many files.
-const SHARE: u64 = 10;
+/// Each call has one round of turns for so many files.
+const SHARE: u64 = 400;
 
 pub fn run(tally: &mut Tally, options: &Options, library: Option<&dyn Library>) {
     for call in Call::ALL {
         let mut coverage = CallCoverage::new(call);
-        let begun = (0..options.cases / SHARE).map(|number| {
+        let cases = options.cases / SHARE * round(call).len() as u64;
+        let begun = (0..cases).map(|number| {
             let next = begin(options, library, call, number);
             coverage.add(&next.case, &next.expected);
             next

@@ -49,12 +49,17 @@ pub fn case(seed: u64, number: u64) -> Case {
     let treatment = treatment(&mut random);
     let form = form(&mut random, treatment);
     let mut size = circuit::size(&mut random, form);
+    // Every other file is one of 2007, or is it until it is damaged.
+    let old = random.once_in(2);
+    if old {
+        (size.b, size.c, size.starts) = (0, 0, false);
+    }
     if treatment == Treatment::Damaged(7) {
         size.unused = size.unused.max(1);
     }
     let circuit = circuit::circuit(&mut random, form, &size);
     let mut draft = Draft::new(&mut random, form, &circuit);
-    if random.once_in(4) {
+    if !old && random.once_in(3) {
         draft.lengthen(&mut random);
     }
     let (file, promises) = treat(&mut random, treatment, &circuit, draft);
@@ -75,12 +80,25 @@ pub fn whole(seed: u64, number: u64) -> [Vec<u8>; 2] {
     [draft.layout().file, shortest]
 }
 
+/// A file that is refused with a number, and the refusal; none if the one that was made has no place for that.
+pub fn damaged(random: &mut Random, number: u64) -> Option<(Vec<u8>, Refusal)> {
+    let form = form(random, Treatment::Damaged(number));
+    let mut size = circuit::size(random, form);
+    size.unused = size.unused.max(usize::from(number == 7));
+    let circuit = circuit::circuit(random, form, &size);
+    let mut draft = Draft::new(random, form, &circuit);
+    let harm = damage::damage(random, number, &circuit, &mut draft)?;
+    let layout = draft.layout();
+    let refusal = harm.refusal(&layout);
+    (refusal.number == number).then_some((layout.file, refusal))
+}
+
 fn treatment(random: &mut Random) -> Treatment {
     let aim = *random.pick(AIMS);
     match random.below(100) {
         0..=47 => Treatment::Whole,
-        48..=52 => Treatment::Short,
-        53..=77 => Treatment::Damaged(aim),
+        48..=53 => Treatment::Short,
+        54..=77 => Treatment::Damaged(aim),
         78..=84 => Treatment::DamagedTwice(aim),
         85..=89 => Treatment::Cut,
         _ => Treatment::Edited,
@@ -123,13 +141,9 @@ fn treat(random: &mut Random, treatment: Treatment, circuit: &Circuit, mut draft
         }
         Treatment::Cut => {
             let mut file = layout.file;
-            let end = random.below(file.len());
-            file.truncate(end);
-            let promise = if cut_stands(&file, layout.tail) {
-                whole
-            } else {
-                Err(early(end))
-            };
+            file.truncate(random.below(file.len()));
+            let stands = cut_stands(&file, layout.tail);
+            let promise = if stands { whole } else { Err(early(file.len())) };
             (file, [None, Some(promise)])
         }
         Treatment::Edited => {
@@ -186,8 +200,17 @@ fn lengths(random: &mut Random, treatment: Treatment, needed: &Option<Lengths>) 
         (None, _) => lend::unrelated(random),
         (Some(needed), Treatment::Whole) => lend::enough(random, needed),
         (Some(needed), _) if needed.iter().sum::<u64>() > MANY_WORDS => lend::unrelated(random),
-        (Some(needed), Treatment::Short) => lend::short(random, needed),
-        (Some(needed), _) if random.once_in(40) => lend::short(random, needed),
+        (Some(needed), Treatment::Short) => too_short(random, needed),
+        (Some(needed), _) if random.once_in(40) => too_short(random, needed),
         (Some(needed), _) => lend::enough(random, needed),
     }
+}
+
+/// Tables 8 and 9 more often, since fewer files need them; a file may need none at all.
+fn too_short(random: &mut Random, needed: &Lengths) -> Lengths {
+    let mut short = || {
+        let table = *random.pick(&[1, 2, 3, 4, 5, 7, 7, 8, 8, 8, 8, 9, 9, 9, 9]);
+        lend::short(random, needed, table)
+    };
+    (0..9).find_map(|_| short()).unwrap_or(*needed)
 }

@@ -1,6 +1,6 @@
 //! What is compared, seen from the caller's side.
 
-use crate::aiger::{Counts, Version};
+use crate::aiger::{Counts, Version, CIRCUIT, TABLES};
 use crate::memory::Memory;
 
 /// What a read answers beside the tables.
@@ -36,6 +36,22 @@ pub struct ReadReply {
     /// As the read left them.
     pub tables: [Memory<u32>; 8],
 }
+
+/// A refusal's number, and its places if they are a few: a count, a table, a vector, a limit.
+pub type Told = (u64, &'static [u64]);
+
+/// What every call can tell of given tables.
+const OF_TABLES: [Told; 7] = [
+    (2, &[1, 2, 3, 4, 5, 6, 7]),
+    (3, &[0]),
+    (4, &TABLES),
+    (5, &CIRCUIT),
+    (6, &[1, 2, 4]),
+    (7, &[]),
+    (8, &[]),
+];
+
+const ORDER: Told = (15, &[0]);
 
 /// The calls that are given tables.
 #[derive(Clone, Copy, Debug, PartialEq, Eq)]
@@ -103,26 +119,35 @@ impl Call {
         }
     }
 
-    /// The refusals that it can give.
-    pub fn refusals(self) -> &'static [u64] {
+    /// What it can tell of given tables: 4 at 6 if it is lent that table, 15 if it asks for their order.
+    pub fn told_of_tables(self) -> Vec<Told> {
+        let mut told = OF_TABLES.to_vec();
+        told.extend(self.sixth().map(|_| -> Told { (4, &[6]) }));
+        told.extend(self.asks_order().then_some(ORDER));
+        told
+    }
+
+    /// What it can tell of all else that it is given, in the order in which that is judged.
+    pub fn told_beside(self) -> &'static [Told] {
         match self {
-            Call::Check | Call::Convert => &[2, 3, 4, 5, 6, 7, 8],
-            Call::Reduce | Call::Drop => &[2, 3, 4, 5, 6, 7, 8, 15],
-            Call::Step | Call::Witness3 => &[2, 3, 4, 5, 6, 7, 8, 12, 15],
-            Call::Witness => &[2, 3, 4, 5, 6, 7, 8, 12, 15, 20],
-            Call::StepPlain => &[2, 3, 4, 5, 6, 7, 8, 12, 15, 24],
-            Call::WriteCards => &[1, 2, 3, 4, 5, 6, 7, 8, 10, 11, 15, 19],
-            Call::Rewire => &[2, 3, 4, 5, 6, 7, 8, 12, 15, 22, 23],
-            Call::Explain => &[2, 3, 4, 5, 6, 7, 8, 11, 12, 15, 17],
-            Call::Report | Call::Rows | Call::ReportRows => &[2, 3, 4, 5, 6, 7, 8, 12, 13, 15],
-            Call::WriteText => &[1, 2, 3, 4, 5, 6, 7, 8, 10, 11],
-            Call::WriteBinary => &[1, 2, 3, 4, 5, 6, 7, 8, 10, 11, 15],
+            Call::Check | Call::Convert | Call::Reduce | Call::Drop => &[],
+            Call::WriteText | Call::WriteBinary => &[(1, &[]), (10, &[]), (11, &[])],
+            Call::WriteCards => &[(1, &[]), (10, &[]), (19, &[0]), (11, &[])],
+            Call::Step => &[(12, &[1, 2, 3])],
+            Call::StepPlain => &[(24, &[]), (12, &[1, 2, 3])],
+            Call::Witness => &[(12, &[2]), (20, &[])],
+            Call::Witness3 => &[(12, &[2])],
+            Call::Report => &[(13, &[65_536]), (12, &[2])],
+            Call::Rows => &[(13, &[64]), (12, &[1, 2, 3])],
+            Call::ReportRows => &[(13, &[64]), (12, &[2])],
+            Call::Explain => &[(12, &[1, 2]), (17, &[1, 2]), (11, &[])],
+            Call::Rewire => &[(22, &[]), (5, &[4]), (15, &[0]), (12, &[4]), (23, &[])],
         }
     }
 
     /// Whether it refuses tables not in binary order.
     pub fn asks_order(self) -> bool {
-        self.refusals().contains(&15)
+        !matches!(self, Call::Check | Call::Convert | Call::WriteText)
     }
 
     /// The length of its answer: number, place, values.

@@ -1,6 +1,5 @@
 //! The programs, each run in a folder with what is made for it, and every byte that they write compared.
 
-use crate::aiger::programs::{answer, opened, output};
 use crate::coverage::programs::RunCoverage;
 use crate::ensure;
 use crate::generate::runs::{self, Input, Plan, Run};
@@ -52,7 +51,10 @@ pub fn only(tally: &mut Tally, options: &Options, programs: Option<&Programs>, n
 
 fn finish(tally: &mut Tally, options: &Options, programs: Option<&Programs>, number: u64, run: &Run) {
     let Run { plan, input, .. } = run;
-    let expected = output(run.program, plan.bytes(), input.bytes());
+    let expected = match &run.answer {
+        Ok(written) => written.clone(),
+        Err(refusal) => refusal.line().into_bytes(),
+    };
     let name = format!("{} run {number}", run.program.name());
     let outcome = foretold(run).and_then(|()| programs.map_or(Ok(()), |programs| programs.compare(run, &expected)));
     if let (Err(why), true) = (&outcome, tally.tells()) {
@@ -72,8 +74,8 @@ fn foretold(run: &Run) -> Result<(), String> {
     let Some(foretold) = run.foretold else {
         return Ok(());
     };
-    let given = answer(run.program, run.plan.bytes(), run.input.bytes()).err();
-    ensure!(given == Some(foretold), "foretold {foretold:?}, given {given:?}");
+    let given = &run.answer;
+    ensure!(*given == Err(foretold), "foretold {foretold:?}, given {given:?}");
     Ok(())
 }
 
@@ -119,7 +121,7 @@ impl Programs {
             "said {:?}",
             String::from_utf8_lossy(&output.stderr)
         );
-        let may_read = run.program.reads_vectors() && opened(run.program, run.plan.bytes()).is_ok();
+        let may_read = run.program.reads_vectors() && run.circuit.is_some();
         ensure!(
             may_read || read.is_none_or(|read| read == 0),
             "read {read:?} bytes of standard input though nothing is asked of it"

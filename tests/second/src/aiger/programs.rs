@@ -4,8 +4,9 @@ use super::calls::{are_values, few_gates, on_cards};
 use super::{
     cards, convert, read, reduce, refuse, report, step, tables, write, Circuit, Form, Lengths, Refusal, Version,
 };
+use crate::library::Told;
 
-#[derive(Clone, Copy, Debug, PartialEq, Eq, PartialOrd)]
+#[derive(Clone, Copy, Debug, PartialEq, Eq)]
 pub enum Program {
     Converter,
     Reducer,
@@ -39,33 +40,64 @@ impl Program {
         }
     }
 
-    /// Whether it came after the base.
-    pub fn is_new(self) -> bool {
-        self > Program::Tracer
-    }
-
-    /// Of those that it can give, the ones for what a file of AIGER says.
-    pub fn refusals_of_files(self) -> &'static [u64] {
-        &[1, 2, 3, 5, 6, 7, 8, 9, 10, 16, 21]
-    }
-
     /// Whether it reads vectors from standard input.
     pub fn reads_vectors(self) -> bool {
         matches!(self, Program::Tracer | Program::Reporter | Program::Comparer)
     }
 
-    /// The refusals that it can give. Those that read vectors write line by line, so no buffer is too short for
-    /// them; nor is one for cards or what they become, since what is lent for tables is too short before.
-    pub fn refusals(self) -> &'static [u64] {
-        match self {
-            Program::Converter | Program::Reducer => &[1, 2, 3, 4, 5, 6, 7, 8, 9, 10, 11, 13, 14, 16, 21],
-            Program::Tracer | Program::Reporter => &[1, 2, 3, 4, 5, 6, 7, 8, 9, 10, 12, 13, 14, 16, 21],
-            Program::Comparer => &[1, 2, 3, 4, 5, 6, 7, 8, 9, 10, 12, 13, 14, 16, 21, 24],
-            Program::Filer => &[1, 2, 3, 4, 5, 13, 14, 15, 18],
-            Program::Carder => &[1, 2, 3, 4, 5, 6, 7, 8, 9, 10, 13, 14, 15, 16, 19, 21],
+    /// What it can tell of `plan.in`. 4 at 7 is not among it, since table 2 is too short before; nor is 11 where lines are
+    /// written or cards are, since what is lent for tables is too short before.
+    pub fn told_of_plan(self) -> Vec<Told> {
+        let own: &[Told] = match self {
+            Program::Converter | Program::Reducer => &[(11, &[])],
+            Program::Tracer => &[],
+            Program::Reporter => &[(4, &[6])],
+            Program::Comparer => &[(24, &[])],
+            Program::Filer => return OF_CARDS.to_vec(),
+            Program::Carder => &[(15, &[0]), (19, &[0])],
+        };
+        [OF_FILES, own].concat()
+    }
+
+    /// What it can tell of standard input.
+    pub fn told_of_input(self) -> &'static [Told] {
+        if self.reads_vectors() {
+            &[(14, &[0]), (13, &[65_536]), (1, &[]), (12, &[2])]
+        } else {
+            &[]
         }
     }
 }
+
+/// What the programs can tell of AIGER files.
+const OF_FILES: &[Told] = &[
+    (14, &[0]),
+    (13, &[65_536]),
+    (1, &[]),
+    (2, &[]),
+    (21, &[]),
+    (3, &[0]),
+    (4, &[1, 2, 3, 4, 5, 8, 9]),
+    (5, &[]),
+    (6, &[]),
+    (16, &[]),
+    (9, &[]),
+    (10, &[]),
+    (7, &[]),
+    (8, &[]),
+];
+
+const OF_CARDS: &[Told] = &[
+    (14, &[0]),
+    (13, &[65_536]),
+    (1, &[]),
+    (18, &[]),
+    (2, &[]),
+    (3, &[0]),
+    (4, &[1, 2, 3, 4, 5]),
+    (5, &[2, 3, 4]),
+    (15, &[0]),
+];
 
 /// The words that each program lends for the tables.
 pub const LENT: Lengths = [4096, 4096, 4096, 4096, 16_384, 4096, 4096, 4096];

@@ -1,87 +1,90 @@
 //! The answers of the reader of cards.
 
-use super::places::PlaceCoverage;
-use super::{at_least, NUMBERS, PER_REFUSAL};
+use super::answered::{Answered, OF_CALLS, PER_REFUSAL};
+use super::each;
 use crate::aiger::{Circuit, Refusal};
 use crate::generate::cards::CardsCase;
+use crate::library::Told;
 use crate::tally::Tally;
 
-const REFUSALS: &[u64] = &[1, 2, 3, 4, 5, 15, 18];
-
-/// Places that must be had; others of 2 would take files of many megabytes.
-const PLACES: &[(u64, &[u64])] = &[(2, &[2, 6]), (4, &[1, 2, 3, 4, 5, 7]), (5, &[2, 3, 4]), (18, &[0, 22])];
+/// What it can tell. 2 at 10, 14 and 18 takes files of many megabytes, which are apart; tables 8 and 9 need no words.
+const TOLD: &[Told] = &[
+    (1, &[]),
+    (18, &[]),
+    (2, &[2, 6]),
+    (3, &[0]),
+    (4, &[1, 2, 3, 4, 5, 7]),
+    (5, &[2, 3, 4]),
+    (15, &[0]),
+];
 
 #[derive(Default)]
 pub struct CardsCoverage {
-    cases: u64,
-    with_gates: u64,
-    answered: [u64; NUMBERS],
-    promised: [u64; NUMBERS],
-    places: PlaceCoverage,
-    /// One byte too few, one too many, a count of 2^32 - 1, tables exactly long enough.
-    kinds: [u64; 4],
+    answered: Answered,
+    /// One byte too few, one too many, tables exactly long enough.
+    lengths: [u64; 3],
+    /// A count of 2^32 - 1: M, I, L, O, A.
+    largest: [u64; 5],
+    /// The first wrong mark is the head's, a latch's, an output's, a gate's.
+    marks: [u64; 4],
+    /// Tables 1, 2, 3, 4, 5 and 7 one word too short.
+    one_word_short: [u64; 6],
 }
 
 impl CardsCoverage {
     pub fn add(&mut self, case: &CardsCase, answer: &Result<Circuit, Refusal>) {
-        self.cases += 1;
-        let refusal = answer.as_ref().err();
-        let number = refusal.map_or(0, |refusal| refusal.number as usize);
-        self.answered[number] += 1;
-        self.promised[number] += u64::from(case.promise.is_some());
-        refusal.iter().for_each(|refusal| self.places.add(refusal));
-        self.with_gates += u64::from(answer.as_ref().is_ok_and(|circuit| !circuit.gates.is_empty()));
-        let is = |of: bool| u64::from(of);
+        match answer {
+            Ok(circuit) => {
+                self.answered.accept(!circuit.gates.is_empty());
+                self.lengths[2] += u64::from(circuit.counts().words() == case.lengths);
+            }
+            Err(refusal) => {
+                self.answered.refuse(refusal, case.promise.is_some());
+                self.add_refused(case, refusal);
+            }
+        }
+    }
+
+    fn add_refused(&mut self, case: &CardsCase, refusal: &Refusal) {
+        let Some(head @ [_, _, l, o, a]) = head(&case.file) else {
+            return;
+        };
+        for (count, number) in self.largest.iter_mut().zip(head) {
+            *count += u64::from(number == u64::from(u32::MAX));
+        }
         let length = case.file.len() as u64;
-        let asked = asked(&case.file);
-        self.kinds[0] += is(number == 1 && asked == Some(length + 1));
-        self.kinds[1] += is(number == 1 && asked.is_some_and(|asked| asked + 1 == length));
-        self.kinds[2] += is(head(&case.file).is_some_and(|head| head.contains(&u64::from(u32::MAX))));
-        self.kinds[3] += is(answer
-            .as_ref()
-            .is_ok_and(|circuit| circuit.counts().words() == case.lengths));
+        let asked = 22 + 6 * (l + o) + 10 * a;
+        match refusal.number {
+            1 => {
+                self.lengths[0] += u64::from(asked == length + 1);
+                self.lengths[1] += u64::from(asked + 1 == length);
+            }
+            18 => {
+                let ends = [22, 22 + 6 * l, 22 + 6 * (l + o), asked];
+                let kind = ends.iter().position(|&end| refusal.place < end).expect("a mark");
+                self.marks[kind] += 1;
+            }
+            4 => {
+                let table = [1, 2, 3, 4, 5, 7].iter().position(|&table| table == refusal.place);
+                let k = table.expect("a table that cards need");
+                self.one_word_short[k] += u64::from(case.lengths[k] + 1 == case.needed[k]);
+            }
+            _ => {}
+        }
     }
 
     pub fn report(&self, tally: &mut Tally) {
-        let refused: Vec<String> = REFUSALS
-            .iter()
-            .map(|&number| format!("{number}: {}", self.answered[number as usize]))
-            .collect();
-        println!(
-            "cards: {} cases, accepted {} ({} with A > 0), refused by {}",
-            self.cases,
-            self.answered[0],
-            self.with_gates,
-            refused.join(", ")
+        self.answered.report(tally, "cards", TOLD, OF_CALLS);
+        let lengths = "cards with one byte too few, one too many, tables exactly long enough";
+        each(tally, lengths, &self.lengths, PER_REFUSAL);
+        each(tally, "cards with a count of 2^32 - 1", &self.largest, PER_REFUSAL / 4);
+        each(tally, "cards with a wrong mark of", &self.marks, PER_REFUSAL);
+        each(
+            tally,
+            "cards, one word too short",
+            &self.one_word_short,
+            PER_REFUSAL / 4,
         );
-        for &number in REFUSALS {
-            let [answered, promised] = [self.answered, self.promised].map(|counts| counts[number as usize]);
-            tally.check(&format!("cards, refusal {number}"), at_least(answered, PER_REFUSAL));
-            tally.check(
-                &format!("cards, refusal {number} foretold"),
-                at_least(promised, PER_REFUSAL / 4),
-            );
-        }
-        tally.check(
-            "cards, accepted with A > 0",
-            at_least(self.with_gates, self.cases.div_ceil(4)),
-        );
-        self.places.report(tally, "cards", PLACES);
-        let names = [
-            "one byte too few",
-            "one byte too many",
-            "a count of 2^32 - 1",
-            "tables exactly long enough",
-        ];
-        let told: Vec<String> = names
-            .iter()
-            .zip(self.kinds)
-            .map(|(name, count)| format!("{name}: {count}"))
-            .collect();
-        println!("cards: {}", told.join(", "));
-        for (name, count) in names.iter().zip(self.kinds) {
-            tally.check(&format!("cards, {name}"), at_least(count, 30));
-        }
     }
 }
 
@@ -89,8 +92,4 @@ impl CardsCoverage {
 fn head(file: &[u8]) -> Option<[u64; 5]> {
     let bytes = file.get(2..22)?.as_chunks::<4>().0;
     Some([0, 1, 2, 3, 4].map(|k| u64::from(u32::from_le_bytes(bytes[k]))))
-}
-
-fn asked(file: &[u8]) -> Option<u64> {
-    head(file).map(|[_, _, l, o, a]| 22 + 6 * (l + o) + 10 * a)
 }

@@ -88,7 +88,7 @@ fn damages(random: &mut Random, number: u64) -> &'static [Damage] {
 }
 
 /// What damage aims at: a refusal; 0 is for 1 in the tail, so that it has its own share; 11 for none in particular.
-pub const AIMS: &[u64] = &[0, 1, 2, 3, 5, 6, 7, 8, 9, 10, 11, 16, 21];
+pub const AIMS: &[u64] = &[0, 1, 2, 2, 3, 5, 6, 7, 8, 9, 10, 11, 16, 21];
 
 pub fn damage(random: &mut Random, aim: u64, circuit: &Circuit, draft: &mut Draft) -> Option<Harm> {
     let damages = damages(random, aim);

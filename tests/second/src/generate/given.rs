@@ -5,19 +5,21 @@ mod fillings;
 mod marks;
 mod order;
 mod rows;
+mod shape;
 mod sides;
+pub mod turns;
 mod vectors;
 mod words;
 mod writing;
 
 use super::circuit;
 use super::lend::enough;
-use crate::aiger::plain::MOST_GATES;
 use crate::aiger::tables::{Given, Sixth};
 use crate::aiger::{apart, with_scratch, Circuit, Counts, Form, Refusal};
 use crate::library::{Call, Lent};
 use crate::memory::Memory;
 use crate::random::Random;
+use turns::{round, Beside, Turn};
 
 pub struct TablesCase {
     pub lent: Lent,
@@ -27,8 +29,9 @@ pub struct TablesCase {
     pub file: Option<Vec<u8>>,
 }
 
-/// Damages given tables; the refusal that the paper gives for it, or none if there was no place for it.
-type Damage = fn(&mut Random, &Circuit, &mut Given) -> Option<Refusal>;
+/// Damages given tables, at a table or a count if it is told so; the refusal that the paper gives for it, or none if
+/// there was no place for it.
+type Damage = fn(&mut Random, &Circuit, &mut Given, u64) -> Option<Refusal>;
 
 fn damages(number: u64) -> &'static [Damage] {
     match number {
@@ -44,68 +47,61 @@ fn damages(number: u64) -> &'static [Damage] {
             words::undefined_and_cycle,
         ],
         8 => &[words::cycle],
-        15 => order::ALL,
-        _ => &[words::edit],
-    }
-}
-
-/// What damage aims at: a refusal; 0 is for none in particular.
-fn aims(call: Call) -> &'static [u64] {
-    if call.asks_order() {
-        &[0, 2, 3, 4, 5, 6, 7, 8, 15]
-    } else {
-        &[0, 2, 3, 4, 5, 6, 7, 8]
+        _ => order::ALL,
     }
 }
 
 pub fn case(call: Call, seed: u64, number: u64) -> TablesCase {
     // The calls' cases are apart from each other and from those of files.
     let mut random = Random::new(seed, (call as u64 + 1) << 40 | number);
-    let form = form(&mut random, call);
-    let mut size = circuit::size(&mut random, form);
-    // Where little is asked, a first state or a constraint decides more often.
-    if matches!(call, Call::Witness | Call::Witness3) && random.once_in(2) {
-        size.o = size.o.min(1);
-        size.b = size.b.min(2);
+    let round = round(call);
+    let turn = round[(number % round.len() as u64) as usize];
+    loop {
+        let case = made(&mut random, call, turn);
+        // A circuit may have no place for what is to be wrong.
+        if let Some(case) = case.filter(|case| turn.is_met(call, case.promise)) {
+            return case;
+        }
     }
-    if call == Call::StepPlain && size.i + size.unused < 100_000 {
-        size.a = few_gates(&mut random, size.a);
-    }
-    let mut circuit = circuit::circuit(&mut random, form, &size);
+}
+
+fn made(random: &mut Random, call: Call, turn: Turn) -> Option<TablesCase> {
+    let form = form(random, call, turn);
+    let size = shape::size(random, call, turn, form)?;
+    let mut circuit = circuit::circuit(random, form, &size);
     if call == Call::Witness {
-        fillings::settle(&mut random, &mut circuit);
+        fillings::settle(random, &mut circuit);
     }
     let mut given = exactly(call, &circuit);
-    let promise = treat(&mut random, call, &circuit, &mut given);
-    // Whole tables are mostly such as cards can hold.
-    if call == Call::WriteCards && promise == Some(Ok(())) && !random.once_in(6) {
-        circuit.resets.fill(0);
-        circuit.bads.clear();
-        circuit.constraints.clear();
-        given = exactly(call, &circuit);
-        spare(&mut random, &mut given);
+    let promise = treat(random, call, turn, &circuit, &mut given);
+    if !turn.spares_tables() && !turn.is_met(call, promise) {
+        return None;
     }
     let mut case = TablesCase {
         lent: lend(call, &given, random.word()),
-        promise: promise.filter(|promise| form == Form::Binary || !by_order(call, promise)),
+        promise,
         file: None,
     };
+    add(random, call, &circuit, turn.beside(call), &mut case)?;
+    Some(case)
+}
+
+/// What the call is given beside the tables.
+fn add(random: &mut Random, call: Call, circuit: &Circuit, beside: Beside, case: &mut TablesCase) -> Option<()> {
     match call {
         Call::Check | Call::Convert | Call::Reduce | Call::Drop => {}
-        Call::WriteCards => writing::add_cards(&mut random, &circuit, &mut case),
-        Call::WriteText => writing::add(&mut random, Form::Text, &circuit, &mut case),
-        Call::WriteBinary => writing::add(&mut random, Form::Binary, &circuit, &mut case),
-        Call::Step => vectors::step(&mut random, &circuit, &mut case),
-        Call::StepPlain => vectors::step_plain(&mut random, &circuit, &mut case),
-        Call::Witness => fillings::add(&mut random, &circuit, &mut case),
-        Call::Witness3 => vectors::witness(&mut random, &circuit, &mut case),
-        Call::Report => vectors::report(&mut random, &circuit, &mut case),
-        Call::Rows => rows::add(&mut random, &circuit, &mut case),
-        Call::Explain => marks::add(&mut random, &circuit, &mut case),
-        Call::Rewire => sides::add(&mut random, &circuit, &mut case),
-        Call::ReportRows => rows::add_report(&mut random, &circuit, &mut case),
+        Call::WriteText | Call::WriteBinary | Call::WriteCards => writing::add(random, call, circuit, beside, case)?,
+        Call::Step => vectors::step(random, circuit, beside, case),
+        Call::StepPlain => vectors::step_plain(random, circuit, beside, case),
+        Call::Witness => fillings::add(random, circuit, beside, case),
+        Call::Witness3 => vectors::witness(random, circuit, beside, case),
+        Call::Report => vectors::report(random, circuit, beside, case),
+        Call::Rows => rows::add(random, circuit, beside, case),
+        Call::ReportRows => rows::add_report(random, circuit, beside, case),
+        Call::Explain => marks::add(random, circuit, beside, case)?,
+        Call::Rewire => sides::add(random, circuit, beside, case)?,
     }
-    case
+    Some(())
 }
 
 /// A circuit's tables and all that the call is lent beside them, exactly as long as needed.
@@ -121,27 +117,14 @@ pub fn exactly(call: Call, circuit: &Circuit) -> Given {
     }
 }
 
-/// Mostly few enough for the plain engine, often on the line of what it takes.
-fn few_gates(random: &mut Random, any: usize) -> usize {
-    let most = MOST_GATES as usize;
-    match random.below(16) {
-        0 => 0,
-        1 => 1,
-        2 | 3 => most,
-        4 => most + 1,
-        5 => random.between(most + 1, 60),
-        _ => any.min(most - 1),
-    }
-}
-
-/// Whether the promise holds only for a circuit that was made in binary order.
-fn by_order(call: Call, promise: &Result<(), Refusal>) -> bool {
-    call.asks_order() && matches!(promise, Ok(()) | Err(Refusal { number: 15, .. }))
-}
-
 /// A circuit in text form may have any order.
-fn form(random: &mut Random, call: Call) -> Form {
-    let binary = if call.asks_order() { 12 } else { 4 };
+fn form(random: &mut Random, call: Call, turn: Turn) -> Form {
+    let ordered = turn.spares_tables() || matches!(turn, Turn::Tables(aim) if aim.number == 15);
+    let binary = match (call.asks_order(), ordered) {
+        (true, true) => 13,
+        (true, false) if turn != Turn::Edited => 12,
+        _ => 4,
+    };
     if random.below(13) < binary {
         Form::Binary
     } else {
@@ -149,23 +132,28 @@ fn form(random: &mut Random, call: Call) -> Form {
     }
 }
 
-/// Leaves half of the tables whole; spare words are put where they can't matter.
-fn treat(random: &mut Random, call: Call, circuit: &Circuit, given: &mut Given) -> Option<Result<(), Refusal>> {
-    let aim = *random.pick(aims(call));
-    let once = |random: &mut Random, aim: u64, given: &mut Given| random.pick(damages(aim))(random, circuit, given);
-    let promise = match random.below(100) {
-        0..=54 => Some(Ok(())),
-        55..=91 => once(random, aim, given).map(Err),
-        92..=96 => {
-            // A table is cut last, since the other damage looks for words of it.
-            let mut both = [aim, *random.pick(aims(call))];
-            both.sort_by_key(|&aim| aim == 4);
-            for aim in both {
-                once(random, aim, given);
+/// What is told of the tables, where the way they were treated shows it; spare words are put where they can't matter.
+fn treat(
+    random: &mut Random,
+    call: Call,
+    turn: Turn,
+    circuit: &Circuit,
+    given: &mut Given,
+) -> Option<Result<(), Refusal>> {
+    let promise = match turn {
+        Turn::Nothing | Turn::Beside(_) => Some(Ok(())),
+        Turn::Tables(aim) => random.pick(damages(aim.number))(random, circuit, given, aim.way).map(Err),
+        Turn::Twice => {
+            twice(random, call, circuit, given);
+            None
+        }
+        Turn::Edited => {
+            if random.once_in(2) {
+                words::edit(random, circuit, given);
             }
             None
         }
-        _ => {
+        Turn::Unrelated => {
             unrelated(random, given);
             None
         }
@@ -174,6 +162,18 @@ fn treat(random: &mut Random, call: Call, circuit: &Circuit, given: &mut Given) 
         spare(random, given);
     }
     promise
+}
+
+/// Two of all that can be told of tables.
+fn twice(random: &mut Random, call: Call, circuit: &Circuit, given: &mut Given) {
+    let told = call.told_of_tables();
+    let mut both = [*random.pick(&told), *random.pick(&told)];
+    // A table is cut last, since the other damage looks for words of it.
+    both.sort_by_key(|&(number, _)| number == 4);
+    for (number, places) in both {
+        let way = if places.is_empty() { 0 } else { *random.pick(places) };
+        random.pick(damages(number))(random, circuit, given, way);
+    }
 }
 
 /// Words past the counts are not looked at, whatever they are.

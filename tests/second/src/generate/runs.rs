@@ -1,12 +1,15 @@
 //! Runs of the programs, each made from a seed and a number: what `plan.in` is, and what standard input.
 
+mod cards;
 mod input;
 mod plan;
+mod turns;
 
-use crate::aiger::programs::{opened, Program};
-use crate::aiger::Refusal;
+use crate::aiger::programs::{answer, opened, Program};
+use crate::aiger::{Circuit, Refusal};
 use crate::random::Random;
 use std::ops::Range;
+use turns::{round, Turn};
 
 #[derive(Debug)]
 pub enum Plan {
@@ -50,6 +53,10 @@ pub struct Run {
     pub program: Program,
     pub plan: Plan,
     pub input: Input,
+    /// The circuit of a plan that is not refused.
+    pub circuit: Option<Circuit>,
+    /// What is written, or the refusal.
+    pub answer: Result<Vec<u8>, Refusal>,
     /// The refusal, where the way the plan was made shows it.
     pub foretold: Option<Refusal>,
 }
@@ -57,35 +64,57 @@ pub struct Run {
 /// Keeps the numbers of runs apart from those of other cases.
 const APART: u64 = 1 << 62;
 
-/// The programs take turns, those of the base more often.
-const TURNS: [Program; 13] = {
-    use Program::*;
-    [
-        Converter, Reducer, Tracer, Converter, Reducer, Tracer, Converter, Reducer, Tracer, Reporter, Comparer, Filer,
-        Carder,
-    ]
-};
-
-/// There is one round of turns for so many cases.
-const SHARE: u64 = 216;
+/// There is one round of turns of each program for so many cases.
+const SHARE: u64 = 3200;
 
 /// The numbers of the runs that there are beside so many cases.
 pub fn numbers(cases: u64) -> Range<u64> {
-    0..cases / SHARE * TURNS.len() as u64
+    let turns = Program::ALL.map(|program| round(program).len() as u64);
+    0..cases / SHARE * turns.iter().sum::<u64>()
+}
+
+/// The program and the turn of a run: a round of each program comes after that of the one before.
+fn turn(number: u64) -> (Program, Turn) {
+    let all: Vec<(Program, Turn)> = Program::ALL
+        .into_iter()
+        .flat_map(|program| round(program).into_iter().map(move |turn| (program, turn)))
+        .collect();
+    all[(number % all.len() as u64) as usize]
 }
 
 pub fn run(seed: u64, number: u64) -> Run {
-    let program = TURNS[(number % TURNS.len() as u64) as usize];
+    let (program, turn) = turn(number);
     let mut random = Random::new(seed, APART | number);
-    let (plan, foretold) = plan::plan(&mut random, program);
-    let opened = opened(program, plan.bytes()).ok();
-    let circuit = opened.map(|(_, circuit, _)| circuit);
+    loop {
+        let made = made(&mut random, program, turn);
+        // What was made may be too large, or accepted.
+        if let Some(run) = made.filter(|run| turn.is_met(run)) {
+            return run;
+        }
+    }
+}
+
+fn made(random: &mut Random, program: Program, turn: Turn) -> Option<Run> {
+    let (plan, foretold) = plan::plan(random, program, turn)?;
+    let circuit = opened(program, plan.bytes()).ok().map(|(_, circuit, _)| circuit);
+    if matches!(turn, Turn::Accepted | Turn::Input(_)) && circuit.is_none() {
+        return None;
+    }
     let read = circuit.as_ref().filter(|_| program.reads_vectors());
-    let input = input::input(&mut random, program, read);
-    Run {
-        program,
-        plan,
-        input,
-        foretold,
+    let input = input::input(random, turn, read);
+    let run = Run::new(program, plan, input, circuit);
+    Some(Run { foretold, ..run })
+}
+
+impl Run {
+    fn new(program: Program, plan: Plan, input: Input, circuit: Option<Circuit>) -> Run {
+        Run {
+            answer: answer(program, plan.bytes(), input.bytes()),
+            program,
+            plan,
+            input,
+            circuit,
+            foretold: None,
+        }
     }
 }

@@ -5,49 +5,48 @@ use crate::compare::tables::in_order;
 use crate::naive;
 
 pub const KINDS: &[Kind] = &[
-    ("the first gate of several", 100, |seen| {
+    ("the first gate of several", |seen| {
         seen.accepted(|c| seen.number() == 0 && c.gates.len() > 1)
     }),
-    ("a middle gate", 100, |seen| {
+    ("a middle gate", |seen| {
         seen.accepted(|c| seen.number() > 0 && seen.number() + 1 < c.gates.len() as u64)
     }),
-    ("the last gate of several", 100, |seen| {
+    ("the last gate of several", |seen| {
         seen.accepted(|c| seen.number() > 0 && seen.number() + 1 == c.gates.len() as u64)
     }),
-    ("the larger side first", 100, |seen| {
+    ("the larger side first", |seen| {
         seen.outcome.is_ok() && sides(seen)[0] > sides(seen)[1]
     }),
-    ("the smaller side first", 100, |seen| {
+    ("the smaller side first", |seen| {
         seen.outcome.is_ok() && sides(seen)[0] < sides(seen)[1]
     }),
-    ("equal sides", 100, |seen| {
+    ("equal sides", |seen| {
         seen.outcome.is_ok() && sides(seen)[0] == sides(seen)[1]
     }),
-    ("an x among the values", 100, |seen| {
+    ("an x among the values", |seen| {
         seen.accepted(|_| seen.before.bytes[0].lent().contains(&b'x'))
     }),
-    ("values that change", 100, |seen| {
+    ("values that change", |seen| {
         changed(seen).is_some_and(|changed| changed > 0)
     }),
-    ("values of other gates that change", 50, |seen| {
+    ("values of other gates that change", |seen| {
         changed(seen).is_some_and(|changed| changed > 1)
     }),
-    ("values that stay", 100, |seen| changed(seen) == Some(0)),
-    ("gates after it that do not depend on it", 100, |seen| {
+    ("values that stay", |seen| changed(seen) == Some(0)),
+    ("gates after it that do not depend on it", |seen| {
         seen.accepted(|c| {
             let gate = seen.number() as usize;
             c.gates.len() < 40 && naive::depends(c)[gate + 1..].iter().any(|row| !row[gate])
         })
     }),
-    ("5 for a side", 50, |seen| seen.refused(5, 4) && in_order(seen.before)),
-    ("15 for a side", 50, |seen| seen.refused(15, 0) && in_order(seen.before)),
-    ("12 at 4", 100, |seen| seen.refused(12, 4)),
-    ("23 at the constant", 20, |seen| seen.refused(23, 0)),
-    ("23 at an input or a latch", 20, |seen| {
+    ("5 for a side", |seen| seen.refused(5, 4) && in_order(seen.before)),
+    ("15 for a side", |seen| seen.refused(15, 0) && in_order(seen.before)),
+    ("23 at the constant", |seen| seen.refused(23, 0)),
+    ("23 at an input or a latch", |seen| {
         at(seen, |v, sources| v > 0 && v <= sources)
     }),
-    ("23 at a gate", 100, |seen| at(seen, |v, sources| v > sources)),
-    ("22 for a number beyond 32 bits", 50, |seen| {
+    ("23 at a gate", |seen| at(seen, |v, sources| v > sources)),
+    ("22 for a number beyond 32 bits", |seen| {
         seen.refused(22, seen.number()) && seen.number() >> 32 > 0
     }),
 ];

@@ -14,16 +14,16 @@ fn fill(draft: &mut Draft) {
 }
 
 pub fn too_many(random: &mut Random, circuit: &Circuit, draft: &mut Draft) -> Option<Harm> {
-    if random.once_in(3) {
+    let k = random.below(9);
+    if k >= draft.counts.len() || random.once_in(4) {
         fill(draft);
     }
     // J or F above 0 is judged after it.
     if random.once_in(9) {
         justice(random, circuit, draft);
     }
-    let k = random.below(draft.counts.len());
     let small = circuit.counts().list().get(k).copied().unwrap_or(0);
-    draft.counts[k] = too_large(random, MOST, small);
+    *draft.counts.get_mut(k)? = too_large(random, MOST, small);
     // A later count may be too large as well; the first is named.
     if random.once_in(3) {
         *draft.counts.last_mut()? = digits(MOST + 1);

@@ -25,10 +25,10 @@ fn large(random: &mut Random, small: u64) -> u64 {
     ])
 }
 
-/// One or two counts; the first in the order M I L O A B C is named.
-pub fn too_large(random: &mut Random, _: &Circuit, given: &mut Given) -> Option<Refusal> {
+/// A count by its place, perhaps a later one too; the first in the order M I L O A B C is named.
+pub fn too_large(random: &mut Random, _: &Circuit, given: &mut Given, place: u64) -> Option<Refusal> {
     let mut list = given.counts.list();
-    let first = random.below(list.len());
+    let first = place as usize - 1;
     list[first] = large(random, list[first]);
     if random.once_in(3) {
         let later = random.between(first, list.len() - 1);
@@ -39,7 +39,7 @@ pub fn too_large(random: &mut Random, _: &Circuit, given: &mut Given) -> Option<
 }
 
 /// Counts whose sum wraps to what it was.
-pub fn wrapping(random: &mut Random, _: &Circuit, given: &mut Given) -> Option<Refusal> {
+pub fn wrapping(random: &mut Random, _: &Circuit, given: &mut Given, _: u64) -> Option<Refusal> {
     let mut list = given.counts.list();
     let [one, other] = *random.pick(&[[1, 2], [1, 4], [2, 4]]);
     let much = *random.pick(&[1 << 63, u64::MAX - MOST, 1 << 40]);
@@ -50,7 +50,7 @@ pub fn wrapping(random: &mut Random, _: &Circuit, given: &mut Given) -> Option<R
     refusal(2, first + 1)
 }
 
-pub fn disagree(random: &mut Random, circuit: &Circuit, given: &mut Given) -> Option<Refusal> {
+pub fn disagree(random: &mut Random, circuit: &Circuit, given: &mut Given, _: u64) -> Option<Refusal> {
     let counts = circuit.counts();
     let defined = counts.i + counts.l + counts.a;
     let more = 1 + counts.m - defined + random.below(3) as u64;
@@ -86,58 +86,69 @@ fn least(given: &Given) -> Option<Refusal> {
     refusal(4, *short.iter().min()? as usize)
 }
 
-/// A length below `needed`, unless that is 0.
+/// A length below `needed`, mostly by one.
 fn below(random: &mut Random, needed: usize) -> usize {
-    match random.below(4) {
+    match random.below(6) {
         0 => 0,
-        1 | 2 => needed.saturating_sub(1),
-        _ => random.below(needed.max(1)),
+        1 => random.below(needed),
+        _ => needed - 1,
     }
 }
 
-/// Stand for scratch and for table 6 among the tables to be cut.
-const SCRATCH: usize = CIRCUIT.len();
-const SIXTH: usize = SCRATCH + 1;
-
-/// One or two tables cut, given or lent for writing.
-pub fn short(random: &mut Random, _: &Circuit, given: &mut Given) -> Option<Refusal> {
-    // Where nothing is needed, nothing is too short.
-    let mut cut: Vec<usize> = (0..CIRCUIT.len()).filter(|&k| !given.tables[k].is_empty()).collect();
-    cut.push(SCRATCH);
-    if given.sixth.is_some_and(|sixth| sixth.length > 0) {
-        cut.push(SIXTH);
-    }
-    for _ in 0..*random.pick(&[1, 1, 2]) {
-        match (*random.pick(&cut), &mut given.written) {
-            (SCRATCH, _) => given.scratch = below(random, given.scratch as usize) as u64,
-            (SIXTH, _) => {
-                let sixth = given.sixth.as_mut().expect("it has words");
-                sixth.length = below(random, sixth.length as usize) as u64;
-            }
-            (k, Some(written)) if random.once_in(2) => written[k] = below(random, written[k] as usize) as u64,
-            (k, _) => {
-                let length = below(random, given.tables[k].len());
-                given.tables[k].truncate(length);
+/// Cuts a table, given or lent for writing; none where nothing is needed, since then nothing is too short.
+fn cut(random: &mut Random, given: &mut Given, table: u64) -> Option<()> {
+    let mut shorten = |length: u64| (length > 0).then(|| below(random, length as usize) as u64);
+    match table {
+        5 => given.scratch = shorten(given.scratch)?,
+        6 => {
+            let sixth = given.sixth.as_mut()?;
+            sixth.length = shorten(sixth.length)?;
+        }
+        _ => {
+            let k = CIRCUIT.iter().position(|&number| number == table)?;
+            let length = shorten(given.tables[k].len() as u64)?;
+            match &mut given.written {
+                Some(written) if random.once_in(2) => written[k] = length.min(written[k]),
+                _ => given.tables[k].truncate(length as usize),
             }
         }
+    }
+    Some(())
+}
+
+/// A table, and perhaps another; the least is named.
+pub fn short(random: &mut Random, _: &Circuit, given: &mut Given, table: u64) -> Option<Refusal> {
+    cut(random, given, table)?;
+    if random.once_in(3) {
+        let other = *random.pick(&TABLES);
+        cut(random, given, other);
     }
     least(given)
 }
 
-/// Counts that ask for more than the tables hold.
-pub fn more(random: &mut Random, _: &Circuit, given: &mut Given) -> Option<Refusal> {
+/// Counts that ask for more than a table holds.
+pub fn more(random: &mut Random, _: &Circuit, given: &mut Given, table: u64) -> Option<Refusal> {
     let mut list = given.counts.list();
-    let k = random.below(list.len());
+    // M asks for scratch, and so do all others; resets are asked for by L, but table 2 is told then.
+    let k = match table {
+        5 => 0,
+        8 | 9 => table as usize - 3,
+        _ => table as usize,
+    };
     let more = random.between(1, 3) as u64;
-    list[k] = list[k].saturating_add(more);
+    let count = list.get_mut(k)?;
+    *count = count.saturating_add(more);
     // I + L + A stays within M; O, B and C have no part in that.
     if matches!(k, 1 | 2 | 4) {
         list[0] = list[0].saturating_add(more);
     }
     given.counts = Counts::new(list);
-    // Scratch has a lower number than tables 7 to 9.
-    if list.iter().all(|&count| count <= MOST) && !random.once_in(3) {
-        given.scratch = given.scratch.max(4 * (list[0] + 1) + list[3] + list[5] + list[6]);
+    // Other damage may have made a count too large to be asked for.
+    if list.iter().all(|&count| count <= MOST) {
+        // Scratch has a lower number than tables 7 to 9.
+        if table != 5 && (table > 5 || random.once_in(2)) {
+            given.scratch = given.scratch.max(given.counts.words()[4]);
+        }
         if let Some(sixth) = given.sixth.as_mut().filter(|_| random.once_in(2)) {
             sixth.length = (sixth.needed)(&given.counts);
         }

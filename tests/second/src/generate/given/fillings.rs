@@ -1,9 +1,10 @@
 //! Lists of the witness question with a few x, and how many fillings may be tried: 12, 20.
 
-use super::vectors::{tell, twelve, wrong};
+use super::turns::{Beside, TOO_MANY};
+use super::vectors::{tell, wrong};
 use super::TablesCase;
 use crate::aiger::fillings::{self, MOST_X};
-use crate::aiger::{negation, step, Circuit, Refusal};
+use crate::aiger::{negation, refuse, step, Circuit};
 use crate::generate::values::vector;
 use crate::memory::Memory;
 use crate::random::Random;
@@ -19,11 +20,12 @@ pub fn settle(random: &mut Random, circuit: &mut Circuit) {
     let (Some([lhs, rhs0, rhs1]), false) = (circuit.gates.last_mut(), sources.is_empty()) else {
         return;
     };
-    let mut side = || *random.pick(&sources) + random.below(2) as u32;
+    // Mostly without a sign, so that the first filling shows a 1 and a later one fails.
+    let mut side = || *random.pick(&sources) + u32::from(random.once_in(4));
     let sides = [side(), side()];
     let asked = match random.below(8) {
         0..=1 => vec![*lhs],
-        2..=5 => Vec::new(),
+        2..=6 => Vec::new(),
         _ => return,
     };
     (*rhs0, *rhs1) = (sides[0].max(sides[1]), sides[0].min(sides[1]));
@@ -34,21 +36,19 @@ pub fn settle(random: &mut Random, circuit: &mut Circuit) {
     }
 }
 
-pub fn add(random: &mut Random, circuit: &Circuit, case: &mut TablesCase) {
+pub fn add(random: &mut Random, circuit: &Circuit, beside: Beside, case: &mut TablesCase) {
     let start = fillings::unknown(&step::start(circuit));
-    let (mut number, mut list) = list(random, circuit, start);
+    let many = beside.way(random, 20, &TOO_MANY);
+    let (mut number, mut list) = list(random, circuit, start, many);
     let unknown = start + fillings::unknown(&list);
-    let mut promise = if unknown > MOST_X {
-        Err(Refusal {
-            number: 20,
-            place: unknown as u64,
-        })
-    } else {
-        Ok(())
+    let mut promise = if unknown > MOST_X { refuse(20, unknown) } else { Ok(()) };
+    let none = many.is_some() && random.once_in(2);
+    let allowance = match none {
+        true => 0,
+        false => allowance(random, circuit, unknown, number, &list),
     };
-    let allowance = allowance(random, circuit, unknown, number, &list);
-    if random.once_in(5) && wrong(random, circuit.inputs.len() as u64, &mut number, &mut list) {
-        promise = twelve(2);
+    if beside.wants(random, 12) && wrong(random, circuit.inputs.len() as u64, &mut number, &mut list) {
+        promise = refuse(12, 2);
     }
     if case.promise != Some(Ok(())) {
         number = number.min(1000);
@@ -58,15 +58,19 @@ pub fn add(random: &mut Random, circuit: &Circuit, case: &mut TablesCase) {
     tell(case, promise);
 }
 
-/// A number of vectors and their bytes: mostly with up to six x, sometimes with as many as there may be, or more.
-fn list(random: &mut Random, circuit: &Circuit, start: usize) -> (u64, Vec<u8>) {
+/// A number of vectors and their bytes: mostly with up to six x, sometimes with as many as there may be; or with more.
+fn list(random: &mut Random, circuit: &Circuit, start: usize, many: Option<u64>) -> (u64, Vec<u8>) {
     let i = circuit.inputs.len();
-    let many = i > 0 && i < 100 && random.once_in(5);
     let most = if i > 1000 { 2 } else { 6 };
     let some = random.below(most + 1);
     let mut number = *random.pick(&[0, 1, 1, 1, 2, 2, some, some]);
-    let unknown = if many {
-        let all = *random.pick(&[MOST_X, MOST_X, MOST_X + 1, MOST_X + 1, MOST_X + 2, MOST_X + 40]);
+    let all = match many {
+        Some(0) => MOST_X + 1,
+        Some(_) => *random.pick(&[MOST_X + 2, MOST_X + 40]),
+        None if random.once_in(10) => MOST_X,
+        None => 0,
+    };
+    let unknown = if all > 0 && i > 0 && i < 100 {
         number = number.max((all - start).div_ceil(i));
         all - start
     } else {
@@ -91,12 +95,12 @@ fn allowance(random: &mut Random, circuit: &Circuit, unknown: usize, number: u64
         let vectors: Vec<&[u8]> = (0..number as usize).map(|k| &list[k * i..(k + 1) * i]).collect();
         fillings::witness(circuit, &vectors, most).tried
     };
-    let around = match random.below(6) {
+    let around = match random.below(8) {
         0 => return if fillings > most { any.min(most) } else { any },
-        1..=3 if unknown <= MOST_X && circuit.m < 1000 => deciding(),
+        1..=6 if unknown <= MOST_X && circuit.m < 1000 => deciding(),
         _ => fillings,
     };
-    let allowance = (around + random.below(4) as u64).saturating_sub(2);
+    let allowance = (around + *random.pick(&[0, 1, 1, 1, 2, 2, 2, 3])).saturating_sub(2);
     if fillings > most {
         allowance.min(most)
     } else {

@@ -16,7 +16,7 @@ pub const ALL: &[Damage] = &[
 ];
 
 /// M above I + L + A.
-fn unused(random: &mut Random, circuit: &Circuit, given: &mut Given) -> Option<Refusal> {
+fn unused(random: &mut Random, circuit: &Circuit, given: &mut Given, _: u64) -> Option<Refusal> {
     let more = random.between(1, 3) as u64;
     if circuit.m + more > MOST {
         return None;
@@ -35,14 +35,14 @@ fn two(random: &mut Random, count: usize) -> Option<[usize; 2]> {
     Some([first, random.between(first + 1, count - 1)])
 }
 
-fn inputs_exchanged(random: &mut Random, circuit: &Circuit, given: &mut Given) -> Option<Refusal> {
+fn inputs_exchanged(random: &mut Random, circuit: &Circuit, given: &mut Given, _: u64) -> Option<Refusal> {
     let [one, other] = two(random, circuit.inputs.len())?;
     given.tables[0].swap(one, other);
     refusal(15, 0)
 }
 
 /// An input and a latch, or two latches.
-fn sources_exchanged(random: &mut Random, circuit: &Circuit, given: &mut Given) -> Option<Refusal> {
+fn sources_exchanged(random: &mut Random, circuit: &Circuit, given: &mut Given, _: u64) -> Option<Refusal> {
     let [inputs, latches, .., resets, _, _] = &mut given.tables;
     if !circuit.inputs.is_empty() && random.once_in(2) {
         let input = random.below(circuit.inputs.len());
@@ -59,14 +59,14 @@ fn sources_exchanged(random: &mut Random, circuit: &Circuit, given: &mut Given) 
     refusal(15, 0)
 }
 
-fn gates_exchanged(random: &mut Random, circuit: &Circuit, given: &mut Given) -> Option<Refusal> {
+fn gates_exchanged(random: &mut Random, circuit: &Circuit, given: &mut Given, _: u64) -> Option<Refusal> {
     let [one, other] = two(random, circuit.gates.len())?;
     given.tables[3].as_chunks_mut::<3>().0.swap(one, other);
     refusal(15, 0)
 }
 
 /// The last gate and an input bear each other's names, in all tables.
-fn gates_renamed(random: &mut Random, circuit: &Circuit, given: &mut Given) -> Option<Refusal> {
+fn gates_renamed(random: &mut Random, circuit: &Circuit, given: &mut Given, _: u64) -> Option<Refusal> {
     let gate = circuit.gates.last()?[0];
     let input = *circuit.inputs.get(random.below(circuit.inputs.len().max(1)))?;
     for word in given.tables.iter_mut().flatten() {
@@ -80,7 +80,7 @@ fn gates_renamed(random: &mut Random, circuit: &Circuit, given: &mut Given) -> O
 }
 
 /// rhs0 below rhs1.
-fn sides_exchanged(random: &mut Random, circuit: &Circuit, given: &mut Given) -> Option<Refusal> {
+fn sides_exchanged(random: &mut Random, circuit: &Circuit, given: &mut Given, _: u64) -> Option<Refusal> {
     let gates = circuit.gates.iter().enumerate();
     let unequal: Vec<usize> = gates.filter(|(_, gate)| gate[1] != gate[2]).map(|(k, _)| k).collect();
     if unequal.is_empty() {

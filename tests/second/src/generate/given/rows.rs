@@ -1,29 +1,26 @@
 //! Rows: the inputs of each, and bytes for next states and outputs. 13, 12.
 
-use super::vectors::{spoil, tell, twelve};
+use super::turns::Beside;
+use super::vectors::{spoil, tell, vectors};
 use super::TablesCase;
 use crate::aiger::rows::LANES;
-use crate::aiger::{Circuit, Refusal};
+use crate::aiger::{refuse, Circuit, Refusal};
 use crate::generate::values::vector;
 use crate::memory::Memory;
 use crate::random::Random;
 
-/// How many rows: often on the line of what there may be.
-fn number(random: &mut Random, circuit: &Circuit) -> u64 {
+/// How many rows, often on the line of what there may be; or more.
+fn number(random: &mut Random, circuit: &Circuit, beside: Beside) -> u64 {
     let some = random.below(LANES as usize + 1) as u64;
     let few = random.below(4) as u64;
-    match random.below(14) {
-        0 | 1 => *random.pick(&[
-            LANES + 1,
-            LANES + 1,
-            LANES + 2,
-            1 << 32,
-            (1 << 32) + few,
-            1 << 63,
-            u64::MAX,
-        ]),
-        _ if circuit.m > 1000 => few.min(1),
-        _ => *random.pick(&[0, 1, 2, LANES - 1, LANES, some, few]),
+    let wrapping = (1 << 32) + few;
+    if beside.wants(random, 13) {
+        let far = *random.pick(&[LANES + 2, 1 << 32, wrapping, 1 << 63, u64::MAX]);
+        return *random.pick(&[LANES + 1, LANES + 1, far]);
+    }
+    match circuit.m {
+        ..=1000 => *random.pick(&[0, 1, 2, LANES - 1, LANES, some, few]),
+        _ => few.min(1),
     }
 }
 
@@ -34,37 +31,19 @@ fn lengths(circuit: &Circuit, number: u64) -> [usize; 3] {
     [circuit.latches.len(), circuit.inputs.len(), circuit.outputs.len()].map(|length| rows * length)
 }
 
-/// Tables are judged before the number of rows, and that before their bytes.
-fn judged(case: &mut TablesCase, number: u64, promise: Result<(), Refusal>) {
-    let promise = if number > LANES {
-        Err(Refusal {
-            number: 13,
-            place: LANES,
-        })
-    } else {
-        promise
-    };
-    tell(case, promise);
+/// Their number is judged before their bytes.
+fn few(number: u64) -> Result<(), Refusal> {
+    if number > LANES {
+        return refuse(13, LANES as usize);
+    }
+    Ok(())
 }
 
-pub fn add(random: &mut Random, circuit: &Circuit, case: &mut TablesCase) {
-    let number = number(random, circuit);
-    let lengths = lengths(circuit, number);
+pub fn add(random: &mut Random, circuit: &Circuit, beside: Beside, case: &mut TablesCase) {
+    let number = number(random, circuit, beside);
     let unknown = random.below(4);
-    let mut vectors = lengths.map(|length| vector(random, unknown, length));
-    let mut promise = Ok(());
-    if random.once_in(5) {
-        let first = random.below(3);
-        let last = random.between(first, 2);
-        spoil(random, &mut vectors[first]);
-        if last != first {
-            spoil(random, &mut vectors[last]);
-        }
-        // What the next states and the outputs hold is not looked at.
-        let wrong = |k: usize| k == 1 || vectors[k].len() != lengths[k];
-        let least = [first, last].into_iter().find(|&k| wrong(k));
-        promise = least.map_or(Ok(()), |k| twelve(k as u64 + 1));
-    }
+    let lengths = lengths(circuit, number);
+    let (vectors, promise) = vectors(random, beside, unknown, lengths, [false, true, false]);
     let junk = random.word();
     let [next, input, output] = &vectors;
     case.lent.numbers = vec![number];
@@ -73,19 +52,21 @@ pub fn add(random: &mut Random, circuit: &Circuit, case: &mut TablesCase) {
         Memory::around(input, junk),
         Memory::junk(output.len() as u64, junk),
     ];
-    judged(case, number, promise);
+    tell(case, few(number).and(promise));
 }
 
-pub fn add_report(random: &mut Random, circuit: &Circuit, case: &mut TablesCase) {
-    let number = number(random, circuit);
+/// The report is lent no bytes but the inputs, which are named by 2 all the same.
+pub fn add_report(random: &mut Random, circuit: &Circuit, beside: Beside, case: &mut TablesCase) {
+    let number = number(random, circuit, beside);
     let unknown = random.below(4);
-    let mut input = vector(random, unknown, lengths(circuit, number)[1]);
-    let mut promise = Ok(());
-    if random.once_in(5) {
-        spoil(random, &mut input);
-        promise = twelve(2);
+    let [_, length, _] = lengths(circuit, number);
+    let mut input = vector(random, unknown, length);
+    let mut promise = few(number);
+    if beside.wants(random, 12) {
+        spoil(random, true, &mut input);
+        promise = promise.and(refuse(12, 2));
     }
     case.lent.numbers = vec![number];
     case.lent.bytes = vec![Memory::around(&input, random.word())];
-    judged(case, number, promise);
+    tell(case, promise);
 }

@@ -1,20 +1,21 @@
-//! The vectors of the stepper and the lists of the witness question and of a report: 12, 13.
+//! The vectors of the stepper and the lists of the witness question in three values and of a report: 24, 13, 12.
 
+use super::turns::Beside;
 use super::TablesCase;
 use crate::aiger::plain::MOST_GATES;
 use crate::aiger::report::MOST_STEPS;
-use crate::aiger::{Circuit, Refusal};
+use crate::aiger::{refuse, Circuit, Refusal};
 use crate::generate::values::{no_value, vector};
 use crate::memory::Memory;
 use crate::random::Random;
 
-/// A wrong length or a byte that is no value.
-pub fn spoil(random: &mut Random, vector: &mut Vec<u8>) {
+/// A wrong length or, in a vector that is read, a byte that is no value.
+pub fn spoil(random: &mut Random, is_read: bool, vector: &mut Vec<u8>) {
     match random.below(5) {
         0 if !vector.is_empty() => drop(vector.pop()),
         1 if !vector.is_empty() => vector.clear(),
         2 => vector.extend([b'0'; 5]),
-        3 if !vector.is_empty() => {
+        3 if !vector.is_empty() && is_read => {
             let at = random.below(vector.len());
             vector[at] = no_value(random);
         }
@@ -22,29 +23,51 @@ pub fn spoil(random: &mut Random, vector: &mut Vec<u8>) {
     }
 }
 
-pub fn twelve(place: u64) -> Result<(), Refusal> {
-    Err(Refusal { number: 12, place })
+/// Vectors of these lengths, of which one or two may be spoiled, and what is told of them: the least that is wrong. What
+/// those hold that are not read is not looked at.
+pub fn vectors<const N: usize>(
+    random: &mut Random,
+    beside: Beside,
+    unknown: usize,
+    lengths: [usize; N],
+    are_read: [bool; N],
+) -> ([Vec<u8>; N], Result<(), Refusal>) {
+    let mut vectors = lengths.map(|length| vector(random, unknown, length));
+    let places: Vec<u64> = (1..=N as u64).collect();
+    let Some(least) = beside.way(random, 12, &places) else {
+        return (vectors, Ok(()));
+    };
+    let first = least as usize - 1;
+    let last = random.between(first, N - 1);
+    for k in [first, last] {
+        vectors[k] = vector(random, unknown, lengths[k]);
+        spoil(random, are_read[k], &mut vectors[k]);
+    }
+    (vectors, refuse(12, first + 1))
 }
 
-/// State, inputs and outputs of a step. The least wrong one is named.
-pub fn step(random: &mut Random, circuit: &Circuit, case: &mut TablesCase) {
+/// State, inputs and outputs of a step.
+pub fn step(random: &mut Random, circuit: &Circuit, beside: Beside, case: &mut TablesCase) {
+    let promise = stepped(random, circuit, beside, case);
+    tell(case, promise);
+}
+
+/// The same for the plain engine, which counts the gates before it looks at vectors.
+pub fn step_plain(random: &mut Random, circuit: &Circuit, beside: Beside, case: &mut TablesCase) {
+    let gates = circuit.gates.len();
+    let few = if gates as u64 > MOST_GATES {
+        refuse(24, gates)
+    } else {
+        Ok(())
+    };
+    let promise = stepped(random, circuit, beside, case);
+    tell(case, few.and(promise));
+}
+
+fn stepped(random: &mut Random, circuit: &Circuit, beside: Beside, case: &mut TablesCase) -> Result<(), Refusal> {
     let lengths = [circuit.latches.len(), circuit.inputs.len(), circuit.outputs.len()];
     let unknown = random.below(4);
-    let mut vectors = lengths.map(|length| vector(random, unknown, length));
-    let mut promise = Ok(());
-    if random.once_in(5) {
-        let first = random.below(3);
-        let last = random.between(first, 2);
-        spoil(random, &mut vectors[first]);
-        if last != first {
-            spoil(random, &mut vectors[last]);
-        }
-        // What the outputs hold is not looked at.
-        promise = match first {
-            2 if vectors[2].len() == lengths[2] => Ok(()),
-            _ => twelve(first as u64 + 1),
-        };
-    }
+    let (vectors, promise) = vectors(random, beside, unknown, lengths, [true, true, false]);
     let junk = random.word();
     let [state, input, output] = &vectors;
     case.lent.bytes = vec![
@@ -52,63 +75,61 @@ pub fn step(random: &mut Random, circuit: &Circuit, case: &mut TablesCase) {
         Memory::around(input, junk),
         Memory::junk(output.len() as u64, junk),
     ];
-    tell(case, promise);
+    promise
 }
 
-/// The same for the plain engine, which counts the gates before it looks at vectors.
-pub fn step_plain(random: &mut Random, circuit: &Circuit, case: &mut TablesCase) {
-    step(random, circuit, case);
-    let judged = matches!(case.promise, Some(Ok(()) | Err(Refusal { number: 12, .. })));
-    let gates = circuit.gates.len() as u64;
-    if judged && gates > MOST_GATES {
-        case.promise = Some(Err(Refusal {
-            number: 24,
-            place: gates,
-        }));
+/// A number of vectors and their bytes, and what is told of these.
+struct List {
+    number: u64,
+    bytes: Vec<u8>,
+    promise: Result<(), Refusal>,
+}
+
+impl List {
+    fn new(random: &mut Random, circuit: &Circuit, beside: Beside) -> List {
+        let i = circuit.inputs.len();
+        let most = if i > 1000 { 2 } else { 8 };
+        let mut number = random.below(most + 1) as u64;
+        let unknown = random.below(4);
+        let mut bytes = vector(random, unknown, number as usize * i);
+        let wrong = beside.wants(random, 12) && wrong(random, i as u64, &mut number, &mut bytes);
+        let promise = if wrong { refuse(12, 2) } else { Ok(()) };
+        List { number, bytes, promise }
+    }
+
+    fn add(self, random: &mut Random, case: &mut TablesCase) {
+        case.lent.numbers = vec![self.number];
+        case.lent.bytes = vec![Memory::around(&self.bytes, random.word())];
+        tell(case, self.promise);
     }
 }
 
-/// A number of vectors and their bytes.
-pub fn witness(random: &mut Random, circuit: &Circuit, case: &mut TablesCase) {
-    let i = circuit.inputs.len();
-    let most = if i > 1000 { 2 } else { 8 };
-    let mut number = random.below(most + 1) as u64;
-    let unknown = random.below(4);
-    let mut list = vector(random, unknown, number as usize * i);
-    let mut promise = Ok(());
-    if random.once_in(4) && wrong(random, i as u64, &mut number, &mut list) {
-        promise = twelve(2);
-    }
+pub fn witness(random: &mut Random, circuit: &Circuit, beside: Beside, case: &mut TablesCase) {
+    let mut list = List::new(random, circuit, beside);
     if case.promise != Some(Ok(())) {
         // If the tables hold a circuit without inputs, it is stepped so often.
-        number = number.min(1000);
+        list.number = list.number.min(1000);
     }
-    case.lent.numbers = vec![number];
-    case.lent.bytes = vec![Memory::around(&list, random.word())];
-    tell(case, promise);
+    list.add(random, case);
 }
 
-/// The same, sometimes of as many vectors as there may be, or more.
-pub fn report(random: &mut Random, circuit: &Circuit, case: &mut TablesCase) {
-    witness(random, circuit, case);
+/// Sometimes of as many vectors as there may be, or more.
+pub fn report(random: &mut Random, circuit: &Circuit, beside: Beside, case: &mut TablesCase) {
+    let mut list = List::new(random, circuit, beside);
     let most = MOST_STEPS;
-    let mut number = case.lent.number();
-    if case.promise == Some(Ok(())) && circuit.m <= SMALL && random.once_in(200) {
-        number = *random.pick(&[most - 1, most]);
-        let list = vector(random, 1, number as usize * circuit.inputs.len());
-        case.lent.bytes = vec![Memory::around(&list, random.word())];
-    } else if random.once_in(7) {
+    let whole = list.promise.is_ok() && case.promise == Some(Ok(()));
+    if beside.wants(random, 13) {
         // 12 comes after, so the list is left as it is.
-        number = *random.pick(&[most + 1, most + 2, 1 << 32, (1 << 32) + number, 1 << 63, u64::MAX]);
+        let far = *random.pick(&[most + 2, 1 << 32, (1 << 32) + list.number, 1 << 63, u64::MAX]);
+        list.number = *random.pick(&[most + 1, most + 1, far]);
+    } else if whole && circuit.m <= SMALL && random.once_in(50) {
+        list.number = *random.pick(&[most - 1, most, most]);
+        list.bytes = vector(random, 1, list.number as usize * circuit.inputs.len());
     }
-    case.lent.numbers = vec![number];
-    let judged = matches!(case.promise, Some(Ok(()) | Err(Refusal { number: 12, .. })));
-    if judged && number > most {
-        case.promise = Some(Err(Refusal {
-            number: 13,
-            place: most,
-        }));
+    if list.number > most {
+        list.promise = refuse(13, most as usize);
     }
+    list.add(random, case);
 }
 
 /// A circuit of so many variables is stepped quickly.

@@ -45,31 +45,34 @@ fn set(given: &mut Given, (table, k): Word, word: u32) {
     given.tables[table][k] = word;
 }
 
-/// One or two words; the least table is named.
-pub fn out_of_range(random: &mut Random, circuit: &Circuit, given: &mut Given) -> Option<Refusal> {
+/// A word of a table, perhaps one of another too; the least table is named.
+pub fn out_of_range(random: &mut Random, circuit: &Circuit, given: &mut Given, table: u64) -> Option<Refusal> {
     let tables: Vec<usize> = (0..CIRCUIT.len()).filter(|&k| !given.tables[k].is_empty()).collect();
-    if tables.is_empty() {
-        return None;
+    let first = tables.iter().copied().find(|&k| CIRCUIT[k] == table)?;
+    spoil(random, circuit, given, first);
+    let mut least = first;
+    if random.once_in(3) {
+        let other = *random.pick(&tables);
+        spoil(random, circuit, given, other);
+        least = least.min(other);
     }
+    refusal(5, CIRCUIT[least] as usize)
+}
+
+/// Puts some word of a table out of its range.
+fn spoil(random: &mut Random, circuit: &Circuit, given: &mut Given, table: usize) {
+    let place = (table, random.below(given.tables[table].len()));
     let most = 2 * circuit.m as u32 + 1;
-    let mut least = usize::MAX;
-    for _ in 0..random.between(1, 2) {
-        // Long tables are not to have more than their share.
-        let table = *random.pick(&tables);
-        let place = (table, random.below(given.tables[table].len()));
-        let above = most + 1 + random.below(9) as u32;
-        let large = *random.pick(&[most + 1, most + 2, above, 1 << 31, u32::MAX]);
-        let odd = 2 * random.below(circuit.m as usize + 1) as u32 + 1;
-        let none = *random.pick(&[0, 1, odd, odd, most, large]);
-        let word = match place {
-            (RESETS, k) => no_reset(random, circuit.m, given, k, large),
-            _ if defines(place) => none,
-            _ => large,
-        };
-        set(given, place, word);
-        least = least.min(number(place));
-    }
-    refusal(5, least)
+    let above = most + 1 + random.below(9) as u32;
+    let large = *random.pick(&[most + 1, most + 2, above, 1 << 31, u32::MAX]);
+    let odd = 2 * random.below(circuit.m as usize + 1) as u32 + 1;
+    let none = *random.pick(&[0, 1, odd, odd, most, large]);
+    let word = match place {
+        (RESETS, k) => no_reset(random, circuit.m, given, k, large),
+        _ if defines(place) => none,
+        _ => large,
+    };
+    set(given, place, word);
 }
 
 /// What the k-th latch can't start with: another's literal, its negation, any other.
@@ -85,20 +88,29 @@ fn no_reset(random: &mut Random, m: u64, given: &Given, k: usize, large: u32) ->
 }
 
 /// 5 over all tables comes before 6.
-pub fn out_of_range_and_second(random: &mut Random, circuit: &Circuit, given: &mut Given) -> Option<Refusal> {
-    second(random, circuit, given);
-    out_of_range(random, circuit, given)
+pub fn out_of_range_and_second(
+    random: &mut Random,
+    circuit: &Circuit,
+    given: &mut Given,
+    table: u64,
+) -> Option<Refusal> {
+    let other = *random.pick(&[1, 2, 4]);
+    second(random, circuit, given, other);
+    out_of_range(random, circuit, given, table)
 }
 
-/// A variable defined twice; the table of the second is named.
-pub fn second(random: &mut Random, _: &Circuit, given: &mut Given) -> Option<Refusal> {
+/// A variable defined a second time in a table.
+pub fn second(random: &mut Random, _: &Circuit, given: &mut Given, table: u64) -> Option<Refusal> {
     let places = defining(given);
-    if places.len() < 2 {
+    let seconds: Vec<usize> = (1..places.len())
+        .filter(|&k| number(places[k]) == table as usize)
+        .collect();
+    if seconds.is_empty() {
         return None;
     }
-    let second = random.between(1, places.len() - 1);
-    let (table, k) = places[random.below(second)];
-    let word = given.tables[table][k];
+    let second = *random.pick(&seconds);
+    let (first, k) = places[random.below(second)];
+    let word = given.tables[first][k];
     set(given, places[second], word);
     // A latch that starts as x stays one, lest 5 be first.
     if let (LATCHES, at) = places[second] {
@@ -109,19 +121,19 @@ pub fn second(random: &mut Random, _: &Circuit, given: &mut Given) -> Option<Ref
 }
 
 /// 6 comes before 7.
-fn second_and_undefined(random: &mut Random, circuit: &Circuit, given: &mut Given) -> Option<Refusal> {
-    undefined(random, circuit, given);
-    second(random, circuit, given)
+fn second_and_undefined(random: &mut Random, circuit: &Circuit, given: &mut Given, table: u64) -> Option<Refusal> {
+    undefined(random, circuit, given, 0);
+    second(random, circuit, given, table)
 }
 
 /// One to three uses of variables without a definition; the least is named.
-pub fn undefined(random: &mut Random, circuit: &Circuit, given: &mut Given) -> Option<Refusal> {
+pub fn undefined(random: &mut Random, circuit: &Circuit, given: &mut Given, _: u64) -> Option<Refusal> {
     let places = using(given);
     undefined_at(random, circuit, given, places)
 }
 
 /// The same in bad states and constraints alone.
-pub fn undefined_bad(random: &mut Random, circuit: &Circuit, given: &mut Given) -> Option<Refusal> {
+pub fn undefined_bad(random: &mut Random, circuit: &Circuit, given: &mut Given, _: u64) -> Option<Refusal> {
     let places = all(given).filter(|&(table, _)| table > RESETS).collect();
     undefined_at(random, circuit, given, places)
 }
@@ -147,13 +159,13 @@ fn undefined_at(random: &mut Random, circuit: &Circuit, given: &mut Given, mut p
 }
 
 /// 7 comes before 8.
-pub fn undefined_and_cycle(random: &mut Random, circuit: &Circuit, given: &mut Given) -> Option<Refusal> {
-    cycle(random, circuit, given)?;
-    undefined(random, circuit, given)
+pub fn undefined_and_cycle(random: &mut Random, circuit: &Circuit, given: &mut Given, _: u64) -> Option<Refusal> {
+    cycle(random, circuit, given, 0)?;
+    undefined(random, circuit, given, 0)
 }
 
 /// A gate is made to depend on itself.
-pub fn cycle(random: &mut Random, circuit: &Circuit, given: &mut Given) -> Option<Refusal> {
+pub fn cycle(random: &mut Random, circuit: &Circuit, given: &mut Given, _: u64) -> Option<Refusal> {
     let a = circuit.gates.len();
     // The closure is slow, and many gates show nothing more.
     if a == 0 || a > 300 {
@@ -165,7 +177,7 @@ pub fn cycle(random: &mut Random, circuit: &Circuit, given: &mut Given) -> Optio
 }
 
 /// One to three words become others of about the right size; what that is, only a check can tell.
-pub fn edit(random: &mut Random, circuit: &Circuit, given: &mut Given) -> Option<Refusal> {
+pub fn edit(random: &mut Random, circuit: &Circuit, given: &mut Given) {
     for _ in 0..random.between(1, 3) {
         let table = random.below(CIRCUIT.len());
         let words = &mut given.tables[table];
@@ -179,5 +191,4 @@ pub fn edit(random: &mut Random, circuit: &Circuit, given: &mut Given) -> Option
             _ => words[at] = random.below(2 * circuit.m as usize + 4) as u32,
         }
     }
-    None
 }

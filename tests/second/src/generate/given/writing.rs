@@ -1,55 +1,80 @@
 //! The tail and the buffer of a writer: 1, 10, 19, 11.
 
+use super::turns::{Beside, CANNOT_HOLD};
 use super::TablesCase;
 use crate::aiger::cards::can_hold;
-use crate::aiger::{Circuit, Form, Refusal};
+use crate::aiger::{refuse, Circuit, Form, Refusal};
 use crate::generate::cards::Cards;
 use crate::generate::damage::damage;
 use crate::generate::draft::Draft;
+use crate::library::Call;
 use crate::memory::Memory;
 use crate::random::Random;
 
 /// Adds both to a case whose promise speaks of the tables alone. The tail may be wrong and the buffer short even if the
-/// tables are refused, since those come first.
-pub fn add(random: &mut Random, form: Form, circuit: &Circuit, case: &mut TablesCase) {
-    let aim = *random.pick(&[0, 10, 11, 11, 99, 99, 99, 99, 99, 99]);
-    let mut draft = writable(random, form, circuit, case);
-    let promise = match aim {
-        0 | 10 => damage(random, aim, circuit, &mut draft).map(|harm| {
-            let layout = draft.layout();
-            let Refusal { number, place } = harm.refusal(&layout);
-            Err(Refusal {
-                number,
-                place: place - layout.tail as u64,
-            })
-        }),
-        _ => Some(Ok(())),
-    };
-    let layout = draft.layout();
-    let needed = layout.file.len();
-    let room = room(random, aim == 11, needed);
-    let promise = match promise {
-        Some(Ok(())) if room < needed => Some(Err(Refusal {
-            number: 11,
-            place: needed as u64,
-        })),
-        promise => promise,
-    };
-    if case.promise == Some(Ok(())) {
-        case.file = (promise == Some(Ok(()))).then(|| layout.file.clone());
-        case.promise = promise;
+/// tables are refused, since those come first. None if the tail can't be made wrong in the chosen way.
+pub fn add(random: &mut Random, call: Call, circuit: &Circuit, beside: Beside, case: &mut TablesCase) -> Option<()> {
+    let mut draft = writable(random, call, circuit, case);
+    if call == Call::WriteCards {
+        choose_tail(random, beside, &mut draft);
     }
-    let junk = random.word();
-    let tail = Memory::around(&layout.file[layout.tail..], junk);
-    case.lent.bytes = vec![tail, Memory::junk(room as u64, junk)];
+    let tail_is = wrong_tail(random, circuit, beside, &mut draft)?;
+    let layout = draft.layout();
+    let tail = Memory::around(&layout.file[layout.tail..], random.word());
+    let (file, held) = match call {
+        Call::WriteCards => (Cards::new(circuit).file(), tail.lent().is_empty() && can_hold(circuit)),
+        _ => (layout.file, true),
+    };
+    let holds = if held { Ok(()) } else { refuse(19, 0) };
+    let short = beside.wants(random, 11);
+    let room = room(random, short, file.len());
+    let fits = if short { refuse(11, file.len()) } else { Ok(()) };
+    let promise = tail_is.and(holds).and(fits);
+    if case.promise == Some(Ok(())) {
+        case.file = promise.is_ok().then_some(file);
+        case.promise = Some(promise);
+    }
+    case.lent.bytes = vec![tail, Memory::junk(room as u64, random.word())];
+    Some(())
 }
 
 /// The draft of a file. Binary needs its order, which only tables that are promised have for certain.
-fn writable(random: &mut Random, form: Form, circuit: &Circuit, case: &TablesCase) -> Draft {
-    match form {
-        Form::Binary if case.promise != Some(Ok(())) => Draft::new(random, Form::Text, circuit),
-        _ => Draft::new(random, form, circuit),
+fn writable(random: &mut Random, call: Call, circuit: &Circuit, case: &TablesCase) -> Draft {
+    let form = match call {
+        Call::WriteBinary if case.promise == Some(Ok(())) => Form::Binary,
+        _ => Form::Text,
+    };
+    Draft::new(random, form, circuit)
+}
+
+/// Cards hold no tail: there is one only where that is to be told, or may be.
+fn choose_tail(random: &mut Random, beside: Beside, draft: &mut Draft) {
+    let way = beside.way(random, 19, &CANNOT_HOLD);
+    if way != Some(0) {
+        draft.symbols.clear();
+        draft.comment.clear();
+    } else if draft.symbols.is_empty() {
+        draft.comment = b"c\n".to_vec();
     }
+}
+
+/// What is told of the tail, its offsets within it.
+fn wrong_tail(
+    random: &mut Random,
+    circuit: &Circuit,
+    beside: Beside,
+    draft: &mut Draft,
+) -> Option<Result<(), Refusal>> {
+    // Damage calls 1 in the tail 0.
+    let aim = match [1, 10].map(|number| beside.wants(random, number)) {
+        [true, _] => 0,
+        [_, true] => 10,
+        _ => return Some(Ok(())),
+    };
+    let harm = damage(random, aim, circuit, draft)?;
+    let layout = draft.layout();
+    let Refusal { number, place } = harm.refusal(&layout);
+    Some(refuse(number, place as usize - layout.tail))
 }
 
 /// Too short by one byte, by many or empty; else exactly enough or with spare bytes.
@@ -62,35 +87,4 @@ pub fn room(random: &mut Random, short: bool, needed: usize) -> usize {
         (false, 2) => needed + 1,
         (false, _) => needed + random.between(2, 80),
     }
-}
-
-/// The same for cards, which hold no tail.
-pub fn add_cards(random: &mut Random, circuit: &Circuit, case: &mut TablesCase) {
-    let inputs = circuit.inputs.len();
-    let file = Cards::new(circuit).file();
-    let short = random.once_in(6);
-    let room = room(random, short, file.len());
-    let refused = |number: u64, place: usize| {
-        Err(Refusal {
-            number,
-            place: place as u64,
-        })
-    };
-    let (tail, promise) = match random.below(24) {
-        0 => (b"?".to_vec(), refused(1, 0)),
-        1 => (b"c\n\n?".to_vec(), refused(1, 4)),
-        2 => (format!("i{inputs} p\n").into_bytes(), refused(10, 0)),
-        3 if inputs > 0 => (b"i0 p\ni0 q\nc\n".to_vec(), refused(10, 5)),
-        4 if inputs > 0 => (b"i0 p\n".to_vec(), refused(19, 0)),
-        3..=5 => (b"c\n".to_vec(), refused(19, 0)),
-        _ if !can_hold(circuit) => (Vec::new(), refused(19, 0)),
-        _ if room < file.len() => (Vec::new(), refused(11, file.len())),
-        _ => (Vec::new(), Ok(())),
-    };
-    if case.promise == Some(Ok(())) {
-        case.file = promise.is_ok().then_some(file);
-        case.promise = Some(promise);
-    }
-    let junk = random.word();
-    case.lent.bytes = vec![Memory::around(&tail, junk), Memory::junk(room as u64, junk)];
 }

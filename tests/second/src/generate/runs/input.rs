@@ -1,7 +1,8 @@
 //! What a program is given as standard input.
 
+use super::turns::Turn;
 use super::Input;
-use crate::aiger::programs::{Program, LONGEST};
+use crate::aiger::programs::LONGEST;
 use crate::aiger::Circuit;
 use crate::generate::values::{no_value, vector};
 use crate::random::Random;
@@ -10,18 +11,26 @@ use crate::random::Random;
 const WORK: usize = 2_000_000;
 
 /// Lines for a circuit, whole or damaged; some lines if there is none, since nothing reads them then.
-pub fn input(random: &mut Random, program: Program, circuit: Option<&Circuit>) -> Input {
-    match random.below(40) {
-        0 => return Input::Folder,
-        1 => return Input::ForWriting,
-        2 => return Input::Closed,
-        _ => {}
+pub fn input(random: &mut Random, turn: Turn, circuit: Option<&Circuit>) -> Input {
+    let can_be_read = match turn {
+        Turn::Input(number) => number != 14,
+        Turn::Accepted => true,
+        _ => !random.once_in(10),
+    };
+    // Where nothing is read it need not be there.
+    if !can_be_read || circuit.is_none() && random.once_in(10) {
+        return match random.below(3) {
+            0 => Input::Folder,
+            1 => Input::ForWriting,
+            _ => Input::Closed,
+        };
     }
-    // Programs with fewer runs have as many long inputs.
-    let often = program.is_new();
-    let mut bytes = circuit.map_or_else(|| b"01x\n".repeat(3), |circuit| lines(random, often, circuit));
-    if random.once_in(3) {
-        damage(random, often, &mut bytes);
+    let mut bytes = circuit.map_or_else(|| b"01x\n".repeat(3), |circuit| lines(random, circuit));
+    match turn {
+        Turn::Input(13) => bytes = overlong(random, &bytes),
+        Turn::Input(_) => damage(random, &mut bytes),
+        Turn::Any if random.once_in(2) => damage(random, &mut bytes),
+        _ => {}
     }
     if random.once_in(3) {
         Input::Pipe(bytes)
@@ -31,11 +40,11 @@ pub fn input(random: &mut Random, program: Program, circuit: Option<&Circuit>) -
 }
 
 /// A few vectors, or as many as the longest input has.
-fn lines(random: &mut Random, often: bool, circuit: &Circuit) -> Vec<u8> {
+fn lines(random: &mut Random, circuit: &Circuit) -> Vec<u8> {
     let (i, o) = (circuit.inputs.len(), circuit.outputs.len());
     let (l, a) = (circuit.latches.len(), circuit.gates.len());
     let most = (LONGEST / (i + 1)).min(WORK / (2 * l + i + o + a + 4));
-    let number = if random.once_in(if often { 3 } else { 8 }) {
+    let number = if random.once_in(25) {
         most
     } else {
         random.below(most.min(12) + 1)
@@ -45,17 +54,16 @@ fn lines(random: &mut Random, often: bool, circuit: &Circuit) -> Vec<u8> {
     (0..number).flat_map(line).collect()
 }
 
-fn damage(random: &mut Random, often: bool, bytes: &mut Vec<u8>) {
+fn damage(random: &mut Random, bytes: &mut Vec<u8>) {
     let end = bytes.len();
     let at = random.below(end + 1);
-    match random.below(if often { 10 } else { 8 }) {
+    match random.below(7) {
         0 => drop(bytes.pop()),
         1 if at < end => bytes[at] = no_value(random),
         2 if at < end => drop(bytes.remove(at)),
         3 => bytes.insert(at, *random.pick(b"01x")),
         4 => bytes.insert(at, *random.pick(b"\n\r \0X2")),
         5 => bytes.push(b'\n'),
-        6 | 8 | 9 => *bytes = overlong(random, bytes),
         _ => {
             bytes.pop();
             bytes.insert(at.min(bytes.len()), no_value(random));

@@ -1,50 +1,73 @@
 //! What stands under the name `plan.in`.
 
+use super::cards::{of_cards, too_much, without_tail};
+use super::turns::Turn;
 use super::Plan;
 use crate::aiger::plain::MOST_GATES;
 use crate::aiger::programs::{output, Program, LENT, LONGEST, SIXTH};
 use crate::aiger::{literal, Circuit, Form, Refusal};
 use crate::generate;
-use crate::generate::cards::Cards;
 use crate::generate::circuit::{circuit, Size};
 use crate::generate::draft::Draft;
 use crate::random::Random;
 
+/// Lengths on both sides of what a program reads and writes.
+const LONG: [usize; 2] = [LONGEST - 1, LONGEST];
+const TOO_LONG: [usize; 3] = [LONGEST + 1, LONGEST + 9, 2 * LONGEST];
+
 /// A plan, and its refusal if that is known from the way it was made.
-pub fn plan(random: &mut Random, program: Program) -> (Plan, Option<Refusal>) {
-    if program == Program::Filer {
-        return of_cards(random);
+pub type Made = (Plan, Option<Refusal>);
+
+/// None if nothing was made for the turn.
+pub fn plan(random: &mut Random, program: Program, turn: Turn) -> Option<Made> {
+    match turn {
+        Turn::Plan(14, _) => {
+            let plan = if random.once_in(2) { Plan::Missing } else { Plan::Folder };
+            Some((plan, Some(Refusal { number: 14, place: 0 })))
+        }
+        _ if program == Program::Filer => of_cards(random, turn),
+        Turn::Plan(13, _) => Some(long(random, &TOO_LONG)),
+        Turn::Plan(11, _) => Some(full(random, program, &TOO_LONG)),
+        Turn::Plan(4, 6) => Some(many_needles(random, 1)),
+        Turn::Plan(4, 5) if random.once_in(2) => Some(to_read_alone(random)),
+        Turn::Plan(4, table) => Some((Plan::File(edge(random, Some(table))), None)),
+        Turn::Plan(15, _) => Some((Plan::File(without_tail(random, Form::Text)), None)),
+        Turn::Plan(19, _) => Some((Plan::File(too_much(random)), None)),
+        Turn::Plan(24, _) => Some(teaching(random, 1)),
+        Turn::Plan(number, _) => {
+            let (file, refusal) = generate::damaged(random, number)?;
+            Some((Plan::File(file), Some(refusal)))
+        }
+        Turn::Accepted | Turn::Input(_) => Some(whole(random, program)),
+        Turn::Any => Some(any(random, program)),
     }
-    match random.below(100) {
-        0 | 1 => (Plan::Missing, Some(Refusal { number: 14, place: 0 })),
-        2 | 3 => (Plan::Folder, Some(Refusal { number: 14, place: 0 })),
-        4..=8 => long(random),
-        9..=14 => full(random, program),
-        15..=29 => (Plan::File(edge(random)), None),
-        30..=33 => to_read_alone(random),
-        34..=57 if program == Program::Carder => (Plan::File(refused(random, program)), None),
-        34..=51 if program.is_new() => (Plan::File(refused(random, program)), None),
-        52..=57 if program == Program::Reporter => many_needles(random),
-        52..=61 if program == Program::Comparer => teaching(random),
-        58..=88 if program == Program::Carder => (Plan::File(without_tail(random)), None),
+}
+
+/// Mostly accepted.
+fn whole(random: &mut Random, program: Program) -> Made {
+    match (program, random.below(40)) {
+        (Program::Carder, 0..=35) => (Plan::File(without_tail(random, Form::Binary)), None),
+        (Program::Reporter, 0) => many_needles(random, 0),
+        (Program::Comparer, 0..=29) => teaching(random, 0),
+        (_, 36) => long(random, &LONG),
+        (_, 37) => full(random, program, &LONG),
+        (_, 38 | 39) => (Plan::File(edge(random, None)), None),
+        _ => (Plan::File(generate::whole(random.word(), 0)[0].clone()), None),
+    }
+}
+
+fn any(random: &mut Random, program: Program) -> Made {
+    match random.below(6) {
+        0 => long(random, &LONG),
+        1 => full(random, program, &LONG),
+        2 => (Plan::File(edge(random, None)), None),
+        3 => to_read_alone(random),
         _ => (Plan::File(generate::case(random.word(), 0).file), None),
     }
 }
 
-/// A file that is refused, for one of all reasons.
-fn refused(random: &mut Random, program: Program) -> Vec<u8> {
-    let number = *random.pick(program.refusals_of_files());
-    loop {
-        let case = generate::case(random.word(), 0);
-        if matches!(case.promises[1], Some(Err(refusal)) if refusal.number == number) {
-            return case.file;
-        }
-    }
-}
-
 /// As many outputs and latches as table 6 of a report has room for, or one more.
-fn many_needles(random: &mut Random) -> (Plan, Option<Refusal>) {
-    let over = random.below(2);
+fn many_needles(random: &mut Random, over: usize) -> Made {
     let l = random.between(1, 1500);
     let size = Size {
         l,
@@ -60,87 +83,35 @@ fn many_needles(random: &mut Random) -> (Plan, Option<Refusal>) {
     (Plan::File(file), (over == 1).then_some(Refusal { number: 4, place: 6 }))
 }
 
-/// As many gates as the plain engine takes, or one more. Whatever standard input is, the plan comes first.
-fn teaching(random: &mut Random) -> (Plan, Option<Refusal>) {
-    let over = random.below(2);
+/// As many gates as the plain engine takes or fewer, or more. Whatever standard input is, the plan comes first.
+fn teaching(random: &mut Random, over: usize) -> Made {
+    let most = MOST_GATES as usize;
+    let few = random.below(most + 1);
     let size = Size {
         i: random.below(4),
         l: random.below(4),
         o: random.below(4),
-        a: MOST_GATES as usize + over,
+        a: match over {
+            0 => *random.pick(&[0, 1, 1, most, most, few, few, few]),
+            _ => most + *random.pick(&[1, 1, 2 + few]),
+        },
         starts: random.once_in(2),
         ..Size::default()
     };
     let form = form(random);
     let circuit = circuit(random, form, &size);
     let file = Draft::new(random, form, &circuit).layout().file;
-    (
-        Plan::File(file),
-        (over == 1).then_some(Refusal { number: 24, place: 25 }),
-    )
+    let place = size.a as u64;
+    (Plan::File(file), (over == 1).then_some(Refusal { number: 24, place }))
 }
 
-/// Cards, whole and damaged, or about as many as the programs have room for.
-fn of_cards(random: &mut Random) -> (Plan, Option<Refusal>) {
-    match random.below(40) {
-        0 => (Plan::Missing, Some(Refusal { number: 14, place: 0 })),
-        1 => (Plan::Folder, Some(Refusal { number: 14, place: 0 })),
-        2..=5 => {
-            let length = *random.pick(&[LONGEST, LONGEST + 1, 2 * LONGEST]);
-            let file = (0..length).map(|k| b"PHPLPOPA\0\x01"[k % 10]).collect();
-            let foretold = (length > LONGEST).then_some(Refusal {
-                number: 13,
-                place: LONGEST as u64,
-            });
-            (Plan::File(file), foretold)
-        }
-        6..=13 => {
-            let over = random.below(2);
-            let mut size = Size {
-                i: random.below(5),
-                l: random.below(5),
-                o: random.below(5),
-                a: random.below(9),
-                ..Size::default()
-            };
-            match random.below(5) {
-                0 => size.i = LENT[0] as usize - 100 + 101 * over,
-                1 => size.l = LENT[1] as usize / 2 + over,
-                2 => size.o = LENT[2] as usize + over,
-                3 => size.a = LENT[3] as usize / 3 + over,
-                // Table 5: 4 x (M + 1) + O.
-                _ => (size.i, size.l, size.a, size.o) = (4000, 3, 2, 16_384 - 4 * 4006 + over),
-            }
-            let circuit = circuit(random, Form::Binary, &size);
-            (Plan::File(Cards::new(&circuit).file()), None)
-        }
-        _ => {
-            let case = generate::cards::case(random.word(), 0);
-            (Plan::File(case.file), None)
-        }
-    }
-}
-
-/// A circuit that cards can hold, in either form, mostly in binary order.
-fn without_tail(random: &mut Random) -> Vec<u8> {
-    let made = form(random);
-    let mut size = generate::circuit::size(random, Form::Binary);
-    (size.b, size.c, size.starts, size.i) = (0, 0, random.once_in(6), size.i.min(40));
-    let order = if random.once_in(6) { made } else { Form::Binary };
-    let circuit = circuit(random, order, &size);
-    let mut draft = Draft::new(random, made, &circuit);
-    draft.symbols.clear();
-    draft.comment.clear();
-    draft.layout().file
-}
-
-fn form(random: &mut Random) -> Form {
+pub fn form(random: &mut Random) -> Form {
     *random.pick(&[Form::Text, Form::Binary])
 }
 
 /// A well-formed file, or no file at all, that is about as long as it may be.
-fn long(random: &mut Random) -> (Plan, Option<Refusal>) {
-    let length = *random.pick(&[LONGEST - 1, LONGEST, LONGEST + 1, LONGEST + 2, 2 * LONGEST]);
+fn long(random: &mut Random, lengths: &[usize]) -> Made {
+    let length = *random.pick(lengths);
     let file = if random.once_in(4) {
         (0..length).map(|_| random.byte()).collect()
     } else {
@@ -165,7 +136,7 @@ fn padded(random: &mut Random, draft: &mut Draft, length: usize) -> Vec<u8> {
 }
 
 /// A file that is not too long, and is about as long as it may be once it is written.
-fn full(random: &mut Random, program: Program) -> (Plan, Option<Refusal>) {
+fn full(random: &mut Random, program: Program, lengths: &[usize]) -> Made {
     let mut draft = if program == Program::Converter && random.once_in(2) {
         some(random, Form::Binary)
     } else {
@@ -179,7 +150,7 @@ fn full(random: &mut Random, program: Program) -> (Plan, Option<Refusal>) {
         _ => Program::Converter,
     };
     let written = output(writer, Some(&file), None).len();
-    let length = *random.pick(&[LONGEST - 1, LONGEST, LONGEST + 1, LONGEST + 9]);
+    let length = (*random.pick(lengths)).min(LONGEST + 9);
     let file = padded(random, &mut draft, file.len() + length - written);
     let foretold = (length > LONGEST && program == writer).then_some(Refusal {
         number: 11,
@@ -221,8 +192,8 @@ fn growing(random: &mut Random) -> Circuit {
     }
 }
 
-/// A file with one table on the line of what the programs lend.
-fn edge(random: &mut Random) -> Vec<u8> {
+/// A file with one table on the line of what the programs lend; one word beyond it if a table is named.
+fn edge(random: &mut Random, short: Option<u64>) -> Vec<u8> {
     let form = form(random);
     let mut size = Size {
         i: random.below(5),
@@ -234,15 +205,15 @@ fn edge(random: &mut Random) -> Vec<u8> {
         starts: random.once_in(2),
         unused: 0,
     };
-    let over = random.below(2);
-    match random.below(8) {
-        0 => size.i = LENT[0] as usize + over,
-        1 => size.l = LENT[1] as usize / 2 + over,
-        2 => size.o = LENT[2] as usize + over,
-        3 => size.a = LENT[3] as usize / 3 + over,
-        4 => scratch(random, form, &mut size, over),
-        5 => size.b = LENT[6] as usize + over,
-        6 => size.c = LENT[7] as usize + over,
+    let over = usize::from(short.is_some());
+    match short.unwrap_or(*random.pick(&[1, 2, 3, 4, 5, 8, 9, 0])) {
+        1 => size.i = LENT[0] as usize + over,
+        2 => size.l = LENT[1] as usize / 2 + over,
+        3 => size.o = LENT[2] as usize + over,
+        4 => size.a = LENT[3] as usize / 3 + over,
+        5 => scratch(random, form, &mut size, over),
+        8 => size.b = LENT[6] as usize + over,
+        9 => size.c = LENT[7] as usize + over,
         // Lines of a power of two fill buffers and inputs without a rest.
         _ => size.i = (1 << random.between(1, 12)) - 1,
     }
@@ -251,7 +222,7 @@ fn edge(random: &mut Random) -> Vec<u8> {
 }
 
 /// A binary file that table 5 is long enough to read and too short to work on. What a reader refuses comes first.
-fn to_read_alone(random: &mut Random) -> (Plan, Option<Refusal>) {
+fn to_read_alone(random: &mut Random) -> Made {
     let size = Size {
         i: LENT[0] as usize - random.below(5),
         l: random.below(5),
