@@ -8,6 +8,7 @@ pub mod draft;
 mod edit;
 pub mod given;
 mod lend;
+pub mod renamed;
 pub mod runs;
 pub mod values;
 

@@ -1,7 +1,9 @@
 //! The programs, each run in a folder with what is made for it, and every byte that they write compared.
 
+use crate::aiger::programs::Program;
 use crate::coverage::programs::RunCoverage;
 use crate::ensure;
+use crate::generate::renamed::{renamed, Renamed};
 use crate::generate::runs::{self, Input, Plan, Run};
 use crate::options::Options;
 use crate::tally::Tally;
@@ -16,6 +18,9 @@ const COMMAND: &str = "GOLVANZO_PROGRAMS";
 
 /// A pipe is fed in pieces of so many bytes.
 const PIECE: usize = 1500;
+
+/// There is one pair of files in other numbers for so many cases.
+const SHARE_OF_PAIRS: u64 = 3200;
 
 pub struct Programs {
     starter: Vec<String>,
@@ -43,6 +48,29 @@ pub fn run(tally: &mut Tally, options: &Options, programs: Option<&Programs>) {
         finish(tally, options, programs, number, &run);
     }
     coverage.report(tally);
+    for number in 0..options.cases / SHARE_OF_PAIRS {
+        pair(tally, options, programs, number);
+    }
+}
+
+/// Both files of a pair in other numbers: the programs write the same bytes, or refuse both.
+fn pair(tally: &mut Tally, options: &Options, programs: Option<&Programs>, number: u64) {
+    let Renamed { files, .. } = renamed(options.seed, number);
+    for program in [Program::Converter, Program::Reducer] {
+        let [one, other] = files.each_ref().map(|file| Run::of(program, file));
+        let same = if one.answer.is_ok() && other.answer.is_ok() && one.answer != other.answer {
+            Err("other bytes".to_string())
+        } else {
+            Ok(())
+        };
+        tally.check(
+            &format!("seed {} {} of pair {number}", options.seed, program.name()),
+            same,
+        );
+        for run in [&one, &other] {
+            finish(tally, options, programs, number, run);
+        }
+    }
 }
 
 pub fn only(tally: &mut Tally, options: &Options, programs: Option<&Programs>, number: u64) {

@@ -2,6 +2,7 @@
 //! form leaves no choice of bytes, so a file comes back in it: a round trip. A walk steps a circuit and what it reduces to.
 
 mod held;
+mod pairs;
 mod trip;
 mod walk;
 
@@ -77,6 +78,7 @@ pub fn run(tally: &mut Tally, options: &Options, library: &dyn Library) {
     println!("round trips: {trips}");
     tally.check("round trips", at_least(trips, FEWEST));
     walks(tally, options, library);
+    pairs::run(tally, options, library);
 }
 
 fn walks(tally: &mut Tally, options: &Options, library: &dyn Library) {

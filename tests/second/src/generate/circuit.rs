@@ -108,7 +108,8 @@ pub fn circuit(random: &mut Random, form: Form, size: &Size) -> Circuit {
     if form == Form::Text {
         circuit.m += size.unused as u64;
         if !random.once_in(4) {
-            rename(random, &mut circuit);
+            let m = circuit.m as usize;
+            circuit = rename(random, &circuit, m);
         }
         arrange(random, &mut circuit.gates);
     }
@@ -162,29 +163,30 @@ fn next(random: &mut Random, current: usize, defined: usize) -> u32 {
     }
 }
 
-/// Gives the defined variables other numbers up to M.
-fn rename(random: &mut Random, circuit: &mut Circuit) {
-    let defined = circuit.defining().count();
-    let names = names(random, defined, circuit.m as usize);
+/// The same circuit with other numbers up to `m` for its defined variables.
+pub fn rename(random: &mut Random, circuit: &Circuit, m: usize) -> Circuit {
+    let defined: Vec<usize> = circuit.defining().map(|(literal, _)| variable(literal)).collect();
+    let mut names = vec![0; circuit.m as usize + 1];
+    for (&old, new) in defined.iter().zip(numbers(random, defined.len(), m)) {
+        names[old] = new;
+    }
     let name = |old: u32| literal(names[variable(old)]) + old % 2;
     let gates = circuit.gates.iter().map(|gate| gate.map(name)).collect();
-    *circuit = circuit.renamed(name, circuit.m, gates);
+    circuit.renamed(name, m as u64, gates)
 }
 
-/// Different numbers from 1 to `m` for the variables 1 to `defined`; 0 stays.
-fn names(random: &mut Random, defined: usize, m: usize) -> Vec<usize> {
-    let mut names: Vec<usize> = if m < 20_000 {
+/// So many different numbers from 1 to `m`.
+fn numbers(random: &mut Random, many: usize, m: usize) -> Vec<usize> {
+    if m < 20_000 {
         let mut all: Vec<usize> = (1..=m).collect();
         random.shuffle(&mut all);
+        all.truncate(many);
         all
     } else {
-        // Shuffling all would be slow for the few names that are needed; they are spread from the top instead.
-        let stride = m / defined.max(1);
-        (0..defined).map(|k| m - k * stride).collect()
-    };
-    names.truncate(defined);
-    names.insert(0, 0);
-    names
+        // Shuffling all would be slow for the few that are needed; they are spread from the top instead.
+        let stride = m / many.max(1);
+        (0..many).map(|k| m - k * stride).collect()
+    }
 }
 
 /// Puts gates in another order and exchanges right sides.
@@ -196,6 +198,11 @@ fn arrange(random: &mut Random, gates: &mut [[u32; 3]]) {
         // Only the first gates go last: the hub of a star, the start of a chain.
         _ => gates.rotate_left(gates.len().min(2)),
     }
+    exchange_sides(random, gates);
+}
+
+/// Of some gates.
+pub fn exchange_sides(random: &mut Random, gates: &mut [[u32; 3]]) {
     for gate in gates {
         if random.once_in(2) {
             gate.swap(1, 2);

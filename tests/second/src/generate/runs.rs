@@ -117,4 +117,10 @@ impl Run {
             foretold: None,
         }
     }
+
+    /// A file and nothing to read beside it.
+    pub fn of(program: Program, file: &[u8]) -> Run {
+        let circuit = opened(program, Some(file)).ok().map(|(_, circuit, _)| circuit);
+        Run::new(program, Plan::File(file.to_vec()), Input::Closed, circuit)
+    }
 }

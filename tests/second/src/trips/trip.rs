@@ -29,7 +29,7 @@ pub struct Trip {
     /// What must come back: the shortest form of it.
     home: Vec<u8>,
     /// What was written last.
-    bytes: Vec<u8>,
+    pub bytes: Vec<u8>,
     held: Held,
     tail: Vec<u8>,
 }
@@ -37,6 +37,11 @@ pub struct Trip {
 impl Trip {
     pub fn new(seed: u64, number: u64) -> Trip {
         let [file, home] = generate::whole(seed, number);
+        Trip::of(number, file, home)
+    }
+
+    /// A file that sets out, and what must come back.
+    pub fn of(number: u64, file: Vec<u8>, home: Vec<u8>) -> Trip {
         let header = header(&file, Version::V19).expect("a well-formed file");
         Trip {
             number,
