@@ -8,6 +8,7 @@ mod cards;
 mod compare;
 mod coverage;
 mod desk;
+mod every_allowance;
 mod every_byte;
 mod examples;
 mod faults;
@@ -98,6 +99,7 @@ fn all(tally: &mut Tally, options: &Options, library: Option<&dyn Library>, prog
     run_ahead(begun, |begun| begun.finish(tally, options, library));
     coverage.report(tally);
     desk::run(tally, options, library);
+    every_allowance::run(tally, options.seed, library);
     cards::run(tally, options, library);
     if let Some(library) = library {
         every_byte::run(tally, library);
