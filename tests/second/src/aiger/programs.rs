@@ -45,18 +45,26 @@ impl Program {
         matches!(self, Program::Tracer | Program::Reporter | Program::Comparer)
     }
 
-    /// What it can tell of `plan.in`. 4 at 7 is not among it, since table 2 is too short before; nor is 11 where lines are
-    /// written or cards are, since what is lent for tables is too short before.
-    pub fn told_of_plan(self) -> Vec<Told> {
-        let own: &[Told] = match self {
+    /// What it can tell of `plan.in` as all programs do that read AIGER files. 4 at 7 is not among it, since table 2 is too
+    /// short before.
+    pub fn told_of_files(self) -> &'static [Told] {
+        match self {
+            Program::Filer => &[],
+            _ => OF_FILES,
+        }
+    }
+
+    /// What it can tell of `plan.in` beside that. 11 is not among it where lines are written or cards are, since what is
+    /// lent for tables is too short before.
+    pub fn told_of_plan(self) -> &'static [Told] {
+        match self {
             Program::Converter | Program::Reducer => &[(11, &[])],
             Program::Tracer => &[],
             Program::Reporter => &[(4, &[6])],
             Program::Comparer => &[(24, &[])],
-            Program::Filer => return OF_CARDS.to_vec(),
+            Program::Filer => OF_CARDS,
             Program::Carder => &[(15, &[0]), (19, &[0])],
-        };
-        [OF_FILES, own].concat()
+        }
     }
 
     /// What it can tell of standard input.

@@ -9,15 +9,17 @@ use std::collections::HashMap;
 /// Cases that each refusal must have at least.
 pub const PER_REFUSAL: u64 = 200;
 
-/// What each refusal must have at least: cases at each of its places if these are a few, and cases whose answer the
+/// What each refusal must have at least: cases, cases at each of its places if these are a few, and cases whose answer the
 /// generator knew.
 #[derive(Clone, Copy)]
 pub struct Needed {
+    pub per_refusal: u64,
     pub per_place: u64,
     pub foretold: u64,
 }
 
 pub const OF_CALLS: Needed = Needed {
+    per_refusal: PER_REFUSAL,
     per_place: PER_REFUSAL,
     foretold: PER_REFUSAL,
 };
@@ -55,6 +57,12 @@ impl Answered {
 
     /// Prints the summary and counts what was missed.
     pub fn report(&self, tally: &mut Tally, name: &str, told: &[Told], needed: Needed) {
+        self.report_accepted(tally, name);
+        self.report_refused(tally, name, told, needed);
+    }
+
+    /// At least a quarter of the cases are accepted, and have gates.
+    pub fn report_accepted(&self, tally: &mut Tally, name: &str) {
         println!(
             "{name}: {} cases, accepted {} ({} with A > 0)",
             self.cases, self.accepted, self.with_gates
@@ -63,26 +71,24 @@ impl Answered {
             &format!("{name}, accepted with A > 0"),
             at_least(self.with_gates, self.cases.div_ceil(4)),
         );
-        for (number, places) in told {
-            self.report_refusal(tally, name, (*number, places), needed.per_place);
-            let count = self.foretold.get(number).copied().unwrap_or(0);
-            let name = format!("{name}, refusal {number} foretold");
-            tally.check(&name, at_least(count, needed.foretold));
-        }
     }
 
-    fn report_refusal(&self, tally: &mut Tally, name: &str, (number, places): Told, per_place: u64) {
-        let all = self.refused(number);
-        let at = |&place: &u64| self.refused.get(&(number, place)).copied().unwrap_or(0);
-        let told: Vec<String> = places
-            .iter()
-            .map(|place| format!(", at {place}: {}", at(place)))
-            .collect();
-        println!("{name}: refused by {number}: {all}{}", told.concat());
-        let name = format!("{name}, refusal {number}");
-        tally.check(&name, at_least(all, PER_REFUSAL));
-        for place in places {
-            tally.check(&format!("{name} at {place}"), at_least(at(place), per_place));
+    pub fn report_refused(&self, tally: &mut Tally, name: &str, told: &[Told], needed: Needed) {
+        for (number, places) in told {
+            let all = self.refused(*number);
+            let at = |place: u64| self.refused.get(&(*number, place)).copied().unwrap_or(0);
+            let by_place: Vec<String> = places
+                .iter()
+                .map(|&place| format!(", at {place}: {}", at(place)))
+                .collect();
+            println!("{name}: refused by {number}: {all}{}", by_place.concat());
+            let name = format!("{name}, refusal {number}");
+            tally.check(&name, at_least(all, needed.per_refusal));
+            for &place in *places {
+                tally.check(&format!("{name} at {place}"), at_least(at(place), needed.per_place));
+            }
+            let foretold = self.foretold.get(number).copied().unwrap_or(0);
+            tally.check(&format!("{name} foretold"), at_least(foretold, needed.foretold));
         }
     }
 }

@@ -5,7 +5,6 @@ use super::at_least;
 use crate::aiger::programs::{Program, LENT, LONGEST};
 use crate::aiger::{read, Form, Refusal, Version};
 use crate::generate::runs::Run;
-use crate::library::Told;
 use crate::tally::Tally;
 
 /// Each kind of run must have at least so many.
@@ -13,8 +12,15 @@ const PER_KIND: u64 = 10;
 
 /// The places of a refusal share its runs. Most files are made as for a reader, whose cases are foretold.
 const OF_PROGRAMS: Needed = Needed {
+    per_refusal: PER_REFUSAL,
     per_place: PER_REFUSAL / 8,
     foretold: 0,
+};
+
+/// What is told of AIGER files is told as often by all programs together, and by each so often.
+const SHARED: Needed = Needed {
+    per_refusal: PER_REFUSAL / 4,
+    ..OF_PROGRAMS
 };
 
 /// A run of so many lines has many.
@@ -61,15 +67,20 @@ impl RunCoverage {
         for program in Program::ALL {
             self.report_program(tally, program);
         }
+        for (number, _) in Program::Converter.told_of_files() {
+            let count = self.answered.iter().map(|answered| answered.refused(*number)).sum();
+            tally.check(&format!("programs, refusal {number}"), at_least(count, PER_REFUSAL));
+        }
         println!("refused by 4 at 5 after reading: {}", self.after_reading);
-        tally.check("4 at 5 after reading", at_least(self.after_reading, PER_REFUSAL));
+        tally.check("4 at 5 after reading", at_least(self.after_reading, PER_REFUSAL / 4));
     }
 
     fn report_program(&self, tally: &mut Tally, program: Program) {
         let name = program.name();
         let answered = &self.answered[program as usize];
-        let told: Vec<Told> = [program.told_of_plan().as_slice(), program.told_of_input()].concat();
-        answered.report(tally, name, &told, OF_PROGRAMS);
+        answered.report_accepted(tally, name);
+        answered.report_refused(tally, name, program.told_of_files(), SHARED);
+        answered.report_refused(tally, name, program.told_of_plan(), OF_PROGRAMS);
         if program != Program::Filer {
             for (form, count) in [Form::Text, Form::Binary].into_iter().zip(self.forms[program as usize]) {
                 println!("{name}: accepted, {form:?}: {count}");
@@ -114,9 +125,11 @@ impl Traces {
     fn report(&self, tally: &mut Tally, program: Program) {
         let name = program.name();
         for &(number, _) in program.told_of_input() {
-            let (count, half) = (self.answered.refused(number), PER_REFUSAL / 2);
+            let count = self.answered.refused(number);
+            // The others are told of plans too.
+            let needed = if number == 12 { PER_REFUSAL } else { PER_REFUSAL / 2 };
             println!("{name}: standard input refused by {number}: {count}");
-            tally.check(&format!("{name}, standard input, {number}"), at_least(count, half));
+            tally.check(&format!("{name}, standard input, {number}"), at_least(count, needed));
         }
         let mut kinds = vec![
             ("without lines", self.without_lines),

@@ -144,6 +144,11 @@ fn damage(random: &mut Random, turn: Turn, circuit: &Circuit, cards: &mut Cards)
         Turn::Disagreeing => disagreeing(random, cards),
         Turn::Range(table) => ranged(random, circuit, cards, table)?,
         Turn::Order => ordered(random, circuit, cards)?,
+        Turn::MarkAndLength => {
+            marked(random, cards, 0)?;
+            let k = random.between(2, 4);
+            lengthened(random, cards, k)?
+        }
         Turn::MarkAndCount => {
             marked(random, cards, 0)?;
             counted(random, cards, 0);

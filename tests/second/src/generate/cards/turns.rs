@@ -19,6 +19,8 @@ pub enum Turn {
     /// The least table with a literal out of range.
     Range(u64),
     Order,
+    /// 1 comes before 18.
+    MarkAndLength,
     MarkAndCount,
     RangeAndOrder,
 }
@@ -31,7 +33,7 @@ pub fn round() -> Vec<Turn> {
     let marks = [0, 1, 2, 3].map(Mark);
     let counts = [TooLarge(0), TooLarge(1), Disagreeing];
     let literals = [Range(2), Range(3), Range(4), Order];
-    let twice = [MarkAndCount, RangeAndOrder];
+    let twice = [MarkAndLength, MarkAndCount, RangeAndOrder];
     let mut round = [&short[..], &lengths, &marks, &counts, &literals, &twice].concat();
     round.extend(vec![Nothing; round.len() / 2 + 1]);
     round
@@ -43,7 +45,7 @@ impl Turn {
         use Turn::*;
         match self {
             Nothing => None,
-            OneByteLess | OneByteMore | OtherLength | Counts(_) => Some(1),
+            OneByteLess | OneByteMore | OtherLength | Counts(_) | MarkAndLength => Some(1),
             TooLarge(_) => Some(2),
             Disagreeing => Some(3),
             Short(_) => Some(4),

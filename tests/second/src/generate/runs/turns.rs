@@ -15,19 +15,21 @@ pub enum Turn {
     Any,
 }
 
-/// So many turns of a round each refusal has at least, at all of its places.
+/// So many turns of a round each refusal has, at all of its places; those that the programs share fewer of each program.
 const TURNS: usize = 8;
+const SHARED: usize = 2;
 
 /// The turns of a program, one after another: somewhat less than a third is accepted.
 pub fn round(program: Program) -> Vec<Turn> {
-    let input = program.told_of_input();
-    let also = |number: u64| input.iter().any(|told| told.0 == number);
     let mut round = Vec::new();
-    for (number, places) in program.told_of_plan() {
-        let turns = if also(number) { TURNS / 2 } else { TURNS };
-        round.extend(ways(number, places).take(turns));
+    for (number, places) in program.told_of_files() {
+        round.extend(ways(*number, places).take(SHARED.max(places.len())));
     }
-    for &(number, _) in input {
+    for (number, places) in program.told_of_plan() {
+        round.extend(ways(*number, places).take(TURNS));
+    }
+    for &(number, _) in program.told_of_input() {
+        // The others are told of plans too.
         let turns = if number == 12 { TURNS } else { TURNS / 2 };
         round.extend(vec![Turn::Input(number); turns]);
     }
@@ -60,7 +62,8 @@ impl Turn {
             Turn::Input(number) => run.circuit.is_some() && told.is_some_and(|told| told.number == number),
             Turn::Plan(number, place) => {
                 let placed = |told: &Told| told.0 == number && !told.1.is_empty();
-                let placed = run.program.told_of_plan().iter().any(placed);
+                let told_of = [run.program.told_of_files(), run.program.told_of_plan()];
+                let placed = told_of.into_iter().flatten().any(placed);
                 let met = told.is_some_and(|told| told.number == number && (!placed || told.place == place));
                 // These come after the plan is read.
                 met && (run.circuit.is_none() || matches!(number, 11 | 15 | 19))
