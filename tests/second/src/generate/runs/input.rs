@@ -44,7 +44,7 @@ fn lines(random: &mut Random, circuit: &Circuit) -> Vec<u8> {
     let (i, o) = (circuit.inputs.len(), circuit.outputs.len());
     let (l, a) = (circuit.latches.len(), circuit.gates.len());
     let most = (LONGEST / (i + 1)).min(WORK / (2 * l + i + o + a + 4));
-    let number = if random.once_in(25) {
+    let number = if random.once_in(10) {
         most
     } else {
         random.below(most.min(12) + 1)
