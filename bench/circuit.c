@@ -6,7 +6,7 @@
 #include <string.h>
 #include <sys/mman.h>
 
-void give_up(const char *why) {
+_Noreturn void give_up(const char *why) {
     fprintf(stderr, "bench: %s\n", why);
     exit(1);
 }

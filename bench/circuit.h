@@ -15,7 +15,7 @@ struct circuit {
     size_t length[CIRCUIT];
 };
 
-void give_up(const char *why);
+_Noreturn void give_up(const char *why);
 
 /* Memory that is zero; both sides of every comparison work in it. */
 void *room(size_t bytes);

@@ -91,28 +91,32 @@ static void write_file(struct circuit c, struct scratch s, writer *write, size_t
     spill(to, out, answer[2]);
 }
 
-static void by_desk(const uint8_t *file, size_t length, const char *to) {
+typedef void changer(const uint64_t *counts, GOLVANZO_GIVEN, GOLVANZO_WRITTEN, GOLVANZO_SCRATCH, uint64_t *answer);
+
+/* The changed circuit in binary form. */
+static void change_file(const uint8_t *file, size_t length, changer *change, const char *to) {
     struct scratch s = scratch_for(file, length);
     struct circuit c = read_file(file, length, s), made = lent_circuit(file, length);
     uint64_t answer[2 + COUNTS];
-    golvanzo_reduce(c.counts, TABLES(c), TABLES(made), s.at, s.length, answer);
+    change(c.counts, TABLES(c), TABLES(made), s.at, s.length, answer);
+    if (answer[0] != 0)
+        give_up("the desk refuses the circuit");
     memcpy(made.counts, answer + 2, sizeof made.counts);
     write_file(made, s, golvanzo_write_binary, longest(made.counts), to);
+}
+
+static void by_desk(const uint8_t *file, size_t length, const char *to) {
+    change_file(file, length, golvanzo_reduce, to);
+}
+
+static void to_binary(const uint8_t *file, size_t length, const char *to) {
+    change_file(file, length, golvanzo_convert, to);
 }
 
 static void to_text(const uint8_t *file, size_t length, const char *to) {
     struct scratch s = scratch_for(file, length);
     struct circuit c = read_file(file, length, s);
     write_file(c, s, golvanzo_write_text, longest_text(c.counts), to);
-}
-
-static void to_binary(const uint8_t *file, size_t length, const char *to) {
-    struct scratch s = scratch_for(file, length);
-    struct circuit c = read_file(file, length, s), made = lent_circuit(file, length);
-    uint64_t answer[2 + COUNTS];
-    golvanzo_convert(c.counts, TABLES(c), TABLES(made), s.at, s.length, answer);
-    memcpy(made.counts, answer + 2, sizeof made.counts);
-    write_file(made, s, golvanzo_write_binary, longest(made.counts), to);
 }
 
 static void by_base(const uint8_t *file, size_t length, const char *to) {

@@ -627,28 +627,37 @@ static void no_edits(void) {
     expect(memcmp(values.at, "????????", values.length) == 0, "the values stay", "rewire");
 }
 
-static void refused(struct bytes file, uint64_t number, uint64_t place, const char *what) {
-    struct circuit c = read_alone(file);
-    expect(c.answer[0] == number && c.answer[1] == place, what, "read");
-    expect(c.tail == file.length, "after a refusal the tail is empty", what);
-    for (int t = 0; t < TABLES; t++)
-        expect(all_zero(c.table[t], c.words[t]), "after a refusal every table is zero", what);
-}
+/* A file, the number and the place of its refusal. */
+static const struct refused {
+    const char *file;
+    size_t length;
+    uint64_t number, place;
+} refused_files[] = {
+#define REFUSED(file, number, place) {file, sizeof file - 1, number, place}
+    REFUSED("aag 0 0 0 0 0", 1, 13),
+    REFUSED("", 1, 0),
+    REFUSED("aag 1048576 0 0 0 0\n", 2, 4),
+    REFUSED("aag 1 1 1 0 0\n", 3, 0),
+    REFUSED("aag 1 1 0 1 0\n2\n4\n", 5, 16),
+    REFUSED("aag 1 0 1 0 0\n2 3 3\n", 5, 18),
+    REFUSED("aag 2 2 0 0 0\n2\n2\n", 6, 16),
+    REFUSED("aag 2 1 0 1 0\n2\n4\n", 7, 2),
+    REFUSED("aag 2 0 0 0 2\n2 4 1\n4 2 1\n", 8, 1),
+    REFUSED("aig 1 0 0 0 1\n\x02\x01", 9, 15),
+    REFUSED("aag 1 1 0 1 0\n2\n2\ni1 p\n", 10, 18),
+    REFUSED("aig 1 0 0 0 1\n\x82\x00", 16, 14),
+    REFUSED("aag 0 0 0 0 0 0 0 1\n", 21, 18),
+};
 
 static void refusals(void) {
-    refused(FILE_OF("aag 0 0 0 0 0"), 1, 13, "1 at 13");
-    refused(FILE_OF(""), 1, 0, "1 at 0");
-    refused(FILE_OF("aag 1048576 0 0 0 0\n"), 2, 4, "2 at 4");
-    refused(FILE_OF("aag 1 1 1 0 0\n"), 3, 0, "3 at 0");
-    refused(FILE_OF("aag 1 1 0 1 0\n2\n4\n"), 5, 16, "5 at 16");
-    refused(FILE_OF("aag 2 2 0 0 0\n2\n2\n"), 6, 16, "6 at 16");
-    refused(FILE_OF("aag 2 1 0 1 0\n2\n4\n"), 7, 2, "7 at 2");
-    refused(FILE_OF("aag 2 0 0 0 2\n2 4 1\n4 2 1\n"), 8, 1, "8 at 1");
-    refused(FILE_OF("aig 1 0 0 0 1\n\x02\x01"), 9, 15, "9 at 15");
-    refused(FILE_OF("aag 1 1 0 1 0\n2\n2\ni1 p\n"), 10, 18, "10 at 18");
-    refused(FILE_OF("aig 1 0 0 0 1\n\x82\x00"), 16, 14, "16 at 14");
-    refused(FILE_OF("aag 1 0 1 0 0\n2 3 3\n"), 5, 18, "5 at a reset");
-    refused(FILE_OF("aag 0 0 0 0 0 0 0 1\n"), 21, 18, "21 at 18");
+    for (size_t k = 0; k < sizeof refused_files / sizeof refused_files[0]; k++) {
+        const struct refused *r = &refused_files[k];
+        struct circuit c = read_alone(bytes_of(r->file, r->length));
+        expect(c.answer[0] == r->number && c.answer[1] == r->place, "the number and the place", r->file);
+        expect(c.tail == r->length, "after a refusal the tail is empty", r->file);
+        for (int t = 0; t < TABLES; t++)
+            expect(all_zero(c.table[t], c.words[t]), "after a refusal every table is zero", r->file);
+    }
 }
 
 /* Refusals of calls on tables: too short a table, buffer and vector, and no binary order. */

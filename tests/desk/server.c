@@ -39,36 +39,47 @@ static void call_words(void) {
     free(file.bytes);
 }
 
+/* The tables of a reader, by number, and its answer. */
+struct tables {
+    struct memory table[TABLES], answer;
+};
+
+static struct tables get_tables(void) {
+    struct tables tables;
+    for (int k = 0; k < TABLES; k++)
+        tables.table[k] = get_table();
+    tables.answer = get_numbers();
+    return tables;
+}
+
+static void put_tables(struct tables tables) {
+    put_all(tables.table, TABLES);
+    put_memory(tables.answer);
+}
+
+/* Tables 1 to 4, 7 to 9, scratch and the answer, as a reader takes them. */
+#define LENT_BY_NUMBER(t)                                                                                              \
+    LENT((t).table[0]), LENT((t).table[1]), LENT((t).table[2]), LENT((t).table[3]), LENT((t).table[5]),                \
+        LENT((t).table[6]), LENT((t).table[7]), LENT((t).table[4]), (t).answer.lent
+
 typedef uint64_t reader(const uint8_t *, size_t, uint32_t *, size_t, uint32_t *, size_t, uint32_t *, size_t, uint32_t *,
                         size_t, uint32_t *, size_t, uint32_t *, size_t, uint32_t *, size_t, uint32_t *, size_t,
                         uint64_t *);
 
 static void call_read(reader *read) {
     struct file file = get_file();
-    struct memory t[TABLES];
-    for (int k = 0; k < TABLES; k++)
-        t[k] = get_table();
-    struct memory answer = get_numbers();
-    uint64_t tail = read(file.bytes, file.length, LENT(t[0]), LENT(t[1]), LENT(t[2]), LENT(t[3]), LENT(t[5]),
-                         LENT(t[6]), LENT(t[7]), LENT(t[4]), answer.lent);
-    for (int k = 0; k < TABLES; k++)
-        put_memory(t[k]);
-    put_memory(answer);
+    struct tables tables = get_tables();
+    uint64_t tail = read(file.bytes, file.length, LENT_BY_NUMBER(tables));
+    put_tables(tables);
     put_number(tail);
     free(file.bytes);
 }
 
 static void call_read_cards(void) {
     struct file file = get_file();
-    struct memory t[TABLES];
-    for (int k = 0; k < TABLES; k++)
-        t[k] = get_table();
-    struct memory answer = get_numbers();
-    golvanzo_read_cards(file.bytes, file.length, LENT(t[0]), LENT(t[1]), LENT(t[2]), LENT(t[3]), LENT(t[5]), LENT(t[6]),
-                        LENT(t[7]), LENT(t[4]), answer.lent);
-    for (int k = 0; k < TABLES; k++)
-        put_memory(t[k]);
-    put_memory(answer);
+    struct tables tables = get_tables();
+    golvanzo_read_cards(file.bytes, file.length, LENT_BY_NUMBER(tables));
+    put_tables(tables);
     free(file.bytes);
 }
 
@@ -76,8 +87,7 @@ static void call_check(void) {
     struct given given = get_given();
     struct memory answer = get_numbers();
     golvanzo_check(CIRCUIT_OF(given), LENT(given.scratch), answer.lent);
-    put_given(given);
-    put_memory(answer);
+    REPLY(given, answer);
 }
 
 typedef void writer(const uint64_t *, GOLVANZO_GIVEN, GOLVANZO_SCRATCH, const uint8_t *, size_t, uint8_t *, size_t,
@@ -87,10 +97,7 @@ static void call_write(writer *write) {
     struct given given = get_given();
     struct memory tail = get_vector(), out = get_vector(), answer = get_numbers();
     write(CIRCUIT_OF(given), LENT(given.scratch), LENT(tail), LENT(out), answer.lent);
-    put_given(given);
-    put_memory(tail);
-    put_memory(out);
-    put_memory(answer);
+    REPLY(given, tail, out, answer);
 }
 
 typedef void change(const uint64_t *, GOLVANZO_GIVEN, GOLVANZO_WRITTEN, GOLVANZO_SCRATCH, uint64_t *);
@@ -103,8 +110,7 @@ static void call_change(change *change) {
     struct memory answer = get_numbers();
     change(CIRCUIT_OF(given), LENT_ALL(w), LENT(given.scratch), answer.lent);
     put_given(given);
-    for (int k = 0; k < CIRCUIT; k++)
-        put_memory(w[k]);
+    put_all(w, CIRCUIT);
     put_memory(answer);
 }
 
@@ -115,11 +121,7 @@ static void call_step(stepper *step) {
     struct given given = get_given();
     struct memory state = get_vector(), ins = get_vector(), outs = get_vector(), answer = get_numbers();
     step(CIRCUIT_OF(given), LENT(given.scratch), LENT(state), LENT(ins), LENT(outs), answer.lent);
-    put_given(given);
-    put_memory(state);
-    put_memory(ins);
-    put_memory(outs);
-    put_memory(answer);
+    REPLY(given, state, ins, outs, answer);
 }
 
 static void call_witness(void) {
@@ -127,9 +129,7 @@ static void call_witness(void) {
     uint64_t number = get_number(), allowance = get_number();
     struct memory list = get_vector(), answer = get_numbers();
     golvanzo_witness(CIRCUIT_OF(given), LENT(given.scratch), number, LENT(list), allowance, answer.lent);
-    put_given(given);
-    put_memory(list);
-    put_memory(answer);
+    REPLY(given, list, answer);
 }
 
 static void call_witness3(void) {
@@ -137,9 +137,7 @@ static void call_witness3(void) {
     uint64_t number = get_number();
     struct memory list = get_vector(), answer = get_numbers();
     golvanzo_witness3(CIRCUIT_OF(given), LENT(given.scratch), number, LENT(list), answer.lent);
-    put_given(given);
-    put_memory(list);
-    put_memory(answer);
+    REPLY(given, list, answer);
 }
 
 typedef void report(const uint64_t *, GOLVANZO_GIVEN, GOLVANZO_SCRATCH, uint64_t, const uint8_t *, size_t, uint32_t *,
@@ -151,10 +149,7 @@ static void call_report(report *tell) {
     uint64_t number = get_number();
     struct memory list = get_vector(), answer = get_numbers();
     tell(CIRCUIT_OF(given), LENT(given.scratch), number, LENT(list), LENT(report), answer.lent);
-    put_given(given);
-    put_memory(report);
-    put_memory(list);
-    put_memory(answer);
+    REPLY(given, report, list, answer);
 }
 
 static void call_rows(void) {
@@ -162,11 +157,7 @@ static void call_rows(void) {
     uint64_t rows = get_number();
     struct memory nexts = get_vector(), ins = get_vector(), outs = get_vector(), answer = get_numbers();
     golvanzo_rows(CIRCUIT_OF(given), LENT(given.scratch), rows, LENT(nexts), LENT(ins), LENT(outs), answer.lent);
-    put_given(given);
-    put_memory(nexts);
-    put_memory(ins);
-    put_memory(outs);
-    put_memory(answer);
+    REPLY(given, nexts, ins, outs, answer);
 }
 
 static void call_explain(void) {
@@ -174,95 +165,56 @@ static void call_explain(void) {
     uint64_t output = get_number();
     struct memory state = get_vector(), ins = get_vector(), marks = get_vector(), answer = get_numbers();
     golvanzo_explain(CIRCUIT_OF(given), LENT(given.scratch), LENT(state), LENT(ins), output, LENT(marks), answer.lent);
-    put_given(given);
-    put_memory(state);
-    put_memory(ins);
-    put_memory(marks);
-    put_memory(answer);
+    REPLY(given, state, ins, marks, answer);
 }
 
 static void call_rewire(void) {
     struct given given = get_given();
     uint64_t gate = get_number();
-    uint32_t rhs0 = get_number(), rhs1 = get_number();
+    uint32_t rhs0 = (uint32_t)get_number(), rhs1 = (uint32_t)get_number();
     struct memory values = get_vector(), answer = get_numbers();
     golvanzo_rewire(CIRCUIT_OF(given), LENT(given.scratch), gate, rhs0, rhs1, LENT(values), answer.lent);
-    put_given(given);
-    put_memory(values);
-    put_memory(answer);
+    REPLY(given, values, answer);
+}
+
+static void send_replies(void) {
+    if (fflush(stdout) != 0)
+        give_up("replies can't be sent");
+}
+
+/* A line for each call of the table above. */
+static void serve(uint32_t call) {
+    switch (call) {
+    /* clang-format off */
+    case 0: send_replies(); break;
+    case 1: call_words(); break;
+    case 2: call_read(golvanzo_read); break;
+    case 3: call_check(); break;
+    case 4: call_write(golvanzo_write_text); break;
+    case 5: call_write(golvanzo_write_binary); break;
+    case 6: call_change(golvanzo_convert); break;
+    case 7: call_change(golvanzo_reduce); break;
+    case 8: call_step(golvanzo_step); break;
+    case 9: call_witness(); break;
+    case 10: call_read(golvanzo_read2007); break;
+    case 11: call_change(golvanzo_drop); break;
+    case 12: call_report(golvanzo_report); break;
+    case 13: call_witness3(); break;
+    case 14: call_rows(); break;
+    case 15: call_report(golvanzo_report_rows); break;
+    case 16: call_explain(); break;
+    case 17: call_step(golvanzo_step_plain); break;
+    case 18: call_rewire(); break;
+    case 19: call_read_cards(); break;
+    case 20: call_write(golvanzo_write_cards); break;
+    default: give_up("no such call");
+    /* clang-format on */
+    }
 }
 
 int main(void) {
     uint32_t call;
-    while (fread(&call, sizeof call, 1, stdin) == 1) {
-        switch (call) {
-        case 0:
-            if (fflush(stdout) != 0)
-                give_up("replies can't be sent");
-            break;
-        case 1:
-            call_words();
-            break;
-        case 2:
-            call_read(golvanzo_read);
-            break;
-        case 3:
-            call_check();
-            break;
-        case 4:
-            call_write(golvanzo_write_text);
-            break;
-        case 5:
-            call_write(golvanzo_write_binary);
-            break;
-        case 6:
-            call_change(golvanzo_convert);
-            break;
-        case 7:
-            call_change(golvanzo_reduce);
-            break;
-        case 8:
-            call_step(golvanzo_step);
-            break;
-        case 9:
-            call_witness();
-            break;
-        case 10:
-            call_read(golvanzo_read2007);
-            break;
-        case 11:
-            call_change(golvanzo_drop);
-            break;
-        case 12:
-            call_report(golvanzo_report);
-            break;
-        case 13:
-            call_witness3();
-            break;
-        case 14:
-            call_rows();
-            break;
-        case 15:
-            call_report(golvanzo_report_rows);
-            break;
-        case 16:
-            call_explain();
-            break;
-        case 17:
-            call_step(golvanzo_step_plain);
-            break;
-        case 18:
-            call_rewire();
-            break;
-        case 19:
-            call_read_cards();
-            break;
-        case 20:
-            call_write(golvanzo_write_cards);
-            break;
-        default:
-            give_up("no such call");
-        }
-    }
+    while (fread(&call, sizeof call, 1, stdin) == 1)
+        serve(call);
     return 0;
 }

@@ -106,11 +106,23 @@ static struct given get_given(void) {
     return given;
 }
 
+static void put_all(const struct memory *memory, int number) {
+    for (int k = 0; k < number; k++)
+        put_memory(memory[k]);
+}
+
 static void put_given(struct given given) {
     put_memory(given.counts);
-    for (int k = 0; k < CIRCUIT; k++)
-        put_memory(given.table[k]);
+    put_all(given.table, CIRCUIT);
     put_memory(given.scratch);
 }
+
+/* The reply of a call on tables: what is given, and then what else is lent. */
+#define REPLY(given, ...)                                                                                              \
+    do {                                                                                                               \
+        const struct memory lent_too[] = {__VA_ARGS__};                                                                \
+        put_given(given);                                                                                              \
+        put_all(lent_too, sizeof lent_too / sizeof lent_too[0]);                                                       \
+    } while (0)
 
 #endif
