@@ -12,7 +12,7 @@
 enum { DONE = 0, REFUSED = 1, DIFFERENT = 1, FAILED = 2 };
 
 /* The paper's numbers that the command itself says, as the programs do: their places are the paper's too. */
-enum { WRONG_BYTE = 1, BAD_VECTOR = 12, UNREADABLE = 14, NOT_EXPLAINED = 17, MANY_X = 20 };
+enum { WRONG_BYTE = 1, BAD_VECTOR = 12, MANY_VECTORS = 13, UNREADABLE = 14, NOT_EXPLAINED = 17, MANY_X = 20 };
 
 /* A file as it was read, with the name that people know it by. */
 struct source {
@@ -29,7 +29,10 @@ struct request {
     int vcd, large, names, three, count;
 };
 
-/* files.c. `read_source` says itself why a file can't be read, as 14. */
+/* files.c. What is opened must not take the place of standard input, output or error where one of these is closed. */
+void keep_standard_files(void);
+
+/* It says itself why a file can't be read, as 14. */
 int read_source(const char *name, struct source *source);
 void free_source(struct source *source);
 
@@ -68,11 +71,18 @@ struct vectors {
 int read_vectors(const struct request *request, uint64_t inputs, struct vectors *vectors);
 const uint8_t *vector(const struct vectors *vectors, uint64_t inputs, uint64_t k);
 
-/* The same as a list without the ends of lines, as the library takes it, and the plan in binary order: all refusals of the plan
-   come before the vectors are read. */
-int read_list(const struct request *request, const struct source *file, struct plan *plan, struct vectors *vectors,
-              uint8_t **list);
-void free_list(struct vectors *vectors, uint8_t *list);
+/* The same as a list without the ends of lines, as the library takes it; `file` is its name. */
+struct list {
+    const char *file;
+    uint64_t number;
+    uint8_t *at;
+    size_t length;
+};
+
+/* A verb that takes the plan in binary order and a list: all refusals of the plan come before the vectors are read. */
+typedef int list_verb(const struct request *request, const struct source *file, struct plan *plan,
+                      const struct list *list);
+int with_list(const struct request *request, const struct source *file, struct plan *plan, list_verb *verb);
 
 /* trace.c: a step's line. */
 void print_line(FILE *to, const struct plan *plan, const uint8_t *state, const uint8_t *inputs, const uint8_t *outputs,

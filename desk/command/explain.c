@@ -69,11 +69,12 @@ static void print_asked(const struct plan *plan, const struct names *names, cons
 /* 17 in words: the library says that there is no such output, or that it is x. */
 static int say_not_explained(const struct request *request, const struct plan *plan, const struct source *file,
                              struct plan_end end) {
-    say_number(file->name, end);
     if (end.place == 1)
-        say_more("there is no output \"%s\": the plan has %llu", request->output, (ull)plan->counts[PLAN_O]);
+        say_refused_of(file->name, end, "there is no output \"%s\": the plan has %llu, counted from 0", request->output,
+                       (ull)plan->counts[PLAN_O]);
     else
-        say_more("output \"%s\" is x at step %s, and only 0 and 1 are explained", request->output, request->step);
+        say_refused_of(file->name, end, "output \"%s\" is x at step %s, and only 0 and 1 are explained", request->output,
+                       request->step);
     return REFUSED;
 }
 

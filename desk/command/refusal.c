@@ -76,6 +76,20 @@ static void say_expected(const struct refusal *r, const char *where, const char 
     size_t place = (size_t)r->end.place;
     say_refused(&r->scan, r->end, (struct spot){place, 1}, "in %s %s must stand here, not %s", where, expected,
                 byte_name(r->scan.of, place));
+    say_line_ends(&r->scan, place);
+}
+
+/* The first four bytes are those of every file. */
+static void say_wrong_start(const struct refusal *r) {
+    const struct source *file = r->scan.of;
+    size_t place = (size_t)r->end.place;
+    if (file->length == 0)
+        say_refused_of(file->name, r->end, "the file is empty; a plan starts with \"aag \" or \"aig \"");
+    else
+        say_refused(&r->scan, r->end, (struct spot){place, 1}, "a file starts with \"aag \" or \"aig \"; here stands %s",
+                    byte_name(file, place));
+    if (file->length > 1 && memcmp(file->at, "PH", 2) == 0)
+        say_more("this looks like plan cards: \"plan file\" makes a plan of them");
 }
 
 static const char *which_difference(const struct difference *d) {
@@ -95,8 +109,7 @@ static void say_wrong_byte(const struct refusal *r) {
     struct difference d;
     struct row row;
     if (place < 4)
-        say_refused(scan, r->end, (struct spot){place, 1}, "a file starts with \"aag \" or \"aig \"; here stands %s",
-                    byte_name(scan->of, place));
+        say_wrong_start(r);
     else if (place <= scan->header)
         say_expected(r, "the header", expected_number(scan, HEADER, 4, place));
     else if (row_at(scan, place, &row))

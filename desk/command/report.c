@@ -2,6 +2,7 @@
 #include <stdlib.h>
 
 #include "command.h"
+#include "say.h"
 #include "symbols.h"
 
 /* A letter, a position and the words of one row; and the name, where names are asked and the entry has one. */
@@ -33,21 +34,26 @@ static int print_report(const struct request *request, const struct plan *plan, 
     return status;
 }
 
-int run_report(const struct request *request, const struct source *file, struct plan *plan) {
-    struct vectors vectors;
-    uint8_t *list;
-    int status = read_list(request, file, plan, &vectors, &list);
-    if (status != DONE)
-        return status;
-    const uint64_t *n = plan->counts;
-    uint32_t *report = malloc(4 * (n[PLAN_O] + n[PLAN_L]) * sizeof *report + 1);
+static int report_ended(struct plan_end end, const struct source *file, const struct list *list) {
+    if (end.number != MANY_VECTORS)
+        return ended(end, file);
+    say_refused_of(list->file, end, "there are %llu vectors, and a report takes %llu at most",
+                   (unsigned long long)list->number, (unsigned long long)end.place);
+    return REFUSED;
+}
+
+static int tell_report(const struct request *request, const struct source *file, struct plan *plan,
+                       const struct list *list) {
+    uint32_t *report = malloc(4 * (plan->counts[PLAN_O] + plan->counts[PLAN_L]) * sizeof *report + 1);
     if (report == NULL)
-        status = no_memory();
-    else
-        status = ended(plan_report(plan, vectors.number, list, (size_t)(vectors.number * n[PLAN_I]), report), file);
+        return no_memory();
+    int status = report_ended(plan_report(plan, list->number, list->at, list->length, report), file, list);
     if (status == DONE)
         status = print_report(request, plan, report);
     free(report);
-    free_list(&vectors, list);
     return status;
+}
+
+int run_report(const struct request *request, const struct source *file, struct plan *plan) {
+    return with_list(request, file, plan, tell_report);
 }

@@ -22,28 +22,28 @@ static void free_rows(struct rows *rows) {
     free(rows->outputs);
 }
 
-static int print_rows(const struct request *request, const struct plan *plan, uint64_t number, const uint8_t *list,
+static int print_rows(const struct request *request, const struct plan *plan, const struct list *list,
                       const struct rows *rows) {
     const uint64_t *n = plan->counts;
     struct output output;
     int status = open_output(&output, request->out);
     if (status != DONE)
         return status;
-    for (uint64_t k = 0; k < number && !ferror(output.to); k++)
-        print_line(output.to, plan, rows->first, list + k * n[PLAN_I], rows->outputs + k * n[PLAN_O],
+    for (uint64_t k = 0; k < list->number && !ferror(output.to); k++)
+        print_line(output.to, plan, rows->first, list->at + k * n[PLAN_I], rows->outputs + k * n[PLAN_O],
                    rows->nexts + k * n[PLAN_L]);
     return close_output(&output);
 }
 
-static int step_rows(const struct request *request, const struct source *file, struct plan *plan, uint64_t number,
-                     const uint8_t *list) {
+static int step_rows(const struct request *request, const struct source *file, struct plan *plan,
+                     const struct list *list) {
     struct rows rows;
-    int status = lend_rows(plan, number, &rows) ? DONE : no_memory();
+    int status = lend_rows(plan, list->number, &rows) ? DONE : no_memory();
     if (status == DONE)
-        status = ended(plan_rows(plan, number, list, rows.nexts, rows.outputs), file);
+        status = ended(plan_rows(plan, list->number, list->at, rows.nexts, rows.outputs), file);
     if (status == DONE) {
         plan_first(plan, rows.first);
-        status = print_rows(request, plan, number, list, &rows);
+        status = print_rows(request, plan, list, &rows);
     }
     free_rows(&rows);
     return status;
@@ -60,10 +60,10 @@ static int print_counts(const struct request *request, const struct plan *plan, 
     return close_output(&output);
 }
 
-static int count_rows(const struct request *request, const struct source *file, struct plan *plan, uint64_t number,
-                      const uint8_t *list) {
+static int count_rows(const struct request *request, const struct source *file, struct plan *plan,
+                      const struct list *list) {
     uint64_t *report = malloc(3 * plan->counts[PLAN_O] * sizeof *report + 1);
-    int status = report == NULL ? no_memory() : ended(plan_report_rows(plan, number, list, report), file);
+    int status = report == NULL ? no_memory() : ended(plan_report_rows(plan, list->number, list->at, report), file);
     if (status == DONE)
         status = print_counts(request, plan, report);
     free(report);
@@ -71,13 +71,5 @@ static int count_rows(const struct request *request, const struct source *file, 
 }
 
 int run_rows(const struct request *request, const struct source *file, struct plan *plan) {
-    struct vectors vectors;
-    uint8_t *list;
-    int status = read_list(request, file, plan, &vectors, &list);
-    if (status != DONE)
-        return status;
-    status = request->count ? count_rows(request, file, plan, vectors.number, list)
-                            : step_rows(request, file, plan, vectors.number, list);
-    free_list(&vectors, list);
-    return status;
+    return with_list(request, file, plan, request->count ? count_rows : step_rows);
 }

@@ -17,7 +17,7 @@ struct side {
 };
 
 /* The tables in the order of a binary file: where an entry stands, how many words it has, what of it is said. */
-static const struct list {
+static const struct kind {
     enum section section;
     int table, count, words;
     const char *part;
@@ -30,7 +30,7 @@ static const struct list {
 
 /* An entry of a list; none if `list` is null. */
 struct place {
-    const struct list *list;
+    const struct kind *list;
     uint64_t entry;
 };
 
@@ -43,7 +43,7 @@ static int count_apart(const struct side *sides) {
 }
 
 /* The first entry of a list that differs, or the number of its entries. */
-static uint64_t entry_apart(const struct side *sides, const struct list *list) {
+static uint64_t entry_apart(const struct side *sides, const struct kind *list) {
     const uint32_t *a = sides[0].plan->table[list->table], *b = sides[1].plan->table[list->table];
     uint64_t k = 0, all = sides[0].plan->counts[list->count];
     size_t words = (size_t)list->words;
@@ -88,7 +88,7 @@ static void print_literal(const struct side *side, const struct scan *scan, uint
 
 /* An entry's last word is its value; a gate has two. */
 static void print_entry(const struct side *side, struct place place, FILE *to) {
-    const struct list *list = place.list;
+    const struct kind *list = place.list;
     const uint32_t *value = side->plan->table[list->table] + (size_t)list->words * (place.entry + 1) - 1;
     const struct scan scan = scan_of(side->file);
     fprintf(to, "%s%s %s ", list->part, entry_name(&scan, list->section, place.entry),

@@ -8,23 +8,42 @@
 
 enum { WIDE = 100, BEFORE = 60, GATE_BYTES = 16, GUTTER = 7 };
 
+/* The file of a folder that is said of in one line; null where there is room for more. */
+static const char *moving;
+
+void say_in_one_line(const char *file) {
+    moving = file;
+}
+
+/* Where it is said: lines about the files of a folder are what was asked for. */
+static FILE *told(void) {
+    return moving != NULL ? stdout : stderr;
+}
+
 /* Colours, only where people look at them. */
 enum tone { PLAIN, BOLD, RED, CYAN, GREEN };
 
 static const char *tone(enum tone which) {
     static const char *const codes[] = {"\33[0m", "\33[1m", "\33[1;31m", "\33[1;36m", "\33[1;32m"};
-    static int coloured = -1;
-    if (coloured < 0)
-        coloured = isatty(STDERR_FILENO) && getenv("NO_COLOR") == NULL;
-    return coloured ? codes[which] : "";
+    return isatty(fileno(told())) && getenv("NO_COLOR") == NULL ? codes[which] : "";
+}
+
+static void say_toned(enum tone which, const char *text) {
+    fprintf(told(), "%s%s: %s", tone(which), text, tone(PLAIN));
+}
+
+static void say_sentence(const char *format, va_list more) {
+    vfprintf(told(), format, more);
+    fputc('\n', told());
 }
 
 int fail(const char *format, ...) {
     va_list more;
     va_start(more, format);
-    fprintf(stderr, "%splan: %s", tone(BOLD), tone(PLAIN));
-    vfprintf(stderr, format, more);
-    fputc('\n', stderr);
+    say_toned(BOLD, moving != NULL ? moving : "plan");
+    if (moving != NULL)
+        fputs("not moved: ", told());
+    say_sentence(format, more);
     va_end(more);
     return FAILED;
 }
@@ -49,8 +68,18 @@ const char *byte_name(const struct source *source, size_t at) {
     if (at >= source->length)
         return "the end of the file";
     uint8_t b = source->at[at];
-    if (b == '\n' || b == ' ')
-        return b == ' ' ? "a space" : "a new line";
+    switch (b) {
+    case ' ':
+        return "a space";
+    case '\n':
+        return "a new line";
+    case '\r':
+        return "a carriage return";
+    case '\t':
+        return "a tab";
+    default:
+        break;
+    }
     snprintf(name, sizeof name, shown(b) == b ? "\"%c\"" : "byte %02X", b);
     return name;
 }
@@ -69,22 +98,22 @@ static size_t line_start(const struct scan *scan, size_t at) {
 }
 
 static void say_where(const struct scan *scan, size_t at) {
-    fputs(tone(BOLD), stderr);
+    fputs(tone(BOLD), told());
     if (past_lines(scan, at))
-        fprintf(stderr, "%s:byte %zu: ", scan->of->name, at);
+        fprintf(told(), "%s:byte %zu: ", scan->of->name, at);
     else
-        fprintf(stderr, "%s:%llu:%zu: ", scan->of->name, (unsigned long long)line_at(scan->of, at),
+        fprintf(told(), "%s:%llu:%zu: ", scan->of->name, (unsigned long long)line_at(scan->of, at),
                 at - line_start(scan, at) + 1);
-    fputs(tone(PLAIN), stderr);
+    fputs(tone(PLAIN), told());
 }
 
 /* The mark: under each of the bytes that are shown, `each` columns to a byte. */
 static void say_mark(size_t before, size_t width, size_t each) {
     size_t last = width == 0 ? 1 : width * each - (each > 1);
-    fprintf(stderr, "%*s | %*s%s", GUTTER, "", (int)(before * each), "", tone(GREEN));
+    fprintf(told(), "%*s | %*s%s", GUTTER, "", (int)(before * each), "", tone(GREEN));
     for (size_t k = 0; k < last; k++)
-        fputc(k == 0 ? '^' : '~', stderr);
-    fprintf(stderr, "%s\n", tone(PLAIN));
+        fputc(k == 0 ? '^' : '~', told());
+    fprintf(told(), "%s\n", tone(PLAIN));
 }
 
 /* The line, or that part of it about the place which fits. */
@@ -98,9 +127,9 @@ static void say_line(const struct scan *scan, struct spot spot) {
         from = spot.at - BEFORE;
     show_bytes(line, sizeof line, s->at + from, end - from);
     if (past_lines(scan, spot.at))
-        fprintf(stderr, "%*s | %s\n", GUTTER, "", line);
+        fprintf(told(), "%*s | %s\n", GUTTER, "", line);
     else
-        fprintf(stderr, "%*llu | %s\n", GUTTER, (unsigned long long)line_at(s, spot.at), line);
+        fprintf(told(), "%*llu | %s\n", GUTTER, (unsigned long long)line_at(s, spot.at), line);
     size_t before = spot.at - from, most = WIDE - before,
            width = end - spot.at < spot.width ? end - spot.at : spot.width;
     say_mark(before, width < most ? width : most, 1);
@@ -109,15 +138,17 @@ static void say_line(const struct scan *scan, struct spot spot) {
 /* Bytes of gates, in hexadecimal. */
 static void say_bytes(const struct scan *scan, struct spot spot) {
     size_t from = spot.at - scan->gates > GATE_BYTES / 2 ? spot.at - GATE_BYTES / 2 : scan->gates;
-    fprintf(stderr, "%*s |", GUTTER, "");
+    fprintf(told(), "%*s |", GUTTER, "");
     for (size_t k = from; k < scan->tail && k < from + GATE_BYTES; k++)
-        fprintf(stderr, " %02X", scan->of->at[k]);
-    fputc('\n', stderr);
+        fprintf(told(), " %02X", scan->of->at[k]);
+    fputc('\n', told());
     size_t most = from + GATE_BYTES - spot.at;
     say_mark(spot.at - from, spot.width < most ? spot.width : most, 3);
 }
 
 static void say_spot(const struct scan *scan, struct spot spot) {
+    if (moving != NULL)
+        return;
     if (past_lines(scan, spot.at) && (spot.at < scan->tail || scan->tail >= scan->of->length))
         say_bytes(scan, spot);
     else
@@ -125,7 +156,7 @@ static void say_spot(const struct scan *scan, struct spot spot) {
 }
 
 static void say_refusal(struct plan_end end) {
-    fprintf(stderr, "%srefused %llu at %llu%s", tone(RED), (unsigned long long)end.number,
+    fprintf(told(), "%srefused %llu at %llu%s", tone(RED), (unsigned long long)end.number,
             (unsigned long long)end.place, tone(PLAIN));
 }
 
@@ -134,48 +165,53 @@ void say_refused(const struct scan *scan, struct plan_end end, struct spot spot,
     va_start(more, format);
     say_where(scan, spot.at);
     say_refusal(end);
-    fputs(": ", stderr);
-    vfprintf(stderr, format, more);
-    fputc('\n', stderr);
-    va_end(more);
+    fputs(": ", told());
+    say_sentence(format, more);
     say_spot(scan, spot);
-}
-
-void say_note(const struct scan *scan, struct spot spot, const char *format, ...) {
-    va_list more;
-    va_start(more, format);
-    say_where(scan, spot.at);
-    fprintf(stderr, "%snote: %s", tone(CYAN), tone(PLAIN));
-    vfprintf(stderr, format, more);
-    fputc('\n', stderr);
     va_end(more);
-    say_spot(scan, spot);
-}
-
-void say_more(const char *format, ...) {
-    va_list more;
-    va_start(more, format);
-    fprintf(stderr, "%snote: %s", tone(CYAN), tone(PLAIN));
-    vfprintf(stderr, format, more);
-    fputc('\n', stderr);
-    va_end(more);
-}
-
-void say_number(const char *name, struct plan_end end) {
-    fprintf(stderr, "%s%s: %s", tone(BOLD), name, tone(PLAIN));
-    say_refusal(end);
-    fputc('\n', stderr);
 }
 
 void say_refused_of(const char *name, struct plan_end end, const char *format, ...) {
     va_list more;
     va_start(more, format);
-    fprintf(stderr, "%s%s: %s", tone(BOLD), name, tone(PLAIN));
+    say_toned(BOLD, name);
     say_refusal(end);
-    fputs(": ", stderr);
-    vfprintf(stderr, format, more);
-    fputc('\n', stderr);
+    fputs(": ", told());
+    say_sentence(format, more);
     va_end(more);
+}
+
+void say_note(const struct scan *scan, struct spot spot, const char *format, ...) {
+    va_list more;
+    if (moving != NULL)
+        return;
+    va_start(more, format);
+    say_where(scan, spot.at);
+    say_toned(CYAN, "note");
+    say_sentence(format, more);
+    say_spot(scan, spot);
+    va_end(more);
+}
+
+void say_more(const char *format, ...) {
+    va_list more;
+    if (moving != NULL)
+        return;
+    va_start(more, format);
+    say_toned(CYAN, "note");
+    say_sentence(format, more);
+    va_end(more);
+}
+
+void say_line_ends(const struct scan *scan, size_t at) {
+    const struct source *s = scan->of;
+    if (at + 1 < s->length && s->at[at] == '\r' && s->at[at + 1] == '\n')
+        say_more("lines end in CR LF here, as on Windows; a new line is LF alone%s",
+                 scan->binary ? "" : ": \"tr -d '\\r'\" takes the CR away");
+}
+
+void say_number(const char *name, struct plan_end end) {
+    say_refused_of(name, end, "docs/REFUSALS.md says what that means");
 }
 
 void say_unreadable(const char *name, const char *why) {

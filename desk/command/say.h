@@ -1,4 +1,5 @@
-/* What is said to people, on standard error: a place, a sentence, the line and a mark under the place. */
+/* What is said to people, on standard error: a place, a sentence, the line and a mark under the place. Of the files of a folder it is
+   said on standard output, the place and the sentence alone. */
 #ifndef SAY_H
 #define SAY_H
 
@@ -19,12 +20,18 @@ void say_note(const struct scan *scan, struct spot spot, const char *format, ...
 /* A note without a place. */
 void say_more(const char *format, ...) __attribute__((format(printf, 1, 2)));
 
-/* "file: refused N at P", where nothing more is to be said. */
+/* "file: refused N at P" and where to read on, for what the command has no sentence for. */
 void say_number(const char *name, struct plan_end end);
 
 /* "file: refused N at P: sentence", where the file has no place of it. */
 void say_refused_of(const char *name, struct plan_end end, const char *format, ...)
     __attribute__((format(printf, 3, 4)));
+
+/* From now on this file of a folder is gone through, and has one line; null: no folder is. */
+void say_in_one_line(const char *file);
+
+/* A note where the byte of a place belongs to an end of a line that is of another kind. */
+void say_line_ends(const struct scan *scan, size_t at);
 
 /* Refusal 14. */
 void say_unreadable(const char *name, const char *why);

@@ -171,7 +171,7 @@ const char *entry_name(const struct scan *scan, enum section section, uint64_t e
     char *to = kept[turn++ % TURNS];
     const char *noun = section == GATES ? "gate" : nouns[section - INPUTS];
     int used = snprintf(to, ROOM, "%s %llu", noun, (unsigned long long)entry);
-    if (section == GATES || !find_symbol(scan, section - INPUTS, entry, &symbol))
+    if (section == GATES || !find_symbol(scan, (int)section - INPUTS, entry, &symbol))
         return to;
     char name[LONGEST + 1];
     show_bytes(name, sizeof name, symbol.name, symbol.length);

@@ -91,24 +91,27 @@ int run_trace(const struct request *request, const struct source *file, struct p
 
 /* In three values: "yes" or "no". */
 static int ask_three(const struct request *request, const struct source *file, struct plan *plan,
-                     const struct vectors *vectors, const uint8_t *list, size_t length) {
-    int yes, status = ended(plan_witness3(plan, vectors->number, list, length, &yes), file);
+                     const struct list *list) {
+    int yes, status = ended(plan_witness3(plan, list->number, list->at, list->length, &yes), file);
     return status != DONE ? status : write_output(request->out, (const uint8_t *)(yes ? "yes\n" : "no\n"), yes ? 4 : 3);
+}
+
+static int fillings_ended(struct plan_end end, const struct source *file, const struct list *list) {
+    if (end.number != MANY_X)
+        return ended(end, file);
+    say_refused_of(list->file, end,
+                   "resets and vectors have %llu x, of which 20 at most are filled; --three asks in three values",
+                   (unsigned long long)end.place);
+    return REFUSED;
 }
 
 /* By fillings: "yes" or "no", and how many were tried. With allowance for all it is never undecided. */
 static int ask_fillings(const struct request *request, const struct source *file, struct plan *plan,
-                        const struct vectors *vectors, const uint8_t *list, size_t length) {
+                        const struct list *list) {
     struct plan_finding found;
     char line[48];
-    struct plan_end end = plan_witness(plan, vectors->number, list, length, PLAN_ALL_FILLINGS, &found);
-    if (end.number == MANY_X) {
-        say_number(vectors->source.name, end);
-        say_more("resets and vectors have %llu x, of which 20 at most are filled; --three asks in three values",
-                 (unsigned long long)end.place);
-        return REFUSED;
-    }
-    int status = ended(end, file);
+    struct plan_end end = plan_witness(plan, list->number, list->at, list->length, PLAN_ALL_FILLINGS, &found);
+    int status = fillings_ended(end, file, list);
     if (status != DONE)
         return status;
     snprintf(line, sizeof line, "%s, %llu %s tried\n", found.says == PLAN_YES ? "yes" : "no",
@@ -117,13 +120,5 @@ static int ask_fillings(const struct request *request, const struct source *file
 }
 
 int run_witness(const struct request *request, const struct source *file, struct plan *plan) {
-    struct vectors vectors;
-    uint8_t *list;
-    int status = read_list(request, file, plan, &vectors, &list);
-    if (status != DONE)
-        return status;
-    size_t length = (size_t)(vectors.number * plan->counts[PLAN_I]);
-    status = (request->three ? ask_three : ask_fillings)(request, file, plan, &vectors, list, length);
-    free_list(&vectors, list);
-    return status;
+    return with_list(request, file, plan, request->three ? ask_three : ask_fillings);
 }

@@ -2,6 +2,7 @@
    more (docs/PAPER.md, "Programs and their output"). */
 #include <stdlib.h>
 #include <string.h>
+#include <unistd.h>
 
 #include "command.h"
 #include "say.h"
@@ -21,12 +22,14 @@ static size_t wrong_value(const uint8_t *line, size_t length) {
 static int refuse_line(const struct scan *scan, size_t start, size_t length, uint64_t inputs) {
     const struct plan_end end = {BAD_VECTOR, 2};
     size_t wrong = wrong_value(scan->of->at + start, length);
-    if (wrong < length)
+    if (wrong < length) {
         say_refused(scan, end, (struct spot){start + wrong, 1}, "%s is no value: 0, 1 or x",
                     byte_name(scan->of, start + wrong));
-    else
+        say_line_ends(scan, start + wrong);
+    } else {
         say_refused(scan, end, (struct spot){start, length}, "%zu %s, but the plan has %llu %s", length,
                     length == 1 ? "value" : "values", (unsigned long long)inputs, inputs == 1 ? "input" : "inputs");
+    }
     return REFUSED;
 }
 
@@ -45,6 +48,9 @@ static int judge_lines(const struct scan *scan, uint64_t inputs, struct vectors 
 
 int read_vectors(const struct request *request, uint64_t inputs, struct vectors *vectors) {
     *vectors = (struct vectors){.number = 0};
+    if (request->second == NULL && isatty(STDIN_FILENO))
+        say_more("vectors are read from the keyboard, a line of %llu values for each step; Ctrl-D ends them",
+                 (unsigned long long)inputs);
     int status = read_source(request->second == NULL ? "-" : request->second, &vectors->source);
     const struct source *source = &vectors->source;
     const struct scan scan = {.of = source};
@@ -66,7 +72,7 @@ const uint8_t *vector(const struct vectors *vectors, uint64_t inputs, uint64_t k
     return vectors->source.at + k * (inputs + 1);
 }
 
-/* The vectors without the ends of their lines; null without memory. */
+/* The vectors one after another; null without memory. */
 static uint8_t *joined(const struct vectors *vectors, uint64_t inputs) {
     uint8_t *bytes = malloc(vectors->source.length + 1);
     for (uint64_t k = 0; bytes != NULL && k < vectors->number; k++)
@@ -74,21 +80,18 @@ static uint8_t *joined(const struct vectors *vectors, uint64_t inputs) {
     return bytes;
 }
 
-int read_list(const struct request *request, const struct source *file, struct plan *plan, struct vectors *vectors,
-              uint8_t **list) {
+int with_list(const struct request *request, const struct source *file, struct plan *plan, list_verb *verb) {
+    struct vectors vectors;
+    uint64_t inputs = plan->counts[PLAN_I];
     int status = put_in_order(plan, file);
     if (status == DONE)
-        status = read_vectors(request, plan->counts[PLAN_I], vectors);
+        status = read_vectors(request, inputs, &vectors);
     if (status != DONE)
         return status;
-    *list = joined(vectors, plan->counts[PLAN_I]);
-    if (*list != NULL)
-        return DONE;
-    free_source(&vectors->source);
-    return no_memory();
-}
-
-void free_list(struct vectors *vectors, uint8_t *list) {
-    free_source(&vectors->source);
-    free(list);
+    const struct list list = {vectors.source.name, vectors.number, joined(&vectors, inputs),
+                              (size_t)(vectors.number * inputs)};
+    free_source(&vectors.source);
+    status = list.at == NULL ? no_memory() : verb(request, file, plan, &list);
+    free(list.at);
+    return status;
 }

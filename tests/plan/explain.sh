@@ -20,10 +20,10 @@ explanations() {
     accepts "$room/first" explain --output 0 --step 0 "$room/plan" "$room/vectors"
     accepts "$room/second" explain --output 0 --step 1 "$room/plan" "$room/vectors"
     accepts "$room/third" explain --output 1 --step 2 "$room/plan" "$room/vectors"
-    refuses '17 at 1' explain --output 2 --step 0 "$room/plan" "$room/vectors"
+    refuses '17 at 1: there is no output "2": the plan has 2, counted from 0' explain --output 2 --step 0 "$room/plan" "$room/vectors"
     refuses '17 at 1' explain --output 'left needle' --step 0 "$room/plan" "$room/vectors"
     refuses '17 at 1' explain --output 99999999999999999999 --step 0 "$room/plan" "$room/vectors"
-    refuses '17 at 2' explain --output 0 --step 4 examples/selector.aag examples/selector.vectors
+    refuses '17 at 2: output "0" is x at step 4, and only 0 and 1 are explained' explain --output 0 --step 4 examples/selector.aag examples/selector.vectors
     misuses 'there is no step 3: there are 3 vectors' explain --output 0 --step 3 "$room/plan" "$room/vectors"
     misuses 'a step is a number' explain --output 0 --step first "$room/plan" "$room/vectors"
     misuses "plan explain [-o OUT]" explain --output 0 "$room/plan" "$room/vectors"

@@ -1,17 +1,6 @@
 # shellcheck shell=bash disable=SC2154 # of run, which sources this
 # Refusals: number and place are those beside the worked examples, and these are the sentences.
 
-# says WORD..: refused, and standard input is all that is said.
-says() {
-    cat >"$room/saying"
-    try "$@" </dev/null
-    if [ "$(cat "$room/status")" = 1 ] && [ ! -s "$room/out" ] && cmp -s "$room/saying" "$room/error"; then
-        pass
-    else
-        fail "$*: status $(cat "$room/status"), $(cat "$room/error")"
-    fi
-}
-
 # A file of the room named "plan" with these bytes, as printf writes them.
 plan() {
     # shellcheck disable=SC2059 # the bytes are given in a format
@@ -65,6 +54,28 @@ $room/plan:5:5: note: variable 3 takes variable 4
 $room/plan:6:3: note: variable 4 takes variable 2 again
       6 | 8 4 1
         |   ^
+END
+}
+
+# As editors of other systems write them.
+other_line_ends() {
+    sed 's/$/\r/' examples/toggle.aag >"$room/plan"
+    says check "$room/plan" <<END
+$room/plan:1:14: refused 1 at 13: in the header a space or a new line must stand here, not a carriage return
+      1 | aag 7 2 1 2 4.
+        |              ^
+note: lines end in CR LF here, as on Windows; a new line is LF alone: "tr -d '\r'" takes the CR away
+END
+    plan 'aag 1 1 0 0 0\n2\r\n'
+    refuses "plan:2:2: refused 1 at 15: in input 0 a new line must stand here, not a carriage return" check "$room/plan"
+    plan 'aag 1 1 0 0 0\n2\t\n'
+    refuses "plan:2:2: refused 1 at 15: in input 0 a new line must stand here, not a tab" check "$room/plan"
+    plan 'aig 0 0 0 0 0\r\n'
+    says check "$room/plan" <<END
+$room/plan:1:14: refused 1 at 13: in the header a space or a new line must stand here, not a carriage return
+      1 | aig 0 0 0 0 0.
+        |              ^
+note: lines end in CR LF here, as on Windows; a new line is LF alone
 END
 }
 
@@ -134,8 +145,28 @@ $room/vectors:2:3: refused 1 at 5: a new line must stand here, not the end of th
       2 | 11
         |   ^
 END
+    printf '11\r\n' >"$room/vectors"
+    says rows examples/toggle.aag "$room/vectors" <<END
+$room/vectors:1:3: refused 12 at 2: a carriage return is no value: 0, 1 or x
+      1 | 11.
+        |   ^
+note: lines end in CR LF here, as on Windows; a new line is LF alone: "tr -d '\r'" takes the CR away
+END
     refuses "output.aag:3:1: refused 5 at 16: " trace tests/refused-05/output.aag "$room/vectors"
     refuses "standard input:3:1: refused 5 at 16: " convert - <tests/refused-05/output.aag
+}
+
+# Nothing, and bytes that are no plan.
+no_plans() {
+    says check /dev/null <<END
+/dev/null: refused 1 at 0: the file is empty; a plan starts with "aag " or "aig "
+END
+    plan '\0\0\0'
+    says convert "$room/plan" <<END
+$room/plan:1:1: refused 1 at 0: a file starts with "aag " or "aig "; here stands byte 00
+      1 | ...
+        | ^
+END
 }
 
 # What can't be read: not there, a folder, closed, failing after it was opened.
@@ -175,9 +206,11 @@ transcript() {
 
 worked_refusals
 in_lines
+other_line_ends
 in_other_places
 places
 in_vectors
+no_plans
 unreadable
 colours
 transcript

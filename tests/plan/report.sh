@@ -45,7 +45,7 @@ longest() {
     printf 'o0 0 65536 0 0\n' >"$room/report"
     accepts "$room/report" report "$room/plan" "$room/vectors"
     echo 0 >>"$room/vectors"
-    refuses "refused 13 at 65536" report "$room/plan" "$room/vectors"
+    refuses "vectors: refused 13 at 65536: there are 65537 vectors, and a report takes 65536 at most" report "$room/plan" "$room/vectors"
 }
 
 wrong_lists() {
