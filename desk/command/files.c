@@ -1,6 +1,7 @@
 /* Whole files in, whole files out. */
 #define _GNU_SOURCE
 #include <errno.h>
+#include <fcntl.h>
 #include <signal.h>
 #include <stdlib.h>
 #include <string.h>
@@ -9,6 +10,13 @@
 
 #include "command.h"
 #include "say.h"
+
+/* What is closed can be neither read nor written by then, as it was before. */
+void keep_standard_files(void) {
+    for (int file = STDIN_FILENO; file <= STDERR_FILENO; file++)
+        if (fcntl(file, F_GETFD) < 0 && open("/dev/null", file == STDIN_FILENO ? O_WRONLY : O_RDONLY) != file)
+            _exit(FAILED);
+}
 
 /* The size that a regular file says it has, so that it is read at once; others are read by doubling. */
 static size_t first_room(FILE *from) {
@@ -63,10 +71,11 @@ static int cannot_write(const struct output *output) {
     return fail("%s: %s", output->name, strerror(errno));
 }
 
-/* The file that the name leads to, past links: what is renamed must not take the place of a link. */
+/* The file that the name leads to, past links: what is renamed must not take the place of a link, nor of one that leads nowhere. */
 static char *target_of(const char *name) {
+    struct stat about;
     char *target = realpath(name, NULL);
-    return target != NULL || errno != ENOENT ? target : strdup(name);
+    return target == NULL && errno == ENOENT && lstat(name, &about) != 0 ? strdup(name) : target;
 }
 
 /* As a file that is opened for writing would have it: that of the file replaced, or what the umask leaves. */
@@ -90,12 +99,29 @@ static void remove_unfinished(int number) {
 }
 
 /* Signals that end the command; a file that grows too large is an error of writing instead. */
+static const int ends[] = {SIGHUP, SIGINT, SIGQUIT, SIGPIPE, SIGTERM};
+enum { ENDS = sizeof ends / sizeof ends[0] };
+
 static void heed_signals(void) {
-    static const int ends[] = {SIGHUP, SIGINT, SIGTERM};
-    for (size_t k = 0; k < sizeof ends / sizeof ends[0]; k++)
+    for (int k = 0; k < ENDS; k++)
         if (signal(ends[k], remove_unfinished) == SIG_IGN)
             signal(ends[k], SIG_IGN);
     signal(SIGXFSZ, SIG_IGN);
+}
+
+/* A file of this pattern, which no signal leaves behind: none comes between its making and its being known. */
+static int make_unfinished(char *pattern) {
+    sigset_t held, before;
+    sigemptyset(&held);
+    for (int k = 0; k < ENDS; k++)
+        sigaddset(&held, ends[k]);
+    heed_signals();
+    sigprocmask(SIG_BLOCK, &held, &before);
+    int file = mkstemp(pattern), why = errno;
+    unfinished = file < 0 ? NULL : pattern;
+    sigprocmask(SIG_SETMASK, &before, NULL);
+    errno = why;
+    return file;
 }
 
 /* A file beside the target, in the same folder, so that it can be renamed. */
@@ -104,14 +130,12 @@ static FILE *open_temporary(struct output *output) {
         output->temporary = NULL;
         return NULL;
     }
-    int file = mkstemp(output->temporary);
+    int file = make_unfinished(output->temporary);
     if (file < 0) {
         free(output->temporary);
         output->temporary = NULL;
         return NULL;
     }
-    unfinished = output->temporary;
-    heed_signals();
     FILE *to = fchmod(file, mode_for(output->target)) == 0 ? fdopen(file, "wb") : NULL;
     if (to == NULL)
         close(file);

@@ -86,8 +86,8 @@ witnesses() {
     list=$(printf 'x\n%.0s' {1..20})$'\n'
     answers "yes, 1048576 fillings tried" "${list#$'x\n'}" yes
     printf '%s' "$list" >"$room/vectors"
-    refuses "vectors: refused 20 at 21" witness "$room/plan" "$room/vectors"
-    holds "20 names --three" grep -q -e "have 21 x, of which 20 at most are filled; --three asks" "$room/error"
+    refuses "vectors: refused 20 at 21: resets and vectors have 21 x, of which 20 at most are filled; --three asks" \
+        witness "$room/plan" "$room/vectors"
     echo yes >"$room/found"
     accepts "$room/found" witness --three "$room/plan" "$room/vectors"
 }
@@ -185,16 +185,41 @@ usage() {
     for verb in check convert reduce drop rewire trace explain witness report rows same file card draw words; do
         try "$verb" --help
         holds "$verb --help" grep -q "^plan $verb \[-o OUT\] " "$room/out"
-        holds "help of $verb" grep -q "^plan $verb " "$room/help"
-        misuses "plan $verb [-o OUT]" "$verb"
-        misuses "plan $verb [-o OUT]" "$verb" --sideways examples/toggle.aag
-        misuses "plan $verb [-o OUT]" "$verb" examples/toggle.aag -o
+        cp "$room/out" "$room/told"
+        accepts "$room/told" help "$verb"
+        accepts "$room/told" "$verb" -h sideways
+        holds "help of $verb" grep -q "^  $verb " "$room/help"
+        misuses "plan: a file is missing
+plan $verb [-o OUT]" "$verb"
+        misuses "plan: $verb has no option --sideways
+plan $verb [-o OUT]" "$verb" --sideways examples/toggle.aag
+        misuses "plan: after -o a word is missing
+plan $verb [-o OUT]" "$verb" examples/toggle.aag -o
+        misuses "plan: -o stands there twice
+plan $verb [-o OUT]" "$verb" -o a -o b examples/toggle.aag
     done
-    misuses "plan convert" convert examples/toggle.aag examples/guard.aag
-    misuses "plan convert" convert --vcd examples/toggle.aag
-    misuses "plan trace" trace --three examples/toggle.aag
-    misuses "plan check "
-    misuses "plan check " sideways examples/toggle.aag
+    accepts "$room/help" -h
+    $command --help >/dev/full 2>"$room/error"
+    holds "help to a full device" [ "$? $(cat "$room/error")" = "2 plan: standard output: No space left on device" ]
+}
+
+# What is wrong is said, with what is near.
+mistyped() {
+    misuses 'plan: "examples/guard.aag" is one word too many' convert examples/toggle.aag examples/guard.aag
+    misuses 'plan: convert has no option --vcd' convert --vcd examples/toggle.aag
+    misuses 'plan: trace has no option --vdc, but --vcd' trace --vdc examples/toggle.aag
+    misuses 'plan: trace has no option --three' trace --three examples/toggle.aag
+    misuses 'plan: after --step a word is missing' explain examples/toggle.aag --output 0 --step
+    misuses 'plan: --output is missing' explain examples/toggle.aag --step 0
+    misuses 'plan: standard input can'"'"'t be both files' trace - <examples/toggle.aag
+    misuses 'plan: a gate and two right sides must follow the file' rewire examples/toggle.aig 1 2
+    misuses 'plan: there is no command "sideways"
+"plan --help" lists the commands.' sideways examples/toggle.aag
+    misuses 'plan: there is no command "convrt", but "convert"' convrt examples/toggle.aag
+    misuses 'plan: there is no command "fiel", but "file"' fiel examples/toggle.aag
+    misuses 'plan: there is no command ""' ""
+    misuses 'plan: "examples/toggle.aag" is no command, which comes before the file: "plan check examples/toggle.aag"' examples/toggle.aag
+    misuses "  check "
 }
 
 convert_and_trace
@@ -204,3 +229,4 @@ witnesses
 pictures
 standard_input
 usage
+mistyped

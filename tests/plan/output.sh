@@ -16,6 +16,9 @@ written() {
     ln -s made "$room/to/link"
     accepts /dev/null check -o "$room/to/link" examples/toggle.aag
     holds "-o follows a link" test -L "$room/to/link"
+    ln -s nowhere "$room/to/lost"
+    misuses "$room/to/lost: No such file or directory" check -o "$room/to/lost" examples/toggle.aag
+    holds "-o leaves a link that leads nowhere" test -L "$room/to/lost"
     holds "-o keeps the mode" test 640 = "$(stat -c %a "$room/to/made")"
     (umask 027 && try words -o "$room/to/new" examples/toggle.aag)
     holds "-o heeds the umask" test 640 = "$(stat -c %a "$room/to/new")"
@@ -50,6 +53,15 @@ full_output() {
     done
 }
 
+# Standard output or error that is closed: what is opened does not take its place.
+closed_output() {
+    $command convert examples/toggle.aag >&- 2>"$room/error"
+    holds "closed output" [ "$? $(cat "$room/error")" = "2 plan: standard output: Bad file descriptor" ]
+    $command convert -o "$room/to/made" examples/toggle.aag >&- 2>&- <&-
+    holds "all closed" cmp -s "$room/to/made" examples/toggle.aig
+    rm "$room/to"/*
+}
+
 # A file may grow to 64 KiB only: written in one piece, and step by step.
 full_disk() {
     local folder=$room/full
@@ -71,6 +83,10 @@ ended_early() {
     local number
     echo kept >"$room/to/made"
     yes 11 | head -n 5000000 >"$room/vectors"
+    for number in INT QUIT; do
+        timeout -s $number 0.3 $plain trace -o "$room/to/made" examples/toggle.aag "$room/vectors"
+        holds "interrupted by $number" test "124 made" = "$? $(left)"
+    done
     for number in TERM HUP; do
         $plain trace -o "$room/to/made" examples/toggle.aag "$room/vectors" &
         while [ "$(left | wc -l)" = 1 ] && kill -0 $! 2>/dev/null; do :; done
@@ -95,6 +111,7 @@ mkdir "$room/to"
 written
 not_written
 full_output
+closed_output
 full_disk
 ended_early
 small_disk
