@@ -31,12 +31,22 @@ use
 expect "first use" 0 examples/toggle.aig "plan: proving and building the library, which is done once and takes some minutes
 plan: 1 of 3, plan, unchanged
 plan: 2 of 3, room, 7 s
+plan: the last one, desk, takes the longest
 plan: 3 of 3, desk, "
 use
 expect "second use" 0 examples/toggle.aig ""
+ln -s "$room/project/plan" "$room/bin/linked"
+(cd / && PATH="$room/bin:$PATH" linked convert - <"$top/examples/toggle.aag" >"$room/out" 2>"$room/error")
+echo $? >"$room/status"
+expect "use through a link" 0 examples/toggle.aig ""
 touch "$room/project/crates/changed"
+exec 8>"$room/project/target/desk/lock"
+flock 8
+{ sleep 1; flock -u 8; } &
 use
-expect "use after a change" 0 examples/toggle.aig "; the last time it took "
+exec 8>&-
+expect "use after a change, and beside another" 0 examples/toggle.aig "plan: another use is building the library, and is waited for
+plan: proving and building the library, which is done once and takes some minutes; the last time it took "
 touch "$room/project/crates/wrong"
 use
 expect "use after a wrong change" 2 /dev/null "rt: room NOT PROVED

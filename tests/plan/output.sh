@@ -84,6 +84,7 @@ ended_early() {
     echo kept >"$room/to/made"
     yes 11 | head -n 5000000 >"$room/vectors"
     for number in INT QUIT; do
+        # shellcheck disable=SC2086 # the emulator may stand before it
         timeout -s $number 0.3 $plain trace -o "$room/to/made" examples/toggle.aag "$room/vectors"
         holds "interrupted by $number" test "124 made" = "$? $(left)"
     done

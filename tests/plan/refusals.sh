@@ -180,7 +180,7 @@ END
     refuses "/proc/self/mem: refused 14 at 0: " reduce /proc/self/mem
 }
 
-# A terminal is shown colours, and nothing else is.
+# A terminal is shown colours, and nothing else is. Who is to type vectors is told so.
 colours() {
     local line=$'\33[1m'
     command -v script >/dev/null || return
@@ -188,6 +188,8 @@ colours() {
     holds "colours on a terminal" grep -qF "$line" "$room/screen"
     script -qec "NO_COLOR=1 $command check tests/refused-05/output.aag" /dev/null >"$room/screen" </dev/null
     holds "no colours where none are wanted" test 0 = "$(grep -cF $'\33' "$room/screen")"
+    printf '11\n\4' | script -qec "$command trace examples/toggle.aag" /dev/null >"$room/screen"
+    holds "vectors from the keyboard" grep -q "vectors are read from the keyboard, a line of 2 values for each step; Ctrl-D ends" "$room/screen"
 }
 
 # The transcript of docs/REFUSALS.md: each line after "$ " is run, and what it says must stand there.
