@@ -11,7 +11,10 @@ int main(int argc, char **argv) {
     if (from == NULL)
         return 2;
     size_t length = fread(file, 1, sizeof file, from);
+    int whole = length < sizeof file && !ferror(from);
     fclose(from);
+    if (!whole)
+        return 2;
 
     struct plan plan;
     struct plan_bytes out = {NULL, 0};
@@ -22,11 +25,10 @@ int main(int argc, char **argv) {
         end = plan_reduce(&plan);
     if (end.number == 0)
         end = plan_write_binary(&plan, &out);
-    if (end.number == 0)
-        fwrite(out.at, 1, out.length, stdout);
-    else
+    int written = end.number == 0 && fwrite(out.at, 1, out.length, stdout) == out.length && fflush(stdout) == 0;
+    if (end.number != 0)
         fprintf(stderr, "refused %llu at %llu\n", (unsigned long long)end.number, (unsigned long long)end.place);
     free(out.at);
     plan_free(&plan);
-    return end.number == 0 ? 0 : 1;
+    return end.number != 0 ? 1 : written ? 0 : 2;
 }

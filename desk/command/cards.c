@@ -125,11 +125,12 @@ static int is_visible(const struct dirent *entry) {
     return entry->d_name[0] != '.';
 }
 
-/* In the order of names; a file that is refused leaves the others alone. */
+/* In the order of names; a file that is refused leaves the others alone. Each line is there when its file is done, however it ends. */
 static int move_entries(const struct move *move, const struct request *request, struct dirent *const *entries,
                         int number) {
     struct output lines;
     int moved = 0, status = open_output(&lines, NULL);
+    setvbuf(lines.to, NULL, _IOLBF, BUFSIZ);
     for (int k = 0; k < number; k++) {
         int end = move_entry(move, request, entries, k);
         moved += end == DONE;

@@ -36,6 +36,11 @@ own_program() {
     accepts examples/toggle.aig examples/toggle.aag
     accepts "$room/reduced" examples/drafted.aag
     refuses "refused 8 at 1" tests/refused-08/two-gates.aag
+    head -c 1048576 /dev/zero >"$room/plan"
+    try "$room/plan"
+    expect "a file that is longer than the room for it" 2 /dev/null ""
+    $command examples/toggle.aag >/dev/full
+    holds "an example to a full device" test 2 = $?
     command=$checked
 }
 
