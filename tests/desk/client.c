@@ -247,9 +247,12 @@ static void unused_gates(void) {
 static struct bytes stored(const char *name) {
     static uint8_t buffer[1000];
     FILE *f = fopen(name, "rb");
-    size_t length = f == NULL ? 0 : fread(buffer, 1, sizeof buffer, f);
-    if (f != NULL)
-        fclose(f);
+    if (f == NULL) {
+        printf("%s can't be read\n0 passed, 1 failed\n", name);
+        exit(1);
+    }
+    size_t length = fread(buffer, 1, sizeof buffer, f);
+    fclose(f);
     return bytes_of((const char *)buffer, length);
 }
 
