@@ -42,7 +42,13 @@ expect "use through a link" 0 examples/toggle.aig ""
 touch "$room/project/crates/changed"
 exec 8>"$room/project/target/desk/lock"
 flock 8
-{ sleep 1; flock -u 8; } &
+{
+    for _ in {1..600}; do
+        if grep -q "is waited for" "$room/error"; then break; fi
+        sleep 0.1
+    done
+    flock -u 8
+} &
 use
 exec 8>&-
 expect "use after a change, and beside another" 0 examples/toggle.aig "plan: another use is building the library, and is waited for
