@@ -125,7 +125,8 @@ static int is_visible(const struct dirent *entry) {
     return entry->d_name[0] != '.';
 }
 
-/* In the order of names; a file that is refused leaves the others alone. Each line is there when its file is done, however it ends. */
+/* In the order of names; a file that is refused leaves the others alone. Each line is there when its file is done, whatever
+   ends the command. */
 static int move_entries(const struct move *move, const struct request *request, struct dirent *const *entries,
                         int number) {
     struct output lines;
@@ -144,7 +145,8 @@ static int is_folder(const char *name, struct stat *about) {
     return strcmp(name, "-") != 0 && stat(name, about) == 0 && S_ISDIR(about->st_mode);
 }
 
-/* The folder that is written to is made if it isn't there. It is another one, so that no file that was made is moved again. */
+/* The folder that is written to is made if it isn't there. It is another one, so that no file that was made is moved
+   again. */
 static int make_folder(const char *name, const struct stat *from) {
     struct stat to;
     if (mkdir(name, 0777) != 0 && errno != EEXIST)

@@ -73,8 +73,8 @@ static int say_not_explained(const struct request *request, const struct plan *p
         say_refused_of(file->name, end, "there is no output \"%s\": the plan has %llu, counted from 0", request->output,
                        (ull)plan->counts[PLAN_O]);
     else
-        say_refused_of(file->name, end, "output \"%s\" is x at step %s, and only 0 and 1 are explained", request->output,
-                       request->step);
+        say_refused_of(file->name, end, "output \"%s\" is x at step %s, and only 0 and 1 are explained",
+                       request->output, request->step);
     return REFUSED;
 }
 

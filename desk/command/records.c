@@ -51,7 +51,8 @@ static struct scan bytes_of(const struct source *cards) {
 static void say_length(const struct scan *scan, struct plan_end end) {
     struct spot spot = {(size_t)end.place, 1};
     if (scan->of->length < HEAD_CARD) {
-        say_refused(scan, end, spot, "a file of plan cards has %d bytes or more, this one %zu", HEAD_CARD, scan->of->length);
+        say_refused(scan, end, spot, "a file of plan cards has %d bytes or more, this one %zu", HEAD_CARD,
+                    scan->of->length);
         return;
     }
     struct records gates = records_of(scan->of, 4);
@@ -92,11 +93,11 @@ static void say_order(const struct scan *scan, struct plan_end end) {
     } while (first < left + 2 * k && second <= first && ++k < r.count);
     struct spot spot = {number_place(&r, 2 * k), 2 * NUMBER};
     if (first >= left + 2 * k)
-        say_refused(scan, end, spot, "right side %llu of gate %llu is not below %llu, its left side", (ull)first, (ull)k,
-                    (ull)(left + 2 * k));
+        say_refused(scan, end, spot, "right side %llu of gate %llu is not below %llu, its left side", (ull)first,
+                    (ull)k, (ull)(left + 2 * k));
     else
-        say_refused(scan, end, spot, "the right sides of gate %llu are %llu and %llu: the larger must stand first", (ull)k,
-                    (ull)first, (ull)second);
+        say_refused(scan, end, spot, "the right sides of gate %llu are %llu and %llu: the larger must stand first",
+                    (ull)k, (ull)first, (ull)second);
 }
 
 static void say_marked(const struct scan *scan, struct plan_end end) {
@@ -116,8 +117,8 @@ int cards_ended(struct plan_end end, const struct source *cards) {
     static const struct {
         uint64_t number;
         void (*say)(const struct scan *, struct plan_end);
-    } sayings[] = {{WRONG_BYTE, say_length}, {2, say_count}, {3, say_sum}, {5, say_literal}, {15, say_order},
-                   {18, say_marked}};
+    } sayings[] = {{WRONG_BYTE, say_length}, {2, say_count},  {3, say_sum},
+                   {5, say_literal},         {15, say_order}, {18, say_marked}};
     const struct scan scan = bytes_of(cards);
     if (end.number == 0)
         return DONE;

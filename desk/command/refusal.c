@@ -86,8 +86,8 @@ static void say_wrong_start(const struct refusal *r) {
     if (file->length == 0)
         say_refused_of(file->name, r->end, "the file is empty; a plan starts with \"aag \" or \"aig \"");
     else
-        say_refused(&r->scan, r->end, (struct spot){place, 1}, "a file starts with \"aag \" or \"aig \"; here stands %s",
-                    byte_name(file, place));
+        say_refused(&r->scan, r->end, (struct spot){place, 1},
+                    "a file starts with \"aag \" or \"aig \"; here stands %s", byte_name(file, place));
     if (file->length > 1 && memcmp(file->at, "PH", 2) == 0)
         say_more("this looks like plan cards: \"plan file\" makes a plan of them");
 }
