@@ -251,14 +251,37 @@ void plan_first(const struct plan *plan, uint8_t *state) {
     }
 }
 
-struct plan_end plan_step(struct plan *plan, uint8_t *state, const uint8_t *inputs, uint8_t *outputs) {
+/* A call that steps. */
+typedef void step_call(const uint64_t *counts, GOLVANZO_GIVEN, GOLVANZO_SCRATCH, uint8_t *state, size_t state_len,
+                       const uint8_t *ins, size_t ins_len, uint8_t *outs, size_t outs_len, uint64_t *answer);
+
+static struct plan_end step(struct plan *plan, step_call *call, uint8_t *state, const uint8_t *inputs,
+                            uint8_t *outputs) {
     const uint64_t *n = plan->counts;
     uint64_t answer[2];
     if (!ready(plan))
         return no_memory;
-    golvanzo_step(n, TABLES(plan), SCRATCH(plan), state, (size_t)n[PLAN_L], inputs, (size_t)n[PLAN_I], outputs,
-                  (size_t)n[PLAN_O], answer);
+    call(n, TABLES(plan), SCRATCH(plan), state, (size_t)n[PLAN_L], inputs, (size_t)n[PLAN_I], outputs,
+         (size_t)n[PLAN_O], answer);
     return end_of(answer);
+}
+
+struct plan_end plan_step(struct plan *plan, uint8_t *state, const uint8_t *inputs, uint8_t *outputs) {
+    return step(plan, golvanzo_step, state, inputs, outputs);
+}
+
+struct plan_end plan_step_plain(struct plan *plan, uint8_t *state, const uint8_t *inputs, uint8_t *outputs) {
+    return step(plan, golvanzo_step_plain, state, inputs, outputs);
+}
+
+/* Asked without a step's bytes, whose lack is 12: that is judged after all refusals of the plan, 24 being the last. */
+struct plan_end plan_check_plain(struct plan *plan) {
+    enum { WRONG_BYTES = 12 };
+    uint64_t answer[2];
+    if (!ready(plan))
+        return no_memory;
+    golvanzo_step_plain(plan->counts, TABLES(plan), SCRATCH(plan), NULL, 0, NULL, 0, NULL, 0, answer);
+    return answer[0] == WRONG_BYTES ? done : end_of(answer);
 }
 
 struct plan_end plan_witness(struct plan *plan, uint64_t number, const uint8_t *vectors, size_t length,

@@ -72,6 +72,10 @@ void plan_first(const struct plan *plan, uint8_t *state);
 /* One step in binary order: L bytes of state, which become the next, I bytes of inputs, O bytes of outputs. */
 struct plan_end plan_step(struct plan *plan, uint8_t *state, const uint8_t *inputs, uint8_t *outputs);
 
+/* The same by the plain engine, for plans of at most 24 gates; and whether it takes the plan, which is 24 where it has more. */
+struct plan_end plan_step_plain(struct plan *plan, uint8_t *state, const uint8_t *inputs, uint8_t *outputs);
+struct plan_end plan_check_plain(struct plan *plan);
+
 /* What the witness question says: whether every filling of the x shows a 1, and how many were tried. */
 struct plan_finding {
     enum { PLAN_NO, PLAN_YES, PLAN_UNDECIDED } says;
