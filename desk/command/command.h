@@ -95,6 +95,7 @@ int run_reduce(const struct request *request, const struct source *file, struct 
 int run_drop(const struct request *request, const struct source *file, struct plan *plan);
 int run_rewire(const struct request *request, const struct source *file, struct plan *plan);
 int run_trace(const struct request *request, const struct source *file, struct plan *plan);
+int run_plain(const struct request *request, const struct source *file, struct plan *plan);
 int run_explain(const struct request *request, const struct source *file, struct plan *plan);
 int run_witness(const struct request *request, const struct source *file, struct plan *plan);
 int run_report(const struct request *request, const struct source *file, struct plan *plan);

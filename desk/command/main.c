@@ -58,6 +58,14 @@ static const struct command commands[] = {
              "Without VECTORS they are read from standard input.",
      .takes = TAKES_SECOND | TAKES_VCD,
      .on_plan = run_trace},
+    {.name = "plain",
+     .words = "FILE [VECTORS]",
+     .what = "steps a plan of at most 24 gates as trace does, and by a plain engine beside it",
+     .more = "Vectors are as for trace, and so are the lines. The plain engine goes by the rules alone, to learn from:\n"
+             "docs/LESSON.md walks through it. Should the two ever part, \"differ\" ends the lines, and the exit status is 1;\n"
+             "it is proved that they don't.",
+     .takes = TAKES_SECOND,
+     .on_plan = run_plain},
     {.name = "explain",
      .words = "--output O --step K FILE [VECTORS]",
      .what = "says which inputs and latches made an output 0 or 1 at a step",

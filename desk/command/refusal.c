@@ -281,6 +281,13 @@ static void say_bad_symbol(const struct refusal *r) {
             say_note(scan, (struct spot){first.at, spot.width}, "it is named first here");
 }
 
+/* Conversion keeps the number of gates, so that the header has it. */
+static void say_many_gates(const struct refusal *r) {
+    say_refused(&r->scan, r->end, number_spot(r, r->scan.count_at[PLAN_A]),
+                "A is %llu, and the plain engine takes 24 gates at most; \"plan trace\" takes any number",
+                (ull)r->end.place);
+}
+
 static void say_cyclic(const struct refusal *r) {
     say_cycle(&r->scan, r->end);
 }
@@ -291,7 +298,7 @@ int ended(struct plan_end end, const struct source *file) {
         void (*say)(const struct refusal *);
     } sayings[] = {{WRONG_BYTE, say_wrong_byte}, {2, say_large_count}, {3, say_wrong_sum}, {5, say_out_of_range},
                    {6, say_defined_twice},       {7, say_not_defined}, {8, say_cyclic},    {9, say_difference},
-                   {10, say_bad_symbol},         {16, say_difference}, {21, say_justice}};
+                   {10, say_bad_symbol},         {16, say_difference}, {21, say_justice},  {24, say_many_gates}};
     if (end.number == 0)
         return DONE;
     if (end.number == PLAN_NO_MEMORY)

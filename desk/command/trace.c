@@ -1,4 +1,4 @@
-/* The verbs that step a plan: trace and witness. */
+/* The verbs that step a plan: trace, plain and witness. */
 #include <stdlib.h>
 #include <string.h>
 
@@ -21,19 +21,36 @@ void print_line(FILE *to, const struct plan *plan, const uint8_t *state, const u
 }
 
 static int lend_run(const struct plan *plan, struct run *run) {
-    run->state = malloc(plan->counts[PLAN_L] + 1);
-    run->next = malloc(plan->counts[PLAN_L] + 1);
-    run->outputs = malloc(plan->counts[PLAN_O] + 1);
-    return run->state != NULL && run->next != NULL && run->outputs != NULL;
+    const uint64_t *n = plan->counts;
+    run->state = malloc(n[PLAN_L] + 1);
+    run->next = malloc(n[PLAN_L] + 1);
+    run->outputs = malloc(n[PLAN_O] + 1);
+    run->plain_next = malloc(n[PLAN_L] + 1);
+    run->plain_outputs = malloc(n[PLAN_O] + 1);
+    return run->state != NULL && run->next != NULL && run->outputs != NULL && run->plain_next != NULL &&
+           run->plain_outputs != NULL;
 }
 
 static void free_run(struct run *run) {
     free(run->state);
     free(run->next);
     free(run->outputs);
+    free(run->plain_next);
+    free(run->plain_outputs);
 }
 
-/* Steps from the resets with every vector, each step being printed; stops where it can't be. */
+/* Whether the plain engine gives another answer, next state or outputs than the stepper gave. */
+static int parts(struct plan *plan, struct run *run, struct plan_end end) {
+    const uint64_t *n = plan->counts;
+    memcpy(run->plain_next, run->state, n[PLAN_L]);
+    struct plan_end plain = plan_step_plain(plan, run->plain_next, run->inputs, run->plain_outputs);
+    if (plain.number != end.number || plain.place != end.place)
+        return 1;
+    return end.number == 0 && (memcmp(run->plain_next, run->next, n[PLAN_L]) != 0 ||
+                               memcmp(run->plain_outputs, run->outputs, n[PLAN_O]) != 0);
+}
+
+/* Steps from the resets with every vector, each step being printed; stops where it can't be, or where engines part. */
 static struct plan_end step_all(struct plan *plan, const struct vectors *vectors, struct run *run,
                                 const struct wave *wave, FILE *to) {
     struct plan_end end = {0, 0};
@@ -42,6 +59,11 @@ static struct plan_end step_all(struct plan *plan, const struct vectors *vectors
         memcpy(run->state, run->next, plan->counts[PLAN_L]);
         run->inputs = vector(vectors, plan->counts[PLAN_I], run->step);
         end = plan_step(plan, run->next, run->inputs, run->outputs);
+        if (run->plain && parts(plan, run, end)) {
+            run->parted = 1;
+            fputs("differ\n", to);
+            return (struct plan_end){0, 0};
+        }
         if (end.number == 0 && wave != NULL)
             print_changes(wave, plan, run, to);
         else if (end.number == 0)
@@ -53,33 +75,30 @@ static struct plan_end step_all(struct plan *plan, const struct vectors *vectors
 }
 
 static int trace_to(FILE *to, const struct request *request, const struct source *file, struct plan *plan,
-                    const struct vectors *vectors) {
-    struct run run = {.step = 0};
+                    const struct vectors *vectors, struct run *run) {
     struct wave wave;
-    int status = lend_run(plan, &run) ? DONE : no_memory();
+    int status = lend_run(plan, run) ? DONE : no_memory();
     if (status == DONE && request->vcd)
         status = begin_wave(&wave, plan, to);
     if (status == DONE) {
-        status = ended(step_all(plan, vectors, &run, request->vcd ? &wave : NULL, to), file);
+        status = ended(step_all(plan, vectors, run, request->vcd ? &wave : NULL, to), file);
         if (request->vcd)
             free_wave(&wave);
     }
-    free_run(&run);
+    free_run(run);
     return status;
 }
 
-/* All refusals of the plan come before the vectors are read, all of the vectors before the first line is written. */
-int run_trace(const struct request *request, const struct source *file, struct plan *plan) {
+/* Of a plan in binary order: all refusals of the vectors come before the first line is written. */
+static int trace(const struct request *request, const struct source *file, struct plan *plan, struct run *run) {
     struct vectors vectors;
     struct output output;
-    int status = put_in_order(plan, file);
-    if (status == DONE)
-        status = read_vectors(request, plan->counts[PLAN_I], &vectors);
+    int status = read_vectors(request, plan->counts[PLAN_I], &vectors);
     if (status != DONE)
         return status;
     status = open_output(&output, request->out);
     if (status == DONE) {
-        status = trace_to(output.to, request, file, plan, &vectors);
+        status = trace_to(output.to, request, file, plan, &vectors, run);
         if (status == DONE)
             status = close_output(&output);
         else
@@ -87,6 +106,24 @@ int run_trace(const struct request *request, const struct source *file, struct p
     }
     free_source(&vectors.source);
     return status;
+}
+
+/* All refusals of the plan come before the vectors are read. */
+int run_trace(const struct request *request, const struct source *file, struct plan *plan) {
+    struct run run = {.plain = 0};
+    int status = put_in_order(plan, file);
+    return status == DONE ? trace(request, file, plan, &run) : status;
+}
+
+/* The same, and 24 is the plan's last. Where the engines part that is told on the output, as any difference is. */
+int run_plain(const struct request *request, const struct source *file, struct plan *plan) {
+    struct run run = {.plain = 1};
+    int status = put_in_order(plan, file);
+    if (status == DONE)
+        status = ended(plan_check_plain(plan), file);
+    if (status == DONE)
+        status = trace(request, file, plan, &run);
+    return status == DONE && run.parted ? DIFFERENT : status;
 }
 
 /* In three values: "yes" or "no". */

@@ -4,11 +4,14 @@
 
 #include "command.h"
 
-/* One step of a run: its number, and the bytes before and after it. */
+/* One step of a run: its number, and the bytes before and after it. With `plain` the plain engine steps beside the stepper, to
+   bytes of its own, until they part. */
 struct run {
     uint64_t step;
     uint8_t *state, *next, *outputs;
     const uint8_t *inputs;
+    int plain, parted;
+    uint8_t *plain_next, *plain_outputs;
 };
 
 /* The values that the waveform showed last: of inputs, latches, outputs. */

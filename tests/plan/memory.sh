@@ -10,6 +10,7 @@ valgrind_on_small() {
     accepts examples/toggle.aig rewire examples/toggle.aig 0 2 6
     refuses "refused 22 at 9" rewire examples/guard.aig 9 0 0
     accepts examples/guard.trace trace examples/guard.aag examples/guard.vectors
+    accepts examples/guard.trace plain examples/guard.aag examples/guard.vectors
     printf '%s\n' 'left needle (o0) is 1 at step 5, because' 'odd row (l0) is 1' 'left border (i0) is 1' >"$room/told"
     accepts "$room/told" explain --output 'left needle' --step 5 examples/selector.aag examples/selector.vectors
     refuses "refused 17 at 2" explain --output 1 --step 4 examples/selector.aag examples/selector.vectors

@@ -43,7 +43,7 @@ not_written() {
 # Standard output that is full, for every verb.
 full_output() {
     local words
-    for words in "check" "convert" "reduce" "drop" "words" "draw" "trace" "trace --vcd" "witness" \
+    for words in "check" "convert" "reduce" "drop" "words" "draw" "trace" "trace --vcd" "plain" "witness" \
         "same examples/toggle.aag" "same examples/guard.aag"; do
         # shellcheck disable=SC2086 # a verb, its options, and the first of two plans
         $command $words examples/toggle.aag <examples/toggle.vectors >/dev/full 2>"$room/error"

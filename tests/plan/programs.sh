@@ -27,6 +27,7 @@ agree() {
     agrees converter "$1" /dev/null convert "$1"
     agrees reducer "$1" /dev/null reduce "$1"
     agrees tracer "$1" "$2" trace "$1" "$2"
+    agrees comparer "$1" "$2" plain "$1" "$2"
     agrees reporter "$1" "$2" report "$1" "$2"
     agrees carder "$1" /dev/null card "$1"
 }
@@ -59,6 +60,19 @@ on_damaged() {
     for vectors in "$room/streams"/*; do agrees tracer examples/toggle.aag "$vectors" trace examples/toggle.aag "$vectors"; done
 }
 
+# As many gates as the comparer takes, and one more: each is the And of the one below and itself.
+on_few_gates() {
+    local gates
+    printf '1\nx\n' >"$room/vectors"
+    for gates in 24 25; do
+        {
+            printf 'aig %d 1 0 1 %d\n%d\n' $((gates + 1)) $gates $((2 * gates + 2))
+            printf '\2\0%.0s' $(seq $gates)
+        } >"$room/plan"
+        agree "$room/plan" "$room/vectors"
+    done
+}
+
 # The cards of every plan that they can hold.
 on_cards() {
     local plan cards=$room/cards
@@ -77,7 +91,8 @@ on_cards() {
 
 starts=$(starter)
 mkdir "$room/in"
-build_programs converter reducer tracer reporter filer carder
+build_programs converter reducer tracer comparer reporter filer carder
 on_whole
 on_damaged
+on_few_gates
 on_cards
