@@ -90,7 +90,7 @@ wrong_folders() {
     holds "lines to a full device" [ "$? $(cat "$room/error")" = "2 plan: standard output: No space left on device" ]
     mkdir "$room/empty"
     echo "0 of 0 moved" >"$room/lines"
-    accepts "$room/lines" file -o "$room/made" "$room/empty"
+    accepts "$room/lines" file -o "$room/empty-plans" "$room/empty"
 }
 
 # Four hundred patterns, of which every fortieth is cut short.

@@ -78,18 +78,22 @@ full_disk() {
     rm -r "$room/to"/* "$folder"
 }
 
-# Ended in the middle of a long trace.
+# Ended in the middle of a trace that takes so long that it does not end by itself, whatever else runs: 2,000 gates in a chain.
 ended_early() {
     local number
     echo kept >"$room/to/made"
     yes 11 | head -n 5000000 >"$room/vectors"
+    {
+        printf 'aag 2002 2 0 1 2000\n2\n4\n4004\n'
+        for number in {3..2002}; do echo "$((2 * number)) $((2 * number - 2)) 2"; done
+    } >"$room/chain"
     for number in INT QUIT; do
         # shellcheck disable=SC2086 # the emulator may stand before it
-        timeout -s $number 0.3 $plain trace -o "$room/to/made" examples/toggle.aag "$room/vectors"
+        timeout -s $number 0.3 $plain trace -o "$room/to/made" "$room/chain" "$room/vectors"
         holds "interrupted by $number" test "124 made" = "$? $(left)"
     done
     for number in TERM HUP; do
-        $plain trace -o "$room/to/made" examples/toggle.aag "$room/vectors" &
+        $plain trace -o "$room/to/made" "$room/chain" "$room/vectors" &
         while [ "$(left | wc -l)" = 1 ] && kill -0 $! 2>/dev/null; do :; done
         kill -s $number $!
         wait $! 2>/dev/null
