@@ -87,13 +87,15 @@ ended_early() {
         printf 'aag 2002 2 0 1 2000\n2\n4\n4004\n'
         for number in {3..2002}; do echo "$((2 * number)) $((2 * number - 2)) 2"; done
     } >"$room/chain"
+    # whoever runs the tests may have signals ignored, as nohup and a shell's background do
     for number in INT QUIT; do
         # shellcheck disable=SC2086 # the emulator may stand before it
-        timeout -s $number 0.3 $plain trace -o "$room/to/made" "$room/chain" "$room/vectors"
+        env --default-signal=$number timeout -s $number 0.3 $plain trace -o "$room/to/made" "$room/chain" "$room/vectors"
         holds "interrupted by $number" test "124 made" = "$? $(left)"
     done
     for number in TERM HUP; do
-        $plain trace -o "$room/to/made" "$room/chain" "$room/vectors" &
+        # shellcheck disable=SC2086 # the emulator may stand before it
+        env --default-signal=$number $plain trace -o "$room/to/made" "$room/chain" "$room/vectors" &
         while [ "$(left | wc -l)" = 1 ] && kill -0 $! 2>/dev/null; do :; done
         kill -s $number $!
         wait $! 2>/dev/null
