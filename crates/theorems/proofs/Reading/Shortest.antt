@@ -55,7 +55,7 @@ resets-long k (base ∷ bases) [] h = tt
 resets-long k (base ∷ bases) (r ∷ rs) h = (omega (arith, length-append base (r ∷ []), h .0), resets-long k bases rs (h .1))
 
 -- and no line that spells them is shorter
-zeros-short : (j : ℕ) → shortest zero (replicate j 0) ≡ []
+pub zeros-short : (j : ℕ) → shortest zero (replicate j 0) ≡ []
 zeros-short zero = refl
 zeros-short (suc j) = ap (unlessZero 0) (zeros-short j)
 
