@@ -20,7 +20,7 @@ use Rattle.plan.specs.Header.{Head, binary, header}
 use Rattle.plan.specs.Binary.{binaryOf, binaryOrder}
 use Rattle.plan.specs.Reading.{States, Shortest}
 use Rattle.plan.specs.Given.{Given, given, lentAlone, failing, stages, orderStage, tailStage, roomStage}
-use Rattle.plan.specs.Outcome.{ReadEntry, loadBy, load, writeBinary}
+use Rattle.plan.specs.Outcome.{ReadEntry, loadBy, loadAs, writeBinary}
 use Rattle.plan.specs.Cards.{cardsOf, holdable, CardStates, readCards, loadCards, cardStage, writeCards}
 use Rattle.theorems.proofs.Reading.Common.{and-left, and-right}
 use Rattle.theorems.proofs.Reading.Differences.{Bytes}
@@ -83,7 +83,7 @@ module _ (k : CardCall) where
 
 -- the counts that a reader of AIGER leaves
 pub read-counts : (r : ReadCall) → r .counts ≡ countsOf (readCircuit r)
-read-counts r = let l = load-left (r .entry) (r .bytes) (r .counts) (r .start) (r .accepted) in l .2 ∙ ap countsOf (sym (l .3))
+read-counts r = let l = load-left (r .version) (r .entry) (r .bytes) (r .counts) (r .start) (r .accepted) in l .2 ∙ ap countsOf (sym (l .3))
 
 -- the bytes that a writer of cards wrote state the given circuit, and there was no tail
 module _ (w : WriteCall writeCards) where
@@ -113,7 +113,7 @@ module _ (w : WriteCall writeCards) where
 pub cards-through-binary : (k : CardCall)
     → (b : WriteCall writeBinary) → Handed (b .entry .circuit) (k .counts) (loadCards (k .entry) .tables)
     → (r : ReadCall) → r .entry .file ≡ fileOf writeBinary b
-    → (w : WriteCall writeCards) → Handed (w .entry .circuit) (r .counts) (load (r .entry) .tables)
+    → (w : WriteCall writeCards) → Handed (w .entry .circuit) (r .counts) (loadAs (r .version) (r .entry) .tables)
     → fileOf writeCards w ≡ k .entry .file
 cards-through-binary k b b-given r r-file w w-given =
     let again = subst (λ (x : List ℕ). States V19 x (readCircuit r) (readTail r)) r-file (read-states r) in
@@ -125,7 +125,7 @@ cards-through-binary k b b-given r r-file w w-given =
 -- a binary file in the shortest form, read, written as cards with the tail that was read, read and written as binary: the same bytes
 pub binary-through-cards : (r : ReadCall) (h : Head) (at : ℕ) → header V19 (r .entry .file) 0 ≡ got h at → h .form ≡ binary
     → Shortest (r .entry .file) (readCircuit r) (readTail r)
-    → (w : WriteCall writeCards) → Handed (w .entry .circuit) (r .counts) (load (r .entry) .tables) → w .entry .tail ≡ readTail r
+    → (w : WriteCall writeCards) → Handed (w .entry .circuit) (r .counts) (loadAs (r .version) (r .entry) .tables) → w .entry .tail ≡ readTail r
     → (k : CardCall) → k .entry .file ≡ fileOf writeCards w
     → (b : WriteCall writeBinary) → Handed (b .entry .circuit) (k .counts) (loadCards (k .entry) .tables) → b .entry .tail ≡ []
     → fileOf writeBinary b ≡ r .entry .file

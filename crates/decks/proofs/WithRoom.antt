@@ -20,7 +20,7 @@ use Rattle.plan.specs.Header.{Head, binary, header}
 use Rattle.plan.specs.Binary.{binaryOf, binaryOrder}
 use Rattle.plan.specs.Reading.{WellFormed, Shortest, Room, RoomToRead}
 use Rattle.plan.specs.Given.{Given, given, lentAlone, stages, orderStage, tailStage, roomStage}
-use Rattle.plan.specs.Outcome.{ReadEntry, LoadExit, loadBy, load, FileEntry, FileExit, writtenBy, writeBinary}
+use Rattle.plan.specs.Outcome.{ReadEntry, LoadExit, loadBy, loadAs, load, FileEntry, FileExit, writtenBy, writeBinary}
 use Rattle.plan.specs.Cards.{cardsOf, holdable, readCards, loadCards, cardStage, writeCards}
 use Rattle.theorems.proofs.Put.{put-first}
 use Rattle.theorems.proofs.Reading.Common.{and-intro}
@@ -152,7 +152,7 @@ cards-there-and-back k b room =
 -- bytes
 pub binary-there-and-back : (r : ReadCall) (h : Head) (at : ℕ) → header V19 (r .entry .file) 0 ≡ got h at → h .form ≡ binary
     → Shortest (r .entry .file) (readCircuit r) [] → holdable (readCircuit r) ≡ true
-    → (w : FileEntry) → Roomy w (r .counts) (load (r .entry) .tables) (cardsOf (readCircuit r))
+    → (w : FileEntry) → Roomy w (r .counts) (loadAs (r .version) (r .entry) .tables) (cardsOf (readCircuit r))
     → (n : ℕ) × (writeCards w .answer ≡ written.Bytes n)
     × ((e : ReadEntry) → e .file ≡ take n (writeCards w .out) → Room (readCircuit r) (lengthsOf (e .tables) (e .scratch))
     → (m : Counts) × (s : ℕ) × (loadCards e .answer ≡ loaded.Accepted m s) × (drop s (e .file) ≡ [])
@@ -163,7 +163,7 @@ binary-there-and-back r h at head form shortest held w room =
     let o : binaryOrder c ≡ true = binary-stated (r .entry .file) c (readTail r) h at head form (read-states r) in
     let file-is : binaryOf c ≡ r .entry .file
     = sym (binary-shortest (r .entry .file) c [] h at head form shortest ∙ append-nil (binaryOf c)) in
-    let there = cards-done c f o (r .counts) (load (r .entry) .tables) (read-counts r) refl w held room in (
+    let there = cards-done c f o (r .counts) (loadAs (r .version) (r .entry) .tables) (read-counts r) refl w held room in (
       length (cardsOf c),
       ap (λ (x : FileExit). x .answer) there,
       λ e file words.

@@ -79,7 +79,7 @@ module _ (e : OpenEntry) where
           read-is : (c : Circuit) × (parse ≡ got c start) × (n ≡ countsOf c) × (given g ≡ c)
               × (scratchToWork n ≤ length (e .scratch) → Left g c)
           read-is =
-              let l = load-left (reading e) bytes n start (ap (λ (y : LoadExit). y .answer) (sym said) ∙ a) in (
+              let l = load-left V19 (reading e) bytes n start (ap (λ (y : LoadExit). y .answer) (sym said) ∙ a) in (
                 l .0,
                 l .1,
                 l .2,

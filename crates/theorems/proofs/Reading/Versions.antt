@@ -9,6 +9,7 @@ use lib.Dec.{eqb}
 use lib.ListN.{drop}
 use Rattle.plan.specs.declared.Counts.{Counts}
 use Rattle.plan.specs.declared.Refusal.{Refusal}
+use Rattle.plan.specs.declared.Version.{Version}
 use Rattle.plan.specs.declared.Version.the-variants.{V2007, V19}
 use Rattle.plan.specs.Refusals.{Parse, got, refused}
 use Rattle.plan.specs.Circuit.{Circuit, countsOf}
@@ -63,6 +64,11 @@ tail-more n tail t =
 pub states-more : (file : List ℕ) (c : Circuit) (tail : List ℕ) → States V2007 file c tail → States V19 file c tail
 states-more file c tail (asText s e w t) = asText (spelled-more c 2 _ s) e w (tail-more (countsOf c) tail t)
 states-more file c tail (asBinary s e o w t) = asBinary (spelled-more c 1 _ s) e o w (tail-more (countsOf c) tail t)
+
+-- so whatever a version states, 1.9 states
+pub states-by : (v : Version) (file : List ℕ) (c : Circuit) (tail : List ℕ) → States v file c tail → States V19 file c tail
+states-by V2007 file c tail s = states-more file c tail s
+states-by V19 file c tail s = s
 
 -- what the reader of 2007 accepts is what 1.9 states
 pub old-same : (file lengths : List ℕ) → Bytes file → (c d : Circuit) (tail : List ℕ) (start : ℕ) → States V19 file c tail

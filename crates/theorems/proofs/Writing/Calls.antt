@@ -2,26 +2,31 @@
 use Prim.Native.Nat.{ℕ}
 use mathlib.Core.Path.{_≡_, sym, ap, ap₂, _∙_, subst}
 use mathlib.Core.Bool.{true}
+use mathlib.Core.Logic.{_⊎_, inl, inr}
+use native.Mathlib.Omega.{arith}
 use mathlib.Core.List.{List, _++_}
 use lib.ListN.{length, take, drop}
-use Rattle.plan.specs.declared.Version.the-variants.{V19}
+use Rattle.plan.specs.declared.Version.{Version}
+use Rattle.plan.specs.declared.Version.the-variants.{V2007, V19}
 use Rattle.plan.specs.declared.Counts.{Counts}
 use Rattle.plan.specs.declared.Loaded.the-variants as loaded
 use Rattle.plan.specs.declared.Made.the-variants as made
 use Rattle.plan.specs.declared.Written.the-variants as written
 use Rattle.plan.specs.Refusals.{got}
 use Rattle.plan.specs.Circuit.{Circuit, circuitOf, lengthsOf}
-use Rattle.plan.specs.Header.{Head, text, binary, header}
+use Rattle.plan.specs.Header.{Head, text, binary, header, formIn}
 use Rattle.plan.specs.Text.{textOf}
 use Rattle.plan.specs.Binary.{binaryOf, binaryOrder}
-use Rattle.plan.specs.Reading.{WellFormed, States, Shortest}
+use Rattle.plan.specs.Reading.{WellFormed, States, asText, asBinary, Shortest, shortText, shortBinary}
 use Rattle.plan.specs.Given.{Given, given}
 use Rattle.plan.specs.Convert.{convert}
 use Rattle.plan.specs.Reduce.{reduce}
 use Rattle.plan.specs.Step.{Value, run, first}
-use Rattle.plan.specs.Outcome.{ReadEntry, load, FileEntry, FileExit, writeText, writeBinary, MakeEntry, MakeExit, conversion, reduction}
+use Rattle.plan.specs.Outcome.{ReadEntry, loadAs, FileEntry, FileExit, writeText, writeBinary, MakeEntry, MakeExit, conversion, reduction}
 use Rattle.theorems.proofs.Reading.Differences.{Bytes}
 use Rattle.theorems.proofs.Reading.Exactly.{sound, formed, unique}
+use Rattle.theorems.proofs.Reading.Versions.{states-by}
+use Rattle.theorems.proofs.Reading.Trimmed.{NothingLeftOver, old-short, short-exactly-trimmed}
 use Rattle.theorems.proofs.Running.Monotone.{Replaced, Kept}
 use Rattle.theorems.proofs.Running.Runs.{Sized}
 use Rattle.theorems.proofs.Running.WithoutX.{NoX, NoXs}
@@ -31,13 +36,14 @@ use Rattle.theorems.proofs.Writing.Written.{text-bytes, text-states, bi
 use Rattle.theorems.proofs.Writing.ThereAndBack.{binary-stated, binary-shortest, text-shortest}
 use Rattle.theorems.proofs.Writing.Later.{load-left, conversion-left, reduction-left}
 
--- an accepted read, of bytes; an accepted conversion or reduction; an accepted write
+-- an accepted read by a version, of bytes; an accepted conversion or reduction; an accepted write
 pub record ReadCall : Type 0 where
+  pub version : Version
   pub entry : ReadEntry
   pub counts : Counts
   pub start : ℕ
   pub bytes : Bytes (entry .file)
-  pub accepted : load entry .answer ≡ loaded.Accepted counts start
+  pub accepted : loadAs version entry .answer ≡ loaded.Accepted counts start
 
 pub record MakeCall (f : MakeEntry → MakeExit) : Type 0 where
   pub entry : MakeEntry
@@ -51,7 +57,7 @@ pub record WriteCall (f : FileEntry → FileExit) : Type 0 where
 
 -- the circuit and the tail that a read leaves, the circuit that a conversion or a reduction leaves, the file that a writer leaves
 abbrev pub readCircuit : ReadCall → Circuit
-readCircuit r = circuitOf (r .counts) (load (r .entry) .tables)
+readCircuit r = circuitOf (r .counts) (loadAs (r .version) (r .entry) .tables)
 
 abbrev pub readTail : ReadCall → List ℕ
 readTail r = drop (r .start) (r .entry .file)
@@ -64,7 +70,7 @@ fileOf f w = take (w .size) (f (w .entry) .out)
 
 -- a call is handed the counts and the tables that a read, or a conversion or reduction, left
 abbrev pub FromRead : Given → ReadCall → Type 0
-FromRead g r = (g .counts ≡ r .counts) × (g .tables ≡ load (r .entry) .tables)
+FromRead g r = (g .counts ≡ r .counts) × (g .tables ≡ loadAs (r .version) (r .entry) .tables)
 
 abbrev pub FromMade : (f : MakeEntry → MakeExit) → Given → MakeCall f → Type 0
 FromMade f g m = (g .counts ≡ m .counts) × (g .tables ≡ f (m .entry) .written)
@@ -75,13 +81,17 @@ from-read g r h = ap₂ circuitOf (h .0) (h .1)
 pub from-made : (f : MakeEntry → MakeExit) (g : Given) (m : MakeCall f) → FromMade f g m → given g ≡ madeCircuit f m
 from-made f g m h = ap₂ circuitOf (h .0) (h .1)
 
--- what each leaves
-pub read-states : (r : ReadCall) → States V19 (r .entry .file) (readCircuit r) (readTail r)
-read-states r =
+-- what each leaves: by the version's own report, and so by 1.9
+pub read-stated : (r : ReadCall) → States (r .version) (r .entry .file) (readCircuit r) (readTail r)
+read-stated r =
+    let v = r .version in
     let e = r .entry in
-    let l = load-left e (r .bytes) (r .counts) (r .start) (r .accepted) in
-    let s = sound V19 (e .file) (lengthsOf (e .tables) (e .scratch)) (r .bytes) (l .0) (r .start) (l .1) in
-    subst (λ (c : Circuit). States V19 (e .file) c (readTail r)) (sym (l .3)) (s .0)
+    let l = load-left v e (r .bytes) (r .counts) (r .start) (r .accepted) in
+    let s = sound v (e .file) (lengthsOf (e .tables) (e .scratch)) (r .bytes) (l .0) (r .start) (l .1) in
+    subst (λ (c : Circuit). States v (e .file) c (readTail r)) (sym (l .3)) (s .0)
+
+pub read-states : (r : ReadCall) → States V19 (r .entry .file) (readCircuit r) (readTail r)
+read-states r = states-by (r .version) (r .entry .file) (readCircuit r) (readTail r) (read-stated r)
 
 pub read-formed : (r : ReadCall) → WellFormed (readCircuit r)
 read-formed r = formed V19 (r .entry .file) (readCircuit r) (readTail r) (read-states r)
@@ -100,19 +110,15 @@ read-same file c tail s r e =
     (subst (λ (x : List ℕ). States V19 x (readCircuit r) (readTail r)) e (read-states r)) in
     (sym (u .0), sym (u .1))
 
--- the same bytes there and back, of a file in the shortest form
-module _ (r : ReadCall) (h : Head) (at : ℕ) (head : header V19 (r .entry .file) 0 ≡ got h at)
-    (short : Shortest (r .entry .file) (readCircuit r) (readTail r)) where
-  -- a binary file, read, written as text, read, converted and written as binary
-  pub binary-through-text : h .form ≡ binary
+-- the same bytes there and back. Of a file that is what the writer of its form writes of its circuit, in binary order, and its tail
+module _ (r : ReadCall) (order : binaryOrder (readCircuit r) ≡ true) where
+  binary-again : r .entry .file ≡ binaryOf (readCircuit r) ++ readTail r
       → (t : WriteCall writeText) → FromRead (t .entry .circuit) r → t .entry .tail ≡ readTail r
       → (r′ : ReadCall) → r′ .entry .file ≡ fileOf writeText t
       → (m : MakeCall conversion) → FromRead (m .entry .circuit) r′
       → (b : WriteCall writeBinary) → FromMade conversion (b .entry .circuit) m → b .entry .tail ≡ readTail r′
       → fileOf writeBinary b ≡ r .entry .file
-  binary-through-text form t t-given t-tail r′ r′-file m m-given b b-given b-tail =
-      let f = binary-shortest (r .entry .file) (readCircuit r) (readTail r) h at head form short in
-      let order = binary-stated (r .entry .file) (readCircuit r) (readTail r) h at head form (read-states r) in
+  binary-again f t t-given t-tail r′ r′-file m m-given b b-given b-tail =
       let same = read-same (fileOf writeText t) (given (t .entry .circuit)) (t .entry .tail)
       (text-states (t .entry) (t .size) (t .accepted)) r′ r′-file in
       let c-is : readCircuit r′ ≡ readCircuit r = same .0 ∙ from-read (t .entry .circuit) r t-given in
@@ -122,15 +128,13 @@ module _ (r : ReadCall) (h : Head) (at : ℕ) (head : header V19 (r .entry .file
       binary-bytes (b .entry) (b .size) (b .accepted)
       ∙ (ap₂ (λ (x : Circuit) (y : List ℕ). binaryOf x ++ y) converted (b-tail ∙ (same .1 ∙ t-tail)) ∙ sym f)
 
-  -- a text file in binary order, read, converted, written as binary, read and written as text
-  pub text-through-binary : h .form ≡ text → binaryOrder (readCircuit r) ≡ true
+  text-again : r .entry .file ≡ textOf (readCircuit r) ++ readTail r
       → (m : MakeCall conversion) → FromRead (m .entry .circuit) r
       → (b : WriteCall writeBinary) → FromMade conversion (b .entry .circuit) m → b .entry .tail ≡ readTail r
       → (r′ : ReadCall) → r′ .entry .file ≡ fileOf writeBinary b
       → (t : WriteCall writeText) → FromRead (t .entry .circuit) r′ → t .entry .tail ≡ readTail r′
       → fileOf writeText t ≡ r .entry .file
-  text-through-binary form order m m-given b b-given b-tail r′ r′-file t t-given t-tail =
-      let f = text-shortest (r .entry .file) (readCircuit r) (readTail r) h at head form short in
+  text-again f m m-given b b-given b-tail r′ r′-file t t-given t-tail =
       let converted : given (b .entry .circuit) ≡ readCircuit r
       = from-made conversion (b .entry .circuit) m b-given ∙ (converted-is m
       ∙ (ap convert (from-read (m .entry .circuit) r m-given) ∙ convert-same (readCircuit r) (read-formed r) order)) in
@@ -139,6 +143,78 @@ module _ (r : ReadCall) (h : Head) (at : ℕ) (head : header V19 (r .entry .file
       text-bytes (t .entry) (t .size) (t .accepted)
       ∙ (ap₂ (λ (x : Circuit) (y : List ℕ). textOf x ++ y) (from-read (t .entry .circuit) r′ t-given ∙ (same .0 ∙ converted))
       (t-tail ∙ (same .1 ∙ b-tail)) ∙ sym f)
+
+-- of a file in the shortest form
+module _ (r : ReadCall) (h : Head) (at : ℕ) (head : header V19 (r .entry .file) 0 ≡ got h at)
+    (short : Shortest (r .entry .file) (readCircuit r) (readTail r)) where
+  -- a binary file, read, written as text, read, converted and written as binary
+  pub binary-through-text : h .form ≡ binary
+      → (t : WriteCall writeText) → FromRead (t .entry .circuit) r → t .entry .tail ≡ readTail r
+      → (r′ : ReadCall) → r′ .entry .file ≡ fileOf writeText t
+      → (m : MakeCall conversion) → FromRead (m .entry .circuit) r′
+      → (b : WriteCall writeBinary) → FromMade conversion (b .entry .circuit) m → b .entry .tail ≡ readTail r′
+      → fileOf writeBinary b ≡ r .entry .file
+  binary-through-text form =
+      binary-again r (binary-stated (r .entry .file) (readCircuit r) (readTail r) h at head form (read-states r))
+      (binary-shortest (r .entry .file) (readCircuit r) (readTail r) h at head form short)
+
+  -- a text file in binary order, read, converted, written as binary, read and written as text
+  pub text-through-binary : h .form ≡ text → binaryOrder (readCircuit r) ≡ true
+      → (m : MakeCall conversion) → FromRead (m .entry .circuit) r
+      → (b : WriteCall writeBinary) → FromMade conversion (b .entry .circuit) m → b .entry .tail ≡ readTail r
+      → (r′ : ReadCall) → r′ .entry .file ≡ fileOf writeBinary b
+      → (t : WriteCall writeText) → FromRead (t .entry .circuit) r′ → t .entry .tail ≡ readTail r′
+      → fileOf writeText t ≡ r .entry .file
+  text-through-binary form order =
+      text-again r order (text-shortest (r .entry .file) (readCircuit r) (readTail r) h at head form short)
+
+-- the second letter of a file tells its form
+module _ (file : List ℕ) (c : Circuit) (tail : List ℕ) where
+  binary-file : formIn file ≡ binary → Shortest file c tail → States V19 file c tail → (file ≡ binaryOf c ++ tail) × (binaryOrder c ≡ true)
+  binary-file f (shortText g) s = let e : text ≡ binary = sym (ap formIn g) ∙ f in let z : _≡_ {A = ℕ} 0 1 = cc in absurd (omega arith)
+  binary-file f (shortBinary g) (asText s e w t) =
+      let h : text ≡ binary = sym (ap formIn e) ∙ f in let z : _≡_ {A = ℕ} 0 1 = cc in absurd (omega arith)
+  binary-file f (shortBinary g) (asBinary s e o w t) = (g, o)
+
+  text-file : formIn file ≡ text → Shortest file c tail → file ≡ textOf c ++ tail
+  text-file f (shortText g) = g
+  text-file f (shortBinary g) = let e : binary ≡ text = sym (ap formIn g) ∙ f in let z : _≡_ {A = ℕ} 0 1 = cc in absurd (omega arith)
+
+-- of every file that the reader of 2007 accepts, without another word: nothing can be left off there
+old-read-short : (r : ReadCall) → r .version ≡ V2007 → Shortest (r .entry .file) (readCircuit r) (readTail r)
+old-read-short r old =
+    old-short (r .entry .file) (readCircuit r) (readTail r)
+    (subst (λ (v : Version). States v (r .entry .file) (readCircuit r) (readTail r)) old (read-stated r))
+
+-- and of every file that 1.9 accepts of which no line ends in a 0 that may be left off
+module _ (r : ReadCall)
+    (short : (r .version ≡ V2007) ⊎ ((s : States V19 (r .entry .file) (readCircuit r) (readTail r)) × NothingLeftOver s)) where
+  is-short : Shortest (r .entry .file) (readCircuit r) (readTail r)
+  is-short = go short
+    where
+      go : (r .version ≡ V2007) ⊎ ((s : States V19 (r .entry .file) (readCircuit r) (readTail r)) × NothingLeftOver s)
+          → Shortest (r .entry .file) (readCircuit r) (readTail r)
+      go (inl old) = old-read-short r old
+      go (inr stated) = short-exactly-trimmed (r .entry .file) (readCircuit r) (readTail r) (stated .0) .1 (stated .1)
+
+  pub binary-is-same : formIn (r .entry .file) ≡ binary
+      → (t : WriteCall writeText) → FromRead (t .entry .circuit) r → t .entry .tail ≡ readTail r
+      → (r′ : ReadCall) → r′ .entry .file ≡ fileOf writeText t
+      → (m : MakeCall conversion) → FromRead (m .entry .circuit) r′
+      → (b : WriteCall writeBinary) → FromMade conversion (b .entry .circuit) m → b .entry .tail ≡ readTail r′
+      → fileOf writeBinary b ≡ r .entry .file
+  binary-is-same form =
+      let f = binary-file (r .entry .file) (readCircuit r) (readTail r) form is-short (read-states r) in
+      binary-again r (f .1) (f .0)
+
+  pub text-is-same : formIn (r .entry .file) ≡ text → binaryOrder (readCircuit r) ≡ true
+      → (m : MakeCall conversion) → FromRead (m .entry .circuit) r
+      → (b : WriteCall writeBinary) → FromMade conversion (b .entry .circuit) m → b .entry .tail ≡ readTail r
+      → (r′ : ReadCall) → r′ .entry .file ≡ fileOf writeBinary b
+      → (t : WriteCall writeText) → FromRead (t .entry .circuit) r′ → t .entry .tail ≡ readTail r′
+      → fileOf writeText t ≡ r .entry .file
+  text-is-same form order =
+      text-again r order (text-file (r .entry .file) (readCircuit r) (readTail r) form is-short)
 
 -- demand 3 of a read, a conversion and a reduction: whatever replaces x, at every step each output, bad state, constraint and
 -- latch, before and after, that was 0 or 1 is the same; without x in the list and the resets so is every step

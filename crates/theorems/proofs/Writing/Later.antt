@@ -7,7 +7,7 @@ use mathlib.Core.Option.{Option, none, some}
 use mathlib.Core.List.{List, [], _∷_, _++_}
 use native.Mathlib.Omega.{arith}
 use lib.ListN.{length, drop, length-replicate}
-use Rattle.plan.specs.declared.Version.the-variants.{V19}
+use Rattle.plan.specs.declared.Version.{Version}
 use Rattle.plan.specs.declared.Counts.{Counts}
 use Rattle.plan.specs.declared.Refusal.{Refusal}
 use Rattle.plan.specs.declared.Refusal.the-variants.{NotInOrder}
@@ -21,7 +21,7 @@ use Rattle.plan.specs.Binary.{binaryOrder}
 use Rattle.plan.specs.Given.{Given, given, lentAlone, lentWith, failing, stages, orderStage}
 use Rattle.plan.specs.Convert.{convert}
 use Rattle.plan.specs.Reduce.{reduce}
-use Rattle.plan.specs.Outcome.{ReadEntry, loadBy, load, checkedBy, check, checkInOrder, MakeEntry, madeBy, conversion, reduction}
+use Rattle.plan.specs.Outcome.{ReadEntry, loadBy, loadAs, checkedBy, check, checkInOrder, MakeEntry, madeBy, conversion, reduction}
 use Rattle.theorems.proofs.Reading.Differences.{Bytes}
 use Rattle.theorems.proofs.Reading.Exactly.{sound, formed, room-to-work}
 use Rattle.theorems.proofs.Reading.Short.{short-none, first-long, last-long}
@@ -79,22 +79,22 @@ module _ (c : Circuit) (t : Tables) (scratch : List ℕ) where
     fine = fine-nothing after (lentAlone after) (formed-fine after (lentAlone after) c (holding-circuit t c w) refl w (after-room w room));
   }
 
--- after reading, where table 5 is long enough for later calls: a binary file may have been read with less
-pub load-left : (e : ReadEntry) → Bytes (e .file) → (n : Counts) (start : ℕ) → load e .answer ≡ loaded.Accepted n start
-    → (c : Circuit) × (readFile V19 (e .file) (lengthsOf (e .tables) (e .scratch)) ≡ got c start)
-    × (n ≡ countsOf c) × (circuitOf n (load e .tables) ≡ c)
-    × (scratchToWork n ≤ length (e .scratch) → Left (record { counts = n; tables = load e .tables; scratch = load e .scratch }) c)
-load-left e bytes n start a = go (readFile V19 (e .file) (lengthsOf (e .tables) (e .scratch))) refl a
+-- after reading by a version, where table 5 is long enough for later calls: a binary file may have been read with less
+pub load-left : (v : Version) (e : ReadEntry) → Bytes (e .file) → (n : Counts) (start : ℕ) → loadAs v e .answer ≡ loaded.Accepted n start
+    → (c : Circuit) × (readFile v (e .file) (lengthsOf (e .tables) (e .scratch)) ≡ got c start)
+    × (n ≡ countsOf c) × (circuitOf n (loadAs v e .tables) ≡ c)
+    × (scratchToWork n ≤ length (e .scratch) → Left (record { counts = n; tables = loadAs v e .tables; scratch = loadAs v e .scratch }) c)
+load-left v e bytes n start a = go (readFile v (e .file) (lengthsOf (e .tables) (e .scratch))) refl a
   where
-    go : (p : Parse Circuit) → readFile V19 (e .file) (lengthsOf (e .tables) (e .scratch)) ≡ p
+    go : (p : Parse Circuit) → readFile v (e .file) (lengthsOf (e .tables) (e .scratch)) ≡ p
         → loadBy e p .answer ≡ loaded.Accepted n start
         → (c : Circuit) × (p ≡ got c start) × (n ≡ countsOf c) × (circuitOf n (loadBy e p .tables) ≡ c)
         × (scratchToWork n ≤ length (e .scratch) → Left (record { counts = n; tables = loadBy e p .tables; scratch = loadBy e p .scratch }) c)
     go (got c s) q a =
         let n-is : countsOf c ≡ n = cc in
         let s-is : s ≡ start = cc in
-        let r = sound V19 (e .file) (lengthsOf (e .tables) (e .scratch)) bytes c s q in
-        let w = formed V19 (e .file) c (drop s (e .file)) (r .0) in (
+        let r = sound v (e .file) (lengthsOf (e .tables) (e .scratch)) bytes c s q in
+        let w = formed v (e .file) c (drop s (e .file)) (r .0) in (
           c,
           ap (got c) s-is,
           sym n-is,

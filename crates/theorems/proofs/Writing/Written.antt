@@ -5,6 +5,7 @@ use mathlib.Core.Option.{Option, none, some}
 use mathlib.Core.List.{List, [], _∷_, _++_}
 use native.Mathlib.Omega.{arith}
 use lib.ListN.{length, take}
+use Rattle.plan.specs.declared.Version.{Version}
 use Rattle.plan.specs.declared.Version.the-variants.{V19}
 use Rattle.plan.specs.declared.Counts.{Counts}
 use Rattle.plan.specs.declared.Refusal.{Refusal}
@@ -18,7 +19,7 @@ use Rattle.plan.specs.Binary.{binaryOf, binaryOrder}
 use Rattle.plan.specs.Tail.{Symbol, tailAt, TailOk}
 use Rattle.plan.specs.Reading.{WellFormed, States, Room, Shortest, shortText, shortBinary}
 use Rattle.plan.specs.Given.{Given, given, lentAlone, failing, stages, orderStage, refusalOf, tailStage, roomStage}
-use Rattle.plan.specs.Outcome.{ReadEntry, ReadExit, read, FileEntry, writtenBy, writeText, writeBinary}
+use Rattle.plan.specs.Outcome.{ReadEntry, ReadExit, readAs, read, FileEntry, writtenBy, writeText, writeBinary}
 use Rattle.theorems.proofs.Put.{put-first}
 use Rattle.theorems.proofs.Reading.Exactly.{Accepts, complete, formed, room-to-read}
 use Rattle.theorems.proofs.Reading.Shortest.{states-text, states-binary}
@@ -117,11 +118,11 @@ module _ (e : FileEntry) (k : ℕ) (lengths : List ℕ) (room : Room (given (e .
       → Accepts V19 (take k (writeBinary e .out)) lengths (given (e .circuit)) (e .tail)
   binary-read-back a = back (take k (writeBinary e .out)) (binary-states e k a)
 
--- what `read` answers and leaves where the reader accepts
-pub read-accepts : (r : ReadEntry) (c : Circuit) (tail : List ℕ)
-    → Accepts V19 (r .file) (lengthsOf (r .tables) (r .scratch)) c tail
-    → read r ≡ record { answer = 0 ∷ 0 ∷ listOf (countsOf c); tail = tail; tables = holding (r .tables) c; scratch = cleared (r .scratch) }
-read-accepts r c tail a = rw (a .1) (λ i. record {
+-- what the reader of a version answers and leaves where it accepts
+pub read-accepts : (v : Version) (r : ReadEntry) (c : Circuit) (tail : List ℕ)
+    → Accepts v (r .file) (lengthsOf (r .tables) (r .scratch)) c tail
+    → readAs v r ≡ record { answer = 0 ∷ 0 ∷ listOf (countsOf c); tail = tail; tables = holding (r .tables) c; scratch = cleared (r .scratch) }
+read-accepts v r c tail a = rw (a .1) (λ i. record {
   answer = 0 ∷ 0 ∷ listOf (countsOf c);
   tail = a .2 i;
   tables = holding (r .tables) c;
@@ -142,11 +143,11 @@ module _ (e : FileEntry) (k : ℕ) (t : Tables) (scratch : List ℕ)
   pub written-text-is-read : writeText e .answer ≡ written.Bytes k
       → read (record { file = take k (writeText e .out); tables = t; scratch = scratch }) ≡ again
   written-text-is-read a =
-      read-accepts (record { file = take k (writeText e .out); tables = t; scratch = scratch }) (given (e .circuit)) (e .tail)
+      read-accepts V19 (record { file = take k (writeText e .out); tables = t; scratch = scratch }) (given (e .circuit)) (e .tail)
       (text-read-back e k (lengthsOf t scratch) room a)
 
   pub written-binary-is-read : writeBinary e .answer ≡ written.Bytes k
       → read (record { file = take k (writeBinary e .out); tables = t; scratch = scratch }) ≡ again
   written-binary-is-read a =
-      read-accepts (record { file = take k (writeBinary e .out); tables = t; scratch = scratch }) (given (e .circuit)) (e .tail)
+      read-accepts V19 (record { file = take k (writeBinary e .out); tables = t; scratch = scratch }) (given (e .circuit)) (e .tail)
       (binary-read-back e k (lengthsOf t scratch) room a)
