@@ -12,3 +12,5 @@ pub mod Accepting
 pub mod Stepping
 pub mod Calls
 pub mod Programs
+pub mod Over
+pub mod Refusing
