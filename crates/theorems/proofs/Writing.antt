@@ -14,3 +14,4 @@ pub mod Calls
 pub mod Programs
 pub mod Over
 pub mod Refusing
+pub mod WithRoom

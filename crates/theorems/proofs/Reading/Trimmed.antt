@@ -85,7 +85,7 @@ all-shortest-trimmed k [] = tt
 all-shortest-trimmed k (full ∷ fulls) = (shortest-trimmed k full, all-shortest-trimmed k fulls)
 
 -- a line of k numbers ends in none past them
-exact-trimmed : (k : ℕ) (row : List ℕ) → length row ≤ k → Trimmed k row
+pub exact-trimmed : (k : ℕ) (row : List ℕ) → length row ≤ k → Trimmed k row
 exact-trimmed zero [] h = refl
 exact-trimmed zero (x ∷ row) h = absurd (omega arith)
 exact-trimmed (suc k) [] h = refl

@@ -170,33 +170,28 @@ module _ (r : ReadCall) (h : Head) (at : ℕ) (head : header V19 (r .entry .file
 
 -- the second letter of a file tells its form
 module _ (file : List ℕ) (c : Circuit) (tail : List ℕ) where
-  binary-file : formIn file ≡ binary → Shortest file c tail → States V19 file c tail → (file ≡ binaryOf c ++ tail) × (binaryOrder c ≡ true)
+  pub binary-file : formIn file ≡ binary → Shortest file c tail → States V19 file c tail → (file ≡ binaryOf c ++ tail) × (binaryOrder c ≡ true)
   binary-file f (shortText g) s = let e : text ≡ binary = sym (ap formIn g) ∙ f in let z : _≡_ {A = ℕ} 0 1 = cc in absurd (omega arith)
   binary-file f (shortBinary g) (asText s e w t) =
       let h : text ≡ binary = sym (ap formIn e) ∙ f in let z : _≡_ {A = ℕ} 0 1 = cc in absurd (omega arith)
   binary-file f (shortBinary g) (asBinary s e o w t) = (g, o)
 
-  text-file : formIn file ≡ text → Shortest file c tail → file ≡ textOf c ++ tail
+  pub text-file : formIn file ≡ text → Shortest file c tail → file ≡ textOf c ++ tail
   text-file f (shortText g) = g
   text-file f (shortBinary g) = let e : binary ≡ text = sym (ap formIn g) ∙ f in let z : _≡_ {A = ℕ} 0 1 = cc in absurd (omega arith)
 
--- of every file that the reader of 2007 accepts, without another word: nothing can be left off there
-old-read-short : (r : ReadCall) → r .version ≡ V2007 → Shortest (r .entry .file) (readCircuit r) (readTail r)
-old-read-short r old =
+-- a file in the shortest form, said of the read alone: every file that the reader of 2007 accepts, as nothing can be left off there, and every
+-- file of which no line ends in a 0 that may be left off
+abbrev pub ShortFile : ReadCall → Type 0
+ShortFile r = (r .version ≡ V2007) ⊎ ((s : States V19 (r .entry .file) (readCircuit r) (readTail r)) × NothingLeftOver s)
+
+pub short-file : (r : ReadCall) → ShortFile r → Shortest (r .entry .file) (readCircuit r) (readTail r)
+short-file r (inl old) =
     old-short (r .entry .file) (readCircuit r) (readTail r)
     (subst (λ (v : Version). States v (r .entry .file) (readCircuit r) (readTail r)) old (read-stated r))
+short-file r (inr stated) = short-exactly-trimmed (r .entry .file) (readCircuit r) (readTail r) (stated .0) .1 (stated .1)
 
--- and of every file that 1.9 accepts of which no line ends in a 0 that may be left off
-module _ (r : ReadCall)
-    (short : (r .version ≡ V2007) ⊎ ((s : States V19 (r .entry .file) (readCircuit r) (readTail r)) × NothingLeftOver s)) where
-  is-short : Shortest (r .entry .file) (readCircuit r) (readTail r)
-  is-short = go short
-    where
-      go : (r .version ≡ V2007) ⊎ ((s : States V19 (r .entry .file) (readCircuit r) (readTail r)) × NothingLeftOver s)
-          → Shortest (r .entry .file) (readCircuit r) (readTail r)
-      go (inl old) = old-read-short r old
-      go (inr stated) = short-exactly-trimmed (r .entry .file) (readCircuit r) (readTail r) (stated .0) .1 (stated .1)
-
+module _ (r : ReadCall) (short : ShortFile r) where
   pub binary-is-same : formIn (r .entry .file) ≡ binary
       → (t : WriteCall writeText) → FromRead (t .entry .circuit) r → t .entry .tail ≡ readTail r
       → (r′ : ReadCall) → r′ .entry .file ≡ fileOf writeText t
@@ -204,7 +199,7 @@ module _ (r : ReadCall)
       → (b : WriteCall writeBinary) → FromMade conversion (b .entry .circuit) m → b .entry .tail ≡ readTail r′
       → fileOf writeBinary b ≡ r .entry .file
   binary-is-same form =
-      let f = binary-file (r .entry .file) (readCircuit r) (readTail r) form is-short (read-states r) in
+      let f = binary-file (r .entry .file) (readCircuit r) (readTail r) form (short-file r short) (read-states r) in
       binary-again r (f .1) (f .0)
 
   pub text-is-same : formIn (r .entry .file) ≡ text → binaryOrder (readCircuit r) ≡ true
@@ -214,7 +209,7 @@ module _ (r : ReadCall)
       → (t : WriteCall writeText) → FromRead (t .entry .circuit) r′ → t .entry .tail ≡ readTail r′
       → fileOf writeText t ≡ r .entry .file
   text-is-same form order =
-      text-again r order (text-file (r .entry .file) (readCircuit r) (readTail r) form is-short)
+      text-again r order (text-file (r .entry .file) (readCircuit r) (readTail r) form (short-file r short))
 
 -- demand 3 of a read, a conversion and a reduction: whatever replaces x, at every step each output, bad state, constraint and
 -- latch, before and after, that was 0 or 1 is the same; without x in the list and the resets so is every step
