@@ -1,9 +1,10 @@
--- "Plans on both sides of the line": the examples of every line with a mark P, from the paper's bytes to the paper's bytes.
+-- "Plans on both sides of the line": the examples of every line with a mark P, from the paper's bytes to the paper's bytes, by both reports.
 use Prim.Native.Nat.{ℕ}
 use mathlib.Core.Path.{_≡_, refl}
 use mathlib.Core.Option.{some}
 use mathlib.Core.List.{List, [], _∷_, _++_, map}
-use Rattle.plan.specs.declared.Version.the-variants.{V19}
+use Rattle.plan.specs.declared.Version.{Version}
+use Rattle.plan.specs.declared.Version.the-variants.{V2007, V19}
 use Rattle.plan.specs.Refusals.{got, _then_}
 use Rattle.plan.specs.Circuit.{Circuit}
 use Rattle.plan.specs.Bytes.{digits}
@@ -21,20 +22,20 @@ pub data Asked : Type 0 where
   value accepted converted reduced : Asked
   outputs-on reduced-outputs-on : List ℕ → Asked
 
-abbrev circuit : List ℕ → (Circuit → List ℕ) → List ℕ
-circuit file f = printed (readFile V19 file lentWords then λ c start. got (f c) start)
+abbrev circuit : Version → List ℕ → (Circuit → List ℕ) → List ℕ
+circuit v file f = printed (readFile v file lentWords then λ c start. got (f c) start)
 
 abbrev outputs : List ℕ → Circuit → List ℕ
 outputs ins c = map codeOf (outputsOf c (first c) (map valueOf ins))
 
--- the answer, in bytes; a refusal is the programs' line
-abbrev pub answer : Asked → List ℕ → List ℕ
-answer value bytes = printed (differenceSays (differenceAt bytes 0) then λ d next. got (digits d) next)
-answer accepted bytes = circuit bytes (λ c. bytesOf "accepted")
-answer converted bytes = circuit bytes (λ c. binaryOf (convert c))
-answer reduced bytes = circuit bytes (λ c. binaryOf (reduce (convert c)))
-answer (outputs-on ins) bytes = circuit bytes (outputs ins)
-answer (reduced-outputs-on ins) bytes = circuit bytes (λ c. outputs ins (reduce (convert c)))
+-- the answer, in bytes, by a version of the report; a refusal is the programs' line
+abbrev pub answer : Version → Asked → List ℕ → List ℕ
+answer v value bytes = printed (differenceSays (differenceAt bytes 0) then λ d next. got (digits d) next)
+answer v accepted bytes = circuit v bytes (λ c. bytesOf "accepted")
+answer v converted bytes = circuit v bytes (λ c. binaryOf (convert c))
+answer v reduced bytes = circuit v bytes (λ c. binaryOf (reduce (convert c)))
+answer v (outputs-on ins) bytes = circuit v bytes (outputs ins)
+answer v (reduced-outputs-on ins) bytes = circuit v bytes (λ c. outputs ins (reduce (convert c)))
 
 pub record Example : Type 0 where
   pub asked : Asked
@@ -76,8 +77,9 @@ examples =
     ∷ (reduced-outputs-on (bytesOf "x") of halves is bytesOf "1")
     ∷ []
 
-pub examples-hold : map (λ (x : Example). answer (x .asked) (x .bytes)) examples ≡ map (λ (x : Example). x .answered) examples
-examples-hold = refl
+pub examples-hold : (v : Version) → map (λ (x : Example). answer v (x .asked) (x .bytes)) examples ≡ map (λ (x : Example). x .answered) examples
+examples-hold V2007 = refl
+examples-hold V19 = refl
 
 -- the tracer on the toggle circuit: its whole output
 pub tracer-lines : tracer (some toggle) (some (bytesOf "11\n11\nx1\n10\n")) ≡ bytesOf "0 11 01 1\n1 11 10 0\n0 x1 01 x\nx 10 xx 0\n"
