@@ -15,3 +15,5 @@ pub mod Programs
 pub mod Over
 pub mod Refusing
 pub mod WithRoom
+pub mod Rowing
+pub mod Adding

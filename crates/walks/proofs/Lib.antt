@@ -5,6 +5,7 @@ pub mod Dropped
 pub mod Twice
 pub mod Reduced
 pub mod Later
+pub mod Dropping
 pub mod DemandThree
 pub mod Places
 pub mod Examples

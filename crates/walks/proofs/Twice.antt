@@ -44,7 +44,7 @@ index-seam u p ys h = index-after u p (u ∷ ys) h ∙ rw (eq-eqb u u refl) (ome
 length-snoc : (p : List ℕ) (x : ℕ) → length (p ++ (x ∷ [])) ≡ suc (length p)
 length-snoc p x = length-append p (x ∷ []) ∙ omega arith
 
-gate-left : (u : ℕ) (gs : List Gate) (g : Gate) → find u gs ≡ some g → has u (lefts gs) ≡ true
+pub gate-left : (u : ℕ) (gs : List Gate) (g : Gate) → find u gs ≡ some g → has u (lefts gs) ≡ true
 gate-left u gs g e = go (has u (lefts gs)) refl
   where
     go : (t : Bool) → has u (lefts gs) ≡ t → t ≡ true
@@ -62,7 +62,7 @@ module _ (o : List ℕ) where
       ∙ index-seam (varOf (g .lhs)) p (lefts gs) (apart p (lefts (g ∷ gs)) d (varOf (g .lhs)) (has-self (varOf (g .lhs)) (lefts gs)))
 
   -- the gate of a variable's new number
-  found-at : (p : List ℕ) (gs : List Gate) → distinct (p ++ lefts gs) ≡ true → o ≡ p ++ lefts gs → (u : ℕ) (g : Gate) → find u gs ≡ some g
+  pub found-at : (p : List ℕ) (gs : List Gate) → distinct (p ++ lefts gs) ≡ true → o ≡ p ++ lefts gs → (u : ℕ) (g : Gate) → find u gs ≡ some g
       → find (index u o) (renumberGates o (length p) gs) ≡ some (gateFor (index u o) (renumber o (g .rhs0)) (renumber o (g .rhs1)))
   found-at p [] d e u g q = let z : _≡_ {A = ℕ} 0 1 = cc in absurd (omega arith)
   found-at p (j ∷ gs) d e u g q =
@@ -96,7 +96,7 @@ module _ (o : List ℕ) where
           ∙ ap (λ (n : ℕ). find (index u o) (renumberGates o n gs)) (sym (length-snoc p (varOf (j .lhs)))) ∙ ih q
 
   -- what holds of the new number of each gate's variable
-  all-renumbered : (Q : ℕ → Type 0) (p : List ℕ) (gs : List Gate) → distinct (p ++ lefts gs) ≡ true → o ≡ p ++ lefts gs
+  pub all-renumbered : (Q : ℕ → Type 0) (p : List ℕ) (gs : List Gate) → distinct (p ++ lefts gs) ≡ true → o ≡ p ++ lefts gs
       → AllG (λ g. Q (index (varOf (g .lhs)) o)) gs → AllG (λ g. Q (varOf (g .lhs))) (renumberGates o (length p) gs)
   all-renumbered Q p [] d e a = tt
   all-renumbered Q p (g ∷ gs) d e a = (
@@ -154,7 +154,7 @@ larger-sides a b x h = go (decLe b a)
 
 -- closing gaps keeps what is reached
 module _ (c : Circuit) (once : distinct (left c) ≡ true) where
-  gates-at : closeGaps c .gates ≡ renumberGates (left c) (length (leaves c)) (c .gates)
+  pub gates-at : closeGaps c .gates ≡ renumberGates (left c) (length (leaves c)) (c .gates)
   gates-at = ap (λ (n : ℕ). renumberGates (left c) n (c .gates)) (sym (length-leaves c))
 
   still-reached : {v : ℕ} → Reached c v → Reached (closeGaps c) (index v (left c))

@@ -3,7 +3,7 @@
 -- nothing may be left off, so every file that 2007 states is in it.
 use Prim.Native.Nat.{ℕ, suc, zero, _+_, _-_, _*_, _≤_}
 use mathlib.Core.Path.{_≡_, refl, sym, ap, ap₂, _∙_, subst}
-use mathlib.Core.Bool.{Bool, true, false, false≢true}
+use mathlib.Core.Bool.{Bool, false, false≢true}
 use mathlib.Core.Logic.{_↔_}
 use mathlib.Core.List.{List, [], _∷_, _++_, append-nil, map}
 use native.Mathlib.Omega.{arith}
@@ -173,9 +173,11 @@ lines-least k n (full ∷ fulls) (row ∷ rows) s =
     let one = line-least k n full row (s .0) in
     let more = lines-least k n fulls rows (s .1) in
     let here = length-append (lineOf row) (linesOf rows) in
-    let there = length-append (lineOf (shortest k full)) (linesOf (map (shortest k) fulls)) in
-    (omega (arith, one .0, more .0, here, there), λ h. ap₂ (λ (x : List ℕ) (y : List (List ℕ)). x ∷ y)
-    (one .1 (omega (arith, more .0, here, there, h))) (more .1 (omega (arith, one .0, here, there, h))))
+    let there = length-append (lineOf (shortest k full)) (linesOf (map (shortest k) fulls)) in (
+      omega (arith, one .0, more .0, here, there),
+      λ h. ap₂ (λ (x : List ℕ) (y : List (List ℕ)). x ∷ y)
+          (one .1 (omega (arith, more .0, here, there, h))) (more .1 (omega (arith, one .0, here, there, h))),
+    )
 
 -- a file: a header, lines, the lines of latches, more lines and a tail
 module _ (f : Form) (p q tail : List ℕ) where
@@ -185,8 +187,13 @@ module _ (f : Form) (p q tail : List ℕ) where
   file-bytes : (row : List ℕ) (lats : List (List ℕ))
       → length (fileWith row lats) ≡ 4 + length (lineOf row) + (length p + (length (linesOf lats) + length q)) + length tail
   file-bytes row lats =
-      omega (arith, length-append (headerOf f row ++ (p ++ (linesOf lats ++ q))) tail, length-append (headerOf f row) (p ++ (linesOf lats ++ q)),
-      length-append p (linesOf lats ++ q), length-append (linesOf lats) q)
+      omega (
+        arith,
+        length-append (headerOf f row ++ (p ++ (linesOf lats ++ q))) tail,
+        length-append (headerOf f row) (p ++ (linesOf lats ++ q)),
+        length-append p (linesOf lats ++ q),
+        length-append (linesOf lats) q,
+      )
 
   file-least : (k n : ℕ) (c : Circuit) (full lats : List (List ℕ)) (row : List ℕ) → Spells 5 9 (allCounts (countsOf c)) row → AllSpell k n full lats
       → (length (fileWith (shortCounts (countsOf c)) (map (shortest k) full)) ≤ length (fileWith row lats))
@@ -196,9 +203,10 @@ module _ (f : Form) (p q tail : List ℕ) where
       let one = line-least 5 9 (allCounts (countsOf c)) row s in
       let more = lines-least k n full lats t in
       let here = file-bytes row lats in
-      let there = file-bytes (shortCounts (countsOf c)) (map (shortest k) full) in
-      (omega (arith, one .0, more .0, here, there),
-      λ h. (one .1 (omega (arith, more .0, here, there, h)), more .1 (omega (arith, one .0, here, there, h))))
+      let there = file-bytes (shortCounts (countsOf c)) (map (shortest k) full) in (
+        omega (arith, one .0, more .0, here, there),
+        λ h. (one .1 (omega (arith, more .0, here, there, h)), more .1 (omega (arith, one .0, here, there, h))),
+      )
 
 -- the rows of a file that is in the shortest form are the shortest
 module _ (file : List ℕ) (c : Circuit) (tail : List ℕ) where

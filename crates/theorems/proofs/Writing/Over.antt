@@ -1,9 +1,9 @@
 -- Over the calls: a read accepts exactly what its version states and the tables have room for, and then leaves just that; and the reader of 2007
 -- refuses, or answers and leaves all that the reader of 1.9 does.
 use Prim.Native.Nat.{ℕ, _≤_}
-use mathlib.Core.Path.{_≡_, refl, sym, ap, ap₂, _∙_, subst}
+use mathlib.Core.Path.{_≡_, refl, sym, ap, _∙_}
 use mathlib.Core.Logic.{_↔_, _⊎_, inl, inr}
-use mathlib.Core.List.{List, [], _∷_}
+use mathlib.Core.List.{List, _∷_}
 use native.Mathlib.Omega.{arith}
 use lib.ListN.{length, getD, drop, length-drop}
 use Rattle.plan.specs.declared.Version.{Version}
@@ -17,7 +17,7 @@ use Rattle.plan.specs.Header.{listOf}
 use Rattle.plan.specs.Reading.{readFile, States, RoomToRead}
 use Rattle.plan.specs.Outcome.{ReadEntry, LoadExit, ReadExit, loadedValues, tailOf, loadBy, loadAs, readAs, read, read2007}
 use Rattle.theorems.proofs.Reading.Differences.{Bytes}
-use Rattle.theorems.proofs.Reading.Exactly.{Accepts, sound, complete}
+use Rattle.theorems.proofs.Reading.Exactly.{sound, complete}
 use Rattle.theorems.proofs.Reading.Versions.{states-more}
 use Rattle.theorems.proofs.Reading.Places.{start-within}
 use Rattle.theorems.proofs.Writing.Written.{read-accepts}

@@ -7,7 +7,6 @@ use mathlib.Core.Option.{Option, none, some}
 use mathlib.Core.List.{List, [], _∷_, _++_, map}
 use native.Mathlib.Omega.{arith}
 use lib.ListN.{length, getD, take, drop, replicate, length-append}
-use lib.Seq.{drop-append-seam}
 use Rattle.plan.specs.declared.Version.{Version}
 use Rattle.plan.specs.declared.Version.the-variants.{V2007, V19}
 use Rattle.plan.specs.declared.Counts.{Counts}
@@ -16,13 +15,13 @@ use Rattle.plan.specs.declared.Loaded.the-variants as loaded
 use Rattle.plan.specs.declared.Made.the-variants as made
 use Rattle.plan.specs.declared.Written.the-variants as written
 use Rattle.plan.specs.Refusals.{got, firstOf}
-use Rattle.plan.specs.Circuit.{Circuit, Latch, Tables, countsOf, circuitOf, lengthsOf, holding, wordsToWork, against, short, oneLine, latchLine, nexts}
+use Rattle.plan.specs.Circuit.{Circuit, Latch, Tables, countsOf, circuitOf, lengthsOf, wordsToWork, against, short, oneLine, latchLine, nexts}
 use Rattle.plan.specs.Bytes.{withResets, Spells, AllSpell, shortest}
-use Rattle.plan.specs.Header.{text, binary, formIn, headerOf, allCounts, shortCounts}
-use Rattle.plan.specs.Text.{textLines, textLatches, textOf}
-use Rattle.plan.specs.Binary.{binaryLines, binaryLatches, binaryOf, binaryOrder}
+use Rattle.plan.specs.Header.{text, binary, formIn, allCounts, shortCounts}
+use Rattle.plan.specs.Text.{textLatches, textOf}
+use Rattle.plan.specs.Binary.{binaryLatches, binaryOf, binaryOrder}
 use Rattle.plan.specs.Tail.{TailOk}
-use Rattle.plan.specs.Reading.{WellFormed, Spelled, States, asText, asBinary, Shortest, shortText, shortBinary, RoomToRead}
+use Rattle.plan.specs.Reading.{WellFormed, Spelled, States, asText, asBinary, RoomToRead}
 use Rattle.plan.specs.Given.{Given, given, lentAlone, lentWith, stages, orderStage, tailStage, roomStage}
 use Rattle.plan.specs.Convert.{convert}
 use Rattle.plan.specs.Outcome.{ReadEntry, LoadExit, loadBy, loadAs, FileEntry, FileExit, writtenBy, writeText, writeBinary, MakeEntry, MakeExit, madeBy, conversion}
@@ -31,7 +30,6 @@ use Rattle.theorems.proofs.Reading.Exactly.{complete, formed}
 use Rattle.theorems.proofs.Reading.Rows.{Long, map-long}
 use Rattle.theorems.proofs.Reading.Shortest.{states-text, states-binary}
 use Rattle.theorems.proofs.Reading.Trimmed.{trimmed-shortest, exact-trimmed}
-use Rattle.theorems.proofs.Reading.Versions.{states-by}
 use Rattle.theorems.proofs.Running.Results.{convert-well-formed}
 use Rattle.theorems.proofs.Running.Unchanged.{convert-same}
 use Rattle.theorems.proofs.Writing.Fine.{fine-nothing}
