@@ -17,3 +17,6 @@ pub mod Refusing
 pub mod WithRoom
 pub mod Rowing
 pub mod Adding
+pub mod KeptBytes
+pub mod StepBytes
+pub mod Old

@@ -1,7 +1,7 @@
 -- Demand 3 with unused gates dropped: from a file through reading, conversion, reduction and dropping, over the definitions and over the calls.
-use Prim.Native.Nat.{ℕ, suc}
-use mathlib.Core.Path.{_≡_, refl, sym, ap, _∙_, subst}
-use mathlib.Core.List.{List, [], _∷_}
+use Prim.Native.Nat.{ℕ}
+use mathlib.Core.Path.{_≡_, sym, ap, _∙_, subst}
+use mathlib.Core.List.{List}
 use lib.ListN.{length, length-map, drop}
 use Rattle.plan.specs.declared.Version.{Version}
 use Rattle.plan.specs.Refusals.{got}
@@ -20,24 +20,12 @@ use Rattle.theorems.proofs.Running.Monotone.{Replaced, Kept}
 use Rattle.theorems.proofs.Running.Converted.{latches-convert}
 use Rattle.theorems.proofs.Running.Resets.{first-convert, first-length}
 use Rattle.theorems.proofs.Running.Results.{convert-in-order, convert-well-formed, reduce-in-order, reduce-well-formed}
-use Rattle.theorems.proofs.Running.Runs.{Sized}
+use Rattle.theorems.proofs.Running.Runs.{Sized, les-length, replaced-sized}
 use Rattle.theorems.proofs.Running.WithoutX.{NoX, NoXs}
 use Rattle.theorems.proofs.Running.DemandThree.{demand-three, demand-three-from}
 use Rattle.theorems.proofs.Writing.Calls.{ReadCall, MakeCall, readCircuit, madeCircuit, FromRead, FromMade, from-read, from-made, read-formed, converted-is, reduced-is}
 use Rattle.walks.proofs.Dropped.{drop-run}
 use Rattle.walks.proofs.Later.{dropped-is}
-
-les-length : (xs ys : List Value) → Les xs ys → length xs ≡ length ys
-les-length [] [] h = refl
-les-length [] (y ∷ ys) h = absurd h
-les-length (x ∷ xs) [] h = absurd h
-les-length (x ∷ xs) (y ∷ ys) h = ap suc (les-length xs ys (h .1))
-
-replaced-sized : (n : ℕ) (is js : List (List Value)) → Replaced is js → Sized n is → Sized n js
-replaced-sized n [] [] r z = tt
-replaced-sized n [] (j ∷ js) r z = absurd r
-replaced-sized n (i ∷ is) [] r z = absurd r
-replaced-sized n (i ∷ is) (j ∷ js) r z = (sym (les-length i j (r .0)) ∙ z .0, replaced-sized n is js (r .1) (z .1))
 
 abbrev pub after : Circuit → Circuit
 after c = dropUnused (reduce (convert c))

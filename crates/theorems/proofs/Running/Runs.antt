@@ -1,6 +1,6 @@
 -- Runs of a converted circuit and of a reduced one.
-use Prim.Native.Nat.{ℕ}
-use mathlib.Core.Path.{_≡_, refl, ap, _∙_}
+use Prim.Native.Nat.{ℕ, suc}
+use mathlib.Core.Path.{_≡_, refl, sym, ap, _∙_}
 use mathlib.Core.Bool.{true}
 use mathlib.Core.List.{List, [], _∷_}
 use lib.ListN.{length, length-map}
@@ -23,6 +23,19 @@ use Rattle.theorems.proofs.Running.ConvertStep.{convert-outputs, conver
 abbrev pub Sized : ℕ → List (List Value) → Type 0
 Sized n [] = Unit {0}
 Sized n (i ∷ is) = (length i ≡ n) × Sized n is
+
+-- x replaced leaves the lengths
+pub les-length : (xs ys : List Value) → Les xs ys → length xs ≡ length ys
+les-length [] [] h = refl
+les-length [] (y ∷ ys) h = absurd h
+les-length (x ∷ xs) [] h = absurd h
+les-length (x ∷ xs) (y ∷ ys) h = ap suc (les-length xs ys (h .1))
+
+pub replaced-sized : (n : ℕ) (is js : List (List Value)) → Replaced is js → Sized n is → Sized n js
+replaced-sized n [] [] r z = tt
+replaced-sized n [] (j ∷ js) r z = absurd r
+replaced-sized n (i ∷ is) [] r z = absurd r
+replaced-sized n (i ∷ is) (j ∷ js) r z = (sym (les-length i j (r .0)) ∙ z .0, replaced-sized n is js (r .1) (z .1))
 
 pub next-length : (c : Circuit) (s i : List Value) → length (nextOf c s i) ≡ length (c .latches)
 next-length c s i = length-map (nexts (c .latches)) (lit (valuesOf c s i)) ∙ length-nexts (c .latches)

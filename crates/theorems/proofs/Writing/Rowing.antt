@@ -91,7 +91,7 @@ module _ (e : RowsEntry) (done : stepRows e .answer ≡ stepped.Done) where
   fine : Fine g (lentAlone g)
   fine = nothing-fine g (lentAlone g) tables-pass
 
-  counts : countsOf c ≡ n
+  pub counts : countsOf (given (e .circuit)) ≡ e .circuit .counts
   counts = counts-given g (fine .room)
 
   left : Left g c
@@ -102,7 +102,7 @@ module _ (e : RowsEntry) (done : stepRows e .answer ≡ stepped.Done) where
       let all = first-all (orderStage g ∷ rowStage e ∷ []) (first-both (stages g (lentAlone g)) (orderStage g ∷ rowStage e ∷ []) passed .1) in
       failing-none (binaryOrder c) (stage-none NotInOrder (failing (binaryOrder c)) (all .0))
 
-  inputs-good : (length (e .inputs) ≡ e .rows * n .I) × (allCodes (e .inputs) ≡ true)
+  pub inputs-good : (length (e .inputs) ≡ e .rows * e .circuit .counts .I) × (allCodes (e .inputs) ≡ true)
   inputs-good =
       let all = first-all (orderStage g ∷ rowStage e ∷ []) (first-both (stages g (lentAlone g)) (orderStage g ∷ rowStage e ∷ []) passed .1) in
       let row = first-all (manyRows (e .rows) ∷ stage BadVector (rowVectors e) ∷ []) (all .1 .0) in
@@ -123,7 +123,7 @@ module _ (e : RowsEntry) (done : stepRows e .answer ≡ stepped.Done) where
       ∙ (chunk f w i (e .rows) k (e .inputs) (λ x. long (map valueOf x)) small
       ∙ ap (λ (j : ℕ). f (take j (drop (k * j) (e .inputs)))) (ap (λ (m : Counts). m .I) counts))
 
-  exit : stepRows e ≡ steppedRows none e
+  pub exit : stepRows e ≡ steppedRows none e
   exit = ap (λ (o : Option Refusal). steppedRows o e) passed
 
   -- what the plain stepper is handed for row k: the same circuit, the resets, the row's vector, and any buffer of O bytes

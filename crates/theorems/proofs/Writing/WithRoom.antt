@@ -15,7 +15,7 @@ use Rattle.plan.specs.declared.Loaded.the-variants as loaded
 use Rattle.plan.specs.declared.Made.the-variants as made
 use Rattle.plan.specs.declared.Written.the-variants as written
 use Rattle.plan.specs.Refusals.{got, firstOf}
-use Rattle.plan.specs.Circuit.{Circuit, Latch, Tables, countsOf, circuitOf, lengthsOf, wordsToWork, against, short, oneLine, latchLine, nexts}
+use Rattle.plan.specs.Circuit.{Circuit, Latch, Tables, countsOf, circuitOf, lengthsOf, scratchToWork, wordsToWork, against, short, oneLine, latchLine, nexts}
 use Rattle.plan.specs.Bytes.{withResets, Spells, AllSpell, shortest}
 use Rattle.plan.specs.Header.{text, binary, formIn, allCounts, shortCounts}
 use Rattle.plan.specs.Text.{textLatches, textOf}
@@ -32,7 +32,7 @@ use Rattle.theorems.proofs.Reading.Shortest.{states-text, states-binary
 use Rattle.theorems.proofs.Reading.Trimmed.{trimmed-shortest, exact-trimmed}
 use Rattle.theorems.proofs.Running.Results.{convert-well-formed}
 use Rattle.theorems.proofs.Running.Unchanged.{convert-same}
-use Rattle.theorems.proofs.Writing.Fine.{fine-nothing}
+use Rattle.theorems.proofs.Writing.Fine.{nothing-fine, fine-nothing}
 use Rattle.theorems.proofs.Writing.Holding.{holding-circuit, formed-fine}
 use Rattle.theorems.proofs.Writing.Later.{Left, load-left}
 use Rattle.theorems.proofs.Writing.Accepting.{text-accepted, binary-accepted, conversion-accepted}
@@ -202,6 +202,27 @@ module _ (c : Circuit) (tail : List ℕ) where
 -- the counts that a read leaves
 pub counts-read : (r : ReadCall) → r .counts ≡ countsOf (readCircuit r)
 counts-read r = let l = load-left (r .version) (r .entry) (r .bytes) (r .counts) (r .start) (r .accepted) in l .2 ∙ ap countsOf (sym (l .3))
+
+-- what a read left, handed on as it is, has room where table 5 is long enough for it: for a writer whose buffer holds the bytes, and for a
+-- conversion whose tables are long enough
+module _ (r : ReadCall) (five : scratchToWork (r .counts) ≤ length (r .entry .scratch)) where
+  abbrev pub leftByRead : Given
+  leftByRead =
+      let x = loadAs (r .version) (r .entry) in
+      record { counts = r .counts; tables = x .tables; scratch = x .scratch }
+
+  left-words : Long-enough (r .counts) (loadAs (r .version) (r .entry) .tables) (loadAs (r .version) (r .entry) .scratch)
+  left-words =
+      let l = load-left (r .version) (r .entry) (r .bytes) (r .counts) (r .start) (r .accepted) in
+      nothing-fine leftByRead (lentAlone leftByRead) (l .4 five .fine) .room
+
+  pub read-write-room : (tail bytes out : List ℕ) → length bytes ≤ length out
+      → WriteRoom (record { circuit = leftByRead; tail = tail; out = out }) (r .counts) (loadAs (r .version) (r .entry) .tables) tail bytes
+  read-write-room tail bytes out h = record { handed = (refl, refl); tail-handed = refl; words = left-words; space = h }
+
+  pub read-make-room : (t : Tables) → Long-enough (r .counts) t (loadAs (r .version) (r .entry) .scratch)
+      → MakeRoom (record { circuit = leftByRead; written = t }) (r .counts) (loadAs (r .version) (r .entry) .tables)
+  read-make-room t h = record { handed = (refl, refl); words = left-words; written = h }
 
 -- what was read is written as text, read by the same version, converted and written as binary: none refuses, and the last leaves the same file
 abbrev pub BinaryAndBack : ReadCall → Type 0
