@@ -16,7 +16,7 @@ use Rattle.plan.specs.declared.Refusal.the-variants.{NotInOrder, NotOnCards}
 use Rattle.plan.specs.declared.Loaded.the-variants as loaded
 use Rattle.plan.specs.Refusals.{Parse, got, refused, firstOf}
 use Rattle.plan.specs.Circuit.{Circuit, Tables, countsOf, circuitOf, lengthsOf, holding, cleared}
-use Rattle.plan.specs.Header.{Head, binary, header}
+use Rattle.plan.specs.Header.{Head, binary, header, formIn}
 use Rattle.plan.specs.Binary.{binaryOf, binaryOrder}
 use Rattle.plan.specs.Reading.{States, Shortest}
 use Rattle.plan.specs.Given.{Given, given, lentAlone, failing, stages, orderStage, tailStage, roomStage}
@@ -30,7 +30,7 @@ use Rattle.theorems.proofs.Writing.Fine.{nothing-fine}
 use Rattle.theorems.proofs.Writing.Written.{wrote, binary-bytes, binary-states}
 use Rattle.theorems.proofs.Writing.Later.{Left, left, load-left}
 use Rattle.theorems.proofs.Writing.ThereAndBack.{binary-shortest}
-use Rattle.theorems.proofs.Writing.Calls.{ReadCall, WriteCall, readCircuit, readTail, fileOf, read-states}
+use Rattle.theorems.proofs.Writing.Calls.{ReadCall, WriteCall, readCircuit, readTail, fileOf, read-states, binary-file, ShortFile, short-file}
 use Rattle.decks.proofs.Exactly.{empty-list, cards-formed, cards-state, cards-room, cards-unique}
 
 -- an accepted read of cards, of bytes, and the circuit that it leaves
@@ -122,18 +122,36 @@ cards-through-binary k b b-given r r-file w w-given =
     (binary-states (b .entry) (b .size) (b .accepted)) .0 in
     cards-written w .0 .cards ∙ (ap cardsOf (w-given .1 ∙ (same ∙ b-given .1)) ∙ sym (card-states k .cards))
 
--- a binary file in the shortest form, read, written as cards with the tail that was read, read and written as binary: the same bytes
+-- a binary file that is what the writer writes of its circuit and tail, read, written as cards with the tail that was read, read and written as
+-- binary: the same bytes
+through-cards : (r : ReadCall) → r .entry .file ≡ binaryOf (readCircuit r) ++ readTail r
+    → (w : WriteCall writeCards) → Handed (w .entry .circuit) (r .counts) (loadAs (r .version) (r .entry) .tables) → w .entry .tail ≡ readTail r
+    → (k : CardCall) → k .entry .file ≡ fileOf writeCards w
+    → (b : WriteCall writeBinary) → Handed (b .entry .circuit) (k .counts) (loadCards (k .entry) .tables) → b .entry .tail ≡ []
+    → fileOf writeBinary b ≡ r .entry .file
+through-cards r file-is w w-given w-tail k k-file b b-given b-tail =
+    let there = cards-written w in
+    let same : cardCircuit k ≡ given (w .entry .circuit)
+    = cards-unique (fileOf writeCards w) (cardCircuit k) (given (w .entry .circuit))
+    (subst (λ (x : List ℕ). CardStates x (cardCircuit k)) k-file (card-states k)) (there .0) in
+    binary-bytes (b .entry) (b .size) (b .accepted)
+    ∙ (ap₂ (λ (c : Circuit) (t : List ℕ). binaryOf c ++ t) (b-given .1 ∙ (same ∙ w-given .1)) (b-tail ∙ (sym (there .1) ∙ w-tail)) ∙ sym file-is)
+
+-- in the shortest form
 pub binary-through-cards : (r : ReadCall) (h : Head) (at : ℕ) → header V19 (r .entry .file) 0 ≡ got h at → h .form ≡ binary
     → Shortest (r .entry .file) (readCircuit r) (readTail r)
     → (w : WriteCall writeCards) → Handed (w .entry .circuit) (r .counts) (loadAs (r .version) (r .entry) .tables) → w .entry .tail ≡ readTail r
     → (k : CardCall) → k .entry .file ≡ fileOf writeCards w
     → (b : WriteCall writeBinary) → Handed (b .entry .circuit) (k .counts) (loadCards (k .entry) .tables) → b .entry .tail ≡ []
     → fileOf writeBinary b ≡ r .entry .file
-binary-through-cards r h at head form shortest w w-given w-tail k k-file b b-given b-tail =
-    let there = cards-written w in
-    let same : cardCircuit k ≡ given (w .entry .circuit)
-    = cards-unique (fileOf writeCards w) (cardCircuit k) (given (w .entry .circuit))
-    (subst (λ (x : List ℕ). CardStates x (cardCircuit k)) k-file (card-states k)) (there .0) in
-    binary-bytes (b .entry) (b .size) (b .accepted)
-    ∙ (ap₂ (λ (c : Circuit) (t : List ℕ). binaryOf c ++ t) (b-given .1 ∙ (same ∙ w-given .1)) (b-tail ∙ (sym (there .1) ∙ w-tail))
-    ∙ sym (binary-shortest (r .entry .file) (readCircuit r) (readTail r) h at head form shortest))
+binary-through-cards r h at head form shortest =
+    through-cards r (binary-shortest (r .entry .file) (readCircuit r) (readTail r) h at head form shortest)
+
+-- said of the read alone: every binary file that 2007 accepts, and every one of which no line ends in a 0 that may be left off
+pub short-through-cards : (r : ReadCall) → ShortFile r → formIn (r .entry .file) ≡ binary
+    → (w : WriteCall writeCards) → Handed (w .entry .circuit) (r .counts) (loadAs (r .version) (r .entry) .tables) → w .entry .tail ≡ readTail r
+    → (k : CardCall) → k .entry .file ≡ fileOf writeCards w
+    → (b : WriteCall writeBinary) → Handed (b .entry .circuit) (k .counts) (loadCards (k .entry) .tables) → b .entry .tail ≡ []
+    → fileOf writeBinary b ≡ r .entry .file
+short-through-cards r short form =
+    through-cards r (binary-file (r .entry .file) (readCircuit r) (readTail r) form (short-file r short) (read-states r) .0)

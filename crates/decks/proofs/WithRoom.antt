@@ -16,7 +16,7 @@ use Rattle.plan.specs.declared.Loaded.the-variants as loaded
 use Rattle.plan.specs.declared.Written.the-variants as written
 use Rattle.plan.specs.Refusals.{got, firstOf}
 use Rattle.plan.specs.Circuit.{Circuit, Tables, countsOf, circuitOf, lengthsOf, wordsToWork, against, short}
-use Rattle.plan.specs.Header.{Head, binary, header}
+use Rattle.plan.specs.Header.{Head, binary, header, formIn}
 use Rattle.plan.specs.Binary.{binaryOf, binaryOrder}
 use Rattle.plan.specs.Reading.{WellFormed, Shortest, Room, RoomToRead}
 use Rattle.plan.specs.Given.{Given, given, lentAlone, stages, orderStage, tailStage, roomStage}
@@ -30,7 +30,7 @@ use Rattle.theorems.proofs.Writing.Nothing.{both-first}
 use Rattle.theorems.proofs.Writing.Fine.{nothing-fine, fine-nothing}
 use Rattle.theorems.proofs.Writing.Holding.{holding-circuit, formed-fine}
 use Rattle.theorems.proofs.Writing.ThereAndBack.{binary-stated, binary-shortest}
-use Rattle.theorems.proofs.Writing.Calls.{ReadCall, readCircuit, readTail, read-states, read-formed}
+use Rattle.theorems.proofs.Writing.Calls.{ReadCall, readCircuit, readTail, read-states, read-formed, binary-file, ShortFile, short-file}
 use Rattle.decks.proofs.Exactly.{cards-read}
 use Rattle.decks.proofs.Back.{no-tail}
 use Rattle.decks.proofs.Calls.{CardCall, cardCircuit, Handed, read-cards, card-states, card-counts, read-counts}
@@ -148,21 +148,21 @@ cards-there-and-back k b room =
           ),
     )
 
--- a binary file in the shortest form that was read, has no tail and can stand on cards, is written as cards, read and written as binary: the same
--- bytes
-pub binary-there-and-back : (r : ReadCall) (h : Head) (at : ℕ) → header V19 (r .entry .file) 0 ≡ got h at → h .form ≡ binary
-    → Shortest (r .entry .file) (readCircuit r) [] → holdable (readCircuit r) ≡ true
-    → (w : FileEntry) → Roomy w (r .counts) (loadAs (r .version) (r .entry) .tables) (cardsOf (readCircuit r))
+-- a binary file that was read, is what the writer writes of its circuit, has no tail and can stand on cards, is written as cards, read and
+-- written as binary: the same bytes
+abbrev pub CardsAndBack : ReadCall → Type 0
+CardsAndBack r =
+    (w : FileEntry) → Roomy w (r .counts) (loadAs (r .version) (r .entry) .tables) (cardsOf (readCircuit r))
     → (n : ℕ) × (writeCards w .answer ≡ written.Bytes n)
     × ((e : ReadEntry) → e .file ≡ take n (writeCards w .out) → Room (readCircuit r) (lengthsOf (e .tables) (e .scratch))
     → (m : Counts) × (s : ℕ) × (loadCards e .answer ≡ loaded.Accepted m s) × (drop s (e .file) ≡ [])
     × ((b : FileEntry) → Roomy b m (loadCards e .tables) (r .entry .file) → writeBinary b ≡ writtenBy none b (r .entry .file)))
-binary-there-and-back r h at head form shortest held w room =
+
+and-back : (r : ReadCall) → binaryOrder (readCircuit r) ≡ true → binaryOf (readCircuit r) ≡ r .entry .file → holdable (readCircuit r) ≡ true
+    → CardsAndBack r
+and-back r o file-is held w room =
     let c = readCircuit r in
     let f = read-formed r in
-    let o : binaryOrder c ≡ true = binary-stated (r .entry .file) c (readTail r) h at head form (read-states r) in
-    let file-is : binaryOf c ≡ r .entry .file
-    = sym (binary-shortest (r .entry .file) c [] h at head form shortest ∙ append-nil (binaryOf c)) in
     let there = cards-done c f o (r .counts) (loadAs (r .version) (r .entry) .tables) (read-counts r) refl w held room in (
       length (cardsOf c),
       ap (λ (x : FileExit). x .answer) there,
@@ -177,3 +177,19 @@ binary-there-and-back r h at head form shortest held w room =
                 (binary-done c f o (countsOf c) (loadCards e .tables) refl left-there b) x,
           ),
     )
+
+-- in the shortest form
+pub binary-there-and-back : (r : ReadCall) (h : Head) (at : ℕ) → header V19 (r .entry .file) 0 ≡ got h at → h .form ≡ binary
+    → Shortest (r .entry .file) (readCircuit r) [] → holdable (readCircuit r) ≡ true → CardsAndBack r
+binary-there-and-back r h at head form shortest =
+    let c = readCircuit r in
+    and-back r (binary-stated (r .entry .file) c (readTail r) h at head form (read-states r))
+    (sym (binary-shortest (r .entry .file) c [] h at head form shortest ∙ append-nil (binaryOf c)))
+
+-- said of the read alone
+pub short-there-and-back : (r : ReadCall) → ShortFile r → formIn (r .entry .file) ≡ binary → readTail r ≡ [] → holdable (readCircuit r) ≡ true
+    → CardsAndBack r
+short-there-and-back r short form no-tail-left =
+    let c = readCircuit r in
+    let f = binary-file (r .entry .file) c (readTail r) form (short-file r short) (read-states r) in
+    and-back r (f .1) (sym (f .0 ∙ (ap (λ (t : List ℕ). binaryOf c ++ t) no-tail-left ∙ append-nil (binaryOf c))))
