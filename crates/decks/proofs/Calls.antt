@@ -15,7 +15,7 @@ use Rattle.plan.specs.declared.Refusal.{Refusal}
 use Rattle.plan.specs.declared.Refusal.the-variants.{NotInOrder, NotOnCards}
 use Rattle.plan.specs.declared.Loaded.the-variants as loaded
 use Rattle.plan.specs.Refusals.{Parse, got, refused, firstOf}
-use Rattle.plan.specs.Circuit.{Circuit, Tables, countsOf, circuitOf, lengthsOf, holding, cleared}
+use Rattle.plan.specs.Circuit.{Circuit, countsOf, circuitOf, lengthsOf, holding, cleared}
 use Rattle.plan.specs.Header.{Head, binary, header, formIn}
 use Rattle.plan.specs.Binary.{binaryOf, binaryOrder}
 use Rattle.plan.specs.Reading.{States, Shortest}
@@ -31,6 +31,7 @@ use Rattle.theorems.proofs.Writing.Written.{wrote, binary-bytes, binary-states}
 use Rattle.theorems.proofs.Writing.Later.{Left, left, load-left}
 use Rattle.theorems.proofs.Writing.ThereAndBack.{binary-shortest}
 use Rattle.theorems.proofs.Writing.Calls.{ReadCall, WriteCall, readCircuit, readTail, fileOf, read-states, binary-file, ShortFile, short-file}
+use Rattle.theorems.proofs.Writing.WithRoom.{Handed}
 use Rattle.decks.proofs.Exactly.{empty-list, cards-formed, cards-state, cards-room, cards-unique}
 
 -- an accepted read of cards, of bytes, and the circuit that it leaves
@@ -43,10 +44,6 @@ pub record CardCall : Type 0 where
 
 abbrev pub cardCircuit : CardCall → Circuit
 cardCircuit k = circuitOf (k .counts) (loadCards (k .entry) .tables)
-
--- a call is handed these counts and, up to them, the words of these tables, whatever stands past them
-abbrev pub Handed : Given → Counts → Tables → Type 0
-Handed g n t = (g .counts ≡ n) × (given g ≡ circuitOf n t)
 
 -- what a read of cards leaves every later call accepts, and it is what they state
 pub cards-left : (e : ReadEntry) (n : Counts) (end : ℕ) → loadCards e .answer ≡ loaded.Accepted n end

@@ -31,9 +31,10 @@ use Rattle.theorems.proofs.Writing.Fine.{nothing-fine, fine-nothing}
 use Rattle.theorems.proofs.Writing.Holding.{holding-circuit, formed-fine}
 use Rattle.theorems.proofs.Writing.ThereAndBack.{binary-stated, binary-shortest}
 use Rattle.theorems.proofs.Writing.Calls.{ReadCall, readCircuit, readTail, read-states, read-formed, binary-file, ShortFile, short-file}
+use Rattle.theorems.proofs.Writing.WithRoom.{Handed}
 use Rattle.decks.proofs.Exactly.{cards-read}
 use Rattle.decks.proofs.Back.{no-tail}
-use Rattle.decks.proofs.Calls.{CardCall, cardCircuit, Handed, read-cards, card-states, card-counts, read-counts}
+use Rattle.decks.proofs.Calls.{CardCall, cardCircuit, read-cards, card-states, card-counts, read-counts}
 
 -- a writer with room: it is handed these counts and tables and no tail, its tables and scratch are as long as the counts ask, and its buffer
 -- holds these bytes

@@ -20,3 +20,4 @@ pub mod Adding
 pub mod KeptBytes
 pub mod StepBytes
 pub mod Old
+pub mod WholeBack
