@@ -1,5 +1,7 @@
 // Writes plan.in, an AIGER file of either form in binary order, as plan cards to standard output, or the line of the refusal (the paper, plan
-// cards and programs). 14, 13, the reader's refusals, 4, 15, 19 and 11 are decided by crate filing.
+// cards and programs). 14, 13, the reader's refusals, 4, 15, 19 and 11 are decided by whole::filing.
+use whole::filing;
+
 fn main() {
     let mut file = [0u8; 65537];
     let plan = office::read_plan(&mut file);

@@ -1,1 +1,5 @@
 pub mod Within
+pub mod head
+pub mod fill
+pub mod put
+pub mod writing

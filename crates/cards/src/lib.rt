@@ -8,6 +8,12 @@ ghost use Rattle.plan.specs.Cards.{wordAt, wordBytes, marked, markBytes, output
 ghost use Rattle.cards.specs.Within.{Within};
 use plan::Counts;
 
+mod fill;
+mod head;
+mod put;
+pub mod reading;
+pub mod writing;
+
 // The number at a position.
 pub fn word_at(file: &[u8], at: usize) -> u32
     requires { ⌜ at + 4 ≤ length (now file) ⌝ }

@@ -1,11 +1,16 @@
 // Steps the circuit of plan.in, converted, from its first state on the vectors of standard input by both engines, and writes the tracer's
-// lines, or the line of the refusal (the paper, the plain engine). 14, 13, the reader's refusals and 4 are decided by crate opening, then 24,
-// and those of standard input by crate stimulus. That the engines never part is proved in crate comparing.
-use comparing::Compared;
+// lines, or the line of the refusal (the paper, the plain engine). 14, 13, the reader's refusals and 4 are decided by whole::opening, then 24,
+// and those of standard input by runs::stimulus. That the engines never part is proved in runs::comparing.
 use plan::Counts;
 use plan::Made;
 use plan::Refusal;
 use plan::Traced;
+use runs::comparing;
+use runs::comparing::Compared;
+use runs::stimulus;
+use runs::trace;
+use step::values;
+use whole::opening;
 
 // What is said in place of lines.
 fn say(part: Compared) {

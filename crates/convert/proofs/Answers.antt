@@ -16,12 +16,12 @@ use Rattle.plan.specs.Circuit.{Circuit, Tables, countsOf, cleared, allCleared}
 use Rattle.plan.specs.Given.{Given, given, lentWith}
 use Rattle.plan.specs.Convert.{convert}
 use Rattle.plan.specs.Outcome.{MakeEntry, MakeExit, madeBy, conversion, checkedBy}
-use Rattle.theorems.proofs.Held.{Holds, holds-filled}
-use Rattle.theorems.proofs.Running.Counts.{counts-convert}
+use Rattle.laws.proofs.Held.{Holds, holds-filled}
+use Rattle.laws.proofs.Running.Counts.{counts-convert}
 use Rattle.tables.specs.Lengths.{sizesOf}
-use Rattle.closing.specs.Leaves.{AllNumbered}
-use Rattle.given.specs.Judged.{allStages}
-use Rattle.given.proofs.Sound.{Good, Wide, good-none, refused-some, good-with}
+use Rattle.judge.specs.at_end.Leaves.{AllNumbered}
+use Rattle.judge.specs.Judged.{allStages}
+use Rattle.judge.proofs.Sound.{Good, Wide, good-none, refused-some, good-with}
 use Rattle.convert.specs.Ready.{Ready, First, FirstHeld, Last, LastHeld}
 
 length-cleared : (t : List ℕ) → length (cleared t) ≡ length t

@@ -12,11 +12,11 @@ use lib.Seq.{append-snoc}
 use Rattle.plan.specs.Literals.{varOf}
 use Rattle.plan.specs.Circuit.{Gate, Circuit, lefts, has}
 use Rattle.plan.specs.Convert.{leaves, ready, numbered}
-use Rattle.theorems.proofs.Reading.Common.{and-left}
-use Rattle.theorems.proofs.Reading.Members.{has-cases, distinct}
-use Rattle.theorems.proofs.Running.Lists.{has-rest, absent, distinct-cons, distinct-head, distinct-tail, distinct-left}
-use Rattle.theorems.proofs.Running.Accepted.{Accepted}
-use Rattle.theorems.proofs.Running.Scan.{scan, scanGo, scanned, sorted-scanned}
+use Rattle.laws.proofs.Reading.Common.{and-left}
+use Rattle.laws.proofs.Reading.Members.{has-cases, distinct}
+use Rattle.laws.proofs.Running.Lists.{has-rest, absent, distinct-cons, distinct-head, distinct-tail, distinct-left}
+use Rattle.laws.proofs.Running.Accepted.{Accepted}
+use Rattle.laws.proofs.Running.Scan.{scan, scanGo, scanned, sorted-scanned}
 
 -- a variable that is new, after variables that are all different
 distinct-snoc : (xs : List ℕ) (v : ℕ) → distinct xs ≡ true → has v xs ≡ false → distinct (xs ++ (v ∷ [])) ≡ true

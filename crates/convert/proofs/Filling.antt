@@ -12,19 +12,19 @@ use Rattle.plan.specs.Circuit.{Circuit, Tables, circuitOf, latchLine, gateLine,
 use Rattle.plan.specs.Binary.{litsFrom, latchesFrom}
 use Rattle.plan.specs.Convert.{leaves, numbered, renumber, convert}
 use Rattle.plan.specs.Outcome.{put}
-use Rattle.theorems.proofs.Ranges.{second-var, inside-at}
-use Rattle.theorems.proofs.Tables.{firsts, length-firsts, gateAt, gates-rows, latchAt, latches-rows}
-use Rattle.theorems.proofs.Reading.Members.{has-self, has-later}
-use Rattle.theorems.proofs.Running.Lists.{allIn, has-left, has-right}
-use Rattle.theorems.proofs.Running.Accepted.{Accepted, accepted}
-use Rattle.theorems.proofs.Running.Binary.{inner, Bounded}
-use Rattle.theorems.proofs.Running.Found.{AllG}
-use Rattle.theorems.proofs.Running.InOrder.{outputs-bounded, nexts-bounded}
-use Rattle.gates.proofs.Spreading.{spread-held}
-use Rattle.order.specs.Numbers.{NumTable, InTable, InRange}
-use Rattle.order.proofs.Conversion.{gates-count, numbers-of}
-use Rattle.order.proofs.Spaces.{all-places, gates-inside}
-use Rattle.renumber.specs.Renumbered.{Known, wordAt, columnBy, Placeable, Whole}
+use Rattle.laws.proofs.Ranges.{second-var, inside-at}
+use Rattle.laws.proofs.Tables.{firsts, length-firsts, gateAt, gates-rows, latchAt, latches-rows}
+use Rattle.laws.proofs.Reading.Members.{has-self, has-later}
+use Rattle.laws.proofs.Running.Lists.{allIn, has-left, has-right}
+use Rattle.laws.proofs.Running.Accepted.{Accepted, accepted}
+use Rattle.laws.proofs.Running.Binary.{inner, Bounded}
+use Rattle.laws.proofs.Running.Found.{AllG}
+use Rattle.laws.proofs.Running.InOrder.{outputs-bounded, nexts-bounded}
+use Rattle.lines.proofs.gates.Spreading.{spread-held}
+use Rattle.judge.specs.order.Numbers.{NumTable, InTable, InRange}
+use Rattle.judge.proofs.order.Conversion.{gates-count, numbers-of}
+use Rattle.judge.proofs.order.Spaces.{all-places, gates-inside}
+use Rattle.convert.specs.renumber.Renumbered.{Known, wordAt, columnBy, Placeable, Whole}
 use Rattle.convert.specs.Ready.{Ready, FirstHeld, LastHeld}
 use Rattle.convert.proofs.Resets.{resets-up, resets-in}
 use Rattle.convert.proofs.Known.{known, literals-by}

@@ -9,16 +9,16 @@ use lib.Seq.{getD-take}
 use Rattle.plan.specs.Literals.{litOf, varOf, signOf}
 use Rattle.plan.specs.Circuit.{Circuit, lefts, has}
 use Rattle.plan.specs.Convert.{leaves, sorted, numbered, index, renumber}
-use Rattle.theorems.proofs.Reading.Cycles.{length-lefts}
-use Rattle.theorems.proofs.Running.Lists.{allIn, in-head, in-tail}
-use Rattle.theorems.proofs.Running.Accepted.{Accepted}
-use Rattle.theorems.proofs.Running.Binary.{Bounded, inner}
-use Rattle.theorems.proofs.Running.Converted.{length-leaves, gets-number}
-use Rattle.theorems.proofs.Running.Scan.{every-gate}
-use Rattle.order.specs.Numbers.{NumTable}
-use Rattle.order.specs.Waiting.{Fresh}
-use Rattle.order.proofs.Settling.{small-words}
-use Rattle.renumber.specs.Renumbered.{literalBy, Known}
+use Rattle.laws.proofs.Reading.Cycles.{length-lefts}
+use Rattle.laws.proofs.Running.Lists.{allIn, in-head, in-tail}
+use Rattle.laws.proofs.Running.Accepted.{Accepted}
+use Rattle.laws.proofs.Running.Binary.{Bounded, inner}
+use Rattle.laws.proofs.Running.Converted.{length-leaves, gets-number}
+use Rattle.laws.proofs.Running.Scan.{every-gate}
+use Rattle.judge.specs.order.Numbers.{NumTable}
+use Rattle.judge.specs.order.Waiting.{Fresh}
+use Rattle.judge.proofs.order.Settling.{small-words}
+use Rattle.convert.specs.renumber.Renumbered.{literalBy, Known}
 
 module _ (c : Circuit) (ok : Accepted c) (m : ℕ) (few : inner c + length (c .gates) < 2147483648) (t : List ℕ) (long : m < length t)
     (tab : NumTable (numbered c) (take (m + 1) t)) where

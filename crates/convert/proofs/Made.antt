@@ -9,9 +9,9 @@ use lib.Seq.{getD-append-add, getD-drop}
 use Rattle.plan.specs.Circuit.{Gate, gateLine, gateOf, rowsOf, flat}
 use Rattle.plan.specs.Convert.{renumber, gateFor, renumberGates}
 use Rattle.plan.specs.Outcome.{put}
-use Rattle.theorems.proofs.Held.{rows-flat}
-use Rattle.theorems.proofs.Tables.{gateAt, gatesAt, gates-rows}
-use Rattle.theorems.proofs.Reading.Rows.{map-long, map-forth}
+use Rattle.laws.proofs.Held.{rows-flat}
+use Rattle.laws.proofs.Tables.{gateAt, gatesAt, gates-rows}
+use Rattle.laws.proofs.Reading.Rows.{map-long, map-forth}
 use Rattle.convert.proofs.Rows.{getD-firsts}
 
 -- a gate of a table that starts with gates

@@ -12,17 +12,17 @@ use Rattle.plan.specs.Literals.{varOf}
 use Rattle.plan.specs.Circuit.{Gate, Circuit, gateLine, lefts, has}
 use Rattle.plan.specs.Depends.{find}
 use Rattle.plan.specs.Convert.{leaves, sorted, numbered, index}
-use Rattle.theorems.proofs.Tables.{firsts, length-firsts, heads-firsts}
-use Rattle.theorems.proofs.Reading.Cycles.{length-lefts}
-use Rattle.theorems.proofs.Reading.Members.{has-self, has-later, has-cases}
-use Rattle.theorems.proofs.Running.Lists.{has-rest, has-right, distinct-right, apart, has-at, index-at, index-front}
-use Rattle.theorems.proofs.Running.Accepted.{Accepted}
-use Rattle.theorems.proofs.Running.Converted.{gets-number}
-use Rattle.theorems.proofs.Running.Found.{AllG, all-map, found-own}
-use Rattle.theorems.proofs.Running.Numbering.{order-all}
-use Rattle.theorems.proofs.Running.Scan.{every-gate}
-use Rattle.order.proofs.Places.{of-places}
-use Rattle.order.proofs.Spaces.{all-places}
+use Rattle.laws.proofs.Tables.{firsts, length-firsts, heads-firsts}
+use Rattle.laws.proofs.Reading.Cycles.{length-lefts}
+use Rattle.laws.proofs.Reading.Members.{has-self, has-later, has-cases}
+use Rattle.laws.proofs.Running.Lists.{has-rest, has-right, distinct-right, apart, has-at, index-at, index-front}
+use Rattle.laws.proofs.Running.Accepted.{Accepted}
+use Rattle.laws.proofs.Running.Converted.{gets-number}
+use Rattle.laws.proofs.Running.Found.{AllG, all-map, found-own}
+use Rattle.laws.proofs.Running.Numbering.{order-all}
+use Rattle.laws.proofs.Running.Scan.{every-gate}
+use Rattle.judge.proofs.order.Places.{of-places}
+use Rattle.judge.proofs.order.Spaces.{all-places}
 use Rattle.convert.proofs.Different.{numbered-distinct}
 
 -- the place of a variable of the second part

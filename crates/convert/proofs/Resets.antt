@@ -6,12 +6,12 @@ use mathlib.Core.List.{List, [], _∷_, map}
 use native.Mathlib.Omega.{arith}
 use Rattle.plan.specs.Literals.{varOf, isReset}
 use Rattle.plan.specs.Circuit.{Latch, latchLine, currents, has, inside, allInside, resetsOk}
-use Rattle.theorems.proofs.Ranges.{first-var}
-use Rattle.theorems.proofs.Reading.Common.{and-left, and-right, and-intro}
-use Rattle.theorems.proofs.Reading.Members.{has-self, has-later}
-use Rattle.theorems.proofs.Running.Lists.{allIn}
-use Rattle.theorems.proofs.Running.Binary.{Bounded}
-use Rattle.theorems.proofs.Running.Resets.{by-reset}
+use Rattle.laws.proofs.Ranges.{first-var}
+use Rattle.laws.proofs.Reading.Common.{and-left, and-right, and-intro}
+use Rattle.laws.proofs.Reading.Members.{has-self, has-later}
+use Rattle.laws.proofs.Running.Lists.{allIn}
+use Rattle.laws.proofs.Running.Binary.{Bounded}
+use Rattle.laws.proofs.Running.Resets.{by-reset}
 
 pub resets-up : (m : ℕ) (ls : List Latch) (rs : List ℕ) → allInside true m (map latchLine ls) ≡ true → resetsOk ls rs ≡ true
     → Bounded (suc m) rs

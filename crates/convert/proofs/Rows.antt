@@ -8,8 +8,8 @@ use native.Mathlib.Decide.{decLt}
 use lib.ListN.{length, getD, take, List·getD-append}
 use lib.Seq.{getD-at}
 use Rattle.plan.specs.Circuit.{Latch, latchOf, rowsOf, nexts}
-use Rattle.theorems.proofs.Tables.{firsts, length-firsts, latchAt, latches-rows, words-take}
-use Rattle.renumber.specs.Renumbered.{literalBy, wordAt, columnBy}
+use Rattle.laws.proofs.Tables.{firsts, length-firsts, latchAt, latches-rows, words-take}
+use Rattle.convert.specs.renumber.Renumbered.{literalBy, wordAt, columnBy}
 
 map-firsts : {A B : Type 0} (f : A → B) (at : ℕ → A) (n : ℕ) → firsts (λ i. f (at i)) n ≡ map f (firsts at n)
 map-firsts f at zero = refl

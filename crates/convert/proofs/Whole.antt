@@ -8,17 +8,17 @@ use Rattle.plan.specs.Literals.{varOf}
 use Rattle.plan.specs.Circuit.{Gate, Circuit, gateLine, flat, lefts}
 use Rattle.plan.specs.Convert.{leaves, sorted, numbered, renumber, gateFor, convert}
 use Rattle.plan.specs.Outcome.{put}
-use Rattle.theorems.proofs.Put.{put-length}
-use Rattle.theorems.proofs.Tables.{gateAt, gatesAt}
-use Rattle.theorems.proofs.Reading.Cycles.{length-lefts}
-use Rattle.theorems.proofs.Running.Lists.{has-right}
-use Rattle.theorems.proofs.Running.Accepted.{Accepted}
-use Rattle.theorems.proofs.Running.Binary.{inner}
-use Rattle.theorems.proofs.Running.Converted.{length-leaves, length-renumberGates}
-use Rattle.theorems.proofs.Running.Found.{Sides, sides-in}
-use Rattle.theorems.proofs.Writing.Holding.{length-gate-words}
-use Rattle.order.specs.Numbers.{NumTable, InRange}
-use Rattle.renumber.specs.Renumbered.{numberIn, literalBy, gateBy, rowOf, Placeable, Whole}
+use Rattle.laws.proofs.Put.{put-length}
+use Rattle.laws.proofs.Tables.{gateAt, gatesAt}
+use Rattle.laws.proofs.Reading.Cycles.{length-lefts}
+use Rattle.laws.proofs.Running.Lists.{has-right}
+use Rattle.laws.proofs.Running.Accepted.{Accepted}
+use Rattle.laws.proofs.Running.Binary.{inner}
+use Rattle.laws.proofs.Running.Converted.{length-leaves, length-renumberGates}
+use Rattle.laws.proofs.Running.Found.{Sides, sides-in}
+use Rattle.laws.proofs.Writing.Holding.{length-gate-words}
+use Rattle.judge.specs.order.Numbers.{NumTable, InRange}
+use Rattle.convert.specs.renumber.Renumbered.{numberIn, literalBy, gateBy, rowOf, Placeable, Whole}
 use Rattle.convert.proofs.Known.{known, number-by, literal-by}
 use Rattle.convert.proofs.Places.{placeAt, sorted-count, at-each, left-has, number-is, place-below, gate-there, every-place}
 use Rattle.convert.proofs.Made.{gate-at, gate-renumbered, past-put}

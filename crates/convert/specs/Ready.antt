@@ -9,7 +9,7 @@ use Rattle.plan.specs.Circuit.{Circuit, Tables, circuitOf, seven, flat, latchLi
 use Rattle.plan.specs.Reading.{WellFormed}
 use Rattle.plan.specs.Outcome.{put}
 use Rattle.tables.specs.Held.{Fits, Scratch}
-use Rattle.closing.specs.Leaves.{AllNumbered}
+use Rattle.judge.specs.at_end.Leaves.{AllNumbered}
 
 pub record Ready (n : Counts) (x : Tables) (t : List ℕ) : Type 0 where
   pub fits : Fits n (x .inputs) (x .latches) (x .outputs) (x .gates) (x .resets) (x .bads) (x .constraints)

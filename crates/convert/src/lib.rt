@@ -3,17 +3,19 @@ ghost use Rattle.plan.specs.Circuit.{Tables, circuitOf, seven};
 ghost use Rattle.plan.specs.Convert.{convert};
 ghost use Rattle.plan.specs.Outcome.{Says, conversion};
 ghost use Rattle.convert.specs.Ready.{Ready, withFirst, withLast, First, FirstHeld, Last, LastHeld};
-use gates::run_on;
-use gates::spread;
-use given::number;
+use crate::renumber::place_gates;
+use crate::renumber::renumber_column;
+use judge::number;
+use lines::gates::run_on;
+use lines::gates::spread;
 use plan::Checked;
 use plan::Counts;
 use plan::Made;
-use renumber::place_gates;
-use renumber::renumber_column;
 use tables::clear;
 use tables::clear_all;
 use tables::lengths;
+
+mod renumber;
 
 // Writes tables 1 to 4 of the converted circuit, from the numbers t of all variables.
 fn fill(

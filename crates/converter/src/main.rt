@@ -1,5 +1,7 @@
 // Writes plan.in in its other form to standard output, or the line of the refusal
-// (the paper, programs). 14, 13, the reader's refusals, 4 and 11 are decided by crate converting.
+// (the paper, programs). 14, 13, the reader's refusals, 4 and 11 are decided by making::converting.
+use making::converting;
+
 fn main() {
     let mut file = [0u8; 65537];
     let plan = office::read_plan(&mut file);

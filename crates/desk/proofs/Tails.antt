@@ -11,7 +11,7 @@ use Rattle.plan.specs.Refusals.{Parse, got, refused}
 use Rattle.plan.specs.Circuit.{Circuit, lengthsOf}
 use Rattle.plan.specs.Reading.{readFile}
 use Rattle.plan.specs.Outcome.{ReadEntry, ReadExit, loadBy, loadAs, readAs, tailOf}
-use Rattle.theorems.proofs.Reading.Places.{start-within}
+use Rattle.laws.proofs.Reading.Places.{start-within}
 use Rattle.desk.specs.Told.{ReadTold, startOf, toldRead}
 
 shorter : (file : List ℕ) (r : Loaded) → length (tailOf file r) ≤ length file

@@ -3,13 +3,19 @@ ghost use mathlib.Core.Path.{_≡_};
 ghost use Rattle.plan.specs.Circuit.{seven};
 ghost use Rattle.plan.specs.Header.{wordsFor, countsFrom};
 ghost use Rattle.plan.specs.Outcome.{Says, loadedValues};
-ghost use Rattle.given.specs.Judged.{givenAt};
+ghost use Rattle.judge.specs.Judged.{givenAt};
 ghost use Rattle.desk.specs.Told.{read, read2007, check, writeText, writeBinary, readCards, writeCards, conversion, reduction, dropping, step, stepPlain};
 ghost use Rattle.desk.specs.Told.{witness, witness3, explain, rewiring};
 ghost use Rattle.desk.specs.Reported.{report};
 ghost use Rattle.desk.specs.RowsTold.{stepRows, reportRows};
+use answers::numbers;
+use answers::refusals;
+use cards::reading;
+use cards::writing;
+use lines::header;
 use plan::Loaded;
 use plan::Version;
+use witness::three;
 
 // How many words table 1 to 5 or 7 to 9 needs for the file's header, or 2^64 - 1.
 #[no_mangle]
@@ -130,8 +136,8 @@ pub extern "C" fn golvanzo_check(
         (now (scratch .entry)))
         (record { answer = now (answer .exit); scratch = now (scratch .exit) }) ⌝ }
 {
-    let n = told::counts(counts);
-    let r = given::check(
+    let n = numbers::counts(counts);
+    let r = judge::check(
         n,
         inputs,
         latches,
@@ -142,7 +148,7 @@ pub extern "C" fn golvanzo_check(
         constraints,
         scratch,
     );
-    told::checked(r, answer);
+    numbers::checked(r, answer);
 }
 
 // Writes the text form of given tables and the tail: number (0: written), place and the number of bytes.
@@ -172,7 +178,7 @@ pub extern "C" fn golvanzo_write_text(
         })
         (record { answer = now (answer .exit); scratch = now (scratch .exit); out = now (out .exit) }) ⌝ }
 {
-    let n = told::counts(counts);
+    let n = numbers::counts(counts);
     let r = write::write_text(
         n,
         inputs,
@@ -186,7 +192,7 @@ pub extern "C" fn golvanzo_write_text(
         tail,
         out,
     );
-    told::written(r, answer);
+    numbers::written(r, answer);
 }
 
 // The same in binary form.
@@ -216,7 +222,7 @@ pub extern "C" fn golvanzo_write_binary(
         })
         (record { answer = now (answer .exit); scratch = now (scratch .exit); out = now (out .exit) }) ⌝ }
 {
-    let n = told::counts(counts);
+    let n = numbers::counts(counts);
     let r = write::write_binary(
         n,
         inputs,
@@ -230,7 +236,7 @@ pub extern "C" fn golvanzo_write_binary(
         tail,
         out,
     );
-    told::written(r, answer);
+    numbers::written(r, answer);
 }
 
 // What a reader answers, as numbers: the refusal's number (0: none), its place, and the counts.
@@ -239,14 +245,14 @@ fn loaded(r: Loaded, answer: &mut [u64; 9])
 {
     match r {
         Loaded::Accepted(n, _) => {
-            told::tell(answer, 0, 0, n);
+            numbers::tell(answer, 0, 0, n);
         }
         Loaded::Refused(r) => {
-            told::tell(
+            numbers::tell(
                 answer,
                 refusals::told_number(r),
                 refusals::told_place(r) as u64,
-                told::no_counts(),
+                numbers::no_counts(),
             );
         }
     }
@@ -280,7 +286,7 @@ pub extern "C" fn golvanzo_read_cards(
           scratch = now (scratch .exit);
         }) ⌝ }
 {
-    let r = cardread::read_cards(
+    let r = reading::read_cards(
         file,
         inputs,
         latches,
@@ -321,8 +327,8 @@ pub extern "C" fn golvanzo_write_cards(
         })
         (record { answer = now (answer .exit); scratch = now (scratch .exit); out = now (out .exit) }) ⌝ }
 {
-    let n = told::counts(counts);
-    let r = cardwrite::write_cards(
+    let n = numbers::counts(counts);
+    let r = writing::write_cards(
         n,
         inputs,
         latches,
@@ -335,7 +341,7 @@ pub extern "C" fn golvanzo_write_cards(
         tail,
         out,
     );
-    told::written(r, answer);
+    numbers::written(r, answer);
 }
 
 // Converts the circuit in given tables into written ones: number (0: converted), place and the counts M, I, L, O, A, B, C.
@@ -375,7 +381,7 @@ pub extern "C" fn golvanzo_convert(
           scratch = now (scratch .exit);
         }) ⌝ }
 {
-    let n = told::counts(counts);
+    let n = numbers::counts(counts);
     let r = convert::convert(
         n,
         inputs,
@@ -394,7 +400,7 @@ pub extern "C" fn golvanzo_convert(
         to_constraints,
         scratch,
     );
-    told::made(r, answer);
+    numbers::made(r, answer);
 }
 
 // Reduces the circuit in given tables, which are in binary order, into written ones: the same answer.
@@ -434,7 +440,7 @@ pub extern "C" fn golvanzo_reduce(
           scratch = now (scratch .exit);
         }) ⌝ }
 {
-    let n = told::counts(counts);
+    let n = numbers::counts(counts);
     let r = reduce::reduce(
         n,
         inputs,
@@ -453,7 +459,7 @@ pub extern "C" fn golvanzo_reduce(
         to_constraints,
         scratch,
     );
-    told::made(r, answer);
+    numbers::made(r, answer);
 }
 
 // Drops the unused gates of the circuit in given tables, which are in binary order, into written ones: the same answer.
@@ -493,7 +499,7 @@ pub extern "C" fn golvanzo_drop(
           scratch = now (scratch .exit);
         }) ⌝ }
 {
-    let n = told::counts(counts);
+    let n = numbers::counts(counts);
     let r = drop::drop_unused(
         n,
         inputs,
@@ -512,7 +518,7 @@ pub extern "C" fn golvanzo_drop(
         to_constraints,
         scratch,
     );
-    told::made(r, answer);
+    numbers::made(r, answer);
 }
 
 // One step of the circuit in given tables, which are in binary order: number (0: stepped) and place.
@@ -544,7 +550,7 @@ pub extern "C" fn golvanzo_step(
         })
         (record { answer = now (answer .exit); scratch = now (scratch .exit); state = now (state .exit); outputs = now (outs .exit) }) ⌝ }
 {
-    let n = told::counts(counts);
+    let n = numbers::counts(counts);
     let r = step::step(
         n,
         inputs,
@@ -559,7 +565,7 @@ pub extern "C" fn golvanzo_step(
         ins,
         outs,
     );
-    told::stepped(r, answer);
+    numbers::stepped(r, answer);
 }
 
 // The same by the plain engine, for at most 24 gates.
@@ -591,7 +597,7 @@ pub extern "C" fn golvanzo_step_plain(
         })
         (record { answer = now (answer .exit); scratch = now (scratch .exit); state = now (state .exit); outputs = now (outs .exit) }) ⌝ }
 {
-    let n = told::counts(counts);
+    let n = numbers::counts(counts);
     let r = plain::step_plain(
         n,
         inputs,
@@ -606,7 +612,7 @@ pub extern "C" fn golvanzo_step_plain(
         ins,
         outs,
     );
-    told::stepped(r, answer);
+    numbers::stepped(r, answer);
 }
 
 // What made an output 0 or 1 in a step of given tables, which are in binary order: number (0: explained) and place.
@@ -640,7 +646,7 @@ pub extern "C" fn golvanzo_explain(
         })
         (record { answer = now (answer .exit); scratch = now (scratch .exit); marks = now (marks .exit) }) ⌝ }
 {
-    let n = told::counts(counts);
+    let n = numbers::counts(counts);
     let r = explain::explain(
         n,
         inputs,
@@ -656,7 +662,7 @@ pub extern "C" fn golvanzo_explain(
         output as usize,
         marks,
     );
-    told::stepped(r, answer);
+    numbers::stepped(r, answer);
 }
 
 // The witness question by fillings, of which at most `allowance` are tried: number (0: answered), place, 1 for yes, 0 for no or 2 for undecided,
@@ -691,8 +697,8 @@ pub extern "C" fn golvanzo_witness(
         })
         (record { answer = now (answer .exit); scratch = now (scratch .exit) }) ⌝ }
 {
-    let n = told::counts(counts);
-    let r = fillings::witness(
+    let n = numbers::counts(counts);
+    let r = witness::witness(
         n,
         inputs,
         latches,
@@ -706,7 +712,7 @@ pub extern "C" fn golvanzo_witness(
         bytes,
         allowance as usize,
     );
-    findings::finding(r, answer);
+    answers::witness::finding(r, answer);
 }
 
 // The witness question in three values, in which nothing is filled: number (0: answered), place, and 1 for yes or 0 for no.
@@ -736,8 +742,8 @@ pub extern "C" fn golvanzo_witness3(
         })
         (record { answer = now (answer .exit); scratch = now (scratch .exit) }) ⌝ }
 {
-    let n = told::counts(counts);
-    let r = witness::witness3(
+    let n = numbers::counts(counts);
+    let r = three::witness3(
         n,
         inputs,
         latches,
@@ -750,7 +756,7 @@ pub extern "C" fn golvanzo_witness3(
         number as usize,
         bytes,
     );
-    told::verdict(r, answer);
+    numbers::verdict(r, answer);
 }
 
 // The needle report of a list of vectors: number (0: reported) and place; the numbers go to table 6.
@@ -782,7 +788,7 @@ pub extern "C" fn golvanzo_report(
         })
         (record { answer = now (answer .exit); scratch = now (scratch .exit); six = now (six .exit) }) ⌝ }
 {
-    let n = told::counts(counts);
+    let n = numbers::counts(counts);
     let r = report::report(
         n,
         inputs,
@@ -797,7 +803,7 @@ pub extern "C" fn golvanzo_report(
         bytes,
         six,
     );
-    told::stepped(r, answer);
+    numbers::stepped(r, answer);
 }
 
 // Up to 64 rows, each stepped once from the resets: number (0: stepped) and place.
@@ -831,7 +837,7 @@ pub extern "C" fn golvanzo_rows(
         })
         (record { answer = now (answer .exit); scratch = now (scratch .exit); nexts = now (nexts .exit); outputs = now (outs .exit) }) ⌝ }
 {
-    let n = told::counts(counts);
+    let n = numbers::counts(counts);
     let r = rows::step_rows(
         n,
         inputs,
@@ -847,7 +853,7 @@ pub extern "C" fn golvanzo_rows(
         ins,
         outs,
     );
-    told::stepped(r, answer);
+    numbers::stepped(r, answer);
 }
 
 // The row report of up to 64 rows, into table 6: number (0: reported) and place.
@@ -879,7 +885,7 @@ pub extern "C" fn golvanzo_report_rows(
         })
         (record { answer = now (answer .exit); scratch = now (scratch .exit); report = now (report .exit) }) ⌝ }
 {
-    let n = told::counts(counts);
+    let n = numbers::counts(counts);
     let r = rows::report_rows(
         n,
         inputs,
@@ -894,7 +900,7 @@ pub extern "C" fn golvanzo_report_rows(
         ins,
         report,
     );
-    told::stepped(r, answer);
+    numbers::stepped(r, answer);
 }
 
 // The right sides of one gate of given tables, which are in binary order, with the values of a step: number (0: rewired) and place.
@@ -928,7 +934,7 @@ pub extern "C" fn golvanzo_rewire(
         })
         (record { answer = now (answer .exit); gates = now (gates .exit); scratch = now (scratch .exit); values = now (values .exit) }) ⌝ }
 {
-    let n = told::counts(counts);
+    let n = numbers::counts(counts);
     let r = rewire::rewire(
         n,
         inputs,
@@ -944,5 +950,5 @@ pub extern "C" fn golvanzo_rewire(
         rhs1,
         values,
     );
-    told::stepped(r, answer);
+    numbers::stepped(r, answer);
 }

@@ -17,16 +17,16 @@ use Rattle.plan.specs.Reduce.{Reduced, becomes}
 use Rattle.plan.specs.Outcome.{put}
 use Rattle.plan.specs.Walk.{walk}
 use Rattle.plan.specs.Drop.{sidesOf, reached, dropUnused}
-use Rattle.theorems.proofs.Held.{Holds}
-use Rattle.theorems.proofs.Tables.{firsts, gates-rows, latchAt, latches-rows, words-take}
-use Rattle.theorems.proofs.Running.Lists.{has-left}
-use Rattle.theorems.proofs.Running.Binary.{inner, Bounded}
-use Rattle.theorems.proofs.Running.Sides.{sides-below}
-use Rattle.theorems.proofs.Running.Upward.{has-up}
-use Rattle.theorems.proofs.Running.InOrder.{leaves-order}
-use Rattle.walks.proofs.Dropped.{leaf-index}
-use Rattle.walks.proofs.Later.{drop-fewer}
-use Rattle.walks.proofs.Places.{left-at}
+use Rattle.laws.proofs.Held.{Holds}
+use Rattle.laws.proofs.Tables.{firsts, gates-rows, latchAt, latches-rows, words-take}
+use Rattle.laws.proofs.Running.Lists.{has-left}
+use Rattle.laws.proofs.Running.Binary.{inner, Bounded}
+use Rattle.laws.proofs.Running.Sides.{sides-below}
+use Rattle.laws.proofs.Running.Upward.{has-up}
+use Rattle.laws.proofs.Running.InOrder.{leaves-order}
+use Rattle.laws.proofs.Walks.Dropped.{leaf-index}
+use Rattle.laws.proofs.Walks.Later.{drop-fewer}
+use Rattle.laws.proofs.Walks.Places.{left-at}
 use Rattle.reduce.specs.Becoming.{replaced}
 use Rattle.reduce.proofs.Replaced.{bounded-at}
 use Rattle.reduce.proofs.Reducing.{Ready, Written, base, top, order, inner-is, in-order, foldable, latches-low, outputs-low, bads-low, constraints-low, held}

@@ -13,21 +13,21 @@ use Rattle.plan.specs.Reading.{WellFormed}
 use Rattle.plan.specs.Binary.{litsFrom, binaryOrder}
 use Rattle.plan.specs.Convert.{leaves, index, renumber, gateFor, renumberGates}
 use Rattle.plan.specs.Reduce.{Reduced, becomes, retain, latchBecomes}
-use Rattle.theorems.proofs.Reading.Common.{and-left, and-right}
-use Rattle.theorems.proofs.Reading.Members.{has-cases, distinct}
-use Rattle.theorems.proofs.Reading.Runs.{length-lits, upFrom, BinaryOrder, order-exactly}
-use Rattle.theorems.proofs.Running.Lists.{has-rest, allIn, in-head, in-tail}
-use Rattle.theorems.proofs.Running.Accepted.{accepted}
-use Rattle.theorems.proofs.Running.Binary.{Binary, inner}
-use Rattle.theorems.proofs.Running.Upward.{lits-at}
-use Rattle.theorems.proofs.Running.InOrder.{order-binary, leaves-order}
-use Rattle.theorems.proofs.Running.Renumber.{Readied}
-use Rattle.theorems.proofs.Running.Converted.{length-leaves}
+use Rattle.laws.proofs.Reading.Common.{and-left, and-right}
+use Rattle.laws.proofs.Reading.Members.{has-cases, distinct}
+use Rattle.laws.proofs.Reading.Runs.{length-lits, upFrom, BinaryOrder, order-exactly}
+use Rattle.laws.proofs.Running.Lists.{has-rest, allIn, in-head, in-tail}
+use Rattle.laws.proofs.Running.Accepted.{accepted}
+use Rattle.laws.proofs.Running.Binary.{Binary, inner}
+use Rattle.laws.proofs.Running.Upward.{lits-at}
+use Rattle.laws.proofs.Running.InOrder.{order-binary, leaves-order}
+use Rattle.laws.proofs.Running.Renumber.{Readied}
+use Rattle.laws.proofs.Running.Converted.{length-leaves}
 use Rattle.plan.specs.Drop.{reached, gatesOf, used, left, latchRenumbered, dropUnused}
-use Rattle.walks.proofs.Used.{used-well-formed}
-use Rattle.walks.proofs.Dropped.{leaf-index, used-readied}
-use Rattle.walks.proofs.Twice.{here-first}
-use Rattle.walks.proofs.Later.{gates-dropped}
+use Rattle.laws.proofs.Walks.Used.{used-well-formed}
+use Rattle.laws.proofs.Walks.Dropped.{leaf-index, used-readied}
+use Rattle.laws.proofs.Walks.Twice.{here-first}
+use Rattle.laws.proofs.Walks.Later.{gates-dropped}
 use Rattle.reduce.proofs.Reducing.{through}
 use Rattle.drop.specs.Retained.{dropped, retainGates}
 

@@ -12,7 +12,7 @@ use lib.ListN.{length, getD, set}
 use lib.Seq.{getD-set-same, getD-set-other}
 use Rattle.plan.specs.Literals.{varOf}
 use Rattle.plan.specs.Circuit.{Gate, has}
-use Rattle.theorems.proofs.Tables.{firsts, next-row, gateAt, gatesAt}
+use Rattle.laws.proofs.Tables.{firsts, next-row, gateAt, gatesAt}
 use Rattle.plan.specs.Walk.{walk}
 use Rattle.plan.specs.Drop.{sidesOf}
 use Rattle.drop.specs.Marks.{bit, Marked, varAt}

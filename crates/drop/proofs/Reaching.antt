@@ -5,7 +5,7 @@ use mathlib.Core.List.{List, []}
 use native.Mathlib.Omega.{arith}
 use lib.ListN.{length}
 use Rattle.plan.specs.declared.Counts.{Counts}
-use Rattle.theorems.proofs.Tables.{gateAt}
+use Rattle.laws.proofs.Tables.{gateAt}
 use Rattle.drop.specs.Marks.{Marked, Below}
 use Rattle.drop.specs.Retained.{Retainable}
 use Rattle.drop.specs.Reached.{Marking, Reachable}

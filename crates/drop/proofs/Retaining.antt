@@ -14,10 +14,10 @@ use Rattle.plan.specs.Binary.{litsFrom}
 use Rattle.plan.specs.Convert.{gateFor}
 use Rattle.plan.specs.Reduce.{Reduced, becomes, retain}
 use Rattle.plan.specs.Outcome.{put}
-use Rattle.theorems.proofs.Put.{put-put, put-none}
-use Rattle.theorems.proofs.Reading.Runs.{length-lits}
-use Rattle.theorems.proofs.Tables.{gateAt, gatesAt}
-use Rattle.gates.proofs.Words.{three-put}
+use Rattle.laws.proofs.Put.{put-put, put-none}
+use Rattle.laws.proofs.Reading.Runs.{length-lits}
+use Rattle.laws.proofs.Tables.{gateAt, gatesAt}
+use Rattle.lines.proofs.gates.Words.{three-put}
 use Rattle.drop.specs.Marks.{bit, Marked}
 use Rattle.drop.specs.Retained.{dropped, retainGate, retainGates, kept, Held, Roomy, Stepped, Retainable, Done}
 

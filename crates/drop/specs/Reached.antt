@@ -6,7 +6,7 @@ use lib.ListN.{length, getD}
 use Rattle.plan.specs.declared.Counts.{Counts}
 use Rattle.plan.specs.Walk.{walk}
 use Rattle.plan.specs.Drop.{sidesOf}
-use Rattle.theorems.proofs.Tables.{firsts, gatesAt}
+use Rattle.laws.proofs.Tables.{firsts, gatesAt}
 use Rattle.drop.specs.Marks.{varAt}
 use Rattle.drop.specs.Retained.{Retainable}
 

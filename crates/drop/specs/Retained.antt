@@ -10,7 +10,7 @@ use Rattle.plan.specs.Circuit.{Gate, gateLine, flat, has}
 use Rattle.plan.specs.Binary.{litsFrom}
 use Rattle.plan.specs.Reduce.{Reduced, becomes, retain}
 use Rattle.plan.specs.Outcome.{put}
-use Rattle.theorems.proofs.Tables.{gatesAt}
+use Rattle.laws.proofs.Tables.{gatesAt}
 use Rattle.drop.specs.Marks.{bit}
 
 -- a gate of one of the variables vs is retained, another one becomes 0

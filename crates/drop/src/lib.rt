@@ -8,23 +8,23 @@ ghost use Rattle.plan.specs.Circuit.{seven};
 ghost use Rattle.plan.specs.Outcome.{Says};
 ghost use Rattle.plan.specs.Walk.{walk};
 ghost use Rattle.plan.specs.Drop.{sidesOf, dropping};
-ghost use Rattle.theorems.proofs.Tables.{gateAt, gatesAt};
-ghost use Rattle.given.specs.Judged.{givenAt};
+ghost use Rattle.laws.proofs.Tables.{gateAt, gatesAt};
+ghost use Rattle.judge.specs.Judged.{givenAt};
 ghost use Rattle.drop.specs.Marks.{Marked, Below};
 ghost use Rattle.drop.specs.Retained.{Roomy, Stepped, Retainable, Done};
 ghost use Rattle.drop.specs.Reached.{column, reachedIn, Marking, Reachable};
-use folding::becomes;
-use gates::run_on;
-use given::check_to_make;
+use judge::check_to_make;
+use lines::gates::run_on;
 use plan::Checked;
 use plan::Counts;
 use plan::Lit;
 use plan::Made;
+use reduce::folding::becomes;
+use reduce::pairs::left_side;
 use reduce::three_become;
 use tables::clear;
 use tables::clear_all;
 use tables::lengths;
-use twins::left_side;
 
 // Marks a literal's variable.
 fn mark(l: Lit, t: &mut [u32])

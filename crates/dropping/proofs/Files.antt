@@ -17,9 +17,9 @@ use Rattle.plan.specs.Outcome.{WriteExit, putBytes}
 use Rattle.plan.specs.Whole.{WholeEntry, inputOf, fittingIn, droppedFile}
 use Rattle.tables.specs.Lengths.{sizesOf}
 use Rattle.read.proofs.Answers.{part-from}
-use Rattle.intake.specs.Opening.{OpenEntry, opening, opened}
-use Rattle.intake.specs.Parts.{toldBy}
-use Rattle.intake.proofs.Files.{after-input, told-fitting}
+use Rattle.whole.specs.Opening.{OpenEntry, opening, opened}
+use Rattle.whole.specs.Parts.{toldBy}
+use Rattle.whole.proofs.Files.{after-input, told-fitting}
 
 module _ (readable : Bool) (file : List ℕ) (read made : Tables) (scratch out : List ℕ) where
   abbrev e : OpenEntry

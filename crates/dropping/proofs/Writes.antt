@@ -18,14 +18,14 @@ use Rattle.plan.specs.Given.{Given, given, lentAlone, lentWith, stages, orderSt
 use Rattle.plan.specs.Reduce.{reduce}
 use Rattle.plan.specs.Drop.{dropUnused, dropping}
 use Rattle.plan.specs.Outcome.{putBytes, FileExit, writeBinary, MakeEntry, MakeExit, madeBy, reduction}
-use Rattle.theorems.proofs.Reading.Short.{short-none}
-use Rattle.theorems.proofs.Running.Counts.{counts-reduce}
-use Rattle.theorems.proofs.Running.Results.{reduce-fewer}
-use Rattle.theorems.proofs.Writing.Later.{Left, reduction-left}
+use Rattle.laws.proofs.Reading.Short.{short-none}
+use Rattle.laws.proofs.Running.Counts.{counts-reduce}
+use Rattle.laws.proofs.Running.Results.{reduce-fewer}
+use Rattle.laws.proofs.Writing.Later.{Left, reduction-left}
 use Rattle.tables.specs.Lengths.{lengthsIn, sizesOf}
-use Rattle.walks.proofs.Later.{dropping-left, dropping-accepted, tail-drop}
-use Rattle.intake.specs.Opening.{Ready}
-use Rattle.intake.proofs.Writes.{shown, after, not-refused, left-is, made-put, fine-is, counts-are, left-here, tail-here, long-here, took-too, reduced-tail}
+use Rattle.laws.proofs.Walks.Later.{dropping-left, dropping-accepted, tail-drop}
+use Rattle.whole.specs.Opening.{Ready}
+use Rattle.whole.proofs.Writes.{shown, after, not-refused, left-is, made-put, fine-is, counts-are, left-here, tail-here, long-here, took-too, reduced-tail}
 
 -- the reduction of a circuit in binary order
 module _ (g : Given) (t : Tables) (tail : List ℕ) (ready : Ready g tail (sizesOf t)) (order : binaryOrder (given g) ≡ true) (x : MakeExit)

@@ -12,9 +12,8 @@ ghost use Rattle.plan.specs.Whole.{inputOf, droppedFile, dropWhole};
 ghost use Rattle.plan.specs.Drop.{dropUnused};
 ghost use Rattle.tables.specs.Lengths.{sizesOf};
 ghost use Rattle.write.specs.Judged.{givenIn};
-ghost use Rattle.intake.specs.Opening.{Ready};
-ghost use Rattle.intake.specs.Parts.{toldBy};
-use intake::open_file;
+ghost use Rattle.whole.specs.Opening.{Ready};
+ghost use Rattle.whole.specs.Parts.{toldBy};
 use plan::Counts;
 use plan::Loaded;
 use plan::Made;
@@ -22,6 +21,7 @@ use plan::Written;
 use tables::clear;
 use tables::clear_all;
 use tables::lengths;
+use whole::open_file;
 use write::write_binary;
 
 // Drops the unused gates of a reduced circuit, and writes what is left as binary.

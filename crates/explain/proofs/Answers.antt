@@ -19,9 +19,9 @@ use Rattle.plan.specs.Circuit.{cleared}
 use Rattle.plan.specs.Given.{orElse, failingAt, roomStage}
 use Rattle.plan.specs.Step.{Value, v0, v1, vx, same}
 use Rattle.plan.specs.Outcome.{put, allCodes, vector, checkInOrder}
-use Rattle.theorems.proofs.Reading.Common.{and-left}
-use Rattle.theorems.proofs.Writing.Nothing.{some-none}
-use Rattle.codes.proofs.Places.{codesIn, firstBad}
+use Rattle.laws.proofs.Reading.Common.{and-left}
+use Rattle.laws.proofs.Writing.Nothing.{some-none}
+use Rattle.step.proofs.codes.Places.{codesIn, firstBad}
 use Rattle.step.proofs.Beyond.{answer, refused-by, past-check}
 use Rattle.plan.specs.Explain.{ExplainEntry, ExplainExit, valueAsked, marksAsked, vectorsStage, outputStage, explainedBy, explain}
 use Rattle.explain.specs.Asked.{Vectors, Explains}

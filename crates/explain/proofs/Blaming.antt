@@ -12,10 +12,10 @@ use Rattle.plan.specs.declared.Lit.{Lit}
 use Rattle.plan.specs.Literals.{litOf, varOf, negOf, wordOf}
 use Rattle.plan.specs.Circuit.{Gate, has}
 use Rattle.plan.specs.Step.{Value, v0, v1, vx, inv, lit, same}
-use Rattle.theorems.proofs.Tables.{gateAt, gatesAt}
-use Rattle.theorems.proofs.Running.Signs.{lit-double, lit-neg}
-use Rattle.values.specs.Words.{may0, may1, word}
-use Rattle.sweep.proofs.NotAnd.{may-not}
+use Rattle.laws.proofs.Tables.{gateAt, gatesAt}
+use Rattle.laws.proofs.Running.Signs.{lit-double, lit-neg}
+use Rattle.step.specs.values.Words.{may0, may1, word}
+use Rattle.step.proofs.sweep.NotAnd.{may-not}
 use Rattle.plan.specs.Walk.{walk}
 use Rattle.plan.specs.Explain.{blamesAt, blames}
 use Rattle.drop.proofs.Marking.{walk-append}

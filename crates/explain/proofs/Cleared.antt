@@ -9,7 +9,7 @@ use lib.ListN.{length, getD, set, take, drop, length-set, length-map, length-dro
 use lib.Seq.{getD-set-same, getD-set-other, length-take-le}
 use Rattle.plan.specs.Step.{Value, codeOf, lit}
 use Rattle.plan.specs.Outcome.{put}
-use Rattle.values.specs.Words.{may1, told, valuesAt}
+use Rattle.step.specs.values.Words.{may1, told, valuesAt}
 use Rattle.explain.specs.Known.{Known}
 
 -- v marks are cleared

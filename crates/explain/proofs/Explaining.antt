@@ -11,12 +11,12 @@ use Rattle.plan.specs.Circuit.{Circuit, Tables, circuitOf}
 use Rattle.plan.specs.Step.{Value, codeOf, lit, valuesOf}
 use Rattle.plan.specs.Outcome.{put}
 use Rattle.plan.specs.Walk.{walk}
-use Rattle.theorems.proofs.Put.{put-put}
-use Rattle.theorems.proofs.Reading.Runs.{order-exactly}
-use Rattle.theorems.proofs.Tables.{gatesAt}
-use Rattle.values.specs.Words.{may1, told, valuesAt}
+use Rattle.laws.proofs.Put.{put-put}
+use Rattle.laws.proofs.Reading.Runs.{order-exactly}
+use Rattle.laws.proofs.Tables.{gatesAt}
+use Rattle.step.specs.values.Words.{may1, told, valuesAt}
 use Rattle.plan.specs.Explain.{blames, marksFor}
-use Rattle.sweep.specs.Running.{these, litsOf, Runs, Stepped}
+use Rattle.step.specs.sweep.Running.{these, litsOf, Runs, Stepped}
 use Rattle.explain.specs.Known.{Space, Known}
 use Rattle.explain.specs.Asked.{Asked}
 use Rattle.explain.proofs.Shown.{marks-shown, blamed-is}

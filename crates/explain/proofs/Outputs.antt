@@ -11,16 +11,16 @@ use Rattle.plan.specs.declared.Counts.{Counts}
 use Rattle.plan.specs.Literals.{varOf, inRange}
 use Rattle.plan.specs.Circuit.{Tables, circuitOf, gateLine, inside}
 use Rattle.plan.specs.Step.{Value, v0, v1, vx, lit, valuesOf}
-use Rattle.theorems.proofs.Reading.Common.{and-right}
-use Rattle.theorems.proofs.Ranges.{first-var, second-var, inside-at}
-use Rattle.theorems.proofs.Tables.{gateAt, gates-rows}
-use Rattle.values.specs.Words.{word, words}
-use Rattle.sweep.specs.Running.{Runs}
-use Rattle.sweep.proofs.Literals.{literal-up}
+use Rattle.laws.proofs.Reading.Common.{and-right}
+use Rattle.laws.proofs.Ranges.{first-var, second-var, inside-at}
+use Rattle.laws.proofs.Tables.{gateAt, gates-rows}
+use Rattle.step.specs.values.Words.{word, words}
+use Rattle.step.specs.sweep.Running.{Runs}
+use Rattle.step.proofs.sweep.Literals.{literal-up}
 use Rattle.step.specs.Asked as stepping
 use Rattle.drop.specs.Marks.{Below}
 use Rattle.plan.specs.Explain.{places, marksFor}
-use Rattle.blame.proofs.Marked.{length-places}
+use Rattle.laws.proofs.Explaining.Marked.{length-places}
 use Rattle.explain.specs.Asked.{Settled, Vectors}
 
 -- a step's vectors, with outputs that are not looked at

@@ -10,9 +10,9 @@ use Rattle.plan.specs.declared.Counts.{Counts}
 use Rattle.plan.specs.Literals.{varOf}
 use Rattle.plan.specs.Circuit.{Gate, Circuit, Tables, circuitOf, vars, currents, nexts, has}
 use Rattle.plan.specs.Step.{Value, codeOf, valuesOf}
-use Rattle.theorems.proofs.Reading.Runs.{upFrom, vars-lits, currents-latches, length-nexts, BinaryOrder}
-use Rattle.theorems.proofs.Tables.{gatesAt, gates-rows}
-use Rattle.values.specs.Words.{word, told, valuesAt}
+use Rattle.laws.proofs.Reading.Runs.{upFrom, vars-lits, currents-latches, length-nexts, BinaryOrder}
+use Rattle.laws.proofs.Tables.{gatesAt, gates-rows}
+use Rattle.step.specs.values.Words.{word, told, valuesAt}
 use Rattle.plan.specs.Walk.{walk}
 use Rattle.plan.specs.Explain.{blames, blamed, mark, marksFor}
 use Rattle.explain.specs.Known.{Space, flag, Known}

@@ -10,9 +10,9 @@ use Rattle.plan.specs.Refusals.{firstOf}
 use Rattle.plan.specs.Circuit.{Circuit, cleared}
 use Rattle.plan.specs.Step.{Value}
 use Rattle.plan.specs.Given.{roomStage}
-use Rattle.theorems.proofs.Tables.{gateAt}
+use Rattle.laws.proofs.Tables.{gateAt}
 use Rattle.tables.specs.Held.{Scratch}
-use Rattle.sweep.specs.Running as running
+use Rattle.step.specs.sweep.Running as running
 use Rattle.drop.specs.Marks.{Below}
 use Rattle.plan.specs.Explain.{ExplainEntry, ExplainExit, marksAsked, outputStage, explainedBy}
 

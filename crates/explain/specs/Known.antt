@@ -9,7 +9,7 @@ use Rattle.plan.specs.declared.Lit.{Lit}
 use Rattle.plan.specs.Literals.{wordOf}
 use Rattle.plan.specs.Circuit.{has}
 use Rattle.plan.specs.Step.{Value, v0, v1, lit}
-use Rattle.values.specs.Words.{may1, word}
+use Rattle.step.specs.values.Words.{may1, word}
 
 -- the literals' words stand from `lits` on, the marks of n variables from m on
 pub record Space (lits m n : ℕ) (t : List ℕ) : Type 0 where

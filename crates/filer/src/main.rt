@@ -1,5 +1,7 @@
 // Writes the plan cards of plan.in as binary AIGER to standard output, or the line of the refusal (the paper, plan cards and programs). 14, 13,
-// the refusals of the reader of cards and 11 are decided by crate filing.
+// the refusals of the reader of cards and 11 are decided by whole::filing.
+use whole::filing;
+
 fn main() {
     let mut file = [0u8; 65537];
     let plan = office::read_plan(&mut file);

@@ -16,10 +16,10 @@ use Rattle.plan.specs.Refusals.{Parse, got, refused, _then_, unless}
 use Rattle.plan.specs.Circuit.{inside}
 use Rattle.plan.specs.Bytes.{number, endOf, Placed, numbers, values, outside}
 use Rattle.plan.specs.Given.{orElse}
-use Rattle.theorems.proofs.Reading.Common.{then-got, unless-got, got-value, and-left, and-right}
-use Rattle.theorems.proofs.Reading.Cut.{cut}
-use Rattle.theorems.proofs.Reading.Lines.{outside-none}
-use Rattle.theorems.proofs.Reading.Steps.{numbers-exactly}
+use Rattle.laws.proofs.Reading.Common.{then-got, unless-got, got-value, and-left, and-right}
+use Rattle.laws.proofs.Reading.Cut.{cut}
+use Rattle.laws.proofs.Reading.Lines.{outside-none}
+use Rattle.laws.proofs.Reading.Steps.{numbers-exactly}
 use Rattle.lines.specs.Rows.{row}
 
 -- the literals ls were read, the first out of its range stands at o, and the rest is p

@@ -15,12 +15,12 @@ use Rattle.plan.specs.Refusals.{Parse, got, refused}
 use Rattle.plan.specs.Circuit.{literalOf, has, heads, flat}
 use Rattle.plan.specs.Bytes.{line, lines}
 use Rattle.plan.specs.Outcome.{passedBy, put}
-use Rattle.theorems.proofs.Marks.{Agrees, agrees-more}
-use Rattle.theorems.proofs.Put.{put-none, put-length, put-there, put-put}
-use Rattle.theorems.proofs.Reading.Steps.{onRows, lines-turn, lines-stop, lines-done}
-use Rattle.theorems.proofs.Tables.{heads-snoc, flat-snoc}
-use Rattle.bitmap.specs.Bitmap.{raised}
-use Rattle.bitmap.proofs.Places.{raised-length}
+use Rattle.laws.proofs.Marks.{Agrees, agrees-more}
+use Rattle.laws.proofs.Put.{put-none, put-length, put-there, put-put}
+use Rattle.laws.proofs.Reading.Steps.{onRows, lines-turn, lines-stop, lines-done}
+use Rattle.laws.proofs.Tables.{heads-snoc, flat-snoc}
+use Rattle.tables.specs.bitmap.Bitmap.{raised}
+use Rattle.tables.proofs.bitmap.Places.{raised-length}
 use Rattle.lines.specs.Rows.{row, MarksFor, marked, marking, seenAfter, LinesSay}
 use Rattle.lines.proofs.Marks.{marks-less}
 use Rattle.lines.proofs.OneLine.{line-row, line-refused, row-long, row-var}

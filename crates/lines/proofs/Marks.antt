@@ -5,7 +5,7 @@ use mathlib.Core.Bool.{Bool, true, false, false≢true}
 use mathlib.Core.List.{List}
 use native.Mathlib.Omega.{arith}
 use lib.ListN.{length}
-use Rattle.bitmap.specs.Bitmap.{isOn, raised}
+use Rattle.tables.specs.bitmap.Bitmap.{isOn, raised}
 use Rattle.lines.specs.Rows.{MarksFor, marked, marking}
 
 -- marks for lines that define; for a variable up to m, in words as many

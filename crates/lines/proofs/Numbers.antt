@@ -20,9 +20,9 @@ use Rattle.plan.specs.declared.Passed.the-variants.{To, Refused}
 use Rattle.plan.specs.Refusals.{Parse, got, refused, _then_}
 use Rattle.plan.specs.Bytes.{classOf, number, Placed, goesOn, less, numbers, values}
 use Rattle.plan.specs.Outcome.{passedBy, put, numberAt}
-use Rattle.theorems.proofs.Put.{put-none, put-length}
-use Rattle.theorems.proofs.Reading.Common.{got-value, not-got}
-use Rattle.theorems.proofs.Reading.Cut.{cut, value-is, wrong-is}
+use Rattle.laws.proofs.Put.{put-none, put-length}
+use Rattle.laws.proofs.Reading.Common.{got-value, not-got}
+use Rattle.laws.proofs.Reading.Cut.{cut, value-is, wrong-is}
 use Rattle.lines.specs.declared.Going.{Going}
 use Rattle.lines.specs.declared.Going.the-variants.{Stop, On, Wrong}
 use Rattle.lines.specs.Rows.{going, placesOf, Numbered}

@@ -12,10 +12,10 @@ use Rattle.plan.specs.Literals.{varOf}
 use Rattle.plan.specs.Refusals.{Parse, got, refused, _then_, unless}
 use Rattle.plan.specs.Circuit.{literalOf, has, inside}
 use Rattle.plan.specs.Bytes.{number, expect, endOf, Placed, numbers, values, outside, twice, line}
-use Rattle.theorems.proofs.Ranges.{first-var}
-use Rattle.theorems.proofs.Reading.Common.{then-got, unless-got, got-value, got-next}
-use Rattle.theorems.proofs.Reading.Lines.{numbers-took}
-use Rattle.theorems.proofs.Reading.Steps.{numbers-exactly}
+use Rattle.laws.proofs.Ranges.{first-var}
+use Rattle.laws.proofs.Reading.Common.{then-got, unless-got, got-value, got-next}
+use Rattle.laws.proofs.Reading.Lines.{numbers-took}
+use Rattle.laws.proofs.Reading.Steps.{numbers-exactly}
 use Rattle.lines.specs.Rows.{row}
 use Rattle.lines.proofs.Judge.{row-inside}
 

@@ -18,10 +18,10 @@ use Rattle.plan.specs.Refusals.{Parse, got, unless}
 use Rattle.plan.specs.Bytes.{number, numbers}
 use Rattle.plan.specs.Given.{orElse}
 use Rattle.plan.specs.Outcome.{passedBy, put, numberAt}
-use Rattle.theorems.proofs.Put.{put-none, put-length, put-one, put-put}
-use Rattle.theorems.proofs.Reading.Common.{got-value, unless-got}
-use Rattle.theorems.proofs.Reading.Cut.{cut, value-is, wrong-is}
-use Rattle.theorems.proofs.Reading.Steps.{cut-range}
+use Rattle.laws.proofs.Put.{put-none, put-length, put-one, put-put}
+use Rattle.laws.proofs.Reading.Common.{got-value, unless-got}
+use Rattle.laws.proofs.Reading.Cut.{cut, value-is, wrong-is}
+use Rattle.laws.proofs.Reading.Steps.{cut-range}
 use Rattle.lines.specs.Rows.{endFor, foundOf, row}
 use Rattle.lines.specs.declared.Found.{Found}
 use Rattle.lines.proofs.EndBytes.{end-is}

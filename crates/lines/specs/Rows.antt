@@ -13,9 +13,9 @@ use Rattle.plan.specs.Refusals.{Parse, got, refused, _then_, unless}
 use Rattle.plan.specs.Circuit.{heads, flat}
 use Rattle.plan.specs.Bytes.{Placed, numbers, values, outside}
 use Rattle.plan.specs.Outcome.{put}
-use Rattle.theorems.proofs.Marks.{Agrees}
-use Rattle.theorems.proofs.Reading.Cut.{cut}
-use Rattle.bitmap.specs.Bitmap.{isOn, raised}
+use Rattle.laws.proofs.Marks.{Agrees}
+use Rattle.laws.proofs.Reading.Cut.{cut}
+use Rattle.tables.specs.bitmap.Bitmap.{isOn, raised}
 use Rattle.lines.specs.declared.Found.{Found}
 use Rattle.lines.specs.declared.Found.the-variants.{Nothing, At}
 use Rattle.lines.specs.declared.Going.{Going}

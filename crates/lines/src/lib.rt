@@ -12,15 +12,24 @@ ghost use Rattle.plan.specs.Refusals.{got};
 ghost use Rattle.plan.specs.Bytes.{Placed, numbers, lines};
 ghost use Rattle.plan.specs.Given.{orElse};
 ghost use Rattle.plan.specs.Outcome.{passedBy, put};
-ghost use Rattle.theorems.proofs.Marks.{Agrees};
+ghost use Rattle.laws.proofs.Marks.{Agrees};
 ghost use Rattle.lines.specs.Rows.{endFor, going, foundOf, row, MarksFor, marked, marking, LinesSay, Numbered};
-use classes::class_of;
-use numbers::read_number;
+use codec::classes::class_of;
+use codec::numbers::read_number;
 use plan::Class;
 use plan::Lit;
 use plan::Number;
 use plan::Passed;
 use plan::Refusal;
+use tables::bitmap;
+
+pub mod binary;
+pub mod gates;
+pub mod header;
+mod latches;
+mod outputs;
+pub mod tail;
+pub mod text;
 
 // The place of the first literal of a line that is out of its range.
 pub enum Found {

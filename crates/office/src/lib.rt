@@ -8,7 +8,7 @@ use libc::STDOUT_FILENO;
 use plan::Refusal;
 use plan::Written;
 use tables::lesser;
-use telling::tell_refusal;
+use write::refusal_line::tell_refusal;
 
 pub enum Input {
     Bytes(usize),

@@ -11,8 +11,8 @@ use Rattle.plan.specs.declared.Refusal.{Refusal}
 use Rattle.plan.specs.declared.Stepped.the-variants.{Refused}
 use Rattle.plan.specs.Circuit.{cleared}
 use Rattle.plan.specs.Outcome.{StepEntry, StepExit, allCodes, stepStage, steppedBy, step}
-use Rattle.theorems.proofs.Reading.Common.{and-right}
-use Rattle.codes.proofs.Places.{codesIn, firstBad}
+use Rattle.laws.proofs.Reading.Common.{and-right}
+use Rattle.step.proofs.codes.Places.{codesIn, firstBad}
 use Rattle.plan.specs.Plain.{plainStep}
 use Rattle.plain.proofs.Beyond.{plainAnswer, answer-few}
 

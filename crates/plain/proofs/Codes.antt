@@ -9,7 +9,7 @@ use lib.Dec.{eqb}
 use lib.ListN.{length, getD}
 use Rattle.plan.specs.Step.{Value, v0, v1, vx, codeOf, valueOf, isCode, and}
 use Rattle.plan.specs.Outcome.{allCodes}
-use Rattle.theorems.proofs.Reading.Common.{and-left, and-right}
+use Rattle.laws.proofs.Reading.Common.{and-left, and-right}
 
 pub value-code : (a : Value) → valueOf (codeOf a) ≡ a
 value-code v0 = refl

@@ -13,11 +13,11 @@ use Rattle.plan.specs.Literals.{varOf}
 use Rattle.plan.specs.Circuit.{Circuit, Tables, circuitOf}
 use Rattle.plan.specs.Step.{Value, v0, v1, vx, codeOf, valueOf, lit, valuesOf, outputsOf, nextOf}
 use Rattle.plan.specs.Outcome.{allCodes, put}
-use Rattle.theorems.proofs.Tables.{firsts, length-firsts, words-take}
-use Rattle.used.proofs.Walked.{one-word}
-use Rattle.values.proofs.Filling.{map-firsts}
-use Rattle.sweep.specs.Running.{these, Runs}
-use Rattle.sweep.proofs.Literals.{nexts-every, output-up, next-up}
+use Rattle.laws.proofs.Tables.{firsts, length-firsts, words-take}
+use Rattle.judge.proofs.used.Walked.{one-word}
+use Rattle.step.proofs.values.Filling.{map-firsts}
+use Rattle.step.specs.sweep.Running.{these, Runs}
+use Rattle.step.proofs.sweep.Literals.{nexts-every, output-up, next-up}
 use Rattle.step.specs.Asked.{Room, Vectors, Leaves}
 use Rattle.plain.specs.Asked.{variableIn, Teaches, Outs, Nexts, Bytes, outputCodes, nextCodes}
 use Rattle.plain.proofs.Worth.{teaches, worth-step}

@@ -13,8 +13,8 @@ use lib.ListN.{length}
 use Rattle.plan.specs.Literals.{varOf}
 use Rattle.plan.specs.Circuit.{Gate}
 use Rattle.plan.specs.Depends.{find}
-use Rattle.theorems.proofs.Tables.{gateAt, gatesAt, length-firsts}
-use Rattle.theorems.proofs.Running.Binary.{Binary}
+use Rattle.laws.proofs.Tables.{gateAt, gatesAt, length-firsts}
+use Rattle.laws.proofs.Running.Binary.{Binary}
 
 front : (n : ℕ) (gs hs : List Gate) → Binary n (gs ++ hs) → Binary n gs
 front n [] hs b = tt

@@ -11,15 +11,15 @@ use Rattle.plan.specs.Circuit.{Gate, Circuit, Tables, circuitOf}
 use Rattle.plan.specs.Depends.{find}
 use Rattle.plan.specs.Step.{Value, vx, codeOf, valueOf, and, lit, gateValue, valueIn, valuesOf}
 use Rattle.plan.specs.Outcome.{allCodes}
-use Rattle.theorems.proofs.Tables.{gateAt, gatesAt, gates-rows}
-use Rattle.theorems.proofs.Reading.Runs.{BinaryOrder, order-exactly}
-use Rattle.theorems.proofs.Running.Values.{value-solves}
-use Rattle.theorems.proofs.Running.Binary.{Binary, leaf-given, settled-binary, inner}
-use Rattle.theorems.proofs.Running.InOrder.{order-binary, leaves-order}
-use Rattle.theorems.proofs.Running.Sides.{Sides, sides-below}
-use Rattle.theorems.proofs.Running.Sweep.{at}
-use Rattle.theorems.proofs.Running.Upward.{given, leaf-at}
-use Rattle.sweep.specs.Running.{Runs}
+use Rattle.laws.proofs.Tables.{gateAt, gatesAt, gates-rows}
+use Rattle.laws.proofs.Reading.Runs.{BinaryOrder, order-exactly}
+use Rattle.laws.proofs.Running.Values.{value-solves}
+use Rattle.laws.proofs.Running.Binary.{Binary, leaf-given, settled-binary, inner}
+use Rattle.laws.proofs.Running.InOrder.{order-binary, leaves-order}
+use Rattle.laws.proofs.Running.Sides.{Sides, sides-below}
+use Rattle.laws.proofs.Running.Sweep.{at}
+use Rattle.laws.proofs.Running.Upward.{given, leaf-at}
+use Rattle.step.specs.sweep.Running.{Runs}
 use Rattle.plain.specs.Asked.{variableIn, Teaches}
 use Rattle.plain.proofs.Codes.{code-value, codes-at}
 use Rattle.plain.proofs.Gates.{find-at}

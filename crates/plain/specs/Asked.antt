@@ -8,10 +8,10 @@ use Rattle.plan.specs.declared.Counts.{Counts}
 use Rattle.plan.specs.Literals.{most, varOf}
 use Rattle.plan.specs.Step.{Value, codeOf, valueOf, lit, valueIn}
 use Rattle.plan.specs.Outcome.{allCodes}
-use Rattle.theorems.proofs.Tables.{firsts, gatesAt}
-use Rattle.theorems.proofs.Running.Binary.{Binary}
-use Rattle.theorems.proofs.Running.Upward.{given}
-use Rattle.theorems.proofs.Running.Sweep.{at}
+use Rattle.laws.proofs.Tables.{firsts, gatesAt}
+use Rattle.laws.proofs.Running.Binary.{Binary}
+use Rattle.laws.proofs.Running.Upward.{given}
+use Rattle.laws.proofs.Running.Sweep.{at}
 
 -- the value of variable v: the constant, the inputs and the latches in their places, then the gates
 abbrev pub variableIn : Counts → List ℕ → List ℕ → List ℕ → ℕ → Value

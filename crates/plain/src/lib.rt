@@ -9,18 +9,18 @@ ghost use Rattle.plan.specs.Literals.{indexOf, varOf, wordOf};
 ghost use Rattle.plan.specs.Circuit.{Tables, circuitOf, seven};
 ghost use Rattle.plan.specs.Step.{codeOf, valueOf, inv, and, lit};
 ghost use Rattle.plan.specs.Outcome.{Says, allCodes, put};
-ghost use Rattle.sweep.specs.Running.{these, Runs};
+ghost use Rattle.step.specs.sweep.Running.{these, Runs};
 ghost use Rattle.step.specs.Asked.{Room, Vectors, Leaves};
 ghost use Rattle.plan.specs.Plain.{plainStep};
 ghost use Rattle.plain.specs.Asked.{variableIn, Teaches, Outs, Nexts, Bytes, outputCodes, nextCodes};
-use codes::bad_vector;
-use given::judge_in_order;
+use judge::judge_in_order;
 use plan::Checked;
 use plan::Counts;
 use plan::Lit;
 use plan::Refusal;
 use plan::Stepped;
 use plan::Var;
+use step::codes::bad_vector;
 use tables::clear;
 
 // The gates that a teaching circuit has at most.

@@ -13,7 +13,7 @@ use Rattle.plan.specs.Refusals.{Parse, got, refused}
 use Rattle.plan.specs.Circuit.{Circuit, lengthsOf}
 use Rattle.plan.specs.Reading.{readFile}
 use Rattle.plan.specs.Outcome.{ReadEntry, LoadExit, loadAs, loadBy, readAs, loadedValues, tailOf}
-use Rattle.theorems.proofs.Reading.Places.{start-within}
+use Rattle.laws.proofs.Reading.Places.{start-within}
 
 -- the part from a position on is the rest of the list
 pub part-from : (start : ℕ) (l : List ℕ) → midOf start (length l - start) l ≡ drop start l

@@ -20,15 +20,15 @@ use Rattle.plan.specs.Depends.{undefinedIn, cyclicIn}
 use Rattle.plan.specs.Tail.{tailAt}
 use Rattle.plan.specs.Reading.{body, readFile}
 use Rattle.plan.specs.Outcome.{formOf}
-use Rattle.theorems.proofs.Held.{BodySays}
-use Rattle.theorems.proofs.Reading.Common.{then-got, unless-got, got-value}
-use Rattle.theorems.proofs.Reading.Differences.{Bytes}
-use Rattle.theorems.proofs.Reading.Headers.{AllMost}
-use Rattle.theorems.proofs.Reading.Short.{short-none}
-use Rattle.theorems.proofs.Reading.Texts.{text-took}
-use Rattle.theorems.proofs.Reading.Binaries.{binary-took}
-use Rattle.rest.specs.Rest.{rest, Room, LoadedSays}
-use Rattle.rest.proofs.After.{body-passed, body-refused}
+use Rattle.laws.proofs.Held.{BodySays}
+use Rattle.laws.proofs.Reading.Common.{then-got, unless-got, got-value}
+use Rattle.laws.proofs.Reading.Differences.{Bytes}
+use Rattle.laws.proofs.Reading.Headers.{AllMost}
+use Rattle.laws.proofs.Reading.Short.{short-none}
+use Rattle.laws.proofs.Reading.Texts.{text-took}
+use Rattle.laws.proofs.Reading.Binaries.{binary-took}
+use Rattle.read.specs.body.Rest.{rest, Room, LoadedSays}
+use Rattle.read.proofs.body.After.{body-passed, body-refused}
 
 -- the counts of what is read are the header's
 body-counts : (v : Version) (file : List ℕ) → Bytes file → (f : Form) (n : Counts) (at : ℕ) (c : Circuit) (e : ℕ) → adds f n ≡ true → body v file f n at ≡ got c e → countsOf c ≡ n

@@ -13,8 +13,8 @@ use Rattle.plan.specs.Refusals.{Parse, got, refused}
 use Rattle.plan.specs.Circuit.{Circuit, Tables, lengthsOf, cleared, allCleared}
 use Rattle.plan.specs.Reading.{readFile}
 use Rattle.plan.specs.Outcome.{ReadEntry, loadAs, loadBy}
-use Rattle.theorems.proofs.Held.{holds-filled}
-use Rattle.rest.specs.Rest.{LoadedSays}
+use Rattle.laws.proofs.Held.{holds-filled}
+use Rattle.read.specs.body.Rest.{LoadedSays}
 
 -- clearing keeps the lengths
 pub lengths-cleared : (t : Tables) (scratch : List ℕ) → lengthsOf (allCleared t) (cleared scratch) ≡ lengthsOf t scratch

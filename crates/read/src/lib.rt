@@ -7,26 +7,28 @@ ghost use Rattle.plan.specs.Circuit.{seven, lengthsOf};
 ghost use Rattle.plan.specs.Header.{adds};
 ghost use Rattle.plan.specs.Reading.{readFile};
 ghost use Rattle.plan.specs.Outcome.{Says, loadAs, readAs, formOf};
-ghost use Rattle.theorems.proofs.Held.{BodySays};
-ghost use Rattle.rest.specs.Rest.{rest, Room, LoadedSays};
-use header::read_header;
+ghost use Rattle.laws.proofs.Held.{BodySays};
+ghost use Rattle.read.specs.body.Rest.{rest, Room, LoadedSays};
+use crate::body::rest_of_binary;
+use crate::body::rest_of_text;
+use answers::numbers::no_counts;
+use answers::numbers::tell;
+use answers::refusals::told_number;
+use answers::refusals::told_place;
+use lines::header::read_header;
 use plan::Counts;
 use plan::Headed;
 use plan::Loaded;
 use plan::Passed;
 use plan::Refusal;
 use plan::Version;
-use refusals::told_number;
-use refusals::told_place;
-use rest::rest_of_binary;
-use rest::rest_of_text;
 use tables::clear;
 use tables::clear_all;
 use tables::lengths;
 use tables::scratch_to_read;
 use tables::too_short;
-use told::no_counts;
-use told::tell;
+
+pub mod body;
 
 fn rest_of(
     version: Version,

@@ -16,11 +16,11 @@ use Rattle.plan.specs.Refusals.{firstOf}
 use Rattle.plan.specs.Circuit.{Circuit, Tables, countsOf, cleared, allCleared, holding}
 use Rattle.plan.specs.Given.{Given, given, lentWith}
 use Rattle.plan.specs.Outcome.{CheckExit, MakeExit, checkedBy, checkBy, madeBy}
-use Rattle.theorems.proofs.Held.{Holds, holds-filled}
-use Rattle.theorems.proofs.Marks.{zeros}
+use Rattle.laws.proofs.Held.{Holds, holds-filled}
+use Rattle.laws.proofs.Marks.{zeros}
 use Rattle.tables.specs.Lengths.{sizesOf}
-use Rattle.given.specs.Judged.{allStages}
-use Rattle.given.proofs.Sound.{Good, Wide, good-none, refused-some, good-with}
+use Rattle.judge.specs.Judged.{allStages}
+use Rattle.judge.proofs.Sound.{Good, Wide, good-none, refused-some, good-with}
 use Rattle.reduce.proofs.Reducing.{Ready, Written}
 
 -- the counts of a circuit of which k gates are retained

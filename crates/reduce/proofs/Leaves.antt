@@ -11,11 +11,11 @@ use Rattle.plan.specs.Literals.{litOf, varOf, signOf, negOf, signed, isReset}
 use Rattle.plan.specs.Circuit.{Gate, Circuit, latchLine, flat, latchOf, rowsOf, resetsOk}
 use Rattle.plan.specs.Binary.{litsFrom, latchesFrom}
 use Rattle.plan.specs.Reduce.{Reduced, becomes, standIn, retain, reduceGate, reduceGates, reduced, latchBecomes}
-use Rattle.theorems.proofs.Reading.Common.{and-left, and-right}
-use Rattle.theorems.proofs.Reading.Runs.{length-lits}
-use Rattle.theorems.proofs.Running.Binary.{inner, Bounded}
-use Rattle.theorems.proofs.Running.Upward.{lits-at}
-use Rattle.theorems.proofs.Running.Resets.{by-reset}
+use Rattle.laws.proofs.Reading.Common.{and-left, and-right}
+use Rattle.laws.proofs.Reading.Runs.{length-lits}
+use Rattle.laws.proofs.Running.Binary.{inner, Bounded}
+use Rattle.laws.proofs.Running.Upward.{lits-at}
+use Rattle.laws.proofs.Running.Resets.{by-reset}
 
 -- what variables became stays
 retain-stays : (r : Reduced) (a b : ℕ) (o : Option ℕ) (v : ℕ) → v < length (r .became)

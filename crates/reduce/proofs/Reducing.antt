@@ -12,16 +12,16 @@ use Rattle.plan.specs.Binary.{litsFrom, latchesFrom}
 use Rattle.plan.specs.Given.{Given, given}
 use Rattle.plan.specs.Reduce.{Reduced, becomes, reduceGates, reduced, latchBecomes, reduce}
 use Rattle.plan.specs.Outcome.{put}
-use Rattle.theorems.proofs.Held.{Holds}
-use Rattle.theorems.proofs.Reading.Runs.{BinaryOrder, order-exactly, length-nexts}
-use Rattle.theorems.proofs.Tables.{gatesAt, gates-rows}
-use Rattle.theorems.proofs.Running.Binary.{Binary, inner, Bounded, Ordered}
-use Rattle.theorems.proofs.Running.Sides.{sides-below}
-use Rattle.theorems.proofs.Running.InOrder.{well-ordered}
-use Rattle.theorems.proofs.Running.Resets.{resets-bounded}
-use Rattle.theorems.proofs.Running.Results.{reduce-fewer}
-use Rattle.folding.specs.Folded.{folded, Foldable, Done}
-use Rattle.given.proofs.Sound.{Good, Wide}
+use Rattle.laws.proofs.Held.{Holds}
+use Rattle.laws.proofs.Reading.Runs.{BinaryOrder, order-exactly, length-nexts}
+use Rattle.laws.proofs.Tables.{gatesAt, gates-rows}
+use Rattle.laws.proofs.Running.Binary.{Binary, inner, Bounded, Ordered}
+use Rattle.laws.proofs.Running.Sides.{sides-below}
+use Rattle.laws.proofs.Running.InOrder.{well-ordered}
+use Rattle.laws.proofs.Running.Resets.{resets-bounded}
+use Rattle.laws.proofs.Running.Results.{reduce-fewer}
+use Rattle.reduce.specs.folding.Folded.{folded, Foldable, Done}
+use Rattle.judge.proofs.Sound.{Good, Wide}
 use Rattle.reduce.specs.Becoming.{Replaceable, replaced}
 use Rattle.reduce.proofs.Leaves.{leaf-stays, inputs-stay, currents-stay, resets-stay, lits-bounded, latches-bounded, bounded-more}
 use Rattle.reduce.proofs.Leaves.{becomes-front, latches-words}

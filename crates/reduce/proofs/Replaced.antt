@@ -9,8 +9,8 @@ use lib.Seq.{take-suc, length-take-le}
 use Rattle.plan.specs.Literals.{varOf}
 use Rattle.plan.specs.Reduce.{becomes}
 use Rattle.plan.specs.Outcome.{put}
-use Rattle.theorems.proofs.Put.{put-one, put-put, put-length, put-none}
-use Rattle.theorems.proofs.Running.Binary.{Bounded}
+use Rattle.laws.proofs.Put.{put-one, put-put, put-length, put-none}
+use Rattle.laws.proofs.Running.Binary.{Bounded}
 
 -- a literal of a bounded table
 pub bounded-at : (k : ℕ) (ls : List ℕ) → Bounded k ls → (i : ℕ) → i < length ls → varOf (getD ls i 0) < k

@@ -4,7 +4,7 @@ use mathlib.Core.List.{List, map}
 use lib.ListN.{length, take}
 use Rattle.plan.specs.Reduce.{becomes}
 use Rattle.plan.specs.Outcome.{put}
-use Rattle.theorems.proofs.Running.Binary.{Bounded}
+use Rattle.laws.proofs.Running.Binary.{Bounded}
 
 -- n of them are of variables that became something, and there is room for as many
 pub record Replaceable (n : ℕ) (table became to : List ℕ) : Type 0 where

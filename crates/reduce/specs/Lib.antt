@@ -1,1 +1,3 @@
 pub mod Becoming
+pub mod pairs
+pub mod folding

@@ -2,11 +2,11 @@
 ghost use mathlib.Core.Path.{_≡_};
 ghost use Rattle.plan.specs.Circuit.{seven};
 ghost use Rattle.plan.specs.Outcome.{Says, reduction};
-ghost use Rattle.given.specs.Judged.{givenAt};
+ghost use Rattle.judge.specs.Judged.{givenAt};
 ghost use Rattle.reduce.specs.Becoming.{Replaceable, replaced};
-use folding::becomes;
-use folding::fold_gates;
-use given::check_to_make;
+use crate::folding::becomes;
+use crate::folding::fold_gates;
+use judge::check_to_make;
 use plan::Checked;
 use plan::Counts;
 use plan::Lit;
@@ -14,6 +14,9 @@ use plan::Made;
 use tables::clear;
 use tables::clear_all;
 use tables::lengths;
+
+pub mod folding;
+pub mod pairs;
 
 // The first n literals of a table, each replaced by what it became.
 fn all_become(table: &[u32], n: usize, became: &[u32], to: &mut [u32])

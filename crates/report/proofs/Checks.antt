@@ -14,13 +14,13 @@ use Rattle.plan.specs.declared.Refusal.the-variants.{LongInput, BadVector}
 use Rattle.plan.specs.Refusals.{stage, firstOf}
 use Rattle.plan.specs.Given.{Given, failingAt}
 use Rattle.plan.specs.Outcome.{WitnessEntry, allCodes, vector, listStage, checkedBy, checkInOrder}
-use Rattle.theorems.proofs.Reading.Common.{and-left}
-use Rattle.theorems.proofs.Writing.Nothing.{stage-none, at-none, first-all, first-both, both-first, some-first}
-use Rattle.given.proofs.Sound.{good-none, refused-some}
-use Rattle.codes.proofs.Places.{codesIn}
+use Rattle.laws.proofs.Reading.Common.{and-left}
+use Rattle.laws.proofs.Writing.Nothing.{stage-none, at-none, first-all, first-both, both-first, some-first}
+use Rattle.judge.proofs.Sound.{good-none, refused-some}
+use Rattle.step.proofs.codes.Places.{codesIn}
 use Rattle.plan.specs.Sixth.{sixthStages}
-use Rattle.sixth.specs.Judged.{withSixth}
-use Rattle.sixth.proofs.Among.{with-sixth, nothing-refused}
+use Rattle.judge.specs.table_six.Judged.{withSixth}
+use Rattle.judge.proofs.table_six.Among.{with-sixth, nothing-refused}
 use Rattle.plan.specs.Report.{ReportEntry, mostSteps, longStage, reportStages}
 
 module _ (e : ReportEntry) where

@@ -10,9 +10,9 @@ use Rattle.plan.specs.Circuit.{Circuit, filled, cleared}
 use Rattle.plan.specs.Step.{Step}
 use Rattle.plan.specs.Outcome.{put}
 use Rattle.plan.specs.Report.{numbersOf, outputAlong, latchAlong, inTurn, needles}
-use Rattle.needles.specs.Tally.{kept, finished, rowFrom, finishedAll}
-use Rattle.needles.proofs.Rows.{same-turn, turn-add, turn-length, turn-row}
-use Rattle.needles.proofs.Numbers.{finished-kept}
+use Rattle.report.specs.needles.Tally.{kept, finished, rowFrom, finishedAll}
+use Rattle.report.proofs.needles.Rows.{same-turn, turn-add, turn-length, turn-row}
+use Rattle.report.proofs.needles.Numbers.{finished-kept}
 use Rattle.report.specs.Tallying.{tally}
 use Rattle.report.proofs.Turning.{replace}
 

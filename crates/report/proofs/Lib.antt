@@ -2,3 +2,4 @@ pub mod Turning
 pub mod Listing
 pub mod Filling
 pub mod Checks
+pub mod Laws

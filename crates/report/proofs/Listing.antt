@@ -9,9 +9,9 @@ use lib.Seq.{length-take-le, drop-drop}
 use Rattle.plan.specs.declared.Counts.{Counts}
 use Rattle.plan.specs.Circuit.{Circuit, Tables, circuitOf}
 use Rattle.plan.specs.Step.{Value, valueOf, nextOf, Step, stepOf, run, vectorsOf}
-use Rattle.theorems.proofs.Tables.{row-ends}
-use Rattle.theorems.proofs.Running.Runs.{next-length}
-use Rattle.sweep.specs.Running.{Runs, Rests}
+use Rattle.laws.proofs.Tables.{row-ends}
+use Rattle.laws.proofs.Running.Runs.{next-length}
+use Rattle.step.specs.sweep.Running.{Runs, Rests}
 use Rattle.report.specs.Tallying.{tally, Turned}
 
 -- vector k of a whole list starts at `at`

@@ -11,13 +11,13 @@ use Rattle.plan.specs.Circuit.{Tables, circuitOf}
 use Rattle.plan.specs.Step.{Value, v0, v1, vx, lit, valuesOf, outputsOf, Step, same}
 use Rattle.plan.specs.Outcome.{put}
 use Rattle.tables.specs.Held.{Scratch}
-use Rattle.values.specs.Words.{word, words}
-use Rattle.sweep.specs.Running.{Runs, Rests, Stands, Ready}
-use Rattle.sweep.proofs.Loading.{stands-loaded}
+use Rattle.step.specs.values.Words.{word, words}
+use Rattle.step.specs.sweep.Running.{Runs, Rests, Stands, Ready}
+use Rattle.step.proofs.sweep.Loading.{stands-loaded}
 use Rattle.plan.specs.Report.{times, changesAfter, changes, inTurn, outputAlong, latchAlong, mostSteps}
-use Rattle.needles.specs.Tally.{lastAfter, lastWord, kept, counted, rowFrom, CountsAll, countedAll}
-use Rattle.needles.proofs.Rows.{same-turn, turn-length, turn-row}
-use Rattle.needles.proofs.Numbers.{counted-kept}
+use Rattle.report.specs.needles.Tally.{lastAfter, lastWord, kept, counted, rowFrom, CountsAll, countedAll}
+use Rattle.report.proofs.needles.Rows.{same-turn, turn-length, turn-row}
+use Rattle.report.proofs.needles.Numbers.{counted-kept}
 use Rattle.report.specs.Tallying.{tally}
 
 -- a part replaced by one of the same length

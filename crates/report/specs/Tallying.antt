@@ -7,9 +7,9 @@ use Rattle.plan.specs.declared.Counts.{Counts}
 use Rattle.plan.specs.Circuit.{Circuit, Tables, seven}
 use Rattle.plan.specs.Step.{Value, nextOf, Step, stepOf}
 use Rattle.tables.specs.Held.{Scratch}
-use Rattle.sweep.specs.Running.{these, Runs, Rests}
+use Rattle.step.specs.sweep.Running.{these, Runs, Rests}
 use Rattle.plan.specs.Report.{inTurn, outputAlong, latchAlong, mostSteps}
-use Rattle.needles.specs.Tally.{kept}
+use Rattle.report.specs.needles.Tally.{kept}
 
 -- the words of all needles after some steps
 abbrev pub tally : Counts → List Step → List ℕ

@@ -9,22 +9,24 @@ ghost use Rattle.plan.specs.Refusals.{firstOf};
 ghost use Rattle.plan.specs.Circuit.{Tables, circuitOf, seven, cleared};
 ghost use Rattle.plan.specs.Step.{Value, valueOf, Step, run, vectorsOf};
 ghost use Rattle.plan.specs.Outcome.{Says, checkedBy};
-ghost use Rattle.sweep.specs.Running.{these, Runs, Rests};
+ghost use Rattle.step.specs.sweep.Running.{these, Runs, Rests};
 ghost use Rattle.plan.specs.Report.{reportOf, reportStages, report};
 ghost use Rattle.report.specs.Tallying.{tally, Turns, Turned, Tallies, Fills};
-use codes::whole_list;
-use given::check_in_order;
-use needles::count_all;
-use needles::finish;
+use crate::needles::count_all;
+use crate::needles::finish;
+use judge::check_in_order;
+use judge::table_six::with_sixth;
 use plan::Checked;
 use plan::Counts;
 use plan::Refusal;
 use plan::Stepped;
-use sixth::with_sixth;
-use sweep::start_values;
-use sweep::step_values;
+use step::codes::whole_list;
+use step::sweep::start_values;
+use step::sweep::step_values;
+use step::values::load;
 use tables::clear;
-use values::load;
+
+pub mod needles;
 
 // The most steps of a report.
 const MOST: usize = 65536;

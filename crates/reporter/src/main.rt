@@ -1,10 +1,13 @@
 // Reports on the circuit of plan.in, converted, over the vectors of standard input, or writes the line of the refusal (the paper, the needle
-// report). 14, 13, the reader's refusals and 4 are decided by crate opening, 4 at table 6 here, those of standard input by crate stimulus.
+// report). 14, 13, the reader's refusals and 4 are decided by whole::opening, 4 at table 6 here, those of standard input by runs::stimulus.
 use plan::Counts;
 use plan::Made;
 use plan::Refusal;
 use plan::Stepped;
 use plan::Traced;
+use runs::reporting;
+use runs::stimulus;
+use whole::opening;
 
 // The words of table 6.
 const SIX: usize = 16384;

@@ -12,18 +12,18 @@ use Rattle.plan.specs.Circuit.{Gate, Circuit}
 use Rattle.plan.specs.Reading.{WellFormed}
 use Rattle.plan.specs.Binary.{binaryOrder}
 use Rattle.plan.specs.Step.{Value, codeOf, valuesOf}
-use Rattle.theorems.proofs.Reading.Runs.{order-exactly}
-use Rattle.theorems.proofs.Tables.{gateAt, gatesAt}
-use Rattle.theorems.proofs.Running.Found.{AllG}
-use Rattle.theorems.proofs.Running.Accepted.{accepted}
-use Rattle.theorems.proofs.Running.GateValue.{GateEq, gates-hold}
-use Rattle.theorems.proofs.Running.Binary.{Binary, inner}
-use Rattle.theorems.proofs.Running.InOrder.{order-binary}
-use Rattle.walks.proofs.Places.{left-at}
+use Rattle.laws.proofs.Reading.Runs.{order-exactly}
+use Rattle.laws.proofs.Tables.{gateAt, gatesAt}
+use Rattle.laws.proofs.Running.Found.{AllG}
+use Rattle.laws.proofs.Running.Accepted.{accepted}
+use Rattle.laws.proofs.Running.GateValue.{GateEq, gates-hold}
+use Rattle.laws.proofs.Running.Binary.{Binary, inner}
+use Rattle.laws.proofs.Running.InOrder.{order-binary}
+use Rattle.laws.proofs.Walks.Places.{left-at}
 use Rattle.plan.specs.Rewire.{rewire, screen, stateOn, inputsOn, wrongOn, rewiredScreen}
-use Rattle.rewired.proofs.Rewired.{rewire-in-order, rewire-well-formed, rewire-below}
-use Rattle.rewired.proofs.Screen.{screen-exactly, screen-at, length-screen}
-use Rattle.rewired.proofs.Rows.{all-places}
+use Rattle.laws.proofs.Rewiring.Rewired.{rewire-in-order, rewire-well-formed, rewire-below}
+use Rattle.laws.proofs.Rewiring.Screen.{screen-exactly, screen-at, length-screen}
+use Rattle.laws.proofs.Rewiring.Rows.{all-places}
 use Rattle.rewire.specs.Shown.{Shows, Follows}
 
 module _ (c : Circuit) (w : WellFormed c) (t : binaryOrder c ≡ true) (k a b : ℕ) (ka : a < litOf (inner c + k)) (kb : b < litOf (inner c + k))

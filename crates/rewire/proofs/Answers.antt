@@ -19,17 +19,17 @@ use Rattle.plan.specs.Circuit.{Gate, Circuit, cleared}
 use Rattle.plan.specs.Given.{Given, given, lentAlone, failingAt}
 use Rattle.plan.specs.Step.{Value}
 use Rattle.plan.specs.Outcome.{put, CheckExit, checkedBy, checkInOrder}
-use Rattle.theorems.proofs.Reading.Runs.{order-exactly}
-use Rattle.theorems.proofs.Put.{put-length}
-use Rattle.theorems.proofs.Tables.{gatesAt, gates-rows}
-use Rattle.theorems.proofs.Running.Binary.{Binary, inner}
-use Rattle.theorems.proofs.Running.InOrder.{order-binary}
-use Rattle.theorems.proofs.Writing.Nothing.{at-none, stage-none, first-all, some-first, both-first, one-stage}
-use Rattle.given.specs.Judged.{allStages}
-use Rattle.given.proofs.Sound.{Good, good-none, refused-some, good-alone}
+use Rattle.laws.proofs.Reading.Runs.{order-exactly}
+use Rattle.laws.proofs.Put.{put-length}
+use Rattle.laws.proofs.Tables.{gatesAt, gates-rows}
+use Rattle.laws.proofs.Running.Binary.{Binary, inner}
+use Rattle.laws.proofs.Running.InOrder.{order-binary}
+use Rattle.laws.proofs.Writing.Nothing.{at-none, stage-none, first-all, some-first, both-first, one-stage}
+use Rattle.judge.specs.Judged.{allStages}
+use Rattle.judge.proofs.Sound.{Good, good-none, refused-some, good-alone}
 use Rattle.plan.specs.Rewire.{rewiredGates, rewiredScreen, wrongFrom, wrongOn, editStages, RewireEntry, RewireExit, rewiredBy, rewiring}
-use Rattle.rewired.proofs.Rows.{table-rewired, two-stores}
-use Rattle.rewired.proofs.Call.{Edits, found-nothing}
+use Rattle.laws.proofs.Rewiring.Rows.{table-rewired, two-stores}
+use Rattle.laws.proofs.Rewiring.Call.{Edits, found-nothing}
 use Rattle.rewire.specs.Shown.{Shows, Follows, Ordered, Counted}
 use Rattle.rewire.proofs.Wrong.{judged}
 use Rattle.rewire.proofs.Anew.{binary-again, shown-below, gates-follow, screen-anew}

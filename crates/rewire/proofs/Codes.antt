@@ -8,7 +8,7 @@ use lib.Bits.{bitAnd, bitOr, bitXor}
 use lib.ListN.{length, getD, set}
 use lib.Seq.{getD-set-same, getD-set-other}
 use Rattle.plan.specs.Step.{Value, v0, v1, vx, codeOf, and, signedValue, lit}
-use Rattle.theorems.proofs.Tables.{gateAt}
+use Rattle.laws.proofs.Tables.{gateAt}
 use Rattle.rewire.specs.Shown.{Shows, Follows}
 
 -- the formula of Not, as often as a sign says

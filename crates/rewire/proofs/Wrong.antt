@@ -21,12 +21,12 @@ use Rattle.plan.specs.Depends.{find}
 use Rattle.plan.specs.Given.{orElse}
 use Rattle.plan.specs.Step.{Value, v0, v1, vx, codeOf, valueOf, isCode, and, lit, gateValue}
 use Rattle.plan.specs.Outcome.{checkedBy}
-use Rattle.theorems.proofs.Tables.{gateAt, gatesAt}
-use Rattle.theorems.proofs.Running.Binary.{Binary, find-none}
-use Rattle.theorems.proofs.Running.Sides.{sides-below}
+use Rattle.laws.proofs.Tables.{gateAt, gatesAt}
+use Rattle.laws.proofs.Running.Binary.{Binary, find-none}
+use Rattle.laws.proofs.Running.Sides.{sides-below}
 use Rattle.plan.specs.Rewire.{valueOn, follows, wrongFrom}
-use Rattle.rewired.proofs.Screen.{Right, value-code, all-right}
-use Rattle.rewired.proofs.Rows.{found-at}
+use Rattle.laws.proofs.Rewiring.Screen.{Right, value-code, all-right}
+use Rattle.laws.proofs.Rewiring.Rows.{found-at}
 use Rattle.rewire.specs.Shown.{Shows, Row, Ordered}
 
 -- the answer of a stage of 23

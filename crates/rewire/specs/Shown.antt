@@ -6,8 +6,8 @@ use lib.ListN.{length, getD}
 use Rattle.plan.specs.declared.Counts.{Counts}
 use Rattle.plan.specs.Literals.{most, varOf}
 use Rattle.plan.specs.Step.{Value, codeOf, and, lit}
-use Rattle.theorems.proofs.Tables.{gateAt, gatesAt}
-use Rattle.theorems.proofs.Running.Binary.{Binary}
+use Rattle.laws.proofs.Tables.{gateAt, gatesAt}
+use Rattle.laws.proofs.Running.Binary.{Binary}
 
 -- the bytes of the variables below n are the values w
 abbrev pub Shows : (ℕ → Value) → ℕ → List ℕ → Type 0

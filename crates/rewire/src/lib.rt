@@ -10,18 +10,18 @@ ghost use Rattle.plan.specs.Refusals.{stage, firstOf};
 ghost use Rattle.plan.specs.Circuit.{seven};
 ghost use Rattle.plan.specs.Step.{Value, codeOf, and, signedValue, lit};
 ghost use Rattle.plan.specs.Outcome.{Says, put, checkedBy};
-ghost use Rattle.theorems.proofs.Tables.{gateAt, gatesAt};
+ghost use Rattle.laws.proofs.Tables.{gateAt, gatesAt};
 ghost use Rattle.plan.specs.Rewire.{valueOn, wrongFrom, editStages, rewiring};
-ghost use Rattle.given.specs.Judged.{givenAt};
+ghost use Rattle.judge.specs.Judged.{givenAt};
 ghost use Rattle.rewire.specs.Shown.{Shows, Follows, Row, Ordered, Counted};
-use codes::is_code;
-use given::check_in_order;
+use judge::check_in_order;
 use plan::Checked;
 use plan::Counts;
 use plan::Lit;
 use plan::Refusal;
 use plan::Stepped;
 use plan::Var;
+use step::codes::is_code;
 
 // A code, negated if the sign is 1: "0" and "1" differ in the lowest bit, and "x", which stays, alone has the bit of 64.
 fn signed_code(sign: u8, code: u8) -> u8

@@ -21,12 +21,12 @@ use Rattle.plan.specs.Circuit.{cleared}
 use Rattle.plan.specs.Given.{given}
 use Rattle.plan.specs.Step.{isCode}
 use Rattle.plan.specs.Outcome.{allCodes}
-use Rattle.theorems.proofs.Reading.Common.{and-left}
-use Rattle.codes.proofs.Places.{firstBad}
+use Rattle.laws.proofs.Reading.Common.{and-left}
+use Rattle.step.proofs.codes.Places.{firstBad}
 use Rattle.step.proofs.Checks.{answer}
-use Rattle.sweep.proofs.Literals.{output-up, next-up}
+use Rattle.step.proofs.sweep.Literals.{output-up, next-up}
 use Rattle.plan.specs.Rows.{RowsEntry, RowsExit, rowVectors, rowStage, steppedRows, stepRows}
-use Rattle.lanes.specs.Working.{these, Ready, Shows}
+use Rattle.rows.specs.lanes.Working.{these, Ready, Shows}
 use Rattle.rows.specs.Asked.{Room, Lists, Leaves}
 
 and-true : (t : Bool) → (t && true) ≡ t

@@ -21,17 +21,17 @@ use Rattle.plan.specs.Refusals.{firstOf}
 use Rattle.plan.specs.Circuit.{filled, cleared}
 use Rattle.plan.specs.Given.{given}
 use Rattle.plan.specs.Outcome.{put, allCodes, checkedBy, checkInOrder}
-use Rattle.theorems.proofs.Reading.Common.{and-left}
-use Rattle.theorems.proofs.Writing.Nothing.{some-first, both-first}
-use Rattle.given.proofs.Sound.{good-none, refused-some}
+use Rattle.laws.proofs.Reading.Common.{and-left}
+use Rattle.laws.proofs.Writing.Nothing.{some-first, both-first}
+use Rattle.judge.proofs.Sound.{good-none, refused-some}
 use Rattle.plan.specs.Sixth.{sixthStages}
-use Rattle.sixth.specs.Judged.{withSixth}
-use Rattle.sixth.proofs.Among.{with-sixth, nothing-refused}
-use Rattle.sweep.specs.Running.{Runs}
-use Rattle.sweep.proofs.Literals.{output-up}
+use Rattle.judge.specs.table_six.Judged.{withSixth}
+use Rattle.judge.proofs.table_six.Among.{with-sixth, nothing-refused}
+use Rattle.step.specs.sweep.Running.{Runs}
+use Rattle.step.proofs.sweep.Literals.{output-up}
 use Rattle.step.proofs.Checks as checks
 use Rattle.plan.specs.Rows.{RowReportEntry, RowReportExit, rowReportStage, reportedRows, reportRows, rowReport, rowSteps}
-use Rattle.lanes.specs.Working.{these, Ready, Shows}
+use Rattle.rows.specs.lanes.Working.{these, Ready, Shows}
 use Rattle.rows.specs.Asked.{Reports}
 
 -- a report: zero past what is counted

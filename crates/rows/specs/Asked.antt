@@ -10,9 +10,9 @@ use Rattle.plan.specs.Circuit.{Circuit, Tables}
 use Rattle.plan.specs.Given.{orElse}
 use Rattle.plan.specs.Outcome.{vector, vectorOf}
 use Rattle.tables.specs.Held.{Scratch}
-use Rattle.sweep.specs.Running.{Runs}
+use Rattle.step.specs.sweep.Running.{Runs}
 use Rattle.plan.specs.Rows.{rowSteps, outputBytes, nextBytes}
-use Rattle.lanes.specs.Working.{these}
+use Rattle.rows.specs.lanes.Working.{these}
 
 -- tables that hold an accepted circuit in binary order, and room in scratch
 pub record Room (n : Counts) (latches outputs gates resets scratch : List ℕ) : Type 0 where

@@ -11,21 +11,23 @@ ghost use Rattle.plan.specs.Circuit.{Tables, circuitOf, seven, filled, cleared}
 ghost use Rattle.plan.specs.Step.{isCode};
 ghost use Rattle.plan.specs.Outcome.{Says, allCodes};
 ghost use Rattle.tables.specs.Lengths.{tableOf};
-ghost use Rattle.sweep.specs.Running.{Runs};
+ghost use Rattle.step.specs.sweep.Running.{Runs};
 ghost use Rattle.plan.specs.Rows.{stepRows, rowSteps, rowReport, reportRows};
-ghost use Rattle.lanes.specs.Working.{these};
+ghost use Rattle.rows.specs.lanes.Working.{these};
 ghost use Rattle.rows.specs.Asked.{badRows, Room, Lists, Leaves, Reports};
-use codes::is_code;
-use given::judge_in_order;
-use lanes::count_rows;
-use lanes::step_lanes;
-use lanes::store_rows;
+use crate::lanes::count_rows;
+use crate::lanes::step_lanes;
+use crate::lanes::store_rows;
+use judge::judge_in_order;
+use judge::table_six::with_sixth;
 use plan::Checked;
 use plan::Counts;
 use plan::Refusal;
 use plan::Stepped;
-use sixth::with_sixth;
+use step::codes::is_code;
 use tables::clear;
+
+mod lanes;
 
 // 1 for a byte but "0", "1", "x".
 fn not_code(b: u8) -> u8

@@ -15,8 +15,8 @@ use Rattle.plan.specs.Refusals.{stage, firstOf}
 use Rattle.plan.specs.Circuit.{cleared}
 use Rattle.plan.specs.Given.{given}
 use Rattle.plan.specs.Outcome.{StepEntry, StepExit, allCodes, stepStage, steppedBy, step}
-use Rattle.theorems.proofs.Reading.Common.{and-left}
-use Rattle.codes.proofs.Places.{codesIn, firstBad}
+use Rattle.laws.proofs.Reading.Common.{and-left}
+use Rattle.step.proofs.codes.Places.{codesIn, firstBad}
 use Rattle.step.specs.Asked.{Vectors, Leaves}
 use Rattle.step.proofs.Checks.{answer}
 

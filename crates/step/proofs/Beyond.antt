@@ -9,9 +9,9 @@ use Rattle.plan.specs.declared.Checked.the-variants as checked
 use Rattle.plan.specs.Refusals.{firstOf}
 use Rattle.plan.specs.Given.{Given, lentAlone, stages, orderStage}
 use Rattle.plan.specs.Outcome.{checkInOrder}
-use Rattle.theorems.proofs.Writing.Nothing.{some-first, both-first}
-use Rattle.given.specs.Judged.{allStages}
-use Rattle.given.proofs.Sound.{good-none, refused-some}
+use Rattle.laws.proofs.Writing.Nothing.{some-first, both-first}
+use Rattle.judge.specs.Judged.{allStages}
+use Rattle.judge.proofs.Sound.{good-none, refused-some}
 
 module _ (g : Given) (more : List (Option Refusal)) where
   abbrev pub answer : Option Refusal

@@ -8,10 +8,10 @@ use Rattle.plan.specs.declared.Counts.{Counts}
 use Rattle.plan.specs.Circuit.{Circuit}
 use Rattle.plan.specs.Step.{Value, codeOf, valueOf, outputsOf, nextOf}
 use Rattle.plan.specs.Outcome.{put}
-use Rattle.values.specs.Words.{told, words, valuesAt}
-use Rattle.values.proofs.Codes.{told-words}
-use Rattle.sweep.specs.Running.{Rests, Stands, Stepped, Ready}
-use Rattle.sweep.proofs.Loading.{constant-set, rests-loaded, stands-loaded}
+use Rattle.step.specs.values.Words.{told, words, valuesAt}
+use Rattle.step.proofs.values.Codes.{told-words}
+use Rattle.step.specs.sweep.Running.{Rests, Stands, Stepped, Ready}
+use Rattle.step.proofs.sweep.Loading.{constant-set, rests-loaded, stands-loaded}
 use Rattle.step.specs.Asked.{Room, Vectors, Leaves}
 
 -- the values of words that are told

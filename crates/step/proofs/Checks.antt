@@ -12,9 +12,9 @@ use Rattle.plan.specs.declared.Checked.the-variants as checked
 use Rattle.plan.specs.Refusals.{firstOf}
 use Rattle.plan.specs.Given.{Given, lentAlone}
 use Rattle.plan.specs.Outcome.{checkInOrder}
-use Rattle.given.specs.Judged.{allStages}
-use Rattle.given.proofs.Sound.{Good, good-none, good-alone}
-use Rattle.sweep.specs.Running.{Runs}
+use Rattle.judge.specs.Judged.{allStages}
+use Rattle.judge.proofs.Sound.{Good, good-none, good-alone}
+use Rattle.step.specs.sweep.Running.{Runs}
 use Rattle.step.specs.Asked.{Room}
 use Rattle.step.proofs.Beyond as beyond
 

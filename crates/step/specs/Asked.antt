@@ -8,7 +8,7 @@ use Rattle.plan.specs.declared.Counts.{Counts}
 use Rattle.plan.specs.Circuit.{Circuit, Tables}
 use Rattle.plan.specs.Step.{codeOf, valueOf, outputsOf, nextOf}
 use Rattle.tables.specs.Held.{Scratch}
-use Rattle.sweep.specs.Running.{these, Runs}
+use Rattle.step.specs.sweep.Running.{these, Runs}
 
 pub record Room (n : Counts) (latches outputs gates scratch : List ℕ) : Type 0 where
   pub others : Tables

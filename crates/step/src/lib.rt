@@ -1,19 +1,23 @@
 // A step in three values, from vectors of bytes into vectors of bytes (the paper, stepping).
 ghost use Rattle.plan.specs.Circuit.{Tables, circuitOf, seven};
 ghost use Rattle.plan.specs.Outcome.{Says, step};
-ghost use Rattle.sweep.specs.Running.{these, Runs};
+ghost use Rattle.step.specs.sweep.Running.{these, Runs};
 ghost use Rattle.step.specs.Asked.{Room, Vectors, Leaves};
-use codes::bad_vector;
-use given::judge_in_order;
+use crate::codes::bad_vector;
+use crate::sweep::step_values;
+use crate::values::MAY0;
+use crate::values::load;
+use crate::values::store;
+use judge::judge_in_order;
 use plan::Checked;
 use plan::Counts;
 use plan::Refusal;
 use plan::Stepped;
-use sweep::step_values;
 use tables::clear;
-use values::MAY0;
-use values::load;
-use values::store;
+
+pub mod codes;
+pub mod sweep;
+pub mod values;
 
 // A step whose tables and vectors are good. Of scratch it asks the length alone: every word is written before it is read.
 fn step_vectors(

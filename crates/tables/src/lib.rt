@@ -8,6 +8,8 @@ ghost use Rattle.plan.specs.Outcome.{formOf};
 ghost use Rattle.tables.specs.Lengths.{lengthsIn, sizesOf, shorterOf, tableOf};
 use plan::Counts;
 
+pub mod bitmap;
+
 // The words of tables 1 to 4 and 7 to 9.
 pub struct Sizes {
     pub inputs: usize,

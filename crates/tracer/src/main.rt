@@ -1,8 +1,12 @@
 // Traces the circuit of plan.in, converted, from its first state on the vectors of standard input, or writes the line of the refusal (the
-// paper, programs). 14, 13, the reader's refusals and 4 are decided by crate opening, those of standard input by crate trace.
+// paper, programs). 14, 13, the reader's refusals and 4 are decided by whole::opening, those of standard input by runs::trace.
 use plan::Counts;
 use plan::Made;
 use plan::Traced;
+use runs::stimulus;
+use runs::trace;
+use step::values;
+use whole::opening;
 
 // The steps of all lines, printed in parts of as many lines as fit into `out`. A part has a line at least, so there are no more parts than
 // lines.

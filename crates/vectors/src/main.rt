@@ -2,7 +2,10 @@
 // is asked, the example's file, and the file of its vectors where it is to be stepped.
 ghost use Prim.Native.Nat.{_≤_};
 ghost use lib.ListN.{length};
+use codec::differences;
 use libc::STDOUT_FILENO;
+use making::converting;
+use making::reducing;
 use plan::Counts;
 use plan::Difference;
 use plan::Loaded;
@@ -11,7 +14,10 @@ use plan::Refusal;
 use plan::Traced;
 use plan::Version;
 use plan::Written;
+use runs::trace;
+use step::values;
 use tables::lesser;
+use whole::opening;
 
 // No table and no list of examples here is longer.
 const MOST: usize = 1000;

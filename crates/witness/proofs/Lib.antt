@@ -1,2 +1,4 @@
-pub mod Listing
+pub mod Words
+pub mod Vectors
+pub mod Attempts
 pub mod Verdicts

@@ -10,8 +10,8 @@ use lib.ListN.{length, length-append}
 use Rattle.plan.specs.declared.Refusal.the-variants.{ShortBuffer}
 use Rattle.plan.specs.declared.Written.the-variants.{Bytes, Refused}
 use Rattle.plan.specs.Outcome.{WriteExit, put, putBytes}
-use Rattle.theorems.proofs.Put.{with-room, without-room}
-use Rattle.forms.proofs.Filled.{Puts, first-filled, last-filled}
+use Rattle.laws.proofs.Put.{with-room, without-room}
+use Rattle.write.proofs.forms.Filled.{Puts, first-filled, last-filled}
 
 module _ (form tail out : List ℕ) {long : ℕ} (long-is : long ≡ length form) {held : Bool}
     (held-is : held ≡ leb (long + length tail) (length out)) where

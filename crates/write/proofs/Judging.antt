@@ -13,10 +13,10 @@ use Rattle.plan.specs.Refusals.{firstOf}
 use Rattle.plan.specs.Circuit.{cleared}
 use Rattle.plan.specs.Given.{Given}
 use Rattle.plan.specs.Outcome.{checkedBy}
-use Rattle.theorems.proofs.Marks.{zeros}
-use Rattle.theorems.proofs.Writing.Nothing.{some-first, one-stage, first-both, both-first}
-use Rattle.tail.specs.Marks.{Holds, Blank}
-use Rattle.given.proofs.Sound.{Good, good-none, refused-some, good-alone}
+use Rattle.laws.proofs.Marks.{zeros}
+use Rattle.laws.proofs.Writing.Nothing.{some-first, one-stage, first-both, both-first}
+use Rattle.lines.specs.tail.Marks.{Holds, Blank}
+use Rattle.judge.proofs.Sound.{Good, good-none, refused-some, good-alone}
 use Rattle.write.specs.Judged.{tableStages, writerStages}
 
 -- an answer, and the stages with one more

@@ -11,12 +11,12 @@ use Rattle.plan.specs.Bytes.{linesOf}
 use Rattle.plan.specs.Header.{listOf}
 use Rattle.plan.specs.Text.{textOf}
 use Rattle.plan.specs.Binary.{binaryOf}
-use Rattle.theorems.proofs.Reading.Headers.{AllMost}
-use Rattle.theorems.proofs.Tables.{one-rows, gate-rows}
+use Rattle.laws.proofs.Reading.Headers.{AllMost}
+use Rattle.laws.proofs.Tables.{one-rows, gate-rows}
 use Rattle.tables.specs.Held.{circuitIn, Fits}
-use Rattle.given.proofs.Sound.{held-counts}
-use Rattle.print.specs.Latches.{latchRows}
-use Rattle.forms.specs.Forms.{headBytes, oneLines, observedBytes, gateLines, gateGroups, textBytes, binaryBytes, Printable}
+use Rattle.judge.proofs.Sound.{held-counts}
+use Rattle.write.specs.print.Latches.{latchRows}
+use Rattle.write.specs.forms.Forms.{headBytes, oneLines, observedBytes, gateLines, gateGroups, textBytes, binaryBytes, Printable}
 
 one-lines : (n : ℕ) (table : List ℕ) → n ≤ length table → oneLines n table ≡ linesOf (map oneLine (take n table))
 one-lines n table h = ap linesOf (sym (one-rows n table h))

@@ -7,7 +7,7 @@ use Rattle.plan.specs.declared.Counts.{Counts}
 use Rattle.plan.specs.declared.Refusal.{Refusal}
 use Rattle.plan.specs.Circuit.{seven}
 use Rattle.plan.specs.Given.{Given, lentAlone, tailStage}
-use Rattle.given.specs.Judged.{givenAt, allStages}
+use Rattle.judge.specs.Judged.{givenAt, allStages}
 
 -- what is given, table by table
 abbrev pub givenIn : Counts → List ℕ → List ℕ → List ℕ → List ℕ → List ℕ → List ℕ → List ℕ → List ℕ → Given

@@ -6,19 +6,25 @@ ghost use Rattle.plan.specs.Refusals.{firstOf};
 ghost use Rattle.plan.specs.Circuit.{cleared};
 ghost use Rattle.plan.specs.Outcome.{Says, putBytes, checkedBy, writeText, writeBinary};
 ghost use Rattle.tables.specs.Held.{Fits};
-ghost use Rattle.forms.specs.Forms.{textBytes, binaryBytes, Printable};
+ghost use Rattle.write.specs.forms.Forms.{textBytes, binaryBytes, Printable};
 ghost use Rattle.write.specs.Judged.{givenIn, tableStages, writerStages};
-use forms::append;
-use forms::binary_length;
-use forms::fill_binary;
-use forms::fill_text;
-use forms::text_length;
+use crate::forms::append;
+use crate::forms::binary_length;
+use crate::forms::fill_binary;
+use crate::forms::fill_text;
+use crate::forms::text_length;
+use codec::room;
+use lines::tail;
 use plan::Checked;
 use plan::Counts;
 use plan::Refusal;
 use plan::Version;
 use plan::Written;
 use tables::clear;
+
+pub mod forms;
+pub mod print;
+pub mod refusal_line;
 
 // The text form and then the tail, or 11 with the length needed. Nothing is written before the length is known.
 fn put_text(
@@ -109,7 +115,7 @@ fn check_tables(
     ensures { λ _. ⌜ now (scratch .exit) ≡ cleared (now (scratch .entry)) ⌝ }
 {
     if ordered {
-        return given::check_in_order(
+        return judge::check_in_order(
             n,
             inputs,
             latches,
@@ -121,7 +127,7 @@ fn check_tables(
             scratch,
         );
     }
-    given::check(
+    judge::check(
         n,
         inputs,
         latches,

@@ -11,7 +11,7 @@ use Rattle.plan.specs.Circuit.{Tables, seven, allCleared}
 use Rattle.plan.specs.Given.{given, lentWith}
 use Rattle.plan.specs.Convert.{convert}
 use Rattle.plan.specs.Outcome.{MakeEntry, checkedBy}
-use Rattle.given.specs.Judged.{allStages}
+use Rattle.judge.specs.Judged.{allStages}
 use Rattle.convert.specs.Ready.{Ready}
 use Rattle.convert.proofs.Answers.{sizes-cleared, all-hold, refused, ready, first-asks, last-asks, few, accepted}
 use Rattle.convert.proofs.convert.Statement.{statement}

@@ -5,7 +5,7 @@ use Rattle.converter.proofs.main.Statement.{statement}
 use Rattle.converter.proofs.main.Tie as tie
 use Rattle.converter.proofs.main.Reads as reads
 use Rattle.converter.proofs.main.Lts as lts
-use Rattle.converting.proofs.convert_whole.Reads as convert-whole-reads
+use Rattle.making.proofs.converting.convert_whole.Reads as convert-whole-reads
 use Rattle.office.proofs.print_written.Reads as print-written-reads
 use Rattle.office.proofs.read_plan.Reads as read-plan-reads
 use Rattle.office.proofs.readable.Reads as readable-reads

@@ -1,7 +1,7 @@
 use mathlib.Core.Path.{sym, ap, _∙_}
 use borrow.Author.Needs.{needs}
 use Rattle.plan.specs.Outcome.{loadedValues}
-use Rattle.told.proofs.Refused.{refusal-told}
+use Rattle.answers.proofs.numbers.Refused.{refusal-told}
 use Rattle.desk.proofs.loaded.Statement.{statement}
 use Rattle.desk.proofs.loaded.Tie as tie
 

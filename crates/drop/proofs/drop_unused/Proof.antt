@@ -9,8 +9,8 @@ use Rattle.plan.specs.Literals.{most}
 use Rattle.plan.specs.Circuit.{Circuit, Tables, seven, circuitOf, allCleared}
 use Rattle.plan.specs.Given.{Given}
 use Rattle.plan.specs.Drop.{dropUnused}
-use Rattle.walks.proofs.Later.{counts-drop}
-use Rattle.given.specs.Judged.{givenAt}
+use Rattle.laws.proofs.Walks.Later.{counts-drop}
+use Rattle.judge.specs.Judged.{givenAt}
 use Rattle.reduce.proofs.Reducing.{Ready, inputs-in, latches-in, outputs-in, resets-in, bads-in, constraints-in}
 use Rattle.reduce.proofs.Answers.{sizes-cleared, Judged, refused, ready, few, accepted}
 use Rattle.drop.proofs.Dropping.{reachable, made-fewer, count, written}

@@ -5,7 +5,7 @@ use mathlib.Core.List.{_++_}
 use native.Mathlib.Omega.{arith}
 use lib.ListN.{length, getD}
 use Rattle.plan.specs.Literals.{varOf, wordOf}
-use Rattle.theorems.proofs.Tables.{firsts, row-ends}
+use Rattle.laws.proofs.Tables.{firsts, row-ends}
 use Rattle.drop.specs.Marks.{Marked, varAt}
 use Rattle.drop.proofs.Marking.{Column, column-start, column-turn}
 use Rattle.drop.proofs.mark_column.Statement.{statement}

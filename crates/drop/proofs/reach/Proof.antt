@@ -2,7 +2,7 @@ use borrow.Author.Needs.{needs}
 use Prim.Native.Nat.{ℕ, _-_, _<_}
 use mathlib.Core.Path.{sym, subst}
 use native.Mathlib.Omega.{arith}
-use Rattle.theorems.proofs.Tables.{gateAt}
+use Rattle.laws.proofs.Tables.{gateAt}
 use Rattle.drop.specs.Marks.{Below}
 use Rattle.drop.proofs.Marking.{Walking, walking-start, walking-more, walking-end}
 use Rattle.drop.proofs.reach.Statement.{statement}

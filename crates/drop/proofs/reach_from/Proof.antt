@@ -5,7 +5,7 @@ use native.Mathlib.Omega.{arith}
 use lib.ListN.{getD}
 use Rattle.plan.specs.declared.Lit.{Lit}
 use Rattle.plan.specs.Literals.{varOf, wordOf, indexOf}
-use Rattle.theorems.proofs.Tables.{gateAt}
+use Rattle.laws.proofs.Tables.{gateAt}
 use Rattle.drop.specs.Marks.{Marked}
 use Rattle.drop.proofs.Marking.{not-reached, both-reached}
 use borrow.Author.Needs.{needs}

@@ -8,8 +8,8 @@ use Rattle.plan.specs.declared.Loaded.{Loaded}
 use Rattle.plan.specs.Circuit.{Tables, seven}
 use Rattle.tables.specs.declared.Sizes.{Sizes}
 use Rattle.tables.specs.Lengths.{sizesOf}
-use Rattle.intake.specs.Opening.{OpenEntry, Opens}
-use Rattle.intake.proofs.Files.{rest-ready}
+use Rattle.whole.specs.Opening.{OpenEntry, Opens}
+use Rattle.whole.proofs.Files.{rest-ready}
 use Rattle.dropping.proofs.Files.{not-dropped, dropped}
 use Rattle.dropping.proofs.drop_file.Statement.{statement}
 use Rattle.dropping.proofs.drop_file.Tie as tie

@@ -4,7 +4,7 @@ use borrow.Author.Needs.{needs}
 use Rattle.plan.specs.Circuit.{seven}
 use Rattle.plan.specs.Whole.{WholeEntry, inputOf, droppedFile}
 use Rattle.read.proofs.Loads.{same-cleared, all-same}
-use Rattle.intake.proofs.Files.{all-zero}
+use Rattle.whole.proofs.Files.{all-zero}
 use Rattle.dropping.proofs.drop_whole.Statement.{statement}
 use Rattle.dropping.proofs.drop_whole.Tie as tie
 

@@ -8,7 +8,7 @@ use Rattle.plan.specs.Given.{Given}
 use Rattle.plan.specs.Drop.{dropUnused}
 use Rattle.plan.specs.Outcome.{putBytes}
 use Rattle.write.specs.Judged.{givenIn}
-use Rattle.intake.proofs.Writes.{reduces}
+use Rattle.whole.proofs.Writes.{reduces}
 use Rattle.dropping.proofs.Writes.{reduced-is, reduced-in-order, reduced-ready}
 use Rattle.dropping.proofs.reduce_made.Statement.{statement}
 use Rattle.dropping.proofs.reduce_made.Tie as tie

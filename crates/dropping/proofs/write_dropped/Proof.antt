@@ -9,7 +9,7 @@ use Rattle.plan.specs.Reduce.{reduce}
 use Rattle.plan.specs.Drop.{dropUnused}
 use Rattle.plan.specs.Outcome.{putBytes}
 use Rattle.write.specs.Judged.{givenIn}
-use Rattle.intake.proofs.Writes.{converts, converted-is, converted-in-order, converted-ready}
+use Rattle.whole.proofs.Writes.{converts, converted-is, converted-in-order, converted-ready}
 use Rattle.dropping.proofs.write_dropped.Statement.{statement}
 use Rattle.dropping.proofs.write_dropped.Tie as tie
 

@@ -6,7 +6,7 @@ use lib.ListN.{getD}
 use Rattle.plan.specs.declared.Lit.{Lit}
 use Rattle.plan.specs.Literals.{varOf, wordOf, indexOf}
 use Rattle.plan.specs.Circuit.{Gate}
-use Rattle.theorems.proofs.Tables.{gateAt}
+use Rattle.laws.proofs.Tables.{gateAt}
 use Rattle.drop.specs.Marks.{Below}
 use Rattle.explain.specs.Known.{Space, Known}
 use Rattle.explain.proofs.Blaming.{not-come, at-x, at-1, side-below, side-0}

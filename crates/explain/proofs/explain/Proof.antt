@@ -5,7 +5,7 @@ use Rattle.plan.specs.declared.Checked.the-variants.{Good}
 use Rattle.plan.specs.Circuit.{seven}
 use Rattle.plan.specs.Outcome.{checkInOrder}
 use Rattle.tables.proofs.Told.{some-table, no-table}
-use Rattle.given.specs.Judged.{givenAt}
+use Rattle.judge.specs.Judged.{givenAt}
 use Rattle.step.proofs.Checks.{runs, room}
 use Rattle.plan.specs.Explain.{ExplainEntry, vectorsStage}
 use Rattle.explain.proofs.Answers.{bad-is, good-vectors, refused-tables, refused-vector, answered}

@@ -8,9 +8,9 @@ use Rattle.plan.specs.Literals.{varOf, wordOf}
 use Rattle.plan.specs.Circuit.{Tables, circuitOf}
 use Rattle.plan.specs.Step.{valueOf}
 use Rattle.plan.specs.Outcome.{put}
-use Rattle.given.specs.Judged.{givenAt}
-use Rattle.values.specs.Words.{word}
-use Rattle.sweep.specs.Running.{these, Runs}
+use Rattle.judge.specs.Judged.{givenAt}
+use Rattle.step.specs.values.Words.{word}
+use Rattle.step.specs.sweep.Running.{these, Runs}
 use Rattle.plan.specs.Explain.{ExplainEntry, stateOf, inputsOf, asked, valueAsked, marksAsked, marksFor}
 use Rattle.explain.specs.Asked.{Settled}
 use Rattle.explain.proofs.Outputs.{x-word, gates-below, literal-is, literal-low, output-word, marks-long}

@@ -4,7 +4,7 @@ use native.Mathlib.Omega.{arith}
 use lib.ListN.{getD}
 use Rattle.plan.specs.Literals.{wordOf}
 use Rattle.plan.specs.Step.{codeOf, lit}
-use Rattle.values.proofs.Filling.{Filled, filled-none, filled-front, filled-all}
+use Rattle.step.proofs.values.Filling.{Filled, filled-none, filled-front, filled-all}
 use Rattle.plain.specs.Asked.{variableIn}
 use Rattle.plain.proofs.Filling.{filled-whole}
 use borrow.Author.Needs.{needs}

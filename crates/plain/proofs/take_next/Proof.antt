@@ -2,8 +2,8 @@ use Prim.Native.Nat.{_-_, _≤_}
 use mathlib.Core.Path.{refl, sym, _∙_}
 use native.Mathlib.Omega.{arith}
 use lib.ListN.{length, getD}
-use Rattle.theorems.proofs.Tables.{words-take}
-use Rattle.values.proofs.Filling.{Filled, filled-none, filled-front, filled-all}
+use Rattle.laws.proofs.Tables.{words-take}
+use Rattle.step.proofs.values.Filling.{Filled, filled-none, filled-front, filled-all}
 use Rattle.plain.proofs.Filling.{filled-whole}
 use borrow.Author.Needs.{needs}
 use Rattle.plain.proofs.take_next.Statement.{statement}

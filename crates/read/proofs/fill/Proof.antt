@@ -3,7 +3,7 @@ use Prim.Native.Nat.{ℕ}
 use mathlib.Core.Path.{sym, ap₂, _∙_}
 use lib.ListN.{length}
 use Rattle.plan.specs.Circuit.{Tables, seven, wordsWith, against, short}
-use Rattle.header.proofs.Accepted.{accepted, not-accepted}
+use Rattle.lines.proofs.header.Accepted.{accepted, not-accepted}
 use Rattle.tables.specs.declared.Sizes.{Sizes}
 use Rattle.tables.specs.Lengths.{lengthsIn}
 use Rattle.read.proofs.Fills.{header-told, short-told, rest-refused, rest-accepted, room-for}

@@ -5,7 +5,7 @@ use mathlib.Core.List.{List}
 use lib.ListN.{length, getD}
 use Rattle.plan.specs.Circuit.{Tables, seven}
 use Rattle.plan.specs.Outcome.{ReadEntry}
-use Rattle.theorems.proofs.Marks.{zeros}
+use Rattle.laws.proofs.Marks.{zeros}
 use Rattle.read.proofs.Loads.{same-cleared, all-same, load-accepted, load-refused}
 use Rattle.read.proofs.load.Statement.{statement}
 use Rattle.read.proofs.load.Tie as tie

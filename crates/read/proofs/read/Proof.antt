@@ -3,7 +3,7 @@ use mathlib.Core.Path.{sym, ap, _∙_}
 use native.Mathlib.Omega.{arith}
 use Rattle.plan.specs.Circuit.{Tables, seven}
 use Rattle.plan.specs.Outcome.{ReadEntry, LoadExit, loadedValues, tailOf}
-use Rattle.told.proofs.Refused.{refusal-told}
+use Rattle.answers.proofs.numbers.Refused.{refusal-told}
 use Rattle.read.proofs.Answers.{part-from, part-none, starts-within, read-by}
 use Rattle.read.proofs.read.Statement.{statement}
 use Rattle.read.proofs.read.Tie as tie

@@ -9,8 +9,8 @@ use Rattle.plan.specs.Literals.{most}
 use Rattle.plan.specs.Circuit.{Circuit, Tables, seven, circuitOf, allCleared}
 use Rattle.plan.specs.Given.{Given}
 use Rattle.plan.specs.Reduce.{reduce}
-use Rattle.theorems.proofs.Running.Counts.{counts-reduce}
-use Rattle.given.specs.Judged.{givenAt}
+use Rattle.laws.proofs.Running.Counts.{counts-reduce}
+use Rattle.judge.specs.Judged.{givenAt}
 use Rattle.reduce.proofs.Reducing.{Ready, foldable, inputs-in, latches-in, outputs-in, resets-in, bads-in, constraints-in}
 use Rattle.reduce.proofs.Reducing.{made-fewer, count, written}
 use Rattle.reduce.proofs.Answers.{sizes-cleared, Judged, refused, ready, few, accepted}

@@ -9,7 +9,7 @@ use Rattle.office.proofs.print_written.Reads as print-written-reads
 use Rattle.office.proofs.read_plan.Reads as read-plan-reads
 use Rattle.office.proofs.readable.Reads as readable-reads
 use Rattle.office.proofs.size.Reads as size-reads
-use Rattle.reducing.proofs.reduce_whole.Reads as reduce-whole-reads
+use Rattle.making.proofs.reducing.reduce_whole.Reads as reduce-whole-reads
 
 -- src/main.rt:5:34
 slice-aggregate-read-plan : tie.Need-slice-aggregate-read-plan

@@ -7,8 +7,8 @@ use lib.ListN.{length, length-append}
 use Rattle.plan.specs.declared.Counts.{Counts}
 use Rattle.plan.specs.Circuit.{Tables, seven, circuitOf}
 use Rattle.plan.specs.Step.{first, run, vectorsOf}
-use Rattle.theorems.proofs.Running.Resets.{first-length}
-use Rattle.sweep.specs.Running.{Runs}
+use Rattle.laws.proofs.Running.Resets.{first-length}
+use Rattle.step.specs.sweep.Running.{Runs}
 use Rattle.report.specs.Tallying.{tally}
 use Rattle.report.proofs.Filling.{tally-long, all-finished}
 use Rattle.report.proofs.fill.Statement.{statement}

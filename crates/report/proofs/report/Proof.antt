@@ -12,8 +12,8 @@ use Rattle.plan.specs.Circuit.{seven, cleared}
 use Rattle.plan.specs.Step.{first, run, vectorsOf}
 use Rattle.plan.specs.Given.{given}
 use Rattle.plan.specs.Outcome.{checkedBy}
-use Rattle.given.proofs.Sound.{good-none, refused-some}
-use Rattle.sweep.specs.Running.{Runs}
+use Rattle.judge.proofs.Sound.{good-none, refused-some}
+use Rattle.step.specs.sweep.Running.{Runs}
 use Rattle.step.proofs.Checks.{runs, room}
 use Rattle.plan.specs.Report.{ReportEntry, ReportExit, reportStages, reportedBy}
 use Rattle.report.specs.Tallying.{tally}

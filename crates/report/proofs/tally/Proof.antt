@@ -7,8 +7,8 @@ use lib.ListN.{length}
 use borrow.Author.Needs.{needs}
 use Rattle.plan.specs.Circuit.{Tables, circuitOf}
 use Rattle.plan.specs.Step.{Value}
-use Rattle.theorems.proofs.Tables.{next-row}
-use Rattle.sweep.specs.Running.{these, Runs, Rests}
+use Rattle.laws.proofs.Tables.{next-row}
+use Rattle.step.specs.sweep.Running.{these, Runs, Rests}
 use Rattle.report.specs.Tallying.{tally}
 use Rattle.report.proofs.Listing.{Vector, Going, vector-ends, vector-length, going-on, going-first, all-gone}
 use Rattle.report.proofs.tally.Statement.{statement}

@@ -5,7 +5,7 @@ use lib.ListN.{length, length-map}
 use borrow.Author.Needs.{needs}
 use Rattle.plan.specs.Circuit.{Tables, Circuit, circuitOf}
 use Rattle.plan.specs.Step.{Value, valueOf, stepOf}
-use Rattle.sweep.specs.Running.{these, Runs, Rests, Stepped}
+use Rattle.step.specs.sweep.Running.{these, Runs, Rests, Stepped}
 use Rattle.report.proofs.Turning.{latches-counted, latches-count, outputs-counted, outputs-count, stands, ready, outputs-long}
 use Rattle.report.proofs.turn.Statement.{statement}
 use Rattle.report.proofs.turn.Tie as tie

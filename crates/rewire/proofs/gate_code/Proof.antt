@@ -4,7 +4,7 @@ use lib.ListN.{getD}
 use Rattle.plan.specs.declared.Lit.{Lit}
 use Rattle.plan.specs.Literals.{varOf, signOf, wordOf}
 use Rattle.plan.specs.Step.{codeOf, signedValue, lit}
-use Rattle.theorems.proofs.Tables.{gateAt}
+use Rattle.laws.proofs.Tables.{gateAt}
 use borrow.Author.Needs.{needs}
 use Rattle.rewire.proofs.gate_code.Statement.{statement}
 use Rattle.rewire.proofs.gate_code.Tie as tie

@@ -3,8 +3,8 @@ use mathlib.Core.Path.{_≡_, subst}
 use native.Mathlib.Omega.{arith}
 use lib.ListN.{length, length-set}
 use Rattle.plan.specs.Literals.{varOf}
-use Rattle.theorems.proofs.Tables.{gateAt}
-use Rattle.theorems.proofs.Running.Sides.{sides-below}
+use Rattle.laws.proofs.Tables.{gateAt}
+use Rattle.laws.proofs.Running.Sides.{sides-below}
 use Rattle.rewire.specs.Shown.{Shows, Ordered}
 use Rattle.rewire.proofs.Codes.{Going, going-start, going-more}
 use Rattle.rewire.proofs.Wrong.{row-at}

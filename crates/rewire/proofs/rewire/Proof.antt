@@ -8,7 +8,7 @@ use Rattle.plan.specs.Literals.{wordOf}
 use Rattle.plan.specs.Refusals.{firstOf}
 use Rattle.plan.specs.Circuit.{seven}
 use Rattle.plan.specs.Outcome.{put, CheckExit, checkedBy, checkInOrder}
-use Rattle.given.specs.Judged.{givenAt}
+use Rattle.judge.specs.Judged.{givenAt}
 use Rattle.plan.specs.Rewire.{editStages, RewireEntry}
 use Rattle.rewire.specs.Shown.{Counted}
 use Rattle.rewire.proofs.Answers.{refused-tables, counted, refused-sides, ordered, refused-value, row-fits, gate-there, ordered-again, done}

@@ -5,7 +5,7 @@ use native.Mathlib.Omega.{arith}
 use lib.ListN.{length-set}
 use Rattle.plan.specs.Literals.{wordOf}
 use Rattle.plan.specs.Outcome.{put}
-use Rattle.rewired.proofs.Rows.{two-stores}
+use Rattle.laws.proofs.Rewiring.Rows.{two-stores}
 use borrow.Author.Needs.{needs}
 use Rattle.rewire.proofs.set_sides.Statement.{statement}
 use Rattle.rewire.proofs.set_sides.Tie as tie

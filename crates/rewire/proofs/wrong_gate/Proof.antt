@@ -1,7 +1,7 @@
 use Prim.Native.Nat.{_+_, _-_, _<_}
 use native.Mathlib.Omega.{arith}
 use lib.ListN.{length}
-use Rattle.theorems.proofs.Tables.{gatesAt}
+use Rattle.laws.proofs.Tables.{gatesAt}
 use Rattle.rewire.proofs.Wrong.{Gating, gating-start, gating-turn, gating-stop, row-at, judging-end}
 use Rattle.rewire.proofs.wrong_gate.Statement.{statement}
 use Rattle.rewire.proofs.wrong_gate.Tie as tie

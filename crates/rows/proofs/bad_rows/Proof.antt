@@ -2,7 +2,7 @@ use Prim.Native.Nat.{_*_}
 use lib.Dec.{eqb}
 use mathlib.Core.Path.{sym, _∙_}
 use borrow.Author.Tests.{not-true, not-false, eq-eqb, ne-eqb}
-use Rattle.codes.proofs.Places.{bad-state, bad-inputs, bad-outputs, none-bad}
+use Rattle.step.proofs.codes.Places.{bad-state, bad-inputs, bad-outputs, none-bad}
 use Rattle.rows.proofs.Lists.{wholeIn, product-small}
 use Rattle.rows.proofs.bad_rows.Statement.{statement}
 use Rattle.rows.proofs.bad_rows.Tie as tie

@@ -3,8 +3,8 @@ use mathlib.Core.Path.{ap, _∙_}
 use mathlib.Core.List.{List}
 use native.Mathlib.Omega.{arith}
 use Rattle.plan.specs.Circuit.{filled}
-use Rattle.lanes.specs.Working.{these, countsOf}
-use Rattle.lanes.proofs.Rows.{report-is}
+use Rattle.rows.specs.lanes.Working.{these, countsOf}
+use Rattle.rows.proofs.lanes.Rows.{report-is}
 use Rattle.rows.proofs.Reports.{report-ready, report-shows, put-cleared}
 use borrow.Author.Needs.{needs}
 use Rattle.rows.proofs.report_lists.Statement.{statement}

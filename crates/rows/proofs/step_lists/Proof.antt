@@ -1,6 +1,6 @@
 use mathlib.Core.Path.{_∙_}
-use Rattle.lanes.specs.Working.{these}
-use Rattle.lanes.proofs.Rows.{outputs-are, nexts-are}
+use Rattle.rows.specs.lanes.Working.{these}
+use Rattle.rows.proofs.lanes.Rows.{outputs-are, nexts-are}
 use Rattle.rows.proofs.Lists.{ready, shows-nexts, shows-outputs, nexts-room, outs-room}
 use borrow.Author.Needs.{needs}
 use Rattle.rows.proofs.step_lists.Statement.{statement}

@@ -4,7 +4,7 @@ use native.Mathlib.Omega.{arith}
 use lib.ListN.{length, length-set}
 use Rattle.plan.specs.Step.{valueOf}
 use Rattle.plan.specs.Circuit.{circuitOf}
-use Rattle.sweep.specs.Running.{these, Stands, Ready}
+use Rattle.step.specs.sweep.Running.{these, Stands, Ready}
 use Rattle.step.proofs.Buffers.{stands, ready, stored}
 use borrow.Author.Needs.{needs}
 use Rattle.step.proofs.step_vectors.Statement.{statement}

@@ -1,0 +1,4 @@
+// What an answer says to a caller in C: its number, its place, and its values.
+pub mod numbers;
+pub mod refusals;
+pub mod witness;

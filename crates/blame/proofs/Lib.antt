@@ -1,4 +1,0 @@
-pub mod Explained
-pub mod Marked
-pub mod Calls
-pub mod Examples

@@ -1,0 +1,46 @@
+-- 5, then 15.
+use mathlib.Core.Path.{sym, _∙_}
+use borrow.Author.Tests.{not-true, not-false}
+use Rattle.tables.specs.Held.{circuitIn}
+use Rattle.plan.specs.Circuit.{Circuit}
+use Rattle.tables.proofs.Told.{some-table, no-table}
+use Rattle.judge.proofs.Judging.{long-tables}
+use Rattle.cards.proofs.fill.Judged.{at-five, at-fifteen, good}
+use Rattle.cards.proofs.fill.judge.Statement.{statement}
+use Rattle.cards.proofs.fill.judge.Tie as tie
+
+abbrev circuit : tie.Start → Circuit
+circuit s =
+    let a = s .args in
+    circuitIn (a .n) (a .inputs .now) (a .latches .now) (a .outputs .now) (a .gates .now) (a .resets .now) (a .bads .now) (a .constraints .now)
+
+in-binary-order-requires : tie.Need-in-binary-order-requires
+in-binary-order-requires c κs = long-tables (c .before .before .before .before .before .before .before .pre)
+
+out-of-range-requires : tie.Need-out-of-range-requires
+out-of-range-requires c κs =
+    let s = c .before .before .before .before .before .before .before .before in
+    let a = s .args in
+    (s .pre, λ e. sym (c .in-binary-order .ensures (a .outputs .now) (a .resets .now) (a .bads .now) (a .constraints .now)) ∙ e)
+
+returns : tie.Need-returns
+returns c =
+    at-five (circuit (c .before .before .before .before .before .before .before .before .before .before)) _ (some-table _ _ (c .if1 .taken) (c .before .out-of-range .ensures))
+
+returns-2 : tie.Need-returns-2
+returns-2 c =
+    let s = c .before .before .before .before .before .before .before .before .before .before .before in
+    let a = s .args in
+    at-fifteen (circuit s) (no-table _ _ (c .before .if1 .left) (c .before .before .out-of-range .ensures))
+    (sym (c .before .before .before .in-binary-order .ensures (a .outputs .now) (a .resets .now) (a .bads .now) (a .constraints .now)) ∙ not-true _ (c .if2 .taken))
+
+returns-3 : tie.Need-returns-3
+returns-3 c =
+    let s = c .before .before .before .before .before .before .before .before .before .before .before in
+    let a = s .args in
+    good (circuit s) (no-table _ _ (c .before .if1 .left) (c .before .before .out-of-range .ensures))
+    (sym (c .before .before .before .in-binary-order .ensures (a .outputs .now) (a .resets .now) (a .bads .now) (a .constraints .now)) ∙ not-false _ (c .if2 .left))
+
+pub judge-spec : {M : Type 1} → statement M
+judge-spec =
+    tie.close (tie.spec in-binary-order-requires out-of-range-requires returns returns-2 returns-3)

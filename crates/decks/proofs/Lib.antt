@@ -1,9 +1,0 @@
-pub mod Records
-pub mod Passing
-pub mod Exactly
-pub mod Spared
-pub mod Back
-pub mod Calls
-pub mod WithRoom
-pub mod Toggle
-pub mod Huge

@@ -1,1 +1,0 @@
-// What cards state, and cards and AIGER there and back. There is no code here: see proofs/.

@@ -1,4 +1,0 @@
-pub mod Words
-pub mod Vectors
-pub mod Attempts
-pub mod Verdicts

@@ -1,3 +1,0 @@
--- What whole files are stated with.
-pub mod Opening
-pub mod Parts

@@ -1,0 +1,9 @@
+pub mod Judged
+pub mod marks
+pub mod order
+pub mod used
+pub mod ranges
+pub mod twice
+pub mod binary_order
+pub mod at_end
+pub mod table_six

@@ -1,0 +1,16 @@
+pub mod Held
+pub mod Marks
+pub mod Once
+pub mod Paper
+pub mod Put
+pub mod Asked
+pub mod Ranges
+pub mod Reading
+pub mod Running
+pub mod Tables
+pub mod Writing
+pub mod Wrong
+pub mod Walks
+pub mod Explaining
+pub mod Fillings
+pub mod Rewiring

@@ -1,0 +1,82 @@
+-- Demand 3 with unused gates dropped: from a file through reading, conversion, reduction and dropping, over the definitions and over the calls.
+use Prim.Native.Nat.{ℕ}
+use mathlib.Core.Path.{_≡_, sym, ap, _∙_, subst}
+use mathlib.Core.List.{List}
+use lib.ListN.{length, length-map, drop}
+use Rattle.plan.specs.declared.Version.{Version}
+use Rattle.plan.specs.Refusals.{got}
+use Rattle.plan.specs.Circuit.{Circuit}
+use Rattle.plan.specs.Reading.{readFile, WellFormed}
+use Rattle.plan.specs.Convert.{convert}
+use Rattle.plan.specs.Reduce.{reduced, latchBecomes, reduce}
+use Rattle.plan.specs.Step.{Value, Step, run, first}
+use Rattle.plan.specs.Outcome.{conversion, reduction}
+use Rattle.plan.specs.Drop.{dropUnused, dropping}
+use Rattle.laws.proofs.Reading.Differences.{Bytes}
+use Rattle.laws.proofs.Reading.Exactly.{sound, formed}
+use Rattle.laws.proofs.Reading.Runs.{length-lits}
+use Rattle.laws.proofs.Running.Refinement.{Les}
+use Rattle.laws.proofs.Running.Monotone.{Replaced, Kept}
+use Rattle.laws.proofs.Running.Converted.{latches-convert}
+use Rattle.laws.proofs.Running.Resets.{first-convert, first-length}
+use Rattle.laws.proofs.Running.Results.{convert-in-order, convert-well-formed, reduce-in-order, reduce-well-formed}
+use Rattle.laws.proofs.Running.Runs.{Sized, les-length, replaced-sized}
+use Rattle.laws.proofs.Running.WithoutX.{NoX, NoXs}
+use Rattle.laws.proofs.Running.DemandThree.{demand-three, demand-three-from}
+use Rattle.laws.proofs.Writing.Calls.{ReadCall, MakeCall, readCircuit, madeCircuit, FromRead, FromMade, from-read, from-made, read-formed, converted-is, reduced-is}
+use Rattle.laws.proofs.Walks.Dropped.{drop-run}
+use Rattle.laws.proofs.Walks.Later.{dropped-is}
+
+abbrev pub after : Circuit → Circuit
+after c = dropUnused (reduce (convert c))
+
+module _ (c : Circuit) (w : WellFormed c) (is js : List (List Value)) (z : Sized (length (c .inputs)) is) (r : Replaced is js) where
+  same-runs : (s : List Value) → length s ≡ length (c .latches) → run (reduce (convert c)) s js ≡ run (after c) s js
+  same-runs s h =
+      let d = reduce (convert c) in
+      let wd = reduce-well-formed (convert c) (convert-well-formed c w) (convert-in-order c w) in
+      let td = reduce-in-order (convert c) (convert-well-formed c w) (convert-in-order c w) in
+      let long : length s ≡ length (d .latches)
+      = h ∙ sym (length-map (convert c .latches) (latchBecomes (reduced (convert c) .became)) ∙ latches-convert c) in
+      sym (drop-run d wd td js
+      (subst (λ (n : ℕ). Sized n js) (sym (length-lits 1 (length (c .inputs)))) (replaced-sized (length (c .inputs)) is js r z)) s long)
+
+  -- from any state that replaces x of the resets in any way
+  pub demand-three-dropped-from : (s : List Value) → Les (first c) s → Kept (run c (first c) is) (run (after c) s js)
+  demand-three-dropped-from s start =
+      subst (λ (x : List Step). Kept (run c (first c) is) x)
+      (same-runs s (sym (les-length (first c) s start) ∙ first-length c w)) (demand-three-from c w is js z r s start)
+
+  -- from the resets: at every step each output, bad state, constraint and latch that was 0 or 1 is the same after conversion, reduction
+  -- and dropping; if the input vectors hold no x and no reset is x, so is every step
+  pub demand-three-dropped : Kept (run c (first c) is) (run (after c) (first (after c)) js)
+      × (NoXs is → NoX (first c) → run c (first c) is ≡ run (after c) (first (after c)) js)
+  demand-three-dropped =
+      let d = demand-three c w is js z r in
+      let e = same-runs (first (after c)) (ap length (first-convert c) ∙ first-length c w) in
+      (subst (λ (x : List Step). Kept (run c (first c) is) x) e (d .0), λ x f. d .1 x f ∙ e)
+
+-- of every file that the reader accepts
+pub demand-three-file : (v : Version) (file lengths : List ℕ) → Bytes file → (c : Circuit) (start : ℕ) → readFile v file lengths ≡ got c start
+    → (is js : List (List Value)) → Sized (length (c .inputs)) is → Replaced is js
+    → Kept (run c (first c) is) (run (after c) (first (after c)) js)
+    × (NoXs is → NoX (first c) → run c (first c) is ≡ run (after c) (first (after c)) js)
+demand-three-file v file lengths bytes c start q =
+    demand-three-dropped c (formed v file c (drop start file) (sound v file lengths bytes c start q .0))
+
+-- of a read, a conversion, a reduction and a dropping, each handed what the one before left
+pub demand-three-calls : (r : ReadCall) (m : MakeCall conversion) → FromRead (m .entry .circuit) r
+    → (s : MakeCall reduction) → FromMade conversion (s .entry .circuit) m
+    → (u : MakeCall dropping) → FromMade reduction (u .entry .circuit) s
+    → (is js : List (List Value)) → Sized (length (readCircuit r .inputs)) is → Replaced is js
+    → Kept (run (readCircuit r) (first (readCircuit r)) is) (run (madeCircuit dropping u) (first (madeCircuit dropping u)) js)
+    × (NoXs is → NoX (first (readCircuit r)) → run (readCircuit r) (first (readCircuit r)) is ≡ run (madeCircuit dropping u) (first (madeCircuit dropping u)) js)
+demand-three-calls r m m-given s s-given u u-given is js sized replaced =
+    let c = readCircuit r in
+    let reduced-from : madeCircuit reduction s ≡ reduce (convert c)
+    = reduced-is s ∙ ap reduce (from-made conversion (s .entry .circuit) m s-given
+    ∙ (converted-is m ∙ ap convert (from-read (m .entry .circuit) r m-given))) in
+    let d-is : after c ≡ madeCircuit dropping u
+    = sym (dropped-is u ∙ ap dropUnused (from-made reduction (u .entry .circuit) s u-given ∙ reduced-from)) in
+    subst (λ (d : Circuit). Kept (run c (first c) is) (run d (first d) js) × (NoXs is → NoX (first c) → run c (first c) is ≡ run d (first d) js)) d-is
+    (demand-three-dropped c (read-formed r) is js sized replaced)

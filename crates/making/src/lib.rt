@@ -1,0 +1,3 @@
+// Whole files converted and reduced.
+pub mod converting;
+pub mod reducing;

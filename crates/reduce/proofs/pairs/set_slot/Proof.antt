@@ -1,0 +1,92 @@
+use Prim.Native.Nat.{ℕ, _*_, _<_}
+use mathlib.Core.Path.{_≡_, sym, ap, _∙_, subst}
+use native.Mathlib.Omega.{arith}
+use borrow.Author.Needs.{needs}
+use Rattle.reduce.specs.declared.pairs.Slot.{Slot}
+use Rattle.reduce.specs.declared.pairs.Slot.the-variants.{Root, Under}
+use Rattle.reduce.specs.pairs.Pairs.{Within, numberOf, gatesHung, scratchHung}
+use Rattle.reduce.proofs.pairs.Words.{led-scratch}
+use Rattle.reduce.proofs.pairs.set_slot.Statement.{statement}
+use Rattle.reduce.proofs.pairs.set_slot.Tie as tie
+
+-- a root is a word of the scratch
+root-in : (s : tie.Start) (at : ℕ) → s .args .slot ≡ Root at → at < 4 * s .args .w
+root-in s at e =
+    let low : at < 3 * s .args .w = subst (λ (x : Slot). Within (s .args .w) (s .args .n) x) e (s .pre .1) in
+    omega (arith, low)
+
+link-in : (s : tie.Start) (i bit : ℕ) → s .args .slot ≡ Under i bit → i < s .args .n
+link-in s i bit e = subst (λ (x : Slot). Within (s .args .w) (s .args .n) x) e (s .pre .1) .0
+
+enum-known-slot : tie.Need-enum-known-slot
+enum-known-slot c = search needs
+
+add-scratch : tie.Need-add-scratch
+add-scratch c = search needs
+
+cast-scratch : tie.Need-cast-scratch
+cast-scratch c = search needs
+
+mul-scratch : tie.Need-mul-scratch
+mul-scratch c =
+    let s = c .before .before .before .before .before in
+    record { fits = omega (arith, root-in s _ (c .before .slot .given .1), s .pre .0 .few) }
+
+slice-write-scratch : tie.Need-slice-write-scratch
+slice-write-scratch c =
+    let s = c .before .before .before .before .before in
+    omega (arith, root-in s _ (c .before .slot .given .1), s .pre .0 .scratch-long)
+
+enum-known-slot-2 : tie.Need-enum-known-slot-2
+enum-known-slot-2 c = search needs
+
+set-link-requires : tie.Need-set-link-requires
+set-link-requires c κs =
+    let s = c .before .before .before .before .before .before .before in
+    (s .pre .0, link-in s _ _ (c .before .before .before .slot2 .given .1))
+
+same-length : tie.Need-same-length
+same-length c = search needs
+
+returns : tie.Need-returns
+returns c =
+    let s = c .before .before .before .before .before in
+    let a = s .args in
+    let led = led-scratch (a .gates .now) (a .scratch .now) (a .w) (a .n) _ (root-in s _ (c .before .slot .given .1)) in
+    let is = sym (c .before .slot .given .1) in (
+      led .0 ∙ ap (λ (x : Slot). gatesHung (a .gates .now) (a .w) (numberOf (a .w) x) (a .n)) is,
+      led .1 ∙ ap (λ (x : Slot). scratchHung (a .scratch .now) (a .w) (numberOf (a .w) x) (a .n)) is,
+    )
+
+same-length-2 : tie.Need-same-length-2
+same-length-2 c = search needs
+
+same-length-3 : tie.Need-same-length-3
+same-length-3 c = search needs
+
+returns-2 : tie.Need-returns-2
+returns-2 c =
+    let k = c .before .before .before .before in
+    let s = k .before .before .before .before .before .before .before .before in
+    let a = s .args in
+    let is = sym (k .before .before .before .before .slot2 .given .1) in (
+      k .set-link .ensures .0 ∙ ap (λ (x : Slot). gatesHung (a .gates .now) (a .w) (numberOf (a .w) x) (a .n)) is,
+      k .set-link .ensures .1 ∙ ap (λ (x : Slot). scratchHung (a .scratch .now) (a .w) (numberOf (a .w) x) (a .n)) is,
+    )
+
+pub set-slot-spec : {M : Type 1} → statement M
+set-slot-spec =
+    tie.close
+    (tie.spec
+    enum-known-slot
+    add-scratch
+    cast-scratch
+    mul-scratch
+    slice-write-scratch
+    enum-known-slot-2
+    set-link-requires
+    same-length
+    returns
+    same-length-2
+    same-length-3
+    returns-2)

@@ -1,0 +1,6 @@
+-- Laws of needle reports.
+pub mod Sums
+pub mod Parts
+pub mod Zero
+pub mod DemandThree
+pub mod Examples

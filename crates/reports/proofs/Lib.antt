@@ -1,5 +1,0 @@
-pub mod Sums
-pub mod Parts
-pub mod Zero
-pub mod DemandThree
-pub mod Examples

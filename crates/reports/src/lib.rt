@@ -1,1 +1,0 @@
-// Laws of needle reports. There is no code here: see proofs/.

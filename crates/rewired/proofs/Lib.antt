@@ -1,5 +1,0 @@
-pub mod Rewired
-pub mod Screen
-pub mod Rows
-pub mod Call
-pub mod Again

@@ -1,0 +1,4 @@
+pub mod stimulus
+pub mod trace
+pub mod comparing
+pub mod reporting

@@ -1,0 +1,81 @@
+use Prim.Native.Nat.{_-_, _≤_}
+use mathlib.Core.Path.{ap, _∙_}
+use native.Mathlib.Omega.{arith}
+use lib.ListN.{getD}
+use Rattle.plan.specs.Step.{resetValue}
+use Rattle.plan.specs.Outcome.{put}
+use Rattle.step.specs.values.Words.{word}
+use Rattle.step.proofs.values.Filling.{Filled, filled-none, filled-more, filled-all}
+use Rattle.step.proofs.values.Codes.{resets-loaded}
+use borrow.Author.Needs.{needs}
+use Rattle.step.proofs.values.load_resets.Statement.{statement}
+use Rattle.step.proofs.values.load_resets.Tie as tie
+
+abbrev Inv-loop : tie.InvT-loop
+Inv-loop resets n first t₀ i₀ t i = (i ≤ n) × Filled t₀ first (λ k. word (resetValue (getD resets k 0))) i t
+
+abbrev μ-loop : tie.MeasureT-loop
+μ-loop resets n first t₀ i₀ t i = n - i
+
+loop-holds : tie.Need-loop-holds Inv-loop μ-loop
+loop-holds c = (omega arith, filled-none _ _ _)
+
+mul-word-of-reset : tie.Need-mul-word-of-reset Inv-loop μ-loop
+mul-word-of-reset c = search needs
+
+shared-slice-read-word-of-reset : tie.Need-shared-slice-read-word-of-reset Inv-loop μ-loop
+shared-slice-read-word-of-reset c = search needs
+
+word-of-reset-requires : tie.Need-word-of-reset-requires Inv-loop μ-loop
+word-of-reset-requires c κs = search needs
+
+add-t : tie.Need-add-t Inv-loop μ-loop
+add-t c = search needs
+
+mul-t : tie.Need-mul-t Inv-loop μ-loop
+mul-t c = search needs
+
+slice-write-t : tie.Need-slice-write-t Inv-loop μ-loop
+slice-write-t c = search needs
+
+add-i : tie.Need-add-i Inv-loop μ-loop
+add-i c = search needs
+
+loop-less : tie.Need-loop-less Inv-loop μ-loop
+loop-less c = search needs
+
+loop-again : tie.Need-loop-again Inv-loop μ-loop
+loop-again c =
+    let w = c .before .before .before .loop in
+    let s = c .before .before .before .before .before .before in
+    (omega arith, filled-more _ _ _ (w .i) (w .t) _ (w .inv .1) (omega (arith, s .pre .1)) (c .word-of-reset .ensures))
+
+same-length : tie.Need-same-length Inv-loop μ-loop
+same-length c = c .before .loop .inv .1 .same
+
+returns : tie.Need-returns Inv-loop μ-loop
+returns c =
+    let w = c .before .loop in
+    let s = c .before .before .before .before in
+    let a = s .args in
+    filled-all _ _ _ (a .n) (w .i) (w .t) (w .inv .1) (omega arith)
+    ∙ ap (put (a .t .now) (a .first)) (resets-loaded (a .resets .now) (a .n) (s .pre .0))
+
+pub load-resets-spec : {M : Type 1} → statement M
+load-resets-spec =
+    tie.close
+    (tie.spec
+    Inv-loop
+    μ-loop
+    loop-holds
+    mul-word-of-reset
+    shared-slice-read-word-of-reset
+    word-of-reset-requires
+    add-t
+    mul-t
+    slice-write-t
+    add-i
+    loop-less
+    loop-again
+    same-length
+    returns)

@@ -1,0 +1,162 @@
+-- The line's parts one after the other, each where the one before ended.
+use Prim.Native.Nat.{_+_, _≤_}
+use mathlib.Core.List.{[], _++_}
+use native.Mathlib.Omega.{arith}
+use borrow.Author.Needs.{needs}
+use lib.ListN.{length}
+use Rattle.plan.specs.Bytes.{digits}
+use Rattle.plan.specs.Programs.{bytesOf}
+use Rattle.codec.proofs.numbers.Length.{digits-twenty}
+use Rattle.write.proofs.refusal_line.Line.{Told, nothing-told, more-told, byte-told, no-room, all-told}
+use Rattle.write.proofs.refusal_line.tell_refusal.Statement.{statement}
+use Rattle.write.proofs.refusal_line.tell_refusal.Tie as tie
+
+-- what stands in the buffer before the new line
+abbrev start : tie.After-slice-known5 → tie.Start
+start c = c .before .before .before .before .before .before .before .before .before .before .before .before .before .before .before
+    .before .before .before .before .before .before .before .before .before
+
+told : (c : tie.After-slice-known5) → let a = start c .args in
+    Told (a .out .now) (((bytesOf "refused " ++ digits (c .before .before .before .before .before .before .before .before .before .before
+    .before .before .before .before .before .before .before .before .before .before .before .before .told-number .result)) ++ bytesOf
+    " at ") ++ digits (c .before .before .before .before .before .before .before .before .before .before .before .before .before
+    .before .before .before .before .before .before .before .before .told-place .result))
+    (c .before .before .put-digits2 .last .0) (c .before .before .put-digits2 .result)
+told c =
+    let out = start c .args .out .now in
+    let n = c .before .before .before .before .before .before .before .before .before .before .before .before .before .before .before
+    .before .before .before .before .before .before .before .told-number .result in
+    let p = c .before .before .before .before .before .before .before .before .before .before .before .before .before .before .before
+    .before .before .before .before .before .before .told-place .result in
+    let enough = c .before .before .before .before .before .before .before .before .before .before .before .before .before .before
+    .before .before .before .before .if1 .left in
+    let number = c .before .before .before .before .before .before .before .before .before .before .before .before .before .before
+    .before .before .before .before .before .before .digits-in .ensures in
+    let place = c .before .before .before .before .before .before .before .before .before .before .before .before .before .before .before
+    .before .before .before .before .digits-in2 .ensures in
+    let first = c .before .before .before .before .before .before .before .before .before .before .before .before .before .before .before
+    .append in
+    let second = c .before .before .before .before .before .before .before .before .before .before .before .put-digits in
+    let third = c .before .before .before .before .before .before .append2 in
+    let fourth = c .before .before .put-digits2 in
+    let t1 = more-told out [] out 0 (nothing-told out) (bytesOf "refused ") (first .last .0) (first .result)
+    (omega (arith, enough)) (first .ensures .1) (first .ensures .0) in
+    let t2 = more-told out (bytesOf "refused ") (first .last .0) (first .result) t1 (digits n) (second .last .0) (second .result)
+    (omega (arith, enough, number, first .ensures .0)) (second .ensures .1) (second .ensures .0) in
+    let t3 = more-told out (bytesOf "refused " ++ digits n) (second .last .0) (second .result) t2 (bytesOf " at ") (third .last .0)
+    (third .result) (omega (arith, enough, number, first .ensures .0, second .ensures .0)) (third .ensures .1) (third .ensures .0) in
+    more-told out ((bytesOf "refused " ++ digits n) ++ bytesOf " at ") (third .last .0) (third .result) t3 (digits p) (fourth .last .0)
+    (fourth .result) (omega (arith, enough, number, place, first .ensures .0, second .ensures .0, third .ensures .0))
+    (fourth .ensures .1) (fourth .ensures .0)
+
+told-number-requires : tie.Need-told-number-requires
+told-number-requires c κs = search needs
+
+told-place-requires : tie.Need-told-place-requires
+told-place-requires c κs = search needs
+
+digits-in-requires : tie.Need-digits-in-requires
+digits-in-requires c κs = search needs
+
+add-line : tie.Need-add-line
+add-line c = omega (arith, c .digits-in .ensures, digits-twenty (c .before .before .told-number .result) (omega arith))
+
+digits-in-requires-2 : tie.Need-digits-in-requires-2
+digits-in-requires-2 c κs = search needs
+
+add-line-2 : tie.Need-add-line-2
+add-line-2 c =
+    omega (
+      arith,
+      c .before .digits-in .ensures,
+      digits-twenty (c .before .before .before .told-number .result) (omega arith),
+      c .digits-in2 .ensures,
+      digits-twenty (c .before .before .told-place .result) (omega arith),
+    )
+
+returns : tie.Need-returns
+returns c =
+    let a = c .before .before .before .before .before .before .args in
+    let number = c .before .before .before .before .told-number in
+    let place = c .before .before .before .told-place in
+    no-room (a .out .now) (a .r) _ _ _ (number .ensures) (place .ensures)
+    (omega (arith, c .before .before .digits-in .ensures, c .before .digits-in2 .ensures)) (omega arith) (omega arith) (c .if1 .taken)
+
+slice-aggregate-append : tie.Need-slice-aggregate-append
+slice-aggregate-append c = search needs
+
+append-requires : tie.Need-append-requires
+append-requires c κs = search needs
+
+put-digits-requires : tie.Need-put-digits-requires
+put-digits-requires c κs = search needs
+
+slice-aggregate-append-2 : tie.Need-slice-aggregate-append-2
+slice-aggregate-append-2 c = search needs
+
+append-requires-2 : tie.Need-append-requires-2
+append-requires-2 c κs = search needs
+
+put-digits-requires-2 : tie.Need-put-digits-requires-2
+put-digits-requires-2 c κs = search needs
+
+slice-write-out : tie.Need-slice-write-out
+slice-write-out c = search needs
+
+-- the new line has room
+room : (c : tie.After-slice-known5) → c .before .before .put-digits2 .result + 1 ≤ length (start c .args .out .now)
+room c =
+    let enough = c .before .before .before .before .before .before .before .before .before .before .before .before .before .before
+    .before .before .before .before .if1 .left in
+    omega (
+      arith,
+      enough,
+      c .before .before .before .before .before .before .before .before .before .before .before .before .before .before .before .before
+          .before .before .before .before .digits-in .ensures,
+      c .before .before .before .before .before .before .before .before .before .before .before .before .before .before .before .before
+          .before .before .before .digits-in2 .ensures,
+      c .before .before .before .before .before .before .before .before .before .before .before .before .before .before .before .append
+          .ensures .0,
+      c .before .before .before .before .before .before .before .before .before .before .before .put-digits .ensures .0,
+      c .before .before .before .before .before .before .append2 .ensures .0,
+      c .before .before .put-digits2 .ensures .0,
+    )
+
+same-length : tie.Need-same-length
+same-length c = byte-told _ _ _ _ 10 (told c) (omega (arith, room c)) .size
+
+returns-2 : tie.Need-returns-2
+returns-2 c =
+    let a = start c .args in
+    let number = c .before .before .before .before .before .before .before .before .before .before .before .before .before .before
+    .before .before .before .before .before .before .digits-in in
+    let place = c .before .before .before .before .before .before .before .before .before .before .before .before .before .before .before
+    .before .before .before .before .digits-in2 in
+    all-told (a .out .now) (a .r) _ _ _ (c .before .before .before .before .before .before .before .before .before .before .before
+    .before .before .before .before .before .before .before .before .before .before .before .told-number .ensures) (c .before .before
+    .before .before .before .before .before .before .before .before .before .before .before .before .before .before .before .before
+    .before .before .before .told-place .ensures)
+    (omega (arith, number .ensures, place .ensures)) _ _ (byte-told _ _ _ _ 10 (told c) (omega (arith, room c)))
+    (c .before .before .before .before .before .before .before .before .before .before .before .before .before .before .before .before
+    .before .before .if1 .left)
+
+pub tell-refusal-spec : {M : Type 1} → statement M
+tell-refusal-spec =
+    tie.close
+    (tie.spec
+    told-number-requires
+    told-place-requires
+    digits-in-requires
+    add-line
+    digits-in-requires-2
+    add-line-2
+    returns
+    slice-aggregate-append
+    append-requires
+    put-digits-requires
+    slice-aggregate-append-2
+    append-requires-2
+    put-digits-requires-2
+    slice-write-out
+    same-length
+    returns-2)
