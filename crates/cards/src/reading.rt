@@ -1,10 +1,10 @@
 // Reading the old plan cards into tables (the paper, plan cards).
 ghost use mathlib.Core.Path.{_≡_};
 ghost use Rattle.plan.specs.Circuit.{seven, cleared};
-ghost use Rattle.plan.specs.Outcome.{Says};
 ghost use Rattle.tables.specs.Lengths.{lengthsIn, sizesOf};
 ghost use Rattle.read.specs.body.Rest.{LoadedSays};
 ghost use Rattle.plan.specs.Cards.{readCards, loadCards};
+ghost use Rattle.plan.specs.Lent.{Loads};
 use crate::fill::fill;
 use crate::fill::judge;
 use crate::head::read_head;
@@ -78,19 +78,7 @@ pub fn read_cards(
     constraints: &mut [u32],
     scratch: &mut [u32],
 ) -> Loaded
-    ensures { λ r. ⌜ Says loadCards
-        (record {
-          file = now (file .entry);
-          tables = (seven (now (inputs .entry)) (now (latches .entry)) (now (outputs .entry)) (now (gates .entry))
-              (now (resets .entry)) (now (bads .entry)) (now (constraints .entry)));
-          scratch = now (scratch .entry);
-        })
-        (record {
-          answer = r;
-          tables = (seven (now (inputs .exit)) (now (latches .exit)) (now (outputs .exit)) (now (gates .exit))
-              (now (resets .exit)) (now (bads .exit)) (now (constraints .exit)));
-          scratch = now (scratch .exit);
-        }) ⌝ }
+    ensures { λ r. ⌜ Loads loadCards file inputs latches outputs gates resets bads constraints scratch r ⌝ }
 {
     clear_all(inputs, latches, outputs, gates, resets, bads, constraints);
     clear(scratch);

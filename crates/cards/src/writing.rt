@@ -2,11 +2,12 @@
 ghost use mathlib.Core.Path.{_≡_};
 ghost use Prim.Native.Nat.{_≤_};
 ghost use lib.ListN.{length, take};
-ghost use Rattle.plan.specs.Outcome.{Says, putBytes};
+ghost use Rattle.plan.specs.Outcome.{putBytes};
 ghost use Rattle.write.specs.Judged.{givenIn};
 ghost use Rattle.plan.specs.Cards.{allZero, writeCards};
 ghost use Rattle.cards.specs.put.Parts.{tableCards, Cardable};
 ghost use Rattle.cards.specs.writing.Held.{holdableIn};
+ghost use Rattle.plan.specs.Lent.{Writes};
 use crate::bytes_asked;
 use crate::put::fill_cards;
 use codec::room;
@@ -76,14 +77,7 @@ pub fn write_cards(
     tail: &[u8],
     out: &mut [u8],
 ) -> Written
-    ensures { λ r. ⌜ Says writeCards
-        (record {
-          circuit = givenIn n (now (inputs .entry)) (now (latches .entry)) (now (outputs .entry)) (now (gates .entry)) (now (resets .entry))
-              (now (bads .entry)) (now (constraints .entry)) (now (scratch .entry));
-          tail = now (tail .entry);
-          out = now (out .entry);
-        })
-        (record { answer = r; scratch = now (scratch .exit); out = now (out .exit) }) ⌝ }
+    ensures { λ r. ⌜ Writes writeCards n inputs latches outputs gates resets bads constraints scratch tail out r ⌝ }
 {
     match judge(
         n,

@@ -1,8 +1,9 @@
 // Conversion: the same circuit in binary order. Inputs get the variables from 1 on, in list order, latches the next, then gates.
-ghost use Rattle.plan.specs.Circuit.{Tables, circuitOf, seven};
+ghost use Rattle.plan.specs.Circuit.{Tables, circuitOf};
 ghost use Rattle.plan.specs.Convert.{convert};
-ghost use Rattle.plan.specs.Outcome.{Says, conversion};
+ghost use Rattle.plan.specs.Outcome.{conversion};
 ghost use Rattle.convert.specs.Ready.{Ready, withFirst, withLast, First, FirstHeld, Last, LastHeld};
+ghost use Rattle.plan.specs.Lent.{Makes};
 use crate::renumber::place_gates;
 use crate::renumber::renumber_column;
 use judge::number;
@@ -87,23 +88,8 @@ pub fn convert(
     to_constraints: &mut [u32],
     scratch: &mut [u32],
 ) -> Made
-    ensures { λ r. ⌜ Says conversion
-        (record {
-          circuit = (record {
-            counts = n;
-            tables = seven (now (inputs .entry)) (now (latches .entry)) (now (outputs .entry)) (now (gates .entry)) (now (resets .entry))
-                (now (bads .entry)) (now (constraints .entry));
-            scratch = now (scratch .entry);
-          });
-          written = seven (now («to_inputs» .entry)) (now («to_latches» .entry)) (now («to_outputs» .entry)) (now («to_gates» .entry))
-              (now («to_resets» .entry)) (now («to_bads» .entry)) (now («to_constraints» .entry));
-        })
-        (record {
-          answer = r;
-          written = seven (now («to_inputs» .exit)) (now («to_latches» .exit)) (now («to_outputs» .exit)) (now («to_gates» .exit))
-              (now («to_resets» .exit)) (now («to_bads» .exit)) (now («to_constraints» .exit));
-          scratch = now (scratch .exit);
-        }) ⌝ }
+    ensures { λ r. ⌜ Makes conversion n inputs latches outputs gates resets bads constraints «to_inputs» «to_latches» «to_outputs»
+        «to_gates» «to_resets» «to_bads» «to_constraints» scratch r ⌝ }
 {
     clear_all(
         to_inputs,

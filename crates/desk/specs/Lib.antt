@@ -1,3 +1,4 @@
 pub mod Told
 pub mod Reported
 pub mod RowsTold
+pub mod Lent

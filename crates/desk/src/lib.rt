@@ -1,13 +1,12 @@
 // What C calls: numbers and slices only. The header for C is desk/golvanzo.h.
 ghost use mathlib.Core.Path.{_≡_};
-ghost use Rattle.plan.specs.Circuit.{seven};
-ghost use Rattle.plan.specs.Header.{wordsFor, countsFrom};
-ghost use Rattle.plan.specs.Outcome.{Says, loadedValues};
-ghost use Rattle.judge.specs.Judged.{givenAt};
+ghost use Rattle.plan.specs.Header.{wordsFor};
+ghost use Rattle.plan.specs.Outcome.{loadedValues};
 ghost use Rattle.desk.specs.Told.{read, read2007, check, writeText, writeBinary, readCards, writeCards, conversion, reduction, dropping, step, stepPlain};
 ghost use Rattle.desk.specs.Told.{witness, witness3, explain, rewiring};
 ghost use Rattle.desk.specs.Reported.{report};
 ghost use Rattle.desk.specs.RowsTold.{stepRows, reportRows};
+ghost use Rattle.desk.specs.Lent.{Reads, Loads, Checks, Writes, Makes, Steps, Blames, Tries, Asks, Reports, StepsRows, ReportsRows, Rewires};
 use answers::numbers;
 use answers::refusals;
 use cards::reading;
@@ -39,20 +38,7 @@ pub extern "C" fn golvanzo_read(
     scratch: &mut [u32],
     answer: &mut [u64; 9],
 ) -> u64
-    ensures { λ r. ⌜ Says read
-        (record {
-          file = now (file .entry);
-          tables = (seven (now (inputs .entry)) (now (latches .entry)) (now (outputs .entry)) (now (gates .entry)) (now (resets .entry)) (now (bads .entry))
-              (now (constraints .entry)));
-          scratch = now (scratch .entry);
-        })
-        (record {
-          start = r;
-          answer = now (answer .exit);
-          tables = (seven (now (inputs .exit)) (now (latches .exit)) (now (outputs .exit)) (now (gates .exit)) (now (resets .exit)) (now (bads .exit))
-              (now (constraints .exit)));
-          scratch = now (scratch .exit);
-        }) ⌝ }
+    ensures { λ r. ⌜ Reads read file inputs latches outputs gates resets bads constraints scratch answer r ⌝ }
 {
     let tail = read::read(
         Version::V19,
@@ -84,20 +70,7 @@ pub extern "C" fn golvanzo_read2007(
     scratch: &mut [u32],
     answer: &mut [u64; 9],
 ) -> u64
-    ensures { λ r. ⌜ Says read2007
-        (record {
-          file = now (file .entry);
-          tables = (seven (now (inputs .entry)) (now (latches .entry)) (now (outputs .entry)) (now (gates .entry)) (now (resets .entry)) (now (bads .entry))
-              (now (constraints .entry)));
-          scratch = now (scratch .entry);
-        })
-        (record {
-          start = r;
-          answer = now (answer .exit);
-          tables = (seven (now (inputs .exit)) (now (latches .exit)) (now (outputs .exit)) (now (gates .exit)) (now (resets .exit)) (now (bads .exit))
-              (now (constraints .exit)));
-          scratch = now (scratch .exit);
-        }) ⌝ }
+    ensures { λ r. ⌜ Reads read2007 file inputs latches outputs gates resets bads constraints scratch answer r ⌝ }
 {
     let tail = read::read(
         Version::V2007,
@@ -129,12 +102,7 @@ pub extern "C" fn golvanzo_check(
     scratch: &mut [u32],
     answer: &mut [u64; 2],
 )
-    ensures { λ _. ⌜ Says check
-        (givenAt (countsFrom (now (counts .entry)))
-        (seven (now (inputs .entry)) (now (latches .entry)) (now (outputs .entry)) (now (gates .entry)) (now (resets .entry)) (now (bads .entry))
-        (now (constraints .entry)))
-        (now (scratch .entry)))
-        (record { answer = now (answer .exit); scratch = now (scratch .exit) }) ⌝ }
+    ensures { λ _. ⌜ Checks check counts inputs latches outputs gates resets bads constraints scratch answer ⌝ }
 {
     let n = numbers::counts(counts);
     let r = judge::check(
@@ -167,16 +135,7 @@ pub extern "C" fn golvanzo_write_text(
     out: &mut [u8],
     answer: &mut [u64; 3],
 )
-    ensures { λ _. ⌜ Says writeText
-        (record {
-          circuit = givenAt (countsFrom (now (counts .entry)))
-              (seven (now (inputs .entry)) (now (latches .entry)) (now (outputs .entry)) (now (gates .entry)) (now (resets .entry)) (now (bads .entry))
-              (now (constraints .entry)))
-              (now (scratch .entry));
-          tail = now (tail .entry);
-          out = now (out .entry);
-        })
-        (record { answer = now (answer .exit); scratch = now (scratch .exit); out = now (out .exit) }) ⌝ }
+    ensures { λ _. ⌜ Writes writeText counts inputs latches outputs gates resets bads constraints scratch tail out answer ⌝ }
 {
     let n = numbers::counts(counts);
     let r = write::write_text(
@@ -211,16 +170,7 @@ pub extern "C" fn golvanzo_write_binary(
     out: &mut [u8],
     answer: &mut [u64; 3],
 )
-    ensures { λ _. ⌜ Says writeBinary
-        (record {
-          circuit = givenAt (countsFrom (now (counts .entry)))
-              (seven (now (inputs .entry)) (now (latches .entry)) (now (outputs .entry)) (now (gates .entry)) (now (resets .entry)) (now (bads .entry))
-              (now (constraints .entry)))
-              (now (scratch .entry));
-          tail = now (tail .entry);
-          out = now (out .entry);
-        })
-        (record { answer = now (answer .exit); scratch = now (scratch .exit); out = now (out .exit) }) ⌝ }
+    ensures { λ _. ⌜ Writes writeBinary counts inputs latches outputs gates resets bads constraints scratch tail out answer ⌝ }
 {
     let n = numbers::counts(counts);
     let r = write::write_binary(
@@ -272,19 +222,7 @@ pub extern "C" fn golvanzo_read_cards(
     scratch: &mut [u32],
     answer: &mut [u64; 9],
 )
-    ensures { λ _. ⌜ Says readCards
-        (record {
-          file = now (file .entry);
-          tables = (seven (now (inputs .entry)) (now (latches .entry)) (now (outputs .entry)) (now (gates .entry)) (now (resets .entry)) (now (bads .entry))
-              (now (constraints .entry)));
-          scratch = now (scratch .entry);
-        })
-        (record {
-          answer = now (answer .exit);
-          tables = (seven (now (inputs .exit)) (now (latches .exit)) (now (outputs .exit)) (now (gates .exit)) (now (resets .exit)) (now (bads .exit))
-              (now (constraints .exit)));
-          scratch = now (scratch .exit);
-        }) ⌝ }
+    ensures { λ _. ⌜ Loads readCards file inputs latches outputs gates resets bads constraints scratch answer ⌝ }
 {
     let r = reading::read_cards(
         file,
@@ -316,16 +254,7 @@ pub extern "C" fn golvanzo_write_cards(
     out: &mut [u8],
     answer: &mut [u64; 3],
 )
-    ensures { λ _. ⌜ Says writeCards
-        (record {
-          circuit = givenAt (countsFrom (now (counts .entry)))
-              (seven (now (inputs .entry)) (now (latches .entry)) (now (outputs .entry)) (now (gates .entry)) (now (resets .entry)) (now (bads .entry))
-              (now (constraints .entry)))
-              (now (scratch .entry));
-          tail = now (tail .entry);
-          out = now (out .entry);
-        })
-        (record { answer = now (answer .exit); scratch = now (scratch .exit); out = now (out .exit) }) ⌝ }
+    ensures { λ _. ⌜ Writes writeCards counts inputs latches outputs gates resets bads constraints scratch tail out answer ⌝ }
 {
     let n = numbers::counts(counts);
     let r = writing::write_cards(
@@ -365,21 +294,8 @@ pub extern "C" fn golvanzo_convert(
     scratch: &mut [u32],
     answer: &mut [u64; 9],
 )
-    ensures { λ _. ⌜ Says conversion
-        (record {
-          circuit = givenAt (countsFrom (now (counts .entry)))
-              (seven (now (inputs .entry)) (now (latches .entry)) (now (outputs .entry)) (now (gates .entry)) (now (resets .entry)) (now (bads .entry))
-              (now (constraints .entry)))
-              (now (scratch .entry));
-          written = (seven (now («to_inputs» .entry)) (now («to_latches» .entry)) (now («to_outputs» .entry)) (now («to_gates» .entry))
-              (now («to_resets» .entry)) (now («to_bads» .entry)) (now («to_constraints» .entry)));
-        })
-        (record {
-          answer = now (answer .exit);
-          written = (seven (now («to_inputs» .exit)) (now («to_latches» .exit)) (now («to_outputs» .exit)) (now («to_gates» .exit)) (now («to_resets» .exit))
-              (now («to_bads» .exit)) (now («to_constraints» .exit)));
-          scratch = now (scratch .exit);
-        }) ⌝ }
+    ensures { λ _. ⌜ Makes conversion counts inputs latches outputs gates resets bads constraints «to_inputs» «to_latches» «to_outputs»
+        «to_gates» «to_resets» «to_bads» «to_constraints» scratch answer ⌝ }
 {
     let n = numbers::counts(counts);
     let r = convert::convert(
@@ -424,21 +340,8 @@ pub extern "C" fn golvanzo_reduce(
     scratch: &mut [u32],
     answer: &mut [u64; 9],
 )
-    ensures { λ _. ⌜ Says reduction
-        (record {
-          circuit = givenAt (countsFrom (now (counts .entry)))
-              (seven (now (inputs .entry)) (now (latches .entry)) (now (outputs .entry)) (now (gates .entry)) (now (resets .entry)) (now (bads .entry))
-              (now (constraints .entry)))
-              (now (scratch .entry));
-          written = (seven (now («to_inputs» .entry)) (now («to_latches» .entry)) (now («to_outputs» .entry)) (now («to_gates» .entry))
-              (now («to_resets» .entry)) (now («to_bads» .entry)) (now («to_constraints» .entry)));
-        })
-        (record {
-          answer = now (answer .exit);
-          written = (seven (now («to_inputs» .exit)) (now («to_latches» .exit)) (now («to_outputs» .exit)) (now («to_gates» .exit)) (now («to_resets» .exit))
-              (now («to_bads» .exit)) (now («to_constraints» .exit)));
-          scratch = now (scratch .exit);
-        }) ⌝ }
+    ensures { λ _. ⌜ Makes reduction counts inputs latches outputs gates resets bads constraints «to_inputs» «to_latches» «to_outputs»
+        «to_gates» «to_resets» «to_bads» «to_constraints» scratch answer ⌝ }
 {
     let n = numbers::counts(counts);
     let r = reduce::reduce(
@@ -483,21 +386,8 @@ pub extern "C" fn golvanzo_drop(
     scratch: &mut [u32],
     answer: &mut [u64; 9],
 )
-    ensures { λ _. ⌜ Says dropping
-        (record {
-          circuit = givenAt (countsFrom (now (counts .entry)))
-              (seven (now (inputs .entry)) (now (latches .entry)) (now (outputs .entry)) (now (gates .entry)) (now (resets .entry)) (now (bads .entry))
-              (now (constraints .entry)))
-              (now (scratch .entry));
-          written = (seven (now («to_inputs» .entry)) (now («to_latches» .entry)) (now («to_outputs» .entry)) (now («to_gates» .entry))
-              (now («to_resets» .entry)) (now («to_bads» .entry)) (now («to_constraints» .entry)));
-        })
-        (record {
-          answer = now (answer .exit);
-          written = (seven (now («to_inputs» .exit)) (now («to_latches» .exit)) (now («to_outputs» .exit)) (now («to_gates» .exit)) (now («to_resets» .exit))
-              (now («to_bads» .exit)) (now («to_constraints» .exit)));
-          scratch = now (scratch .exit);
-        }) ⌝ }
+    ensures { λ _. ⌜ Makes dropping counts inputs latches outputs gates resets bads constraints «to_inputs» «to_latches» «to_outputs»
+        «to_gates» «to_resets» «to_bads» «to_constraints» scratch answer ⌝ }
 {
     let n = numbers::counts(counts);
     let r = drop::drop_unused(
@@ -538,17 +428,7 @@ pub extern "C" fn golvanzo_step(
     outs: &mut [u8],
     answer: &mut [u64; 2],
 )
-    ensures { λ _. ⌜ Says step
-        (record {
-          circuit = givenAt (countsFrom (now (counts .entry)))
-              (seven (now (inputs .entry)) (now (latches .entry)) (now (outputs .entry)) (now (gates .entry)) (now (resets .entry)) (now (bads .entry))
-              (now (constraints .entry)))
-              (now (scratch .entry));
-          state = now (state .entry);
-          inputs = now (ins .entry);
-          outputs = now (outs .entry);
-        })
-        (record { answer = now (answer .exit); scratch = now (scratch .exit); state = now (state .exit); outputs = now (outs .exit) }) ⌝ }
+    ensures { λ _. ⌜ Steps step counts inputs latches outputs gates resets bads constraints scratch state ins outs answer ⌝ }
 {
     let n = numbers::counts(counts);
     let r = step::step(
@@ -585,17 +465,7 @@ pub extern "C" fn golvanzo_step_plain(
     outs: &mut [u8],
     answer: &mut [u64; 2],
 )
-    ensures { λ _. ⌜ Says stepPlain
-        (record {
-          circuit = givenAt (countsFrom (now (counts .entry)))
-              (seven (now (inputs .entry)) (now (latches .entry)) (now (outputs .entry)) (now (gates .entry)) (now (resets .entry)) (now (bads .entry))
-              (now (constraints .entry)))
-              (now (scratch .entry));
-          state = now (state .entry);
-          inputs = now (ins .entry);
-          outputs = now (outs .entry);
-        })
-        (record { answer = now (answer .exit); scratch = now (scratch .exit); state = now (state .exit); outputs = now (outs .exit) }) ⌝ }
+    ensures { λ _. ⌜ Steps stepPlain counts inputs latches outputs gates resets bads constraints scratch state ins outs answer ⌝ }
 {
     let n = numbers::counts(counts);
     let r = plain::step_plain(
@@ -633,18 +503,7 @@ pub extern "C" fn golvanzo_explain(
     marks: &mut [u8],
     answer: &mut [u64; 2],
 )
-    ensures { λ _. ⌜ Says explain
-        (record {
-          circuit = givenAt (countsFrom (now (counts .entry)))
-              (seven (now (inputs .entry)) (now (latches .entry)) (now (outputs .entry)) (now (gates .entry)) (now (resets .entry)) (now (bads .entry))
-              (now (constraints .entry)))
-              (now (scratch .entry));
-          state = now (state .entry);
-          inputs = now (ins .entry);
-          output = output;
-          marks = now (marks .entry);
-        })
-        (record { answer = now (answer .exit); scratch = now (scratch .exit); marks = now (marks .exit) }) ⌝ }
+    ensures { λ _. ⌜ Blames explain counts inputs latches outputs gates resets bads constraints scratch state ins output marks answer ⌝ }
 {
     let n = numbers::counts(counts);
     let r = explain::explain(
@@ -683,19 +542,7 @@ pub extern "C" fn golvanzo_witness(
     allowance: u64,
     answer: &mut [u64; 4],
 )
-    ensures { λ _. ⌜ Says witness
-        (record {
-          list = (record {
-            circuit = givenAt (countsFrom (now (counts .entry)))
-                (seven (now (inputs .entry)) (now (latches .entry)) (now (outputs .entry)) (now (gates .entry)) (now (resets .entry)) (now (bads .entry))
-                (now (constraints .entry)))
-                (now (scratch .entry));
-            number = number;
-            bytes = now (bytes .entry);
-          });
-          allowance = allowance;
-        })
-        (record { answer = now (answer .exit); scratch = now (scratch .exit) }) ⌝ }
+    ensures { λ _. ⌜ Tries witness counts inputs latches outputs gates resets bads constraints scratch number bytes allowance answer ⌝ }
 {
     let n = numbers::counts(counts);
     let r = witness::witness(
@@ -731,16 +578,7 @@ pub extern "C" fn golvanzo_witness3(
     bytes: &[u8],
     answer: &mut [u64; 3],
 )
-    ensures { λ _. ⌜ Says witness3
-        (record {
-          circuit = givenAt (countsFrom (now (counts .entry)))
-              (seven (now (inputs .entry)) (now (latches .entry)) (now (outputs .entry)) (now (gates .entry)) (now (resets .entry)) (now (bads .entry))
-              (now (constraints .entry)))
-              (now (scratch .entry));
-          number = number;
-          bytes = now (bytes .entry);
-        })
-        (record { answer = now (answer .exit); scratch = now (scratch .exit) }) ⌝ }
+    ensures { λ _. ⌜ Asks witness3 counts inputs latches outputs gates resets bads constraints scratch number bytes answer ⌝ }
 {
     let n = numbers::counts(counts);
     let r = three::witness3(
@@ -776,17 +614,7 @@ pub extern "C" fn golvanzo_report(
     six: &mut [u32],
     answer: &mut [u64; 2],
 )
-    ensures { λ _. ⌜ Says report
-        (record {
-          circuit = givenAt (countsFrom (now (counts .entry)))
-              (seven (now (inputs .entry)) (now (latches .entry)) (now (outputs .entry)) (now (gates .entry)) (now (resets .entry)) (now (bads .entry))
-              (now (constraints .entry)))
-              (now (scratch .entry));
-          number = number;
-          bytes = now (bytes .entry);
-          six = now (six .entry);
-        })
-        (record { answer = now (answer .exit); scratch = now (scratch .exit); six = now (six .exit) }) ⌝ }
+    ensures { λ _. ⌜ Reports report counts inputs latches outputs gates resets bads constraints scratch number bytes six answer ⌝ }
 {
     let n = numbers::counts(counts);
     let r = report::report(
@@ -824,18 +652,7 @@ pub extern "C" fn golvanzo_rows(
     outs: &mut [u8],
     answer: &mut [u64; 2],
 )
-    ensures { λ _. ⌜ Says stepRows
-        (record {
-          circuit = givenAt (countsFrom (now (counts .entry)))
-              (seven (now (inputs .entry)) (now (latches .entry)) (now (outputs .entry)) (now (gates .entry)) (now (resets .entry)) (now (bads .entry))
-              (now (constraints .entry)))
-              (now (scratch .entry));
-          rows = rows;
-          nexts = now (nexts .entry);
-          inputs = now (ins .entry);
-          outputs = now (outs .entry);
-        })
-        (record { answer = now (answer .exit); scratch = now (scratch .exit); nexts = now (nexts .exit); outputs = now (outs .exit) }) ⌝ }
+    ensures { λ _. ⌜ StepsRows stepRows counts inputs latches outputs gates resets bads constraints scratch rows nexts ins outs answer ⌝ }
 {
     let n = numbers::counts(counts);
     let r = rows::step_rows(
@@ -873,17 +690,7 @@ pub extern "C" fn golvanzo_report_rows(
     report: &mut [u32],
     answer: &mut [u64; 2],
 )
-    ensures { λ _. ⌜ Says reportRows
-        (record {
-          circuit = givenAt (countsFrom (now (counts .entry)))
-              (seven (now (inputs .entry)) (now (latches .entry)) (now (outputs .entry)) (now (gates .entry)) (now (resets .entry)) (now (bads .entry))
-              (now (constraints .entry)))
-              (now (scratch .entry));
-          rows = rows;
-          inputs = now (ins .entry);
-          report = now (report .entry);
-        })
-        (record { answer = now (answer .exit); scratch = now (scratch .exit); report = now (report .exit) }) ⌝ }
+    ensures { λ _. ⌜ ReportsRows reportRows counts inputs latches outputs gates resets bads constraints scratch rows ins report answer ⌝ }
 {
     let n = numbers::counts(counts);
     let r = rows::report_rows(
@@ -921,18 +728,7 @@ pub extern "C" fn golvanzo_rewire(
     values: &mut [u8],
     answer: &mut [u64; 2],
 )
-    ensures { λ _. ⌜ Says rewiring
-        (record {
-          circuit = givenAt (countsFrom (now (counts .entry)))
-              (seven (now (inputs .entry)) (now (latches .entry)) (now (outputs .entry)) (now (gates .entry)) (now (resets .entry)) (now (bads .entry))
-              (now (constraints .entry)))
-              (now (scratch .entry));
-          gate = gate;
-          rhs0 = rhs0;
-          rhs1 = rhs1;
-          values = now (values .entry);
-        })
-        (record { answer = now (answer .exit); gates = now (gates .exit); scratch = now (scratch .exit); values = now (values .exit) }) ⌝ }
+    ensures { λ _. ⌜ Rewires rewiring counts inputs latches outputs gates resets bads constraints scratch gate rhs0 rhs1 values answer ⌝ }
 {
     let n = numbers::counts(counts);
     let r = rewire::rewire(

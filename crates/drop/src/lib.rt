@@ -4,15 +4,13 @@ ghost use mathlib.Core.List.{List, [], _∷_, _++_};
 ghost use Prim.Native.Nat.{ℕ, _+_, _*_, _<_, _≤_};
 ghost use lib.ListN.{length};
 ghost use Rattle.plan.specs.Literals.{varOf, wordOf};
-ghost use Rattle.plan.specs.Circuit.{seven};
-ghost use Rattle.plan.specs.Outcome.{Says};
 ghost use Rattle.plan.specs.Walk.{walk};
 ghost use Rattle.plan.specs.Drop.{sidesOf, dropping};
 ghost use Rattle.laws.proofs.Tables.{gateAt, gatesAt};
-ghost use Rattle.judge.specs.Judged.{givenAt};
 ghost use Rattle.drop.specs.Marks.{Marked, Below};
 ghost use Rattle.drop.specs.Retained.{Roomy, Stepped, Retainable, Done};
 ghost use Rattle.drop.specs.Reached.{column, reachedIn, Marking, Reachable};
+ghost use Rattle.plan.specs.Lent.{Makes};
 use judge::check_to_make;
 use lines::gates::run_on;
 use plan::Checked;
@@ -167,19 +165,8 @@ pub fn drop_unused(
     to_constraints: &mut [u32],
     scratch: &mut [u32],
 ) -> Made
-    ensures { λ r. ⌜ Says dropping
-        (record {
-          circuit = givenAt n (seven (now (inputs .entry)) (now (latches .entry)) (now (outputs .entry)) (now (gates .entry))
-              (now (resets .entry)) (now (bads .entry)) (now (constraints .entry))) (now (scratch .entry));
-          written = seven (now («to_inputs» .entry)) (now («to_latches» .entry)) (now («to_outputs» .entry)) (now («to_gates» .entry))
-              (now («to_resets» .entry)) (now («to_bads» .entry)) (now («to_constraints» .entry));
-        })
-        (record {
-          answer = r;
-          written = seven (now («to_inputs» .exit)) (now («to_latches» .exit)) (now («to_outputs» .exit)) (now («to_gates» .exit))
-              (now («to_resets» .exit)) (now («to_bads» .exit)) (now («to_constraints» .exit));
-          scratch = now (scratch .exit);
-        }) ⌝ }
+    ensures { λ r. ⌜ Makes dropping n inputs latches outputs gates resets bads constraints «to_inputs» «to_latches» «to_outputs» «to_gates»
+        «to_resets» «to_bads» «to_constraints» scratch r ⌝ }
 {
     clear_all(
         to_inputs,

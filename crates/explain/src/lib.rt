@@ -4,9 +4,9 @@ ghost use mathlib.Core.List.{List, [], _∷_, map};
 ghost use Prim.Native.Nat.{ℕ, _+_, _*_, _<_, _≤_};
 ghost use lib.ListN.{length, getD};
 ghost use Rattle.plan.specs.Literals.{varOf, wordOf};
-ghost use Rattle.plan.specs.Circuit.{Tables, circuitOf, seven};
+ghost use Rattle.plan.specs.Circuit.{Tables, circuitOf};
 ghost use Rattle.plan.specs.Step.{Value, codeOf, valueOf, lit};
-ghost use Rattle.plan.specs.Outcome.{Says, put};
+ghost use Rattle.plan.specs.Outcome.{put};
 ghost use Rattle.plan.specs.Walk.{walk};
 ghost use Rattle.laws.proofs.Tables.{gateAt, gatesAt};
 ghost use Rattle.plan.specs.Explain.{blames, marksFor, explain};
@@ -17,6 +17,7 @@ ghost use Rattle.step.specs.sweep.Running.{these, Runs};
 ghost use Rattle.step.specs.Asked.{Room};
 ghost use Rattle.explain.specs.Known.{Space, sideAt, Known};
 ghost use Rattle.explain.specs.Asked.{Settled, Vectors, Asked, Explains};
+ghost use Rattle.plan.specs.Lent.{Blames};
 use judge::judge_in_order;
 use plan::Checked;
 use plan::Counts;
@@ -217,16 +218,7 @@ pub fn explain(
     output: usize,
     marks: &mut [u8],
 ) -> Stepped
-    ensures { λ r. ⌜ Says explain
-        (record {
-          circuit = givenAt n (seven (now (inputs .entry)) (now (latches .entry)) (now (outputs .entry)) (now (gates .entry))
-              (now (resets .entry)) (now (bads .entry)) (now (constraints .entry))) (now (scratch .entry));
-          state = now (state .entry);
-          inputs = now (ins .entry);
-          output = output;
-          marks = now (marks .entry);
-        })
-        (record { answer = r; scratch = now (scratch .exit); marks = now (marks .exit) }) ⌝ }
+    ensures { λ r. ⌜ Blames explain n inputs latches outputs gates resets bads constraints scratch state ins output marks r ⌝ }
 {
     match judge_in_order(
         n,

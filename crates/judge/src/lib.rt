@@ -10,12 +10,13 @@ ghost use Rattle.plan.specs.Circuit.{Tables, seven, cleared};
 ghost use Rattle.plan.specs.Binary.{binaryOrder};
 ghost use Rattle.plan.specs.Header.{listOf, over, text, adds};
 ghost use Rattle.plan.specs.Given.{counted, lentWith};
-ghost use Rattle.plan.specs.Outcome.{Says, check, checkInOrder, checkBy, checkedBy, CheckExit};
+ghost use Rattle.plan.specs.Outcome.{check, checkInOrder, checkBy, checkedBy, CheckExit};
 ghost use Rattle.tables.specs.Lengths.{tableOf, lengthsIn, sizesOf};
 ghost use Rattle.tables.specs.Held.{circuitIn, Fits, Scratch};
 ghost use Rattle.judge.specs.binary_order.Tables.{Long};
 ghost use Rattle.judge.specs.at_end.Leaves.{AllNumbered};
 ghost use Rattle.judge.specs.Judged.{givenAt, lentStages, allStages, circuitStages, lentShorter, unordered};
+ghost use Rattle.plan.specs.Lent.{Checks};
 use crate::binary_order::in_binary_order;
 use crate::ranges::out_of_range;
 use crate::twice::defined_twice;
@@ -325,10 +326,7 @@ pub fn check(
     constraints: &[u32],
     scratch: &mut [u32],
 ) -> Checked
-    ensures { λ r. ⌜ Says check
-        (givenAt n (seven (now (inputs .entry)) (now (latches .entry)) (now (outputs .entry)) (now (gates .entry))
-        (now (resets .entry)) (now (bads .entry)) (now (constraints .entry))) (now (scratch .entry)))
-        (record { answer = r; scratch = now (scratch .exit) }) ⌝ }
+    ensures { λ r. ⌜ Checks check n inputs latches outputs gates resets bads constraints scratch r ⌝ }
 {
     let own = lengths(inputs, latches, outputs, gates, resets, bads, constraints);
     check_to_make(
@@ -358,10 +356,7 @@ pub fn check_in_order(
     constraints: &[u32],
     scratch: &mut [u32],
 ) -> Checked
-    ensures { λ r. ⌜ Says checkInOrder
-        (givenAt n (seven (now (inputs .entry)) (now (latches .entry)) (now (outputs .entry)) (now (gates .entry))
-        (now (resets .entry)) (now (bads .entry)) (now (constraints .entry))) (now (scratch .entry)))
-        (record { answer = r; scratch = now (scratch .exit) }) ⌝ }
+    ensures { λ r. ⌜ Checks checkInOrder n inputs latches outputs gates resets bads constraints scratch r ⌝ }
 {
     let own = lengths(inputs, latches, outputs, gates, resets, bads, constraints);
     check_to_make(

@@ -6,13 +6,14 @@ ghost use mathlib.Core.Bool.{true};
 ghost use Prim.Native.Nat.{_≤_};
 ghost use lib.ListN.{length, take};
 ghost use Rattle.plan.specs.Literals.{indexOf, varOf, wordOf};
-ghost use Rattle.plan.specs.Circuit.{Tables, circuitOf, seven};
+ghost use Rattle.plan.specs.Circuit.{Tables, circuitOf};
 ghost use Rattle.plan.specs.Step.{codeOf, valueOf, inv, and, lit};
-ghost use Rattle.plan.specs.Outcome.{Says, allCodes, put};
+ghost use Rattle.plan.specs.Outcome.{allCodes, put};
 ghost use Rattle.step.specs.sweep.Running.{these, Runs};
 ghost use Rattle.step.specs.Asked.{Room, Vectors, Leaves};
 ghost use Rattle.plan.specs.Plain.{plainStep};
 ghost use Rattle.plain.specs.Asked.{variableIn, Teaches, Outs, Nexts, Bytes, outputCodes, nextCodes};
+ghost use Rattle.plan.specs.Lent.{Steps};
 use judge::judge_in_order;
 use plan::Checked;
 use plan::Counts;
@@ -180,19 +181,7 @@ pub fn step_plain(
     ins: &[u8],
     outs: &mut [u8],
 ) -> Stepped
-    ensures { λ r. ⌜ Says plainStep
-        (record {
-          circuit = (record {
-            counts = n;
-            tables = seven (now (inputs .entry)) (now (latches .entry)) (now (outputs .entry)) (now (gates .entry)) (now (resets .entry))
-                (now (bads .entry)) (now (constraints .entry));
-            scratch = now (scratch .entry);
-          });
-          state = now (state .entry);
-          inputs = now (ins .entry);
-          outputs = now (outs .entry);
-        })
-        (record { answer = r; scratch = now (scratch .exit); state = now (state .exit); outputs = now (outs .exit) }) ⌝ }
+    ensures { λ r. ⌜ Steps plainStep n inputs latches outputs gates resets bads constraints scratch state ins outs r ⌝ }
 {
     match judge_in_order(
         n,

@@ -28,3 +28,4 @@ pub mod Explain
 pub mod Plain
 pub mod Rewire
 pub mod Cards
+pub mod Lent

@@ -9,6 +9,7 @@ ghost use Rattle.plan.specs.Reading.{readFile};
 ghost use Rattle.plan.specs.Outcome.{Says, loadAs, readAs, formOf};
 ghost use Rattle.laws.proofs.Held.{BodySays};
 ghost use Rattle.read.specs.body.Rest.{rest, Room, LoadedSays};
+ghost use Rattle.plan.specs.Lent.{Loads};
 use crate::body::rest_of_binary;
 use crate::body::rest_of_text;
 use answers::numbers::no_counts;
@@ -154,19 +155,7 @@ pub fn load(
     constraints: &mut [u32],
     scratch: &mut [u32],
 ) -> Loaded
-    ensures { λ r. ⌜ Says (loadAs version)
-        (record {
-          file = now (file .entry);
-          tables = (seven (now (inputs .entry)) (now (latches .entry)) (now (outputs .entry)) (now (gates .entry))
-              (now (resets .entry)) (now (bads .entry)) (now (constraints .entry)));
-          scratch = now (scratch .entry);
-        })
-        (record {
-          answer = r;
-          tables = (seven (now (inputs .exit)) (now (latches .exit)) (now (outputs .exit)) (now (gates .exit))
-              (now (resets .exit)) (now (bads .exit)) (now (constraints .exit)));
-          scratch = now (scratch .exit);
-        }) ⌝ }
+    ensures { λ r. ⌜ Loads (loadAs version) file inputs latches outputs gates resets bads constraints scratch r ⌝ }
 {
     clear_all(inputs, latches, outputs, gates, resets, bads, constraints);
     clear(scratch);

@@ -1,9 +1,8 @@
 // Reduction: folds gates in order, and writes what is left of the circuit into tables lent for writing (the paper, reduction).
 ghost use mathlib.Core.Path.{_≡_};
-ghost use Rattle.plan.specs.Circuit.{seven};
-ghost use Rattle.plan.specs.Outcome.{Says, reduction};
-ghost use Rattle.judge.specs.Judged.{givenAt};
+ghost use Rattle.plan.specs.Outcome.{reduction};
 ghost use Rattle.reduce.specs.Becoming.{Replaceable, replaced};
+ghost use Rattle.plan.specs.Lent.{Makes};
 use crate::folding::becomes;
 use crate::folding::fold_gates;
 use judge::check_to_make;
@@ -76,19 +75,8 @@ pub fn reduce(
     to_constraints: &mut [u32],
     scratch: &mut [u32],
 ) -> Made
-    ensures { λ r. ⌜ Says reduction
-        (record {
-          circuit = givenAt n (seven (now (inputs .entry)) (now (latches .entry)) (now (outputs .entry)) (now (gates .entry))
-              (now (resets .entry)) (now (bads .entry)) (now (constraints .entry))) (now (scratch .entry));
-          written = seven (now («to_inputs» .entry)) (now («to_latches» .entry)) (now («to_outputs» .entry)) (now («to_gates» .entry))
-              (now («to_resets» .entry)) (now («to_bads» .entry)) (now («to_constraints» .entry));
-        })
-        (record {
-          answer = r;
-          written = seven (now («to_inputs» .exit)) (now («to_latches» .exit)) (now («to_outputs» .exit)) (now («to_gates» .exit))
-              (now («to_resets» .exit)) (now («to_bads» .exit)) (now («to_constraints» .exit));
-          scratch = now (scratch .exit);
-        }) ⌝ }
+    ensures { λ r. ⌜ Makes reduction n inputs latches outputs gates resets bads constraints «to_inputs» «to_latches» «to_outputs» «to_gates»
+        «to_resets» «to_bads» «to_constraints» scratch r ⌝ }
 {
     clear_all(
         to_inputs,

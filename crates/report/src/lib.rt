@@ -8,10 +8,11 @@ ghost use lib.ListN.{length};
 ghost use Rattle.plan.specs.Refusals.{firstOf};
 ghost use Rattle.plan.specs.Circuit.{Tables, circuitOf, seven, cleared};
 ghost use Rattle.plan.specs.Step.{Value, valueOf, Step, run, vectorsOf};
-ghost use Rattle.plan.specs.Outcome.{Says, checkedBy};
+ghost use Rattle.plan.specs.Outcome.{checkedBy};
 ghost use Rattle.step.specs.sweep.Running.{these, Runs, Rests};
 ghost use Rattle.plan.specs.Report.{reportOf, reportStages, report};
 ghost use Rattle.report.specs.Tallying.{tally, Turns, Turned, Tallies, Fills};
+ghost use Rattle.plan.specs.Lent.{Reports};
 use crate::needles::count_all;
 use crate::needles::finish;
 use judge::check_in_order;
@@ -199,19 +200,7 @@ pub fn report(
     bytes: &[u8],
     six: &mut [u32],
 ) -> Stepped
-    ensures { λ r. ⌜ Says report
-        (record {
-          circuit = (record {
-            counts = n;
-            tables = seven (now (inputs .entry)) (now (latches .entry)) (now (outputs .entry)) (now (gates .entry)) (now (resets .entry))
-                (now (bads .entry)) (now (constraints .entry));
-            scratch = now (scratch .entry);
-          });
-          number = number;
-          bytes = now (bytes .entry);
-          six = now (six .entry);
-        })
-        (record { answer = r; scratch = now (scratch .exit); six = now (six .exit) }) ⌝ }
+    ensures { λ r. ⌜ Reports report n inputs latches outputs gates resets bads constraints scratch number bytes six r ⌝ }
 {
     blank(six);
     match judge(

@@ -7,13 +7,12 @@ ghost use lib.ListN.{length, getD};
 ghost use Rattle.plan.specs.declared.Refusal.the-variants.{WrongValue};
 ghost use Rattle.plan.specs.Literals.{varOf, signOf, wordOf};
 ghost use Rattle.plan.specs.Refusals.{stage, firstOf};
-ghost use Rattle.plan.specs.Circuit.{seven};
 ghost use Rattle.plan.specs.Step.{Value, codeOf, and, signedValue, lit};
-ghost use Rattle.plan.specs.Outcome.{Says, put, checkedBy};
+ghost use Rattle.plan.specs.Outcome.{put, checkedBy};
 ghost use Rattle.laws.proofs.Tables.{gateAt, gatesAt};
 ghost use Rattle.plan.specs.Rewire.{valueOn, wrongFrom, editStages, rewiring};
-ghost use Rattle.judge.specs.Judged.{givenAt};
 ghost use Rattle.rewire.specs.Shown.{Shows, Follows, Row, Ordered, Counted};
+ghost use Rattle.plan.specs.Lent.{Rewires};
 use judge::check_in_order;
 use plan::Checked;
 use plan::Counts;
@@ -179,16 +178,7 @@ pub fn rewire(
     rhs1: u32,
     values: &mut [u8],
 ) -> Stepped
-    ensures { λ r. ⌜ Says rewiring
-        (record {
-          circuit = givenAt n (seven (now (inputs .entry)) (now (latches .entry)) (now (outputs .entry)) (now (gates .entry))
-              (now (resets .entry)) (now (bads .entry)) (now (constraints .entry))) (now (scratch .entry));
-          gate = gate;
-          rhs0 = rhs0;
-          rhs1 = rhs1;
-          values = now (values .entry);
-        })
-        (record { answer = r; gates = now (gates .exit); scratch = now (scratch .exit); values = now (values .exit) }) ⌝ }
+    ensures { λ r. ⌜ Rewires rewiring n inputs latches outputs gates resets bads constraints scratch gate rhs0 rhs1 values r ⌝ }
 {
     match check_in_order(
         n,

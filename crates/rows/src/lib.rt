@@ -7,14 +7,15 @@ ghost use lib.Dec.{eqb};
 ghost use lib.ListN.{length};
 ghost use Rattle.plan.specs.declared.Stepped.the-variants.{Refused};
 ghost use Rattle.plan.specs.Literals.{most};
-ghost use Rattle.plan.specs.Circuit.{Tables, circuitOf, seven, filled, cleared};
+ghost use Rattle.plan.specs.Circuit.{Tables, circuitOf, filled, cleared};
 ghost use Rattle.plan.specs.Step.{isCode};
-ghost use Rattle.plan.specs.Outcome.{Says, allCodes};
+ghost use Rattle.plan.specs.Outcome.{allCodes};
 ghost use Rattle.tables.specs.Lengths.{tableOf};
 ghost use Rattle.step.specs.sweep.Running.{Runs};
 ghost use Rattle.plan.specs.Rows.{stepRows, rowSteps, rowReport, reportRows};
 ghost use Rattle.rows.specs.lanes.Working.{these};
 ghost use Rattle.rows.specs.Asked.{badRows, Room, Lists, Leaves, Reports};
+ghost use Rattle.plan.specs.Lent.{StepsRows, ReportsRows};
 use crate::lanes::count_rows;
 use crate::lanes::step_lanes;
 use crate::lanes::store_rows;
@@ -123,20 +124,7 @@ pub fn step_rows(
     ins: &[u8],
     outs: &mut [u8],
 ) -> Stepped
-    ensures { λ r. ⌜ Says stepRows
-        (record {
-          circuit = (record {
-            counts = n;
-            tables = seven (now (inputs .entry)) (now (latches .entry)) (now (outputs .entry)) (now (gates .entry)) (now (resets .entry))
-                (now (bads .entry)) (now (constraints .entry));
-            scratch = now (scratch .entry);
-          });
-          rows = rows;
-          nexts = now (nexts .entry);
-          inputs = now (ins .entry);
-          outputs = now (outs .entry);
-        })
-        (record { answer = r; scratch = now (scratch .exit); nexts = now (nexts .exit); outputs = now (outs .exit) }) ⌝ }
+    ensures { λ r. ⌜ StepsRows stepRows n inputs latches outputs gates resets bads constraints scratch rows nexts ins outs r ⌝ }
 {
     match judge_in_order(
         n,
@@ -225,19 +213,7 @@ pub fn report_rows(
     ins: &[u8],
     report: &mut [u32],
 ) -> Stepped
-    ensures { λ r. ⌜ Says reportRows
-        (record {
-          circuit = (record {
-            counts = n;
-            tables = seven (now (inputs .entry)) (now (latches .entry)) (now (outputs .entry)) (now (gates .entry)) (now (resets .entry))
-                (now (bads .entry)) (now (constraints .entry));
-            scratch = now (scratch .entry);
-          });
-          rows = rows;
-          inputs = now (ins .entry);
-          report = now (report .entry);
-        })
-        (record { answer = r; scratch = now (scratch .exit); report = now (report .exit) }) ⌝ }
+    ensures { λ r. ⌜ ReportsRows reportRows n inputs latches outputs gates resets bads constraints scratch rows ins report r ⌝ }
 {
     let short = report.len() / 3 < n.O;
     let answer = judge_in_order(

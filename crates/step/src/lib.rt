@@ -1,8 +1,9 @@
 // A step in three values, from vectors of bytes into vectors of bytes (the paper, stepping).
-ghost use Rattle.plan.specs.Circuit.{Tables, circuitOf, seven};
-ghost use Rattle.plan.specs.Outcome.{Says, step};
+ghost use Rattle.plan.specs.Circuit.{Tables, circuitOf};
+ghost use Rattle.plan.specs.Outcome.{step};
 ghost use Rattle.step.specs.sweep.Running.{these, Runs};
 ghost use Rattle.step.specs.Asked.{Room, Vectors, Leaves};
+ghost use Rattle.plan.specs.Lent.{Steps};
 use crate::codes::bad_vector;
 use crate::sweep::step_values;
 use crate::values::MAY0;
@@ -61,19 +62,7 @@ pub fn step(
     ins: &[u8],
     outs: &mut [u8],
 ) -> Stepped
-    ensures { λ r. ⌜ Says step
-        (record {
-          circuit = (record {
-            counts = n;
-            tables = seven (now (inputs .entry)) (now (latches .entry)) (now (outputs .entry)) (now (gates .entry)) (now (resets .entry))
-                (now (bads .entry)) (now (constraints .entry));
-            scratch = now (scratch .entry);
-          });
-          state = now (state .entry);
-          inputs = now (ins .entry);
-          outputs = now (outs .entry);
-        })
-        (record { answer = r; scratch = now (scratch .exit); state = now (state .exit); outputs = now (outs .exit) }) ⌝ }
+    ensures { λ r. ⌜ Steps step n inputs latches outputs gates resets bads constraints scratch state ins outs r ⌝ }
 {
     match judge_in_order(
         n,

@@ -6,13 +6,14 @@ ghost use Prim.Native.Nat.{ℕ, _+_, _*_, _≤_, _<_};
 ghost use lib.ListN.{length};
 ghost use Rattle.plan.specs.Circuit.{circuitOf, seven};
 ghost use Rattle.plan.specs.Step.{Value, codeOf, valueOf, resetValue};
-ghost use Rattle.plan.specs.Outcome.{Says, put};
+ghost use Rattle.plan.specs.Outcome.{put};
 ghost use Rattle.step.specs.values.Words.{word, words};
 ghost use Rattle.step.specs.sweep.Running.{Runs, Rests};
 ghost use Rattle.witness.specs.three.Listing.{Starts, showsFrom};
 ghost use Rattle.plan.specs.Fillings.{isX, xOf, xCount, bitOf, fillFrom, filling, filledShows, question, witness};
 ghost use Rattle.laws.specs.Fillings.Reaching.{Reaches};
 ghost use Rattle.witness.specs.Asked.{codesOf, Loads, Begins, Holds};
+ghost use Rattle.plan.specs.Lent.{Tries};
 use crate::three::shown;
 use judge::check_in_order;
 use plan::Checked;
@@ -335,21 +336,7 @@ pub fn witness(
     bytes: &[u8],
     allowance: usize,
 ) -> Finding
-    ensures { λ r. ⌜ Says witness
-        (record {
-          list = (record {
-            circuit = (record {
-              counts = n;
-              tables = seven (now (inputs .entry)) (now (latches .entry)) (now (outputs .entry)) (now (gates .entry)) (now (resets .entry))
-                  (now (bads .entry)) (now (constraints .entry));
-              scratch = now (scratch .entry);
-            });
-            number = number;
-            bytes = now (bytes .entry);
-          });
-          allowance = allowance;
-        })
-        (record { answer = r; scratch = now (scratch .exit) }) ⌝ }
+    ensures { λ r. ⌜ Tries witness n inputs latches outputs gates resets bads constraints scratch number bytes allowance r ⌝ }
 {
     match check_in_order(
         n,

@@ -6,11 +6,12 @@ ghost use Prim.Native.Nat.{ℕ, _+_, _*_};
 ghost use lib.ListN.{length, take};
 ghost use Rattle.plan.specs.Circuit.{circuitOf, seven};
 ghost use Rattle.plan.specs.Step.{Value, any1};
-ghost use Rattle.plan.specs.Outcome.{Says, witness3};
+ghost use Rattle.plan.specs.Outcome.{witness3};
 ghost use Rattle.step.specs.values.Words.{valuesAt};
 ghost use Rattle.step.specs.sweep.Lookup.{seen};
 ghost use Rattle.step.specs.sweep.Running.{Runs, Rests, litsOf};
 ghost use Rattle.witness.specs.three.Listing.{Shown, Starts, showsFrom};
+ghost use Rattle.plan.specs.Lent.{Asks};
 use judge::check_in_order;
 use plan::Checked;
 use plan::Counts;
@@ -94,18 +95,7 @@ pub fn witness3(
     number: usize,
     bytes: &[u8],
 ) -> Verdict
-    ensures { λ r. ⌜ Says witness3
-        (record {
-          circuit = (record {
-            counts = n;
-            tables = seven (now (inputs .entry)) (now (latches .entry)) (now (outputs .entry)) (now (gates .entry)) (now (resets .entry))
-                (now (bads .entry)) (now (constraints .entry));
-            scratch = now (scratch .entry);
-          });
-          number = number;
-          bytes = now (bytes .entry);
-        })
-        (record { answer = r; scratch = now (scratch .exit) }) ⌝ }
+    ensures { λ r. ⌜ Asks witness3 n inputs latches outputs gates resets bads constraints scratch number bytes r ⌝ }
 {
     match check_in_order(
         n,

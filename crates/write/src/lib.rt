@@ -4,10 +4,11 @@ ghost use mathlib.Core.Path.{_≡_};
 ghost use mathlib.Core.List.{_++_};
 ghost use Rattle.plan.specs.Refusals.{firstOf};
 ghost use Rattle.plan.specs.Circuit.{cleared};
-ghost use Rattle.plan.specs.Outcome.{Says, putBytes, checkedBy, writeText, writeBinary};
+ghost use Rattle.plan.specs.Outcome.{putBytes, checkedBy, writeText, writeBinary};
 ghost use Rattle.tables.specs.Held.{Fits};
 ghost use Rattle.write.specs.forms.Forms.{textBytes, binaryBytes, Printable};
 ghost use Rattle.write.specs.Judged.{givenIn, tableStages, writerStages};
+ghost use Rattle.plan.specs.Lent.{Writes};
 use crate::forms::append;
 use crate::forms::binary_length;
 use crate::forms::fill_binary;
@@ -195,14 +196,7 @@ pub fn write_text(
     tail: &[u8],
     out: &mut [u8],
 ) -> Written
-    ensures { λ r. ⌜ Says writeText
-        (record {
-          circuit = givenIn n (now (inputs .entry)) (now (latches .entry)) (now (outputs .entry)) (now (gates .entry)) (now (resets .entry))
-              (now (bads .entry)) (now (constraints .entry)) (now (scratch .entry));
-          tail = now (tail .entry);
-          out = now (out .entry);
-        })
-        (record { answer = r; scratch = now (scratch .exit); out = now (out .exit) }) ⌝ }
+    ensures { λ r. ⌜ Writes writeText n inputs latches outputs gates resets bads constraints scratch tail out r ⌝ }
 {
     match judge(
         n,
@@ -248,14 +242,7 @@ pub fn write_binary(
     tail: &[u8],
     out: &mut [u8],
 ) -> Written
-    ensures { λ r. ⌜ Says writeBinary
-        (record {
-          circuit = givenIn n (now (inputs .entry)) (now (latches .entry)) (now (outputs .entry)) (now (gates .entry)) (now (resets .entry))
-              (now (bads .entry)) (now (constraints .entry)) (now (scratch .entry));
-          tail = now (tail .entry);
-          out = now (out .entry);
-        })
-        (record { answer = r; scratch = now (scratch .exit); out = now (out .exit) }) ⌝ }
+    ensures { λ r. ⌜ Writes writeBinary n inputs latches outputs gates resets bads constraints scratch tail out r ⌝ }
 {
     match judge(
         n,
