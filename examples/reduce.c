@@ -1,4 +1,4 @@
-/* A plan from C, over desk/plan.h: reads the file that is named, reduces the plan and writes it in binary form to standard
+/* A plan from C, over c/plan.h: reads the file that is named, reduces the plan and writes it in binary form to standard
    output. README.md beside it says how it is built. */
 #include <stdio.h>
 #include <stdlib.h>

@@ -70,7 +70,7 @@ build_archive() {
 build_over_desk() {
     local name=$1 source=$2
     shift 2
-    "$compiler" -std=c11 -Wall -Wextra -Werror "$@" -I desk -o "target/desk/$name" "$source" target/staticlib/libdesk.a ||
+    "$compiler" -std=c11 -Wall -Wextra -Werror "$@" -I c -o "target/desk/$name" "$source" target/staticlib/libdesk.a ||
         give_up "$source isn't built"
 }
 

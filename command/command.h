@@ -6,7 +6,7 @@
 #include <stdint.h>
 #include <stdio.h>
 
-#include "../plan.h"
+#include "../c/plan.h"
 
 /* Exit statuses. FAILED is wrong usage, or a system that can't do what is asked. */
 enum { DONE = 0, REFUSED = 1, DIFFERENT = 1, FAILED = 2 };
