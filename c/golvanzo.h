@@ -17,6 +17,48 @@
 extern "C" {
 #endif
 
+/* The refusals, by the paper's numbers; docs/REFUSALS.md says what each means and where its place points. */
+enum golvanzo_refusal {
+    GOLVANZO_NOT_REFUSED = 0,
+    GOLVANZO_WRONG_BYTE = 1,
+    GOLVANZO_LARGE_COUNT = 2,
+    GOLVANZO_WRONG_SUM = 3,
+    GOLVANZO_SHORT_TABLE = 4,
+    GOLVANZO_OUT_OF_RANGE = 5,
+    GOLVANZO_DEFINED_TWICE = 6,
+    GOLVANZO_NOT_DEFINED = 7,
+    GOLVANZO_CYCLIC = 8,
+    GOLVANZO_BAD_DIFFERENCE = 9,
+    GOLVANZO_BAD_SYMBOL = 10,
+    GOLVANZO_SHORT_BUFFER = 11,
+    GOLVANZO_BAD_VECTOR = 12,
+    GOLVANZO_LONG_INPUT = 13,
+    GOLVANZO_UNREADABLE = 14,
+    GOLVANZO_NOT_IN_ORDER = 15,
+    GOLVANZO_LONG_DIFFERENCE = 16,
+    GOLVANZO_NOT_EXPLAINED = 17,
+    GOLVANZO_WRONG_MARK = 18,
+    GOLVANZO_NOT_ON_CARDS = 19,
+    GOLVANZO_MANY_X = 20,
+    GOLVANZO_JUSTICE = 21,
+    GOLVANZO_NO_GATE = 22,
+    GOLVANZO_WRONG_VALUE = 23,
+    GOLVANZO_MANY_GATES = 24
+};
+
+/* The tables, by the paper's numbers: the question of sizes and the place of refusal 4. */
+enum golvanzo_table {
+    GOLVANZO_TABLE_INPUTS = 1,
+    GOLVANZO_TABLE_LATCHES = 2,
+    GOLVANZO_TABLE_OUTPUTS = 3,
+    GOLVANZO_TABLE_GATES = 4,
+    GOLVANZO_TABLE_SCRATCH = 5,
+    GOLVANZO_TABLE_REPORT = 6,
+    GOLVANZO_TABLE_RESETS = 7,
+    GOLVANZO_TABLE_BADS = 8,
+    GOLVANZO_TABLE_CONSTRAINTS = 9
+};
+
 /* A circuit's tables, each with its length, in the order 1 to 4, 7 to 9: inputs (I words), latches (2L, current then
    next), outputs (O), gates (3A, left side then the right sides), resets (L; 0, 1 or the latch's own literal, which
    is x), bad states (B), constraints (C). What is lent for writing is `GOLVANZO_WRITTEN`, what is only read is
