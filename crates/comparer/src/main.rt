@@ -1,5 +1,5 @@
 // Steps the circuit of plan.in, converted, from its first state on the vectors of standard input by both engines, and writes the tracer's
-// lines, or the line of the refusal (the paper, the plain engine). 14, 13, the reader's refusals and 4 are decided by whole::opening, then 24,
+// lines, or the line of the refusal (the paper, the plain engine). 14, 13, the reader's refusals and 4 are decided by whole::ordered, then 24,
 // and those of standard input by runs::stimulus. That the engines never part is proved in runs::comparing.
 use plan::Counts;
 use plan::Made;
@@ -10,7 +10,7 @@ use runs::comparing::Compared;
 use runs::stimulus;
 use runs::trace;
 use step::values;
-use whole::opening;
+use whole::ordered;
 
 // What is said in place of lines.
 fn say(part: Compared) {
@@ -204,7 +204,7 @@ fn main() {
     let mut made_constraints = [0u32; 4096];
     let mut scratch = [0u32; 16384];
     let mut out = [0u8; 65536];
-    match opening::open_whole(
+    match ordered::open_whole(
         office::readable(plan),
         &file[0..size],
         &mut inputs,

@@ -1,5 +1,5 @@
 // Reports on the circuit of plan.in, converted, over the vectors of standard input, or writes the line of the refusal (the paper, the needle
-// report). 14, 13, the reader's refusals and 4 are decided by whole::opening, 4 at table 6 here, those of standard input by runs::stimulus.
+// report). 14, 13, the reader's refusals and 4 are decided by whole::ordered, 4 at table 6 here, those of standard input by runs::stimulus.
 use plan::Counts;
 use plan::Made;
 use plan::Refusal;
@@ -7,7 +7,7 @@ use plan::Stepped;
 use plan::Traced;
 use runs::reporting;
 use runs::stimulus;
-use whole::opening;
+use whole::ordered;
 
 // The words of table 6.
 const SIX: usize = 16384;
@@ -149,7 +149,7 @@ fn main() {
     let mut scratch = [0u32; 16384];
     let mut six = [0u32; 16384];
     let mut out = [0u8; 270336];
-    match opening::open_whole(
+    match ordered::open_whole(
         office::readable(plan),
         &file[0..size],
         &mut inputs,

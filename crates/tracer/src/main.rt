@@ -1,12 +1,12 @@
 // Traces the circuit of plan.in, converted, from its first state on the vectors of standard input, or writes the line of the refusal (the
-// paper, programs). 14, 13, the reader's refusals and 4 are decided by whole::opening, those of standard input by runs::trace.
+// paper, programs). 14, 13, the reader's refusals and 4 are decided by whole::ordered, those of standard input by runs::trace.
 use plan::Counts;
 use plan::Made;
 use plan::Traced;
 use runs::stimulus;
 use runs::trace;
 use step::values;
-use whole::opening;
+use whole::ordered;
 
 // The steps of all lines, printed in parts of as many lines as fit into `out`. A part has a line at least, so there are no more parts than
 // lines.
@@ -146,7 +146,7 @@ fn main() {
     let mut made_constraints = [0u32; 4096];
     let mut scratch = [0u32; 16384];
     let mut out = [0u8; 65536];
-    match opening::open_whole(
+    match ordered::open_whole(
         office::readable(plan),
         &file[0..size],
         &mut inputs,

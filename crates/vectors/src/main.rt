@@ -17,7 +17,7 @@ use plan::Written;
 use runs::trace;
 use step::values;
 use tables::lesser;
-use whole::opening;
+use whole::ordered;
 
 // No table and no list of examples here is longer.
 const MOST: usize = 1000;
@@ -311,7 +311,7 @@ fn show_lines(file: &[u8], vectors: &[u8]) {
     let mut made_bads = [0u32; 64];
     let mut made_constraints = [0u32; 64];
     let mut scratch = [0u32; 256];
-    match opening::open_whole(
+    match ordered::open_whole(
         true,
         file,
         &mut inputs,

@@ -1,4 +1,4 @@
 -- What whole files are stated with.
 pub mod Opening
 pub mod Parts
-pub mod opening
+pub mod ordered

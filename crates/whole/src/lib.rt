@@ -10,7 +10,7 @@ use tables::scratch_to_work;
 use tables::too_short;
 
 pub mod filing;
-pub mod opening;
+pub mod ordered;
 
 // The longest input.
 const LONGEST: usize = 65536;

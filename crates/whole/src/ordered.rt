@@ -4,7 +4,7 @@ ghost use mathlib.Core.List.{[]};
 ghost use Rattle.plan.specs.Circuit.{seven};
 ghost use Rattle.plan.specs.Outcome.{Says};
 ghost use Rattle.plan.specs.Whole.{inputOf, openWhole};
-ghost use Rattle.whole.specs.opening.Leaving.{leftBy};
+ghost use Rattle.whole.specs.ordered.Leaving.{leftBy};
 use crate::open_file;
 use plan::Loaded;
 use plan::Made;

@@ -18,7 +18,7 @@ use Rattle.tables.specs.Lengths.{sizesOf}
 use Rattle.read.proofs.Loads.{same-cleared}
 use Rattle.whole.specs.Opening.{OpenEntry, opened, Ready}
 use Rattle.whole.proofs.Writes.{converts}
-use Rattle.whole.specs.opening.Leaving.{leftBy}
+use Rattle.whole.specs.ordered.Leaving.{leftBy}
 
 -- a conversion that does not refuse
 accepts : (o : Option Refusal) (e : MakeEntry) (c : Circuit) → ((r : Refusal) → madeBy o e c .answer ≡ made.Refused r → ⊥)

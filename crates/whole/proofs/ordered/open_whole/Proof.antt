@@ -4,10 +4,10 @@ use mathlib.Core.List.{[]}
 use native.Mathlib.Omega.{arith}
 use Rattle.plan.specs.Circuit.{Tables, seven}
 use Rattle.plan.specs.Whole.{WholeEntry, inputOf}
-use Rattle.whole.proofs.opening.Converted.{all-zero, closed}
+use Rattle.whole.proofs.ordered.Converted.{all-zero, closed}
 use borrow.Author.Needs.{needs}
-use Rattle.whole.proofs.opening.open_whole.Statement.{statement}
-use Rattle.whole.proofs.opening.open_whole.Tie as tie
+use Rattle.whole.proofs.ordered.open_whole.Statement.{statement}
+use Rattle.whole.proofs.ordered.open_whole.Tie as tie
 
 open-made-requires : tie.Need-open-made-requires
 open-made-requires c κs = search needs

@@ -9,10 +9,10 @@ use Rattle.tables.specs.declared.Sizes.{Sizes}
 use Rattle.tables.specs.Lengths.{sizesOf}
 use Rattle.read.proofs.Loads.{same-cleared}
 use Rattle.whole.specs.Opening.{OpenEntry, Opens}
-use Rattle.whole.proofs.opening.Converted.{not-opened, opened-made}
+use Rattle.whole.proofs.ordered.Converted.{not-opened, opened-made}
 use borrow.Author.Needs.{needs}
-use Rattle.whole.proofs.opening.open_made.Statement.{statement}
-use Rattle.whole.proofs.opening.open_made.Tie as tie
+use Rattle.whole.proofs.ordered.open_made.Statement.{statement}
+use Rattle.whole.proofs.ordered.open_made.Tie as tie
 
 -- what is handed in, and what stands there when the file is open
 abbrev start : tie.After-open-file → tie.Start
