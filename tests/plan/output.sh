@@ -105,9 +105,12 @@ ended_early() {
     rm "$room/to"/*
 }
 
-# The same where a small disk can be had.
+# The same on a small disk, which takes a right to mount.
 small_disk() {
-    mount -t tmpfs -o size=64k none "$room/to" 2>/dev/null || return
+    mount -t tmpfs -o size=64k none "$room/to" || {
+        fail "no small disk can be mounted"
+        return
+    }
     $make large 100000 "$room"
     misuses "$room/to/made: No space left on device" convert -o "$room/to/made" "$room/plan.aig"
     holds "nothing is left on a full disk" test -z "$(left)"

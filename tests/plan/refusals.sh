@@ -183,7 +183,7 @@ END
 # A terminal is shown colours, and nothing else is. Who is to type vectors is told so.
 colours() {
     local line=$'\33[1m'
-    command -v script >/dev/null || return
+    need bsdutils script
     script -qec "$command check tests/refused-05/output.aag" /dev/null >"$room/screen" </dev/null
     holds "colours on a terminal" grep -qF "$line" "$room/screen"
     script -qec "NO_COLOR=1 $command check tests/refused-05/output.aag" /dev/null >"$room/screen" </dev/null
