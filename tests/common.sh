@@ -83,19 +83,25 @@ archive_is_built() {
     is_younger "$proved" crates crates.txt && is_proved "$proved"
 }
 
-# crates_under NAME [CHANGED]: what a crate is made of, by crates.txt, itself last and each after what it needs; with a second word, a list,
-# those that are in it or need one that is.
+# crates_under NAME [CHANGED]: what a crate is made of, by crates.txt, itself last and each after what it needs; with a
+# second word, a list, those that are in it or need one that is.
 crates_under() {
     awk -v top="$1" -v list="${2-}" -v all="$((2 - $#))" '
         function visit(name,    of, k) {
             if (name in seen) return
             seen[name] = 1
-            for (k = split(needs[name], of, " "); k > 0; k--) { visit(of[k]); if (of[k] in changed) changed[name] = 1 }
+            for (k = split(needs[name], of, " "); k > 0; k--) {
+                visit(of[k])
+                if (of[k] in changed) changed[name] = 1
+            }
             if (all || name in changed) print name
         }
         { sub(/#.*/, "") }
         split($0, part, ":") == 2 { gsub(/[ \t]/, "", part[1]); needs[part[1]] = part[2] }
-        END { for (k = split(list, given, " "); k > 0; k--) changed[given[k]] = 1; visit(top) }' crates.txt
+        END {
+            for (k = split(list, given, " "); k > 0; k--) changed[given[k]] = 1
+            visit(top)
+        }' crates.txt
 }
 
 # on_proofs COMMAND..: an `rt` over the repository, while no other is: two would write over each other's words on what is proved.
@@ -113,11 +119,12 @@ build_archive() {
     }
 }
 
-# build_over_desk NAME SOURCE FLAG..: target/desk/NAME from a C source and the archive.
+# build_over_desk NAME SOURCE FLAG..: target/desk/NAME from a C source and the archive; the file VERSION says its version.
 build_over_desk() {
-    local name=$1 source=$2
+    local name=$1 source=$2 version
     shift 2
-    "$compiler" -std=c11 -Wall -Wextra -Werror -DGOLVANZO_VERSION="\"$(cat VERSION)\"" "$@" -I c -o "$built/$name" "$source" "$archive" ||
+    version=$(cat VERSION 2>/dev/null || echo unknown)
+    "$compiler" -std=c11 -Wall -Wextra -Werror "$@" "-DGOLVANZO_VERSION=\"$version\"" -I c -o "$built/$name" "$source" "$archive" ||
         give_up "$source isn't built"
 }
 
