@@ -14,12 +14,22 @@ need() {
     for name in "$@"; do
         command -v "$name" >/dev/null || missing+=("$name")
     done
-    [ ${#missing[@]} -eq 0 ] && return
+    [ ${#missing[@]} -eq 0 ] || install_packages "$packages" "${missing[*]}"
+}
+
+# install_packages 'PACKAGE..' WHAT: for what is missing.
+install_packages() {
     export DEBIAN_FRONTEND=noninteractive
     # shellcheck disable=SC2086 # a list of packages
-    apt-get install -qq -y $packages >/dev/null || {
-        apt-get update -qq && apt-get install -qq -y $packages >/dev/null
-    } || give_up "${missing[*]} missing, and '$packages' can't be installed"
+    apt-get install -qq -y $1 >/dev/null || {
+        apt-get update -qq && apt-get install -qq -y $1 >/dev/null
+    } || give_up "$2 missing, and '$1' can't be installed"
+}
+
+# What tools/compare is written in.
+need_compare() {
+    need "binutils python3" ar /usr/bin/python3
+    /usr/bin/python3 -c 'import elftools' 2>/dev/null || install_packages python3-pyelftools elftools
 }
 
 # Sets `emulator`, with a space after it, or empty: the archive's code is x86-64's.
@@ -46,31 +56,75 @@ is_younger() {
     [ -f "$file" ] && [ -z "$(find "$@" -newer "$file" -print -quit)" ]
 }
 
-# One archive serves all: it is built again only where something of the crates changed since.
+# The proved archive, which serves all; where what is built over it goes. `./plan` alone may choose another.
+proved=target/staticlib/libdesk.a
+archive=$proved
+built=target/desk
+
+# dated FILE COMMAND..: makes a file, and dates it by when that began: what changes meanwhile has changed since.
+dated() {
+    local file=$1 began status
+    shift
+    began=$(mktemp -p target) || return 2
+    "$@"
+    status=$?
+    [ $status -ne 0 ] || touch -r "$began" "$file"
+    rm -f "$began"
+    return $status
+}
+
+# Whether it is proved stands in an archive's .comment: "rattle logic=.." or "rattle unproved".
+is_proved() {
+    grep -qa 'rattle logic=' "$1"
+}
+
+# The archive is built again only where something of the crates changed since.
 archive_is_built() {
-    is_younger target/staticlib/libdesk.a crates crates.txt
+    is_younger "$proved" crates crates.txt && is_proved "$proved"
+}
+
+# crates_under NAME [CHANGED]: what a crate is made of, by crates.txt, itself last and each after what it needs; with a
+# second word, a list, those that are in it or need one that is.
+crates_under() {
+    awk -v top="$1" -v list="${2-}" -v all="$((2 - $#))" '
+        function visit(name,    of, k) {
+            if (name in seen) return
+            seen[name] = 1
+            for (k = split(needs[name], of, " "); k > 0; k--) {
+                visit(of[k])
+                if (of[k] in changed) changed[name] = 1
+            }
+            if (all || name in changed) print name
+        }
+        { sub(/#.*/, "") }
+        split($0, part, ":") == 2 { gsub(/[ \t]/, "", part[1]); needs[part[1]] = part[2] }
+        END {
+            for (k = split(list, given, " "); k > 0; k--) changed[given[k]] = 1
+            visit(top)
+        }' crates.txt
 }
 
 # on_proofs COMMAND..: an `rt` over the repository, while no other is: two would write over each other's words on what is proved.
 on_proofs() {
     mkdir -p target
-    flock target/proofs-lock "$@"
+    if command -v flock >/dev/null; then flock target/proofs-lock "$@"; else "$@"; fi
 }
 
 build_archive() {
     mkdir -p target/desk
     archive_is_built && return
-    on_proofs rt staticlib desk >target/desk/archive.log 2>&1 || {
+    dated "$proved" on_proofs rt staticlib desk >target/desk/archive.log 2>&1 || {
         cat target/desk/archive.log
         give_up "the archive isn't built"
     }
 }
 
-# build_over_desk NAME SOURCE FLAG..: target/desk/NAME from a C source and the archive.
+# build_over_desk NAME SOURCE FLAG..: target/desk/NAME from a C source and the archive; the file VERSION says its version.
 build_over_desk() {
-    local name=$1 source=$2
+    local name=$1 source=$2 version
     shift 2
-    "$compiler" -std=c11 -Wall -Wextra -Werror "$@" -I c -o "target/desk/$name" "$source" target/staticlib/libdesk.a ||
+    version=$(cat VERSION 2>/dev/null || echo unknown)
+    "$compiler" -std=c11 -Wall -Wextra -Werror "$@" "-DGOLVANZO_VERSION=\"$version\"" -I c -o "$built/$name" "$source" "$archive" ||
         give_up "$source isn't built"
 }
 

@@ -559,7 +559,7 @@ pub extern "C" fn golvanzo_witness(
         bytes,
         allowance as usize,
     );
-    answers::witness::finding(r, answer);
+    answers::findings::finding(r, answer);
 }
 
 // The witness question in three values, in which nothing is filled: number (0: answered), place, and 1 for yes or 0 for no.

@@ -2,8 +2,8 @@ use mathlib.Core.Path.{refl, sym, ap, _∙_}
 use borrow.Author.Needs.{needs}
 use Rattle.plan.specs.Outcome.{findingValues}
 use Rattle.answers.proofs.numbers.Refused.{refusal-told}
-use Rattle.answers.proofs.witness.finding.Statement.{statement}
-use Rattle.answers.proofs.witness.finding.Tie as tie
+use Rattle.answers.proofs.findings.finding.Statement.{statement}
+use Rattle.answers.proofs.findings.finding.Tie as tie
 
 enum-known-r : tie.Need-enum-known-r
 enum-known-r c = search needs
