@@ -7,7 +7,7 @@
 #include <sys/stat.h>
 
 #include "command.h"
-#include "records.h"
+#include "card_refusals.h"
 #include "say.h"
 
 /* Both directions: the bytes of the moved plan, or what is said of why there are none. */
@@ -23,13 +23,13 @@ static int to_aiger(const struct source *cards, struct plan_bytes *made) {
 
 /* What cards can't hold is 19; all other refusals are those of a plan. */
 static int write_cards(const struct source *file, struct plan *plan, struct plan_bytes *made) {
-    enum { NOT_ON_CARDS = 19, NOT_IN_ORDER = 15 };
     struct plan_end end = plan_write_cards(plan, made);
-    if (end.number != NOT_ON_CARDS && end.number != NOT_IN_ORDER)
+    if (end.number != GOLVANZO_NOT_ON_CARDS && end.number != GOLVANZO_NOT_IN_ORDER)
         return ended(end, file);
     say_refused_of(file->name, end,
-                   end.number == NOT_IN_ORDER ? "the plan is not in binary order: convert it first"
-                                              : "cards hold no symbols, comments, resets, bad states or constraints");
+                   end.number == GOLVANZO_NOT_IN_ORDER
+                       ? "the plan is not in binary order: convert it first"
+                       : "cards hold no symbols, comments, resets, bad states or constraints");
     return REFUSED;
 }
 

@@ -6,13 +6,11 @@
 #include <stdint.h>
 #include <stdio.h>
 
+#include "../c/golvanzo.h"
 #include "../c/plan.h"
 
 /* Exit statuses. FAILED is wrong usage, or a system that can't do what is asked. */
 enum { DONE = 0, REFUSED = 1, DIFFERENT = 1, FAILED = 2 };
-
-/* The paper's numbers that the command itself says, as the programs do: their places are the paper's too. */
-enum { WRONG_BYTE = 1, BAD_VECTOR = 12, MANY_VECTORS = 13, UNREADABLE = 14, NOT_EXPLAINED = 17, MANY_X = 20 };
 
 /* A file as it was read, with the name that people know it by. */
 struct source {

@@ -118,7 +118,7 @@ static int explain_to(const struct request *request, const struct source *file, 
     if (!lend_asked(plan, asked))
         return no_memory();
     end = explain_step(plan, vectors, asked);
-    if (end.number == NOT_EXPLAINED)
+    if (end.number == GOLVANZO_NOT_EXPLAINED)
         return say_not_explained(request, plan, file, end);
     status = ended(end, file);
     if (status == DONE)

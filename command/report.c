@@ -35,7 +35,7 @@ static int print_report(const struct request *request, const struct plan *plan, 
 }
 
 static int report_ended(struct plan_end end, const struct source *file, const struct list *list) {
-    if (end.number != MANY_VECTORS)
+    if (end.number != GOLVANZO_LONG_INPUT)
         return ended(end, file);
     say_refused_of(list->file, end, "there are %llu vectors, and a report takes %llu at most",
                    (unsigned long long)list->number, (unsigned long long)end.place);
