@@ -64,9 +64,16 @@ static int move_file(const struct move *move, const char *from, const char *out)
     return status;
 }
 
+/* The first bytes of a name with another ending, in a folder. */
 static char *joined_path(const char *folder, const char *name, size_t length, const char *ending) {
-    char *path;
-    return asprintf(&path, "%s/%.*s%s", folder, (int)length, name, ending) < 0 ? NULL : path;
+    size_t before = strlen(folder) + 1;
+    char *path = malloc(before + length + strlen(ending) + 1);
+    if (path == NULL)
+        return NULL;
+    strcat(strcpy(path, folder), "/");
+    memcpy(path + before, name, length);
+    strcpy(path + before + length, ending);
+    return path;
 }
 
 /* How much of a name stays when its ending is one of those that plans and cards have. */

@@ -8,9 +8,11 @@ static void print_names(const struct plan *plan, const struct names *names, FILE
     for (int list = 0; list < NAMED; list++)
         for (uint64_t k = 0; k < entries(plan, list); k++) {
             const struct symbol *symbol = &names->of[list][k];
-            if (symbol->name != NULL)
-                fprintf(to, "%s %llu %.*s\n", nouns[list], (unsigned long long)k, (int)symbol->length,
-                        (char *)symbol->name);
+            if (symbol->name == NULL)
+                continue;
+            fprintf(to, "%s %llu ", nouns[list], (unsigned long long)k);
+            put_name(symbol, to);
+            fputc('\n', to);
         }
 }
 

@@ -142,10 +142,11 @@ static void print_tail(const struct plan *plan, size_t place, FILE *to) {
     while (next_symbol(plan->tail, place, &at, &symbol))
         number++;
     size_t start = at;
-    if (next_symbol(plan->tail, plan->tail_length, &at, &symbol))
-        fprintf(to, "symbol %llu names %s %llu \"%.*s\"", number, nouns[symbol.list], (ull)symbol.entry,
-                (int)symbol.length, (const char *)symbol.name);
-    else if (place > start + 1)
+    if (next_symbol(plan->tail, plan->tail_length, &at, &symbol)) {
+        fprintf(to, "symbol %llu names %s %llu \"", number, nouns[symbol.list], (ull)symbol.entry);
+        put_name(&symbol, to);
+        fputc('"', to);
+    } else if (place > start + 1)
         print_comment(plan, start + 2, place, to);
     else
         fprintf(to, "there is no symbol %llu, %s comment", number, start == plan->tail_length ? "and no" : "but a");
