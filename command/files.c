@@ -142,15 +142,35 @@ static FILE *open_temporary(struct output *output) {
     return to;
 }
 
-/* A device or a pipe is written as it is: it can't be replaced by a file. A file that may not be written is opened only for the
-   error. */
+/* The descriptor under which a file is open to be written already; -1 if it is not. Shells redirect those below 10. */
+static int descriptor_of(const struct stat *about) {
+    enum { REDIRECTED = 10 };
+    struct stat other;
+    for (int file = STDOUT_FILENO; file < REDIRECTED; file++) {
+        int how = fcntl(file, F_GETFL);
+        if (how >= 0 && (how & O_ACCMODE) != O_RDONLY && fstat(file, &other) == 0 && other.st_dev == about->st_dev &&
+            other.st_ino == about->st_ino)
+            return file;
+    }
+    return -1;
+}
+
+static FILE *open_again(int file) {
+    return file == STDOUT_FILENO ? stdout : fdopen(dup(file), "wb");
+}
+
+/* What is open already is written where it is, since who opened it would not see a file in its place; so is a device or a pipe. A
+   file that may not be written is opened only for the error. */
 int open_output(struct output *output, const char *name) {
     struct stat about;
     *output = (struct output){stdout, "standard output", NULL, NULL};
     if (name == NULL || strcmp(name, "-") == 0)
         return DONE;
     output->name = name;
-    if (stat(name, &about) == 0 && (!S_ISREG(about.st_mode) || access(name, W_OK) != 0)) {
+    int there = stat(name, &about) == 0, file = there ? descriptor_of(&about) : -1;
+    if (file >= 0) {
+        output->to = open_again(file);
+    } else if (there && (!S_ISREG(about.st_mode) || access(name, W_OK) != 0)) {
         output->to = fopen(name, "wb");
     } else {
         output->target = target_of(name);

@@ -53,6 +53,25 @@ full_output() {
     done
 }
 
+# What standard output or a descriptor is redirected to is written where it is, not replaced.
+open_already() {
+    local name file
+    { echo before && cat examples/toggle.aig; } >"$room/expected"
+    for name in /dev/stdout /dev/fd/1 /proc/self/fd/1 /dev/fd/3 "$room/to/made"; do
+        echo before >"$room/to/made"
+        file=$(stat -c %i "$room/to/made")
+        $command convert -o "$name" examples/toggle.aag >>"$room/to/made" 3>>"$room/to/made"
+        holds "-o $name writes what is open" cmp -s "$room/expected" "$room/to/made"
+        holds "-o $name replaces nothing" test "$file made" = "$(stat -c %i "$room/to/made") $(left)"
+    done
+    holds "-o /dev/stdout writes to a pipe" cmp -s examples/toggle.aig <($command convert -o /dev/stdout examples/toggle.aag | cat)
+    # what is open to be read is replaced
+    cp examples/toggle.aag "$room/to/made"
+    accepts /dev/null convert -o "$room/to/made" - <"$room/to/made"
+    holds "-o replaces what is read" cmp -s examples/toggle.aig "$room/to/made"
+    rm "$room/to"/*
+}
+
 # Standard output or error that is closed: what is opened does not take its place.
 closed_output() {
     $command convert examples/toggle.aag >&- 2>"$room/error"
@@ -118,6 +137,7 @@ mkdir "$room/to"
 written
 not_written
 full_output
+open_already
 closed_output
 full_disk
 ended_early
