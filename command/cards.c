@@ -180,8 +180,12 @@ static int move_folder(const struct move *move, const struct request *request, c
     if (number < 0)
         return fail("%s: %s", request->file, strerror(errno));
     int status = make_folder(request->out, from);
-    if (status == DONE)
+    if (status == DONE) {
+        begin_folder();
         status = move_entries(move, request, entries, number);
+        int end = end_folder(request->out);
+        status = end > status ? end : status;
+    }
     for (int k = 0; k < number; k++)
         free(entries[k]);
     free(entries);

@@ -45,6 +45,10 @@ int open_output(struct output *output, const char *name);
 int close_output(struct output *output);
 void drop_output(struct output *output);
 
+/* Files that are written between these to one folder are brought to the disk together, at the end. */
+void begin_folder(void);
+int end_folder(const char *name);
+
 /* Opens, writes all and closes. */
 int write_output(const char *name, const uint8_t *bytes, size_t length);
 
