@@ -159,7 +159,8 @@ static void print_different(const struct side *sides, FILE *to) {
     size_t tail = tails_apart(sides);
     fputs("different\n", to);
     for (int k = 0; k < 2; k++) {
-        fprintf(to, "%s: ", sides[k].file->name);
+        put_text(to, sides[k].file->name);
+        fputs(": ", to);
         if (count < PLAN_COUNTS)
             print_count(&sides[k], count, to);
         else if (place.list != NULL)

@@ -28,12 +28,58 @@ static const char *tone(enum tone which) {
     return isatty(fileno(told())) && getenv("NO_COLOR") == NULL ? codes[which] : "";
 }
 
-static void say_toned(enum tone which, const char *text) {
-    fprintf(told(), "%s%s: %s", tone(which), text, tone(PLAIN));
+/* How many bytes a character has that is shown as it stands there: one of ASCII, or one of UTF-8 that is no control. 0: none. */
+static size_t shown_at(const uint8_t *b, size_t left) {
+    if (32 <= b[0] && b[0] <= 126)
+        return 1;
+    size_t length = b[0] < 0xC2 || b[0] > 0xF4 ? 0 : b[0] < 0xE0 ? 2 : b[0] < 0xF0 ? 3 : 4;
+    if (length == 0 || left < length)
+        return 0;
+    for (size_t k = 1; k < length; k++)
+        if (b[k] >> 6 != 2)
+            return 0;
+    int control = b[0] == 0xC2 && b[1] < 0xA0, longer = (b[0] == 0xE0 && b[1] < 0xA0) || (b[0] == 0xF0 && b[1] < 0x90);
+    int none = (b[0] == 0xED && b[1] >= 0xA0) || (b[0] == 0xF4 && b[1] >= 0x90);
+    return control || longer || none ? 0 : length;
 }
 
+static void put_byte(FILE *to, uint8_t b) {
+    static const char known[] = "\n\r\t", letters[] = "nrt";
+    const char *at = b == 0 ? NULL : strchr(known, b);
+    if (at != NULL)
+        fprintf(to, "\\%c", letters[at - known]);
+    else
+        fprintf(to, "\\x%02x", b);
+}
+
+void put_shown(FILE *to, const void *bytes, size_t length) {
+    const uint8_t *b = bytes;
+    for (size_t at = 0, n; at < length; at += n + (n == 0)) {
+        n = shown_at(b + at, length - at);
+        if (n == 0)
+            put_byte(to, b[at]);
+        else
+            fwrite(b + at, 1, n, to);
+    }
+}
+
+void put_text(FILE *to, const char *text) {
+    put_shown(to, text, strlen(text));
+}
+
+static void say_toned(enum tone which, const char *text) {
+    fputs(tone(which), told());
+    put_text(told(), text);
+    fprintf(told(), ": %s", tone(PLAIN));
+}
+
+/* A sentence is one line, whatever names and words it has. */
 static void say_sentence(const char *format, va_list more) {
-    vfprintf(told(), format, more);
+    char *sentence;
+    if (vasprintf(&sentence, format, more) >= 0) {
+        put_text(told(), sentence);
+        free(sentence);
+    }
     fputc('\n', told());
 }
 
@@ -99,11 +145,11 @@ static size_t line_start(const struct scan *scan, size_t at) {
 
 static void say_where(const struct scan *scan, size_t at) {
     fputs(tone(BOLD), told());
+    put_text(told(), scan->of->name);
     if (past_lines(scan, at))
-        fprintf(told(), "%s:byte %zu: ", scan->of->name, at);
+        fprintf(told(), ":byte %zu: ", at);
     else
-        fprintf(told(), "%s:%llu:%zu: ", scan->of->name, (unsigned long long)line_at(scan->of, at),
-                at - line_start(scan, at) + 1);
+        fprintf(told(), ":%llu:%zu: ", (unsigned long long)line_at(scan->of, at), at - line_start(scan, at) + 1);
     fputs(tone(PLAIN), told());
 }
 
