@@ -130,9 +130,11 @@ const char *byte_name(const struct source *source, size_t at) {
     return name;
 }
 
-/* Whether a place lies past the lines of a binary file. */
+/* Whether a place lies past the lines of a binary file. One that ends before its gates has lines alone; cards, whose bytes start at
+   0, have none. */
 static int past_lines(const struct scan *scan, size_t at) {
-    return scan->binary && scan->counts[PLAN_A] > 0 && at >= scan->gates;
+    int ends_before = scan->gates > 0 && scan->gates == scan->of->length;
+    return scan->binary && scan->counts[PLAN_A] > 0 && at >= scan->gates && !ends_before;
 }
 
 /* Where the line that a place lies in starts; a binary file's tail starts a line. */
