@@ -26,7 +26,7 @@ struct source {
 enum { EDIT_WORDS = 3 };
 struct request {
     const char *file, *second, *out, *output, *step, *edit[EDIT_WORDS];
-    int vcd, large, names, three, count;
+    int vcd, all, large, names, three, count;
 };
 
 /* files.c. What is opened must not take the place of standard input, output or error where one of these is closed. */
@@ -61,6 +61,9 @@ int ended(struct plan_end end, const struct source *file);
 int put_in_order(struct plan *plan, const struct source *file);
 int deliver(const struct request *request, const struct source *file, struct plan_end end,
             const struct plan_bytes *made);
+
+/* reduce.c: the same, and reduced. */
+int put_reduced(struct plan *plan, const struct source *file);
 
 /* vectors.c: the lines of a file of input vectors, judged as the tracer judges them. */
 struct vectors {

@@ -7,9 +7,6 @@
 
 typedef unsigned long long ull;
 
-/* The lists that are shown. */
-enum { SHOWN = NAMED_OUTPUTS + 1 };
-
 /* The short name of a signal in the file: digits from "!" to "~". */
 static const char *code(uint64_t signal) {
     static char text[16];
@@ -29,11 +26,11 @@ static void print_name(const struct symbol *symbol, int list, uint64_t entry, FI
         fputc(symbol->name[k] == ' ' ? '_' : symbol->name[k], to);
 }
 
-static void print_head(const struct plan *plan, const struct names *names, FILE *to) {
-    static const char *const scopes[SHOWN] = {"inputs", "latches", "outputs"};
+static void print_head(const struct wave *wave, const struct plan *plan, const struct names *names, FILE *to) {
+    static const char *const scopes[NAMED] = {"inputs", "latches", "outputs", "bad_states", "constraints"};
     uint64_t signal = 0;
     fputs("$version Golvanzo $end\n$timescale 1 ns $end\n$scope module plan $end\n", to);
-    for (int list = 0; list < SHOWN; list++) {
+    for (int list = 0; list < wave->lists; list++) {
         fprintf(to, "$scope module %s $end\n", scopes[list]);
         for (uint64_t k = 0; k < entries(plan, list); k++, signal++) {
             fprintf(to, "$var wire 1 %s ", code(signal));
@@ -45,15 +42,16 @@ static void print_head(const struct plan *plan, const struct names *names, FILE 
     fputs("$upscope $end\n$enddefinitions $end\n", to);
 }
 
-int begin_wave(struct wave *wave, const struct plan *plan, FILE *to) {
+int begin_wave(struct wave *wave, const struct plan *plan, int all, FILE *to) {
     struct names names;
     const uint64_t *n = plan->counts;
     int status = read_names(plan, &names);
     if (status != DONE)
         return status;
-    wave->shown = calloc(n[PLAN_I] + n[PLAN_L] + n[PLAN_O] + 1, 1);
+    wave->lists = all ? NAMED : NAMED_OUTPUTS + 1;
+    wave->shown = calloc(n[PLAN_I] + n[PLAN_L] + n[PLAN_O] + n[PLAN_B] + n[PLAN_C] + 1, 1);
     if (wave->shown != NULL)
-        print_head(plan, &names, to);
+        print_head(wave, plan, &names, to);
     free_names(&names);
     return wave->shown == NULL ? no_memory() : DONE;
 }
@@ -78,6 +76,10 @@ void print_changes(const struct wave *wave, const struct plan *plan, const struc
     print_list(wave, 0, run->inputs, n[PLAN_I], to);
     print_list(wave, n[PLAN_I], run->state, n[PLAN_L], to);
     print_list(wave, n[PLAN_I] + n[PLAN_L], run->outputs, n[PLAN_O], to);
+    if (!run->all)
+        return;
+    print_list(wave, n[PLAN_I] + n[PLAN_L] + n[PLAN_O], run->seen[VIEW_BADS], n[PLAN_B], to);
+    print_list(wave, n[PLAN_I] + n[PLAN_L] + n[PLAN_O] + n[PLAN_B], run->seen[VIEW_CONSTRAINTS], n[PLAN_C], to);
 }
 
 void print_wave_end(const struct wave *wave, const struct plan *plan, const struct run *run, FILE *to) {
