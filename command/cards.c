@@ -2,12 +2,13 @@
 #define _GNU_SOURCE
 #include <dirent.h>
 #include <errno.h>
+#include <search.h>
 #include <stdlib.h>
 #include <string.h>
 #include <sys/stat.h>
 
 #include "command.h"
-#include "records.h"
+#include "card_refusals.h"
 #include "say.h"
 
 /* Both directions: the bytes of the moved plan, or what is said of why there are none. */
@@ -23,13 +24,13 @@ static int to_aiger(const struct source *cards, struct plan_bytes *made) {
 
 /* What cards can't hold is 19; all other refusals are those of a plan. */
 static int write_cards(const struct source *file, struct plan *plan, struct plan_bytes *made) {
-    enum { NOT_ON_CARDS = 19, NOT_IN_ORDER = 15 };
     struct plan_end end = plan_write_cards(plan, made);
-    if (end.number != NOT_ON_CARDS && end.number != NOT_IN_ORDER)
+    if (end.number != GOLVANZO_NOT_ON_CARDS && end.number != GOLVANZO_NOT_IN_ORDER)
         return ended(end, file);
     say_refused_of(file->name, end,
-                   end.number == NOT_IN_ORDER ? "the plan is not in binary order: convert it first"
-                                              : "cards hold no symbols, comments, resets, bad states or constraints");
+                   end.number == GOLVANZO_NOT_IN_ORDER
+                       ? "the plan is not in binary order: convert it first"
+                       : "cards hold no symbols, comments, resets, bad states or constraints");
     return REFUSED;
 }
 
@@ -64,9 +65,16 @@ static int move_file(const struct move *move, const char *from, const char *out)
     return status;
 }
 
+/* The first bytes of a name with another ending, in a folder. */
 static char *joined_path(const char *folder, const char *name, size_t length, const char *ending) {
-    char *path;
-    return asprintf(&path, "%s/%.*s%s", folder, (int)length, name, ending) < 0 ? NULL : path;
+    size_t before = strlen(folder) + 1;
+    char *path = malloc(before + length + strlen(ending) + 1);
+    if (path == NULL)
+        return NULL;
+    strcat(strcpy(path, folder), "/");
+    memcpy(path + before, name, length);
+    strcpy(path + before + length, ending);
+    return path;
 }
 
 /* How much of a name stays when its ending is one of those that plans and cards have. */
@@ -81,13 +89,16 @@ static size_t stem(const char *name) {
     return length;
 }
 
-/* The first file of the folder that has the same name but for its ending, or this one. */
-static const char *first_named(struct dirent *const *entries, int k) {
-    size_t length = stem(entries[k]->d_name);
-    int j = 0;
-    while (stem(entries[j]->d_name) != length || memcmp(entries[j]->d_name, entries[k]->d_name, length) != 0)
-        j++;
-    return entries[j]->d_name;
+/* Files of a folder that were moved, in a tree by their names but for the endings. */
+static int by_stem(const void *a, const void *b) {
+    size_t m = stem(a), n = stem(b);
+    int order = memcmp(a, b, m < n ? m : n);
+    return order != 0 ? order : (m > n) - (m < n);
+}
+
+/* Nothing of the tree is its own. */
+static void leave(void *name) {
+    (void)name;
 }
 
 /* Why an entry of the folder is no file, or null: nobody would write to a pipe that is waited for. */
@@ -98,9 +109,10 @@ static const char *no_file(const char *name) {
     return S_ISDIR(about.st_mode) ? "it is a folder, and moved only by itself" : "it is no file";
 }
 
-/* One line for the file, whatever becomes of it. */
-static int move_entry(const struct move *move, const struct request *request, struct dirent *const *entries, int k) {
-    const char *name = entries[k]->d_name, *first = first_named(entries, k), *why;
+/* One line for the file, whatever becomes of it. Only a file that is moved takes the name. */
+static int move_entry(const struct move *move, const struct request *request, const char *name, void **moved) {
+    char *const *first = tfind(name, moved, by_stem);
+    const char *why;
     char *from = joined_path(request->file, name, strlen(name), "");
     char *out = joined_path(request->out, name, stem(name), move->ending);
     int status = REFUSED;
@@ -109,10 +121,12 @@ static int move_entry(const struct move *move, const struct request *request, st
         status = no_memory();
     else if ((why = no_file(from)) != NULL)
         say_unreadable(from, why);
-    else if (first != name)
-        status = fail("%s comes first, with the same name but for the ending", first);
+    else if (first != NULL)
+        status = fail("%s comes first, with the same name but for the ending", *first);
     else
         status = move_file(move, from, out);
+    if (status == DONE && tsearch(name, moved, by_stem) == NULL)
+        status = no_memory();
     if (status == DONE)
         printf("%s: %s\n", from, out);
     say_in_one_line(NULL);
@@ -130,14 +144,16 @@ static int is_visible(const struct dirent *entry) {
 static int move_entries(const struct move *move, const struct request *request, struct dirent *const *entries,
                         int number) {
     struct output lines;
-    int moved = 0, status = open_output(&lines, NULL);
+    void *moved = NULL;
+    int count = 0, status = open_output(&lines, NULL);
     setvbuf(lines.to, NULL, _IOLBF, BUFSIZ);
     for (int k = 0; k < number; k++) {
-        int end = move_entry(move, request, entries, k);
-        moved += end == DONE;
+        int end = move_entry(move, request, entries[k]->d_name, &moved);
+        count += end == DONE;
         status = end > status ? end : status;
     }
-    fprintf(lines.to, "%d of %d moved\n", moved, number);
+    tdestroy(moved, leave);
+    fprintf(lines.to, "%d of %d moved\n", count, number);
     return close_output(&lines) == DONE ? status : FAILED;
 }
 
@@ -164,8 +180,12 @@ static int move_folder(const struct move *move, const struct request *request, c
     if (number < 0)
         return fail("%s: %s", request->file, strerror(errno));
     int status = make_folder(request->out, from);
-    if (status == DONE)
+    if (status == DONE) {
+        begin_folder();
         status = move_entries(move, request, entries, number);
+        int end = end_folder(request->out);
+        status = end > status ? end : status;
+    }
     for (int k = 0; k < number; k++)
         free(entries[k]);
     free(entries);

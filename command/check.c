@@ -15,7 +15,7 @@ static void print_names(const struct plan *plan, const struct names *names, FILE
             if (symbol->name == NULL)
                 continue;
             fprintf(to, "%s %llu ", nouns[list], (unsigned long long)k);
-            fwrite(symbol->name, 1, symbol->length, to);
+            put_name(symbol, to);
             fputc('\n', to);
         }
 }

@@ -12,9 +12,6 @@
 /* Exit statuses. FAILED is wrong usage, or a system that can't do what is asked. */
 enum { DONE = 0, REFUSED = 1, DIFFERENT = 1, FAILED = 2 };
 
-/* The paper's numbers that the command itself says, as the programs do: their places are the paper's too. */
-enum { WRONG_BYTE = 1, BAD_VECTOR = 12, MANY_VECTORS = 13, UNREADABLE = 14, NOT_EXPLAINED = 17, MANY_X = 20 };
-
 /* A file as it was read, with the name that people know it by. */
 struct source {
     const char *name;
@@ -50,6 +47,10 @@ struct output {
 int open_output(struct output *output, const char *name);
 int close_output(struct output *output);
 void drop_output(struct output *output);
+
+/* Files that are written between these to one folder are brought to the disk together, at the end. */
+void begin_folder(void);
+int end_folder(const char *name);
 
 /* Opens, writes all and closes. */
 int write_output(const char *name, const uint8_t *bytes, size_t length);

@@ -198,7 +198,7 @@ static void print_tail(const struct plan *plan, size_t place, FILE *to) {
     size_t start = at;
     if (next_symbol(plan->tail, plan->tail_length, &at, &symbol)) {
         fprintf(to, "symbol %llu names %s %llu \"", number, nouns[symbol.list], (ull)symbol.entry);
-        fwrite(symbol.name, 1, symbol.length, to);
+        put_name(&symbol, to);
         fputc('"', to);
     } else if (place > start + 1) {
         print_comment(plan, start + 2, place, to);

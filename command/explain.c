@@ -40,10 +40,9 @@ static uint64_t output_named(const struct plan *plan, const struct names *names,
 /* An entry by its name, with its letter and position, or by these alone. */
 static void print_entry(const struct names *names, int list, uint64_t entry, FILE *to) {
     const struct symbol *symbol = &names->of[list][entry];
-    if (symbol->name == NULL)
-        fprintf(to, "%c%llu", letters[list], (ull)entry);
-    else
-        fprintf(to, "%.*s (%c%llu)", (int)symbol->length, (const char *)symbol->name, letters[list], (ull)entry);
+    if (symbol->name != NULL)
+        put_name(symbol, to);
+    fprintf(to, symbol->name == NULL ? "%c%llu" : " (%c%llu)", letters[list], (ull)entry);
 }
 
 static void print_marked(const struct names *names, int list, uint64_t number, const uint8_t *marks,
@@ -118,7 +117,7 @@ static int explain_to(const struct request *request, const struct source *file, 
     if (!lend_asked(plan, asked))
         return no_memory();
     end = explain_step(plan, vectors, asked);
-    if (end.number == NOT_EXPLAINED)
+    if (end.number == GOLVANZO_NOT_EXPLAINED)
         return say_not_explained(request, plan, file, end);
     status = ended(end, file);
     if (status == DONE)

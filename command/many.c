@@ -6,9 +6,9 @@
 #include <string.h>
 #include <sys/stat.h>
 
+#include "card_refusals.h"
 #include "commands.h"
 #include "progress.h"
-#include "records.h"
 #include "say.h"
 #include "walk.h"
 

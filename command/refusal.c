@@ -296,9 +296,18 @@ int ended(struct plan_end end, const struct source *file) {
     static const struct {
         uint64_t number;
         void (*say)(const struct refusal *);
-    } sayings[] = {{WRONG_BYTE, say_wrong_byte}, {2, say_large_count}, {3, say_wrong_sum}, {5, say_out_of_range},
-                   {6, say_defined_twice},       {7, say_not_defined}, {8, say_cyclic},    {9, say_difference},
-                   {10, say_bad_symbol},         {16, say_difference}, {21, say_justice},  {24, say_many_gates}};
+    } sayings[] = {{GOLVANZO_WRONG_BYTE, say_wrong_byte},
+                   {GOLVANZO_LARGE_COUNT, say_large_count},
+                   {GOLVANZO_WRONG_SUM, say_wrong_sum},
+                   {GOLVANZO_OUT_OF_RANGE, say_out_of_range},
+                   {GOLVANZO_DEFINED_TWICE, say_defined_twice},
+                   {GOLVANZO_NOT_DEFINED, say_not_defined},
+                   {GOLVANZO_CYCLIC, say_cyclic},
+                   {GOLVANZO_BAD_DIFFERENCE, say_difference},
+                   {GOLVANZO_BAD_SYMBOL, say_bad_symbol},
+                   {GOLVANZO_LONG_DIFFERENCE, say_difference},
+                   {GOLVANZO_JUSTICE, say_justice},
+                   {GOLVANZO_MANY_GATES, say_many_gates}};
     if (end.number == 0)
         return DONE;
     if (end.number == PLAN_NO_MEMORY)

@@ -8,8 +8,10 @@
 /* A letter, a position and the words of one row; and the name, where names are asked and the entry has one. */
 static void print_row(FILE *to, const struct names *names, int list, uint64_t k, const uint32_t *row) {
     fprintf(to, "%c%llu %u %u %u %u", letters[list], (unsigned long long)k, row[0], row[1], row[2], row[3]);
-    if (names != NULL && names->of[list][k].name != NULL)
-        fprintf(to, " %.*s", (int)names->of[list][k].length, (const char *)names->of[list][k].name);
+    if (names != NULL && names->of[list][k].name != NULL) {
+        fputc(' ', to);
+        put_name(&names->of[list][k], to);
+    }
     fputc('\n', to);
 }
 
@@ -35,7 +37,7 @@ static int print_report(const struct request *request, const struct plan *plan, 
 }
 
 static int report_ended(struct plan_end end, const struct source *file, const struct list *list) {
-    if (end.number != MANY_VECTORS)
+    if (end.number != GOLVANZO_LONG_INPUT)
         return ended(end, file);
     say_refused_of(list->file, end, "there are %llu vectors, and a report takes %llu at most",
                    (unsigned long long)list->number, (unsigned long long)end.place);

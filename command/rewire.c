@@ -9,8 +9,6 @@
 
 typedef unsigned long long ull;
 
-enum { OUT_OF_RANGE = 5, NOT_IN_ORDER = 15, NO_GATE = 22 };
-
 /* A gate's number from 0, and its right sides. */
 struct edit {
     uint64_t gate;
@@ -46,14 +44,14 @@ static int edit_ended(const struct request *request, const struct edit *edit, st
                       const struct source *file, const struct plan *plan) {
     uint64_t left = 2 * (1 + plan->counts[PLAN_I] + plan->counts[PLAN_L] + edit->gate),
              most = 2 * plan->counts[PLAN_M] + 1;
-    uint64_t above = end.number == OUT_OF_RANGE ? most : left - 1;
+    uint64_t above = end.number == GOLVANZO_OUT_OF_RANGE ? most : left - 1;
     const char *side = request->edit[edit->rhs[0] > above ? 1 : 2];
-    if (end.number == NO_GATE)
+    if (end.number == GOLVANZO_NO_GATE)
         say_refused_of(file->name, end, "there is no gate %s: gates count from 0, and A is %llu", request->edit[0],
                        (ull)plan->counts[PLAN_A]);
-    else if (end.number == OUT_OF_RANGE)
+    else if (end.number == GOLVANZO_OUT_OF_RANGE)
         say_refused_of(file->name, end, "right side %s is above 2M + 1 = %llu", side, (ull)most);
-    else if (end.number == NOT_IN_ORDER)
+    else if (end.number == GOLVANZO_NOT_IN_ORDER)
         say_refused_of(file->name, end, "right side %s is not below %llu, the left side of gate %s", side, (ull)left,
                        request->edit[0]);
     else
@@ -66,7 +64,7 @@ static int values_of(const struct source *file, struct plan *plan, uint8_t *stat
     plan_first(plan, state);
     memset(inputs, '0', (size_t)plan->counts[PLAN_I]);
     struct plan_end end = plan_values(plan, state, inputs, values);
-    if (end.number != NOT_IN_ORDER)
+    if (end.number != GOLVANZO_NOT_IN_ORDER)
         return ended(end, file);
     say_refused_of(file->name, end, "the plan is not in binary order: convert it first");
     return REFUSED;

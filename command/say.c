@@ -269,5 +269,5 @@ void say_number(const char *name, struct plan_end end) {
 }
 
 void say_unreadable(const char *name, const char *why) {
-    say_refused_of(name, (struct plan_end){UNREADABLE, 0}, "it can't be read: %s", why);
+    say_refused_of(name, (struct plan_end){GOLVANZO_UNREADABLE, 0}, "it can't be read: %s", why);
 }

@@ -29,6 +29,10 @@ int next_symbol(const uint8_t *bytes, size_t length, size_t *at, struct symbol *
     return 1;
 }
 
+void put_name(const struct symbol *symbol, FILE *to) {
+    fwrite(symbol->name, 1, symbol->length, to);
+}
+
 uint64_t entries(const struct plan *plan, int list) {
     return plan->counts[list_counts[list]];
 }

@@ -26,6 +26,9 @@ struct names {
     struct symbol *of[NAMED];
 };
 
+/* Writes a name of any length, also one that no %.*s takes. */
+void put_name(const struct symbol *symbol, FILE *to);
+
 int read_names(const struct plan *plan, struct names *names);
 void free_names(struct names *names);
 

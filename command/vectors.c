@@ -20,7 +20,7 @@ static size_t wrong_value(const uint8_t *line, size_t length) {
 }
 
 static int refuse_line(const struct scan *scan, size_t start, size_t length, uint64_t inputs) {
-    const struct plan_end end = {BAD_VECTOR, 2};
+    const struct plan_end end = {GOLVANZO_BAD_VECTOR, 2};
     size_t wrong = wrong_value(scan->of->at + start, length);
     if (wrong < length) {
         say_refused(scan, end, (struct spot){start + wrong, 1}, "%s is no value: 0, 1 or x",
@@ -57,7 +57,7 @@ int read_vectors(const struct request *request, uint64_t inputs, struct vectors 
     if (status != DONE)
         return status;
     if (source->length > 0 && source->at[source->length - 1] != '\n') {
-        say_refused(&scan, (struct plan_end){WRONG_BYTE, source->length}, (struct spot){source->length, 1},
+        say_refused(&scan, (struct plan_end){GOLVANZO_WRONG_BYTE, source->length}, (struct spot){source->length, 1},
                     "a new line must stand here, not the end of the file");
         status = REFUSED;
     } else {

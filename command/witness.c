@@ -13,7 +13,7 @@ static int ask_three(const struct request *request, const struct source *file, s
 }
 
 static int fillings_ended(struct plan_end end, const struct source *file, const struct list *list) {
-    if (end.number != MANY_X)
+    if (end.number != GOLVANZO_MANY_X)
         return ended(end, file);
     say_refused_of(list->file, end,
                    "resets and vectors have %llu x, of which 20 at most are filled; --three asks in three values",

@@ -79,6 +79,30 @@ folders() {
     holds "replaced" cmp -s "$back/a.cards" "$room/and.cards"
 }
 
+# A file that is refused leaves its name to the next; and 20,000 names are looked up in no time, not each against all.
+names_taken() {
+    local from=$room/taken to=$room/taken-plans seconds
+    mkdir "$from"
+    printf 'PX' >"$from/a.card"
+    cp "$room/and.cards" "$from/a.cards"
+    cp "$room/and.cards" "$from/a"
+    printf '%s: %s\n%s: not moved: %s\n%s: not moved: %s\n1 of 3 moved\n' "$from/a" "$to/a.aig" \
+        "$from/a.card" "a comes first, with the same name but for the ending" \
+        "$from/a.cards" "a comes first, with the same name but for the ending" >"$room/lines"
+    try file -o "$to" "$from"
+    expect "a name that is taken" 2 "$room/lines" ""
+    rm "$from/a"
+    printf '%s:byte 2: refused 1 at 2: %s\n%s: %s\n1 of 2 moved\n' "$from/a.card" \
+        "a file of plan cards has 22 bytes or more, this one 2" "$from/a.cards" "$to/a.aig" >"$room/lines"
+    try file -o "$to" "$from"
+    expect "a refused file takes no name" 1 "$room/lines" ""
+    (cd "$from" && seq -f 'pattern-%05g.cards' 20000 | xargs touch)
+    seconds=$(TIMEFORMAT=%U; { time $plain file -o "$to" "$from" >"$room/lines"; } 2>&1)
+    holds "20,000 names" [ "$(tail -n 1 "$room/lines")" = "1 of 20002 moved" ]
+    holds "20,000 names in $seconds s" test "${seconds%.*}" -lt 1
+    rm -r "$from" "$to"
+}
+
 wrong_folders() {
     local from=$room/from to=$room/moved
     misuses "is a folder: -o must name the folder" file "$from"
@@ -110,5 +134,6 @@ four_hundred() {
 single_cards
 wrong_cards
 folders
+names_taken
 wrong_folders
 four_hundred

@@ -1,0 +1,10 @@
+# shellcheck shell=bash disable=SC2154 # of run, which sources this
+# Names that are longer than a printf can write: whole, and nothing after them.
+
+long_names() {
+    build_over_desk plan-names tests/plan/names.c -O1 command/symbols.c command/say.c command/scan.c
+    holds "a name of 2^31 + 1 bytes" test 2147483649 = "$(target/desk/plan-names | wc -c)"
+    holds "no length of bytes is cut to an int" test 0 = "$(cat command/*.c | grep -c '%\.\*s')"
+}
+
+[ -n "$emulator" ] || long_names
