@@ -19,12 +19,15 @@ struct source {
     size_t length;
 };
 
-/* What is asked: the words of the command line. `second` is the file of vectors or the other plan; it and `out` may be null.
-   `output` and `step` say what to explain, `edit` are the words of a gate's number and its right sides. */
+/* What is asked. `words` are the words of the command line that are no options; `file` is the first, `second` the file of vectors
+   or the other plan, which may be null, as `out`. `output`, `bad` or `constraint` and `step` say what to explain, `edit` are the
+   words of a gate's number and its right sides. With `many` the file is one of many, and has one line. */
 enum { EDIT_WORDS = 3 };
 struct request {
-    const char *file, *second, *out, *output, *step, *edit[EDIT_WORDS];
-    int vcd, large, names, three, count;
+    char **words;
+    int number;
+    const char *file, *second, *out, *output, *bad, *constraint, *step, *allow, *list, *edit[EDIT_WORDS];
+    int vcd, all, large, names, three, count, plan, json, quiet, many, cards;
 };
 
 /* files.c. What is opened must not take the place of standard input, output or error where one of these is closed. */
@@ -66,6 +69,9 @@ int put_in_order(struct plan *plan, const struct source *file);
 int deliver(const struct request *request, const struct source *file, struct plan_end end,
             const struct plan_bytes *made);
 
+/* reduce.c: the same, and reduced. */
+int put_reduced(struct plan *plan, const struct source *file);
+
 /* vectors.c: the lines of a file of input vectors, judged as the tracer judges them. */
 struct vectors {
     struct source source;
@@ -104,7 +110,8 @@ int run_explain(const struct request *request, const struct source *file, struct
 int run_witness(const struct request *request, const struct source *file, struct plan *plan);
 int run_report(const struct request *request, const struct source *file, struct plan *plan);
 int run_rows(const struct request *request, const struct source *file, struct plan *plan);
-int run_same(const struct request *request, const struct source *file, struct plan *plan);
+int run_same(const struct request *request);
+int run_pairs(const struct request *request);
 int run_draw(const struct request *request, const struct source *file, struct plan *plan);
 int run_words(const struct request *request, const struct source *file);
 int run_file(const struct request *request);

@@ -6,6 +6,10 @@
 #include <string.h>
 #include <unistd.h>
 
+#include "json.h"
+#include "meaning.h"
+#include "progress.h"
+
 enum { WIDE = 100, BEFORE = 60, GATE_BYTES = 16, GUTTER = 7 };
 
 /* The file of a folder that is said of in one line; null where there is room for more. */
@@ -15,8 +19,16 @@ void say_in_one_line(const char *file) {
     moving = file;
 }
 
+/* Whether scripts are said to: an object a line, on standard output. */
+static int objects;
+
+void say_in_objects(void) {
+    objects = 1;
+}
+
 /* Where it is said: lines about the files of a folder are what was asked for. */
 static FILE *told(void) {
+    progress_clear();
     return moving != NULL ? stdout : stderr;
 }
 
@@ -83,9 +95,42 @@ static void say_sentence(const char *format, va_list more) {
     fputc('\n', told());
 }
 
+static int past_lines(const struct scan *scan, size_t at);
+static size_t line_start(const struct scan *scan, size_t at);
+
+/* A refusal, or without one what else is wrong, for scripts (docs/COMMANDS.md, "For scripts"). */
+static void say_object(const char *file, const struct plan_end *end, const struct scan *scan, size_t at,
+                       const char *format, va_list more) {
+    struct json json = json_line(stdout);
+    char *sentence;
+    if (file != NULL)
+        json_text(&json, "file", file);
+    json_text(&json, "status", end != NULL ? "refused" : "failed");
+    if (end != NULL) {
+        json_number(&json, "number", end->number);
+        json_number(&json, "place", end->place);
+    }
+    if (scan != NULL && past_lines(scan, at)) {
+        json_number(&json, "byte", at);
+    } else if (scan != NULL) {
+        json_number(&json, "line", line_at(scan->of, at));
+        json_number(&json, "column", at - line_start(scan, at) + 1);
+    }
+    if (vasprintf(&sentence, format, more) >= 0) {
+        json_text(&json, "says", sentence);
+        free(sentence);
+    }
+    json_end(&json);
+}
+
 int fail(const char *format, ...) {
     va_list more;
     va_start(more, format);
+    if (objects) {
+        say_object(moving, NULL, NULL, 0, format, more);
+        va_end(more);
+        return FAILED;
+    }
     say_toned(BOLD, moving != NULL ? moving : "plan");
     if (moving != NULL)
         fputs("not moved: ", told());
@@ -211,27 +256,35 @@ static void say_refusal(struct plan_end end) {
 void say_refused(const struct scan *scan, struct plan_end end, struct spot spot, const char *format, ...) {
     va_list more;
     va_start(more, format);
-    say_where(scan, spot.at);
-    say_refusal(end);
-    fputs(": ", told());
-    say_sentence(format, more);
-    say_spot(scan, spot);
+    if (objects) {
+        say_object(scan->of->name, &end, scan, spot.at, format, more);
+    } else {
+        say_where(scan, spot.at);
+        say_refusal(end);
+        fputs(": ", told());
+        say_sentence(format, more);
+        say_spot(scan, spot);
+    }
     va_end(more);
 }
 
 void say_refused_of(const char *name, struct plan_end end, const char *format, ...) {
     va_list more;
     va_start(more, format);
-    say_toned(BOLD, name);
-    say_refusal(end);
-    fputs(": ", told());
-    say_sentence(format, more);
+    if (objects) {
+        say_object(name, &end, NULL, 0, format, more);
+    } else {
+        say_toned(BOLD, name);
+        say_refusal(end);
+        fputs(": ", told());
+        say_sentence(format, more);
+    }
     va_end(more);
 }
 
 void say_note(const struct scan *scan, struct spot spot, const char *format, ...) {
     va_list more;
-    if (moving != NULL)
+    if (moving != NULL || objects)
         return;
     va_start(more, format);
     say_where(scan, spot.at);
@@ -243,7 +296,7 @@ void say_note(const struct scan *scan, struct spot spot, const char *format, ...
 
 void say_more(const char *format, ...) {
     va_list more;
-    if (moving != NULL)
+    if (moving != NULL || objects)
         return;
     va_start(more, format);
     say_toned(CYAN, "note");
@@ -259,7 +312,8 @@ void say_line_ends(const struct scan *scan, size_t at) {
 }
 
 void say_number(const char *name, struct plan_end end) {
-    say_refused_of(name, end, "docs/REFUSALS.md says what that means");
+    const struct meaning *meaning = meaning_of(end.number);
+    say_refused_of(name, end, "%s", meaning != NULL ? meaning->means : "docs/REFUSALS.md says what that means");
 }
 
 void say_unreadable(const char *name, const char *why) {

@@ -30,6 +30,9 @@ void say_refused_of(const char *name, struct plan_end end, const char *format, .
 /* From now on this file of a folder is gone through, and has one line; null: no folder is. */
 void say_in_one_line(const char *file);
 
+/* From now on scripts are said to: each refusal is an object on standard output, and notes are left out. */
+void say_in_objects(void);
+
 /* A note where the byte of a place belongs to an end of a line that is of another kind. */
 void say_line_ends(const struct scan *scan, size_t at);
 

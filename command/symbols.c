@@ -54,6 +54,29 @@ int read_names(const struct plan *plan, struct names *names) {
 }
 
 void free_names(struct names *names) {
-    for (int list = 0; list < NAMED; list++)
+    for (int list = 0; list < NAMED; list++) {
         free(names->of[list]);
+        names->of[list] = NULL;
+    }
+}
+
+void json_entry(struct json *json, const struct names *names, int list, uint64_t entry) {
+    const struct symbol *symbol = &names->of[list][entry];
+    json_text(json, "list", nouns[list]);
+    json_number(json, "position", entry);
+    if (symbol->name != NULL)
+        json_bytes(json, "name", symbol->name, symbol->length);
+}
+
+void json_names(struct json *json, const struct plan *plan, const struct names *names) {
+    json_open(json, "names", '[');
+    for (int list = 0; list < NAMED; list++)
+        for (uint64_t k = 0; k < entries(plan, list); k++) {
+            if (names->of[list][k].name == NULL)
+                continue;
+            json_open(json, NULL, '{');
+            json_entry(json, names, list, k);
+            json_close(json, '}');
+        }
+    json_close(json, ']');
 }

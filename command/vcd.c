@@ -9,9 +9,6 @@
 
 typedef unsigned long long ull;
 
-/* The lists that are shown. */
-enum { SHOWN = NAMED_OUTPUTS + 1 };
-
 /* The short name of a signal in the file: digits from "!" to "~". */
 static const char *code(uint64_t signal) {
     static char text[16];
@@ -85,12 +82,12 @@ static int print_signals(const struct plan *plan, const struct names *names, int
     return word != NULL;
 }
 
-static int print_head(const struct plan *plan, const struct names *names, FILE *to) {
-    static const char *const scopes[SHOWN] = {"inputs", "latches", "outputs"};
+static int print_head(const struct wave *wave, const struct plan *plan, const struct names *names, FILE *to) {
+    static const char *const scopes[NAMED] = {"inputs", "latches", "outputs", "bad_states", "constraints"};
     uint64_t first = 0;
     int all = 1;
     fputs("$version Golvanzo $end\n$timescale 1 ns $end\n$scope module plan $end\n", to);
-    for (int list = 0; list < SHOWN && all; first += entries(plan, list++)) {
+    for (int list = 0; list < wave->lists && all; first += entries(plan, list++)) {
         fprintf(to, "$scope module %s $end\n", scopes[list]);
         all = print_signals(plan, names, list, first, to);
         fputs("$upscope $end\n", to);
@@ -99,16 +96,17 @@ static int print_head(const struct plan *plan, const struct names *names, FILE *
     return all;
 }
 
-int begin_wave(struct wave *wave, const struct plan *plan, FILE *to) {
+int begin_wave(struct wave *wave, const struct plan *plan, int all, FILE *to) {
     struct names names;
     const uint64_t *n = plan->counts;
     int status = read_names(plan, &names);
     if (status != DONE)
         return status;
-    wave->shown = calloc(n[PLAN_I] + n[PLAN_L] + n[PLAN_O] + 1, 1);
-    int all = wave->shown != NULL && print_head(plan, &names, to);
+    wave->lists = all ? NAMED : NAMED_OUTPUTS + 1;
+    wave->shown = calloc(n[PLAN_I] + n[PLAN_L] + n[PLAN_O] + n[PLAN_B] + n[PLAN_C] + 1, 1);
+    int good = wave->shown != NULL && print_head(wave, plan, &names, to);
     free_names(&names);
-    if (all)
+    if (good)
         return DONE;
     free_wave(wave);
     return no_memory();
@@ -134,6 +132,10 @@ void print_changes(const struct wave *wave, const struct plan *plan, const struc
     print_list(wave, 0, run->inputs, n[PLAN_I], to);
     print_list(wave, n[PLAN_I], run->state, n[PLAN_L], to);
     print_list(wave, n[PLAN_I] + n[PLAN_L], run->outputs, n[PLAN_O], to);
+    if (!run->all)
+        return;
+    print_list(wave, n[PLAN_I] + n[PLAN_L] + n[PLAN_O], run->seen[VIEW_BADS], n[PLAN_B], to);
+    print_list(wave, n[PLAN_I] + n[PLAN_L] + n[PLAN_O] + n[PLAN_B], run->seen[VIEW_CONSTRAINTS], n[PLAN_C], to);
 }
 
 void print_wave_end(const struct wave *wave, const struct plan *plan, const struct run *run, FILE *to) {

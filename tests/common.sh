@@ -66,11 +66,12 @@ build_archive() {
     }
 }
 
-# build_over_desk NAME SOURCE FLAG..: target/desk/NAME from a C source and the archive.
+# build_over_desk NAME SOURCE FLAG..: target/desk/NAME from a C source and the archive; the file VERSION says its version.
 build_over_desk() {
-    local name=$1 source=$2
+    local name=$1 source=$2 version
     shift 2
-    "$compiler" -std=c11 -Wall -Wextra -Werror "$@" -I c -o "target/desk/$name" "$source" target/staticlib/libdesk.a ||
+    version=$(cat VERSION 2>/dev/null || echo unknown)
+    "$compiler" -std=c11 -Wall -Wextra -Werror "$@" "-DGOLVANZO_VERSION=\"$version\"" -I c -o "target/desk/$name" "$source" target/staticlib/libdesk.a ||
         give_up "$source isn't built"
 }
 

@@ -24,7 +24,7 @@ typed() {
 # A folder that looks like the project's, where the command is the one that is tried; what is proved is proved by then.
 go_to_school() {
     mkdir "$room/school"
-    ln -s "$top/c" "$top/docs" "$top/examples" "$top/target" "$room/school"
+    ln -s "$top/c" "$top/command" "$top/docs" "$top/examples" "$top/target" "$room/school"
     printf '#!/bin/sh\nexec %s "$@"\n' "$top/$command" >"$room/school/plan"
     chmod +x "$room/school/plan"
 }

@@ -4,7 +4,7 @@
 
 copy_project() {
     mkdir -p "$room/project/tests" "$room/project/crates" "$room/bin"
-    cp -r plan c command "$room/project"
+    cp -r plan c command VERSION "$room/project"
     cp tests/common.sh "$room/project/tests"
     printf 'plan:\nroom: plan\nunused: plan room\ndesk: room\nprogram: desk unused\n' >"$room/project/crates.txt"
     cat >"$room/bin/rt" <<END

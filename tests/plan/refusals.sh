@@ -202,7 +202,7 @@ unreadable() {
     says check "$room/none" <<END
 $room/none: refused 14 at 0: it can't be read: No such file or directory
 END
-    refuses "$room: refused 14 at 0: " convert "$room"
+    refuses "$room: refused 14 at 0: " words "$room"
     refuses "none: refused 14 at 0: " trace examples/toggle.aag "$room/none"
     refuses "standard input: refused 14 at 0: " convert - <&-
     refuses "/proc/self/mem: refused 14 at 0: " reduce /proc/self/mem

@@ -1,0 +1,82 @@
+#include "json.h"
+
+#include <string.h>
+
+struct json json_line(FILE *to) {
+    struct json json = {to, 0};
+    fputc('{', to);
+    return json;
+}
+
+void json_end(struct json *json) {
+    fputs("}\n", json->to);
+}
+
+/* How many bytes the character at the start has; 0 if none stands there (RFC 3629, section 4). */
+static size_t character(const uint8_t *b, size_t length) {
+    size_t n = b[0] < 0x80 ? 1 : b[0] >= 0xC2 && b[0] < 0xE0 ? 2 : (b[0] & 0xF0) == 0xE0 ? 3 : b[0] >= 0xF0 && b[0] < 0xF5 ? 4 : 0;
+    if (n > length)
+        return 0;
+    for (size_t k = 1; k < n; k++)
+        if ((b[k] & 0xC0) != 0x80)
+            return 0;
+    if ((b[0] == 0xE0 && b[1] < 0xA0) || (b[0] == 0xED && b[1] >= 0xA0) || (b[0] == 0xF0 && b[1] < 0x90) ||
+        (b[0] == 0xF4 && b[1] >= 0x90))
+        return 0;
+    return n;
+}
+
+static void put_string(FILE *to, const uint8_t *bytes, size_t length) {
+    fputc('"', to);
+    for (size_t k = 0, n; k < length; k += n) {
+        n = character(bytes + k, length - k);
+        if (n == 0)
+            fputs("\\ufffd", to), n = 1;
+        else if (bytes[k] < 0x20 || bytes[k] == 0x7F)
+            fprintf(to, "\\u%04x", bytes[k]);
+        else if (bytes[k] == '"' || bytes[k] == '\\')
+            fprintf(to, "\\%c", bytes[k]);
+        else
+            fwrite(bytes + k, 1, n, to);
+    }
+    fputc('"', to);
+}
+
+/* What stands before a value. */
+static void begin(struct json *json, const char *key) {
+    if (json->more)
+        fputc(',', json->to);
+    json->more = 1;
+    if (key != NULL)
+        fprintf(json->to, "\"%s\":", key);
+}
+
+void json_open(struct json *json, const char *key, char bracket) {
+    begin(json, key);
+    fputc(bracket, json->to);
+    json->more = 0;
+}
+
+void json_close(struct json *json, char bracket) {
+    fputc(bracket, json->to);
+    json->more = 1;
+}
+
+void json_bytes(struct json *json, const char *key, const uint8_t *bytes, size_t length) {
+    begin(json, key);
+    put_string(json->to, bytes, length);
+}
+
+void json_text(struct json *json, const char *key, const char *text) {
+    json_bytes(json, key, (const uint8_t *)text, strlen(text));
+}
+
+void json_number(struct json *json, const char *key, uint64_t number) {
+    begin(json, key);
+    fprintf(json->to, "%llu", (unsigned long long)number);
+}
+
+void json_truth(struct json *json, const char *key, int truth) {
+    begin(json, key);
+    fputs(truth ? "true" : "false", json->to);
+}
