@@ -56,7 +56,11 @@ static void say_length(const struct scan *scan, struct plan_end end) {
         return;
     }
     struct records gates = records_of(scan->of, GOLVANZO_TABLE_GATES);
-    say_refused(scan, end, spot, "its counts ask for %llu bytes, it has %zu", (ull)end_of(&gates), scan->of->length);
+    if (end.place < scan->of->length)
+        say_refused(scan, end, spot, "its counts ask for %llu bytes, it has more", (ull)end_of(&gates));
+    else
+        say_refused(scan, end, spot, "its counts ask for %llu bytes, it has %zu", (ull)end_of(&gates),
+                    scan->of->length);
 }
 
 static void say_count(const struct scan *scan, struct plan_end end) {

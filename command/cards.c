@@ -45,16 +45,17 @@ static int to_cards(const struct source *file, struct plan_bytes *made) {
 
 /* A direction: what it does, and the ending that a file's name gets; known endings go. */
 struct move {
+    int (*read)(const char *, struct source *);
     int (*make)(const struct source *, struct plan_bytes *);
     const char *ending;
 };
 
-static const struct move moves[] = {{to_aiger, ".aig"}, {to_cards, ".cards"}};
+static const struct move moves[] = {{read_cards, to_aiger, ".aig"}, {read_source, to_cards, ".cards"}};
 
 static int move_file(const struct move *move, const char *from, const char *out) {
     struct source file;
     struct plan_bytes made = {NULL, 0};
-    int status = read_source(from, &file);
+    int status = move->read(from, &file);
     if (status != DONE)
         return status;
     status = move->make(&file, &made);

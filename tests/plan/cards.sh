@@ -25,7 +25,7 @@ wrong_cards() {
     refused_cards '' 0 1 0 "a file of plan cards has 22 bytes or more, this one 0"
     refused_cards 'PH' 2 1 2 "a file of plan cards has 22 bytes or more, this one 2"
     refused_cards 'PH\3\0\0\0\2\0\0\0\0\0\0\0\1\0\0\0\1\0\0\0PO\6\0\0\0' 28 1 28 "its counts ask for 38 bytes, it has 28"
-    refused_cards 'PH\0\0\0\0\0\0\0\0\0\0\0\0\0\0\0\0\0\0\0\0P' 22 1 22 "its counts ask for 22 bytes, it has 23"
+    refused_cards 'PH\0\0\0\0\0\0\0\0\0\0\0\0\0\0\0\0\0\0\0\0P' 22 1 22 "its counts ask for 22 bytes, it has more"
     refused_cards 'PI\0\0\0\0\0\0\0\0\0\0\0\0\0\0\0\0\0\0\0\0' 0 18 0 'the mark "PH" must stand here, not "PI"'
     refused_cards 'PH\1\0\0\0\0\0\0\0\1\0\0\0\0\0\0\0\0\0\0\0PO\2\0\0\0' 22 18 22 'the mark "PL" must stand here, not "PO"'
     refused_cards 'PH\2\0\0\0\1\0\0\0\0\0\0\0\1\0\0\0\1\0\0\0PO\2\0\0\0PO\2\0\0\0\2\0\0\0' 28 18 28 'the mark "PA" must stand'
