@@ -40,6 +40,9 @@ int read_cards(const char *name, struct source *source);
 int read_bytes(const char *name, struct source *source);
 void free_source(struct source *source);
 
+/* The name as it is typed: standard input is -. */
+const char *typed_name(const struct source *source);
+
 /* Where results go: standard output, or a file that appears under its name only when all of it is written. `people` is whether it is
    a terminal that -o did not name. */
 struct output {

@@ -89,9 +89,15 @@ static int read_all(int from, struct source *source, first_bytes *first) {
     return 0;
 }
 
+static const char standard_input[] = "standard input";
+
+const char *typed_name(const struct source *source) {
+    return source->name == standard_input ? "-" : source->name;
+}
+
 static int read_file(const char *name, struct source *source, first_bytes *first) {
     int standard = strcmp(name, "-") == 0;
-    *source = (struct source){standard ? "standard input" : name, NULL, 0};
+    *source = (struct source){standard ? standard_input : name, NULL, 0};
     int from = standard ? STDIN_FILENO : open(name, O_RDONLY);
     int good = from >= 0 && read_all(from, source, first), why = errno;
     if (from >= 0 && !standard)

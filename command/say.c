@@ -135,7 +135,7 @@ int fail(const char *format, ...) {
     }
     say_toned(BOLD, moving != NULL ? moving : "plan");
     if (moving != NULL)
-        fputs("not moved: ", told());
+        fputs("not written: ", told());
     say_sentence(format, more);
     va_end(more);
     return FAILED;

@@ -137,6 +137,28 @@ $room/plan:byte 18: refused 1 at 18: the file ends in the second difference of g
 END
 }
 
+# What is wrong has its everyday name.
+everyday_names() {
+    refuses "leading-zero.aag:1:6: refused 1 at 5: in the header a number has a leading zero" check tests/refused-01/leading-zero.aag
+    plan 'aag 10 01 0 0 0\n'
+    refuses "refused 1 at 8: in the header a number has a leading zero" check "$room/plan"
+    plan 'aag 1 1 0 1 0\n2\n02\n'
+    refuses "plan:3:2: refused 1 at 17: in output 0 a number has a leading zero" check "$room/plan"
+    plan 'aag 1 1 0 1 0\n2\n2\ni00 a\n'
+    refuses "plan:4:3: refused 1 at 20: in the symbols and comments a number has a leading zero" check "$room/plan"
+    plan 'aag 100 1 0 1 0\n20 \n'
+    refuses "refused 1 at 18: in input 0 a new line must stand here, not a space" check "$room/plan"
+    plan 'aag 1 1 0 1 0\n\n2\n'
+    refuses "plan:2:1: refused 1 at 14: in input 0 a number must stand here, but the line is empty" check "$room/plan"
+    plan 'aag 1 1 0 1 0\n2\n2\n\n'
+    refuses "plan:4:1: refused 1 at 18: in the symbols and comments \"i\", \"l\", \"o\", \"b\", \"c\" or the end of the file must stand here, but the line is empty" \
+        check "$room/plan"
+    plan 'aig 10 1 0 0 2\n'
+    refuses "plan:1:5: refused 3 at 0: I + L + A = 1 + 0 + 2 = 3, but in binary form it must be M = 10" check "$room/plan"
+    plan 'aag 1 1 0 0 2\n'
+    refuses "refused 3 at 0: I + L + A = 1 + 0 + 2 = 3 is above M = 1" check "$room/plan"
+}
+
 # Lines and bytes of worked examples, those of AIGER 1.9 among them; a binary file has lines until its gates.
 places() {
     refuses "no-new-line.aag:1:14: refused 1 at 13: " words tests/refused-01/no-new-line.aag
@@ -263,6 +285,7 @@ in_lines
 other_line_ends
 in_other_places
 before_gates
+everyday_names
 places
 in_vectors
 no_plans

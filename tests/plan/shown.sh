@@ -23,7 +23,7 @@ file_names() {
     try same "$room/names/$name" examples/selector.aag
     holds "same of such a name" grep -qxF "$room/names/$shown: the number of inputs is 2" "$room/out"
     is_plain "same of such a name" "$(wc -l <"$room/out")"
-    printf '%s\n' "$room/names/$shown: refused 15 at 0: " "$room/names/wrong $shown:3:1: refused 5 at 16: " '0 of 2 moved' >"$room/told"
+    printf '%s\n' "$room/names/$shown: refused 15 at 0: " "$room/names/wrong $shown:3:1: refused 5 at 16: " '0 of 2 written' >"$room/told"
     try card -o "$room/names-cards" "$room/names"
     holds "a folder of such names" test 2 = "$(head -n 2 "$room/told" | grep -cFf - "$room/out")"
     is_plain "a folder of such names" 3
