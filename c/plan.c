@@ -196,6 +196,13 @@ struct plan_end plan_drop(struct plan *plan) {
     return change(plan, golvanzo_drop);
 }
 
+void plan_keep_tail(struct plan *plan, size_t from, size_t to) {
+    to = to < plan->tail_length ? to : plan->tail_length;
+    from = from < to ? from : to;
+    memmove(plan->tail, plan->tail + from, to - from);
+    plan->tail_length = to - from;
+}
+
 /* A call that writes a file. */
 typedef void write_call(const uint64_t *counts, GOLVANZO_GIVEN, GOLVANZO_SCRATCH, const uint8_t *tail, size_t tail_len,
                         uint8_t *out, size_t out_len, uint64_t *answer);

@@ -61,6 +61,9 @@ struct plan_end plan_convert(struct plan *plan);
 struct plan_end plan_reduce(struct plan *plan);
 struct plan_end plan_drop(struct plan *plan);
 
+/* Keeps these bytes of the tail alone, from one offset up to another; no more than there are. */
+void plan_keep_tail(struct plan *plan, size_t from, size_t to);
+
 /* Write the plan and its tail as a file, or as plan cards, which hold no tail; `out` is empty after a refusal. */
 struct plan_end plan_write_text(struct plan *plan, struct plan_bytes *out);
 struct plan_end plan_write_binary(struct plan *plan, struct plan_bytes *out);

@@ -27,12 +27,9 @@ static int to_aiger(const struct source *cards, struct plan_bytes *made) {
 enum { HAS_SYMBOLS, HAS_COMMENT, HAS_RESETS, HAS_BADS, HAS_CONSTRAINTS, KINDS };
 
 static void find_kinds(const struct plan *plan, int has[KINDS]) {
-    struct symbol symbol;
-    size_t at = 0;
-    has[HAS_SYMBOLS] = next_symbol(plan->tail, plan->tail_length, &at, &symbol);
-    while (next_symbol(plan->tail, plan->tail_length, &at, &symbol))
-        continue;
-    has[HAS_COMMENT] = at < plan->tail_length;
+    size_t comment = symbols_end(plan);
+    has[HAS_SYMBOLS] = comment > 0;
+    has[HAS_COMMENT] = comment < plan->tail_length;
     has[HAS_RESETS] = 0;
     for (uint64_t k = 0; k < plan->counts[PLAN_L]; k++)
         has[HAS_RESETS] |= plan->table[PLAN_RESETS][k] != 0;

@@ -27,7 +27,7 @@ struct request {
     char **words;
     int number;
     const char *file, *second, *out, *output, *bad, *constraint, *step, *allow, *list, *edit[EDIT_WORDS];
-    int vcd, all, large, names, three, count, plan, json, quiet, many, cards;
+    int vcd, all, large, names, comments, three, count, plan, json, quiet, many, cards;
 };
 
 /* files.c. What is opened must not take the place of standard input, output or error where one of these is closed. */
@@ -120,6 +120,8 @@ int run_same(const struct request *request);
 int run_pairs(const struct request *request);
 int run_draw(const struct request *request, const struct source *file, struct plan *plan);
 int run_words(const struct request *request, const struct source *file);
+int run_strip(const struct request *request, const struct source *file, struct plan *plan);
+int run_mend(const struct request *request);
 int run_file(const struct request *request);
 int run_card(const struct request *request);
 

@@ -20,7 +20,8 @@ enum {
     TAKES_ALL = 1024,
     TAKES_JSON = 2048,
     TAKES_PLAN = 4096,
-    TAKES_CARDS = 8192
+    TAKES_CARDS = 8192,
+    TAKES_STRIP = 16384
 };
 
 /* The form of what a command writes, by which its file is named where many are written. */

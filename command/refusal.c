@@ -4,6 +4,7 @@
 
 #include "command.h"
 #include "cycle.h"
+#include "mend.h"
 #include "say.h"
 #include "symbols.h"
 
@@ -72,6 +73,21 @@ static const char *expected_in_tail(const struct scan *scan, size_t place) {
     return place <= digits ? "a space" : "a printable character or a new line";
 }
 
+/* Where "plan mend" takes it right, that is said. Of a file whose first bytes are refused no more than these was read. */
+static void say_mendable(const struct refusal *r) {
+    struct mended mended;
+    struct plan plan;
+    int all = mend(r->scan.of, &mended) && mended.number > 0;
+    const struct change *first = mended.changes;
+    if (all && (first->kind > CARRIAGE_RETURNS || first->at != r->end.place)) {
+        all = plan_read(&plan, mended.at, mended.length).number == 0;
+        plan_free(&plan);
+    }
+    if (all)
+        say_more("%s: \"plan mend %s\" %s", change_why(first->kind), typed_name(r->scan.of), change_done(first->kind));
+    free_mended(&mended);
+}
+
 static int is_digit(const struct source *file, size_t at) {
     return at < file->length && '0' <= file->at[at] && file->at[at] <= '9';
 }
@@ -96,7 +112,7 @@ static void say_expected(const struct refusal *r, const char *where, const char 
     else
         say_refused(&r->scan, r->end, spot, "in %s %s must stand here, not %s", where, expected,
                     byte_name(file, spot.at));
-    say_line_ends(&r->scan, spot.at);
+    say_mendable(r);
 }
 
 /* The first four bytes are those of every file. */
@@ -110,6 +126,7 @@ static void say_wrong_start(const struct refusal *r) {
                     "a file starts with \"aag \" or \"aig \"; here stands %s", byte_name(file, place));
     if (file->length > 1 && memcmp(file->at, "PH", 2) == 0)
         say_more("this looks like plan cards: \"plan file\" makes a plan of them");
+    say_mendable(r);
 }
 
 static const char *which_difference(const struct difference *d) {

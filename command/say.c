@@ -296,6 +296,14 @@ void say_note(const struct scan *scan, struct spot spot, const char *format, ...
     va_end(more);
 }
 
+void say_change(const struct scan *scan, size_t at, const char *format, ...) {
+    va_list more;
+    va_start(more, format);
+    say_where(scan, at);
+    say_sentence(format, more);
+    va_end(more);
+}
+
 void say_more(const char *format, ...) {
     va_list more;
     if (moving != NULL || objects)

@@ -17,6 +17,9 @@ void say_refused(const struct scan *scan, struct plan_end end, struct spot spot,
 /* The same as a note to the sentence before. */
 void say_note(const struct scan *scan, struct spot spot, const char *format, ...) __attribute__((format(printf, 3, 4)));
 
+/* "file:line:column: sentence", of what was changed there. */
+void say_change(const struct scan *scan, size_t at, const char *format, ...) __attribute__((format(printf, 3, 4)));
+
 /* A note without a place. */
 void say_more(const char *format, ...) __attribute__((format(printf, 1, 2)));
 

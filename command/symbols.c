@@ -29,6 +29,14 @@ int next_symbol(const uint8_t *bytes, size_t length, size_t *at, struct symbol *
     return 1;
 }
 
+size_t symbols_end(const struct plan *plan) {
+    struct symbol symbol;
+    size_t at = 0;
+    while (next_symbol(plan->tail, plan->tail_length, &at, &symbol))
+        continue;
+    return at;
+}
+
 void put_name(const struct symbol *symbol, FILE *to) {
     fwrite(symbol->name, 1, symbol->length, to);
 }

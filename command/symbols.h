@@ -21,6 +21,9 @@ struct symbol {
 /* The symbol line at *at of these bytes, *at going past it; 0 if no symbol line stands there. */
 int next_symbol(const uint8_t *bytes, size_t length, size_t *at, struct symbol *symbol);
 
+/* Where the symbols of a plan's tail end; a comment may start there. */
+size_t symbols_end(const struct plan *plan);
+
 /* The names of a plan's entries; `name` is null for an entry that has none. */
 struct names {
     struct symbol *of[NAMED];

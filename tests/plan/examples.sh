@@ -182,7 +182,7 @@ standard_input() {
 
 usage() {
     local verb
-    for verb in check convert reduce drop rewire trace plain explain witness report rows same file card draw words; do
+    for verb in check convert reduce drop strip mend rewire trace plain explain witness report rows same file card draw words; do
         try "$verb" --help
         holds "$verb --help" grep -q "^plan $verb \[-o OUT\] " "$room/out"
         cp "$room/out" "$room/told"

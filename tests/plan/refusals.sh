@@ -64,7 +64,7 @@ other_line_ends() {
 $room/plan:1:14: refused 1 at 13: in the header a space or a new line must stand here, not a carriage return
       1 | aag 7 2 1 2 4.
         |              ^
-note: lines end in CR LF here, as on Windows; a new line is LF alone: "tr -d '\r'" takes the CR away
+note: lines end in CR LF here, as on Windows; a new line is LF alone: "plan mend $room/plan" takes the CR off
 END
     plan 'aag 1 1 0 0 0\n2\r\n'
     refuses "plan:2:2: refused 1 at 15: in input 0 a new line must stand here, not a carriage return" check "$room/plan"
@@ -75,7 +75,7 @@ END
 $room/plan:1:14: refused 1 at 13: in the header a space or a new line must stand here, not a carriage return
       1 | aig 0 0 0 0 0.
         |              ^
-note: lines end in CR LF here, as on Windows; a new line is LF alone
+note: lines end in CR LF here, as on Windows; a new line is LF alone: "plan mend $room/plan" takes the CR off
 END
 }
 
@@ -100,6 +100,7 @@ END
 $room/plan:5:7: refused 1 at 26: in the symbols and comments a new line must stand here, not the end of the file
       5 | remark
         |       ^
+note: the last line has no end: "plan mend $room/plan" puts a new line there
 END
     plan 'aag 2 2 0 0 0\n2\n\33[31m\n'
     says check "$room/plan" <<END
