@@ -37,11 +37,13 @@ void keep_standard_files(void);
 int read_source(const char *name, struct source *source);
 void free_source(struct source *source);
 
-/* Where results go: standard output, or a file that appears under its name only when all of it is written. */
+/* Where results go: standard output, or a file that appears under its name only when all of it is written. `people` is whether it is
+   a terminal that -o did not name. */
 struct output {
     FILE *to;
     const char *name;
     char *target, *temporary;
+    int people;
 };
 
 int open_output(struct output *output, const char *name);

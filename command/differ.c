@@ -134,7 +134,8 @@ static void print_value(const struct side *side, struct place place, FILE *to) {
 }
 
 static void print_file(const struct side *side, FILE *to) {
-    fprintf(to, "%s: ", side->file.name);
+    put_text(to, side->file.name);
+    fputs(": ", to);
 }
 
 /* Two lines, or one where both have the same literal, so that the gates below it differ. */
@@ -226,9 +227,10 @@ static int only_tail(const struct differences *found) {
 static void print_sides(const struct side *sides, const struct differences *found, FILE *to) {
     size_t place = tails_apart(sides);
     for (int k = PLAN_I; k < PLAN_COUNTS; k++)
-        for (int side = 0; found->counts[k] && side < 2; side++)
-            fprintf(to, "%s: the number of %s is %llu\n", sides[side].file.name, count_nouns[k],
-                    (ull)sides[side].plan.counts[k]);
+        for (int side = 0; found->counts[k] && side < 2; side++) {
+            print_file(&sides[side], to);
+            fprintf(to, "the number of %s is %llu\n", count_nouns[k], (ull)sides[side].plan.counts[k]);
+        }
     for (size_t k = 0; k < found->number; k++)
         print_place(sides, found->at[k], to);
     for (int side = 0; side < 2; side++)

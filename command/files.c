@@ -194,7 +194,7 @@ static FILE *open_again(int file) {
    file that may not be written is opened only for the error. */
 int open_output(struct output *output, const char *name) {
     struct stat about;
-    *output = (struct output){stdout, "standard output", NULL, NULL};
+    *output = (struct output){.to = stdout, .name = "standard output", .people = name == NULL && isatty(STDOUT_FILENO)};
     if (name == NULL || strcmp(name, "-") == 0)
         return DONE;
     output->name = name;
@@ -229,7 +229,7 @@ void drop_output(struct output *output) {
         forget_temporary(output);
     }
     free(output->target);
-    *output = (struct output){NULL, NULL, NULL, NULL};
+    *output = (struct output){.to = NULL};
 }
 
 /* Whether files are brought to the disk together, when the last one is written: one by one takes longer than to write them. */
@@ -270,12 +270,37 @@ int close_output(struct output *output) {
     return status;
 }
 
+/* A plan in binary form, or plan cards. */
+static int is_binary(const uint8_t *bytes, size_t length) {
+    return (length >= 4 && memcmp(bytes, "aig ", 4) == 0) || (length >= 2 && memcmp(bytes, "PH", 2) == 0);
+}
+
+/* Text for people, in its lines. */
+static void put_lines(FILE *to, const uint8_t *bytes, size_t length) {
+    for (size_t at = 0; at < length; at++) {
+        const uint8_t *end = memchr(bytes + at, '\n', length - at);
+        size_t line = end == NULL ? length - at : (size_t)(end - (bytes + at));
+        put_shown(to, bytes + at, line);
+        if (end != NULL)
+            fputc('\n', to);
+        at += line;
+    }
+}
+
 int write_output(const char *name, const uint8_t *bytes, size_t length) {
     struct output output;
     int status = open_output(&output, name);
     if (status != DONE)
         return status;
-    setvbuf(output.to, NULL, _IONBF, 0);
-    fwrite(bytes, 1, length, output.to);
+    if (output.people && is_binary(bytes, length)) {
+        drop_output(&output);
+        return fail("binary is not written to a terminal: \"-o FILE\" writes it to a file, \"-o -\" here all the same");
+    }
+    if (output.people) {
+        put_lines(output.to, bytes, length);
+    } else {
+        setvbuf(output.to, NULL, _IONBF, 0);
+        fwrite(bytes, 1, length, output.to);
+    }
     return close_output(&output);
 }

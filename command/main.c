@@ -129,7 +129,7 @@ const struct command commands[] = {
      .what = "writes a drawing of the plan, for Graphviz",
      .more = "Inputs are boxes, latches double boxes, gates ellipses with their literal; a dotted edge negates.\n"
              "\"plan draw FILE | dot -Tsvg -o plan.svg\" makes a picture.\n"
-             "--large also draws a plan of more than 300 gates.",
+             "--large also draws a plan of more than 300 inputs, latches, gates, outputs, bad states and constraints.",
      .takes = TAKES_LARGE,
      .on_plan = run_draw},
     {.name = "words",

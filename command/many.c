@@ -78,9 +78,9 @@ static char *out_name(const struct many *many, const struct found *found, const 
 
 static void print_moved(const char *from, const char *to) {
     progress_clear();
-    print_path(stdout, from);
+    put_text(stdout, from);
     fputs(": ", stdout);
-    print_path(stdout, to);
+    put_text(stdout, to);
     fputc('\n', stdout);
 }
 

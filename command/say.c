@@ -9,6 +9,7 @@
 #include "json.h"
 #include "meaning.h"
 #include "progress.h"
+#include "utf8.h"
 
 enum { WIDE = 100, BEFORE = 60, GATE_BYTES = 16, GUTTER = 7 };
 
@@ -40,12 +41,49 @@ static const char *tone(enum tone which) {
     return isatty(fileno(told())) && getenv("NO_COLOR") == NULL ? codes[which] : "";
 }
 
-static void say_toned(enum tone which, const char *text) {
-    fprintf(told(), "%s%s: %s", tone(which), text, tone(PLAIN));
+/* How many bytes a character has that is shown as it stands there: one of ASCII, or one of UTF-8 that is no control. 0: none. */
+static size_t shown_at(const uint8_t *b, size_t left) {
+    int control = b[0] < 32 || b[0] == 127 || (b[0] == 0xC2 && left > 1 && b[1] < 0xA0);
+    return control ? 0 : utf8_at(b, left);
 }
 
+static void put_byte(FILE *to, uint8_t b) {
+    static const char known[] = "\n\r\t", letters[] = "nrt";
+    const char *at = b == 0 ? NULL : strchr(known, b);
+    if (at != NULL)
+        fprintf(to, "\\%c", letters[at - known]);
+    else
+        fprintf(to, "\\x%02x", b);
+}
+
+void put_shown(FILE *to, const void *bytes, size_t length) {
+    const uint8_t *b = bytes;
+    for (size_t at = 0, n; at < length; at += n + (n == 0)) {
+        n = shown_at(b + at, length - at);
+        if (n == 0)
+            put_byte(to, b[at]);
+        else
+            fwrite(b + at, 1, n, to);
+    }
+}
+
+void put_text(FILE *to, const char *text) {
+    put_shown(to, text, strlen(text));
+}
+
+static void say_toned(enum tone which, const char *text) {
+    fputs(tone(which), told());
+    put_text(told(), text);
+    fprintf(told(), ": %s", tone(PLAIN));
+}
+
+/* A sentence is one line, whatever names and words it has. */
 static void say_sentence(const char *format, va_list more) {
-    vfprintf(told(), format, more);
+    char *sentence;
+    if (vasprintf(&sentence, format, more) >= 0) {
+        put_text(told(), sentence);
+        free(sentence);
+    }
     fputc('\n', told());
 }
 
@@ -129,9 +167,11 @@ const char *byte_name(const struct source *source, size_t at) {
     return name;
 }
 
-/* Whether a place lies past the lines of a binary file. */
+/* Whether a place lies past the lines of a binary file. One that ends before its gates has lines alone; cards, whose bytes start at
+   0, have none. */
 static int past_lines(const struct scan *scan, size_t at) {
-    return scan->binary && scan->counts[PLAN_A] > 0 && at >= scan->gates;
+    int ends_before = scan->gates > 0 && scan->gates == scan->of->length;
+    return scan->binary && scan->counts[PLAN_A] > 0 && at >= scan->gates && !ends_before;
 }
 
 /* Where the line that a place lies in starts; a binary file's tail starts a line. */
@@ -144,11 +184,11 @@ static size_t line_start(const struct scan *scan, size_t at) {
 
 static void say_where(const struct scan *scan, size_t at) {
     fputs(tone(BOLD), told());
+    put_text(told(), scan->of->name);
     if (past_lines(scan, at))
-        fprintf(told(), "%s:byte %zu: ", scan->of->name, at);
+        fprintf(told(), ":byte %zu: ", at);
     else
-        fprintf(told(), "%s:%llu:%zu: ", scan->of->name, (unsigned long long)line_at(scan->of, at),
-                at - line_start(scan, at) + 1);
+        fprintf(told(), ":%llu:%zu: ", (unsigned long long)line_at(scan->of, at), at - line_start(scan, at) + 1);
     fputs(tone(PLAIN), told());
 }
 

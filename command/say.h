@@ -39,7 +39,12 @@ void say_line_ends(const struct scan *scan, size_t at);
 /* Refusal 14. */
 void say_unreadable(const char *name, const char *why);
 
-/* Bytes as they may be written to a terminal, cut at the room. */
+/* Whatever comes from a file or from the command line is shown so: control bytes, and those that are no UTF-8, are spelled out, as
+   "\n" or "\x1b", so that no terminal obeys them and a line stays one. The second takes a name or a word. */
+void put_shown(FILE *to, const void *bytes, size_t length);
+void put_text(FILE *to, const char *text);
+
+/* Bytes of a line under which a mark is put, a column each, cut at the room. */
 void show_bytes(char *to, size_t room, const uint8_t *bytes, size_t length);
 
 /* One byte of a file in words, or its end. */

@@ -164,8 +164,3 @@ void print_passed_over(const struct finds *finds) {
         printf("; %zu other %s passed over", finds->passed_over, finds->passed_over == 1 ? "file" : "files");
     putchar('\n');
 }
-
-void print_path(FILE *to, const char *path) {
-    for (; *path != '\0'; path++)
-        fputc((unsigned char)*path < 32 || *path == 127 ? '.' : *path, to);
-}

@@ -109,6 +109,34 @@ $room/plan:3:1: refused 1 at 16: in input 1 a number must stand here, not byte 1
 END
 }
 
+# A binary file that ends before its gates has lines alone.
+before_gates() {
+    plan 'aig 3 1 0 1 2\n'
+    says check "$room/plan" <<END
+$room/plan:2:1: refused 1 at 14: in output 0 a number must stand here, not the end of the file
+      2 | 
+        | ^
+END
+    plan 'aig 3 1 0 1 2\n6'
+    says check "$room/plan" <<END
+$room/plan:2:2: refused 1 at 15: in output 0 a new line must stand here, not the end of the file
+      2 | 6
+        |  ^
+END
+    plan 'aig 3 1 0 1 2\n6\n'
+    says check "$room/plan" <<END
+$room/plan:3:1: refused 1 at 16: the file ends before the first difference of gate 0, and A is 2
+      3 | 
+        | ^
+END
+    plan 'aig 3 1 0 1 2\n6\n\2\202'
+    says check "$room/plan" <<END
+$room/plan:byte 18: refused 1 at 18: the file ends in the second difference of gate 0, and A is 2
+        | 02 82
+        |       ^~
+END
+}
+
 # Lines and bytes of worked examples, those of AIGER 1.9 among them; a binary file has lines until its gates.
 places() {
     refuses "no-new-line.aag:1:14: refused 1 at 13: " words tests/refused-01/no-new-line.aag
@@ -210,6 +238,7 @@ worked_refusals
 in_lines
 other_line_ends
 in_other_places
+before_gates
 places
 in_vectors
 no_plans
