@@ -77,8 +77,9 @@ struct plan_end plan_step_plain(struct plan *plan, uint8_t *state, const uint8_t
 struct plan_end plan_check_plain(struct plan *plan);
 
 /* What the witness question says: whether every filling of the x shows a 1, and how many were tried. */
+enum plan_says { PLAN_NO, PLAN_YES, PLAN_UNDECIDED };
 struct plan_finding {
-    enum { PLAN_NO, PLAN_YES, PLAN_UNDECIDED } says;
+    enum plan_says says;
     uint64_t tried;
 };
 

@@ -56,7 +56,11 @@ static void say_length(const struct scan *scan, struct plan_end end) {
         return;
     }
     struct records gates = records_of(scan->of, GOLVANZO_TABLE_GATES);
-    say_refused(scan, end, spot, "its counts ask for %llu bytes, it has %zu", (ull)end_of(&gates), scan->of->length);
+    if (end.place < scan->of->length)
+        say_refused(scan, end, spot, "its counts ask for %llu bytes, it has more", (ull)end_of(&gates));
+    else
+        say_refused(scan, end, spot, "its counts ask for %llu bytes, it has %zu", (ull)end_of(&gates),
+                    scan->of->length);
 }
 
 static void say_count(const struct scan *scan, struct plan_end end) {
@@ -68,7 +72,7 @@ static void say_count(const struct scan *scan, struct plan_end end) {
 static void say_sum(const struct scan *scan, struct plan_end end) {
     ull i = card_count(scan->of, PLAN_I), l = card_count(scan->of, PLAN_L), a = card_count(scan->of, PLAN_A);
     say_refused(scan, end, (struct spot){MARK, NUMBER},
-                "I + L + A = %llu + %llu + %llu = %llu, but on plan cards it is M = %llu", i, l, a, i + l + a,
+                "I + L + A = %llu + %llu + %llu = %llu, but on plan cards it must be M = %llu", i, l, a, i + l + a,
                 (ull)card_count(scan->of, PLAN_M));
 }
 

@@ -10,6 +10,7 @@
 #include "command.h"
 #include "card_refusals.h"
 #include "say.h"
+#include "symbols.h"
 
 /* Both directions: the bytes of the moved plan, or what is said of why there are none. */
 static int to_aiger(const struct source *cards, struct plan_bytes *made) {
@@ -22,15 +23,54 @@ static int to_aiger(const struct source *cards, struct plan_bytes *made) {
     return cards_ended(end, cards);
 }
 
+/* What cards can't hold: the two of the tail first, which can be taken off. */
+enum { HAS_SYMBOLS, HAS_COMMENT, HAS_RESETS, HAS_BADS, HAS_CONSTRAINTS, KINDS };
+
+static void find_kinds(const struct plan *plan, int has[KINDS]) {
+    struct symbol symbol;
+    size_t at = 0;
+    has[HAS_SYMBOLS] = next_symbol(plan->tail, plan->tail_length, &at, &symbol);
+    while (next_symbol(plan->tail, plan->tail_length, &at, &symbol))
+        continue;
+    has[HAS_COMMENT] = at < plan->tail_length;
+    has[HAS_RESETS] = 0;
+    for (uint64_t k = 0; k < plan->counts[PLAN_L]; k++)
+        has[HAS_RESETS] |= plan->table[PLAN_RESETS][k] != 0;
+    has[HAS_BADS] = plan->counts[PLAN_B] > 0;
+    has[HAS_CONSTRAINTS] = plan->counts[PLAN_C] > 0;
+}
+
+/* Which of the five it is, and what to do. */
+static int not_on_cards(struct plan_end end, const struct source *file, const struct plan *plan) {
+    static const char *const kinds[KINDS] = {"no symbols", "no comment", "no resets that are not 0", "no bad states",
+                                             "no constraints"};
+    char all[120] = "";
+    int has[KINDS], left = 0;
+    find_kinds(plan, has);
+    for (int k = 0; k < KINDS; k++)
+        left += has[k];
+    for (int k = 0, said = 0; k < KINDS; k++)
+        if (has[k]) {
+            strcat(all, said == 0 ? "" : said + 1 == left ? " and " : ", ");
+            strcat(all, kinds[k]);
+            said++;
+        }
+    if (has[HAS_RESETS] || has[HAS_BADS] || has[HAS_CONSTRAINTS])
+        say_refused_of(file->name, end, "cards hold %s, which the plan has: it can't be put on cards as it is", all);
+    else
+        say_refused_of(file->name, end, "cards hold %s, which the plan has: \"plan strip %s\" takes %s off", all,
+                       typed_name(file), has[HAS_SYMBOLS] ? "them" : "it");
+    return REFUSED;
+}
+
 /* What cards can't hold is 19; all other refusals are those of a plan. */
 static int write_cards(const struct source *file, struct plan *plan, struct plan_bytes *made) {
     struct plan_end end = plan_write_cards(plan, made);
-    if (end.number != GOLVANZO_NOT_ON_CARDS && end.number != GOLVANZO_NOT_IN_ORDER)
+    if (end.number == GOLVANZO_NOT_ON_CARDS)
+        return not_on_cards(end, file, plan);
+    if (end.number != GOLVANZO_NOT_IN_ORDER)
         return ended(end, file);
-    say_refused_of(file->name, end,
-                   end.number == GOLVANZO_NOT_IN_ORDER
-                       ? "the plan is not in binary order: convert it first"
-                       : "cards hold no symbols, comments, resets, bad states or constraints");
+    say_refused_of(file->name, end, "the plan is not in binary order: convert it first");
     return REFUSED;
 }
 
@@ -45,16 +85,17 @@ static int to_cards(const struct source *file, struct plan_bytes *made) {
 
 /* A direction: what it does, and the ending that a file's name gets; known endings go. */
 struct move {
+    int (*read)(const char *, struct source *);
     int (*make)(const struct source *, struct plan_bytes *);
     const char *ending;
 };
 
-static const struct move moves[] = {{to_aiger, ".aig"}, {to_cards, ".cards"}};
+static const struct move moves[] = {{read_cards, to_aiger, ".aig"}, {read_source, to_cards, ".cards"}};
 
 static int move_file(const struct move *move, const char *from, const char *out) {
     struct source file;
     struct plan_bytes made = {NULL, 0};
-    int status = read_source(from, &file);
+    int status = move->read(from, &file);
     if (status != DONE)
         return status;
     status = move->make(&file, &made);
@@ -106,7 +147,7 @@ static const char *no_file(const char *name) {
     struct stat about;
     if (stat(name, &about) != 0 || S_ISREG(about.st_mode))
         return NULL;
-    return S_ISDIR(about.st_mode) ? "it is a folder, and moved only by itself" : "it is no file";
+    return S_ISDIR(about.st_mode) ? "it is a folder, which is given by itself" : "it is no file";
 }
 
 static void print_moved(const char *from, const char *out) {
@@ -160,7 +201,7 @@ static int move_entries(const struct move *move, const struct request *request, 
         status = end > status ? end : status;
     }
     tdestroy(moved, leave);
-    fprintf(lines.to, "%d of %d moved\n", count, number);
+    fprintf(lines.to, "%d of %d written\n", count, number);
     return close_output(&lines) == DONE ? status : FAILED;
 }
 
@@ -177,7 +218,7 @@ static int make_folder(const char *name, const struct stat *from) {
     if (!is_folder(name, &to))
         return fail("%s: %s", name, strerror(ENOTDIR));
     if (to.st_dev == from->st_dev && to.st_ino == from->st_ino)
-        return fail("%s: -o must name another folder than the one that is moved", name);
+        return fail("%s: -o must name another folder than the one that is read", name);
     return DONE;
 }
 

@@ -33,9 +33,15 @@ struct request {
 /* files.c. What is opened must not take the place of standard input, output or error where one of these is closed. */
 void keep_standard_files(void);
 
-/* It says itself why a file can't be read, as 14. */
+/* It says itself why a file can't be read, as 14. Of a plan and of cards no more is read than what is refused whatever follows; the
+   third reads whatever there is. */
 int read_source(const char *name, struct source *source);
+int read_cards(const char *name, struct source *source);
+int read_bytes(const char *name, struct source *source);
 void free_source(struct source *source);
+
+/* The name as it is typed: standard input is -. */
+const char *typed_name(const struct source *source);
 
 /* Where results go: standard output, or a file that appears under its name only when all of it is written. `people` is whether it is
    a terminal that -o did not name. */

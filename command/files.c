@@ -18,23 +18,68 @@ void keep_standard_files(void) {
             _exit(FAILED);
 }
 
-/* The size that a regular file says it has, so that it is read at once; others are read by doubling. */
-static size_t first_room(FILE *from) {
-    struct stat about;
-    if (fstat(fileno(from), &about) == 0 && S_ISREG(about.st_mode) && about.st_size > 0)
-        return (size_t)about.st_size + 1;
-    return 65536;
+/* What the first bytes of a file say: that it is refused whatever follows, that nothing more is to be asked of them, or nothing. */
+enum first { REFUSED_WHOLE, GOES_ON, OPEN };
+typedef enum first first_bytes(const uint8_t *bytes, size_t length);
+
+/* The header decides, once all of it is there: only 1 at the end of what was read may change. */
+static enum first first_of_plan(const uint8_t *bytes, size_t length) {
+    uint64_t words[PLAN_TABLES + 1];
+    struct plan_end end = plan_words(bytes, length, words);
+    if (end.number == GOLVANZO_WRONG_BYTE && end.place >= length)
+        return OPEN;
+    return end.number == GOLVANZO_NOT_REFUSED ? GOES_ON : REFUSED_WHOLE;
 }
 
-/* Reads to the end; 0 if that fails, errno saying why. */
-static int read_all(FILE *from, struct source *source) {
-    size_t room = first_room(from);
+/* Cards that are longer than their counts ask are refused, however long they are (docs/PAPER.md, "Plan cards"). */
+static enum first first_of_cards(const uint8_t *bytes, size_t length) {
+    struct plan plan;
+    struct plan_end end = plan_read_cards(&plan, bytes, length);
+    plan_free(&plan);
+    return end.number == GOLVANZO_WRONG_BYTE && end.place < length ? REFUSED_WHOLE : OPEN;
+}
+
+static enum first first_of_any(const uint8_t *bytes, size_t length) {
+    (void)bytes;
+    (void)length;
+    return GOES_ON;
+}
+
+/* Twice the room, or what a regular file says that it needs. */
+static size_t more_room(int from, size_t room) {
+    struct stat about;
+    if (fstat(from, &about) == 0 && S_ISREG(about.st_mode) && (uintmax_t)about.st_size >= room)
+        return (size_t)about.st_size + 1;
+    return 2 * room;
+}
+
+/* Reads until the room is full or the file ends; 0 if that fails, errno saying why. */
+static int fill(int from, struct source *source, size_t room) {
+    ssize_t got = 1;
+    while (source->length < room && got > 0) {
+        got = read(from, source->at + source->length, room - source->length);
+        if (got < 0 && errno == EINTR)
+            got = 1;
+        else if (got > 0)
+            source->length += (size_t)got;
+    }
+    return got >= 0;
+}
+
+/* Reads to the end, or until the first bytes are refused. */
+static int read_all(int from, struct source *source, first_bytes *first) {
+    size_t room = 65536;
+    enum first says = OPEN;
     source->at = malloc(room);
     while (source->at != NULL) {
-        source->length += fread(source->at + source->length, 1, room - source->length, from);
+        if (!fill(from, source, room))
+            return 0;
         if (source->length < room)
-            return !ferror(from);
-        room *= 2;
+            return 1;
+        says = says == OPEN ? first(source->at, source->length) : says;
+        if (says == REFUSED_WHOLE)
+            return 1;
+        room = more_room(from, room);
         uint8_t *more = realloc(source->at, room);
         if (more == NULL)
             break;
@@ -44,14 +89,19 @@ static int read_all(FILE *from, struct source *source) {
     return 0;
 }
 
-int read_source(const char *name, struct source *source) {
+static const char standard_input[] = "standard input";
+
+const char *typed_name(const struct source *source) {
+    return source->name == standard_input ? "-" : source->name;
+}
+
+static int read_file(const char *name, struct source *source, first_bytes *first) {
     int standard = strcmp(name, "-") == 0;
-    *source = (struct source){standard ? "standard input" : name, NULL, 0};
-    FILE *from = standard ? stdin : fopen(name, "rb");
-    int good = from != NULL && (setvbuf(from, NULL, _IONBF, 0), read_all(from, source));
-    int why = errno;
-    if (from != NULL && !standard)
-        fclose(from);
+    *source = (struct source){standard ? standard_input : name, NULL, 0};
+    int from = standard ? STDIN_FILENO : open(name, O_RDONLY);
+    int good = from >= 0 && read_all(from, source, first), why = errno;
+    if (from >= 0 && !standard)
+        close(from);
     if (good)
         return DONE;
     free_source(source);
@@ -59,6 +109,18 @@ int read_source(const char *name, struct source *source) {
         return no_memory();
     say_unreadable(source->name, strerror(why));
     return REFUSED;
+}
+
+int read_source(const char *name, struct source *source) {
+    return read_file(name, source, first_of_plan);
+}
+
+int read_cards(const char *name, struct source *source) {
+    return read_file(name, source, first_of_cards);
+}
+
+int read_bytes(const char *name, struct source *source) {
+    return read_file(name, source, first_of_any);
 }
 
 void free_source(struct source *source) {

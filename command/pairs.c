@@ -54,9 +54,12 @@ static int list_members(struct pairs *pairs) {
 
 /* The partner with this ending, or null. */
 static struct member *partner_ending(const struct pairs *pairs, const char *name, const char *ending) {
-    char *wanted;
-    if (asprintf(&wanted, "%.*s%s", (int)stem_of(name), name, ending) < 0)
+    size_t stem = stem_of(name);
+    char *wanted = malloc(stem + strlen(ending) + 1);
+    if (wanted == NULL)
         return NULL;
+    memcpy(wanted, name, stem);
+    strcpy(wanted + stem, ending);
     struct member key = {NULL, wanted, 0}, **found = tfind(&key, &pairs->tree, by_name);
     free(wanted);
     return found == NULL ? NULL : *found;

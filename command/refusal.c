@@ -72,11 +72,31 @@ static const char *expected_in_tail(const struct scan *scan, size_t place) {
     return place <= digits ? "a space" : "a printable character or a new line";
 }
 
+static int is_digit(const struct source *file, size_t at) {
+    return at < file->length && '0' <= file->at[at] && file->at[at] <= '9';
+}
+
+/* Whether the byte is a digit after a 0 that begins a number. */
+static int after_zero(const struct source *file, size_t at) {
+    return at > 1 && is_digit(file, at) && file->at[at - 1] == '0' && !is_digit(file, at - 2);
+}
+
+static int is_empty_line(const struct scan *scan, size_t at) {
+    const struct source *file = scan->of;
+    return at < file->length && at > 0 && file->at[at] == '\n' && (file->at[at - 1] == '\n' || at == scan->tail);
+}
+
 static void say_expected(const struct refusal *r, const char *where, const char *expected) {
-    size_t place = (size_t)r->end.place;
-    say_refused(&r->scan, r->end, (struct spot){place, 1}, "in %s %s must stand here, not %s", where, expected,
-                byte_name(r->scan.of, place));
-    say_line_ends(&r->scan, place);
+    const struct source *file = r->scan.of;
+    struct spot spot = {(size_t)r->end.place, 1};
+    if (after_zero(file, spot.at))
+        say_refused(&r->scan, r->end, spot, "in %s a number has a leading zero", where);
+    else if (is_empty_line(&r->scan, spot.at))
+        say_refused(&r->scan, r->end, spot, "in %s %s must stand here, but the line is empty", where, expected);
+    else
+        say_refused(&r->scan, r->end, spot, "in %s %s must stand here, not %s", where, expected,
+                    byte_name(file, spot.at));
+    say_line_ends(&r->scan, spot.at);
 }
 
 /* The first four bytes are those of every file. */
@@ -130,8 +150,8 @@ static void say_wrong_sum(const struct refusal *r) {
     const uint64_t *n = r->scan.counts;
     say_refused(&r->scan, r->end, number_spot(r, r->scan.count_at[PLAN_M]),
                 "I + L + A = %llu + %llu + %llu = %llu%s M = %llu", (ull)n[PLAN_I], (ull)n[PLAN_L], (ull)n[PLAN_A],
-                (ull)(n[PLAN_I] + n[PLAN_L] + n[PLAN_A]), r->scan.binary ? ", but in binary form it is" : " is above",
-                (ull)n[PLAN_M]);
+                (ull)(n[PLAN_I] + n[PLAN_L] + n[PLAN_A]),
+                r->scan.binary ? ", but in binary form it must be" : " is above", (ull)n[PLAN_M]);
 }
 
 static void say_justice(const struct refusal *r) {

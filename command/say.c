@@ -38,7 +38,9 @@ enum tone { PLAIN, BOLD, RED, CYAN, GREEN };
 
 static const char *tone(enum tone which) {
     static const char *const codes[] = {"\33[0m", "\33[1m", "\33[1;31m", "\33[1;36m", "\33[1;32m"};
-    return isatty(fileno(told())) && getenv("NO_COLOR") == NULL ? codes[which] : "";
+    const char *unwanted = getenv("NO_COLOR"), *terminal = getenv("TERM");
+    int none = (unwanted != NULL && unwanted[0] != '\0') || (terminal != NULL && strcmp(terminal, "dumb") == 0);
+    return !none && isatty(fileno(told())) ? codes[which] : "";
 }
 
 /* How many bytes a character has that is shown as it stands there: one of ASCII, or one of UTF-8 that is no control. 0: none. */
@@ -125,7 +127,7 @@ int fail(const char *format, ...) {
     }
     say_toned(BOLD, moving != NULL ? moving : "plan");
     if (moving != NULL)
-        fputs("not moved: ", told());
+        fputs("not written: ", told());
     say_sentence(format, more);
     va_end(more);
     return FAILED;

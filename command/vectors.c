@@ -51,7 +51,7 @@ int read_vectors(const struct request *request, uint64_t inputs, struct vectors 
     if (request->second == NULL && isatty(STDIN_FILENO))
         say_more("vectors are read from the keyboard, a line of %llu values for each step; Ctrl-D ends them",
                  (unsigned long long)inputs);
-    int status = read_source(request->second == NULL ? "-" : request->second, &vectors->source);
+    int status = read_bytes(request->second == NULL ? "-" : request->second, &vectors->source);
     const struct source *source = &vectors->source;
     const struct scan scan = {.of = source};
     if (status != DONE)

@@ -230,6 +230,9 @@ plan $verb [-o OUT]" "$verb" examples/toggle.aag -o
 plan $verb [-o OUT]" "$verb" -o a -o b examples/toggle.aag
     done
     accepts "$room/help" -h
+    accepts "$room/help" help
+    misuses 'plan: there is no command "nosuch"' help nosuch
+    misuses 'plan: there is no command "chek", but "check"' help chek
     $command --help >/dev/full 2>"$room/error"
     holds "help to a full device" [ "$? $(cat "$room/error")" = "2 plan: standard output: No space left on device" ]
 }

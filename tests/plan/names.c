@@ -1,5 +1,5 @@
 /* Writes a name of 2^31 + 1 bytes to standard output: pages that were never written, which take no memory, and after them one that
-   may not be touched. */
+   may not be touched. This main stands before that of the command. */
 #define _GNU_SOURCE
 #include <sys/mman.h>
 

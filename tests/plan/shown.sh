@@ -25,7 +25,8 @@ file_names() {
         "$room/names/$shown: symbol 0 names input 0 \"enable\"" 'examples/selector.aag: symbol 0 names input 0 "left border"' >"$room/told"
     try same "$room/names/$name" examples/selector.aag
     expect "same of such a name" 1 "$room/told" ""
-    printf '%s\n' "$room/names/$shown: refused 15 at 0: " "$room/names/wrong $shown:3:1: refused 5 at 16: " '0 of 2 moved' >"$room/told"
+    is_plain "same of such a name" "$(wc -l <"$room/out")"
+    printf '%s\n' "$room/names/$shown: refused 15 at 0: " "$room/names/wrong $shown:3:1: refused 5 at 16: " '0 of 2 written' >"$room/told"
     try card -o "$room/names-cards" "$room/names"
     holds "a folder of such names" test 2 = "$(head -n 2 "$room/told" | grep -cFf - "$room/out")"
     is_plain "a folder of such names" 3
@@ -36,7 +37,7 @@ words() {
     local word=$'\e]0;owned\a\n'
     misuses 'there is no command "\x1b]0;owned\x07\n"' "$word"
     is_plain "a command" 2
-    misuses 'is one word too many' words examples/toggle.aag "$word"
+    misuses 'is one word too many' draw examples/toggle.aag "$word"
     is_plain "a word too many" 3
     misuses 'convert has no option --\x1b]0;owned' convert "--$word" examples/toggle.aag
     is_plain "an option" 3
