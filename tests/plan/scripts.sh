@@ -170,7 +170,7 @@ completions() {
         try --completion $shell
         holds "completion for $shell" [ "$(cat "$room/status")" = 0 ]
         while read -r verb; do
-            holds "$verb for $shell" grep -q "[' ]$verb[: ]" "$room/out"
+            holds "$verb for $shell" grep -q "[' ]${verb}[: ]" "$room/out"
         done < <(sed -n 's/^  \([a-z]*\) .*/\1/p' "$room/help")
     done
 }
