@@ -4,9 +4,9 @@
 #include "command.h"
 #include "json.h"
 #include "progress.h"
+#include "say.h"
 #include "symbols.h"
 #include "tables.h"
-#include "walk.h"
 
 static void print_names(const struct plan *plan, const struct names *names, FILE *to) {
     for (int list = 0; list < NAMED; list++)
@@ -51,7 +51,7 @@ static void print_one(const struct request *request, const struct source *file, 
         print_object(request, file, plan, NULL, stdout);
     } else if (!request->quiet) {
         progress_clear();
-        print_path(stdout, file->name);
+        put_text(stdout, file->name);
         fputs(": ", stdout);
         print_counts(request, plan, stdout);
     }

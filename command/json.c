@@ -2,6 +2,8 @@
 
 #include <string.h>
 
+#include "utf8.h"
+
 struct json json_line(FILE *to) {
     struct json json = {to, 0};
     fputc('{', to);
@@ -12,24 +14,10 @@ void json_end(struct json *json) {
     fputs("}\n", json->to);
 }
 
-/* How many bytes the character at the start has; 0 if none stands there (RFC 3629, section 4). */
-static size_t character(const uint8_t *b, size_t length) {
-    size_t n = b[0] < 0x80 ? 1 : b[0] >= 0xC2 && b[0] < 0xE0 ? 2 : (b[0] & 0xF0) == 0xE0 ? 3 : b[0] >= 0xF0 && b[0] < 0xF5 ? 4 : 0;
-    if (n > length)
-        return 0;
-    for (size_t k = 1; k < n; k++)
-        if ((b[k] & 0xC0) != 0x80)
-            return 0;
-    if ((b[0] == 0xE0 && b[1] < 0xA0) || (b[0] == 0xED && b[1] >= 0xA0) || (b[0] == 0xF0 && b[1] < 0x90) ||
-        (b[0] == 0xF4 && b[1] >= 0x90))
-        return 0;
-    return n;
-}
-
 static void put_string(FILE *to, const uint8_t *bytes, size_t length) {
     fputc('"', to);
     for (size_t k = 0, n; k < length; k += n) {
-        n = character(bytes + k, length - k);
+        n = utf8_at(bytes + k, length - k);
         if (n == 0)
             fputs("\\ufffd", to), n = 1;
         else if (bytes[k] < 0x20 || bytes[k] == 0x7F)

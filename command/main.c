@@ -58,7 +58,8 @@ const struct command commands[] = {
     {.name = "rewire",
      .words = "FILE GATE RHS0 RHS1",
      .what = "gives a gate other right sides, and writes the plan in its form",
-     .more = "GATE counts from 0; RHS0 and RHS1 are literals below its left side, in either order.\n"
+     .more = "GATE counts from 0, or is v7 for variable 7; RHS0 and RHS1 are literals below its left side, in either order, or\n"
+             "inputs, latches and variables as i0, l0, v7 or a name, with ! before it to negate.\n"
              "The plan must be in binary order, as convert writes it.",
      .takes = NEEDS_EDIT,
      .on_plan = run_rewire},

@@ -78,9 +78,9 @@ static char *out_name(const struct many *many, const struct found *found, const 
 
 static void print_moved(const char *from, const char *to) {
     progress_clear();
-    print_path(stdout, from);
+    put_text(stdout, from);
     fputs(": ", stdout);
-    print_path(stdout, to);
+    put_text(stdout, to);
     fputc('\n', stdout);
 }
 
@@ -109,12 +109,17 @@ static int write_one(struct many *many, const struct found *found, const struct 
     return status;
 }
 
+/* Whether a file is read as plan cards. */
+static int is_cards(const struct many *many, const struct found *found) {
+    return many->command->takes & TAKES_CARDS && has_ending(found->path, ".cards");
+}
+
 static int on_one(struct many *many, const struct found *found, const struct source *file) {
     struct request one = *many->request;
     struct plan plan;
     one.file = found->path;
     one.many = 1;
-    one.cards = many->command->takes & TAKES_CARDS && has_ending(found->path, ".cards");
+    one.cards = is_cards(many, found);
     int status = one.cards ? cards_ended(plan_read_cards(&plan, file->at, file->length), file)
                            : ended(plan_read(&plan, file->at, file->length), file);
     if (status == DONE && many->command->makes != MAKES_NOTHING)
@@ -133,7 +138,7 @@ static int run_one(struct many *many, const struct found *found) {
     if (found->why != NULL)
         say_unreadable(found->path, found->why);
     else
-        status = read_source(found->path, &file);
+        status = is_cards(many, found) ? read_cards(found->path, &file) : read_source(found->path, &file);
     if (found->why == NULL && status == DONE)
         status = on_one(many, found, &file);
     free_source(&file);

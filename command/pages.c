@@ -25,8 +25,6 @@ static void put_roff(FILE *to, const char *text) {
         else
             fputc(*text, to);
         starts = *text == '\n';
-        if (starts && text[1] != '\0')
-            fputs(".br\n", to);
     }
 }
 

@@ -77,9 +77,9 @@ static struct member *partner_of(const struct pairs *pairs, const struct member 
 
 static void print_pair(const struct comparison *c) {
     progress_clear();
-    print_path(stdout, c->sides[0].file.name);
+    put_text(stdout, c->sides[0].file.name);
     fputs(", ", stdout);
-    print_path(stdout, c->sides[1].file.name);
+    put_text(stdout, c->sides[1].file.name);
     fputs(c->same ? ": same" : ": different: ", stdout);
     if (!c->same)
         print_summary(&c->differences, stdout);
@@ -121,7 +121,7 @@ static int tell_alone(struct pairs *pairs, const struct found *found) {
         return DIFFERENT;
     }
     progress_clear();
-    print_path(stdout, found->path);
+    put_text(stdout, found->path);
     puts(": it has no partner");
     return DIFFERENT;
 }

@@ -2,6 +2,7 @@
 #include <stdlib.h>
 
 #include "command.h"
+#include "symbols.h"
 
 /* The rows that the library steps at once. */
 enum { BLOCK = 64 };
@@ -65,6 +66,30 @@ static int step_rows(const struct request *request, const struct source *file, s
     return status;
 }
 
+static void print_object(FILE *to, const struct source *file, const struct names *names, uint64_t k,
+                         const uint64_t *row) {
+    struct json json = json_line(to);
+    json_text(&json, "file", file->name);
+    json_entry(&json, names, NAMED_OUTPUTS, k);
+    json_number(&json, "zeros", row[0]);
+    json_number(&json, "ones", row[1]);
+    json_number(&json, "unknown", row[2]);
+    json_end(&json);
+}
+
+static int print_objects(const struct request *request, const struct source *file, const struct plan *plan,
+                         const uint64_t *report) {
+    struct names names;
+    struct output output;
+    int status = read_names(plan, &names);
+    if (status == DONE)
+        status = open_output(&output, request->out);
+    for (uint64_t k = 0; status == DONE && k < plan->counts[PLAN_O]; k++)
+        print_object(output.to, file, &names, k, report + 3 * k);
+    free_names(&names);
+    return status == DONE ? close_output(&output) : status;
+}
+
 static int print_counts(const struct request *request, const struct plan *plan, const uint64_t *report) {
     struct output output;
     int status = open_output(&output, request->out);
@@ -81,11 +106,13 @@ static int count_rows(const struct request *request, const struct source *file, 
     uint64_t *report = malloc(3 * plan->counts[PLAN_O] * sizeof *report + 1);
     int status = report == NULL ? no_memory() : ended(plan_report_rows(plan, list->number, list->at, report), file);
     if (status == DONE)
-        status = print_counts(request, plan, report);
+        status = request->json ? print_objects(request, file, plan, report) : print_counts(request, plan, report);
     free(report);
     return status;
 }
 
 int run_rows(const struct request *request, const struct source *file, struct plan *plan) {
+    if (request->json && !request->count)
+        return fail("--json is for rows that are counted, by --count");
     return with_list(request, file, plan, request->count ? count_rows : step_rows);
 }

@@ -3,19 +3,14 @@
 #include <stdlib.h>
 #include <string.h>
 
-static const int view_tables[VIEWS] = {PLAN_BADS, PLAN_CONSTRAINTS};
-static const int view_counts[VIEWS] = {PLAN_B, PLAN_C};
-
-uint64_t view_entries(const struct plan *plan, int view) {
-    return plan->counts[view_counts[view]];
-}
-
 /* The list moves: it is no longer bad states or constraints there, so that no table is lent twice. */
-struct plan view_of(const struct plan *plan, int view) {
+struct plan view_of(const struct plan *plan, int list) {
     struct plan of = *plan;
-    int table = view_tables[view], count = view_counts[view];
+    int table = list == NAMED_BADS ? PLAN_BADS : PLAN_CONSTRAINTS, count = list_counts[list];
     of.scratch = NULL;
     of.scratch_words = 0;
+    if (list == NAMED_OUTPUTS)
+        return of;
     of.table[PLAN_OUTPUTS] = plan->table[table];
     of.words[PLAN_OUTPUTS] = plan->words[table];
     of.counts[PLAN_O] = plan->counts[count];
@@ -37,7 +32,7 @@ int begin_run(const struct plan *plan, struct run *run) {
     run->outputs = malloc(n[PLAN_O] + 1);
     int all = run->state != NULL && run->next != NULL && run->outputs != NULL;
     for (int k = 0; k < VIEWS; k++) {
-        run->views[k] = view_of(plan, k);
+        run->views[k] = view_of(plan, view_list(k));
         run->seen[k] = malloc(view_entries(plan, k) + 1);
         all = all && run->seen[k] != NULL;
     }

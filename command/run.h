@@ -2,14 +2,18 @@
 #ifndef RUN_H
 #define RUN_H
 
-#include "command.h"
+#include "symbols.h"
 
-/* Lists that are observed beside the outputs: bad states and constraints. The library steps outputs alone, so that a view is a
-   plan whose outputs are such a list. Its tables are the plan's, its scratch is its own. */
-enum { VIEW_BADS, VIEW_CONSTRAINTS, VIEWS };
-
-struct plan view_of(const struct plan *plan, int view);
+/* Bad states and constraints are observed beside the outputs. The library steps outputs alone, so that a view is a plan whose
+   outputs are such a list, or the outputs. Its tables are the plan's, its scratch is its own. */
+struct plan view_of(const struct plan *plan, int list);
 void free_view(struct plan *view);
+
+/* The lists that views are of, in the order of a run's views. */
+enum { VIEW_BADS, VIEW_CONSTRAINTS, VIEWS };
+static inline int view_list(int view) {
+    return NAMED_BADS + view;
+}
 
 /* One step of a run: its number, and the bytes before and after it. With `all` the bad states and the constraints are looked at
    too. What is beside, if anything is, sees every step and says whether it parts from it; the run ends there. */
@@ -31,7 +35,9 @@ void end_run(struct run *run);
 struct plan_end next_step(struct plan *plan, struct run *run, const uint8_t *inputs);
 
 /* How many entries a view has. */
-uint64_t view_entries(const struct plan *plan, int view);
+static inline uint64_t view_entries(const struct plan *plan, int view) {
+    return entries(plan, view_list(view));
+}
 
 /* trace.c: a run over the vectors of a request, each step written. */
 int trace(const struct request *request, const struct source *file, struct plan *plan, struct run *run);

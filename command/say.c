@@ -9,6 +9,7 @@
 #include "json.h"
 #include "meaning.h"
 #include "progress.h"
+#include "utf8.h"
 
 enum { WIDE = 100, BEFORE = 60, GATE_BYTES = 16, GUTTER = 7 };
 
@@ -44,17 +45,8 @@ static const char *tone(enum tone which) {
 
 /* How many bytes a character has that is shown as it stands there: one of ASCII, or one of UTF-8 that is no control. 0: none. */
 static size_t shown_at(const uint8_t *b, size_t left) {
-    if (32 <= b[0] && b[0] <= 126)
-        return 1;
-    size_t length = b[0] < 0xC2 || b[0] > 0xF4 ? 0 : b[0] < 0xE0 ? 2 : b[0] < 0xF0 ? 3 : 4;
-    if (length == 0 || left < length)
-        return 0;
-    for (size_t k = 1; k < length; k++)
-        if (b[k] >> 6 != 2)
-            return 0;
-    int control = b[0] == 0xC2 && b[1] < 0xA0, longer = (b[0] == 0xE0 && b[1] < 0xA0) || (b[0] == 0xF0 && b[1] < 0x90);
-    int none = (b[0] == 0xED && b[1] >= 0xA0) || (b[0] == 0xF4 && b[1] >= 0x90);
-    return control || longer || none ? 0 : length;
+    int control = b[0] < 32 || b[0] == 127 || (b[0] == 0xC2 && left > 1 && b[1] < 0xA0);
+    return control ? 0 : utf8_at(b, left);
 }
 
 static void put_byte(FILE *to, uint8_t b) {

@@ -7,8 +7,6 @@
 #include <string.h>
 #include <sys/stat.h>
 
-#include "say.h"
-
 int is_a_folder(const char *name) {
     struct stat about;
     return strcmp(name, "-") != 0 && stat(name, &about) == 0 && S_ISDIR(about.st_mode);
@@ -165,8 +163,4 @@ void print_passed_over(const struct finds *finds) {
     if (finds->passed_over > 0)
         printf("; %zu other %s passed over", finds->passed_over, finds->passed_over == 1 ? "file" : "files");
     putchar('\n');
-}
-
-void print_path(FILE *to, const char *path) {
-    put_text(to, path);
 }

@@ -30,9 +30,6 @@ void free_finds(struct finds *finds);
 /* Ends the last line of a count with what was passed over. */
 void print_passed_over(const struct finds *finds);
 
-/* A path as it may be written to a terminal. */
-void print_path(FILE *to, const char *path);
-
 int is_a_folder(const char *name);
 
 /* How much of a name stays without the ending that plans and cards have, and the ending. */

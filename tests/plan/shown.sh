@@ -20,8 +20,11 @@ file_names() {
     is_plain "a refused file" 3
     misuses "plan: $room/$shown/made: No such file or directory" convert -o "$room/$name/made" examples/toggle.aag
     is_plain "a folder that is not there" 1
+    printf '%s\n' different "$room/names/$shown: the number of inputs is 2" 'examples/selector.aag: the number of inputs is 3' \
+        "$room/names/$shown: the number of gates is 4" 'examples/selector.aag: the number of gates is 6' \
+        "$room/names/$shown: symbol 0 names input 0 \"enable\"" 'examples/selector.aag: symbol 0 names input 0 "left border"' >"$room/told"
     try same "$room/names/$name" examples/selector.aag
-    holds "same of such a name" grep -qxF "$room/names/$shown: the number of inputs is 2" "$room/out"
+    expect "same of such a name" 1 "$room/told" ""
     is_plain "same of such a name" "$(wc -l <"$room/out")"
     printf '%s\n' "$room/names/$shown: refused 15 at 0: " "$room/names/wrong $shown:3:1: refused 5 at 16: " '0 of 2 written' >"$room/told"
     try card -o "$room/names-cards" "$room/names"
@@ -42,7 +45,7 @@ words() {
     is_plain "an output" 1
     misuses 'not "\x1b]0;owned' explain --output 0 --step "$word" examples/toggle.aag examples/toggle.vectors
     is_plain "a step" 1
-    misuses '\x1b]0;owned\x07\n: no number' rewire examples/toggle.aig 0 "$word" 2
+    misuses '"\x1b]0;owned\x07\n" is no number, input, latch or variable' rewire examples/toggle.aig 0 "$word" 2
     is_plain "a right side" 1
 }
 
