@@ -13,7 +13,9 @@
 #define SCRATCH(p) (p)->scratch, (p)->scratch_words
 
 /* The numbers of the tables, and of scratch. */
-static const uint64_t numbers[PLAN_TABLES + 1] = {1, 2, 3, 4, 7, 8, 9, 5};
+static const uint64_t numbers[PLAN_TABLES + 1] = {
+    GOLVANZO_TABLE_INPUTS, GOLVANZO_TABLE_LATCHES, GOLVANZO_TABLE_OUTPUTS,     GOLVANZO_TABLE_GATES,
+    GOLVANZO_TABLE_RESETS, GOLVANZO_TABLE_BADS,    GOLVANZO_TABLE_CONSTRAINTS, GOLVANZO_TABLE_SCRATCH};
 
 static const struct plan_end done = {0, 0}, no_memory = {PLAN_NO_MEMORY, 0};
 
@@ -194,6 +196,13 @@ struct plan_end plan_drop(struct plan *plan) {
     return change(plan, golvanzo_drop);
 }
 
+void plan_keep_tail(struct plan *plan, size_t from, size_t to) {
+    to = to < plan->tail_length ? to : plan->tail_length;
+    from = from < to ? from : to;
+    memmove(plan->tail, plan->tail + from, to - from);
+    plan->tail_length = to - from;
+}
+
 /* A call that writes a file. */
 typedef void write_call(const uint64_t *counts, GOLVANZO_GIVEN, GOLVANZO_SCRATCH, const uint8_t *tail, size_t tail_len,
                         uint8_t *out, size_t out_len, uint64_t *answer);
@@ -209,12 +218,11 @@ static size_t longest(const struct plan *plan, int binary) {
 
 /* Into a buffer of so many bytes, and once more if the library asks for more. */
 static struct plan_end write_file(struct plan *plan, write_call *call, size_t room, struct plan_bytes *out) {
-    enum { SHORT_BUFFER = 11 };
-    uint64_t answer[3] = {SHORT_BUFFER, room, 0};
+    uint64_t answer[3] = {GOLVANZO_SHORT_BUFFER, room, 0};
     *out = (struct plan_bytes){NULL, 0};
     if (!ready(plan))
         return no_memory;
-    for (int turn = 0; turn < 2 && answer[0] == SHORT_BUFFER; turn++) {
+    for (int turn = 0; turn < 2 && answer[0] == GOLVANZO_SHORT_BUFFER; turn++) {
         free(out->at);
         *out = (struct plan_bytes){lent((size_t)answer[1]), (size_t)answer[1]};
         if (out->at == NULL)
@@ -276,12 +284,11 @@ struct plan_end plan_step_plain(struct plan *plan, uint8_t *state, const uint8_t
 
 /* Asked without a step's bytes, whose lack is 12: that is judged after all refusals of the plan, 24 being the last. */
 struct plan_end plan_check_plain(struct plan *plan) {
-    enum { WRONG_BYTES = 12 };
     uint64_t answer[2];
     if (!ready(plan))
         return no_memory;
     golvanzo_step_plain(plan->counts, TABLES(plan), SCRATCH(plan), NULL, 0, NULL, 0, NULL, 0, answer);
-    return answer[0] == WRONG_BYTES ? done : end_of(answer);
+    return answer[0] == GOLVANZO_BAD_VECTOR ? done : end_of(answer);
 }
 
 struct plan_end plan_witness(struct plan *plan, uint64_t number, const uint8_t *vectors, size_t length,
@@ -403,8 +410,8 @@ struct plan_end plan_report_rows(struct plan *plan, uint64_t rows, const uint8_t
     memset(report, 0, words * sizeof *report);
     while (lent_all) {
         uint64_t now = rows_now(rows - at);
-        golvanzo_report_rows(n, TABLES(plan), SCRATCH(plan), now, inputs + at * n[PLAN_I], (size_t)(now * n[PLAN_I]), six,
-                             words, answer);
+        golvanzo_report_rows(n, TABLES(plan), SCRATCH(plan), now, inputs + at * n[PLAN_I], (size_t)(now * n[PLAN_I]),
+                             six, words, answer);
         for (size_t k = 0; k < words; k++)
             report[k] += six[k];
         at += now;

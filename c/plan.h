@@ -61,6 +61,9 @@ struct plan_end plan_convert(struct plan *plan);
 struct plan_end plan_reduce(struct plan *plan);
 struct plan_end plan_drop(struct plan *plan);
 
+/* Keeps these bytes of the tail alone, from one offset up to another; no more than there are. */
+void plan_keep_tail(struct plan *plan, size_t from, size_t to);
+
 /* Write the plan and its tail as a file, or as plan cards, which hold no tail; `out` is empty after a refusal. */
 struct plan_end plan_write_text(struct plan *plan, struct plan_bytes *out);
 struct plan_end plan_write_binary(struct plan *plan, struct plan_bytes *out);
@@ -77,8 +80,9 @@ struct plan_end plan_step_plain(struct plan *plan, uint8_t *state, const uint8_t
 struct plan_end plan_check_plain(struct plan *plan);
 
 /* What the witness question says: whether every filling of the x shows a 1, and how many were tried. */
+enum plan_says { PLAN_NO, PLAN_YES, PLAN_UNDECIDED };
 struct plan_finding {
-    enum { PLAN_NO, PLAN_YES, PLAN_UNDECIDED } says;
+    enum plan_says says;
     uint64_t tried;
 };
 

@@ -2,13 +2,15 @@
 #define _GNU_SOURCE
 #include <dirent.h>
 #include <errno.h>
+#include <search.h>
 #include <stdlib.h>
 #include <string.h>
 #include <sys/stat.h>
 
 #include "command.h"
-#include "records.h"
+#include "card_refusals.h"
 #include "say.h"
+#include "symbols.h"
 
 /* Both directions: the bytes of the moved plan, or what is said of why there are none. */
 static int to_aiger(const struct source *cards, struct plan_bytes *made) {
@@ -21,15 +23,51 @@ static int to_aiger(const struct source *cards, struct plan_bytes *made) {
     return cards_ended(end, cards);
 }
 
+/* What cards can't hold: the two of the tail first, which can be taken off. */
+enum { HAS_SYMBOLS, HAS_COMMENT, HAS_RESETS, HAS_BADS, HAS_CONSTRAINTS, KINDS };
+
+static void find_kinds(const struct plan *plan, int has[KINDS]) {
+    size_t comment = symbols_end(plan);
+    has[HAS_SYMBOLS] = comment > 0;
+    has[HAS_COMMENT] = comment < plan->tail_length;
+    has[HAS_RESETS] = 0;
+    for (uint64_t k = 0; k < plan->counts[PLAN_L]; k++)
+        has[HAS_RESETS] |= plan->table[PLAN_RESETS][k] != 0;
+    has[HAS_BADS] = plan->counts[PLAN_B] > 0;
+    has[HAS_CONSTRAINTS] = plan->counts[PLAN_C] > 0;
+}
+
+/* Which of the five it is, and what to do. */
+static int not_on_cards(struct plan_end end, const struct source *file, const struct plan *plan) {
+    static const char *const kinds[KINDS] = {"no symbols", "no comment", "no resets that are not 0", "no bad states",
+                                             "no constraints"};
+    char all[120] = "";
+    int has[KINDS], left = 0;
+    find_kinds(plan, has);
+    for (int k = 0; k < KINDS; k++)
+        left += has[k];
+    for (int k = 0, said = 0; k < KINDS; k++)
+        if (has[k]) {
+            strcat(all, said == 0 ? "" : said + 1 == left ? " and " : ", ");
+            strcat(all, kinds[k]);
+            said++;
+        }
+    if (has[HAS_RESETS] || has[HAS_BADS] || has[HAS_CONSTRAINTS])
+        say_refused_of(file->name, end, "cards hold %s, which the plan has: it can't be put on cards as it is", all);
+    else
+        say_refused_of(file->name, end, "cards hold %s, which the plan has: \"plan strip %s\" takes %s off", all,
+                       typed_name(file), has[HAS_SYMBOLS] ? "them" : "it");
+    return REFUSED;
+}
+
 /* What cards can't hold is 19; all other refusals are those of a plan. */
 static int write_cards(const struct source *file, struct plan *plan, struct plan_bytes *made) {
-    enum { NOT_ON_CARDS = 19, NOT_IN_ORDER = 15 };
     struct plan_end end = plan_write_cards(plan, made);
-    if (end.number != NOT_ON_CARDS && end.number != NOT_IN_ORDER)
+    if (end.number == GOLVANZO_NOT_ON_CARDS)
+        return not_on_cards(end, file, plan);
+    if (end.number != GOLVANZO_NOT_IN_ORDER)
         return ended(end, file);
-    say_refused_of(file->name, end,
-                   end.number == NOT_IN_ORDER ? "the plan is not in binary order: convert it first"
-                                              : "cards hold no symbols, comments, resets, bad states or constraints");
+    say_refused_of(file->name, end, "the plan is not in binary order: convert it first");
     return REFUSED;
 }
 
@@ -44,16 +82,17 @@ static int to_cards(const struct source *file, struct plan_bytes *made) {
 
 /* A direction: what it does, and the ending that a file's name gets; known endings go. */
 struct move {
+    int (*read)(const char *, struct source *);
     int (*make)(const struct source *, struct plan_bytes *);
     const char *ending;
 };
 
-static const struct move moves[] = {{to_aiger, ".aig"}, {to_cards, ".cards"}};
+static const struct move moves[] = {{read_cards, to_aiger, ".aig"}, {read_source, to_cards, ".cards"}};
 
 static int move_file(const struct move *move, const char *from, const char *out) {
     struct source file;
     struct plan_bytes made = {NULL, 0};
-    int status = read_source(from, &file);
+    int status = move->read(from, &file);
     if (status != DONE)
         return status;
     status = move->make(&file, &made);
@@ -64,9 +103,16 @@ static int move_file(const struct move *move, const char *from, const char *out)
     return status;
 }
 
+/* The first bytes of a name with another ending, in a folder. */
 static char *joined_path(const char *folder, const char *name, size_t length, const char *ending) {
-    char *path;
-    return asprintf(&path, "%s/%.*s%s", folder, (int)length, name, ending) < 0 ? NULL : path;
+    size_t before = strlen(folder) + 1;
+    char *path = malloc(before + length + strlen(ending) + 1);
+    if (path == NULL)
+        return NULL;
+    strcat(strcpy(path, folder), "/");
+    memcpy(path + before, name, length);
+    strcpy(path + before + length, ending);
+    return path;
 }
 
 /* How much of a name stays when its ending is one of those that plans and cards have. */
@@ -81,13 +127,16 @@ static size_t stem(const char *name) {
     return length;
 }
 
-/* The first file of the folder that has the same name but for its ending, or this one. */
-static const char *first_named(struct dirent *const *entries, int k) {
-    size_t length = stem(entries[k]->d_name);
-    int j = 0;
-    while (stem(entries[j]->d_name) != length || memcmp(entries[j]->d_name, entries[k]->d_name, length) != 0)
-        j++;
-    return entries[j]->d_name;
+/* Files of a folder that were moved, in a tree by their names but for the endings. */
+static int by_stem(const void *a, const void *b) {
+    size_t m = stem(a), n = stem(b);
+    int order = memcmp(a, b, m < n ? m : n);
+    return order != 0 ? order : (m > n) - (m < n);
+}
+
+/* Nothing of the tree is its own. */
+static void leave(void *name) {
+    (void)name;
 }
 
 /* Why an entry of the folder is no file, or null: nobody would write to a pipe that is waited for. */
@@ -95,12 +144,20 @@ static const char *no_file(const char *name) {
     struct stat about;
     if (stat(name, &about) != 0 || S_ISREG(about.st_mode))
         return NULL;
-    return S_ISDIR(about.st_mode) ? "it is a folder, and moved only by itself" : "it is no file";
+    return S_ISDIR(about.st_mode) ? "it is a folder, which is given by itself" : "it is no file";
 }
 
-/* One line for the file, whatever becomes of it. */
-static int move_entry(const struct move *move, const struct request *request, struct dirent *const *entries, int k) {
-    const char *name = entries[k]->d_name, *first = first_named(entries, k), *why;
+static void print_moved(const char *from, const char *out) {
+    put_text(stdout, from);
+    fputs(": ", stdout);
+    put_text(stdout, out);
+    fputc('\n', stdout);
+}
+
+/* One line for the file, whatever becomes of it. Only a file that is moved takes the name. */
+static int move_entry(const struct move *move, const struct request *request, const char *name, void **moved) {
+    char *const *first = tfind(name, moved, by_stem);
+    const char *why;
     char *from = joined_path(request->file, name, strlen(name), "");
     char *out = joined_path(request->out, name, stem(name), move->ending);
     int status = REFUSED;
@@ -109,12 +166,14 @@ static int move_entry(const struct move *move, const struct request *request, st
         status = no_memory();
     else if ((why = no_file(from)) != NULL)
         say_unreadable(from, why);
-    else if (first != name)
-        status = fail("%s comes first, with the same name but for the ending", first);
+    else if (first != NULL)
+        status = fail("%s comes first, with the same name but for the ending", *first);
     else
         status = move_file(move, from, out);
+    if (status == DONE && tsearch(name, moved, by_stem) == NULL)
+        status = no_memory();
     if (status == DONE)
-        printf("%s: %s\n", from, out);
+        print_moved(from, out);
     say_in_one_line(NULL);
     free(from);
     free(out);
@@ -130,14 +189,16 @@ static int is_visible(const struct dirent *entry) {
 static int move_entries(const struct move *move, const struct request *request, struct dirent *const *entries,
                         int number) {
     struct output lines;
-    int moved = 0, status = open_output(&lines, NULL);
+    void *moved = NULL;
+    int count = 0, status = open_output(&lines, NULL);
     setvbuf(lines.to, NULL, _IOLBF, BUFSIZ);
     for (int k = 0; k < number; k++) {
-        int end = move_entry(move, request, entries, k);
-        moved += end == DONE;
+        int end = move_entry(move, request, entries[k]->d_name, &moved);
+        count += end == DONE;
         status = end > status ? end : status;
     }
-    fprintf(lines.to, "%d of %d moved\n", moved, number);
+    tdestroy(moved, leave);
+    fprintf(lines.to, "%d of %d written\n", count, number);
     return close_output(&lines) == DONE ? status : FAILED;
 }
 
@@ -154,7 +215,7 @@ static int make_folder(const char *name, const struct stat *from) {
     if (!is_folder(name, &to))
         return fail("%s: %s", name, strerror(ENOTDIR));
     if (to.st_dev == from->st_dev && to.st_ino == from->st_ino)
-        return fail("%s: -o must name another folder than the one that is moved", name);
+        return fail("%s: -o must name another folder than the one that is read", name);
     return DONE;
 }
 
@@ -164,8 +225,12 @@ static int move_folder(const struct move *move, const struct request *request, c
     if (number < 0)
         return fail("%s: %s", request->file, strerror(errno));
     int status = make_folder(request->out, from);
-    if (status == DONE)
+    if (status == DONE) {
+        begin_folder();
         status = move_entries(move, request, entries, number);
+        int end = end_folder(request->out);
+        status = end > status ? end : status;
+    }
     for (int k = 0; k < number; k++)
         free(entries[k]);
     free(entries);

@@ -1,58 +1,87 @@
-/* The verbs that only look: check and words. */
+/* The verb check: the form, the counts and the names of a plan, or why it is refused. */
 #include <stdlib.h>
 
 #include "command.h"
+#include "json.h"
+#include "progress.h"
+#include "say.h"
 #include "symbols.h"
+#include "tables.h"
 
 static void print_names(const struct plan *plan, const struct names *names, FILE *to) {
     for (int list = 0; list < NAMED; list++)
         for (uint64_t k = 0; k < entries(plan, list); k++) {
             const struct symbol *symbol = &names->of[list][k];
-            if (symbol->name != NULL)
-                fprintf(to, "%s %llu %.*s\n", nouns[list], (unsigned long long)k, (int)symbol->length,
-                        (char *)symbol->name);
+            if (symbol->name == NULL)
+                continue;
+            fprintf(to, "%s %llu ", nouns[list], (unsigned long long)k);
+            put_name(symbol, to);
+            fputc('\n', to);
         }
 }
 
-/* The form, the counts and the names. */
+static const char *form(const struct request *request, const struct plan *plan) {
+    return request->cards ? "cards" : plan->binary ? "binary" : "text";
+}
+
+static void print_counts(const struct request *request, const struct plan *plan, FILE *to) {
+    fputs(form(request, plan), to);
+    for (int k = 0; k < PLAN_COUNTS; k++)
+        fprintf(to, " %s %llu", count_letters[k], (unsigned long long)plan->counts[k]);
+    fputc('\n', to);
+}
+
+/* The same for scripts; of a file of many the names are left out. */
+static void print_object(const struct request *request, const struct source *file, const struct plan *plan,
+                         const struct names *names, FILE *to) {
+    struct json json = json_line(to);
+    json_text(&json, "file", file->name);
+    json_text(&json, "status", "accepted");
+    json_text(&json, "form", form(request, plan));
+    for (int k = 0; k < PLAN_COUNTS; k++)
+        json_number(&json, count_letters[k], plan->counts[k]);
+    if (names != NULL)
+        json_names(&json, plan, names);
+    json_end(&json);
+}
+
+/* One of many: its lines go together, and the names are left out. */
+static void print_one(const struct request *request, const struct source *file, const struct plan *plan) {
+    if (request->json) {
+        print_object(request, file, plan, NULL, stdout);
+    } else if (!request->quiet) {
+        progress_clear();
+        put_text(stdout, file->name);
+        fputs(": ", stdout);
+        print_counts(request, plan, stdout);
+    }
+}
+
+static void print_all(const struct request *request, const struct source *file, const struct plan *plan,
+                      const struct names *names, FILE *to) {
+    if (request->json) {
+        print_object(request, file, plan, names, to);
+    } else if (!request->quiet) {
+        print_counts(request, plan, to);
+        print_names(plan, names, to);
+    }
+}
+
 int run_check(const struct request *request, const struct source *file, struct plan *plan) {
-    static const char *const counts[PLAN_COUNTS] = {"M", "I", "L", "O", "A", "B", "C"};
     struct names names;
     struct output output;
-    (void)file;
+    if (request->many) {
+        print_one(request, file, plan);
+        return DONE;
+    }
     int status = read_names(plan, &names);
     if (status != DONE)
         return status;
     status = open_output(&output, request->out);
     if (status == DONE) {
-        fprintf(output.to, "%s", plan->binary ? "binary" : "text");
-        for (int k = 0; k < PLAN_COUNTS; k++)
-            fprintf(output.to, " %s %llu", counts[k], (unsigned long long)plan->counts[k]);
-        fputc('\n', output.to);
-        print_names(plan, &names, output.to);
+        print_all(request, file, plan, &names, output.to);
         status = close_output(&output);
     }
     free_names(&names);
     return status;
-}
-
-/* The desk question, table by table. It is asked for the header alone. */
-int run_words(const struct request *request, const struct source *file) {
-    static const struct {
-        int number, table;
-        const char *name;
-    } tables[] = {{1, PLAN_INPUTS, "inputs"}, {2, PLAN_LATCHES, "latches"},        {3, PLAN_OUTPUTS, "outputs"},
-                  {4, PLAN_GATES, "gates"},   {5, PLAN_TABLES, "scratch"},         {7, PLAN_RESETS, "resets"},
-                  {8, PLAN_BADS, "bads"},     {9, PLAN_CONSTRAINTS, "constraints"}};
-    uint64_t words[PLAN_TABLES + 1];
-    struct output output;
-    int status = ended(plan_words(file->at, file->length, words), file);
-    if (status == DONE)
-        status = open_output(&output, request->out);
-    if (status != DONE)
-        return status;
-    for (size_t k = 0; k < sizeof tables / sizeof tables[0]; k++)
-        fprintf(output.to, "%d %s %llu\n", tables[k].number, tables[k].name,
-                (unsigned long long)words[tables[k].table]);
-    return close_output(&output);
 }

@@ -1,4 +1,4 @@
-/* The verbs that write a plan: convert and reduce, as the programs of the paper do, and drop. */
+/* The verb convert, and what the verbs that write a plan share. */
 #include <stdlib.h>
 
 #include "command.h"
@@ -24,23 +24,4 @@ int run_convert(const struct request *request, const struct source *file, struct
     if (status != DONE)
         return status;
     return deliver(request, file, plan->binary ? plan_write_text(plan, &made) : plan_write_binary(plan, &made), &made);
-}
-
-static int put_reduced(struct plan *plan, const struct source *file) {
-    int status = put_in_order(plan, file);
-    return status == DONE ? ended(plan_reduce(plan), file) : status;
-}
-
-int run_reduce(const struct request *request, const struct source *file, struct plan *plan) {
-    struct plan_bytes made;
-    int status = put_reduced(plan, file);
-    return status == DONE ? deliver(request, file, plan_write_binary(plan, &made), &made) : status;
-}
-
-int run_drop(const struct request *request, const struct source *file, struct plan *plan) {
-    struct plan_bytes made;
-    int status = put_reduced(plan, file);
-    if (status == DONE)
-        status = ended(plan_drop(plan), file);
-    return status == DONE ? deliver(request, file, plan_write_binary(plan, &made), &made) : status;
 }

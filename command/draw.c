@@ -6,13 +6,14 @@
 
 typedef unsigned long long ull;
 
-/* More gates than these make no drawing that people read. */
-enum { MOST_GATES = 300 };
+/* More nodes than these make no drawing that people read. */
+enum { MOST_NODES = 300 };
 
 /* What stands for each list of named entries. */
 static const char *const shapes[NAMED] = {"shape=box", "shape=box, peripheries=2", "shape=box, style=rounded",
                                           "shape=octagon, color=red", "shape=hexagon, color=blue"};
 
+/* A label has escapes and characters by name: both are spelled out. */
 static void print_label(const struct symbol *symbol, int list, uint64_t entry, FILE *to) {
     fprintf(to, "%c%llu", letters[list], (ull)entry);
     if (symbol->length > 0)
@@ -21,6 +22,8 @@ static void print_label(const struct symbol *symbol, int list, uint64_t entry, F
         if (symbol->name[k] == '"' || symbol->name[k] == '\\')
             fputc('\\', to);
         fputc(symbol->name[k], to);
+        if (symbol->name[k] == '&')
+            fputs("amp;", to);
     }
 }
 
@@ -97,12 +100,21 @@ static void print_edges(const struct plan *plan, FILE *to) {
         }
 }
 
+static uint64_t nodes(const struct plan *plan) {
+    uint64_t sum = plan->counts[PLAN_A];
+    for (int list = 0; list < NAMED; list++)
+        sum += entries(plan, list);
+    return sum;
+}
+
 int run_draw(const struct request *request, const struct source *file, struct plan *plan) {
     struct names names;
     struct output output;
-    if (plan->counts[PLAN_A] > MOST_GATES && !request->large)
-        return fail("%s has %llu gates; a drawing of more than %d is hardly read: --large draws it", file->name,
-                    (ull)plan->counts[PLAN_A], MOST_GATES);
+    if (nodes(plan) > MOST_NODES && !request->large)
+        return fail(
+            "%s has %llu inputs, latches, gates, outputs, bad states and constraints; a drawing of more than %d "
+            "is hardly read: --large draws it",
+            file->name, (ull)nodes(plan), MOST_NODES);
     int status = read_names(plan, &names);
     if (status != DONE)
         return status;

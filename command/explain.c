@@ -1,49 +1,32 @@
-/* The verb that explains an output at a step. */
+/* The verb explain: which inputs and latches made an output, a bad state or a constraint 0 or 1 at a step. */
 #include <stdlib.h>
 #include <string.h>
 
 #include "command.h"
+#include "entry.h"
+#include "run.h"
 #include "say.h"
-#include "symbols.h"
 
 typedef unsigned long long ull;
 
-/* What is explained, and what is known there: the state before the step, the inputs, the outputs and the marks. */
+/* What is explained, and what is known there: the plan whose outputs have it, the state before the step, the inputs, the outputs
+   and the marks. */
 struct asked {
-    uint64_t output, step;
+    int list;
+    const char *word;
+    uint64_t entry, step;
+    struct plan view;
     uint8_t *state, *next, *outputs, *marks;
     const uint8_t *inputs;
 };
 
-/* A number of digits alone; above every position it does not matter which. 0 if the word is none. */
-static int read_position(const char *word, uint64_t *number) {
-    *number = 0;
-    if (*word == '\0' || word[strspn(word, "0123456789")] != '\0')
-        return 0;
-    for (; *word != '\0'; word++)
-        if (*number < UINT32_MAX)
-            *number = 10 * *number + (uint64_t)(*word - '0');
-    return 1;
-}
-
-/* The first output of this name; as many as there are if none has it. */
-static uint64_t output_named(const struct plan *plan, const struct names *names, const char *name) {
-    uint64_t k = 0;
-    for (; k < plan->counts[PLAN_O]; k++) {
-        const struct symbol *symbol = &names->of[NAMED_OUTPUTS][k];
-        if (symbol->name != NULL && symbol->length == strlen(name) && memcmp(symbol->name, name, symbol->length) == 0)
-            break;
-    }
-    return k;
-}
-
-/* An entry by its name, with its letter and position, or by these alone. */
-static void print_entry(const struct names *names, int list, uint64_t entry, FILE *to) {
-    const struct symbol *symbol = &names->of[list][entry];
-    if (symbol->name == NULL)
-        fprintf(to, "%c%llu", letters[list], (ull)entry);
-    else
-        fprintf(to, "%.*s (%c%llu)", (int)symbol->length, (const char *)symbol->name, letters[list], (ull)entry);
+/* Parsing has seen that one of them is there. */
+static struct asked asked_for(const struct request *request) {
+    if (request->output != NULL)
+        return (struct asked){.list = NAMED_OUTPUTS, .word = request->output};
+    if (request->bad != NULL)
+        return (struct asked){.list = NAMED_BADS, .word = request->bad};
+    return (struct asked){.list = NAMED_CONSTRAINTS, .word = request->constraint};
 }
 
 static void print_marked(const struct names *names, int list, uint64_t number, const uint8_t *marks,
@@ -59,27 +42,60 @@ static void print_marked(const struct names *names, int list, uint64_t number, c
 static void print_asked(const struct plan *plan, const struct names *names, const struct asked *asked, FILE *to) {
     uint64_t latches = plan->counts[PLAN_L], inputs = plan->counts[PLAN_I];
     int any = memchr(asked->marks, '1', latches + inputs) != NULL;
-    print_entry(names, NAMED_OUTPUTS, asked->output, to);
-    fprintf(to, " is %c at step %llu, %s\n", asked->outputs[asked->output], (ull)asked->step,
+    print_entry(names, asked->list, asked->entry, to);
+    fprintf(to, " is %c at step %llu, %s\n", asked->outputs[asked->entry], (ull)asked->step,
             any ? "because" : "whatever the inputs and latches are");
     print_marked(names, NAMED_LATCHES, latches, asked->marks, asked->state, to);
     print_marked(names, NAMED_INPUTS, inputs, asked->marks + latches, asked->inputs, to);
 }
 
+static void json_marked(struct json *json, const struct names *names, int list, uint64_t number, const uint8_t *marks,
+                        const uint8_t *values) {
+    for (uint64_t k = 0; k < number; k++)
+        if (marks[k] == '1') {
+            json_open(json, NULL, '{');
+            json_entry(json, names, list, k);
+            json_bytes(json, "value", values + k, 1);
+            json_close(json, '}');
+        }
+}
+
+static void print_object(const struct source *file, const struct plan *plan, const struct names *names,
+                         const struct asked *asked, FILE *to) {
+    uint64_t latches = plan->counts[PLAN_L];
+    struct json json = json_line(to);
+    json_text(&json, "file", file->name);
+    json_text(&json, "status", "explained");
+    json_entry(&json, names, asked->list, asked->entry);
+    json_number(&json, "step", asked->step);
+    json_bytes(&json, "value", asked->outputs + asked->entry, 1);
+    json_open(&json, "because", '[');
+    json_marked(&json, names, NAMED_LATCHES, latches, asked->marks, asked->state);
+    json_marked(&json, names, NAMED_INPUTS, plan->counts[PLAN_I], asked->marks + latches, asked->inputs);
+    json_close(&json, ']');
+    json_end(&json);
+}
+
 /* 17 in words: the library says that there is no such output, or that it is x. */
 static int say_not_explained(const struct request *request, const struct plan *plan, const struct source *file,
-                             struct plan_end end) {
+                             const struct asked *asked, struct plan_end end) {
+    const char *noun = nouns[asked->list], *other = strchr(letters, asked->word[0]);
+    uint64_t number;
     if (end.place == 1)
-        say_refused_of(file->name, end, "there is no output \"%s\": the plan has %llu, counted from 0", request->output,
-                       (ull)plan->counts[PLAN_O]);
+        say_refused_of(file->name, end, "there is no %s \"%s\": the plan has %llu, counted from 0", noun, asked->word,
+                       (ull)entries(plan, asked->list));
     else
-        say_refused_of(file->name, end, "output \"%s\" is x at step %s, and only 0 and 1 are explained",
-                       request->output, request->step);
+        say_refused_of(file->name, end, "%s \"%s\" is x at step %s, and only 0 and 1 are explained", noun, asked->word,
+                       request->step);
+    if (end.place == 1 && asked->word[0] != '\0' && other != NULL && *other != letters[asked->list] && read_position(asked->word + 1, &number))
+        say_more("%s is %s %llu; an output, a bad state or a constraint is explained, each by its own option",
+                 asked->word, nouns[other - letters], (ull)number);
     return REFUSED;
 }
 
 /* From the resets up to the step, which is explained and then done, for the value of the output. */
-static struct plan_end explain_step(struct plan *plan, const struct vectors *vectors, struct asked *asked) {
+static struct plan_end explain_step(const struct vectors *vectors, struct asked *asked) {
+    struct plan *plan = &asked->view;
     uint64_t inputs = plan->counts[PLAN_I];
     struct plan_end end = {0, 0};
     plan_first(plan, asked->next);
@@ -88,14 +104,14 @@ static struct plan_end explain_step(struct plan *plan, const struct vectors *vec
     memcpy(asked->state, asked->next, plan->counts[PLAN_L]);
     asked->inputs = vector(vectors, inputs, asked->step);
     if (end.number == 0)
-        end = plan_explain(plan, asked->state, asked->inputs, asked->output, asked->marks);
+        end = plan_explain(plan, asked->state, asked->inputs, asked->entry, asked->marks);
     if (end.number == 0)
         end = plan_step(plan, asked->next, asked->inputs, asked->outputs);
     return end;
 }
 
-static int lend_asked(const struct plan *plan, struct asked *asked) {
-    const uint64_t *n = plan->counts;
+static int lend_asked(struct asked *asked) {
+    const uint64_t *n = asked->view.counts;
     asked->state = malloc(n[PLAN_L] + 1);
     asked->next = malloc(n[PLAN_L] + 1);
     asked->outputs = malloc(n[PLAN_O] + 1);
@@ -108,30 +124,33 @@ static void free_asked(struct asked *asked) {
     free(asked->next);
     free(asked->outputs);
     free(asked->marks);
+    free_view(&asked->view);
 }
 
 static int explain_to(const struct request *request, const struct source *file, struct plan *plan,
                       const struct vectors *vectors, const struct names *names, struct asked *asked) {
     struct output output;
-    struct plan_end end;
-    int status = DONE;
-    if (!lend_asked(plan, asked))
+    if (!lend_asked(asked))
         return no_memory();
-    end = explain_step(plan, vectors, asked);
-    if (end.number == NOT_EXPLAINED)
-        return say_not_explained(request, plan, file, end);
-    status = ended(end, file);
+    find_entry(plan, names, asked->list, asked->word, &asked->entry);
+    struct plan_end end = explain_step(vectors, asked);
+    if (end.number == GOLVANZO_NOT_EXPLAINED)
+        return say_not_explained(request, plan, file, asked, end);
+    int status = ended(end, file);
     if (status == DONE)
         status = open_output(&output, request->out);
     if (status != DONE)
         return status;
-    print_asked(plan, names, asked, output.to);
+    if (request->json)
+        print_object(file, plan, names, asked, output.to);
+    else
+        print_asked(plan, names, asked, output.to);
     return close_output(&output);
 }
 
 /* All refusals of the plan come before the vectors are read; then the step must be there; then the output is judged. */
 int run_explain(const struct request *request, const struct source *file, struct plan *plan) {
-    struct asked asked = {.state = NULL};
+    struct asked asked = asked_for(request);
     struct vectors vectors;
     struct names names;
     int status;
@@ -142,16 +161,13 @@ int run_explain(const struct request *request, const struct source *file, struct
         status = read_vectors(request, plan->counts[PLAN_I], &vectors);
     if (status != DONE)
         return status;
+    asked.view = view_of(plan, asked.list);
     status = read_names(plan, &names);
-    if (status == DONE) {
-        if (!read_position(request->output, &asked.output))
-            asked.output = output_named(plan, &names, request->output);
-        if (asked.step >= vectors.number)
-            status = fail("there is no step %s: there are %llu vectors", request->step, (ull)vectors.number);
-        else
-            status = explain_to(request, file, plan, &vectors, &names, &asked);
-        free_names(&names);
-    }
+    if (status == DONE && asked.step >= vectors.number)
+        status = fail("there is no step %s: there are %llu vectors", request->step, (ull)vectors.number);
+    if (status == DONE)
+        status = explain_to(request, file, plan, &vectors, &names, &asked);
+    free_names(&names);
     free_asked(&asked);
     free_source(&vectors.source);
     return status;

@@ -1,62 +1,76 @@
 /* plan COMMAND: Golvanzo for people. One table has the commands, and --help is made from it; another has the options. */
-#include <stdarg.h>
 #include <stddef.h>
 #include <string.h>
-#include <unistd.h>
 
-#include "command.h"
+#include "commands.h"
+#include "json.h"
+#include "say.h"
 
-/* What a command may take, beside FILE, -o FILE and --help, which all take: a second file, which some need, options, and an
-   edit. */
-enum { TAKES_SECOND = 1, NEEDS_SECOND = 2, TAKES_VCD = 4, TAKES_LARGE = 8, TAKES_NAMES = 16, TAKES_THREE = 32 };
-enum { TAKES_COUNT = 64, NEEDS_OUTPUT = 128, NEEDS_EDIT = 256 };
-
-/* A command is given the plan of its file, the file alone where only the header is looked at, or what is asked alone where it
-   opens files itself. */
-struct command {
-    const char *name, *words, *what, *more;
-    int takes;
-    int (*on_plan)(const struct request *, const struct source *, struct plan *);
-    int (*on_file)(const struct request *, const struct source *);
-    int (*on_request)(const struct request *);
-};
-
-static const struct command commands[] = {
+const struct command commands[] = {
     {.name = "check",
-     .words = "FILE",
+     .words = "[--json] [-q] FILE ..",
      .what = "says the form, the counts and the names of a plan, or why it is refused",
      .more = "A line with \"text\" or \"binary\" and the counts M I L O A B C: variables, inputs, latches, outputs, gates, bad\n"
-             "states, constraints. Then a line for each name.",
+             "states, constraints. Then a line for each name.\n"
+             "Several files and folders have one line a file, and a last line that counts. In a folder, and all below it, those\n"
+             "named .aag, .aig and .cards are looked at, in the order of their names; others are passed over and counted.",
+     .takes = TAKES_MANY | TAKES_JSON | TAKES_CARDS,
      .on_plan = run_check},
     {.name = "convert",
-     .words = "FILE",
+     .words = "[-q] FILE ..",
      .what = "writes the plan in the other form, text or binary",
-     .more = "Text becomes binary, its gates in the order of conversion; binary becomes text, as it is.",
+     .more = "Text becomes binary, its gates in the order of conversion; binary becomes text, as it is.\n"
+             "Of several files and folders -o names a folder, which is made like them; each file has one line, the last line counts.",
+     .takes = TAKES_MANY,
+     .makes = MAKES_OTHER_FORM,
      .on_plan = run_convert},
     {.name = "reduce",
-     .words = "FILE",
+     .words = "[-q] FILE ..",
      .what = "writes the reduced plan, in binary form",
-     .more = "Gates with the same pair of sides become one, and trivial ones go.",
+     .more = "Gates with the same pair of sides become one, and trivial ones go.\n"
+             "Of several files and folders -o names a folder, which is made like them; each file has one line, the last line counts.",
+     .takes = TAKES_MANY,
+     .makes = MAKES_BINARY,
      .on_plan = run_reduce},
     {.name = "drop",
-     .words = "FILE",
+     .words = "[-q] FILE ..",
      .what = "writes the reduced plan without unused gates, in binary form",
-     .more = "As reduce; then gates go that no output, next state, bad state or constraint reaches.",
+     .more = "As reduce; then gates go that no output, next state, bad state or constraint reaches.\n"
+             "Of several files and folders -o names a folder, which is made like them; each file has one line, the last line counts.",
+     .takes = TAKES_MANY,
+     .makes = MAKES_BINARY,
      .on_plan = run_drop},
+    {.name = "strip",
+     .words = "[--names] [--comments] [-q] FILE ..",
+     .what = "takes names, comments or both off, and writes the plan in its form",
+     .more = "--names takes the names off and leaves the comment, --comments the comment and leaves the names; without these both go.\n"
+             "Of several files and folders -o names a folder, which is made like them; each file has one line, the last line counts.",
+     .takes = TAKES_MANY | TAKES_STRIP,
+     .makes = MAKES_SAME_FORM,
+     .on_plan = run_strip},
+    {.name = "mend",
+     .words = "FILE",
+     .what = "takes right what suppliers' files get wrong, and says each change with its place",
+     .more = "It takes off a byte order mark, the CR before new lines, and a lone \"c\" at the end; it puts a new line after the \"c\" that\n"
+             "ABC's &w writes after the gates, and after a last line that has none. It does no more: what is refused then stays refused,\n"
+             "and nothing is written. A file that has none of these is written as it is.",
+     .on_request = run_mend},
     {.name = "rewire",
      .words = "FILE GATE RHS0 RHS1",
      .what = "gives a gate other right sides, and writes the plan in its form",
-     .more = "GATE counts from 0; RHS0 and RHS1 are literals below its left side, in either order.\n"
+     .more = "GATE counts from 0, or is v7 for variable 7; RHS0 and RHS1 are literals below its left side, in either order, or\n"
+             "inputs, latches and variables as i0, l0, v7 or a name, with ! before it to negate.\n"
              "The plan must be in binary order, as convert writes it.",
      .takes = NEEDS_EDIT,
      .on_plan = run_rewire},
     {.name = "trace",
-     .words = "[--vcd] FILE [VECTORS]",
+     .words = "[--vcd] [--all] FILE [VECTORS]",
      .what = "steps the plan, a vector of inputs on each line of VECTORS",
      .more = "A vector has a value for each input: 0, 1 or x. A line for each step: state, inputs, outputs, next state.\n"
              "--vcd writes a waveform instead, for GTKWave and others, with the names of the plan.\n"
-             "Without VECTORS they are read from standard input.",
-     .takes = TAKES_SECOND | TAKES_VCD,
+             "--all has the bad states and the constraints too, at the ends of lines or in the waveform.\n"
+             "Without VECTORS they are read from standard input, and each line is answered before the next is read.",
+     .takes = TAKES_SECOND | TAKES_VCD | TAKES_ALL,
      .on_plan = run_trace},
     {.name = "plain",
      .words = "FILE [VECTORS]",
@@ -67,45 +81,51 @@ static const struct command commands[] = {
      .takes = TAKES_SECOND,
      .on_plan = run_plain},
     {.name = "explain",
-     .words = "--output O --step K FILE [VECTORS]",
+     .words = "--output O --step K [--json] FILE [VECTORS]",
      .what = "says which inputs and latches made an output 0 or 1 at a step",
      .more = "Vectors are as for trace. The plan is stepped up to step K, the first being 0, and output O of that step is\n"
-             "explained: O is its position, the first being 0, or its name. A line with its value, then one for each latch\n"
-             "and input that made it so: with these alone known, and all others x, the output would have the same value.",
-     .takes = TAKES_SECOND | NEEDS_OUTPUT,
+             "explained: O is its position, the first being 0, or o0 and so on, or its name. A line with its value, then one for\n"
+             "each latch and input that made it so: with these alone known, and all others x, it would have the same value.\n"
+             "--bad B or --constraint C instead of --output explains a bad state or a constraint.",
+     .takes = TAKES_SECOND | NEEDS_ENTRY | TAKES_JSON,
      .on_plan = run_explain},
     {.name = "witness",
-     .words = "[--three] FILE [VECTORS]",
+     .words = "[--three] [--allow N] [--list LIST] [--json] FILE [VECTORS]",
      .what = "says whether the vectors give 1 on some output or bad state",
      .more = "Vectors are as for trace. \"yes\" if they do whatever the x of resets and vectors are, 0 or 1, else \"no\", and how\n"
              "many fillings of the x were tried; every constraint must be 1 at that step and before it. At most 20 x are filled.\n"
-             "--three fills none and steps in three values: \"yes\" holds for every filling then, \"no\" says nothing of them.",
-     .takes = TAKES_SECOND | TAKES_THREE,
+             "--three fills none and steps in three values: \"yes\" holds for every filling then, \"no\" says nothing of them.\n"
+             "After a \"yes\" a line has the output or bad state and its step, after a \"no\" lines have the filling that fails.\n"
+             "--allow N tries N fillings at most, so that it may be undecided. --list writes the vectors, filled, to LIST.",
+     .takes = TAKES_SECOND | TAKES_FILLINGS | TAKES_JSON,
      .on_plan = run_witness},
     {.name = "report",
-     .words = "[--names] FILE [VECTORS]",
+     .words = "[--names] [--all] [--json] FILE [VECTORS]",
      .what = "says for each output and latch its steps at 0, at 1, at x, and its changes",
      .more = "Vectors are as for trace, at most 65536. A line for each output, then for each latch: o0 or l0 and so on, and four\n"
              "numbers; the last is that of steps with another value than the step before. A latch is looked at before each step.\n"
-             "--names puts the names of the plan at the lines' ends.",
-     .takes = TAKES_SECOND | TAKES_NAMES,
+             "--names puts the names of the plan at the lines' ends. --all has bad states and constraints after the latches.",
+     .takes = TAKES_SECOND | TAKES_NAMES | TAKES_ALL | TAKES_JSON,
      .on_plan = run_report},
     {.name = "rows",
-     .words = "[--count] FILE [VECTORS]",
+     .words = "[--count] [--json] FILE [VECTORS]",
      .what = "steps the plan once from its start with each vector, 64 at a time",
      .more = "Vectors are as for trace, and so are the lines, but that every one begins with the first state.\n"
-             "--count says instead for each output at how many rows it is 0, 1 and x.",
-     .takes = TAKES_SECOND | TAKES_COUNT,
+             "--count says instead for each output at how many rows it is 0, 1 and x; --json is for that alone.",
+     .takes = TAKES_SECOND | TAKES_COUNT | TAKES_JSON,
      .on_plan = run_rows},
     {.name = "same",
-     .words = "FILE FILE",
+     .words = "[--plan] [--json] [-q] FILE FILE",
      .what = "says whether two plans are the same but for their numbers",
      .more = "Both are converted and compared byte for byte, symbols and comments too: the form, M, the numbers of variables\n"
              "and the order of a gate's sides may differ, and the order of gates where conversion gives the same.\n"
-             "\"same\", or \"different\" and for each plan the first place that differs, in the numbers of conversion.\n"
-             "The exit status is 1 also if they are different.",
-     .takes = TAKES_SECOND | NEEDS_SECOND,
-     .on_plan = run_same},
+             "\"same\", or \"different\" and for each plan all that differs, in the numbers of conversion. --plan leaves names and\n"
+             "comments out. The exit status is 1 if they are different, 2 if one can't be read.\n"
+             "Two folders: each file with the one of the same name in the other. One folder, or several files: text beside\n"
+             "binary of the same name. One line a pair, and one for what has no partner; the last line counts.",
+     .takes = TAKES_SECOND | NEEDS_SECOND | TAKES_MANY | TAKES_JSON | TAKES_PLAN,
+     .on_request = run_same,
+     .on_many = run_pairs},
     {.name = "file",
      .words = "CARDS",
      .what = "writes plan cards as a plan in binary form: a file, or all of a folder",
@@ -124,67 +144,47 @@ static const struct command commands[] = {
      .what = "writes a drawing of the plan, for Graphviz",
      .more = "Inputs are boxes, latches double boxes, gates ellipses with their literal; a dotted edge negates.\n"
              "\"plan draw FILE | dot -Tsvg -o plan.svg\" makes a picture.\n"
-             "--large also draws a plan of more than 300 gates.",
+             "--large also draws a plan of more than 300 inputs, latches, gates, outputs, bad states and constraints.",
      .takes = TAKES_LARGE,
      .on_plan = run_draw},
     {.name = "words",
-     .words = "FILE",
+     .words = "[--json] FILE",
      .what = "says how many words each table needs to read the file",
      .more = "A line for each table: its number, its name, its words. Only the header is looked at.",
+     .takes = TAKES_JSON,
      .on_file = run_words},
 };
 
-enum { COMMANDS = sizeof commands / sizeof commands[0] };
+const int command_count = sizeof commands / sizeof commands[0];
 
-/* Options: the commands that take them, what they set, and whether that is the word after them or 1. */
-static const struct {
-    const char *word;
-    int takes;
-    size_t sets;
-    int has_word;
-} options[] = {
-    {"--vcd", TAKES_VCD, offsetof(struct request, vcd), 0},
-    {"--large", TAKES_LARGE, offsetof(struct request, large), 0},
-    {"--names", TAKES_NAMES, offsetof(struct request, names), 0},
-    {"--three", TAKES_THREE, offsetof(struct request, three), 0},
-    {"--count", TAKES_COUNT, offsetof(struct request, count), 0},
-    {"--output", NEEDS_OUTPUT, offsetof(struct request, output), 1},
-    {"--step", NEEDS_OUTPUT, offsetof(struct request, step), 1},
+#define SETS(part) offsetof(struct request, part)
+
+/* Those that no command takes by itself, all take. */
+const struct option options[] = {
+    {"-o", "OUT", "writes to this file, which appears when all of it is written", 0, SETS(out)},
+    {"-q", NULL, "says only what is wrong or different", TAKES_MANY, SETS(quiet)},
+    {"--json", NULL, "writes an object a line for scripts, refusals too", TAKES_JSON, SETS(json)},
+    {"--plan", NULL, "leaves names and comments out", TAKES_PLAN, SETS(plan)},
+    {"--vcd", NULL, "writes a waveform", TAKES_VCD, SETS(vcd)},
+    {"--all", NULL, "bad states and constraints too", TAKES_ALL, SETS(all)},
+    {"--large", NULL, "draws plans of any size", TAKES_LARGE, SETS(large)},
+    {"--names", NULL, "puts names at the ends of lines", TAKES_NAMES, SETS(names)},
+    {"--names", NULL, "takes the names off", TAKES_STRIP, SETS(names)},
+    {"--comments", NULL, "takes the comment off", TAKES_STRIP, SETS(comments)},
+    {"--three", NULL, "asks in three values, with nothing filled", TAKES_FILLINGS, SETS(three)},
+    {"--allow", "N", "tries N fillings at most", TAKES_FILLINGS, SETS(allow)},
+    {"--list", "LIST", "writes the vectors of the filling that is told of to this file", TAKES_FILLINGS, SETS(list)},
+    {"--count", NULL, "counts instead of writing rows", TAKES_COUNT, SETS(count)},
+    {"--output", "O", "explains this output", NEEDS_ENTRY, SETS(output)},
+    {"--bad", "B", "explains this bad state", NEEDS_ENTRY, SETS(bad)},
+    {"--constraint", "C", "explains this constraint", NEEDS_ENTRY, SETS(constraint)},
+    {"--step", "K", "at this step, the first being 0", NEEDS_ENTRY, SETS(step)},
 };
 
-enum { OPTIONS = sizeof options / sizeof options[0] };
+const int option_count = sizeof options / sizeof options[0];
 
-static const char common[] =
-    "FILE may be -, standard input. -o OUT writes to a file, which appears when all of it is written.\n"
-    "Exit status: 0, 1 after a refusal, 2 if something else is wrong.\n";
-
-static void print_usage(FILE *to, const struct command *command) {
-    fprintf(to, "plan %s [-o OUT] %s\n", command->name, command->words);
-}
-
-static void print_help(FILE *to, const struct command *command) {
-    if (command != NULL) {
-        print_usage(to, command);
-        fprintf(to, "%s.\n%s\n%s", command->what, command->more, common);
-        return;
-    }
-    fputs("plan COMMAND [-o OUT] FILE ..\n", to);
-    for (int k = 0; k < COMMANDS; k++)
-        fprintf(to, "  %-8s %s\n", commands[k].name, commands[k].what);
-    fprintf(to, "%s\"plan COMMAND --help\" says more of a command. \"plan check FILE\" is a good one to begin with.\n", common);
-}
-
-static int help(const struct command *command) {
-    struct output output;
-    int status = open_output(&output, NULL);
-    if (status != DONE)
-        return status;
-    print_help(output.to, command);
-    return close_output(&output);
-}
-
-static const struct command *command_named(const char *name) {
-    for (int k = 0; k < COMMANDS; k++)
+const struct command *command_named(const char *name) {
+    for (int k = 0; k < command_count; k++)
         if (strcmp(commands[k].name, name) == 0)
             return &commands[k];
     return NULL;
@@ -192,137 +192,6 @@ static const struct command *command_named(const char *name) {
 
 static int is_help(const char *word) {
     return strcmp(word, "--help") == 0 || strcmp(word, "-h") == 0;
-}
-
-/* How many letters must be put in, left out or exchanged to make one word the other; long words are far from all. */
-static size_t distance(const char *from, const char *to) {
-    enum { LONGEST = 16 };
-    size_t row[LONGEST + 1], n = strlen(to);
-    if (n > LONGEST || strlen(from) > LONGEST)
-        return LONGEST;
-    for (size_t k = 0; k <= n; k++)
-        row[k] = k;
-    for (; *from != '\0'; from++) {
-        size_t corner = row[0]++;
-        for (size_t k = 1; k <= n; k++) {
-            size_t above = row[k], least = above < row[k - 1] ? above + 1 : row[k - 1] + 1;
-            size_t exchanged = corner + (*from != to[k - 1]);
-            row[k] = exchanged < least ? exchanged : least;
-            corner = above;
-        }
-    }
-    return row[n];
-}
-
-/* Keeps the nearest word; those that have little in common are not near. */
-static void keep_nearest(const char *typed, const char *word, size_t *least, const char **nearest) {
-    size_t now = distance(typed, word);
-    if (now < *least && 2 * now <= strlen(word))
-        *least = now, *nearest = word;
-}
-
-/* A word that is no command. Many forget the command and begin with the file. */
-static int no_command(const char *typed) {
-    const char *nearest = NULL;
-    size_t least = SIZE_MAX;
-    for (int k = 0; k < COMMANDS; k++)
-        keep_nearest(typed, commands[k].name, &least, &nearest);
-    if (nearest != NULL)
-        fail("there is no command \"%s\", but \"%s\"", typed, nearest);
-    else if (access(typed, F_OK) == 0)
-        fail("\"%s\" is no command, which comes before the file: \"plan check %s\"", typed, typed);
-    else
-        fail("there is no command \"%.60s\"", typed);
-    fputs("\"plan --help\" lists the commands.\n", stderr);
-    return FAILED;
-}
-
-/* What is wrong with the words of a command, in a sentence, and how it is used. */
-__attribute__((format(printf, 2, 3))) static int misuse(const struct command *command, const char *format, ...) {
-    char why[200];
-    va_list more;
-    va_start(more, format);
-    vsnprintf(why, sizeof why, format, more);
-    va_end(more);
-    fail("%s", why);
-    print_usage(stderr, command);
-    fprintf(stderr, "\"plan %s --help\" says more.\n", command->name);
-    return FAILED;
-}
-
-static int no_option(const struct command *command, const char *typed) {
-    const char *nearest = NULL;
-    size_t least = SIZE_MAX;
-    for (int k = 0; k < OPTIONS; k++)
-        if (command->takes & options[k].takes)
-            keep_nearest(typed, options[k].word, &least, &nearest);
-    if (nearest != NULL)
-        return misuse(command, "%s has no option %.40s, but %s", command->name, typed, nearest);
-    return misuse(command, "%s has no option %.40s", command->name, typed);
-}
-
-/* Sets the option that stands here if the command takes it, and goes to its last word; status. */
-static int set_option(const struct command *command, char ***words, struct request *request) {
-    const char *word = **words;
-    int k = 0;
-    while (k < OPTIONS && (!(command->takes & options[k].takes) || strcmp(options[k].word, word) != 0))
-        k++;
-    int is_out = strcmp(word, "-o") == 0;
-    if (k == OPTIONS && !is_out)
-        return no_option(command, word);
-    char *sets = (char *)request + (is_out ? offsetof(struct request, out) : options[k].sets);
-    if (!is_out && !options[k].has_word) {
-        *(int *)sets = 1;
-        return DONE;
-    }
-    if (*(const char **)sets != NULL)
-        return misuse(command, "%s stands there twice", word);
-    *(const char **)sets = *++*words;
-    return **words != NULL ? DONE : misuse(command, "after %s a word is missing", word);
-}
-
-/* A word that is no option: the file, the second one, or a part of an edit. */
-static int set_word(const struct command *command, const char *word, struct request *request, int *edits) {
-    if (request->file == NULL)
-        request->file = word;
-    else if (request->second == NULL && command->takes & TAKES_SECOND)
-        request->second = word;
-    else if (command->takes & NEEDS_EDIT && *edits < EDIT_WORDS)
-        request->edit[(*edits)++] = word;
-    else
-        return misuse(command, "\"%.100s\" is one word too many", word);
-    return DONE;
-}
-
-/* What must be there is there, and standard input is not both files. */
-static int complete(const struct command *command, const struct request *request, int edits) {
-    if (request->file == NULL)
-        return misuse(command, "a file is missing");
-    if (command->takes & NEEDS_SECOND && request->second == NULL)
-        return misuse(command, "a second file is missing");
-    if (command->takes & NEEDS_EDIT && edits < EDIT_WORDS)
-        return misuse(command, "a gate and two right sides must follow the file");
-    if (command->takes & NEEDS_OUTPUT && (request->output == NULL || request->step == NULL))
-        return misuse(command, "%s is missing", request->output == NULL ? "--output" : "--step");
-    if (command->takes & TAKES_SECOND && strcmp(request->file, "-") == 0 &&
-        (request->second == NULL || strcmp(request->second, "-") == 0))
-        return misuse(command, "standard input can't be both files");
-    return DONE;
-}
-
-/* The words after the command. */
-static int parse(const struct command *command, char **words, struct request *request) {
-    int may_be_option = 1, edits = 0, status = DONE;
-    for (; *words != NULL && status == DONE; words++) {
-        const char *word = *words;
-        if (may_be_option && strcmp(word, "--") == 0)
-            may_be_option = 0;
-        else if (may_be_option && word[0] == '-' && word[1] != '\0')
-            status = set_option(command, &words, request);
-        else
-            status = set_word(command, word, request, &edits);
-    }
-    return status == DONE ? complete(command, request, edits) : status;
 }
 
 static int on_plan(const struct command *command, const struct request *request, const struct source *file) {
@@ -336,6 +205,10 @@ static int on_plan(const struct command *command, const struct request *request,
 
 static int run(const struct command *command, const struct request *request) {
     struct source file;
+    if (request->json)
+        say_in_objects();
+    if (is_many(command, request))
+        return run_many(command, request);
     if (command->on_request != NULL)
         return command->on_request(request);
     int status = read_source(request->file, &file);
@@ -346,21 +219,37 @@ static int run(const struct command *command, const struct request *request) {
     return status;
 }
 
+/* A first word that is no command, but asks for something. */
+static int ask(char **words, int *status) {
+    if (is_help(words[1]) || strcmp(words[1], "help") == 0)
+        *status = help(words[2]);
+    else if (strcmp(words[1], "--version") == 0)
+        *status = print_version();
+    else if (strcmp(words[1], "--man") == 0)
+        *status = print_man();
+    else if (strcmp(words[1], "--completion") == 0)
+        *status = print_completion(words[2]);
+    else
+        return 0;
+    return 1;
+}
+
 int main(int argc, char **argv) {
     struct request request = {.file = NULL};
+    int status;
     keep_standard_files();
     if (argc < 2) {
         print_help(stderr, NULL);
         return FAILED;
     }
-    if (is_help(argv[1]) || strcmp(argv[1], "help") == 0)
-        return help(argc > 2 ? command_named(argv[2]) : NULL);
+    if (ask(argv, &status))
+        return status;
     const struct command *command = command_named(argv[1]);
     if (command == NULL)
         return no_command(argv[1]);
     for (char **word = argv + 2; *word != NULL && strcmp(*word, "--") != 0; word++)
         if (is_help(*word))
-            return help(command);
-    int status = parse(command, argv + 2, &request);
+            return help(command->name);
+    status = parse(command, argv + 2, &request);
     return status == DONE ? run(command, &request) : status;
 }

@@ -4,6 +4,7 @@
 
 #include "command.h"
 #include "cycle.h"
+#include "mend.h"
 #include "say.h"
 #include "symbols.h"
 
@@ -72,11 +73,46 @@ static const char *expected_in_tail(const struct scan *scan, size_t place) {
     return place <= digits ? "a space" : "a printable character or a new line";
 }
 
+/* Where "plan mend" takes it right, that is said. Of a file whose first bytes are refused no more than these was read. */
+static void say_mendable(const struct refusal *r) {
+    struct mended mended;
+    struct plan plan;
+    int all = mend(r->scan.of, &mended) && mended.number > 0;
+    const struct change *first = mended.changes;
+    if (all && (first->kind > CARRIAGE_RETURNS || first->at != r->end.place)) {
+        all = plan_read(&plan, mended.at, mended.length).number == 0;
+        plan_free(&plan);
+    }
+    if (all)
+        say_more("%s: \"plan mend %s\" %s", change_why(first->kind), typed_name(r->scan.of), change_done(first->kind));
+    free_mended(&mended);
+}
+
+static int is_digit(const struct source *file, size_t at) {
+    return at < file->length && '0' <= file->at[at] && file->at[at] <= '9';
+}
+
+/* Whether the byte is a digit after a 0 that begins a number. */
+static int after_zero(const struct source *file, size_t at) {
+    return at > 1 && is_digit(file, at) && file->at[at - 1] == '0' && !is_digit(file, at - 2);
+}
+
+static int is_empty_line(const struct scan *scan, size_t at) {
+    const struct source *file = scan->of;
+    return at < file->length && at > 0 && file->at[at] == '\n' && (file->at[at - 1] == '\n' || at == scan->tail);
+}
+
 static void say_expected(const struct refusal *r, const char *where, const char *expected) {
-    size_t place = (size_t)r->end.place;
-    say_refused(&r->scan, r->end, (struct spot){place, 1}, "in %s %s must stand here, not %s", where, expected,
-                byte_name(r->scan.of, place));
-    say_line_ends(&r->scan, place);
+    const struct source *file = r->scan.of;
+    struct spot spot = {(size_t)r->end.place, 1};
+    if (after_zero(file, spot.at))
+        say_refused(&r->scan, r->end, spot, "in %s a number has a leading zero", where);
+    else if (is_empty_line(&r->scan, spot.at))
+        say_refused(&r->scan, r->end, spot, "in %s %s must stand here, but the line is empty", where, expected);
+    else
+        say_refused(&r->scan, r->end, spot, "in %s %s must stand here, not %s", where, expected,
+                    byte_name(file, spot.at));
+    say_mendable(r);
 }
 
 /* The first four bytes are those of every file. */
@@ -90,6 +126,7 @@ static void say_wrong_start(const struct refusal *r) {
                     "a file starts with \"aag \" or \"aig \"; here stands %s", byte_name(file, place));
     if (file->length > 1 && memcmp(file->at, "PH", 2) == 0)
         say_more("this looks like plan cards: \"plan file\" makes a plan of them");
+    say_mendable(r);
 }
 
 static const char *which_difference(const struct difference *d) {
@@ -130,8 +167,8 @@ static void say_wrong_sum(const struct refusal *r) {
     const uint64_t *n = r->scan.counts;
     say_refused(&r->scan, r->end, number_spot(r, r->scan.count_at[PLAN_M]),
                 "I + L + A = %llu + %llu + %llu = %llu%s M = %llu", (ull)n[PLAN_I], (ull)n[PLAN_L], (ull)n[PLAN_A],
-                (ull)(n[PLAN_I] + n[PLAN_L] + n[PLAN_A]), r->scan.binary ? ", but in binary form it is" : " is above",
-                (ull)n[PLAN_M]);
+                (ull)(n[PLAN_I] + n[PLAN_L] + n[PLAN_A]),
+                r->scan.binary ? ", but in binary form it must be" : " is above", (ull)n[PLAN_M]);
 }
 
 static void say_justice(const struct refusal *r) {
@@ -296,9 +333,18 @@ int ended(struct plan_end end, const struct source *file) {
     static const struct {
         uint64_t number;
         void (*say)(const struct refusal *);
-    } sayings[] = {{WRONG_BYTE, say_wrong_byte}, {2, say_large_count}, {3, say_wrong_sum}, {5, say_out_of_range},
-                   {6, say_defined_twice},       {7, say_not_defined}, {8, say_cyclic},    {9, say_difference},
-                   {10, say_bad_symbol},         {16, say_difference}, {21, say_justice},  {24, say_many_gates}};
+    } sayings[] = {{GOLVANZO_WRONG_BYTE, say_wrong_byte},
+                   {GOLVANZO_LARGE_COUNT, say_large_count},
+                   {GOLVANZO_WRONG_SUM, say_wrong_sum},
+                   {GOLVANZO_OUT_OF_RANGE, say_out_of_range},
+                   {GOLVANZO_DEFINED_TWICE, say_defined_twice},
+                   {GOLVANZO_NOT_DEFINED, say_not_defined},
+                   {GOLVANZO_CYCLIC, say_cyclic},
+                   {GOLVANZO_BAD_DIFFERENCE, say_difference},
+                   {GOLVANZO_BAD_SYMBOL, say_bad_symbol},
+                   {GOLVANZO_LONG_DIFFERENCE, say_difference},
+                   {GOLVANZO_JUSTICE, say_justice},
+                   {GOLVANZO_MANY_GATES, say_many_gates}};
     if (end.number == 0)
         return DONE;
     if (end.number == PLAN_NO_MEMORY)

@@ -6,6 +6,11 @@
 #include <string.h>
 #include <unistd.h>
 
+#include "json.h"
+#include "meaning.h"
+#include "progress.h"
+#include "utf8.h"
+
 enum { WIDE = 100, BEFORE = 60, GATE_BYTES = 16, GUTTER = 7 };
 
 /* The file of a folder that is said of in one line; null where there is room for more. */
@@ -15,8 +20,16 @@ void say_in_one_line(const char *file) {
     moving = file;
 }
 
+/* Whether scripts are said to: an object a line, on standard output. */
+static int objects;
+
+void say_in_objects(void) {
+    objects = 1;
+}
+
 /* Where it is said: lines about the files of a folder are what was asked for. */
 static FILE *told(void) {
+    progress_clear();
     return moving != NULL ? stdout : stderr;
 }
 
@@ -25,24 +38,96 @@ enum tone { PLAIN, BOLD, RED, CYAN, GREEN };
 
 static const char *tone(enum tone which) {
     static const char *const codes[] = {"\33[0m", "\33[1m", "\33[1;31m", "\33[1;36m", "\33[1;32m"};
-    return isatty(fileno(told())) && getenv("NO_COLOR") == NULL ? codes[which] : "";
+    const char *unwanted = getenv("NO_COLOR"), *terminal = getenv("TERM");
+    int none = (unwanted != NULL && unwanted[0] != '\0') || (terminal != NULL && strcmp(terminal, "dumb") == 0);
+    return !none && isatty(fileno(told())) ? codes[which] : "";
+}
+
+/* How many bytes a character has that is shown as it stands there: one of ASCII, or one of UTF-8 that is no control. 0: none. */
+static size_t shown_at(const uint8_t *b, size_t left) {
+    int control = b[0] < 32 || b[0] == 127 || (b[0] == 0xC2 && left > 1 && b[1] < 0xA0);
+    return control ? 0 : utf8_at(b, left);
+}
+
+static void put_byte(FILE *to, uint8_t b) {
+    static const char known[] = "\n\r\t", letters[] = "nrt";
+    const char *at = b == 0 ? NULL : strchr(known, b);
+    if (at != NULL)
+        fprintf(to, "\\%c", letters[at - known]);
+    else
+        fprintf(to, "\\x%02x", b);
+}
+
+void put_shown(FILE *to, const void *bytes, size_t length) {
+    const uint8_t *b = bytes;
+    for (size_t at = 0, n; at < length; at += n + (n == 0)) {
+        n = shown_at(b + at, length - at);
+        if (n == 0)
+            put_byte(to, b[at]);
+        else
+            fwrite(b + at, 1, n, to);
+    }
+}
+
+void put_text(FILE *to, const char *text) {
+    put_shown(to, text, strlen(text));
 }
 
 static void say_toned(enum tone which, const char *text) {
-    fprintf(told(), "%s%s: %s", tone(which), text, tone(PLAIN));
+    fputs(tone(which), told());
+    put_text(told(), text);
+    fprintf(told(), ": %s", tone(PLAIN));
 }
 
+/* A sentence is one line, whatever names and words it has. */
 static void say_sentence(const char *format, va_list more) {
-    vfprintf(told(), format, more);
+    char *sentence;
+    if (vasprintf(&sentence, format, more) >= 0) {
+        put_text(told(), sentence);
+        free(sentence);
+    }
     fputc('\n', told());
+}
+
+static int past_lines(const struct scan *scan, size_t at);
+static size_t line_start(const struct scan *scan, size_t at);
+
+/* A refusal, or without one what else is wrong, for scripts (docs/COMMANDS.md, "For scripts"). */
+static void say_object(const char *file, const struct plan_end *end, const struct scan *scan, size_t at,
+                       const char *format, va_list more) {
+    struct json json = json_line(stdout);
+    char *sentence;
+    if (file != NULL)
+        json_text(&json, "file", file);
+    json_text(&json, "status", end != NULL ? "refused" : "failed");
+    if (end != NULL) {
+        json_number(&json, "number", end->number);
+        json_number(&json, "place", end->place);
+    }
+    if (scan != NULL && past_lines(scan, at)) {
+        json_number(&json, "byte", at);
+    } else if (scan != NULL) {
+        json_number(&json, "line", scan->before + line_at(scan->of, at));
+        json_number(&json, "column", at - line_start(scan, at) + 1);
+    }
+    if (vasprintf(&sentence, format, more) >= 0) {
+        json_text(&json, "says", sentence);
+        free(sentence);
+    }
+    json_end(&json);
 }
 
 int fail(const char *format, ...) {
     va_list more;
     va_start(more, format);
+    if (objects) {
+        say_object(moving, NULL, NULL, 0, format, more);
+        va_end(more);
+        return FAILED;
+    }
     say_toned(BOLD, moving != NULL ? moving : "plan");
     if (moving != NULL)
-        fputs("not moved: ", told());
+        fputs("not written: ", told());
     say_sentence(format, more);
     va_end(more);
     return FAILED;
@@ -84,9 +169,11 @@ const char *byte_name(const struct source *source, size_t at) {
     return name;
 }
 
-/* Whether a place lies past the lines of a binary file. */
+/* Whether a place lies past the lines of a binary file. One that ends before its gates has lines alone; cards, whose bytes start at
+   0, have none. */
 static int past_lines(const struct scan *scan, size_t at) {
-    return scan->binary && scan->counts[PLAN_A] > 0 && at >= scan->gates;
+    int ends_before = scan->gates > 0 && scan->gates == scan->of->length;
+    return scan->binary && scan->counts[PLAN_A] > 0 && at >= scan->gates && !ends_before;
 }
 
 /* Where the line that a place lies in starts; a binary file's tail starts a line. */
@@ -99,10 +186,11 @@ static size_t line_start(const struct scan *scan, size_t at) {
 
 static void say_where(const struct scan *scan, size_t at) {
     fputs(tone(BOLD), told());
+    put_text(told(), scan->of->name);
     if (past_lines(scan, at))
-        fprintf(told(), "%s:byte %zu: ", scan->of->name, at);
+        fprintf(told(), ":byte %zu: ", at);
     else
-        fprintf(told(), "%s:%llu:%zu: ", scan->of->name, (unsigned long long)line_at(scan->of, at),
+        fprintf(told(), ":%llu:%zu: ", (unsigned long long)(scan->before + line_at(scan->of, at)),
                 at - line_start(scan, at) + 1);
     fputs(tone(PLAIN), told());
 }
@@ -129,7 +217,7 @@ static void say_line(const struct scan *scan, struct spot spot) {
     if (past_lines(scan, spot.at))
         fprintf(told(), "%*s | %s\n", GUTTER, "", line);
     else
-        fprintf(told(), "%*llu | %s\n", GUTTER, (unsigned long long)line_at(s, spot.at), line);
+        fprintf(told(), "%*llu | %s\n", GUTTER, (unsigned long long)(scan->before + line_at(s, spot.at)), line);
     size_t before = spot.at - from, most = WIDE - before,
            width = end - spot.at < spot.width ? end - spot.at : spot.width;
     say_mark(before, width < most ? width : most, 1);
@@ -163,27 +251,35 @@ static void say_refusal(struct plan_end end) {
 void say_refused(const struct scan *scan, struct plan_end end, struct spot spot, const char *format, ...) {
     va_list more;
     va_start(more, format);
-    say_where(scan, spot.at);
-    say_refusal(end);
-    fputs(": ", told());
-    say_sentence(format, more);
-    say_spot(scan, spot);
+    if (objects) {
+        say_object(scan->of->name, &end, scan, spot.at, format, more);
+    } else {
+        say_where(scan, spot.at);
+        say_refusal(end);
+        fputs(": ", told());
+        say_sentence(format, more);
+        say_spot(scan, spot);
+    }
     va_end(more);
 }
 
 void say_refused_of(const char *name, struct plan_end end, const char *format, ...) {
     va_list more;
     va_start(more, format);
-    say_toned(BOLD, name);
-    say_refusal(end);
-    fputs(": ", told());
-    say_sentence(format, more);
+    if (objects) {
+        say_object(name, &end, NULL, 0, format, more);
+    } else {
+        say_toned(BOLD, name);
+        say_refusal(end);
+        fputs(": ", told());
+        say_sentence(format, more);
+    }
     va_end(more);
 }
 
 void say_note(const struct scan *scan, struct spot spot, const char *format, ...) {
     va_list more;
-    if (moving != NULL)
+    if (moving != NULL || objects)
         return;
     va_start(more, format);
     say_where(scan, spot.at);
@@ -193,9 +289,17 @@ void say_note(const struct scan *scan, struct spot spot, const char *format, ...
     va_end(more);
 }
 
+void say_change(const struct scan *scan, size_t at, const char *format, ...) {
+    va_list more;
+    va_start(more, format);
+    say_where(scan, at);
+    say_sentence(format, more);
+    va_end(more);
+}
+
 void say_more(const char *format, ...) {
     va_list more;
-    if (moving != NULL)
+    if (moving != NULL || objects)
         return;
     va_start(more, format);
     say_toned(CYAN, "note");
@@ -206,14 +310,14 @@ void say_more(const char *format, ...) {
 void say_line_ends(const struct scan *scan, size_t at) {
     const struct source *s = scan->of;
     if (at + 1 < s->length && s->at[at] == '\r' && s->at[at + 1] == '\n')
-        say_more("lines end in CR LF here, as on Windows; a new line is LF alone%s",
-                 scan->binary ? "" : ": \"tr -d '\\r'\" takes the CR away");
+        say_more("lines end in CR LF here, as on Windows; a new line is LF alone: \"tr -d '\\r'\" takes the CR away");
 }
 
 void say_number(const char *name, struct plan_end end) {
-    say_refused_of(name, end, "docs/REFUSALS.md says what that means");
+    const struct meaning *meaning = meaning_of(end.number);
+    say_refused_of(name, end, "%s", meaning != NULL ? meaning->means : "docs/REFUSALS.md says what that means");
 }
 
 void say_unreadable(const char *name, const char *why) {
-    say_refused_of(name, (struct plan_end){UNREADABLE, 0}, "it can't be read: %s", why);
+    say_refused_of(name, (struct plan_end){GOLVANZO_UNREADABLE, 0}, "it can't be read: %s", why);
 }

@@ -17,6 +17,9 @@ void say_refused(const struct scan *scan, struct plan_end end, struct spot spot,
 /* The same as a note to the sentence before. */
 void say_note(const struct scan *scan, struct spot spot, const char *format, ...) __attribute__((format(printf, 3, 4)));
 
+/* "file:line:column: sentence", of what was changed there. */
+void say_change(const struct scan *scan, size_t at, const char *format, ...) __attribute__((format(printf, 3, 4)));
+
 /* A note without a place. */
 void say_more(const char *format, ...) __attribute__((format(printf, 1, 2)));
 
@@ -30,13 +33,21 @@ void say_refused_of(const char *name, struct plan_end end, const char *format, .
 /* From now on this file of a folder is gone through, and has one line; null: no folder is. */
 void say_in_one_line(const char *file);
 
+/* From now on scripts are said to: each refusal is an object on standard output, and notes are left out. */
+void say_in_objects(void);
+
 /* A note where the byte of a place belongs to an end of a line that is of another kind. */
 void say_line_ends(const struct scan *scan, size_t at);
 
 /* Refusal 14. */
 void say_unreadable(const char *name, const char *why);
 
-/* Bytes as they may be written to a terminal, cut at the room. */
+/* Whatever comes from a file or from the command line is shown so: control bytes, and those that are no UTF-8, are spelled out, as
+   "\n" or "\x1b", so that no terminal obeys them and a line stays one. The second takes a name or a word. */
+void put_shown(FILE *to, const void *bytes, size_t length);
+void put_text(FILE *to, const char *text);
+
+/* Bytes of a line under which a mark is put, a column each, cut at the room. */
 void show_bytes(char *to, size_t room, const uint8_t *bytes, size_t length);
 
 /* One byte of a file in words, or its end. */

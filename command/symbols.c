@@ -29,6 +29,18 @@ int next_symbol(const uint8_t *bytes, size_t length, size_t *at, struct symbol *
     return 1;
 }
 
+size_t symbols_end(const struct plan *plan) {
+    struct symbol symbol;
+    size_t at = 0;
+    while (next_symbol(plan->tail, plan->tail_length, &at, &symbol))
+        continue;
+    return at;
+}
+
+void put_name(const struct symbol *symbol, FILE *to) {
+    fwrite(symbol->name, 1, symbol->length, to);
+}
+
 uint64_t entries(const struct plan *plan, int list) {
     return plan->counts[list_counts[list]];
 }
@@ -50,6 +62,29 @@ int read_names(const struct plan *plan, struct names *names) {
 }
 
 void free_names(struct names *names) {
-    for (int list = 0; list < NAMED; list++)
+    for (int list = 0; list < NAMED; list++) {
         free(names->of[list]);
+        names->of[list] = NULL;
+    }
+}
+
+void json_entry(struct json *json, const struct names *names, int list, uint64_t entry) {
+    const struct symbol *symbol = &names->of[list][entry];
+    json_text(json, "list", nouns[list]);
+    json_number(json, "position", entry);
+    if (symbol->name != NULL)
+        json_bytes(json, "name", symbol->name, symbol->length);
+}
+
+void json_names(struct json *json, const struct plan *plan, const struct names *names) {
+    json_open(json, "names", '[');
+    for (int list = 0; list < NAMED; list++)
+        for (uint64_t k = 0; k < entries(plan, list); k++) {
+            if (names->of[list][k].name == NULL)
+                continue;
+            json_open(json, NULL, '{');
+            json_entry(json, names, list, k);
+            json_close(json, '}');
+        }
+    json_close(json, ']');
 }

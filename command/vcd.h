@@ -2,25 +2,17 @@
 #ifndef VCD_H
 #define VCD_H
 
-#include "command.h"
+#include "run.h"
 
-/* One step of a run: its number, and the bytes before and after it. With `plain` the plain engine steps beside the stepper, to
-   bytes of its own, until they part. */
-struct run {
-    uint64_t step;
-    uint8_t *state, *next, *outputs;
-    const uint8_t *inputs;
-    int plain, parted;
-    uint8_t *plain_next, *plain_outputs;
-};
-
-/* The values that the waveform showed last: of inputs, latches, outputs. */
+/* The values that the waveform showed last: of so many lists, which are inputs, latches, outputs, and with all also bad states
+   and constraints. */
 struct wave {
     uint8_t *shown;
+    int lists;
 };
 
 /* Writes the names of all that is shown; x is x. */
-int begin_wave(struct wave *wave, const struct plan *plan, FILE *to);
+int begin_wave(struct wave *wave, const struct plan *plan, int all, FILE *to);
 
 /* Writes what a step changes; after the last step, the state that it left. */
 void print_changes(const struct wave *wave, const struct plan *plan, const struct run *run, FILE *to);

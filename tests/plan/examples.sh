@@ -56,40 +56,71 @@ words_and_check() {
     accepts "$room/names" check "$room/plan"
 }
 
-# answers WORD VECTORS THREE: by fillings, with their number, and in three values.
+# answers WORD VECTORS THREE MORE MORE-THREE: by fillings, with their number, and in three values; what more is told of each.
 answers() {
-    echo "$1" >"$room/found"
+    printf '%s\n%s\n' "$1" "$4" >"$room/found"
     printf '%s' "$2" >"$room/vectors"
     accepts "$room/found" witness "$room/plan" "$room/vectors"
-    echo "$3" >"$room/found"
+    printf '%s\n%s\n' "$3" "$5" >"$room/found"
     accepts "$room/found" witness --three "$room/plan" "$room/vectors"
 }
 
 # An And of two inputs; a latch that is bad when it is 1; an input and its negation, of which one is 1 whatever x is; the README's example; a
 # latch that starts as x.
 witnesses() {
-    local list
+    local list never="no output or bad state is 1"
     printf 'aag 3 2 0 1 1\n2\n4\n6\n6 2 4\n' >"$room/plan"
-    answers "yes, 1 filling tried" $'01\n11\n' yes
-    answers "no, 1 filling tried" $'01\n1x\n' no
-    answers "no, 1 filling tried" '' no
+    answers "yes, 1 filling tried" $'01\n11\n' yes "o0 is 1 at step 1" "o0 is 1 at step 1"
+    answers "no, 1 filling tried" $'01\n1x\n' no "$never, in filling 0:"$'\n'"i1 is 0 at step 1" "$never"
+    answers "no, 1 filling tried" '' no "$never" "$never"
     printf 'aag 1 0 1 0 0 1 0\n2 3 0\n2\n' >"$room/plan"
-    answers "yes, 1 filling tried" $'\n\n' yes
-    answers "no, 1 filling tried" $'\n' no
+    answers "yes, 1 filling tried" $'\n\n' yes "b0 is 1 at step 1" "b0 is 1 at step 1"
+    answers "no, 1 filling tried" $'\n' no "$never" "$never"
     printf 'aag 1 1 0 2 0\n2\n2\n3\n' >"$room/plan"
-    answers "yes, 2 fillings tried" $'x\n' no
+    answers "yes, 2 fillings tried" $'x\n' no "o1 is 1 at step 0, where every x is 0" "$never"
     cp examples/selector.aag "$room/plan"
-    answers "yes, 4 fillings tried" $'xx1\n' no
-    printf 'aag 2 1 1 1 0\n2\n4 0 4\n5\n' >"$room/plan"
-    answers "no, 2 fillings tried" $'x\n' no
-    answers "yes, 8 fillings tried" $'x\nx\n' yes
+    answers "yes, 4 fillings tried" $'xx1\n' no "left needle (o0) is 1 at step 0, where every x is 0" "$never"
+    printf 'aag 2 1 1 1 0\n2\n4 0 4\n5\nl0 row\n' >"$room/plan"
+    answers "no, 2 fillings tried" $'x\n' no "$never, in filling 1:"$'\n'"row (l0) starts as 1"$'\n'"i0 is 0 at step 0" "$never"
+    answers "yes, 8 fillings tried" $'x\nx\n' yes "o0 is 1 at step 1" "o0 is 1 at step 1"
     list=$(printf 'x\n%.0s' {1..20})$'\n'
-    answers "yes, 1048576 fillings tried" "${list#$'x\n'}" yes
+    answers "yes, 1048576 fillings tried" "${list#$'x\n'}" yes "o0 is 1 at step 1" "o0 is 1 at step 1"
     printf '%s' "$list" >"$room/vectors"
     refuses "vectors: refused 20 at 21: resets and vectors have 21 x, of which 20 at most are filled; --three asks" \
         witness "$room/plan" "$room/vectors"
-    echo yes >"$room/found"
+    printf 'yes\no0 is 1 at step 1\n' >"$room/found"
     accepts "$room/found" witness --three "$room/plan" "$room/vectors"
+}
+
+# Constraints: lifting and turning at once ends the run, before which nothing is 1; and what may be tried and written out.
+witnesses_more() {
+    printf 'no, 1 filling tried\nno turn while lifting (c0) is 0 at step 0, and no output or bad state is 1 before, in filling 0:\nlifted (l1) starts as 0\n' >"$room/found"
+    printf '11\n10\n' >"$room/vectors"
+    accepts "$room/found" witness examples/guard.aag "$room/vectors"
+    printf 'no\nno turn while lifting (c0) is 0 at step 0, and no output or bad state is 1 before\n' >"$room/found"
+    accepts "$room/found" witness --three examples/guard.aag "$room/vectors"
+    # the latch is 1 at the first step in filling 1 and in every other one after it: the input is the second x
+    printf 'aag 2 1 1 1 0\n2\n4 0 4\n5\n' >"$room/plan"
+    printf 'x\nx\n' >"$room/vectors"
+    printf 'undecided, 3 fillings tried\n' >"$room/found"
+    accepts "$room/found" witness --allow 3 "$room/plan" "$room/vectors"
+    printf 'undecided, 0 fillings tried\n' >"$room/found"
+    accepts "$room/found" witness --allow 0 --list "$room/undecided" "$room/plan" "$room/vectors"
+    holds "no list of what is undecided" test ! -e "$room/undecided"
+    printf 'aag 2 2 0 1 0\n2\n4\n3\n' >"$room/plan"
+    printf '1x\nxx\n' >"$room/vectors"
+    printf 'no, 3 fillings tried\nno output or bad state is 1, in filling 2:\ni1 is 0 at step 0\ni0 is 1 at step 1\ni1 is 0 at step 1\n' >"$room/found"
+    accepts "$room/found" witness --list "$room/list" "$room/plan" "$room/vectors"
+    printf '10\n10\n' >"$room/expected"
+    holds "the filling that fails as vectors" cmp -s "$room/list" "$room/expected"
+    printf '0x\n' >"$room/vectors"
+    printf 'yes, 2 fillings tried\no0 is 1 at step 0\n' >"$room/found"
+    accepts "$room/found" witness --list "$room/list" "$room/plan" "$room/vectors"
+    holds "a filling of a yes as vectors" test 00 = "$(cat "$room/list")"
+    misuses '--allow takes a number of fillings, not "some"' witness --allow some "$room/plan" "$room/vectors"
+    misuses "--three fills nothing" witness --three --allow 3 "$room/plan" "$room/vectors"
+    misuses "--three fills nothing" witness --three --list "$room/list" "$room/plan" "$room/vectors"
+    misuses "$room/none/list: No such file or directory" witness --list "$room/none/list" "$room/plan" "$room/vectors"
 }
 
 # A waveform and a drawing, whole.
@@ -182,7 +213,7 @@ standard_input() {
 
 usage() {
     local verb
-    for verb in check convert reduce drop rewire trace plain explain witness report rows same file card draw words; do
+    for verb in check convert reduce drop strip mend rewire trace plain explain witness report rows same file card draw words; do
         try "$verb" --help
         holds "$verb --help" grep -q "^plan $verb \[-o OUT\] " "$room/out"
         cp "$room/out" "$room/told"
@@ -199,13 +230,16 @@ plan $verb [-o OUT]" "$verb" examples/toggle.aag -o
 plan $verb [-o OUT]" "$verb" -o a -o b examples/toggle.aag
     done
     accepts "$room/help" -h
+    accepts "$room/help" help
+    misuses 'plan: there is no command "nosuch"' help nosuch
+    misuses 'plan: there is no command "chek", but "check"' help chek
     $command --help >/dev/full 2>"$room/error"
     holds "help to a full device" [ "$? $(cat "$room/error")" = "2 plan: standard output: No space left on device" ]
 }
 
 # What is wrong is said, with what is near.
 mistyped() {
-    misuses 'plan: "examples/guard.aag" is one word too many' convert examples/toggle.aag examples/guard.aag
+    misuses 'plan: "examples/guard.aag" is one word too many' words examples/toggle.aag examples/guard.aag
     misuses 'plan: convert has no option --vcd' convert --vcd examples/toggle.aag
     misuses 'plan: trace has no option --vdc, but --vcd' trace --vdc examples/toggle.aag
     misuses 'plan: trace has no option --three' trace --three examples/toggle.aag
@@ -218,6 +252,13 @@ mistyped() {
     misuses 'plan: there is no command "convrt", but "convert"' convrt examples/toggle.aag
     misuses 'plan: there is no command "fiel", but "file"' fiel examples/toggle.aag
     misuses 'plan: there is no command ""' ""
+    misuses 'plan: there is no command "diff", but "same"' diff examples/toggle.aag examples/toggle.aig
+    misuses 'plan: there is no command "sim", but "trace"' sim examples/toggle.aag
+    misuses 'plan: there is no command "stats", but "check"' stats examples/toggle.aag
+    misuses 'plan: there is no command "info", but "check"' info examples/toggle.aag
+    misuses 'plan: there is no command "cat", but "convert"' cat examples/toggle.aag
+    misuses 'plan: there is no command "nosuch"' help nosuch
+    misuses 'plan: one thing is explained at a time' explain examples/guard.aag --step 0 --bad 0 --output 0
     misuses 'plan: "examples/toggle.aag" is no command, which comes before the file: "plan check examples/toggle.aag"' examples/toggle.aag
     misuses "  check "
 }
@@ -226,6 +267,7 @@ convert_and_trace
 worked_examples
 words_and_check
 witnesses
+witnesses_more
 pictures
 standard_input
 usage

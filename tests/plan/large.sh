@@ -21,7 +21,7 @@ large() {
     accepts "$room/same" same "$folder/converted.aig" "$folder/mixed.aag"
     try check "$folder/plan.aig"
     holds "check of $1 gates" grep -q "^binary M .* A $1 B 0 C 0$" "$room/out"
-    misuses "has $1 gates; a drawing of more than 300 is hardly read: --large draws it" draw "$folder/plan.aig"
+    misuses "; a drawing of more than 300 is hardly read: --large draws it" draw "$folder/plan.aig"
     try draw --large "$folder/plan.aig"
     holds "edges of $1 gates" test "$(edges "$folder/plan.aag")" = "$(grep -c -- '->' "$room/out")"
     accepts /dev/null convert -o "$room/made.aag" "$folder/plan.aig"

@@ -25,6 +25,56 @@ written() {
     rm "$room/to"/*
 }
 
+# Names up to the longest; rights and the owner as they were, but none that lend the owner's.
+replaced() {
+    local name
+    name=$(printf 'n%.0s' {1..250})
+    accepts /dev/null convert -o "$room/to/$name" examples/toggle.aag
+    holds "a name of 250 bytes" cmp -s "$room/to/$name" examples/toggle.aig
+    name=$(printf 'n%.0s' {1..255})
+    accepts /dev/null convert -o "$room/to/$name" examples/toggle.aag
+    holds "a name of 255 bytes" cmp -s "$room/to/$name" examples/toggle.aig
+    accepts /dev/null convert -o "$room/to/$name" examples/guard.aag
+    holds "a name of 255 bytes again" cmp -s "$room/to/$name" examples/guard.aig
+    rm "$room/to"/*
+    : >"$room/to/made"
+    chmod 6751 "$room/to/made"
+    accepts /dev/null convert -o "$room/to/made" examples/toggle.aag
+    holds "no setuid is kept" test 751 = "$(stat -c %a "$room/to/made")"
+    if [ "$(id -u)" = 0 ]; then
+        chown 12345:23456 "$room/to/made"
+        accepts /dev/null convert -o "$room/to/made" examples/toggle.aag
+        holds "the owner is kept" test 12345:23456:751 = "$(stat -c %u:%g:%a "$room/to/made")"
+    else
+        echo "$0: no other owner is tried, since only root can give files away"
+    fi
+    rm "$room/to"/*
+}
+
+# Brought to the disk before it gets its name, or else it does not get it. A folder's files are so together, at the end.
+synced() {
+    local before=$command
+    build_over_desk plan-synced tests/plan/synced.c -g -O1 -Wl,--wrap=fsync,--wrap=syncfs,--wrap=rename c/plan.c command/*.c
+    command="${emulator}target/desk/plan-synced"
+    try convert -o "$room/to/made" examples/toggle.aag
+    holds "to the disk, then renamed" [ "$(cat "$room/status" "$room/error")" = $'0\nfsync\nrename' ]
+    try convert examples/toggle.aag
+    holds "standard output is left alone" [ "$(cat "$room/status" "$room/error")" = 0 ]
+    SYNC=fails try convert -o "$room/to/made" examples/guard.aag
+    expect "not to the disk" 2 /dev/null "fsync
+plan: $room/to/made: Input/output error"
+    holds "what does not come to the disk gets no name" cmp -s "$room/to/made" examples/toggle.aig
+    holds "and is not left" test made = "$(left)"
+    mkdir "$room/synced"
+    printf 'aig 0 0 0 0 0\n' | tee "$room/synced/a.aig" "$room/synced/b.aig" >"$room/synced/c.aig"
+    try card -o "$room/to/cards" "$room/synced"
+    holds "a folder together" [ "$(cat "$room/status" "$room/error")" = $'0\nrename\nrename\nrename\nsyncfs' ]
+    SYNC=fails try card -o "$room/to/cards" "$room/synced"
+    holds "a folder that does not come to the disk" [ "$(cat "$room/status")" = 2 ]
+    command=$before
+    rm -r "$room/to"/* "$room/synced"
+}
+
 # A refusal, a reader that ends, a folder that isn't there.
 not_written() {
     echo kept >"$room/to/made"
@@ -51,6 +101,26 @@ full_output() {
         : >"$room/out"
         expect "$words to a full device" 2 /dev/null "standard output: No space left on device"
     done
+}
+
+# What standard output or a descriptor is redirected to is written where it is, not replaced.
+open_already() {
+    local name file
+    { echo before && cat examples/toggle.aig; } >"$room/expected"
+    for name in /dev/stdout /dev/fd/1 /proc/self/fd/1 /dev/fd/3 "$room/to/made"; do
+        echo before >"$room/to/made"
+        file=$(stat -c %i "$room/to/made")
+        $command convert -o "$name" examples/toggle.aag >>"$room/to/made" 3>>"$room/to/made"
+        holds "-o $name writes what is open" cmp -s "$room/expected" "$room/to/made"
+        holds "-o $name replaces nothing" test "$file made" = "$(stat -c %i "$room/to/made") $(left)"
+    done
+    holds "-o /dev/stdout writes to a pipe" cmp -s examples/toggle.aig <($command convert -o /dev/stdout examples/toggle.aag | cat)
+    # what is open to be read is replaced
+    cp examples/toggle.aag "$room/to/made"
+    # shellcheck disable=SC2094 # all of it is read before it is written
+    accepts /dev/null convert -o "$room/to/made" - <"$room/to/made"
+    holds "-o replaces what is read" cmp -s examples/toggle.aig "$room/to/made"
+    rm "$room/to"/*
 }
 
 # Standard output or error that is closed: what is opened does not take its place.
@@ -93,7 +163,7 @@ ended_early() {
         env --default-signal=$number timeout -s $number 0.3 $plain trace -o "$room/to/made" "$room/chain" "$room/vectors"
         holds "interrupted by $number" test "124 made" = "$? $(left)"
     done
-    for number in TERM HUP; do
+    for number in TERM HUP XCPU ALRM VTALRM PROF USR1 USR2 IO ABRT; do
         # shellcheck disable=SC2086 # the emulator may stand before it
         env --default-signal=$number $plain trace -o "$room/to/made" "$room/chain" "$room/vectors" &
         while [ "$(left | wc -l)" = 1 ] && kill -0 $! 2>/dev/null; do :; done
@@ -119,8 +189,11 @@ small_disk() {
 
 mkdir "$room/to"
 written
+replaced
+synced
 not_written
 full_output
+open_already
 closed_output
 full_disk
 ended_early

@@ -64,7 +64,7 @@ other_line_ends() {
 $room/plan:1:14: refused 1 at 13: in the header a space or a new line must stand here, not a carriage return
       1 | aag 7 2 1 2 4.
         |              ^
-note: lines end in CR LF here, as on Windows; a new line is LF alone: "tr -d '\r'" takes the CR away
+note: lines end in CR LF here, as on Windows; a new line is LF alone: "plan mend $room/plan" takes the CR off
 END
     plan 'aag 1 1 0 0 0\n2\r\n'
     refuses "plan:2:2: refused 1 at 15: in input 0 a new line must stand here, not a carriage return" check "$room/plan"
@@ -75,7 +75,7 @@ END
 $room/plan:1:14: refused 1 at 13: in the header a space or a new line must stand here, not a carriage return
       1 | aig 0 0 0 0 0.
         |              ^
-note: lines end in CR LF here, as on Windows; a new line is LF alone
+note: lines end in CR LF here, as on Windows; a new line is LF alone: "plan mend $room/plan" takes the CR off
 END
 }
 
@@ -100,6 +100,7 @@ END
 $room/plan:5:7: refused 1 at 26: in the symbols and comments a new line must stand here, not the end of the file
       5 | remark
         |       ^
+note: the last line has no end: "plan mend $room/plan" puts a new line there
 END
     plan 'aag 2 2 0 0 0\n2\n\33[31m\n'
     says check "$room/plan" <<END
@@ -107,6 +108,56 @@ $room/plan:3:1: refused 1 at 16: in input 1 a number must stand here, not byte 1
       3 | .[31m
         | ^
 END
+}
+
+# A binary file that ends before its gates has lines alone.
+before_gates() {
+    plan 'aig 3 1 0 1 2\n'
+    says check "$room/plan" <<END
+$room/plan:2:1: refused 1 at 14: in output 0 a number must stand here, not the end of the file
+      2 | 
+        | ^
+END
+    plan 'aig 3 1 0 1 2\n6'
+    says check "$room/plan" <<END
+$room/plan:2:2: refused 1 at 15: in output 0 a new line must stand here, not the end of the file
+      2 | 6
+        |  ^
+END
+    plan 'aig 3 1 0 1 2\n6\n'
+    says check "$room/plan" <<END
+$room/plan:3:1: refused 1 at 16: the file ends before the first difference of gate 0, and A is 2
+      3 | 
+        | ^
+END
+    plan 'aig 3 1 0 1 2\n6\n\2\202'
+    says check "$room/plan" <<END
+$room/plan:byte 18: refused 1 at 18: the file ends in the second difference of gate 0, and A is 2
+        | 02 82
+        |       ^~
+END
+}
+
+# What is wrong has its everyday name.
+everyday_names() {
+    refuses "leading-zero.aag:1:6: refused 1 at 5: in the header a number has a leading zero" check tests/refused-01/leading-zero.aag
+    plan 'aag 10 01 0 0 0\n'
+    refuses "refused 1 at 8: in the header a number has a leading zero" check "$room/plan"
+    plan 'aag 1 1 0 1 0\n2\n02\n'
+    refuses "plan:3:2: refused 1 at 17: in output 0 a number has a leading zero" check "$room/plan"
+    plan 'aag 1 1 0 1 0\n2\n2\ni00 a\n'
+    refuses "plan:4:3: refused 1 at 20: in the symbols and comments a number has a leading zero" check "$room/plan"
+    plan 'aag 100 1 0 1 0\n20 \n'
+    refuses "refused 1 at 18: in input 0 a new line must stand here, not a space" check "$room/plan"
+    plan 'aag 1 1 0 1 0\n\n2\n'
+    refuses "plan:2:1: refused 1 at 14: in input 0 a number must stand here, but the line is empty" check "$room/plan"
+    plan 'aag 1 1 0 1 0\n2\n2\n\n'
+    refuses "plan:4:1: refused 1 at 18: in the symbols and comments \"i\", \"l\", \"o\", \"b\", \"c\" or the end of the file must stand here, but the line is empty" \
+        check "$room/plan"
+    plan 'aig 10 1 0 0 2\n'
+    refuses "plan:1:5: refused 3 at 0: I + L + A = 1 + 0 + 2 = 3, but in binary form it must be M = 10" check "$room/plan"
+    plan 'aag 1 1 0 0 2\n'
+    refuses "refused 3 at 0: I + L + A = 1 + 0 + 2 = 3 is above M = 1" check "$room/plan"
 }
 
 # Lines and bytes of worked examples, those of AIGER 1.9 among them; a binary file has lines until its gates.
@@ -169,12 +220,32 @@ $room/plan:1:1: refused 1 at 0: a file starts with "aag " or "aig "; here stands
 END
 }
 
+# The first bytes and the header are judged before the rest is read: of a pipe that never ends, and of 4 GB without any on the disk.
+first_bytes() {
+    local before=$command
+    command="timeout 60 $command"
+    refuses "/dev/zero:1:1: refused 1 at 0: a file starts with" check /dev/zero
+    refuses "refused 1 at 13: in the header" convert - < <(yes 'aag 0 0 0 0 0x')
+    refuses "refused 2 at 4: M is 1048576" words - < <(yes 'aag 1048576 0 0 0 0')
+    refuses "refused 3 at 0" trace - /dev/null < <(yes 'aag 1 1 1 0 0')
+    refuses "refused 21 at 18" draw - < <(yes 'aag 0 0 0 0 0 0 0 1')
+    refuses "/dev/zero:byte 22: refused 1 at 22: its counts ask for 22 bytes, it has more" file /dev/zero
+    # a file's first bytes may come one by one
+    accepts examples/toggle.aig convert - < <(for k in a a g; do printf %s $k; sleep 0.1; done; tail -c +4 examples/toggle.aag)
+    refuses "refused 1 at 3: a file starts with" convert - < <(printf aag; sleep 0.1)
+    command=$before
+    truncate -s 4G "$room/holes"
+    (ulimit -v 1000000 && $plain check "$room/holes" >"$room/out" 2>"$room/error"; echo $? >"$room/status")
+    expect "4 GB" 1 /dev/null "holes:1:1: refused 1 at 0: a file starts with"
+    rm "$room/holes"
+}
+
 # What can't be read: not there, a folder, closed, failing after it was opened.
 unreadable() {
     says check "$room/none" <<END
 $room/none: refused 14 at 0: it can't be read: No such file or directory
 END
-    refuses "$room: refused 14 at 0: " convert "$room"
+    refuses "$room: refused 14 at 0: " words "$room"
     refuses "none: refused 14 at 0: " trace examples/toggle.aag "$room/none"
     refuses "standard input: refused 14 at 0: " convert - <&-
     refuses "/proc/self/mem: refused 14 at 0: " reduce /proc/self/mem
@@ -188,6 +259,10 @@ colours() {
     holds "colours on a terminal" grep -qF "$line" "$room/screen"
     script -qec "NO_COLOR=1 $command check tests/refused-05/output.aag" /dev/null >"$room/screen" </dev/null
     holds "no colours where none are wanted" test 0 = "$(grep -cF $'\33' "$room/screen")"
+    script -qec "NO_COLOR= $command check tests/refused-05/output.aag" /dev/null >"$room/screen" </dev/null
+    holds "colours where NO_COLOR is empty" grep -qF "$line" "$room/screen"
+    script -qec "TERM=dumb $command check tests/refused-05/output.aag" /dev/null >"$room/screen" </dev/null
+    holds "no colours on a terminal that has none" test 0 = "$(grep -cF $'\33' "$room/screen")"
     printf '11\n\4' | script -qec "$command trace examples/toggle.aag" /dev/null >"$room/screen"
     holds "vectors from the keyboard" grep -q "vectors are read from the keyboard, a line of 2 values for each step; Ctrl-D ends" "$room/screen"
 }
@@ -210,9 +285,12 @@ worked_refusals
 in_lines
 other_line_ends
 in_other_places
+before_gates
+everyday_names
 places
 in_vectors
 no_plans
+first_bytes
 unreadable
 colours
 transcript

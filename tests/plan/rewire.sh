@@ -31,8 +31,8 @@ not_rewired() {
     refuses "refused 8 at 1" rewire tests/refused-08/two-gates.aag 0 0 0
     printf 'aag 0 0 0 0 0\n' >"$room/plan"
     refuses "refused 22 at 0" rewire "$room/plan" 0 0 0
-    misuses "no number" rewire examples/toggle.aig 0 2 four
-    misuses "no number" rewire examples/toggle.aig "" 2 4
+    misuses '"four" is no number, input, latch or variable' rewire examples/toggle.aig 0 2 four
+    misuses '"" is no number of a gate' rewire examples/toggle.aig "" 2 4
     misuses "plan rewire [-o OUT]" rewire examples/toggle.aig 0 2
     misuses "plan rewire [-o OUT]" rewire examples/toggle.aig 0 2 4 6
     misuses "plan rewire [-o OUT]" rewire examples/toggle.aig 0 -2 4

@@ -37,5 +37,16 @@ as_traces() {
     done
 }
 
+# 300 vectors of 200,000 latches: a block of rows is held, not all of them. (The compiler's checks take more memory by far.)
+in_blocks() {
+    local lines
+    { printf 'aag 200000 0 200000 0 0\n' && seq 2 2 400000 | sed 's/.*/& 1/'; } >"$room/latches"
+    yes '' | head -n 300 >"$room/vectors"
+    lines=$(ulimit -v 50000 && $plain rows "$room/latches" "$room/vectors" 2>&1 | uniq -c | cut -c 1-20 | tr -s ' ')
+    holds "rows in a little memory: ${lines:0:100}" [ "$lines" = " 300 000000000000" ]
+    rm "$room/latches"
+}
+
 by_hand
 as_traces
+[ -n "$emulator" ] || in_blocks

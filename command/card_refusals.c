@@ -1,6 +1,6 @@
 /* Why plan cards are refused (docs/PAPER.md, "Plan cards"). The number and the place are the library's; the sentence is found in the
    file, of which nothing is judged here. */
-#include "records.h"
+#include "card_refusals.h"
 
 #include <string.h>
 
@@ -31,12 +31,12 @@ static uint64_t end_of(const struct records *r) {
     return r->at + r->count * (MARK + NUMBER * r->numbers);
 }
 
-/* The records of table 2, 3 or 4. */
+/* The records of latches, outputs or gates. */
 static struct records records_of(const struct source *cards, uint64_t table) {
     struct records latches = {HEAD_CARD, card_count(cards, PLAN_L), 1, "PL", "the next state of latch"};
     struct records outputs = {end_of(&latches), card_count(cards, PLAN_O), 1, "PO", "output"};
     struct records gates = {end_of(&outputs), card_count(cards, PLAN_A), 2, "PA", "a right side of gate"};
-    return table == 2 ? latches : table == 3 ? outputs : gates;
+    return table == GOLVANZO_TABLE_LATCHES ? latches : table == GOLVANZO_TABLE_OUTPUTS ? outputs : gates;
 }
 
 static size_t number_place(const struct records *r, uint64_t k) {
@@ -55,8 +55,12 @@ static void say_length(const struct scan *scan, struct plan_end end) {
                     scan->of->length);
         return;
     }
-    struct records gates = records_of(scan->of, 4);
-    say_refused(scan, end, spot, "its counts ask for %llu bytes, it has %zu", (ull)end_of(&gates), scan->of->length);
+    struct records gates = records_of(scan->of, GOLVANZO_TABLE_GATES);
+    if (end.place < scan->of->length)
+        say_refused(scan, end, spot, "its counts ask for %llu bytes, it has more", (ull)end_of(&gates));
+    else
+        say_refused(scan, end, spot, "its counts ask for %llu bytes, it has %zu", (ull)end_of(&gates),
+                    scan->of->length);
 }
 
 static void say_count(const struct scan *scan, struct plan_end end) {
@@ -68,7 +72,7 @@ static void say_count(const struct scan *scan, struct plan_end end) {
 static void say_sum(const struct scan *scan, struct plan_end end) {
     ull i = card_count(scan->of, PLAN_I), l = card_count(scan->of, PLAN_L), a = card_count(scan->of, PLAN_A);
     say_refused(scan, end, (struct spot){MARK, NUMBER},
-                "I + L + A = %llu + %llu + %llu = %llu, but on plan cards it is M = %llu", i, l, a, i + l + a,
+                "I + L + A = %llu + %llu + %llu = %llu, but on plan cards it must be M = %llu", i, l, a, i + l + a,
                 (ull)card_count(scan->of, PLAN_M));
 }
 
@@ -85,7 +89,7 @@ static void say_literal(const struct scan *scan, struct plan_end end) {
 
 /* The first gate whose right sides are not below its left side, the larger first. */
 static void say_order(const struct scan *scan, struct plan_end end) {
-    const struct records r = records_of(scan->of, 4);
+    const struct records r = records_of(scan->of, GOLVANZO_TABLE_GATES);
     uint64_t left = 2 * (1 + card_count(scan->of, PLAN_I) + card_count(scan->of, PLAN_L)), k = 0, first, second;
     do {
         first = card_number(scan->of, number_place(&r, 2 * k));
@@ -103,7 +107,7 @@ static void say_order(const struct scan *scan, struct plan_end end) {
 static void say_marked(const struct scan *scan, struct plan_end end) {
     char found[MARK + 1];
     const char *mark = "PH";
-    for (uint64_t table = 2; table <= 4; table++) {
+    for (uint64_t table = GOLVANZO_TABLE_LATCHES; table <= GOLVANZO_TABLE_GATES; table++) {
         struct records r = records_of(scan->of, table);
         if (r.at <= end.place && end.place < end_of(&r))
             mark = r.mark;
@@ -117,8 +121,9 @@ int cards_ended(struct plan_end end, const struct source *cards) {
     static const struct {
         uint64_t number;
         void (*say)(const struct scan *, struct plan_end);
-    } sayings[] = {{WRONG_BYTE, say_length}, {2, say_count},  {3, say_sum},
-                   {5, say_literal},         {15, say_order}, {18, say_marked}};
+    } sayings[] = {{GOLVANZO_WRONG_BYTE, say_length},  {GOLVANZO_LARGE_COUNT, say_count},
+                   {GOLVANZO_WRONG_SUM, say_sum},      {GOLVANZO_OUT_OF_RANGE, say_literal},
+                   {GOLVANZO_NOT_IN_ORDER, say_order}, {GOLVANZO_WRONG_MARK, say_marked}};
     const struct scan scan = bytes_of(cards);
     if (end.number == 0)
         return DONE;

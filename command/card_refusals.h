@@ -1,6 +1,6 @@
 /* Refused plan cards, looked at again for people. */
-#ifndef RECORDS_H
-#define RECORDS_H
+#ifndef CARD_REFUSALS_H
+#define CARD_REFUSALS_H
 
 #include "command.h"
 
