@@ -59,6 +59,11 @@ void plan_free(struct plan *plan) {
     memset(plan, 0, sizeof *plan);
 }
 
+void plan_free_bytes(struct plan_bytes *bytes) {
+    free(bytes->at);
+    *bytes = (struct plan_bytes){NULL, 0};
+}
+
 /* A read that is lent no table has the number and the place of a refused header, which the desk question has not. */
 struct plan_end plan_words(const uint8_t *file, size_t length, uint64_t words[PLAN_TABLES + 1]) {
     struct plan_tables none = {.scratch = NULL};
@@ -203,16 +208,14 @@ static struct plan_end write_file(struct plan *plan, write_call *call, size_t ro
     if (!ready(plan, &of))
         return no_memory;
     for (int turn = 0; turn < 2 && end.number == GOLVANZO_SHORT_BUFFER; turn++) {
-        free(out->at);
+        plan_free_bytes(out);
         *out = (struct plan_bytes){lent((size_t)end.place), (size_t)end.place};
         if (out->at == NULL)
             return no_memory;
         end = call(&of, tail, out);
     }
-    if (end.number != 0) {
-        free(out->at);
-        *out = (struct plan_bytes){NULL, 0};
-    }
+    if (end.number != 0)
+        plan_free_bytes(out);
     return end;
 }
 
@@ -248,14 +251,41 @@ struct plan_end plan_step_plain(struct plan *plan, uint8_t *state, const uint8_t
     return ready(plan, &of) ? plan_tables_step_plain(&of, state, inputs, outputs) : no_memory;
 }
 
-/* Asked without a step's bytes, whose lack is 12: that is judged after all refusals of the plan, 24 being the last. */
+/* A call that steps. */
+typedef void step_call(const uint64_t *counts, GOLVANZO_GIVEN, GOLVANZO_SCRATCH, uint8_t *state,
+                       golvanzo_size state_len, const uint8_t *ins, golvanzo_size ins_len, uint8_t *outs,
+                       golvanzo_size outs_len, uint64_t *answer);
+
+/* Whether it takes the plan: asked without a step's bytes, whose lack is 12, judged after all refusals of the plan. */
+static struct plan_end takes(const struct plan_tables *of, step_call *call) {
+    uint64_t answer[2];
+    call(PLAN_LENT_ALL(of), NULL, 0, NULL, 0, NULL, 0, answer);
+    return answer[0] == GOLVANZO_BAD_VECTOR ? done : plan_end_of(answer);
+}
+
 struct plan_end plan_check_plain(struct plan *plan) {
     struct plan_tables of;
-    uint64_t answer[2];
-    if (!ready(plan, &of))
-        return no_memory;
-    golvanzo_step_plain(PLAN_LENT_ALL(&of), NULL, 0, NULL, 0, NULL, 0, answer);
-    return answer[0] == GOLVANZO_BAD_VECTOR ? done : plan_end_of(answer);
+    return ready(plan, &of) ? takes(&of, golvanzo_step_plain) : no_memory;
+}
+
+/* No vectors are a question too, so that the plan is judged. */
+struct plan_end plan_run(struct plan *plan, uint64_t number, const uint8_t *vectors, uint8_t *states,
+                         uint8_t *outputs) {
+    struct plan_tables of;
+    struct plan_end end = no_memory;
+    size_t inputs = (size_t)plan->counts[PLAN_I], latches = (size_t)plan->counts[PLAN_L];
+    size_t width = (size_t)plan->counts[PLAN_O], steps = (size_t)number;
+    if (ready(plan, &of))
+        end = takes(&of, golvanzo_step);
+    for (size_t k = 0; k < steps && end.number == 0; k++) {
+        memcpy(states + (k + 1) * latches, states + k * latches, latches);
+        end = plan_tables_step(&of, states + (k + 1) * latches, vectors + k * inputs, outputs + k * width);
+    }
+    if (end.number != 0) {
+        memset(states + latches, 0, steps * latches);
+        memset(outputs, 0, steps * width);
+    }
+    return end;
 }
 
 struct plan_end plan_witness(struct plan *plan, uint64_t number, const uint8_t *vectors, size_t length,

@@ -44,11 +44,12 @@ struct plan {
     int binary;
 };
 
-/* Bytes of the caller's, to be given back by free(). */
+/* Bytes of the caller's, to be given back by free(), or by the call, which leaves them empty. */
 struct plan_bytes {
     uint8_t *at;
     size_t length;
 };
+void plan_free_bytes(struct plan_bytes *bytes);
 
 /* The desk question for each table of PLAN_TABLES, and for table 5 as the last. */
 struct plan_end plan_words(const uint8_t *file, size_t length, uint64_t words[PLAN_TABLES + 1]);
@@ -82,7 +83,12 @@ void plan_first(const struct plan *plan, uint8_t *state);
 /* One step in binary order: L bytes of state, which become the next, I bytes of inputs, O bytes of outputs. */
 struct plan_end plan_step(struct plan *plan, uint8_t *state, const uint8_t *inputs, uint8_t *outputs);
 
-/* The same by the plain engine, for plans of at most 24 gates; and whether it takes the plan, which is 24 where it
+/* A step for each of a number of vectors, I bytes each, one after another. The first L bytes of `states` are the
+   state that the run starts from; the next state of each step is written after them, (number + 1) * L bytes in all,
+   and number * O bytes of outputs. After a refusal, 12 if a vector holds a wrong byte, what is written is zero. */
+struct plan_end plan_run(struct plan *plan, uint64_t number, const uint8_t *vectors, uint8_t *states, uint8_t *outputs);
+
+/* A step by the plain engine, for plans of at most 24 gates; and whether it takes the plan, which is 24 where it
    has more. */
 struct plan_end plan_step_plain(struct plan *plan, uint8_t *state, const uint8_t *inputs, uint8_t *outputs);
 struct plan_end plan_check_plain(struct plan *plan);

@@ -93,11 +93,33 @@ static void expect_step(void) {
     plan_free(&plan);
 }
 
+/* A run of the same plan: its latch is turned at each step. No step is half done: a wrong byte leaves zeros. */
+static void expect_run(void) {
+    struct plan plan;
+    struct plan_bytes out;
+    uint8_t states[4] = "0", outputs[3];
+    plan_read(&plan, (const uint8_t *)named, sizeof named - 1);
+    expect(plan_run(&plan, 3, (const uint8_t *)"01x", states, outputs).number == 0, "a run");
+    expect(memcmp(states, "0101", 4) == 0 && memcmp(outputs, "010", 3) == 0, "the states and outputs of a run");
+    struct plan_end end = plan_run(&plan, 3, (const uint8_t *)"01y", states, outputs);
+    expect(end.number == GOLVANZO_BAD_VECTOR && end.place == 2, "a run with a wrong byte");
+    expect(memcmp(states, "0\0\0\0", 4) == 0 && memcmp(outputs, "\0\0\0", 3) == 0, "what it leaves");
+    expect(plan_run(&plan, 0, NULL, states, outputs).number == 0 && states[0] == '0', "a run of no steps");
+    plan.words[PLAN_RESETS] = 0;
+    expect(plan_run(&plan, 0, NULL, states, outputs).number == GOLVANZO_SHORT_TABLE, "of which the plan is judged");
+    plan.words[PLAN_RESETS] = 1;
+    expect(plan_write_text(&plan, &out).number == 0 && out.length == sizeof named - 1, "the plan is written");
+    plan_free_bytes(&out);
+    expect(out.at == NULL && out.length == 0, "bytes given back");
+    plan_free(&plan);
+}
+
 int main(int argc, char **argv) {
     expect_version(argc == 2 ? argv[1] : "");
     expect_sentences();
     expect_names();
     expect_step();
+    expect_run();
     printf("%d passed, %d failed\n", passed, failed);
     return failed != 0;
 }
