@@ -3,7 +3,7 @@
 #   make install            below PREFIX, which is /usr/local; DESTDIR goes before every path
 #   make uninstall          takes out what install put there
 #   make deb                target/make/golvanzo_VERSION_ARCHITECTURE.deb
-# The library is the proved archive if `rt staticlib desk` made it since the crates changed; else it is compiled now from
+# The library is the proved archive if `rt staticlib desk` made it since the crates changed. Else it is compiled now from
 # the same sources, without proving them (tools/quick).
 
 VERSION := $(shell cat VERSION)
@@ -49,7 +49,7 @@ $(BUILD)/libdesk.a: crates.txt tools/quick $(shell find crates -name '*.rt') $(w
 	@mkdir -p $(BUILD)
 	@if [ "$$(uname -m)" != x86_64 ]; then \
 	    ports/library "$$(uname -m)" $@ && echo "for $$(uname -m), whose back end nothing compares" >$(BUILD)/made-of; \
-	elif [ -f $(PROVED) ] && [ -z "$$(find crates crates.txt -newer $(PROVED) -print -quit)" ]; then \
+	elif grep -qsa 'rattle logic=' $(PROVED) && [ -z "$$(find crates crates.txt -newer $(PROVED) -print -quit)" ]; then \
 	    cp $(PROVED) $@ && echo "of the archive that was proved here" >$(BUILD)/made-of; \
 	else \
 	    tools/quick $@ && echo "compiled without proving the sources again" >$(BUILD)/made-of; \
@@ -60,7 +60,7 @@ $(BUILD)/%.o: c/%.c $(HEADERS) VERSION | $(BUILD)/libdesk.a
 
 # The header's version is that of the file VERSION.
 $(BUILD)/version.o: c/version.c $(HEADERS) VERSION | $(BUILD)/libdesk.a
-	@said=$$(printf '#include "golvanzo.h"\nGOLVANZO_VERSION\n' | $(CC) -Ic -E -P - | tail -n 1 | tr -d '" '); \
+	@said=$$(printf '#include "golvanzo.h"\nGOLVANZO_VERSION_STRING\n' | $(CC) -Ic -E -P - | tail -n 1 | tr -d '" '); \
 	[ "$$said" = "$(VERSION)" ] || { echo "make: c/golvanzo.h says $$said, VERSION says $(VERSION)" >&2; exit 1; }
 	$(CC) $(OWN_FLAGS) $(CFLAGS) -fPIC -c -o $@ $<
 
@@ -73,7 +73,8 @@ $(BUILD)/libgolvanzo.so.$(VERSION): $(BUILD)/libdesk.a $(OBJECTS) c/libgolvanzo.
 	    -o $@ $(OBJECTS) -Wl,--whole-archive $< -Wl,--no-whole-archive
 
 $(BUILD)/plan: $(wildcard command/*.c command/*.h) $(BUILD)/libgolvanzo.a
-	$(CC) $(OWN_FLAGS) $(CFLAGS) $(LDFLAGS) $(COMMAND_LDFLAGS) -o $@ $(filter %.c,$^) $(BUILD)/libgolvanzo.a
+	$(CC) $(OWN_FLAGS) -DGOLVANZO_VERSION='"$(VERSION)"' $(CFLAGS) $(LDFLAGS) $(COMMAND_LDFLAGS) -o $@ $(filter %.c,$^) \
+	    $(BUILD)/libgolvanzo.a
 
 # The man page and the completions are the command's own words: how it is asked for them, and where they go.
 TEXTS := --man:man/man1/plan.1 --completion,bash:bash-completion/completions/plan --completion,zsh:$(ZSHDIR)/_plan \
@@ -132,7 +133,7 @@ deb: all
 	@$(MAKE) --no-print-directory -s install BUILD=$(BUILD) PREFIX=/usr LIBDIR=/usr/lib/$$($(CC) -print-multiarch) \
 	    DESTDIR=$(BUILD)/deb >/dev/null
 	@install -d -m 755 $(BUILD)/deb/DEBIAN && echo 'activate-noawait ldconfig' >$(BUILD)/deb/DEBIAN/triggers
-	@libc=$$(objdump -T $(BUILD)/libgolvanzo.so.$(VERSION) | grep -o 'GLIBC_[0-9.]*' | sed 's/GLIBC_//' | sort -Vu | tail -n 1); \
+	@libc=$$(objdump -T $(BUILD)/libgolvanzo.so.$(VERSION) | grep -o 'GLIBC_[0-9.]*' | tr -d GLIBC_ | sort -Vu | tail -n 1); \
 	printf '%s\n' 'Package: golvanzo' 'Version: $(VERSION)' "Architecture: $$(dpkg --print-architecture)" \
 	    'Maintainer: Golvanzo maintainers <maintainers@users.noreply.golvanzo.example>' 'Section: electronics' \
 	    'Priority: optional' "Depends: libc6 (>= $$libc)" 'Suggests: python3' \

@@ -21,7 +21,7 @@ static void expect_version(const char *version) {
     snprintf(of_numbers, sizeof of_numbers, "%d.%d.%d", GOLVANZO_VERSION_MAJOR, GOLVANZO_VERSION_MINOR,
              GOLVANZO_VERSION_PATCH);
     expect(strcmp(golvanzo_version(), version) == 0, "the library's version");
-    expect(strcmp(GOLVANZO_VERSION, version) == 0, "the header's version");
+    expect(strcmp(GOLVANZO_VERSION_STRING, version) == 0, "the header's version");
     expect(strcmp(of_numbers, version) == 0, "the version's numbers");
     expect(sizeof(golvanzo_size) == 8, "a length has 64 bits");
 }
