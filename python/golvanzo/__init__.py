@@ -18,14 +18,18 @@ from __future__ import annotations
 
 import ctypes
 import weakref
-from typing import Dict, Iterator, List, NamedTuple, Optional, Sequence, Tuple, Union
+from array import array
+from mmap import mmap
+from typing import Dict, Iterator, List, NamedTuple, Optional, Sequence, Tuple, Union, cast
 
 from ._library import LISTS, NO_MEMORY, Bytes, End, Finding, PlanStruct, Symbol, lent, library, version
 
 __all__ = ["Plan", "Refused", "Counts", "Needle", "Row", "Run", "Rows", "Witness", "version", "sentence"]
 __version__ = version
 
-Vector = Union[str, bytes, bytearray, memoryview]
+# what has the buffer protocol; Python has no name for all of it before 3.12
+Buffer = Union[bytes, bytearray, memoryview, "array[int]", mmap]
+Vector = Union[str, Buffer]
 Vectors = Union[Vector, Sequence[Vector]]
 
 
@@ -92,9 +96,9 @@ class Run:
     it has one more than the run has steps.
     """
 
-    def __init__(self, counts: Counts, number: int, inputs: object, states: bytearray, outputs: bytearray) -> None:
+    def __init__(self, counts: Counts, number: int, inputs: memoryview, states: bytearray, outputs: bytearray) -> None:
         self.number = number
-        self.inputs = memoryview(inputs).cast("B")  # type: ignore[arg-type]
+        self.inputs = inputs
         self.states = states
         self.outputs = outputs
         self._counts = counts
@@ -139,8 +143,8 @@ def _text(values: Union[bytearray, memoryview], place: int, width: int) -> str:
     return bytes(values[place * width : (place + 1) * width]).decode("latin-1")
 
 
-def _bytes_of(vector: Vector) -> object:
-    return vector.encode("latin-1", "replace") if isinstance(vector, str) else vector
+def _view(vector: Vector) -> memoryview:
+    return memoryview(vector.encode("latin-1", "replace") if isinstance(vector, str) else vector).cast("B")
 
 
 class _Lengths:
@@ -157,25 +161,24 @@ class _Lengths:
 
     def vector(self, vector: Vector, width: int, place: int) -> bytes:
         """The bytes of one vector; place is that of 12."""
-        whole = bytes(_bytes_of(vector))  # type: ignore[call-overload]
+        whole = _view(vector)
         if len(whole) == width:
-            return whole
+            return whole.tobytes()
         self.wrong.append(place)
         return b"?" * width
 
-    def list(self, vectors: Vectors, width: int, number: Optional[int]) -> Tuple[int, object]:
-        """How many vectors there are, and an object that has their bytes one after another."""
+    def many(self, vectors: Vectors, width: int, number: Optional[int]) -> Tuple[int, memoryview]:
+        """How many vectors there are, and their bytes one after another: the caller's own, where it gave them so."""
         if isinstance(vectors, (list, tuple)):
-            return len(vectors), b"".join([self.vector(vector, width, 2) for vector in vectors])
-        whole = _bytes_of(vectors)  # type: ignore[arg-type]
-        length = memoryview(whole).nbytes  # type: ignore[arg-type]
-        if number is None and width == 0 and length == 0:
+            return len(vectors), memoryview(b"".join([self.vector(vector, width, 2) for vector in vectors]))
+        whole = _view(cast(Vector, vectors))
+        if number is None and width == 0 and len(whole) == 0:
             raise ValueError("a plan without inputs: say the number of vectors, or give a list of them")
-        steps = length // max(width, 1) if number is None else number
-        if length == steps * width:
+        steps = len(whole) // max(width, 1) if number is None else number
+        if len(whole) == steps * width:
             return steps, whole
         self.wrong.append(2)
-        return 1, b"?" * width
+        return 1, memoryview(b"?" * width)
 
     def ended(self, end: End) -> None:
         """Raises what the call is refused for."""
@@ -200,7 +203,7 @@ class Plan:
         weakref.finalize(self, library.plan_free, self._at)
 
     @classmethod
-    def read(cls, file: object) -> "Plan":
+    def read(cls, file: Buffer) -> "Plan":
         """Reads a file of AIGER 1.9, of either form. The bytes are lent by the buffer protocol and not kept."""
         plan = cls()
         with lent(file) as (at, length):
@@ -208,7 +211,7 @@ class Plan:
         return plan
 
     @classmethod
-    def read_cards(cls, file: object) -> "Plan":
+    def read_cards(cls, file: Buffer) -> "Plan":
         """Reads plan cards. They have no names, and are in binary order."""
         plan = cls()
         with lent(file) as (at, length):
@@ -337,7 +340,7 @@ class Plan:
         """Steps once for each vector, from a state or from the resets. `number` is needed if there are no inputs."""
         n, held = self.counts, _Lengths()
         begin = self.first.encode("ascii") if state is None else held.vector(state, n.L, 1)
-        steps, whole = held.list(vectors, n.I, number)
+        steps, whole = held.many(vectors, n.I, number)
         states, outputs = bytearray(n.L * (steps + 1)), bytearray(n.O * steps)
         states[: n.L] = begin
         with lent(whole) as (ins, _), lent(states, True) as (to, _), lent(outputs, True) as (outs, _):
@@ -347,7 +350,7 @@ class Plan:
     def rows(self, vectors: Vectors, number: Optional[int] = None) -> Rows:
         """Steps each vector once from the resets, by itself."""
         n, held = self.counts, _Lengths()
-        rows, whole = held.list(vectors, n.I, number)
+        rows, whole = held.many(vectors, n.I, number)
         nexts, outputs = bytearray(n.L * rows), bytearray(n.O * rows)
         with lent(whole) as (ins, _), lent(nexts, True) as (to, _), lent(outputs, True) as (outs, _):
             held.ended(library.plan_rows(self._at, rows, ins, to, outs))
@@ -356,7 +359,7 @@ class Plan:
     def count_rows(self, vectors: Vectors, number: Optional[int] = None) -> List[Row]:
         """The same rows counted: for each output those at 0, at 1 and at x."""
         n, held = self.counts, _Lengths()
-        rows, whole = held.list(vectors, n.I, number)
+        rows, whole = held.many(vectors, n.I, number)
         report = (ctypes.c_uint64 * (3 * n.O))()
         with lent(whole) as (ins, _):
             held.ended(library.plan_report_rows(self._at, rows, ins, ctypes.addressof(report)))
@@ -365,7 +368,7 @@ class Plan:
     def report(self, vectors: Vectors, number: Optional[int] = None) -> Tuple[List[Needle], List[Needle]]:
         """The needle report of a run from the resets: that of the outputs, and that of the latches."""
         n, held = self.counts, _Lengths()
-        steps, whole = held.list(vectors, n.I, number)
+        steps, whole = held.many(vectors, n.I, number)
         words = (ctypes.c_uint32 * (4 * (n.O + n.L)))()
         with lent(whole) as (ins, length):
             held.ended(library.plan_report(self._at, steps, ins, length, ctypes.addressof(words)))
@@ -385,7 +388,7 @@ class Plan:
     def witness(self, vectors: Vectors, allowance: int = 1 << 20, number: Optional[int] = None) -> Witness:
         """Whether every filling of the x gives 1 on some output or bad state; see golvanzo_witness in golvanzo.h."""
         held, finding = _Lengths(), Finding()
-        steps, whole = held.list(vectors, self.counts.I, number)
+        steps, whole = held.many(vectors, self.counts.I, number)
         with lent(whole) as (ins, length):
             held.ended(library.plan_witness(self._at, steps, ins, length, allowance, ctypes.byref(finding)))
         return Witness({0: False, 1: True}.get(finding.says), finding.tried)
@@ -393,7 +396,7 @@ class Plan:
     def witness3(self, vectors: Vectors, number: Optional[int] = None) -> bool:
         """The same in three values, with nothing filled: True holds for every filling, False says nothing of them."""
         held, yes = _Lengths(), ctypes.c_int()
-        steps, whole = held.list(vectors, self.counts.I, number)
+        steps, whole = held.many(vectors, self.counts.I, number)
         with lent(whole) as (ins, length):
             held.ended(library.plan_witness3(self._at, steps, ins, length, ctypes.byref(yes)))
         return bool(yes.value)

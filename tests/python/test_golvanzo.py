@@ -95,6 +95,7 @@ class Refusals(unittest.TestCase):
         self.assertRaises(ValueError, plan.write, "blif")
         self.assertRaises(ValueError, plan.run, b"")
         self.assertRaises(TypeError, Plan.read, "aag 0 0 0 0 0\n")
+        self.assertRaises(TypeError, plan.step, 0, "")
         self.assertRaises(IndexError, plan.run([""]).__getitem__, 1)
         self.assertEqual(list(plan.run(["", ""])), [("", "", "1", "")] * 2)
         self.assertEqual(list(plan.run(b"", number=2)), [("", "", "1", "")] * 2)
