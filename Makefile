@@ -3,8 +3,8 @@
 #   make install            below PREFIX, which is /usr/local; DESTDIR goes before every path
 #   make uninstall          takes out what install put there
 #   make deb                target/make/golvanzo_VERSION_ARCHITECTURE.deb
-# The library is the proved archive if `rt staticlib desk` made it since the crates changed. Else it is compiled now from
-# the same sources, without proving them (tools/quick).
+# The library is the proved archive if `rt staticlib desk` made it since the crates changed. Else it is compiled now
+# from the same sources, without proving them (tools/quick).
 
 VERSION := $(shell cat VERSION)
 SONAME := libgolvanzo.so.$(firstword $(subst ., ,$(VERSION)))
@@ -133,7 +133,9 @@ deb: all
 	@$(MAKE) --no-print-directory -s install BUILD=$(BUILD) PREFIX=/usr LIBDIR=/usr/lib/$$($(CC) -print-multiarch) \
 	    DESTDIR=$(BUILD)/deb >/dev/null
 	@install -d -m 755 $(BUILD)/deb/DEBIAN && echo 'activate-noawait ldconfig' >$(BUILD)/deb/DEBIAN/triggers
-	@libc=$$(objdump -T $(BUILD)/libgolvanzo.so.$(VERSION) | grep -o 'GLIBC_[0-9.]*' | tr -d GLIBC_ | sort -Vu | tail -n 1); \
+	@printf '%s\n' '#!/bin/sh' '# what Python compiles goes with what it was compiled from' \
+	    'rm -rf "$${DPKG_ROOT:-}/usr/lib/python3/dist-packages/golvanzo/__pycache__"' >$(BUILD)/deb/DEBIAN/prerm
+	@libc=$$(objdump -T $(BUILD)/libgolvanzo.so.$(VERSION) | grep -o 'GLIBC_[0-9.]*' | tr -d GLIBC_ | sort -V | tail -n 1); \
 	printf '%s\n' 'Package: golvanzo' 'Version: $(VERSION)' "Architecture: $$(dpkg --print-architecture)" \
 	    'Maintainer: Golvanzo maintainers <maintainers@users.noreply.golvanzo.example>' 'Section: electronics' \
 	    'Priority: optional' "Depends: libc6 (>= $$libc)" 'Suggests: python3' \
@@ -141,7 +143,8 @@ deb: all
 	    'Description: circuits in the AIGER formats, by a proved library' \
 	    ' The command plan, a library for C with its headers, and a package for Python: they read, write, convert,' \
 	    ' reduce and step circuits in the formats of AIGER 1.9.' >$(BUILD)/deb/DEBIAN/control
-	@cd $(BUILD)/deb && find usr -type f -print0 | LC_ALL=C sort -z | xargs -0 md5sum >DEBIAN/md5sums && chmod 644 DEBIAN/*
+	@cd $(BUILD)/deb && find usr -type f -print0 | LC_ALL=C sort -z | xargs -0 md5sum >DEBIAN/md5sums
+	@chmod 644 $(BUILD)/deb/DEBIAN/* && chmod 755 $(BUILD)/deb/DEBIAN/prerm
 	@dpkg-deb --root-owner-group --build $(BUILD)/deb $(PACKAGE) >/dev/null
 	@echo "make: $(PACKAGE)"
 

@@ -6,6 +6,9 @@
 /* The numbers of the tables, and of scratch. */
 static const uint64_t numbers[PLAN_TABLES + 1] = {1, 2, 3, 4, 7, 8, 9, 5};
 
+_Static_assert(PLAN_COUNTS == 7 && PLAN_TABLES == 7, "as many as golvanzo.h takes");
+_Static_assert(sizeof(golvanzo_size) == 8 && sizeof(size_t) <= 8, "every length of memory is one of the library's");
+
 static const struct plan_end done = {0, 0}, no_memory = {PLAN_NO_MEMORY, 0};
 
 /* Never null for a length of 0, so that null is a lack of memory. */

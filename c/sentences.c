@@ -64,6 +64,8 @@ static const struct saying sayings[] = {
     [GOLVANZO_MANY_GATES] = {"The plan has more gates than the 24 that the plain engine takes.",
                              "how many gates it has", "Use the stepper, which takes any number."}};
 
+_Static_assert(sizeof sayings / sizeof sayings[0] == GOLVANZO_MANY_GATES + 1, "every refusal has its words");
+
 static const struct saying memory = {"The system has no memory left for this.", "",
                                      "Close something, or use a smaller plan."};
 
