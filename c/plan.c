@@ -4,7 +4,9 @@
 #include <string.h>
 
 /* The numbers of the tables, and of scratch. */
-static const uint64_t numbers[PLAN_TABLES + 1] = {1, 2, 3, 4, 7, 8, 9, 5};
+static const uint64_t numbers[PLAN_TABLES + 1] = {
+    GOLVANZO_TABLE_INPUTS, GOLVANZO_TABLE_LATCHES, GOLVANZO_TABLE_OUTPUTS,     GOLVANZO_TABLE_GATES,
+    GOLVANZO_TABLE_RESETS, GOLVANZO_TABLE_BADS,    GOLVANZO_TABLE_CONSTRAINTS, GOLVANZO_TABLE_SCRATCH};
 
 _Static_assert(PLAN_COUNTS == 7 && PLAN_TABLES == 7, "as many as golvanzo.h takes");
 _Static_assert(sizeof(golvanzo_size) == 8 && sizeof(size_t) <= 8, "every length of memory is one of the library's");
