@@ -62,9 +62,9 @@ static void put_tables(struct tables tables) {
     LENT((t).table[0]), LENT((t).table[1]), LENT((t).table[2]), LENT((t).table[3]), LENT((t).table[5]),                \
         LENT((t).table[6]), LENT((t).table[7]), LENT((t).table[4]), (t).answer.lent
 
-typedef uint64_t reader(const uint8_t *, size_t, uint32_t *, size_t, uint32_t *, size_t, uint32_t *, size_t, uint32_t *,
-                        size_t, uint32_t *, size_t, uint32_t *, size_t, uint32_t *, size_t, uint32_t *, size_t,
-                        uint64_t *);
+typedef uint64_t reader(const uint8_t *, golvanzo_size, uint32_t *, golvanzo_size, uint32_t *, golvanzo_size,
+                        uint32_t *, golvanzo_size, uint32_t *, golvanzo_size, uint32_t *, golvanzo_size, uint32_t *,
+                        golvanzo_size, uint32_t *, golvanzo_size, uint32_t *, golvanzo_size, uint64_t *);
 
 static void call_read(reader *read) {
     struct file file = get_file();
@@ -90,8 +90,8 @@ static void call_check(void) {
     REPLY(given, answer);
 }
 
-typedef void writer(const uint64_t *, GOLVANZO_GIVEN, GOLVANZO_SCRATCH, const uint8_t *, size_t, uint8_t *, size_t,
-                    uint64_t *);
+typedef void writer(const uint64_t *, GOLVANZO_GIVEN, GOLVANZO_SCRATCH, const uint8_t *, golvanzo_size, uint8_t *,
+                    golvanzo_size, uint64_t *);
 
 static void call_write(writer *write) {
     struct given given = get_given();
@@ -114,8 +114,8 @@ static void call_change(change *change) {
     put_memory(answer);
 }
 
-typedef void stepper(const uint64_t *, GOLVANZO_GIVEN, GOLVANZO_SCRATCH, uint8_t *, size_t, const uint8_t *, size_t,
-                     uint8_t *, size_t, uint64_t *);
+typedef void stepper(const uint64_t *, GOLVANZO_GIVEN, GOLVANZO_SCRATCH, uint8_t *, golvanzo_size, const uint8_t *,
+                     golvanzo_size, uint8_t *, golvanzo_size, uint64_t *);
 
 static void call_step(stepper *step) {
     struct given given = get_given();
@@ -140,8 +140,8 @@ static void call_witness3(void) {
     REPLY(given, list, answer);
 }
 
-typedef void report(const uint64_t *, GOLVANZO_GIVEN, GOLVANZO_SCRATCH, uint64_t, const uint8_t *, size_t, uint32_t *,
-                    size_t, uint64_t *);
+typedef void report(const uint64_t *, GOLVANZO_GIVEN, GOLVANZO_SCRATCH, uint64_t, const uint8_t *, golvanzo_size,
+                    uint32_t *, golvanzo_size, uint64_t *);
 
 static void call_report(report *tell) {
     struct given given = get_given();
