@@ -27,7 +27,7 @@ use Rattle.laws.proofs.Running.Lists.{has-right}
 use Rattle.laws.proofs.Running.Found.{AllG, all-map, FindSays, find-says}
 use Rattle.laws.proofs.Running.Accepted.{accepted}
 use Rattle.laws.proofs.Running.GateValue.{gates-found}
-use Rattle.laws.proofs.Writing.Nothing.{stage-none, failing-none, first-all, first-both}
+use Rattle.laws.proofs.Writing.Nothing.{made-none, stage-none, failing-none, first-all, first-both}
 use Rattle.laws.proofs.Writing.Fine.{nothing-fine}
 use Rattle.laws.proofs.Writing.Calls.{MakeCall, madeCircuit, FromMade, from-made}
 use Rattle.laws.proofs.Walks.Parts.{find-of, all-of, of-lefts}
@@ -95,10 +95,6 @@ module _ (c : Circuit) (w : WellFormed c) (t : binaryOrder c ≡ true) where
           subst (Reached c) (sym same) (k .3)
 
 -- what an accepted dropping was given
-made-none : (o : Option Refusal) (e : MakeEntry) (c : Circuit) (n : Counts) → madeBy o e c .answer ≡ made.Accepted n → o ≡ none
-made-none none e c n a = refl
-made-none (some r) e c n a = let z : _≡_ {A = ℕ} 0 1 = cc in absurd (omega arith)
-
 module _ (u : MakeCall dropping) where
   abbrev g : Given
   g = u .entry .circuit
@@ -108,7 +104,8 @@ module _ (u : MakeCall dropping) where
 
   passed : firstOf (stages g (lentWith g (u .entry .written)) ++ (orderStage g ∷ [])) ≡ none
   passed =
-      made-none (firstOf (stages g (lentWith g (u .entry .written)) ++ (orderStage g ∷ []))) (u .entry) (dropUnused before) (u .counts) (u .accepted)
+      made-none (λ o. madeBy o (u .entry) (dropUnused before) .answer) (λ r. refl)
+      (firstOf (stages g (lentWith g (u .entry .written)) ++ (orderStage g ∷ []))) (u .counts) (u .accepted)
 
   pub given-formed : WellFormed (given (u .entry .circuit))
   given-formed =
