@@ -30,7 +30,7 @@ use Rattle.laws.proofs.Writing.Nothing.{both-first}
 use Rattle.laws.proofs.Writing.Fine.{nothing-fine, fine-nothing}
 use Rattle.laws.proofs.Writing.Holding.{holding-circuit, formed-fine}
 use Rattle.laws.proofs.Writing.ThereAndBack.{binary-stated, binary-shortest}
-use Rattle.laws.proofs.Writing.Calls.{ReadCall, readCircuit, readTail, read-states, read-formed, binary-file, ShortFile, short-file}
+use Rattle.laws.proofs.Writing.Calls.{ReadCall, readCircuit, readTail, read-states, read-formed, binary-file, InShortestForm, shortest-read}
 use Rattle.laws.proofs.Writing.WithRoom.{Handed}
 use Rattle.cards.proofs.Laws.Exactly.{cards-read}
 use Rattle.cards.proofs.Laws.Back.{no-tail}
@@ -188,9 +188,9 @@ binary-there-and-back r h at head form shortest =
     (sym (binary-shortest (r .entry .file) c [] h at head form shortest ∙ append-nil (binaryOf c)))
 
 -- said of the read alone
-pub short-there-and-back : (r : ReadCall) → ShortFile r → formIn (r .entry .file) ≡ binary → readTail r ≡ [] → holdable (readCircuit r) ≡ true
+pub same-bytes-with-room : (r : ReadCall) → InShortestForm r → formIn (r .entry .file) ≡ binary → readTail r ≡ [] → holdable (readCircuit r) ≡ true
     → CardsAndBack r
-short-there-and-back r short form no-tail-left =
+same-bytes-with-room r short form no-tail-left =
     let c = readCircuit r in
-    let f = binary-file (r .entry .file) c (readTail r) form (short-file r short) (read-states r) in
+    let f = binary-file (r .entry .file) c (readTail r) form (shortest-read r short) (read-states r) in
     and-back r (f .1) (sym (f .0 ∙ (ap (λ (t : List ℕ). binaryOf c ++ t) no-tail-left ∙ append-nil (binaryOf c))))

@@ -30,23 +30,23 @@ use Rattle.laws.proofs.Reading.Headers.{header-took}
 use Rattle.laws.proofs.Reading.Exactly.{sound, complete, formed, unique, form-in, work-read}
 use Rattle.laws.proofs.Reading.Shortest.{states-text, states-binary}
 use Rattle.laws.proofs.Reading.Versions.{states-more}
-use Rattle.laws.proofs.Reading.Trimmed.{NothingLeftOver, old-short, short-exactly-trimmed}
+use Rattle.laws.proofs.Reading.LeftOff.{ZerosLeftOff, stated-2007-shortest, shortest-exactly-left-off}
 use Rattle.laws.proofs.Running.Unchanged.{convert-same}
 use Rattle.laws.proofs.Writing.ThereAndBack.{stated-tail}
 use Rattle.laws.proofs.Writing.Calls.{binary-file, text-file}
 
 -- a file in the shortest form, said of its bytes alone
-abbrev pub ShortStated : List ℕ → Type 0
-ShortStated file =
-    ((c : Circuit) × (tail : List ℕ) × States V2007 file c tail) ⊎ ((c : Circuit) × (tail : List ℕ) × (s : States V19 file c tail) × NothingLeftOver s)
+abbrev pub ShortestForm : List ℕ → Type 0
+ShortestForm file =
+    ((c : Circuit) × (tail : List ℕ) × States V2007 file c tail) ⊎ ((c : Circuit) × (tail : List ℕ) × (s : States V19 file c tail) × ZerosLeftOff s)
 
-pub short-stated : (file : List ℕ) → ShortStated file → (c : Circuit) (tail : List ℕ) → States V19 file c tail → Shortest file c tail
-short-stated file (inl h) c tail s =
+pub shortest-form : (file : List ℕ) → ShortestForm file → (c : Circuit) (tail : List ℕ) → States V19 file c tail → Shortest file c tail
+shortest-form file (inl h) c tail s =
     let u = unique V19 file (h .0) c (h .1) tail (states-more file (h .0) (h .1) (h .2)) s in
-    subst₂ (Shortest file) (u .0) (u .1) (old-short file (h .0) (h .1) (h .2))
-short-stated file (inr h) c tail s =
+    subst₂ (Shortest file) (u .0) (u .1) (stated-2007-shortest file (h .0) (h .1) (h .2))
+shortest-form file (inr h) c tail s =
     let u = unique V19 file (h .0) c (h .1) tail (h .2) s in
-    subst₂ (Shortest file) (u .0) (u .1) (short-exactly-trimmed file (h .0) (h .1) (h .2) .1 (h .3))
+    subst₂ (Shortest file) (u .0) (u .1) (shortest-exactly-left-off file (h .0) (h .1) (h .2) .1 (h .3))
 
 -- an accepted call on a whole file, and the file that it leaves
 pub record WholeCall (f : WholeEntry → WholeExit) : Type 0 where
@@ -91,14 +91,14 @@ whole-says k =
           ∙ ap (λ (f : Form). otherForm f (t1 .0) ++ drop (t1 .1) file) (sym form)),
     )
 
-module _ (k k′ : WholeCall convertWhole) (handed : k′ .file ≡ wholeFile convertWhole k) (short : ShortStated (k .file)) where
+module _ (k k′ : WholeCall convertWhole) (handed : k′ .file ≡ wholeFile convertWhole k) (short : ShortestForm (k .file)) where
   -- a binary file, converted and converted again
   pub whole-binary-back : formIn (k .file) ≡ binary → wholeFile convertWhole k′ ≡ k .file
   whole-binary-back form =
       let x = whole-says k in
       let c = x .0 in
       let tail = x .1 in
-      let f = binary-file (k .file) c tail form (short-stated (k .file) short c tail (x .2)) (x .2) in
+      let f = binary-file (k .file) c tail form (shortest-form (k .file) short c tail (x .2)) (x .2) in
       let there : k′ .file ≡ textOf c ++ tail = handed ∙ (x .3 ∙ ap (λ (g : Form). otherForm g c ++ tail) form) in
       let w = formed V19 (k .file) c tail (x .2) in
       let y = whole-says k′ in
@@ -115,7 +115,7 @@ module _ (k k′ : WholeCall convertWhole) (handed : k′ .file ≡ wholeFile co
       let x = whole-says k in
       let c = x .0 in
       let tail = x .1 in
-      let f = text-file (k .file) c tail form (short-stated (k .file) short c tail (x .2)) in
+      let f = text-file (k .file) c tail form (shortest-form (k .file) short c tail (x .2)) in
       let o = order c tail (x .2) in
       let w = formed V19 (k .file) c tail (x .2) in
       let there : k′ .file ≡ binaryOf c ++ tail
@@ -181,21 +181,21 @@ module _ (e : WholeEntry) (file : List ℕ) (plan : e .plan ≡ some file) (fits
       )
 
   -- a binary file
-  pub whole-binary-with-room : ShortStated file → formIn file ≡ binary → length (textOf c ++ tail) ≤ length (e .out)
+  pub whole-binary-with-room : ShortestForm file → formIn file ≡ binary → length (textOf c ++ tail) ≤ length (e .out)
       → WholeAndBack e file (textOf c ++ tail) c
   whole-binary-with-room short form =
       let w = formed V19 file c tail s in
-      let f = binary-file file c tail form (short-stated file short c tail s) s in
+      let f = binary-file file c tail form (shortest-form file short c tail s) s in
       and-back (textOf c ++ tail) (ap (λ (g : Form). otherForm g c ++ tail) form)
       (states-text (textOf c ++ tail) c tail w (stated-tail file c tail s) refl)
       (ap (λ (d : Circuit). binaryOf d ++ tail) (convert-same c w (f .1)) ∙ sym (f .0))
 
   -- a text file of a circuit in binary order
-  pub whole-text-with-room : ShortStated file → formIn file ≡ text → binaryOrder c ≡ true → length (binaryOf c ++ tail) ≤ length (e .out)
+  pub whole-text-with-room : ShortestForm file → formIn file ≡ text → binaryOrder c ≡ true → length (binaryOf c ++ tail) ≤ length (e .out)
       → WholeAndBack e file (binaryOf c ++ tail) c
   whole-text-with-room short form order =
       let w = formed V19 file c tail s in
       and-back (binaryOf c ++ tail)
       (ap (λ (g : Form). otherForm g c ++ tail) form ∙ ap (λ (d : Circuit). binaryOf d ++ tail) (convert-same c w order))
       (states-binary (binaryOf c ++ tail) c tail w (stated-tail file c tail s) refl order)
-      (sym (text-file file c tail form (short-stated file short c tail s)))
+      (sym (text-file file c tail form (shortest-form file short c tail s)))
