@@ -124,7 +124,8 @@ module _ (r : ReadCall) (m : MakeCall conversion) (m-given : FromRead (m .entry 
         × (NoXs is → NoX (first d) → run d (first d) is ≡ run (dropUnused (reduce e)) (first e) js))
         (convert-same d w o) (demand-three-dropped d w is js (converted-sized r m m-given is sized) replaced)
 
-    pub demand-three-dropped-steps : KeptSteps (stepsFrom (readCircuit r) (leftBy conversion m) outs is) (stepsFrom (readCircuit r) (leftBy dropping u) outs′ js)
+    pub demand-three-dropped-steps : KeptSteps (stepsFrom (readCircuit r) (leftBy conversion m) outs is)
+        (stepsFrom (readCircuit r) (leftBy dropping u) outs′ js)
     demand-three-dropped-steps =
         later-kept r m m-given (dropUnused (reduce d)) (leftBy dropping u) follows is js sized replaced outs outs′ room room′ (runs .0)
 

@@ -176,7 +176,9 @@ reducing = record {
   formed-made = reduced-formed;
   order-made = reduced-order;
   tail-made = λ c tail t. tail-reduce V19 (convert c) tail (tail-convert V19 c tail t);
-  made-again = λ c w. ap reduce (convert-same (reduces c) (reduced-formed c w) (reduced-order c w)) ∙ reduce-again (convert c) (convert-well-formed c w) (convert-in-order c w);
+  made-again = λ c w.
+      ap reduce (convert-same (reduces c) (reduced-formed c w) (reduced-order c w))
+      ∙ reduce-again (convert c) (convert-well-formed c w) (convert-in-order c w);
 }
 
 freeing : Making frees

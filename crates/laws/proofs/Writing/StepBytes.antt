@@ -151,7 +151,8 @@ module _ (r : ReadCall) (m : MakeCall conversion) (m-given : FromRead (m .entry 
 
     runs : Kept (run c (first c) is) (run (reduce c) (first c) js) × (NoXs is → NoX (first c) → run c (first c) is ≡ run (reduce c) (first c) js)
     runs =
-        subst (λ (e : Circuit). Kept (run c (first c) is) (run (reduce e) (first e) js) × (NoXs is → NoX (first c) → run c (first c) is ≡ run (reduce e) (first e) js))
+        subst (λ (e : Circuit). Kept (run c (first c) is) (run (reduce e) (first e) js)
+        × (NoXs is → NoX (first c) → run c (first c) is ≡ run (reduce e) (first e) js))
         (convert-same c (converted-formed r m m-given) (converted-order r m m-given))
         (demand-three c (converted-formed r m m-given) is js (converted-sized r m m-given is sized) replaced)
 
