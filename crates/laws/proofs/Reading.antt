@@ -27,3 +27,4 @@ pub mod Versions
 pub mod Shortest
 pub mod LeftOff
 pub mod Spans
+pub mod Desk
