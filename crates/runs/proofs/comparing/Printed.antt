@@ -59,12 +59,10 @@ pair n t scratch state out twin again vectors = record { part = call n t scratch
 
 pub data BothCalls (n : Counts) (t : Tables) : List ℕ → List ℕ → List ℕ → List ℕ → List ℕ → List ℕ → List ℕ → Type 0 where
   no-more : {scratch state out twin again : List ℕ} → BothCalls n t scratch state out twin again [] []
-  one-part : {scratch state out twin again vectors printed : List ℕ} (k : ℕ)
-      → compare (pair n t scratch state out twin again vectors) .answer ≡ Lines k
-      → (let x = compare (pair n t scratch state out twin again vectors) in
-      BothCalls n t (x .scratch) (x .state) (x .out) (x .twin) (x .again) (drop ((n .I + 1) * k) vectors) printed)
-      → BothCalls n t scratch state out twin again vectors
-      (take (lineWidth n * k) (compare (pair n t scratch state out twin again vectors) .out) ++ printed)
+  one-part : {scratch state out twin again vectors printed : List ℕ} (k : ℕ) (x : CompareExit)
+      → x ≡ compare (pair n t scratch state out twin again vectors) → x .answer ≡ Lines k
+      → BothCalls n t (x .scratch) (x .state) (x .out) (x .twin) (x .again) (drop ((n .I + 1) * k) vectors) printed
+      → BothCalls n t scratch state out twin again vectors (take (lineWidth n * k) (x .out) ++ printed)
 
 lines-only : (t : Traced) (k : ℕ) → comparedBy true t ≡ Lines k → t ≡ traced.Lines k
 lines-only (traced.Lines m) k e = let same : m ≡ k = cc in ap traced.Lines same
@@ -74,20 +72,20 @@ lines-only (traced.Refused r) k e = let z : _≡_ {A = ℕ} 0 1 = cc in absurd (
 pub both-trace : {n : Counts} {t : Tables} {scratch state out twin again vectors printed : List ℕ} → n .A ≤ 24 → twin ≡ state → again ≡ out
     → BothCalls n t scratch state out twin again vectors printed → Calls n t scratch state vectors printed
 both-trace few a b no-more = none-left
-both-trace {n} {t} {scratch} {state} {out} {twin} {again} {vectors} few a b (one-part {printed = printed} k said rest) =
+both-trace {n} {t} {scratch} {state} {out} {twin} {again} {vectors} few a b (one-part {printed = printed} k x is said rest) =
     let e = pair n t scratch state out twin again vectors in
-    let q = never-part e few a b in
+    let q = is ∙ never-part e few a b in
     let done : trace (e .part) .answer ≡ traced.Lines k
-    = lines-only (trace (e .part) .answer) k (sym (ap (λ (x : CompareExit). x .answer) q) ∙ said) in
-    let later : Calls n t (compare e .scratch) (compare e .state) (drop ((n .I + 1) * k) vectors) printed
-    = both-trace few (ap (λ (x : CompareExit). x .twin) q ∙ sym (ap (λ (x : CompareExit). x .state) q))
-    (ap (λ (x : CompareExit). x .again) q ∙ sym (ap (λ (x : CompareExit). x .out) q)) rest in
-    let same : take (lineWidth n * k) (trace (e .part) .out) ++ printed ≡ take (lineWidth n * k) (compare e .out) ++ printed
-    = ap (λ (x : List ℕ). take (lineWidth n * k) x ++ printed) (sym (ap (λ (x : CompareExit). x .out) q)) in
+    = lines-only (trace (e .part) .answer) k (sym (ap (λ (y : CompareExit). y .answer) q) ∙ said) in
+    let later : Calls n t (x .scratch) (x .state) (drop ((n .I + 1) * k) vectors) printed
+    = both-trace few (ap (λ (y : CompareExit). y .twin) q ∙ sym (ap (λ (y : CompareExit). y .state) q))
+    (ap (λ (y : CompareExit). y .again) q ∙ sym (ap (λ (y : CompareExit). y .out) q)) rest in
+    let same : take (lineWidth n * k) (trace (e .part) .out) ++ printed ≡ take (lineWidth n * k) (x .out) ++ printed
+    = ap (λ (l : List ℕ). take (lineWidth n * k) l ++ printed) (sym (ap (λ (y : CompareExit). y .out) q)) in
     subst (Calls n t scratch state vectors) same
     (one-more out k done
-    (subst₂ (λ (x y : List ℕ). Calls n t x y (drop ((n .I + 1) * k) vectors) printed) (ap (λ (x : CompareExit). x .scratch) q)
-    (ap (λ (x : CompareExit). x .state) q) later))
+    (subst₂ (λ (y z : List ℕ). Calls n t y z (drop ((n .I + 1) * k) vectors) printed) (ap (λ (y : CompareExit). y .scratch) q)
+    (ap (λ (y : CompareExit). y .state) q) later))
 
 -- so the calls on the converted circuit, both engines starting from the codes of its first state, print what the comparer prints
 pub calls-compare : (file : List ℕ) (c : Circuit) (start : ℕ) → length file ≤ 65536 → readToWork file lentWords lentWords ≡ got c start
