@@ -91,7 +91,7 @@ both-trace {n} {t} {scratch} {state} {out} {twin} {again} {vectors} few a b (one
 pub calls-compare : (file : List ℕ) (c : Circuit) (start : ℕ) → length file ≤ 65536 → readToWork file lentWords lentWords ≡ got c start
     → length (c .gates) ≤ 24 → (bytes : List ℕ) (k : ℕ) → countLines (some bytes) (length (c .inputs)) ≡ traced.Lines k
     → (n : Counts) (t : Tables) → circuitOf n t ≡ convert c → n .A ≤ 24 → (scratch out printed : List ℕ)
-    → (let state = map codeOf (first (convert c)) in BothCalls n t scratch state out state out bytes printed)
+    → BothCalls n t scratch (map codeOf (first (convert c))) out (map codeOf (first (convert c))) out bytes printed
     → printed ≡ comparer (some file) (some bytes)
 calls-compare file c start short reads few bytes k counted n t holds small scratch out printed calls =
     calls-trace file c start short reads bytes k counted n t holds scratch printed (both-trace small refl refl calls)
