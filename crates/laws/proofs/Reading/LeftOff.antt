@@ -217,8 +217,7 @@ module _ (file : List ℕ) (c : Circuit) (tail : List ℕ) where
       let p = linesOf (map oneLine (c .inputs)) in
       let last = linesOf (map oneLine (c .constraints)) ++ linesOf (map gateLine (c .gates)) in
       let q = linesOf (map oneLine (c .outputs)) ++ (linesOf (map oneLine (c .bads)) ++ last) in
-      let r = file-least text p q tail 2 3 c (textLatches c) (s .latches) (s .counts) (s .all-counts) (s .all-latches) in
-      (
+      let r = file-least text p q tail 2 3 c (textLatches c) (s .latches) (s .counts) (s .all-counts) (s .all-latches) in (
         subst (λ (x : List ℕ). length (textOf c ++ tail) ≤ length x) (sym e) (r .0),
         λ h. r .1 (subst (λ (x : List ℕ). length x ≤ length (textOf c ++ tail)) e h),
       )
@@ -228,19 +227,17 @@ module _ (file : List ℕ) (c : Circuit) (tail : List ℕ) where
       × (length file ≤ length (binaryOf c ++ tail) → (s .counts ≡ shortCounts (countsOf c)) × (s .latches ≡ map (shortest 1) (binaryLatches c)))
   as-binary s e =
       let q = linesOf (map oneLine (c .outputs)) ++ (linesOf (map oneLine (c .bads)) ++ (linesOf (map oneLine (c .constraints)) ++ gateBytes (c .gates))) in
-      let r = file-least binary [] q tail 1 2 c (binaryLatches c) (s .latches) (s .counts) (s .all-counts) (s .all-latches) in
-      (
+      let r = file-least binary [] q tail 1 2 c (binaryLatches c) (s .latches) (s .counts) (s .all-counts) (s .all-latches) in (
         subst (λ (x : List ℕ). length (binaryOf c ++ tail) ≤ length x) (sym e) (r .0),
         λ h. r .1 (subst (λ (x : List ℕ). length x ≤ length (binaryOf c ++ tail)) e h),
       )
 
   trimmed-by : (k : ℕ) (full lats : List (List ℕ)) (row : List ℕ) → (row ≡ shortCounts (countsOf c)) × (lats ≡ map (shortest k) full)
       → NoTrailingZero 5 row × NoTrailingZeros k lats
-  trimmed-by k full lats row h =
-      (
-        subst (NoTrailingZero 5) (sym (h .0)) (shortest-trimmed 5 (allCounts (countsOf c))),
-        subst (NoTrailingZeros k) (sym (h .1)) (all-shortest-trimmed k full),
-      )
+  trimmed-by k full lats row h = (
+    subst (NoTrailingZero 5) (sym (h .0)) (shortest-trimmed 5 (allCounts (countsOf c))),
+    subst (NoTrailingZeros k) (sym (h .1)) (all-shortest-trimmed k full),
+  )
 
   short-trimmed : (s : States V19 file c tail) → Shortest file c tail → ZerosLeftOff s
   short-trimmed (asText s e w t) (shortText f) =
