@@ -77,7 +77,8 @@ pub demand-three-calls : (r : ReadCall) (m : MakeCall conversion) → FromRead (
     → (u : MakeCall dropping) → FromMade reduction (u .entry .circuit) s
     → (is js : List (List Value)) → Sized (length (readCircuit r .inputs)) is → Replaced is js
     → Kept (run (readCircuit r) (first (readCircuit r)) is) (run (madeCircuit dropping u) (first (madeCircuit dropping u)) js)
-    × (NoXs is → NoX (first (readCircuit r)) → run (readCircuit r) (first (readCircuit r)) is ≡ run (madeCircuit dropping u) (first (madeCircuit dropping u)) js)
+    × (NoXs is → NoX (first (readCircuit r))
+    → run (readCircuit r) (first (readCircuit r)) is ≡ run (madeCircuit dropping u) (first (madeCircuit dropping u)) js)
 demand-three-calls r m m-given s s-given u u-given is js sized replaced =
     let c = readCircuit r in
     let reduced-from : madeCircuit reduction s ≡ reduce (convert c)

@@ -75,7 +75,8 @@ module _ (c : Circuit) (w : WellFormed c) (t : binaryOrder c ≡ true) where
       subst (λ (gs : List Gate). AllG (λ h. ReachedGate c (varOf (h .lhs))) gs) (sym (gates-at (used c) once))
       (all-renumbered (left (used c)) (ReachedGate c) (leaves (used c)) (used c .gates) once refl
       (all-of (λ g. ReachedGate c (index (varOf (g .lhs)) (left (used c)))) (reached c) (c .gates)
-      (all-map (λ g. find (varOf (g .lhs)) (c .gates) ≡ some g) (λ g. has (varOf (g .lhs)) (reached c) ≡ true → ReachedGate c (index (varOf (g .lhs)) (left (used c))))
+      (all-map (λ g. find (varOf (g .lhs)) (c .gates) ≡ some g)
+      (λ g. has (varOf (g .lhs)) (reached c) ≡ true → ReachedGate c (index (varOf (g .lhs)) (left (used c))))
       (λ g f h. (varOf (g .lhs), g, f, reached-exactly c w t (varOf (g .lhs)) .0 h, refl)) (c .gates) (gates-found c (accepted c w)))))
 
   there : (u : ℕ) (g : Gate) → find u (c .gates) ≡ some g → Reached c u → has u (left (used c)) ≡ true
@@ -86,7 +87,9 @@ module _ (c : Circuit) (w : WellFormed c) (t : binaryOrder c ≡ true) where
   -- so a gate is left exactly if it is reached
   pub retains-reached : (v : ℕ) (g : Gate) → find v (c .gates) ≡ some g
       → Reached c v ↔ (find (newNumber c v) (dropUnused c .gates) ≡ some (renumbered c v g))
-  retains-reached v g f = (gate-kept v g f, λ e. back (subst (FindSays (newNumber c v) (dropUnused c .gates)) e (find-says (newNumber c v) (dropUnused c .gates))))
+  retains-reached v g f =
+      let gs = dropUnused c .gates in
+      (gate-kept v g f, λ e. back (subst (FindSays (newNumber c v) gs) e (find-says (newNumber c v) gs)))
     where
       back : FindSays (newNumber c v) (dropUnused c .gates) (some (renumbered c v g)) → Reached c v
       back s =
@@ -126,7 +129,8 @@ module _ (u : MakeCall dropping) where
 
   pub call-retains-only : AllG (λ h. ReachedGate (given (u .entry .circuit)) (varOf (h .lhs))) (madeCircuit dropping u .gates)
   call-retains-only =
-      subst (λ (d : Circuit). AllG (λ h. ReachedGate before (varOf (h .lhs))) (d .gates)) (sym (dropped-is u)) (retains-only-reached before given-formed given-in-order)
+      subst (λ (d : Circuit). AllG (λ h. ReachedGate before (varOf (h .lhs))) (d .gates)) (sym (dropped-is u))
+      (retains-only-reached before given-formed given-in-order)
 
   -- a second dropping of what it left changes nothing
   again : dropUnused (madeCircuit dropping u) ≡ madeCircuit dropping u

@@ -217,7 +217,8 @@ pub demand-three-calls : (r : ReadCall) (m : MakeCall conversion) → FromRead (
     → (s : MakeCall reduction) → FromMade conversion (s .entry .circuit) m
     → (is js : List (List Value)) → Sized (length (readCircuit r .inputs)) is → Replaced is js
     → Kept (run (readCircuit r) (first (readCircuit r)) is) (run (madeCircuit reduction s) (first (madeCircuit reduction s)) js)
-    × (NoXs is → NoX (first (readCircuit r)) → run (readCircuit r) (first (readCircuit r)) is ≡ run (madeCircuit reduction s) (first (madeCircuit reduction s)) js)
+    × (NoXs is → NoX (first (readCircuit r))
+    → run (readCircuit r) (first (readCircuit r)) is ≡ run (madeCircuit reduction s) (first (madeCircuit reduction s)) js)
 demand-three-calls r m m-given s s-given is js sized replaced =
     let c = readCircuit r in
     let d-is : reduce (convert c) ≡ madeCircuit reduction s

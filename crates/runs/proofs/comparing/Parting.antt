@@ -166,7 +166,8 @@ compare-refused e r said =
     let b = plainTrace f in
     let x = refused-only (agree a b) (a .answer) r said in
     let rest = sameBytes (a .state) (b .state) && sameBytes (a .out) (b .out) in
-    let y = refused-too r (b .answer) (ap (λ (t : Traced). sameAnswer t (b .answer)) (sym (x .1)) ∙ and-left (sameAnswer (a .answer) (b .answer)) rest (x .0)) in
+    let y = refused-too r (b .answer)
+    (ap (λ (t : Traced). sameAnswer t (b .answer)) (sym (x .1)) ∙ and-left (sameAnswer (a .answer) (b .answer)) rest (x .0)) in
     let first = refused-leaves .tracing (e .part) r (x .1) in
     let second = refused-leaves .plain-tracing f (y .0) (y .1) in
     (first .0, first .1, second .0, second .1)
