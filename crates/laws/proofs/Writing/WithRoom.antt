@@ -32,6 +32,7 @@ use Rattle.laws.proofs.Reading.Shortest.{states-text, states-binary}
 use Rattle.laws.proofs.Reading.LeftOff.{trimmed-shortest, exact-trimmed}
 use Rattle.laws.proofs.Running.Results.{convert-well-formed}
 use Rattle.laws.proofs.Running.Unchanged.{convert-same}
+use Rattle.laws.proofs.Writing.Nothing.{made-none}
 use Rattle.laws.proofs.Writing.Fine.{nothing-fine, fine-nothing}
 use Rattle.laws.proofs.Writing.Holding.{holding-circuit, formed-fine}
 use Rattle.laws.proofs.Writing.Later.{Left, load-left}
@@ -106,11 +107,7 @@ module _ (c : Circuit) (w : WellFormed c) (n : Counts) (t : Tables) (counts : n 
       = ap (λ (m : Counts). short (against 1 (wordsToWork m) (lengthsOf (e .written) (g .scratch)))) (sym counts) ∙ x .written in
       let all = firstOf (stages g (lentWith g (e .written))) in
       ap₂ (λ (r : Option Refusal) (d : Circuit). madeBy r e (convert d))
-      (made-none all (convert (given g)) (countsOf (convert c)) (conversion-accepted g c l (e .written) long)) (l .holds)
-    where
-      made-none : (o : Option Refusal) (d : Circuit) (m : Counts) → madeBy o e d .answer ≡ made.Accepted m → o ≡ none
-      made-none none d m a = refl
-      made-none (some r) d m a = let z : _≡_ {A = ℕ} 0 1 = cc in absurd (omega arith)
+      (made-none (λ o. madeBy o e (convert (given g)) .answer) (λ r. refl) all (countsOf (convert c)) (conversion-accepted g c l (e .written) long)) (l .holds)
 
 -- the bytes of a writer that was done
 done-file : (e : FileEntry) (bytes : List ℕ) (x : FileExit) → x ≡ writtenBy none e bytes → take (length bytes) (x .out) ≡ bytes
