@@ -1,7 +1,7 @@
 -- What a binary file of 2007 states, cards can hold: its latches start as 0, and it has no bad states and no constraints.
 use Prim.Native.Nat.{ℕ, zero, suc, _+_, _-_, _≤_}
 use mathlib.Core.Path.{_≡_, refl, sym, ap, _∙_}
-use mathlib.Core.Bool.{Bool, true, false, _&&_, false≢true}
+use mathlib.Core.Bool.{true, false, _&&_, false≢true}
 use mathlib.Core.List.{List, [], _∷_, _++_, map}
 use native.Mathlib.Omega.{arith}
 use borrow.Author.Tests.{eq-eqb}
@@ -12,7 +12,6 @@ use Rattle.plan.specs.Circuit.{Circuit, Latch, oneLine, nexts, resetsOk, counts
 use Rattle.plan.specs.Literals.{isReset}
 use Rattle.plan.specs.Bytes.{withResets, Spells, AllSpell}
 use Rattle.plan.specs.Header.{text, binary, formIn, allCounts}
-use Rattle.plan.specs.Binary.{binaryLatches}
 use Rattle.plan.specs.Reading.{States, asText, asBinary}
 use Rattle.plan.specs.Cards.{allZero, holdable}
 use Rattle.laws.proofs.Reading.Common.{and-right, and-intro}

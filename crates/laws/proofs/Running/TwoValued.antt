@@ -1,5 +1,4 @@
 -- A run without x: of an accepted circuit, from a state and on vectors without x, no value of any step is x.
-use Prim.Native.Nat.{ℕ}
 use mathlib.Core.Path.{_≡_}
 use mathlib.Core.List.{List, [], _∷_}
 use lib.ListN.{length}

@@ -2,14 +2,13 @@
 use Prim.Native.Nat.{ℕ, suc}
 use mathlib.Core.Path.{_≡_, refl, sym, ap, _∙_, subst}
 use mathlib.Core.Bool.{Bool, true, false, cond, _||_, false≢true}
-use mathlib.Core.Option.{Option, none, some}
+use mathlib.Core.Option.{none, some}
 use mathlib.Core.Logic.{_↔_}
 use mathlib.Core.List.{List, [], _∷_, _++_}
 use native.Mathlib.Omega.{arith}
 use borrow.Author.Tests.{eqb-true}
 use lib.Dec.{eqb}
 use Rattle.plan.specs.declared.Counts.{Counts}
-use Rattle.plan.specs.declared.Refusal.{Refusal}
 use Rattle.plan.specs.declared.Refusal.the-variants.{NotInOrder}
 use Rattle.plan.specs.declared.Made.the-variants as made
 use Rattle.plan.specs.Refusals.{firstOf}
@@ -20,7 +19,7 @@ use Rattle.plan.specs.Binary.{binaryOrder}
 use Rattle.plan.specs.Reading.{WellFormed}
 use Rattle.plan.specs.Given.{Given, given, lentWith, failing, stages, orderStage}
 use Rattle.plan.specs.Convert.{leaves, index, renumber, gateFor}
-use Rattle.plan.specs.Outcome.{MakeEntry, madeBy}
+use Rattle.plan.specs.Outcome.{madeBy}
 use Rattle.plan.specs.Drop.{Reached, reached, used, left, dropUnused, dropping}
 use Rattle.laws.proofs.Reading.Members.{distinct}
 use Rattle.laws.proofs.Running.Lists.{has-right}

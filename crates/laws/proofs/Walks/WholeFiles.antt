@@ -1,7 +1,7 @@
 -- Whole files reduced, and freed of unused gates: what is written is read back as that circuit with the same tail, and the call on what it wrote
 -- writes the same bytes.
 use Prim.Native.Nat.{ℕ, _≤_}
-use mathlib.Core.Path.{_≡_, refl, sym, ap, ap₂, _∙_, subst, subst₂}
+use mathlib.Core.Path.{_≡_, refl, sym, ap, ap₂, _∙_, subst}
 use mathlib.Core.Bool.{true}
 use mathlib.Core.Option.{Option, some}
 use mathlib.Core.List.{List, _++_}

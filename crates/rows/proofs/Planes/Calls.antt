@@ -1,6 +1,5 @@
 -- Demand 3 of each lane, over the calls: a file that was read, converted and reduced, with its unused gates dropped or not, and a step of rows of
 -- what was left.
-use Prim.Native.Nat.{ℕ}
 use mathlib.Core.Path.{_≡_, refl, sym, ap, _∙_, subst}
 use mathlib.Core.Option.{Option}
 use mathlib.Core.List.{List, [], _∷_}

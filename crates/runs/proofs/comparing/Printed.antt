@@ -19,7 +19,7 @@ use Rattle.plan.specs.Reading.{readToWork}
 use Rattle.plan.specs.Convert.{convert}
 use Rattle.plan.specs.Step.{codeOf, valueOf, run, first}
 use Rattle.plan.specs.Programs.{lentWords, refusalLine, printed, input, stimulus, stepLines, tracer}
-use Rattle.plan.specs.Whole.{TraceExit, lineWidth, countLines, trace}
+use Rattle.plan.specs.Whole.{lineWidth, countLines, trace}
 use Rattle.plan.specs.Plain.{manyGates, comparer}
 use Rattle.runs.specs.declared.comparing.Compared.the-variants.{Lines}
 use Rattle.runs.specs.comparing.Both.{CompareEntry, CompareExit, comparedBy, compare}

@@ -1,17 +1,16 @@
 -- What the reporter prints: the count of lines tells every refusal of standard input, a table 6 that is too short comes before it, and the report of
 -- an accepted file on the packed lines, written by needles, is what is printed.
 use Prim.Native.Nat.{ℕ, zero, suc, _+_, _*_, _-_, _≤_, _<_}
-use mathlib.Core.Path.{_≡_, refl, sym, ap, ap₂, _∙_, subst}
+use mathlib.Core.Path.{_≡_, refl, sym, ap, ap₂, _∙_}
 use mathlib.Core.Bool.{Bool, true, false, cond}
 use mathlib.Core.Option.{Option, some}
-use mathlib.Core.List.{List, [], _∷_, _++_, map}
+use mathlib.Core.List.{List, _++_, map}
 use native.Mathlib.Nat.{mul-zero, mul-suc}
 use native.Mathlib.Omega.{arith}
 use borrow.Author.Tests.{le-leb, lt-leb}
 use lib.Dec.{leb}
 use lib.ListN.{length, take, drop, replicate, length-append, length-drop}
 use lib.Seq.{take-append-le, drop-append-le}
-use Rattle.plan.specs.declared.Counts.{Counts}
 use Rattle.plan.specs.declared.Refusal.{Refusal}
 use Rattle.plan.specs.declared.Refusal.the-variants.{WrongByte, BadVector, LongInput, ShortTable}
 use Rattle.plan.specs.declared.Traced.the-variants.{Lines, Refused}
@@ -24,7 +23,7 @@ use Rattle.plan.specs.Convert.{convert}
 use Rattle.plan.specs.Step.{Value, valueOf, Step, run, first, vectorsOf}
 use Rattle.plan.specs.Programs.{lentWords, refusalLine, printed, input, linesIn, allVectors, stimulus}
 use Rattle.plan.specs.Whole.{countedBy, countLines}
-use Rattle.plan.specs.Report.{inTurn, numbersOf, outputAlong, latchAlong, needles, reportOf, ReportEntry, ReportExit, reportedBy, reportStages, report}
+use Rattle.plan.specs.Report.{inTurn, numbersOf, outputAlong, latchAlong, needles, reportOf, ReportEntry, reportedBy, reportStages, report}
 use Rattle.plan.specs.Reporter.{sixWords, needleLine, needleLines, reporter}
 use Rattle.laws.proofs.Reading.Runs.{length-lits}
 use Rattle.laws.proofs.Writing.Nothing.{stepped-none}
