@@ -5,6 +5,7 @@ pub mod Exactly
 pub mod Spared
 pub mod Back
 pub mod Calls
+pub mod Held
 pub mod WithRoom
 pub mod Toggle
 pub mod Huge

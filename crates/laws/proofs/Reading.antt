@@ -25,5 +25,6 @@ pub mod NoSixSevenEight
 pub mod Exactly
 pub mod Versions
 pub mod Shortest
-pub mod Trimmed
+pub mod LeftOff
 pub mod Spans
+pub mod Desk

@@ -38,3 +38,4 @@ pub mod Runs
 pub mod DemandThree
 pub mod Shown
 pub mod Times
+pub mod TwoValued

@@ -8,5 +8,6 @@ pub mod Reduced
 pub mod Later
 pub mod Dropping
 pub mod DemandThree
+pub mod WholeFiles
 pub mod Places
 pub mod Examples

@@ -2,3 +2,4 @@ pub mod Packed
 pub mod Lines
 pub mod Examples
 pub mod Together
+pub mod Printed

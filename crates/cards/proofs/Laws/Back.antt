@@ -20,7 +20,7 @@ use Rattle.plan.specs.Given.{failing, room}
 use Rattle.plan.specs.Cards.{cardsOf, holdable, past, readCards, readToCard}
 use Rattle.laws.proofs.Reading.Common.{then-got, got-value, got-next, and-left, and-right, and-intro}
 use Rattle.laws.proofs.Reading.Differences.{Bytes}
-use Rattle.laws.proofs.Reading.Exactly.{sound, formed, work-read}
+use Rattle.laws.proofs.Reading.Exactly.{sound, complete, formed, work-read, room-to-read}
 use Rattle.laws.proofs.Writing.Back.{binary-back}
 use Rattle.laws.proofs.Writing.Nothing.{failing-none}
 use Rattle.laws.proofs.Writing.ThereAndBack.{binary-shortest}
@@ -49,7 +49,28 @@ module _ (file lengths : List ℕ) (c : Circuit) (start : ℕ) (q : readToCard f
         ap holdable (sym c-is) ∙ and-right (eqb (length (drop (t .1) file)) 0) _ both,
       )
 
--- a circuit that cards can hold, read from its binary file for cards
+-- a circuit in binary order that cards can hold, read from a file that states it without a tail
+pub stated-to-card : (file : List ℕ) (c : Circuit) (lengths : List ℕ) → States V19 file c [] → binaryOrder c ≡ true → holdable c ≡ true → Room c lengths
+    → (start : ℕ) × (readToCard file lengths ≡ got c start)
+stated-to-card file c lengths s o k room =
+    let a = complete V19 file lengths c [] s (room-to-read file c lengths (formed V19 file c [] s) room) in
+    let start : ℕ = a .0 in
+    let work : readToWork file lengths lengths ≡ got c start = rw (a .1, room) in
+    let held : (eqb (length (drop start file)) 0 && holdable c) ≡ true
+    = and-intro (eqb (length (drop start file)) 0) (holdable c) (eq-eqb _ _ (ap length (a .2))) k in (
+      start,
+      ap (λ (p : Parse Circuit). p then λ d start. later d start) work
+          ∙ (past-none NotInOrder _ (failing (binaryOrder c)) (ap failing o)
+          ∙ past-none NotOnCards _ (failing (eqb (length (drop start file)) 0 && holdable c)) (ap failing held)),
+    )
+  where
+    later : Circuit → ℕ → Parse Circuit
+    later d start =
+        past (failing (binaryOrder d)) NotInOrder then λ _ _.
+        past (failing (eqb (length (drop start file)) 0 && holdable d)) NotOnCards then λ _ _.
+        got d start
+
+-- from its binary file: its length is the start of the tail that is not there
 pub binary-to-card : (c : Circuit) (lengths : List ℕ) → WellFormed c → binaryOrder c ≡ true → holdable c ≡ true → Room c lengths
     → readToCard (binaryOf c) lengths ≡ got c (length (binaryOf c))
 binary-to-card c lengths w o k room =

@@ -30,7 +30,7 @@ use Rattle.laws.proofs.Writing.Fine.{nothing-fine}
 use Rattle.laws.proofs.Writing.Written.{wrote, binary-bytes, binary-states}
 use Rattle.laws.proofs.Writing.Later.{Left, left, load-left}
 use Rattle.laws.proofs.Writing.ThereAndBack.{binary-shortest}
-use Rattle.laws.proofs.Writing.Calls.{ReadCall, WriteCall, readCircuit, readTail, fileOf, read-states, binary-file, ShortFile, short-file}
+use Rattle.laws.proofs.Writing.Calls.{ReadCall, WriteCall, readCircuit, readTail, fileOf, read-states, binary-file, InShortestForm, shortest-read}
 use Rattle.laws.proofs.Writing.WithRoom.{Handed}
 use Rattle.cards.proofs.Laws.Exactly.{empty-list, cards-formed, cards-state, cards-room, cards-unique}
 
@@ -145,10 +145,10 @@ binary-through-cards r h at head form shortest =
     through-cards r (binary-shortest (r .entry .file) (readCircuit r) (readTail r) h at head form shortest)
 
 -- said of the read alone: every binary file that 2007 accepts, and every one of which no line ends in a 0 that may be left off
-pub short-through-cards : (r : ReadCall) → ShortFile r → formIn (r .entry .file) ≡ binary
+pub same-bytes-through-cards : (r : ReadCall) → InShortestForm r → formIn (r .entry .file) ≡ binary
     → (w : WriteCall writeCards) → Handed (w .entry .circuit) (r .counts) (loadAs (r .version) (r .entry) .tables) → w .entry .tail ≡ readTail r
     → (k : CardCall) → k .entry .file ≡ fileOf writeCards w
     → (b : WriteCall writeBinary) → Handed (b .entry .circuit) (k .counts) (loadCards (k .entry) .tables) → b .entry .tail ≡ []
     → fileOf writeBinary b ≡ r .entry .file
-short-through-cards r short form =
-    through-cards r (binary-file (r .entry .file) (readCircuit r) (readTail r) form (short-file r short) (read-states r) .0)
+same-bytes-through-cards r short form =
+    through-cards r (binary-file (r .entry .file) (readCircuit r) (readTail r) form (shortest-read r short) (read-states r) .0)

@@ -2,6 +2,7 @@
 use Prim.Native.Nat.{ℕ, _+_, _≤_}
 use mathlib.Core.Path.{_≡_, refl, sym, ap, ap₂, _∙_, subst}
 use mathlib.Core.Bool.{true, _&&_}
+use mathlib.Core.Logic.{inl}
 use mathlib.Core.Option.{Option, none}
 use mathlib.Core.List.{List, [], _∷_, _++_, append-nil}
 use native.Mathlib.Omega.{arith}
@@ -9,7 +10,8 @@ use borrow.Author.Tests.{eq-eqb, le-leb}
 use lib.Dec.{eqb}
 use lib.ListN.{length, take, drop}
 use lib.Seq.{drop-length}
-use Rattle.plan.specs.declared.Version.the-variants.{V19}
+use Rattle.plan.specs.declared.Version.{Version}
+use Rattle.plan.specs.declared.Version.the-variants.{V2007, V19}
 use Rattle.plan.specs.declared.Counts.{Counts}
 use Rattle.plan.specs.declared.Refusal.{Refusal}
 use Rattle.plan.specs.declared.Loaded.the-variants as loaded
@@ -18,7 +20,7 @@ use Rattle.plan.specs.Refusals.{got, firstOf}
 use Rattle.plan.specs.Circuit.{Circuit, Tables, countsOf, circuitOf, lengthsOf, wordsToWork, against, short}
 use Rattle.plan.specs.Header.{Head, binary, header, formIn}
 use Rattle.plan.specs.Binary.{binaryOf, binaryOrder}
-use Rattle.plan.specs.Reading.{WellFormed, Shortest, Room, RoomToRead}
+use Rattle.plan.specs.Reading.{WellFormed, States, Shortest, Room, RoomToRead}
 use Rattle.plan.specs.Given.{Given, given, lentAlone, stages, orderStage, tailStage, roomStage}
 use Rattle.plan.specs.Outcome.{ReadEntry, LoadExit, loadBy, loadAs, load, FileEntry, FileExit, writtenBy, writeBinary}
 use Rattle.plan.specs.Cards.{cardsOf, holdable, readCards, loadCards, cardStage, writeCards}
@@ -30,9 +32,10 @@ use Rattle.laws.proofs.Writing.Nothing.{both-first}
 use Rattle.laws.proofs.Writing.Fine.{nothing-fine, fine-nothing}
 use Rattle.laws.proofs.Writing.Holding.{holding-circuit, formed-fine}
 use Rattle.laws.proofs.Writing.ThereAndBack.{binary-stated, binary-shortest}
-use Rattle.laws.proofs.Writing.Calls.{ReadCall, readCircuit, readTail, read-states, read-formed, binary-file, ShortFile, short-file}
+use Rattle.laws.proofs.Writing.Calls.{ReadCall, readCircuit, readTail, read-stated, read-states, read-formed, binary-file, InShortestForm, shortest-read}
 use Rattle.laws.proofs.Writing.WithRoom.{Handed}
 use Rattle.cards.proofs.Laws.Exactly.{cards-read}
+use Rattle.cards.proofs.Laws.Held.{stated-2007-holdable}
 use Rattle.cards.proofs.Laws.Back.{no-tail}
 use Rattle.cards.proofs.Laws.Calls.{CardCall, cardCircuit, read-cards, card-states, card-counts, read-counts}
 
@@ -188,9 +191,16 @@ binary-there-and-back r h at head form shortest =
     (sym (binary-shortest (r .entry .file) c [] h at head form shortest ∙ append-nil (binaryOf c)))
 
 -- said of the read alone
-pub short-there-and-back : (r : ReadCall) → ShortFile r → formIn (r .entry .file) ≡ binary → readTail r ≡ [] → holdable (readCircuit r) ≡ true
+pub same-bytes-with-room : (r : ReadCall) → InShortestForm r → formIn (r .entry .file) ≡ binary → readTail r ≡ [] → holdable (readCircuit r) ≡ true
     → CardsAndBack r
-short-there-and-back r short form no-tail-left =
+same-bytes-with-room r short form no-tail-left =
     let c = readCircuit r in
-    let f = binary-file (r .entry .file) c (readTail r) form (short-file r short) (read-states r) in
+    let f = binary-file (r .entry .file) c (readTail r) form (shortest-read r short) (read-states r) in
     and-back r (f .1) (sym (f .0 ∙ (ap (λ (t : List ℕ). binaryOf c ++ t) no-tail-left ∙ append-nil (binaryOf c))))
+
+-- of every binary file that the reader of 2007 accepts, where there is no symbol or comment part: cards can hold it
+pub same-bytes-2007 : (r : ReadCall) → r .version ≡ V2007 → formIn (r .entry .file) ≡ binary → readTail r ≡ [] → CardsAndBack r
+same-bytes-2007 r old form no-tail-left =
+    same-bytes-with-room r (inl old) form no-tail-left
+    (stated-2007-holdable (r .entry .file) (readCircuit r) (readTail r)
+    (subst (λ (v : Version). States v (r .entry .file) (readCircuit r) (readTail r)) old (read-stated r)) form)

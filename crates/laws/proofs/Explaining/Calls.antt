@@ -3,7 +3,7 @@ use Prim.Native.Nat.{ℕ, zero, suc, _+_, _<_}
 use mathlib.Core.Path.{_≡_, refl, sym, ap, _∙_}
 use mathlib.Core.Bool.{true, false, not, false≢true}
 use mathlib.Core.Logic.{_↔_}
-use mathlib.Core.Option.{Option, none, some}
+use mathlib.Core.Option.{Option, none}
 use mathlib.Core.List.{List, [], _∷_, _++_, map}
 use native.Mathlib.Omega.{arith}
 use native.Mathlib.Nat.{not-suc-le-zero}
@@ -22,17 +22,19 @@ use Rattle.plan.specs.Given.{given, lentAlone, failing, failingAt, stages, orde
 use Rattle.plan.specs.Step.{Value, v0, v1, vx, valueOf, lit, valuesOf, outputsOf, same}
 use Rattle.plan.specs.Outcome.{allCodes}
 use Rattle.laws.proofs.Reading.Common.{and-left}
-use Rattle.laws.proofs.Writing.Nothing.{stage-none, at-none, failing-none, or-none, first-all, first-both}
+use Rattle.laws.proofs.Writing.Nothing.{stepped-none, stage-none, at-none, failing-none, or-none, first-all, first-both}
 use Rattle.laws.proofs.Writing.Fine.{Fine, nothing-fine, counts-given}
 use Rattle.plan.specs.Explain.{Blamed, places, onlyState, onlyInputs, ExplainEntry, stateOf, inputsOf, asked, valueAsked, marksAsked, vectorsStage, outputStage, explainedBy, explain}
 use Rattle.laws.proofs.Explaining.Explained.{explain-keeps}
-use Rattle.laws.proofs.Explaining.Marked.{length-places, marks-exactly, marks-known}
+use Rattle.laws.proofs.Explaining.Marked.{length-places, marks-exactly, marks-zero, marks-known}
 
--- the buffer afterwards, in the request's words: marks exactly where the walk comes, only on places that held 0 or 1; with every unmarked
--- place turned to x the output keeps its value; and no other byte changes
+-- the buffer afterwards, in the request's words: marks exactly where the walk comes and "0" on every other place; marks only on places that held
+-- 0 or 1; with every unmarked place turned to x the output keeps its value; and no other byte changes
 pub record Meant (e : ExplainEntry) : Type 0 where
   pub exactly : (k : ℕ) → k < e .circuit .counts .L + e .circuit .counts .I
       → (getD (explain e .marks) k 48 ≡ 49) ↔ Blamed (given (e .circuit)) (stateOf e) (inputsOf e) (asked e) (getD (places (given (e .circuit))) k 0)
+  pub zero-else : (k : ℕ) → k < e .circuit .counts .L + e .circuit .counts .I
+      → (getD (explain e .marks) k 0 ≡ 48) ↔ ¬ Blamed (given (e .circuit)) (stateOf e) (inputsOf e) (asked e) (getD (places (given (e .circuit))) k 0)
   pub known : (k : ℕ) → k < e .circuit .counts .L + e .circuit .counts .I → getD (explain e .marks) k 48 ≡ 49
       → getD (stateOf e ++ inputsOf e) k vx ≡ vx → ⊥
   pub keeps : let c = given (e .circuit) in
@@ -49,10 +51,6 @@ value-at f (l ∷ ls) (suc k) h = value-at f ls k (omega arith)
 pub asked-shown : (e : ExplainEntry) → e .output < length (given (e .circuit) .outputs)
     → valueAsked e ≡ getD (outputsOf (given (e .circuit)) (stateOf e) (inputsOf e)) (e .output) vx
 asked-shown e = value-at (lit (valuesOf (given (e .circuit)) (stateOf e) (inputsOf e))) (given (e .circuit) .outputs) (e .output)
-
-done-none : (e : ExplainEntry) (o : Option Refusal) → explainedBy o e .answer ≡ Done → o ≡ none
-done-none e none q = refl
-done-none e (some r) q = let z : _≡_ {A = ℕ} 0 1 = cc in absurd (omega arith)
 
 x-not : (a : Value) → not (same a vx) ≡ true → a ≡ vx → ⊥
 x-not v0 h q = let z : _≡_ {A = ℕ} 0 1 = cc in omega arith
@@ -73,7 +71,7 @@ module _ (e : ExplainEntry) (done : explain e .answer ≡ Done) where
   rest = orderStage (e .circuit) ∷ vectorsStage e ∷ outputStage e ∷ roomStage (e .marks) (marksAsked e) ∷ []
 
   nothing : firstOf (first ++ rest) ≡ none
-  nothing = done-none e (firstOf (first ++ rest)) done
+  nothing = stepped-none (λ o. explainedBy o e .answer) (λ r. refl) (firstOf (first ++ rest)) done
 
   fine : Fine (e .circuit) (lentAlone (e .circuit))
   fine = nothing-fine (e .circuit) (lentAlone (e .circuit)) (first-both first rest nothing .0)
@@ -116,17 +114,20 @@ module _ (e : ExplainEntry) (done : explain e .answer ≡ Done) where
   buffer : explain e .marks ≡ marksAsked e ++ drop (0 + length (marksAsked e)) (e .marks)
   buffer = ap (λ (o : Option Refusal). explainedBy o e .marks) nothing
 
-  mark-at : (k : ℕ) → k < n .L + n .I → getD (explain e .marks) k 48 ≡ getD (marksAsked e) k 48
-  mark-at k h = ap (λ (l : List ℕ). getD l k 48) buffer ∙ List·getD-append (marksAsked e) _ 48 k (omega (arith, all-marks))
+  mark-at : (k d : ℕ) → k < n .L + n .I → getD (explain e .marks) k d ≡ getD (marksAsked e) k d
+  mark-at k d h = ap (λ (l : List ℕ). getD l k d) buffer ∙ List·getD-append (marksAsked e) _ d k (omega (arith, all-marks))
 
   pub done-meant : Meant e
   done-meant = record {
     exactly = λ k h.
         let x = marks-exactly c (fine .formed) order (stateOf e) (inputsOf e) state-long inputs-long (asked e) not-x k (omega (arith, all-places)) in
-        (λ q. x .0 (sym (mark-at k h) ∙ q), λ b. mark-at k h ∙ x .1 b);
+        (λ q. x .0 (sym (mark-at k 48 h) ∙ q), λ b. mark-at k 48 h ∙ x .1 b);
+    zero-else = λ k h.
+        let x = marks-zero c (fine .formed) order (stateOf e) (inputsOf e) state-long inputs-long (asked e) not-x k (omega (arith, all-places)) in
+        (λ q. x .0 (sym (mark-at k 0 h) ∙ q), λ b. mark-at k 0 h ∙ x .1 b);
     known = λ k h q.
         marks-known c (fine .formed) order (stateOf e) (inputsOf e) state-long inputs-long (asked e) not-x k (omega (arith, all-places))
-        (sym (mark-at k h) ∙ q);
+        (sym (mark-at k 48 h) ∙ q);
     keeps =
         ap (λ (m : List ℕ). lit (valuesOf c (onlyState c m (stateOf e)) (onlyInputs c m (inputsOf e))) (asked e)) first-marks
         ∙ explain-keeps c (fine .formed) order (stateOf e) (inputsOf e) state-long inputs-long (asked e) not-x;

@@ -24,10 +24,10 @@ pub length-places : (c : Circuit) → length (places c) ≡ length (c .latches) 
 length-places c =
     omega (arith, length-append (currents (c .latches)) (vars (c .inputs)), length-vars (c .inputs), length-currents (c .latches))
 
-marked-at : (vs us : List ℕ) (k : ℕ) → k < length us → getD (map (mark vs) us) k 48 ≡ mark vs (getD us k 0)
-marked-at vs [] k h = absurd (not-suc-le-zero h)
-marked-at vs (u ∷ us) zero h = refl
-marked-at vs (u ∷ us) (suc k) h = marked-at vs us k (omega arith)
+marked-at : (vs us : List ℕ) (k d : ℕ) → k < length us → getD (map (mark vs) us) k d ≡ mark vs (getD us k 0)
+marked-at vs [] k d h = absurd (not-suc-le-zero h)
+marked-at vs (u ∷ us) zero d h = refl
+marked-at vs (u ∷ us) (suc k) d h = marked-at vs us k d (omega arith)
 
 mark-1 : (vs : List ℕ) (v : ℕ) → (mark vs v ≡ 49) ↔ (has v vs ≡ true)
 mark-1 vs v = (λ e. out (has v vs) e, λ e. ap (λ (t : Bool). cond t 49 48) e)
@@ -35,6 +35,13 @@ mark-1 vs v = (λ e. out (has v vs) e, λ e. ap (λ (t : Bool). cond t 49 48) e)
     out : (t : Bool) → _≡_ {A = ℕ} (cond t 49 48) 49 → t ≡ true
     out true e = refl
     out false e = absurd (omega arith)
+
+mark-0 : (vs : List ℕ) (v : ℕ) → (mark vs v ≡ 48) ↔ ¬ (has v vs ≡ true)
+mark-0 vs v = (λ e t. omega (arith, sym (ap (λ (b : Bool). cond b 49 48) t) ∙ e), λ h. out (has v vs) h)
+  where
+    out : (t : Bool) → ¬ (t ≡ true) → _≡_ {A = ℕ} (cond t 49 48) 48
+    out true h = absurd (h refl)
+    out false h = refl
 
 -- the value of place k
 module _ (c : Circuit) (w : WellFormed c) (s i : List Value) (ls : length s ≡ length (c .latches)) (li : length i ≡ length (c .inputs)) where
@@ -75,10 +82,19 @@ module _ (c : Circuit) (w : WellFormed c) (t : binaryOrder c ≡ true) (s i : Li
   pub marks-exactly : (k : ℕ) → k < length (places c) → (getD (marksFor c s i l) k 48 ≡ 49) ↔ Blamed c s i l (getD (places c) k 0)
   marks-exactly k h =
       let v = getD (places c) k 0 in
-      let at = marked-at (blamed c s i l) (places c) k h in
+      let at = marked-at (blamed c s i l) (places c) k 48 h in
       let m = mark-1 (blamed c s i l) v in
       let b = blamed-exactly c w t s i ls li l known v in
       (λ e. b .0 (m .0 (sym at ∙ e)), λ r. at ∙ m .1 (b .1 r))
+
+  -- and every other mark is "0"
+  pub marks-zero : (k : ℕ) → k < length (places c) → (getD (marksFor c s i l) k 0 ≡ 48) ↔ ¬ Blamed c s i l (getD (places c) k 0)
+  marks-zero k h =
+      let v = getD (places c) k 0 in
+      let at = marked-at (blamed c s i l) (places c) k 0 h in
+      let m = mark-0 (blamed c s i l) v in
+      let b = blamed-exactly c w t s i ls li l known v in
+      (λ e r. m .0 (sym at ∙ e) (b .1 r), λ n. at ∙ m .1 (λ e. n (b .0 e)))
 
   -- marks stand only on places that held 0 or 1
   pub marks-known : (k : ℕ) → k < length (places c) → getD (marksFor c s i l) k 48 ≡ 49 → getD (s ++ i) k vx ≡ vx → ⊥

@@ -1,23 +1,33 @@
 -- The laws over whole calls, refusals too: what a yes says, a larger allowance, and the yes of the question in three values.
-use Prim.Native.Nat.{ℕ, _≤_}
-use mathlib.Core.Path.{_≡_, refl, ap, ap₂, _∙_}
-use mathlib.Core.Bool.{Bool, true, false}
+use Prim.Native.Nat.{ℕ, _*_, _≤_}
+use mathlib.Core.Path.{_≡_, refl, sym, ap, ap₂, _∙_}
+use mathlib.Core.Bool.{Bool, true, false, _&&_}
 use mathlib.Core.Option.{Option, none, some}
-use mathlib.Core.List.{List, [], _∷_, _++_}
+use mathlib.Core.List.{List, [], _∷_, _++_, map}
 use native.Mathlib.Omega.{arith}
-use borrow.Author.Tests.{le-leb, lt-leb}
+use borrow.Author.Tests.{le-leb, lt-leb, eqb-true}
+use lib.Dec.{eqb}
+use lib.ListN.{length, length-map}
+use Rattle.plan.specs.declared.Counts.{Counts}
 use Rattle.plan.specs.declared.Refusal.{Refusal}
-use Rattle.plan.specs.declared.Refusal.the-variants.{ManyX}
+use Rattle.plan.specs.declared.Refusal.the-variants.{BadVector, ManyX}
 use Rattle.plan.specs.declared.Verdict.the-variants as verdict
 use Rattle.plan.specs.declared.Finding.{Finding}
-use Rattle.plan.specs.declared.Finding.the-variants.{Yes, No}
+use Rattle.plan.specs.declared.Finding.the-variants.{Yes, No, Refused}
 use Rattle.plan.specs.Refusals.{stage, firstOf}
 use Rattle.plan.specs.Circuit.{Circuit}
 use Rattle.plan.specs.Given.{given, lentAlone, failingAt, stages, orderStage}
-use Rattle.plan.specs.Step.{witnessed}
-use Rattle.plan.specs.Outcome.{WitnessEntry, listStage, verdictBy, witness3}
-use Rattle.plan.specs.Fillings.{xCount, asked, totalOf, question, FilledEntry, xStage, findingBy, witness}
-use Rattle.laws.proofs.Fillings.Question.{EveryShows, yes-every, every-yes, old-yes, larger-yes, larger-no}
+use Rattle.plan.specs.Step.{valueOf, codeOf, first, run, vectorsOf, witnessed}
+use Rattle.plan.specs.Outcome.{allCodes, WitnessEntry, listStage, verdictBy, witness3}
+use Rattle.plan.specs.Fillings.{xCount, Fills, startOf, asked, totalOf, question, FilledEntry, xStage, findingBy, witness}
+use Rattle.laws.proofs.Reading.Common.{and-left, and-right}
+use Rattle.laws.proofs.Running.Resets.{first-length}
+use Rattle.laws.proofs.Running.TwoValued.{RunNoX, run-nox}
+use Rattle.laws.proofs.Writing.Nothing.{AllNone, stage-none, at-none, first-all, first-both}
+use Rattle.laws.proofs.Writing.Fine.{Fine, nothing-fine, counts-given}
+use Rattle.laws.proofs.Writing.Stepping.{all-codes}
+use Rattle.laws.proofs.Writing.KeptBytes.{sized-rows, no-x-rows}
+use Rattle.laws.proofs.Fillings.Question.{fills-length, fills-two-valued, EveryShows, yes-every, every-yes, old-yes, larger-yes, larger-no}
 
 -- an answer but a refusal is the question's
 yes-only : (o : Option Refusal) (f : Finding) (t : ℕ) → findingBy o f ≡ Yes t → (o ≡ none) × (f ≡ Yes t)
@@ -27,6 +37,10 @@ yes-only (some r) f t e = let z : _≡_ {A = ℕ} 0 1 = cc in absurd (omega arit
 no-only : (o : Option Refusal) (f : Finding) (t : ℕ) → findingBy o f ≡ No t → (o ≡ none) × (f ≡ No t)
 no-only none f t e = (refl, e)
 no-only (some r) f t e = let z : _≡_ {A = ℕ} 0 1 = cc in absurd (omega arith)
+
+answer-none : (o : Option Refusal) (f : Finding) → ((r : Refusal) → ¬ (findingBy o f ≡ Refused r)) → o ≡ none
+answer-none none f h = refl
+answer-none (some r) f h = absurd (h r refl)
 
 -- the yes in three values: nothing was refused, and a 1 was seen
 old-says : (o : Option Refusal) (b : Bool) → verdictBy o b ≡ verdict.Yes → (o ≡ none) × (b ≡ true)
@@ -76,6 +90,34 @@ module _ (w : WitnessEntry) where
   pub call-every-yes : (a : ℕ) → refusal ≡ none → totalOf c (w .bytes) ≤ a → EveryShows c (w .number) (w .bytes)
       → witness (allowing a) .answer ≡ Yes (totalOf c (w .bytes))
   call-every-yes a o h every = ap₂ findingBy o (every-yes c (w .number) (w .bytes) a h every)
+
+  -- an answer: nothing was refused, and each start and list that fill the given ones run without x at every step
+  module _ (a : ℕ) (answered : (r : Refusal) → ¬ (witness (allowing a) .answer ≡ Refused r)) where
+    nothing : refusal ≡ none
+    nothing = answer-none refusal (found a) answered
+
+    fine : Fine (w .circuit) (lentAlone (w .circuit))
+    fine = nothing-fine (w .circuit) (lentAlone (w .circuit)) (first-both os (orderStage (w .circuit) ∷ listStage w ∷ xStage w ∷ []) nothing .0)
+
+    list-good : (length (w .bytes) ≡ w .number * w .circuit .counts .I) × (allCodes (w .bytes) ≡ true)
+    list-good =
+        let more : List (Option Refusal) = orderStage (w .circuit) ∷ listStage w ∷ xStage w ∷ [] in
+        let rest : AllNone more = first-all more (first-both os more nothing .1) in
+        let size = eqb (length (w .bytes)) (w .number * w .circuit .counts .I) in
+        let both = at-none 2 (size && allCodes (w .bytes)) (stage-none BadVector _ (rest .1 .0)) in
+        (eqb-true _ _ (and-left size (allCodes (w .bytes)) both), and-right size (allCodes (w .bytes)) both)
+
+    pub filled-run-two-valued : (start list : List ℕ) → Fills (startOf c) start → Fills (w .bytes) list
+        → RunNoX (run c (map valueOf start) (vectorsOf c (w .number) list))
+    filled-run-two-valued start list f g =
+        let i = length (c .inputs) in
+        let counts = counts-given (w .circuit) (fine .room) in
+        let long : length list ≡ w .number * i
+        = fills-length (w .bytes) list g ∙ (list-good .0 ∙ ap (λ (n : Counts). w .number * n .I) (sym counts)) in
+        run-nox c (fine .formed) (vectorsOf c (w .number) list) (sized-rows i (w .number) list long)
+        (no-x-rows i (w .number) list (fills-two-valued (w .bytes) list (list-good .1) g)) (map valueOf start)
+        (length-map start valueOf ∙ (fills-length (startOf c) start f ∙ (length-map (first c) codeOf ∙ first-length c (fine .formed))))
+        (fills-two-valued (startOf c) start (all-codes (first c)) f)
 
   -- a larger allowance changes neither a yes nor a no
   pub more-allowed-yes : (a b t : ℕ) → a ≤ b → witness (allowing a) .answer ≡ Yes t → witness (allowing b) .answer ≡ Yes t

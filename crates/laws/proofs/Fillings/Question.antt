@@ -53,7 +53,7 @@ fills-append [] (d ∷ m) s t f g = absurd f
 fills-append (b ∷ l) [] s t f g = absurd f
 fills-append (b ∷ l) (d ∷ m) s t f g = (f .0, fills-append l m s t (f .1) g)
 
-fills-length : (l m : List ℕ) → Fills l m → length m ≡ length l
+pub fills-length : (l m : List ℕ) → Fills l m → length m ≡ length l
 fills-length [] [] f = refl
 fills-length [] (d ∷ m) f = absurd f
 fills-length (b ∷ l) [] f = absurd f

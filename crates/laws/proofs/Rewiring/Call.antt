@@ -28,7 +28,7 @@ use Rattle.laws.proofs.Tables.{gateAt, gatesAt, gates-rows}
 use Rattle.laws.proofs.Reading.Runs.{order-exactly}
 use Rattle.laws.proofs.Running.Binary.{Binary, inner}
 use Rattle.laws.proofs.Running.InOrder.{order-binary}
-use Rattle.laws.proofs.Writing.Nothing.{stage-none, at-none, failing-none, first-all, first-both}
+use Rattle.laws.proofs.Writing.Nothing.{stepped-none, stage-none, at-none, failing-none, first-all, first-both}
 use Rattle.laws.proofs.Writing.Fine.{nothing-fine, fine-nothing, counts-given}
 use Rattle.laws.proofs.Writing.Holding.{formed-fine}
 use Rattle.laws.proofs.Writing.Later.{Left}
@@ -114,10 +114,6 @@ module _ (e : RewireEntry) where
       (order-binary (inner c) (c .gates) (order-exactly c .0 order .gates)))
       ∙ ap (λ (x : Counts). litOf (1 + x .I + x .L + e .gate)) held
 
-  done-none : (o : Option Refusal) → rewiredBy o e .answer ≡ stepped.Done → o ≡ none
-  done-none none d = refl
-  done-none (some r) d = let z : _≡_ {A = ℕ} 0 1 = cc in absurd (omega arith)
-
   abbrev pub edited : Circuit
   edited = rewire c (e .gate) (e .rhs0) (e .rhs1)
 
@@ -127,7 +123,7 @@ module _ (e : RewireEntry) where
 
   module _ (d : rewiring e .answer ≡ stepped.Done) where
     nothing : firstOf (stages g (lentAlone g) ++ (orderStage g ∷ lasts)) ≡ none
-    nothing = done-none (firstOf (stages g (lentAlone g) ++ (orderStage g ∷ lasts))) d
+    nothing = stepped-none (λ o. rewiredBy o e .answer) (λ r. refl) (firstOf (stages g (lentAlone g) ++ (orderStage g ∷ lasts))) d
 
     -- what was not refused
     pub done-edits : Edits e

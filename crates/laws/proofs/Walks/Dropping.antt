@@ -2,14 +2,13 @@
 use Prim.Native.Nat.{ℕ, suc}
 use mathlib.Core.Path.{_≡_, refl, sym, ap, _∙_, subst}
 use mathlib.Core.Bool.{Bool, true, false, cond, _||_, false≢true}
-use mathlib.Core.Option.{Option, none, some}
+use mathlib.Core.Option.{none, some}
 use mathlib.Core.Logic.{_↔_}
 use mathlib.Core.List.{List, [], _∷_, _++_}
 use native.Mathlib.Omega.{arith}
 use borrow.Author.Tests.{eqb-true}
 use lib.Dec.{eqb}
 use Rattle.plan.specs.declared.Counts.{Counts}
-use Rattle.plan.specs.declared.Refusal.{Refusal}
 use Rattle.plan.specs.declared.Refusal.the-variants.{NotInOrder}
 use Rattle.plan.specs.declared.Made.the-variants as made
 use Rattle.plan.specs.Refusals.{firstOf}
@@ -20,14 +19,14 @@ use Rattle.plan.specs.Binary.{binaryOrder}
 use Rattle.plan.specs.Reading.{WellFormed}
 use Rattle.plan.specs.Given.{Given, given, lentWith, failing, stages, orderStage}
 use Rattle.plan.specs.Convert.{leaves, index, renumber, gateFor}
-use Rattle.plan.specs.Outcome.{MakeEntry, madeBy}
+use Rattle.plan.specs.Outcome.{madeBy}
 use Rattle.plan.specs.Drop.{Reached, reached, used, left, dropUnused, dropping}
 use Rattle.laws.proofs.Reading.Members.{distinct}
 use Rattle.laws.proofs.Running.Lists.{has-right}
 use Rattle.laws.proofs.Running.Found.{AllG, all-map, FindSays, find-says}
 use Rattle.laws.proofs.Running.Accepted.{accepted}
 use Rattle.laws.proofs.Running.GateValue.{gates-found}
-use Rattle.laws.proofs.Writing.Nothing.{stage-none, failing-none, first-all, first-both}
+use Rattle.laws.proofs.Writing.Nothing.{made-none, stage-none, failing-none, first-all, first-both}
 use Rattle.laws.proofs.Writing.Fine.{nothing-fine}
 use Rattle.laws.proofs.Writing.Calls.{MakeCall, madeCircuit, FromMade, from-made}
 use Rattle.laws.proofs.Walks.Parts.{find-of, all-of, of-lefts}
@@ -55,8 +54,8 @@ abbrev pub renumbered : Circuit → ℕ → Gate → Gate
 renumbered c v g = gateFor (newNumber c v) (renumber (left (used c)) (g .rhs0)) (renumber (left (used c)) (g .rhs1))
 
 -- a reached gate of the circuit that has this new number
-abbrev pub Kept : Circuit → ℕ → Type 0
-Kept c n = (v : ℕ) × (g : Gate) × (find v (c .gates) ≡ some g) × Reached c v × (n ≡ newNumber c v)
+abbrev pub ReachedGate : Circuit → ℕ → Type 0
+ReachedGate c n = (v : ℕ) × (g : Gate) × (find v (c .gates) ≡ some g) × Reached c v × (n ≡ newNumber c v)
 
 module _ (c : Circuit) (w : WellFormed c) (t : binaryOrder c ≡ true) where
   once : distinct (left (used c)) ≡ true
@@ -70,12 +69,13 @@ module _ (c : Circuit) (w : WellFormed c) (t : binaryOrder c ≡ true) where
       (find-of v (reached c) (c .gates) ∙ (ap (λ (b : Bool). cond b (find v (c .gates)) none) (reached-exactly c w t v .1 r) ∙ f))
 
   -- every gate that is left is one
-  pub only-reached : AllG (λ h. Kept c (varOf (h .lhs))) (dropUnused c .gates)
-  only-reached =
-      subst (λ (gs : List Gate). AllG (λ h. Kept c (varOf (h .lhs))) gs) (sym (gates-at (used c) once))
-      (all-renumbered (left (used c)) (Kept c) (leaves (used c)) (used c .gates) once refl
-      (all-of (λ g. Kept c (index (varOf (g .lhs)) (left (used c)))) (reached c) (c .gates)
-      (all-map (λ g. find (varOf (g .lhs)) (c .gates) ≡ some g) (λ g. has (varOf (g .lhs)) (reached c) ≡ true → Kept c (index (varOf (g .lhs)) (left (used c))))
+  pub retains-only-reached : AllG (λ h. ReachedGate c (varOf (h .lhs))) (dropUnused c .gates)
+  retains-only-reached =
+      subst (λ (gs : List Gate). AllG (λ h. ReachedGate c (varOf (h .lhs))) gs) (sym (gates-at (used c) once))
+      (all-renumbered (left (used c)) (ReachedGate c) (leaves (used c)) (used c .gates) once refl
+      (all-of (λ g. ReachedGate c (index (varOf (g .lhs)) (left (used c)))) (reached c) (c .gates)
+      (all-map (λ g. find (varOf (g .lhs)) (c .gates) ≡ some g)
+      (λ g. has (varOf (g .lhs)) (reached c) ≡ true → ReachedGate c (index (varOf (g .lhs)) (left (used c))))
       (λ g f h. (varOf (g .lhs), g, f, reached-exactly c w t (varOf (g .lhs)) .0 h, refl)) (c .gates) (gates-found c (accepted c w)))))
 
   there : (u : ℕ) (g : Gate) → find u (c .gates) ≡ some g → Reached c u → has u (left (used c)) ≡ true
@@ -84,21 +84,19 @@ module _ (c : Circuit) (w : WellFormed c) (t : binaryOrder c ≡ true) where
       (of-lefts (reached c) (c .gates) u (gate-left u (c .gates) g f) (reached-exactly c w t u .1 r))
 
   -- so a gate is left exactly if it is reached
-  pub left-exactly : (v : ℕ) (g : Gate) → find v (c .gates) ≡ some g
+  pub retains-reached : (v : ℕ) (g : Gate) → find v (c .gates) ≡ some g
       → Reached c v ↔ (find (newNumber c v) (dropUnused c .gates) ≡ some (renumbered c v g))
-  left-exactly v g f = (gate-kept v g f, λ e. back (subst (FindSays (newNumber c v) (dropUnused c .gates)) e (find-says (newNumber c v) (dropUnused c .gates))))
+  retains-reached v g f =
+      let gs = dropUnused c .gates in
+      (gate-kept v g f, λ e. back (subst (FindSays (newNumber c v) gs) e (find-says (newNumber c v) gs)))
     where
       back : FindSays (newNumber c v) (dropUnused c .gates) (some (renumbered c v g)) → Reached c v
       back s =
-          let k = s .1 (λ h. Kept c (varOf (h .lhs))) only-reached in
+          let k = s .1 (λ h. ReachedGate c (varOf (h .lhs))) retains-only-reached in
           let same : v ≡ k .0 = same-place v (k .0) (left (used c)) (there (k .0) (k .1) (k .2) (k .3)) (sym (s .0) ∙ k .4) in
           subst (Reached c) (sym same) (k .3)
 
 -- what an accepted dropping was given
-made-none : (o : Option Refusal) (e : MakeEntry) (c : Circuit) (n : Counts) → madeBy o e c .answer ≡ made.Accepted n → o ≡ none
-made-none none e c n a = refl
-made-none (some r) e c n a = let z : _≡_ {A = ℕ} 0 1 = cc in absurd (omega arith)
-
 module _ (u : MakeCall dropping) where
   abbrev g : Given
   g = u .entry .circuit
@@ -108,7 +106,8 @@ module _ (u : MakeCall dropping) where
 
   passed : firstOf (stages g (lentWith g (u .entry .written)) ++ (orderStage g ∷ [])) ≡ none
   passed =
-      made-none (firstOf (stages g (lentWith g (u .entry .written)) ++ (orderStage g ∷ []))) (u .entry) (dropUnused before) (u .counts) (u .accepted)
+      made-none (λ o. madeBy o (u .entry) (dropUnused before) .answer) (λ r. refl)
+      (firstOf (stages g (lentWith g (u .entry .written)) ++ (orderStage g ∷ []))) (u .counts) (u .accepted)
 
   pub given-formed : WellFormed (given (u .entry .circuit))
   given-formed =
@@ -120,16 +119,17 @@ module _ (u : MakeCall dropping) where
       failing-none (binaryOrder before) (stage-none NotInOrder (failing (binaryOrder before)) (last .0))
 
   -- what it leaves has exactly the reached gates of what it was given, under their new numbers
-  pub call-left-exactly : (v : ℕ) (g : Gate) → find v (given (u .entry .circuit) .gates) ≡ some g
+  pub call-retains-exactly : (v : ℕ) (g : Gate) → find v (given (u .entry .circuit) .gates) ≡ some g
       → Reached (given (u .entry .circuit)) v
       ↔ (find (newNumber (given (u .entry .circuit)) v) (madeCircuit dropping u .gates) ≡ some (renumbered (given (u .entry .circuit)) v g))
-  call-left-exactly v h f =
+  call-retains-exactly v h f =
       subst (λ (d : Circuit). Reached before v ↔ (find (newNumber before v) (d .gates) ≡ some (renumbered before v h))) (sym (dropped-is u))
-      (left-exactly before given-formed given-in-order v h f)
+      (retains-reached before given-formed given-in-order v h f)
 
-  pub call-only-reached : AllG (λ h. Kept (given (u .entry .circuit)) (varOf (h .lhs))) (madeCircuit dropping u .gates)
-  call-only-reached =
-      subst (λ (d : Circuit). AllG (λ h. Kept before (varOf (h .lhs))) (d .gates)) (sym (dropped-is u)) (only-reached before given-formed given-in-order)
+  pub call-retains-only : AllG (λ h. ReachedGate (given (u .entry .circuit)) (varOf (h .lhs))) (madeCircuit dropping u .gates)
+  call-retains-only =
+      subst (λ (d : Circuit). AllG (λ h. ReachedGate before (varOf (h .lhs))) (d .gates)) (sym (dropped-is u))
+      (retains-only-reached before given-formed given-in-order)
 
   -- a second dropping of what it left changes nothing
   again : dropUnused (madeCircuit dropping u) ≡ madeCircuit dropping u

@@ -2,7 +2,7 @@
 -- report its three words to the number of rows.
 use Prim.Native.Nat.{ℕ, zero, suc, _+_, _-_, _*_, _<_}
 use mathlib.Core.Path.{_≡_, refl, sym, ap, _∙_}
-use mathlib.Core.Option.{Option, none, some}
+use mathlib.Core.Option.{Option, none}
 use mathlib.Core.List.{List, [], _∷_, _++_, append-assoc, map}
 use native.Mathlib.Nat.{mul-zero, mul-suc}
 use native.Mathlib.Decide.{decLt}
@@ -22,7 +22,7 @@ use Rattle.plan.specs.Report.{times, timesOf, numbersOf, outputAlong, latchAlon
 use Rattle.plan.specs.Rows.{rowSteps, rowReport, RowReportEntry, rowReportStage, reportedRows, reportRows}
 use Rattle.laws.proofs.Reading.Short.{short-none, first-long}
 use Rattle.laws.proofs.Running.Times.{all-counted}
-use Rattle.laws.proofs.Writing.Nothing.{first-both}
+use Rattle.laws.proofs.Writing.Nothing.{stepped-none, first-both}
 use Rattle.laws.proofs.Writing.Fine.{counts-given, nothing-fine, length-rows}
 
 -- word j of what is told of i, where w words are told of each
@@ -64,14 +64,6 @@ sixth-counts g needed six more f =
     counts-given g (short-none (lentAlone g) .1 (first-long (lentAlone g) (record { table = 6; needed = needed; words = length six } ∷ [])
     (short-none (lentSixth g needed six) .0 room)))
 
-report-none : (o : Option Refusal) (e : ReportEntry) → reportedBy o e .answer ≡ stepped.Done → o ≡ none
-report-none none e a = refl
-report-none (some r) e a = let z : _≡_ {A = ℕ} 0 1 = cc in absurd (omega arith)
-
-row-report-none : (o : Option Refusal) (e : RowReportEntry) → reportedRows o e .answer ≡ stepped.Done → o ≡ none
-row-report-none none e a = refl
-row-report-none (some r) e a = let z : _≡_ {A = ℕ} 0 1 = cc in absurd (omega arith)
-
 -- the first three words of a place
 abbrev pub threeAt : List ℕ → ℕ → ℕ
 threeAt table at = getD table at 0 + getD table (at + 1) 0 + getD table (at + 2) 0
@@ -87,7 +79,7 @@ module _ (e : ReportEntry) (done : report e .answer ≡ stepped.Done) where
   steps = run c (first c) (vectorsOf c (e .number) (e .bytes))
 
   passed : firstOf (reportStages e) ≡ none
-  passed = report-none (firstOf (reportStages e)) e done
+  passed = stepped-none (λ o. reportedBy o e .answer) (λ r. refl) (firstOf (reportStages e)) done
 
   counts : countsOf c ≡ g .counts
   counts =
@@ -160,7 +152,7 @@ module _ (e : RowReportEntry) (done : reportRows e .answer ≡ stepped.Done) whe
       let g = e .circuit in
       let c = given (e .circuit) in
       let all = sixthStages g (3 * g .counts .O) (e .report) ++ (rowReportStage e ∷ []) in
-      let passed = row-report-none (firstOf all) e done in
+      let passed = stepped-none (λ o. reportedRows o e .answer) (λ r. refl) (firstOf all) done in
       let counts = sixth-counts g (3 * g .counts .O) (e .report) (rowReportStage e ∷ []) passed in
       let steps = rowSteps c (e .rows) (e .inputs) in
       let l = outputAlong steps i in

@@ -26,7 +26,7 @@ use Rattle.plan.specs.Outcome.{ReadEntry, loadAs, FileEntry, FileExit, writeTex
 use Rattle.laws.proofs.Reading.Differences.{Bytes}
 use Rattle.laws.proofs.Reading.Exactly.{sound, formed, unique}
 use Rattle.laws.proofs.Reading.Versions.{states-by}
-use Rattle.laws.proofs.Reading.Trimmed.{NothingLeftOver, old-short, short-exactly-trimmed}
+use Rattle.laws.proofs.Reading.LeftOff.{ZerosLeftOff, stated-2007-shortest, shortest-exactly-left-off}
 use Rattle.laws.proofs.Running.Monotone.{Replaced, Kept}
 use Rattle.laws.proofs.Running.Runs.{Sized}
 use Rattle.laws.proofs.Running.WithoutX.{NoX, NoXs}
@@ -182,34 +182,34 @@ module _ (file : List ℕ) (c : Circuit) (tail : List ℕ) where
 
 -- a file in the shortest form, said of the read alone: every file that the reader of 2007 accepts, as nothing can be left off there, and every
 -- file of which no line ends in a 0 that may be left off
-abbrev pub ShortFile : ReadCall → Type 0
-ShortFile r = (r .version ≡ V2007) ⊎ ((s : States V19 (r .entry .file) (readCircuit r) (readTail r)) × NothingLeftOver s)
+abbrev pub InShortestForm : ReadCall → Type 0
+InShortestForm r = (r .version ≡ V2007) ⊎ ((s : States V19 (r .entry .file) (readCircuit r) (readTail r)) × ZerosLeftOff s)
 
-pub short-file : (r : ReadCall) → ShortFile r → Shortest (r .entry .file) (readCircuit r) (readTail r)
-short-file r (inl old) =
-    old-short (r .entry .file) (readCircuit r) (readTail r)
+pub shortest-read : (r : ReadCall) → InShortestForm r → Shortest (r .entry .file) (readCircuit r) (readTail r)
+shortest-read r (inl old) =
+    stated-2007-shortest (r .entry .file) (readCircuit r) (readTail r)
     (subst (λ (v : Version). States v (r .entry .file) (readCircuit r) (readTail r)) old (read-stated r))
-short-file r (inr stated) = short-exactly-trimmed (r .entry .file) (readCircuit r) (readTail r) (stated .0) .1 (stated .1)
+shortest-read r (inr stated) = shortest-exactly-left-off (r .entry .file) (readCircuit r) (readTail r) (stated .0) .1 (stated .1)
 
-module _ (r : ReadCall) (short : ShortFile r) where
-  pub binary-is-same : formIn (r .entry .file) ≡ binary
+module _ (r : ReadCall) (short : InShortestForm r) where
+  pub binary-same-bytes : formIn (r .entry .file) ≡ binary
       → (t : WriteCall writeText) → FromRead (t .entry .circuit) r → t .entry .tail ≡ readTail r
       → (r′ : ReadCall) → r′ .entry .file ≡ fileOf writeText t
       → (m : MakeCall conversion) → FromRead (m .entry .circuit) r′
       → (b : WriteCall writeBinary) → FromMade conversion (b .entry .circuit) m → b .entry .tail ≡ readTail r′
       → fileOf writeBinary b ≡ r .entry .file
-  binary-is-same form =
-      let f = binary-file (r .entry .file) (readCircuit r) (readTail r) form (short-file r short) (read-states r) in
+  binary-same-bytes form =
+      let f = binary-file (r .entry .file) (readCircuit r) (readTail r) form (shortest-read r short) (read-states r) in
       binary-again r (f .1) (f .0)
 
-  pub text-is-same : formIn (r .entry .file) ≡ text → binaryOrder (readCircuit r) ≡ true
+  pub text-same-bytes : formIn (r .entry .file) ≡ text → binaryOrder (readCircuit r) ≡ true
       → (m : MakeCall conversion) → FromRead (m .entry .circuit) r
       → (b : WriteCall writeBinary) → FromMade conversion (b .entry .circuit) m → b .entry .tail ≡ readTail r
       → (r′ : ReadCall) → r′ .entry .file ≡ fileOf writeBinary b
       → (t : WriteCall writeText) → FromRead (t .entry .circuit) r′ → t .entry .tail ≡ readTail r′
       → fileOf writeText t ≡ r .entry .file
-  text-is-same form order =
-      text-again r order (text-file (r .entry .file) (readCircuit r) (readTail r) form (short-file r short))
+  text-same-bytes form order =
+      text-again r order (text-file (r .entry .file) (readCircuit r) (readTail r) form (shortest-read r short))
 
 -- demand 3 of a read, a conversion and a reduction: whatever replaces x, at every step each output, bad state, constraint and
 -- latch, before and after, that was 0 or 1 is the same; without x in the list and the resets so is every step
@@ -217,7 +217,8 @@ pub demand-three-calls : (r : ReadCall) (m : MakeCall conversion) → FromRead (
     → (s : MakeCall reduction) → FromMade conversion (s .entry .circuit) m
     → (is js : List (List Value)) → Sized (length (readCircuit r .inputs)) is → Replaced is js
     → Kept (run (readCircuit r) (first (readCircuit r)) is) (run (madeCircuit reduction s) (first (madeCircuit reduction s)) js)
-    × (NoXs is → NoX (first (readCircuit r)) → run (readCircuit r) (first (readCircuit r)) is ≡ run (madeCircuit reduction s) (first (madeCircuit reduction s)) js)
+    × (NoXs is → NoX (first (readCircuit r))
+    → run (readCircuit r) (first (readCircuit r)) is ≡ run (madeCircuit reduction s) (first (madeCircuit reduction s)) js)
 demand-three-calls r m m-given s s-given is js sized replaced =
     let c = readCircuit r in
     let d-is : reduce (convert c) ≡ madeCircuit reduction s

@@ -7,6 +7,11 @@ use mathlib.Core.Option.{Option, none, some}
 use mathlib.Core.List.{List, [], _∷_, _++_, map}
 use native.Mathlib.Omega.{arith}
 use Rattle.plan.specs.declared.Refusal.{Refusal}
+use Rattle.plan.specs.declared.Counts.{Counts}
+use Rattle.plan.specs.declared.Made.{Made}
+use Rattle.plan.specs.declared.Made.the-variants as made
+use Rattle.plan.specs.declared.Stepped.{Stepped}
+use Rattle.plan.specs.declared.Stepped.the-variants as stepped
 use Rattle.plan.specs.Refusals.{stage, firstOf}
 use Rattle.plan.specs.Literals.{varOf, inRange}
 use Rattle.plan.specs.Circuit.{Circuit, oneLine, latchLine, gateLine, heads, vars, currents, lefts, definedIn, has, allNew, inside, allInside, resetsOk}
@@ -16,6 +21,19 @@ use Rattle.laws.proofs.Reading.Rows.{Long, map-long, new-both}
 
 pub some-none : {A B : Type 0} (a : A) → _≡_ {A = Option A} (some a) none → B
 some-none a e = let z : _≡_ {A = ℕ} 0 1 = cc in absurd (omega arith)
+
+-- an answer that is no refusal means that no stage refused: once for each kind of answer
+pub stepped-none : (by : Option Refusal → Stepped) → ((r : Refusal) → by (some r) ≡ stepped.Refused r) → (o : Option Refusal)
+    → by o ≡ stepped.Done → o ≡ none
+stepped-none by refuses none a = refl
+stepped-none by refuses (some r) a =
+    let same : stepped.Refused r ≡ stepped.Done = sym (refuses r) ∙ a in let z : _≡_ {A = ℕ} 0 1 = cc in absurd (omega arith)
+
+pub made-none : (by : Option Refusal → Made) → ((r : Refusal) → by (some r) ≡ made.Refused r) → (o : Option Refusal) (n : Counts)
+    → by o ≡ made.Accepted n → o ≡ none
+made-none by refuses none n a = refl
+made-none by refuses (some r) n a =
+    let same : made.Refused r ≡ made.Accepted n = sym (refuses r) ∙ a in let z : _≡_ {A = ℕ} 0 1 = cc in absurd (omega arith)
 
 -- stages that find nothing
 pub stage-none : (r : ℕ → Refusal) (o : Option ℕ) → stage r o ≡ none → o ≡ none

@@ -17,18 +17,18 @@ use Rattle.plan.specs.Programs.{lentWords, converter}
 use Rattle.laws.proofs.Reading.Differences.{Bytes}
 use Rattle.laws.proofs.Reading.Exactly.{sound, formed}
 use Rattle.laws.proofs.Reading.Versions.{states-more}
-use Rattle.laws.proofs.Reading.Trimmed.{NothingLeftOver, old-short, short-exactly-trimmed}
+use Rattle.laws.proofs.Reading.LeftOff.{ZerosLeftOff, stated-2007-shortest, shortest-exactly-left-off}
 use Rattle.laws.proofs.Writing.ThereAndBack.{inOtherForm, binary-converted, text-in-order, stated-tail, BackAgain, states-back, converter-back}
 use Rattle.laws.proofs.Writing.Calls.{binary-file}
 
 -- a file that 1.9 states
 module _ (file lengths : List ℕ) (c : Circuit) (tail : List ℕ) (s : States V19 file c tail) (room : Room c lengths) where
-  pub trimmed-back-again : NothingLeftOver s → binaryOrder c ≡ true → BackAgain file lengths
-  trimmed-back-again t o = states-back file lengths c tail s (short-exactly-trimmed file c tail s .1 t) room o
+  pub left-off-back-again : ZerosLeftOff s → binaryOrder c ≡ true → BackAgain file lengths
+  left-off-back-again t o = states-back file lengths c tail s (shortest-exactly-left-off file c tail s .1 t) room o
 
-  pub trimmed-binary-back-again : NothingLeftOver s → formIn file ≡ binary → BackAgain file lengths
-  trimmed-binary-back-again t form =
-      let short = short-exactly-trimmed file c tail s .1 t in
+  pub left-off-binary-back-again : ZerosLeftOff s → formIn file ≡ binary → BackAgain file lengths
+  left-off-binary-back-again t form =
+      let short = shortest-exactly-left-off file c tail s .1 t in
       states-back file lengths c tail s short room (binary-file file c tail form short s .1)
 
 -- a file that the reader of 2007 accepts, with room for the calls that follow
@@ -40,12 +40,12 @@ module _ (file lengths : List ℕ) (bytes : Bytes file) (c : Circuit) (start : �
   pub old-back-again : binaryOrder c ≡ true → BackAgain file lengths
   old-back-again o =
       let tail = drop start file in
-      states-back file lengths c tail (states-more file c tail stated) (old-short file c tail stated) room o
+      states-back file lengths c tail (states-more file c tail stated) (stated-2007-shortest file c tail stated) room o
 
   pub old-binary-back-again : formIn file ≡ binary → BackAgain file lengths
   old-binary-back-again form =
       let tail = drop start file in
-      old-back-again (binary-file file c tail form (old-short file c tail stated) (states-more file c tail stated) .1)
+      old-back-again (binary-file file c tail form (stated-2007-shortest file c tail stated) (states-more file c tail stated) .1)
 
 -- the converter, run on what it wrote of a binary file that 2007 accepts in its tables, where both files are as long as an input may be
 pub old-converter-back : (file : List ℕ) → Bytes file → (c : Circuit) (start : ℕ) → readFile V2007 file lentWords ≡ got c start → Room c lentWords
@@ -55,7 +55,7 @@ old-converter-back file bytes c start accepted room form h k =
     let tail = drop start file in
     let old = sound V2007 file lentWords bytes c start accepted .0 in
     let s = states-more file c tail old in
-    let f = binary-file file c tail form (old-short file c tail old) s in
+    let f = binary-file file c tail form (stated-2007-shortest file c tail old) s in
     let w = formed V19 file c tail s in
     let t = stated-tail file c tail s in
     let back : BackAgain file lentWords = record {

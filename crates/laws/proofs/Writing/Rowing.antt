@@ -2,7 +2,7 @@
 use Prim.Native.Nat.{ℕ, zero, suc, _+_, _*_, _≤_, _<_}
 use mathlib.Core.Path.{_≡_, refl, sym, ap, _∙_}
 use mathlib.Core.Bool.{true, _&&_}
-use mathlib.Core.Option.{Option, none, some}
+use mathlib.Core.Option.{Option, none}
 use mathlib.Core.List.{List, [], _∷_, _++_, map}
 use native.Mathlib.Nat.{zero-mul, suc-mul}
 use native.Mathlib.Omega.{arith}
@@ -24,7 +24,7 @@ use Rattle.plan.specs.Rows.{outputsOfRow, nextOfRow, rowSteps, manyRows, RowsEn
 use Rattle.laws.proofs.Reading.Common.{and-left, and-right, and-intro}
 use Rattle.laws.proofs.Running.Resets.{first-length}
 use Rattle.laws.proofs.Running.Runs.{next-length}
-use Rattle.laws.proofs.Writing.Nothing.{stage-none, at-none, failing-none, first-all, first-both, or-none}
+use Rattle.laws.proofs.Writing.Nothing.{stepped-none, stage-none, at-none, failing-none, first-all, first-both, or-none}
 use Rattle.laws.proofs.Writing.Fine.{Fine, counts-given, nothing-fine}
 use Rattle.laws.proofs.Writing.Later.{Left}
 use Rattle.laws.proofs.Writing.Accepting.{step-done}
@@ -63,10 +63,6 @@ codes-drop zero l h = h
 codes-drop (suc k) [] h = refl
 codes-drop (suc k) (b ∷ l) h = codes-drop k l (and-right (isCode b) _ h)
 
-rows-none : (o : Option Refusal) (e : RowsEntry) → steppedRows o e .answer ≡ stepped.Done → o ≡ none
-rows-none none e a = refl
-rows-none (some r) e a = let z : _≡_ {A = ℕ} 0 1 = cc in absurd (omega arith)
-
 room-in : (k n i len : ℕ) → k < n → len ≡ n * i → k * i + i ≤ len
 room-in k zero i len h e = absurd (omega arith)
 room-in zero (suc n) i len h e = omega (arith, zero-mul i, suc-mul n i)
@@ -83,7 +79,7 @@ module _ (e : RowsEntry) (done : stepRows e .answer ≡ stepped.Done) where
   c = given (e .circuit)
 
   passed : firstOf (inOrderThen g (rowStage e ∷ [])) ≡ none
-  passed = rows-none (firstOf (inOrderThen g (rowStage e ∷ []))) e done
+  passed = stepped-none (λ o. steppedRows o e .answer) (λ r. refl) (firstOf (inOrderThen g (rowStage e ∷ []))) done
 
   tables-pass : firstOf (stages g (lentAlone g)) ≡ none
   tables-pass = first-both (stages g (lentAlone g)) (orderStage g ∷ rowStage e ∷ []) passed .0

@@ -9,7 +9,7 @@ use Rattle.plan.specs.declared.Stepped.the-variants as stepped
 use Rattle.plan.specs.Circuit.{Circuit}
 use Rattle.plan.specs.Reading.{WellFormed}
 use Rattle.plan.specs.Binary.{binaryOrder}
-use Rattle.plan.specs.Given.{Given, given}
+use Rattle.plan.specs.Given.{Given}
 use Rattle.plan.specs.Convert.{convert}
 use Rattle.plan.specs.Reduce.{reduce}
 use Rattle.plan.specs.Step.{Value, codeOf, Step, run, first}
@@ -24,7 +24,7 @@ use Rattle.laws.proofs.Running.Unchanged.{convert-same}
 use Rattle.laws.proofs.Running.DemandThree.{demand-three}
 use Rattle.laws.proofs.Writing.Later.{Left, conversion-left, reduction-left}
 use Rattle.laws.proofs.Writing.Stepping.{steps, exitOf, steps-run}
-use Rattle.laws.proofs.Writing.Calls.{ReadCall, MakeCall, readCircuit, FromRead, FromMade, from-read, from-made, read-formed, converted-is}
+use Rattle.laws.proofs.Writing.Calls.{ReadCall, MakeCall, readCircuit, madeCircuit, FromRead, FromMade, from-read, from-made, read-formed, converted-is}
 use Rattle.laws.proofs.Writing.KeptBytes.{KeptBytes, kept-codes}
 
 -- what a conversion or a reduction left, as a later call is handed it
@@ -58,77 +58,110 @@ shown-exits : (g h : Given) (xs : List Step) → map shown (map (exitOf g) xs) �
 shown-exits g h [] = refl
 shown-exits g h (x ∷ xs) = ap (λ (l : List Shown). shown (exitOf g x) ∷ l) (shown-exits g h xs)
 
-module _ (r : ReadCall) (m : MakeCall conversion) (m-given : FromRead (m .entry .circuit) r)
-    (s : MakeCall reduction) (s-given : FromMade conversion (s .entry .circuit) m) where
-  abbrev c : Circuit
-  c = readCircuit r
+-- the stepper's calls on a list of vectors, from the resets of a circuit
+abbrev pub stepsFrom : Circuit → Given → List ℕ → List (List Value) → List StepExit
+stepsFrom c g outs is = steps g outs (map codeOf (first c)) (map (map codeOf) is)
 
-  w : WellFormed (convert (readCircuit r))
-  w = convert-well-formed (readCircuit r) (read-formed r)
+-- a circuit that a later call left, as the stepper asks for it, with the inputs, outputs and resets of an earlier one
+pub record Follows (d e : Circuit) (g : Given) : Type 0 where
+  pub left : Left g e
+  pub order : binaryOrder e ≡ true
+  pub formed : WellFormed e
+  pub inputs : length (e .inputs) ≡ length (d .inputs)
+  pub outputs : length (e .outputs) ≡ length (d .outputs)
+  pub begins : first e ≡ first d
 
-  o : binaryOrder (convert (readCircuit r)) ≡ true
-  o = convert-in-order (readCircuit r) (read-formed r)
+module _ (r : ReadCall) (m : MakeCall conversion) (m-given : FromRead (m .entry .circuit) r) where
+  abbrev d : Circuit
+  d = convert (readCircuit r)
 
-  m-is : convert (given (m .entry .circuit)) ≡ convert c
-  m-is = ap convert (from-read (m .entry .circuit) r m-given)
+  pub converted-formed : WellFormed (convert (readCircuit r))
+  converted-formed = convert-well-formed (readCircuit r) (read-formed r)
 
-  s-is : reduce (given (s .entry .circuit)) ≡ reduce (convert c)
-  s-is = ap reduce (from-made conversion (s .entry .circuit) m s-given ∙ (converted-is m ∙ m-is))
+  pub converted-order : binaryOrder (convert (readCircuit r)) ≡ true
+  converted-order = convert-in-order (readCircuit r) (read-formed r)
 
-  converted-left : Left (leftBy conversion m) (convert c)
-  converted-left = subst (Left (leftBy conversion m)) m-is (conversion-left (m .entry) (m .counts) (m .accepted) .0)
+  pub converted-from : madeCircuit conversion m ≡ convert (readCircuit r)
+  converted-from = converted-is m ∙ ap convert (from-read (m .entry .circuit) r m-given)
 
-  reduced-left : Left (leftBy reduction s) (reduce (convert c))
-  reduced-left = subst (Left (leftBy reduction s)) s-is (reduction-left (s .entry) (s .counts) (s .accepted) .0)
+  converted-left : Left (leftBy conversion m) d
+  converted-left =
+      subst (Left (leftBy conversion m)) (ap convert (from-read (m .entry .circuit) r m-given)) (conversion-left (m .entry) (m .counts) (m .accepted) .0)
 
-  inputs-are : length (convert (readCircuit r) .inputs) ≡ length (readCircuit r .inputs)
+  inputs-are : length (d .inputs) ≡ length (readCircuit r .inputs)
   inputs-are = ap (λ (n : Counts). n .I) (counts-convert (readCircuit r) (read-formed r))
 
-  outputs-are : length (convert (readCircuit r) .outputs) ≡ length (readCircuit r .outputs)
+  outputs-are : length (d .outputs) ≡ length (readCircuit r .outputs)
   outputs-are = ap (λ (n : Counts). n .O) (counts-convert (readCircuit r) (read-formed r))
+
+  pub converted-sized : (is : List (List Value)) → Sized (length (readCircuit r .inputs)) is → Sized (length (convert (readCircuit r) .inputs)) is
+  converted-sized is = subst (λ (n : ℕ). Sized n is) (sym inputs-are)
+
+  -- beside a circuit that follows, on a list in which any x is replaced
+  module _ (e : Circuit) (g : Given) (follows : Follows d e g) (is js : List (List Value)) (sized : Sized (length (readCircuit r .inputs)) is)
+      (replaced : Replaced is js) (outs outs′ : List ℕ) (room : length outs ≡ length (readCircuit r .outputs))
+      (room′ : length outs′ ≡ length (readCircuit r .outputs)) where
+    start : first d ≡ first (readCircuit r)
+    start = first-convert (readCircuit r)
+
+    converted-steps : stepsFrom (readCircuit r) (leftBy conversion m) outs is ≡ map (exitOf (leftBy conversion m)) (run d (first d) is)
+    converted-steps =
+        ap (λ (t : List Value). steps (leftBy conversion m) outs (map codeOf t) (map (map codeOf) is)) (sym start)
+        ∙ steps-run (leftBy conversion m) d converted-left converted-order outs (room ∙ sym outputs-are) is (converted-sized is sized) (first d)
+        (first-length d converted-formed)
+
+    later-steps : stepsFrom (readCircuit r) g outs′ js ≡ map (exitOf g) (run e (first d) js)
+    later-steps =
+        ap (λ (t : List Value). steps g outs′ (map codeOf t) (map (map codeOf) js)) (sym start)
+        ∙ steps-run g e (follows .left) (follows .order) outs′ (room′ ∙ sym (follows .outputs ∙ outputs-are)) js
+        (subst (λ (n : ℕ). Sized n js) (sym (follows .inputs)) (replaced-sized (length (d .inputs)) is js replaced (converted-sized is sized)))
+        (first d) (sym (ap length (follows .begins)) ∙ first-length e (follows .formed))
+
+    pub later-kept : Kept (run d (first d) is) (run e (first d) js)
+        → KeptSteps (stepsFrom (readCircuit r) (leftBy conversion m) outs is) (stepsFrom (readCircuit r) g outs′ js)
+    later-kept kept =
+        subst₂ KeptSteps (sym converted-steps) (sym later-steps) (kept-exits (leftBy conversion m) g (run d (first d) is) (run e (first d) js) kept)
+
+    pub later-same : (NoX (first d) → run d (first d) is ≡ run e (first d) js) → NoX (first (readCircuit r))
+        → map shown (stepsFrom (readCircuit r) (leftBy conversion m) outs is) ≡ map shown (stepsFrom (readCircuit r) g outs′ js)
+    later-same same f =
+        ap (map shown) converted-steps
+        ∙ (shown-exits (leftBy conversion m) g (run d (first d) is)
+        ∙ (ap (λ (l : List Step). map shown (map (exitOf g) l)) (same (subst NoX (sym start) f)) ∙ ap (map shown) (sym later-steps)))
+
+module _ (r : ReadCall) (m : MakeCall conversion) (m-given : FromRead (m .entry .circuit) r)
+    (s : MakeCall reduction) (s-given : FromMade conversion (s .entry .circuit) m) where
+  -- what the reduction left
+  follows : Follows (d r m m-given) (reduce (d r m m-given)) (leftBy reduction s)
+  follows = record {
+    left =
+        subst (Left (leftBy reduction s)) (ap reduce (from-made conversion (s .entry .circuit) m s-given ∙ converted-from r m m-given))
+        (reduction-left (s .entry) (s .counts) (s .accepted) .0);
+    order = reduce-in-order (d r m m-given) (converted-formed r m m-given) (converted-order r m m-given);
+    formed = reduce-well-formed (d r m m-given) (converted-formed r m m-given) (converted-order r m m-given);
+    inputs = ap (λ (n : Counts). n .I) (counts-reduce (d r m m-given));
+    outputs = ap (λ (n : Counts). n .O) (counts-reduce (d r m m-given));
+    begins = refl;
+  }
 
   module _ (is js : List (List Value)) (sized : Sized (length (readCircuit r .inputs)) is) (replaced : Replaced is js)
       (outs outs′ : List ℕ) (room : length outs ≡ length (readCircuit r .outputs)) (room′ : length outs′ ≡ length (readCircuit r .outputs)) where
-    abbrev d : Circuit
-    d = convert (readCircuit r)
+    abbrev c : Circuit
+    c = convert (readCircuit r)
 
-    is-sized : Sized (length (d .inputs)) is
-    is-sized = subst (λ (n : ℕ). Sized n is) (sym inputs-are) sized
-
-    runs : Kept (run d (first d) is) (run (reduce d) (first d) js) × (NoXs is → NoX (first d) → run d (first d) is ≡ run (reduce d) (first d) js)
+    runs : Kept (run c (first c) is) (run (reduce c) (first c) js) × (NoXs is → NoX (first c) → run c (first c) is ≡ run (reduce c) (first c) js)
     runs =
-        subst (λ (e : Circuit). Kept (run d (first d) is) (run (reduce e) (first e) js) × (NoXs is → NoX (first d) → run d (first d) is ≡ run (reduce e) (first e) js))
-        (convert-same d w o) (demand-three d w is js is-sized replaced)
-
-    converted-steps : steps (leftBy conversion m) outs (map codeOf (first (readCircuit r))) (map (map codeOf) is)
-        ≡ map (exitOf (leftBy conversion m)) (run d (first d) is)
-    converted-steps =
-        ap (λ (t : List Value). steps (leftBy conversion m) outs (map codeOf t) (map (map codeOf) is)) (sym (first-convert (readCircuit r)))
-        ∙ steps-run (leftBy conversion m) d converted-left o outs (room ∙ sym outputs-are) is is-sized (first d) (first-length d w)
-
-    reduced-steps : steps (leftBy reduction s) outs′ (map codeOf (first (readCircuit r))) (map (map codeOf) js)
-        ≡ map (exitOf (leftBy reduction s)) (run (reduce d) (first d) js)
-    reduced-steps =
-        ap (λ (t : List Value). steps (leftBy reduction s) outs′ (map codeOf t) (map (map codeOf) js)) (sym (first-convert (readCircuit r)))
-        ∙ steps-run (leftBy reduction s) (reduce d) reduced-left (reduce-in-order d w o) outs′
-        (room′ ∙ sym (ap (λ (n : Counts). n .O) (counts-reduce d) ∙ outputs-are)) js
-        (subst (λ (n : ℕ). Sized n js) (sym (ap (λ (n : Counts). n .I) (counts-reduce d))) (replaced-sized (length (d .inputs)) is js replaced is-sized))
-        (first d) (first-length (reduce d) (reduce-well-formed d w o))
+        subst (λ (e : Circuit). Kept (run c (first c) is) (run (reduce e) (first e) js)
+        × (NoXs is → NoX (first c) → run c (first c) is ≡ run (reduce e) (first e) js))
+        (convert-same c (converted-formed r m m-given) (converted-order r m m-given))
+        (demand-three c (converted-formed r m m-given) is js (converted-sized r m m-given is sized) replaced)
 
     -- the converted circuit stepped on one list, the reduced one on a list in which any x is replaced, both from the resets: each byte of the
     -- outputs and of the state that was not "x" is the same, and no call refuses
-    pub demand-three-steps : KeptSteps (steps (leftBy conversion m) outs (map codeOf (first (readCircuit r))) (map (map codeOf) is))
-        (steps (leftBy reduction s) outs′ (map codeOf (first (readCircuit r))) (map (map codeOf) js))
-    demand-three-steps =
-        subst₂ KeptSteps (sym converted-steps) (sym reduced-steps)
-        (kept-exits (leftBy conversion m) (leftBy reduction s) (run d (first d) is) (run (reduce d) (first d) js) (runs .0))
+    pub demand-three-steps : KeptSteps (stepsFrom (readCircuit r) (leftBy conversion m) outs is) (stepsFrom (readCircuit r) (leftBy reduction s) outs′ js)
+    demand-three-steps = later-kept r m m-given (reduce c) (leftBy reduction s) follows is js sized replaced outs outs′ room room′ (runs .0)
 
     -- without x in the list and the resets all bytes are the same
     pub same-steps : NoXs is → NoX (first (readCircuit r))
-        → map shown (steps (leftBy conversion m) outs (map codeOf (first (readCircuit r))) (map (map codeOf) is))
-        ≡ map shown (steps (leftBy reduction s) outs′ (map codeOf (first (readCircuit r))) (map (map codeOf) js))
-    same-steps x f =
-        ap (map shown) converted-steps
-        ∙ (shown-exits (leftBy conversion m) (leftBy reduction s) (run d (first d) is)
-        ∙ (ap (λ (l : List Step). map shown (map (exitOf (leftBy reduction s)) l)) (runs .1 x (subst NoX (sym (first-convert (readCircuit r))) f))
-        ∙ ap (map shown) (sym reduced-steps)))
+        → map shown (stepsFrom (readCircuit r) (leftBy conversion m) outs is) ≡ map shown (stepsFrom (readCircuit r) (leftBy reduction s) outs′ js)
+    same-steps x = later-same r m m-given (reduce c) (leftBy reduction s) follows is js sized replaced outs outs′ room room′ (runs .1 x)

@@ -30,44 +30,45 @@ use Rattle.laws.proofs.Reading.Headers.{header-took}
 use Rattle.laws.proofs.Reading.Exactly.{sound, complete, formed, unique, form-in, work-read}
 use Rattle.laws.proofs.Reading.Shortest.{states-text, states-binary}
 use Rattle.laws.proofs.Reading.Versions.{states-more}
-use Rattle.laws.proofs.Reading.Trimmed.{NothingLeftOver, old-short, short-exactly-trimmed}
+use Rattle.laws.proofs.Reading.LeftOff.{ZerosLeftOff, stated-2007-shortest, shortest-exactly-left-off}
 use Rattle.laws.proofs.Running.Unchanged.{convert-same}
 use Rattle.laws.proofs.Writing.ThereAndBack.{stated-tail}
 use Rattle.laws.proofs.Writing.Calls.{binary-file, text-file}
 
 -- a file in the shortest form, said of its bytes alone
-abbrev pub ShortStated : List ℕ → Type 0
-ShortStated file =
-    ((c : Circuit) × (tail : List ℕ) × States V2007 file c tail) ⊎ ((c : Circuit) × (tail : List ℕ) × (s : States V19 file c tail) × NothingLeftOver s)
+abbrev pub ShortestForm : List ℕ → Type 0
+ShortestForm file =
+    ((c : Circuit) × (tail : List ℕ) × States V2007 file c tail) ⊎ ((c : Circuit) × (tail : List ℕ) × (s : States V19 file c tail) × ZerosLeftOff s)
 
-pub short-stated : (file : List ℕ) → ShortStated file → (c : Circuit) (tail : List ℕ) → States V19 file c tail → Shortest file c tail
-short-stated file (inl h) c tail s =
+pub shortest-form : (file : List ℕ) → ShortestForm file → (c : Circuit) (tail : List ℕ) → States V19 file c tail → Shortest file c tail
+shortest-form file (inl h) c tail s =
     let u = unique V19 file (h .0) c (h .1) tail (states-more file (h .0) (h .1) (h .2)) s in
-    subst₂ (Shortest file) (u .0) (u .1) (old-short file (h .0) (h .1) (h .2))
-short-stated file (inr h) c tail s =
+    subst₂ (Shortest file) (u .0) (u .1) (stated-2007-shortest file (h .0) (h .1) (h .2))
+shortest-form file (inr h) c tail s =
     let u = unique V19 file (h .0) c (h .1) tail (h .2) s in
-    subst₂ (Shortest file) (u .0) (u .1) (short-exactly-trimmed file (h .0) (h .1) (h .2) .1 (h .3))
+    subst₂ (Shortest file) (u .0) (u .1) (shortest-exactly-left-off file (h .0) (h .1) (h .2) .1 (h .3))
 
--- an accepted conversion of a whole file, and the file that it leaves
-pub record WholeCall : Type 0 where
+-- an accepted call on a whole file, and the file that it leaves
+pub record WholeCall (f : WholeEntry → WholeExit) : Type 0 where
   pub entry : WholeEntry
   pub file : List ℕ
   pub plan : entry .plan ≡ some file
   pub bytes : Bytes file
   pub size : ℕ
-  pub accepted : convertWhole entry .answer ≡ written.Bytes size
+  pub accepted : f entry .answer ≡ written.Bytes size
 
-abbrev pub wholeFile : WholeCall → List ℕ
-wholeFile k = take (k .size) (convertWhole (k .entry) .out)
+abbrev pub wholeFile : (f : WholeEntry → WholeExit) → WholeCall f → List ℕ
+wholeFile f k = take (k .size) (f (k .entry) .out)
 
-whole-got : (e : WholeEntry) (p : Parse (List ℕ)) (n : ℕ) → wholeBy e p .answer ≡ written.Bytes n
+pub whole-got : (e : WholeEntry) (p : Parse (List ℕ)) (n : ℕ) → wholeBy e p .answer ≡ written.Bytes n
     → (b : List ℕ) × (m : ℕ) × (p ≡ got b m) × (take n (wholeBy e p .out) ≡ b)
 whole-got e (got b m) n a =
     let n-is : n ≡ length b = cc in
     (b, m, refl, ap (λ (x : ℕ). take x (wholeBy e (got b m) .out)) n-is ∙ put-first (e .out) b)
 whole-got e (refused r) n a = let z : _≡_ {A = ℕ} 0 1 = cc in absurd (omega arith)
 
-whole-says : (k : WholeCall) → (c : Circuit) × (tail : List ℕ) × States V19 (k .file) c tail × (wholeFile k ≡ otherForm (formIn (k .file)) c ++ tail)
+whole-says : (k : WholeCall convertWhole)
+    → (c : Circuit) × (tail : List ℕ) × States V19 (k .file) c tail × (wholeFile convertWhole k ≡ otherForm (formIn (k .file)) c ++ tail)
 whole-says k =
     let e = k .entry in
     let file = k .file in
@@ -90,14 +91,14 @@ whole-says k =
           ∙ ap (λ (f : Form). otherForm f (t1 .0) ++ drop (t1 .1) file) (sym form)),
     )
 
-module _ (k k′ : WholeCall) (handed : k′ .file ≡ wholeFile k) (short : ShortStated (k .file)) where
+module _ (k k′ : WholeCall convertWhole) (handed : k′ .file ≡ wholeFile convertWhole k) (short : ShortestForm (k .file)) where
   -- a binary file, converted and converted again
-  pub whole-binary-back : formIn (k .file) ≡ binary → wholeFile k′ ≡ k .file
+  pub whole-binary-back : formIn (k .file) ≡ binary → wholeFile convertWhole k′ ≡ k .file
   whole-binary-back form =
       let x = whole-says k in
       let c = x .0 in
       let tail = x .1 in
-      let f = binary-file (k .file) c tail form (short-stated (k .file) short c tail (x .2)) (x .2) in
+      let f = binary-file (k .file) c tail form (shortest-form (k .file) short c tail (x .2)) (x .2) in
       let there : k′ .file ≡ textOf c ++ tail = handed ∙ (x .3 ∙ ap (λ (g : Form). otherForm g c ++ tail) form) in
       let w = formed V19 (k .file) c tail (x .2) in
       let y = whole-says k′ in
@@ -109,12 +110,12 @@ module _ (k k′ : WholeCall) (handed : k′ .file ≡ wholeFile k) (short : Sho
 
   -- a text file of a circuit in binary order, converted and converted again
   pub whole-text-back : formIn (k .file) ≡ text → ((c : Circuit) (tail : List ℕ) → States V19 (k .file) c tail → binaryOrder c ≡ true)
-      → wholeFile k′ ≡ k .file
+      → wholeFile convertWhole k′ ≡ k .file
   whole-text-back form order =
       let x = whole-says k in
       let c = x .0 in
       let tail = x .1 in
-      let f = text-file (k .file) c tail form (short-stated (k .file) short c tail (x .2)) in
+      let f = text-file (k .file) c tail form (shortest-form (k .file) short c tail (x .2)) in
       let o = order c tail (x .2) in
       let w = formed V19 (k .file) c tail (x .2) in
       let there : k′ .file ≡ binaryOf c ++ tail
@@ -125,54 +126,76 @@ module _ (k k′ : WholeCall) (handed : k′ .file ≡ wholeFile k) (short : Sho
       y .3 ∙ (ap (λ (g : Form). otherForm g (y .0) ++ y .1) (ap formIn there)
       ∙ (ap₂ (λ (d : Circuit) (t : List ℕ). textOf d ++ t) (u .0) (u .1) ∙ sym f))
 
+-- bytes that fit
+pub fitting-done : (out bytes : List ℕ) → length bytes ≤ length out → fittingIn out bytes ≡ got bytes (length bytes)
+fitting-done out bytes h = let long : 0 + length bytes ≤ length out = omega arith in rw (le-leb (0 + length bytes) (length out) long)
+
+-- an input that can be read and is not too long
+pub input-done : (plan : Option (List ℕ)) (file : List ℕ) (f : List ℕ → Parse (List ℕ)) → plan ≡ some file → length file ≤ 65536 → input plan f ≡ f file
+input-done plan file f e h =
+    ap (λ (o : Option (List ℕ)). input o f) e ∙ ap (λ (b : Bool). cond b (f file) (refused (LongInput 65536))) (le-leb (length file) 65536 h)
+
 -- with room: a whole file that states a circuit and a tail is converted, and the bytes stand in the buffer, all else as it was
 pub whole-done : (e : WholeEntry) (file : List ℕ) → e .plan ≡ some file → length file ≤ 65536 → (c : Circuit) (tail : List ℕ) → States V19 file c tail
     → RoomToRead file c (lengthsOf (e .read) (e .scratch)) → Room c (lengthsOf (e .made) (e .scratch))
     → length (otherForm (formIn file) c ++ tail) ≤ length (e .out)
     → let bytes = otherForm (formIn file) c ++ tail in convertWhole e ≡ wholeBy e (got bytes (length bytes))
 whole-done e file plan fits c tail s to-read to-work space =
-    let lens = lengthsOf (e .read) (e .scratch) in
-    let a = complete V19 file lens c tail s to-read in
+    let a = complete V19 file (lengthsOf (e .read) (e .scratch)) c tail s to-read in
     let t = then-got (header V19 file 0) _ c (a .0) (a .1) in
     let h = header-took file V19 0 (t .0) (t .1) (t .2) in
     let form : formIn file ≡ t .0 .form = form-in file (t .0 .form) (h .0) _ (h .1) in
     let same : otherForm (t .0 .form) c ++ drop (a .0) file ≡ otherForm (formIn file) c ++ tail
     = ap₂ (λ (f : Form) (l : List ℕ). otherForm f c ++ l) (sym form) (a .2) in
     let read : loaded e file ≡ got c (a .0) = rw (a .1, to-work) in
-    let fit : fittingIn (e .out) (otherForm (formIn file) c ++ tail) ≡ got (otherForm (formIn file) c ++ tail) (length (otherForm (formIn file) c ++ tail))
-    = fitting-done (e .out) (otherForm (formIn file) c ++ tail) space in
-    ap (wholeBy e) (ap (λ (o : Option (List ℕ)). input o (rest e)) plan ∙ (ap (λ (b : Bool). cond b (rest e file) (refused (LongInput 65536))) (le-leb (length file) 65536 fits)
+    ap (wholeBy e) (input-done (e .plan) file (rest e) plan fits
     ∙ (ap₂ (λ (p : Parse Circuit) (q : Parse Head). p then λ c start. q then λ h _. fittingIn (e .out) (otherForm (h .form) c ++ drop start file)) read (t .2)
-    ∙ (ap (fittingIn (e .out)) same ∙ fit))))
+    ∙ (ap (fittingIn (e .out)) same ∙ fitting-done (e .out) (otherForm (formIn file) c ++ tail) space)))
   where
     rest : WholeEntry → List ℕ → Parse (List ℕ)
     rest e file = loaded e file then λ c start. header V19 file 0 then λ h _. fittingIn (e .out) (otherForm (h .form) c ++ drop start file)
 
-    fitting-done : (out bytes : List ℕ) → length bytes ≤ length out → fittingIn out bytes ≡ got bytes (length bytes)
-    fitting-done out bytes h = let long : 0 + length bytes ≤ length out = omega arith in rw (le-leb (0 + length bytes) (length out) long)
-
--- a binary file, converted and converted again with room: neither call refuses, and the last buffer holds the file, all else as it was
-pub whole-binary-with-room : (e : WholeEntry) (file : List ℕ) → e .plan ≡ some file → length file ≤ 65536 → (c : Circuit) (tail : List ℕ)
-    → States V19 file c tail → ShortStated file → formIn file ≡ binary
-    → RoomToRead file c (lengthsOf (e .read) (e .scratch)) → Room c (lengthsOf (e .made) (e .scratch)) → length (textOf c ++ tail) ≤ length (e .out)
-    → (convertWhole e .answer ≡ written.Bytes (length (textOf c ++ tail)))
-    × ((e′ : WholeEntry) → e′ .plan ≡ some (take (length (textOf c ++ tail)) (convertWhole e .out)) → length (textOf c ++ tail) ≤ 65536
-    → RoomToRead (textOf c ++ tail) c (lengthsOf (e′ .read) (e′ .scratch)) → Room c (lengthsOf (e′ .made) (e′ .scratch)) → length file ≤ length (e′ .out)
+-- converted to `there` and converted again, with room: neither call refuses, and the last buffer holds the file, all else as it was
+abbrev pub WholeAndBack : WholeEntry → List ℕ → List ℕ → Circuit → Type 0
+WholeAndBack e file there c =
+    (convertWhole e .answer ≡ written.Bytes (length there))
+    × ((e′ : WholeEntry) → e′ .plan ≡ some (take (length there) (convertWhole e .out)) → length there ≤ 65536
+    → RoomToRead there c (lengthsOf (e′ .read) (e′ .scratch)) → Room c (lengthsOf (e′ .made) (e′ .scratch)) → length file ≤ length (e′ .out)
     → convertWhole e′ ≡ wholeBy e′ (got file (length file)))
-whole-binary-with-room e file plan fits c tail s short form to-read to-work space =
-    let there : otherForm (formIn file) c ++ tail ≡ textOf c ++ tail = ap (λ (g : Form). otherForm g c ++ tail) form in
-    let first : convertWhole e ≡ wholeBy e (got (textOf c ++ tail) (length (textOf c ++ tail)))
-    = whole-done e file plan fits c tail s to-read to-work (subst (λ (l : List ℕ). length l ≤ length (e .out)) (sym there) space)
-    ∙ ap (λ (l : List ℕ). wholeBy e (got l (length l))) there in
-    let out : take (length (textOf c ++ tail)) (convertWhole e .out) ≡ textOf c ++ tail
-    = ap (λ (x : WholeExit). take (length (textOf c ++ tail)) (x .out)) first ∙ put-first (e .out) (textOf c ++ tail) in
-    let w = formed V19 file c tail s in
-    let f = binary-file file c tail form (short-stated file short c tail s) s in
-    let back : binaryOf (convert c) ++ tail ≡ file = ap (λ (d : Circuit). binaryOf d ++ tail) (convert-same c w (f .1)) ∙ sym (f .0) in (
-      ap (λ (x : WholeExit). x .answer) first,
-      λ e′ plan′ fits′ to-read′ to-work′ space′.
-          whole-done e′ (textOf c ++ tail) (plan′ ∙ ap some out) fits′ c tail
-          (states-text (textOf c ++ tail) c tail w (stated-tail file c tail s) refl) to-read′ to-work′
-          (subst (λ (l : List ℕ). length l ≤ length (e′ .out)) (sym back) space′)
-          ∙ ap (λ (l : List ℕ). wholeBy e′ (got l (length l))) back,
-    )
+
+module _ (e : WholeEntry) (file : List ℕ) (plan : e .plan ≡ some file) (fits : length file ≤ 65536) (c : Circuit) (tail : List ℕ)
+    (s : States V19 file c tail) (to-read : RoomToRead file c (lengthsOf (e .read) (e .scratch))) (to-work : Room c (lengthsOf (e .made) (e .scratch))) where
+  and-back : (there : List ℕ) → otherForm (formIn file) c ++ tail ≡ there → States V19 there c tail → otherForm (formIn there) c ++ tail ≡ file
+      → length there ≤ length (e .out) → WholeAndBack e file there c
+  and-back there is s′ back space =
+      let first : convertWhole e ≡ wholeBy e (got there (length there))
+      = whole-done e file plan fits c tail s to-read to-work (subst (λ (l : List ℕ). length l ≤ length (e .out)) (sym is) space)
+      ∙ ap (λ (l : List ℕ). wholeBy e (got l (length l))) is in
+      let out : take (length there) (convertWhole e .out) ≡ there
+      = ap (λ (x : WholeExit). take (length there) (x .out)) first ∙ put-first (e .out) there in (
+        ap (λ (x : WholeExit). x .answer) first,
+        λ e′ plan′ fits′ to-read′ to-work′ space′.
+            whole-done e′ there (plan′ ∙ ap some out) fits′ c tail s′ to-read′ to-work′
+            (subst (λ (l : List ℕ). length l ≤ length (e′ .out)) (sym back) space′)
+            ∙ ap (λ (l : List ℕ). wholeBy e′ (got l (length l))) back,
+      )
+
+  -- a binary file
+  pub whole-binary-with-room : ShortestForm file → formIn file ≡ binary → length (textOf c ++ tail) ≤ length (e .out)
+      → WholeAndBack e file (textOf c ++ tail) c
+  whole-binary-with-room short form =
+      let w = formed V19 file c tail s in
+      let f = binary-file file c tail form (shortest-form file short c tail s) s in
+      and-back (textOf c ++ tail) (ap (λ (g : Form). otherForm g c ++ tail) form)
+      (states-text (textOf c ++ tail) c tail w (stated-tail file c tail s) refl)
+      (ap (λ (d : Circuit). binaryOf d ++ tail) (convert-same c w (f .1)) ∙ sym (f .0))
+
+  -- a text file of a circuit in binary order
+  pub whole-text-with-room : ShortestForm file → formIn file ≡ text → binaryOrder c ≡ true → length (binaryOf c ++ tail) ≤ length (e .out)
+      → WholeAndBack e file (binaryOf c ++ tail) c
+  whole-text-with-room short form order =
+      let w = formed V19 file c tail s in
+      and-back (binaryOf c ++ tail)
+      (ap (λ (g : Form). otherForm g c ++ tail) form ∙ ap (λ (d : Circuit). binaryOf d ++ tail) (convert-same c w order))
+      (states-binary (binaryOf c ++ tail) c tail w (stated-tail file c tail s) refl order)
+      (sym (text-file file c tail form (shortest-form file short c tail s)))

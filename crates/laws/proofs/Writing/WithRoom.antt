@@ -3,7 +3,7 @@
 use Prim.Native.Nat.{ℕ, zero, suc, _+_, _-_, _≤_}
 use mathlib.Core.Path.{_≡_, refl, sym, ap, ap₂, _∙_, subst, subst₂}
 use mathlib.Core.Bool.{true}
-use mathlib.Core.Option.{Option, none, some}
+use mathlib.Core.Option.{Option, none}
 use mathlib.Core.List.{List, [], _∷_, _++_, map}
 use native.Mathlib.Omega.{arith}
 use lib.ListN.{length, getD, take, drop, replicate, length-append}
@@ -29,40 +29,41 @@ use Rattle.laws.proofs.Put.{put-first}
 use Rattle.laws.proofs.Reading.Exactly.{complete, formed}
 use Rattle.laws.proofs.Reading.Rows.{Long, map-long}
 use Rattle.laws.proofs.Reading.Shortest.{states-text, states-binary}
-use Rattle.laws.proofs.Reading.Trimmed.{trimmed-shortest, exact-trimmed}
+use Rattle.laws.proofs.Reading.LeftOff.{trimmed-shortest, exact-trimmed}
 use Rattle.laws.proofs.Running.Results.{convert-well-formed}
 use Rattle.laws.proofs.Running.Unchanged.{convert-same}
+use Rattle.laws.proofs.Writing.Nothing.{made-none}
 use Rattle.laws.proofs.Writing.Fine.{nothing-fine, fine-nothing}
 use Rattle.laws.proofs.Writing.Holding.{holding-circuit, formed-fine}
 use Rattle.laws.proofs.Writing.Later.{Left, load-left}
 use Rattle.laws.proofs.Writing.Accepting.{text-accepted, binary-accepted, conversion-accepted}
 use Rattle.laws.proofs.Writing.Written.{wrote}
 use Rattle.laws.proofs.Writing.ThereAndBack.{stated-tail}
-use Rattle.laws.proofs.Writing.Calls.{ReadCall, readCircuit, readTail, read-stated, read-states, read-formed, binary-file, text-file, ShortFile, short-file}
+use Rattle.laws.proofs.Writing.Calls.{ReadCall, readCircuit, readTail, read-stated, read-states, read-formed, binary-file, text-file, InShortestForm, shortest-read}
 
 -- a call is handed these counts and, up to them, the words of these tables, whatever stands past them
 abbrev pub Handed : Given → Counts → Tables → Type 0
 Handed g n t = (g .counts ≡ n) × (given g ≡ circuitOf n t)
 
 -- tables and scratch are as long as counts ask
-abbrev pub Long-enough : Counts → Tables → List ℕ → Type 0
-Long-enough n t scratch = short (against 1 (wordsToWork n) (lengthsOf t scratch)) ≡ none
+abbrev pub LongEnough : Counts → Tables → List ℕ → Type 0
+LongEnough n t scratch = short (against 1 (wordsToWork n) (lengthsOf t scratch)) ≡ none
 
 -- a writer with room: it is handed these counts and tables and this tail, its tables and scratch are as long as the counts ask, and its buffer
 -- holds these bytes; a conversion with room: so are its tables, and those lent for writing
 pub record WriteRoom (e : FileEntry) (n : Counts) (t : Tables) (tail bytes : List ℕ) : Type 0 where
   pub handed : Handed (e .circuit) n t
   pub tail-handed : e .tail ≡ tail
-  pub words : Long-enough n (e .circuit .tables) (e .circuit .scratch)
+  pub words : LongEnough n (e .circuit .tables) (e .circuit .scratch)
   pub space : length bytes ≤ length (e .out)
 
 pub record MakeRoom (e : MakeEntry) (n : Counts) (t : Tables) : Type 0 where
   pub handed : Handed (e .circuit) n t
-  pub words : Long-enough n (e .circuit .tables) (e .circuit .scratch)
-  pub written : Long-enough n (e .written) (e .circuit .scratch)
+  pub words : LongEnough n (e .circuit .tables) (e .circuit .scratch)
+  pub written : LongEnough n (e .written) (e .circuit .scratch)
 
 module _ (c : Circuit) (w : WellFormed c) (n : Counts) (t : Tables) (counts : n ≡ countsOf c) (holds : circuitOf n t ≡ c) where
-  handed-left : (g : Given) → Handed g n t → Long-enough n (g .tables) (g .scratch) → Left g c
+  handed-left : (g : Given) → Handed g n t → LongEnough n (g .tables) (g .scratch) → Left g c
   handed-left g h l =
       let e = h .1 ∙ holds in
       let words : short (lentAlone g) ≡ none
@@ -106,11 +107,7 @@ module _ (c : Circuit) (w : WellFormed c) (n : Counts) (t : Tables) (counts : n 
       = ap (λ (m : Counts). short (against 1 (wordsToWork m) (lengthsOf (e .written) (g .scratch)))) (sym counts) ∙ x .written in
       let all = firstOf (stages g (lentWith g (e .written))) in
       ap₂ (λ (r : Option Refusal) (d : Circuit). madeBy r e (convert d))
-      (made-none all (convert (given g)) (countsOf (convert c)) (conversion-accepted g c l (e .written) long)) (l .holds)
-    where
-      made-none : (o : Option Refusal) (d : Circuit) (m : Counts) → madeBy o e d .answer ≡ made.Accepted m → o ≡ none
-      made-none none d m a = refl
-      made-none (some r) d m a = let z : _≡_ {A = ℕ} 0 1 = cc in absurd (omega arith)
+      (made-none (λ o. madeBy o e (convert (given g)) .answer) (λ r. refl) all (countsOf (convert c)) (conversion-accepted g c l (e .written) long)) (l .holds)
 
 -- the bytes of a writer that was done
 done-file : (e : FileEntry) (bytes : List ℕ) (x : FileExit) → x ≡ writtenBy none e bytes → take (length bytes) (x .out) ≡ bytes
@@ -211,7 +208,7 @@ module _ (r : ReadCall) (five : scratchToWork (r .counts) ≤ length (r .entry .
       let x = loadAs (r .version) (r .entry) in
       record { counts = r .counts; tables = x .tables; scratch = x .scratch }
 
-  left-words : Long-enough (r .counts) (loadAs (r .version) (r .entry) .tables) (loadAs (r .version) (r .entry) .scratch)
+  left-words : LongEnough (r .counts) (loadAs (r .version) (r .entry) .tables) (loadAs (r .version) (r .entry) .scratch)
   left-words =
       let l = load-left (r .version) (r .entry) (r .bytes) (r .counts) (r .start) (r .accepted) in
       nothing-fine leftByRead (lentAlone leftByRead) (l .4 five .fine) .room
@@ -220,7 +217,7 @@ module _ (r : ReadCall) (five : scratchToWork (r .counts) ≤ length (r .entry .
       → WriteRoom (record { circuit = leftByRead; tail = tail; out = out }) (r .counts) (loadAs (r .version) (r .entry) .tables) tail bytes
   read-write-room tail bytes out h = record { handed = (refl, refl); tail-handed = refl; words = left-words; space = h }
 
-  pub read-make-room : (t : Tables) → Long-enough (r .counts) t (loadAs (r .version) (r .entry) .scratch)
+  pub read-make-room : (t : Tables) → LongEnough (r .counts) t (loadAs (r .version) (r .entry) .scratch)
       → MakeRoom (record { circuit = leftByRead; written = t }) (r .counts) (loadAs (r .version) (r .entry) .tables)
   read-make-room t h = record { handed = (refl, refl); words = left-words; written = h }
 
@@ -343,10 +340,10 @@ module _ (r : ReadCall) where
           ∙ ap (writtenBy none f) (sym same)
 
 -- with room none of the calls refuses, and the last buffer holds the file
-pub binary-with-room : (r : ReadCall) → ShortFile r → formIn (r .entry .file) ≡ binary → BinaryAndBack r
+pub binary-with-room : (r : ReadCall) → InShortestForm r → formIn (r .entry .file) ≡ binary → BinaryAndBack r
 binary-with-room r short form =
-    let f = binary-file (r .entry .file) (readCircuit r) (readTail r) form (short-file r short) (read-states r) in
+    let f = binary-file (r .entry .file) (readCircuit r) (readTail r) form (shortest-read r short) (read-states r) in
     binary-room r (f .0) (f .1)
 
-pub text-with-room : (r : ReadCall) → ShortFile r → formIn (r .entry .file) ≡ text → binaryOrder (readCircuit r) ≡ true → TextAndBack r
-text-with-room r short form = text-room r (text-file (r .entry .file) (readCircuit r) (readTail r) form (short-file r short))
+pub text-with-room : (r : ReadCall) → InShortestForm r → formIn (r .entry .file) ≡ text → binaryOrder (readCircuit r) ≡ true → TextAndBack r
+text-with-room r short form = text-room r (text-file (r .entry .file) (readCircuit r) (readTail r) form (shortest-read r short))

@@ -4,6 +4,7 @@ use mathlib.Core.Path.{_≡_, refl, sym, ap, ap₂, _∙_}
 use mathlib.Core.Bool.{Bool, true, false, _&&_, false≢true}
 use mathlib.Core.Option.{Option, none, some}
 use mathlib.Core.List.{List, [], _∷_, _++_, map}
+use native.Mathlib.Omega.{arith}
 use borrow.Author.Tests.{eq-eqb, eqb-true}
 use lib.Dec.{eqb}
 use lib.ListN.{length, replicate, length-replicate}
@@ -21,7 +22,9 @@ use Rattle.laws.proofs.Reading.Common.{and-left, and-right}
 use Rattle.tables.specs.Lengths.{lengthsIn, sizesOf}
 use Rattle.step.proofs.Checks.{answer}
 use Rattle.plan.specs.Plain.{plainTrace}
+use Rattle.laws.proofs.Writing.Refusing.{refused-leaves}
 use Rattle.runs.specs.declared.comparing.Compared.{Compared}
+use Rattle.runs.specs.declared.comparing.Compared.the-variants.{Refused}
 use Rattle.runs.specs.comparing.Both.{sameBytes, sameAnswer, agree, CompareEntry, CompareExit, comparedBy, both, twinOf, compare}
 use Rattle.runs.proofs.comparing.Answers.{same-lines}
 
@@ -144,3 +147,27 @@ module _ (e : CompareEntry) (few : e .part .circuit .counts .A ≤ 24) (twins : 
           sym (third-decides (sameAnswer (stepped .answer) (stepped .answer)) (sameBytes (stepped .state) (stepped .state))
           (sameBytes (stepped .out) (stepped .out)) (answer-same (stepped .answer)) (bytes-same (stepped .state)))
           ∙ bytes-same (stepped .out)
+
+-- a refusal: both engines refused, and left both states and both buffers as they were
+refused-only : (t : Bool) (a : Traced) (r : Refusal) → comparedBy t a ≡ Refused r → (t ≡ true) × (a ≡ traced.Refused r)
+refused-only true (traced.Lines k) r e = let z : _≡_ {A = ℕ} 0 1 = cc in absurd (omega arith)
+refused-only true (traced.Refused q) r e = let same : q ≡ r = cc in (refl, ap traced.Refused same)
+refused-only false a r e = let z : _≡_ {A = ℕ} 0 1 = cc in absurd (omega arith)
+
+refused-too : (r : Refusal) (b : Traced) → sameAnswer (traced.Refused r) b ≡ true → (s : Refusal) × (b ≡ traced.Refused s)
+refused-too r (traced.Lines m) e = absurd (false≢true e)
+refused-too r (traced.Refused s) e = (s, refl)
+
+pub compare-refused : (e : CompareEntry) (r : Refusal) → compare e .answer ≡ Refused r
+    → (compare e .state ≡ e .part .state) × (compare e .out ≡ e .part .out) × (compare e .twin ≡ e .twin) × (compare e .again ≡ e .again)
+compare-refused e r said =
+    let a = trace (e .part) in
+    let f : TraceEntry = twinOf e (a .scratch) in
+    let b = plainTrace f in
+    let x = refused-only (agree a b) (a .answer) r said in
+    let rest = sameBytes (a .state) (b .state) && sameBytes (a .out) (b .out) in
+    let y = refused-too r (b .answer)
+    (ap (λ (t : Traced). sameAnswer t (b .answer)) (sym (x .1)) ∙ and-left (sameAnswer (a .answer) (b .answer)) rest (x .0)) in
+    let first = refused-leaves .tracing (e .part) r (x .1) in
+    let second = refused-leaves .plain-tracing f (y .0) (y .1) in
+    (first .0, first .1, second .0, second .1)

@@ -31,15 +31,16 @@ tracedLines c list end = got (stepLines (run (convert c) (first (convert c)) (ma
 abbrev of-lines : Circuit → Parse (List (List ℕ)) → List ℕ
 of-lines c p = printed (p then tracedLines c)
 
-count-refuses : (c : Circuit) (p : Parse (List (List ℕ))) (r : Refusal) → countedBy p ≡ Refused r → of-lines c p ≡ refusalLine r
-count-refuses c (got list end) r e = let z : _≡_ {A = ℕ} 0 1 = cc in absurd (omega arith)
-count-refuses c (refused q) r e = ap (λ (x : Refusal). refusalLine x) (the-refusal q r e)
+pub count-refuses-by : (f : List (List ℕ) → ℕ → Parse (List ℕ)) (p : Parse (List (List ℕ))) (r : Refusal) → countedBy p ≡ Refused r
+    → printed (p then f) ≡ refusalLine r
+count-refuses-by f (got list end) r e = let z : _≡_ {A = ℕ} 0 1 = cc in absurd (omega arith)
+count-refuses-by f (refused q) r e = ap (λ (x : Refusal). refusalLine x) (the-refusal q r e)
   where
     the-refusal : (q r : Refusal) → _≡_ {A = Traced} (Refused q) (Refused r) → q ≡ r
     the-refusal q r e = cc
 
 -- lines that are counted are those of the input
-all-lines : (rows : List (List ℕ)) (size k : ℕ) (x y z : Refusal) (t u v : Bool)
+pub all-lines : (rows : List (List ℕ)) (size k : ℕ) (x y z : Refusal) (t u v : Bool)
     → countedBy (cond t (cond u (cond v (got rows size) (refused x)) (refused y)) (refused z)) ≡ Lines k
     → cond t (cond u (cond v (got rows size) (refused x)) (refused y)) (refused z) ≡ got rows size
 all-lines rows size k x y z true true true e = refl
@@ -53,7 +54,7 @@ module _ {A B : Type 0} (f : List ℕ → Parse A) (g : A → ℕ → Parse B) w
   then-cond true p r = refl
   then-cond false p r = refl
 
-  input-then : (source : Option (List ℕ)) → input source (λ bytes. f bytes then g) ≡ (input source f then g)
+  pub input-then : (source : Option (List ℕ)) → input source (λ bytes. f bytes then g) ≡ (input source f then g)
   input-then none = refl
   input-then (some bytes) = then-cond (leb (length bytes) 65536) (f bytes) (LongInput 65536)
 
@@ -74,7 +75,7 @@ module _ (file : List ℕ) (c : Circuit) (start : ℕ) (short : length file ≤ 
 
   -- the file is accepted, and the count of lines is refused
   pub tracer-refuses : (r : Refusal) → countLines source width ≡ Refused r → tracer (some file) source ≡ refusalLine r
-  tracer-refuses r e = accepted ∙ count-refuses c (input source (stimulus width)) r e
+  tracer-refuses r e = accepted ∙ count-refuses-by (tracedLines c) (input source (stimulus width)) r e
 
   -- or tells how many there are
   pub tracer-prints : (bytes : List ℕ) → source ≡ some bytes → (k : ℕ) → countLines source width ≡ Lines k

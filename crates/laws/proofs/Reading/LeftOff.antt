@@ -26,17 +26,17 @@ endsInZero [] = false
 endsInZero (x ∷ []) = eqb x 0
 endsInZero (x ∷ y ∷ l) = endsInZero (y ∷ l)
 
-abbrev pub Trimmed : ℕ → List ℕ → Type 0
-Trimmed k row = endsInZero (drop k row) ≡ false
+abbrev pub NoTrailingZero : ℕ → List ℕ → Type 0
+NoTrailingZero k row = endsInZero (drop k row) ≡ false
 
-abbrev pub AllTrimmed : ℕ → List (List ℕ) → Type 0
-AllTrimmed k [] = Unit {0}
-AllTrimmed k (row ∷ rows) = Trimmed k row × AllTrimmed k rows
+abbrev pub NoTrailingZeros : ℕ → List (List ℕ) → Type 0
+NoTrailingZeros k [] = Unit {0}
+NoTrailingZeros k (row ∷ rows) = NoTrailingZero k row × NoTrailingZeros k rows
 
 -- of the lines of a file: the header does not end in a 0 after A, nor the line of a latch in a reset 0
-abbrev pub NothingLeftOver : {v : Version} {file : List ℕ} {c : Circuit} {tail : List ℕ} → States v file c tail → Type 0
-NothingLeftOver (asText s e w t) = Trimmed 5 (s .counts) × AllTrimmed 2 (s .latches)
-NothingLeftOver (asBinary s e o w t) = Trimmed 5 (s .counts) × AllTrimmed 1 (s .latches)
+abbrev pub ZerosLeftOff : {v : Version} {file : List ℕ} {c : Circuit} {tail : List ℕ} → States v file c tail → Type 0
+ZerosLeftOff (asText s e w t) = NoTrailingZero 5 (s .counts) × NoTrailingZeros 2 (s .latches)
+ZerosLeftOff (asBinary s e o w t) = NoTrailingZero 5 (s .counts) × NoTrailingZeros 1 (s .latches)
 
 -- a line that ends in no 0 is the shortest that spells its numbers
 stays : (x y : ℕ) (l : List ℕ) → unlessZero x (y ∷ l) ≡ x ∷ y ∷ l
@@ -52,15 +52,15 @@ trimmed-first j [] h = zeros-short j
 trimmed-first j (x ∷ []) h = ap (unlessZero x) (zeros-short j) ∙ alone-stays x h
 trimmed-first j (x ∷ y ∷ l) h = ap (unlessZero x) (trimmed-first j (y ∷ l) h) ∙ stays x y l
 
-trimmed-is : (k j : ℕ) (row : List ℕ) → k ≤ length row → Trimmed k row → shortest k (row ++ replicate j 0) ≡ row
+trimmed-is : (k j : ℕ) (row : List ℕ) → k ≤ length row → NoTrailingZero k row → shortest k (row ++ replicate j 0) ≡ row
 trimmed-is zero j row h t = trimmed-first j row t
 trimmed-is (suc k) j [] h t = absurd (omega arith)
 trimmed-is (suc k) j (x ∷ row) h t = ap (λ (l : List ℕ). x ∷ l) (trimmed-is k j row (omega arith) t)
 
-pub trimmed-shortest : (k n : ℕ) (full row : List ℕ) → Spells k n full row → Trimmed k row → row ≡ shortest k full
+pub trimmed-shortest : (k n : ℕ) (full row : List ℕ) → Spells k n full row → NoTrailingZero k row → row ≡ shortest k full
 trimmed-shortest k n full row s t = sym (ap (shortest k) (sym (s .2)) ∙ trimmed-is k (length full - length row) row (s .0) t)
 
-pub all-trimmed-shortest : (k n : ℕ) (fulls rows : List (List ℕ)) → AllSpell k n fulls rows → AllTrimmed k rows → rows ≡ map (shortest k) fulls
+pub all-trimmed-shortest : (k n : ℕ) (fulls rows : List (List ℕ)) → AllSpell k n fulls rows → NoTrailingZeros k rows → rows ≡ map (shortest k) fulls
 all-trimmed-shortest k n [] [] s t = refl
 all-trimmed-shortest k n [] (row ∷ rows) s t = absurd s
 all-trimmed-shortest k n (full ∷ fulls) [] s t = absurd s
@@ -74,31 +74,31 @@ unless-trimmed zero (x ∷ l) h = h
 unless-trimmed (suc n) [] h = ne-eqb (suc n) 0 (λ e. omega (arith, e))
 unless-trimmed (suc n) (x ∷ l) h = h
 
-pub shortest-trimmed : (k : ℕ) (full : List ℕ) → Trimmed k (shortest k full)
+pub shortest-trimmed : (k : ℕ) (full : List ℕ) → NoTrailingZero k (shortest k full)
 shortest-trimmed zero [] = refl
 shortest-trimmed zero (n ∷ l) = unless-trimmed n (shortest zero l) (shortest-trimmed zero l)
 shortest-trimmed (suc k) [] = refl
 shortest-trimmed (suc k) (n ∷ l) = shortest-trimmed k l
 
-all-shortest-trimmed : (k : ℕ) (fulls : List (List ℕ)) → AllTrimmed k (map (shortest k) fulls)
+all-shortest-trimmed : (k : ℕ) (fulls : List (List ℕ)) → NoTrailingZeros k (map (shortest k) fulls)
 all-shortest-trimmed k [] = tt
 all-shortest-trimmed k (full ∷ fulls) = (shortest-trimmed k full, all-shortest-trimmed k fulls)
 
 -- a line of k numbers ends in none past them
-pub exact-trimmed : (k : ℕ) (row : List ℕ) → length row ≤ k → Trimmed k row
+pub exact-trimmed : (k : ℕ) (row : List ℕ) → length row ≤ k → NoTrailingZero k row
 exact-trimmed zero [] h = refl
 exact-trimmed zero (x ∷ row) h = absurd (omega arith)
 exact-trimmed (suc k) [] h = refl
 exact-trimmed (suc k) (x ∷ row) h = exact-trimmed k row (omega arith)
 
-all-exact-trimmed : (k : ℕ) (fulls rows : List (List ℕ)) → AllSpell k (k + 0) fulls rows → AllTrimmed k rows
+all-exact-trimmed : (k : ℕ) (fulls rows : List (List ℕ)) → AllSpell k (k + 0) fulls rows → NoTrailingZeros k rows
 all-exact-trimmed k [] [] s = tt
 all-exact-trimmed k [] (row ∷ rows) s = absurd s
 all-exact-trimmed k (full ∷ fulls) [] s = absurd s
 all-exact-trimmed k (full ∷ fulls) (row ∷ rows) s = (exact-trimmed k row (omega (arith, s .0 .1)), all-exact-trimmed k fulls rows (s .1))
 
 -- a file of trimmed lines is in the shortest form
-pub trimmed-short : (file : List ℕ) (c : Circuit) (tail : List ℕ) (s : States V19 file c tail) → NothingLeftOver s → Shortest file c tail
+pub trimmed-short : (file : List ℕ) (c : Circuit) (tail : List ℕ) (s : States V19 file c tail) → ZerosLeftOff s → Shortest file c tail
 trimmed-short file c tail (asText s e w t) h =
     shortText (e ∙ ap₂ (λ (x : List ℕ) (y : List (List ℕ)). (headerOf text x ++ textLines y c) ++ tail)
     (trimmed-shortest 5 9 (allCounts (countsOf c)) (s .counts) (s .all-counts) (h .0))
@@ -109,12 +109,12 @@ trimmed-short file c tail (asBinary s e o w t) h =
     (all-trimmed-shortest 1 2 (binaryLatches c) (s .latches) (s .all-latches) (h .1)))
 
 -- by the report of 2007 nothing may be left off
-pub old-short : (file : List ℕ) (c : Circuit) (tail : List ℕ) → States V2007 file c tail → Shortest file c tail
-old-short file c tail (asText s e w t) =
+pub stated-2007-shortest : (file : List ℕ) (c : Circuit) (tail : List ℕ) → States V2007 file c tail → Shortest file c tail
+stated-2007-shortest file c tail (asText s e w t) =
     shortText (e ∙ ap₂ (λ (x : List ℕ) (y : List (List ℕ)). (headerOf text x ++ textLines y c) ++ tail)
     (trimmed-shortest 5 5 (allCounts (countsOf c)) (s .counts) (s .all-counts) (exact-trimmed 5 (s .counts) (s .all-counts .1)))
     (all-trimmed-shortest 2 2 (textLatches c) (s .latches) (s .all-latches) (all-exact-trimmed 2 (textLatches c) (s .latches) (s .all-latches))))
-old-short file c tail (asBinary s e o w t) =
+stated-2007-shortest file c tail (asBinary s e o w t) =
     shortBinary (e ∙ ap₂ (λ (x : List ℕ) (y : List (List ℕ)). (headerOf binary x ++ binaryLines y c) ++ tail)
     (trimmed-shortest 5 5 (allCounts (countsOf c)) (s .counts) (s .all-counts) (exact-trimmed 5 (s .counts) (s .all-counts .1)))
     (all-trimmed-shortest 1 1 (binaryLatches c) (s .latches) (s .all-latches) (all-exact-trimmed 1 (binaryLatches c) (s .latches) (s .all-latches))))
@@ -215,24 +215,31 @@ module _ (file : List ℕ) (c : Circuit) (tail : List ℕ) where
       × (length file ≤ length (textOf c ++ tail) → (s .counts ≡ shortCounts (countsOf c)) × (s .latches ≡ map (shortest 2) (textLatches c)))
   as-text s e =
       let p = linesOf (map oneLine (c .inputs)) in
-      let q = linesOf (map oneLine (c .outputs)) ++ (linesOf (map oneLine (c .bads)) ++ (linesOf (map oneLine (c .constraints)) ++ linesOf (map gateLine (c .gates)))) in
-      let r = file-least text p q tail 2 3 c (textLatches c) (s .latches) (s .counts) (s .all-counts) (s .all-latches) in
-      (subst (λ (x : List ℕ). length (textOf c ++ tail) ≤ length x) (sym e) (r .0), λ h. r .1 (subst (λ (x : List ℕ). length x ≤ length (textOf c ++ tail)) e h))
+      let last = linesOf (map oneLine (c .constraints)) ++ linesOf (map gateLine (c .gates)) in
+      let q = linesOf (map oneLine (c .outputs)) ++ (linesOf (map oneLine (c .bads)) ++ last) in
+      let r = file-least text p q tail 2 3 c (textLatches c) (s .latches) (s .counts) (s .all-counts) (s .all-latches) in (
+        subst (λ (x : List ℕ). length (textOf c ++ tail) ≤ length x) (sym e) (r .0),
+        λ h. r .1 (subst (λ (x : List ℕ). length x ≤ length (textOf c ++ tail)) e h),
+      )
 
   as-binary : (s : Spelled V19 c 1 (binaryLatches c)) → file ≡ (headerOf binary (s .counts) ++ binaryLines (s .latches) c) ++ tail
       → (length (binaryOf c ++ tail) ≤ length file)
       × (length file ≤ length (binaryOf c ++ tail) → (s .counts ≡ shortCounts (countsOf c)) × (s .latches ≡ map (shortest 1) (binaryLatches c)))
   as-binary s e =
       let q = linesOf (map oneLine (c .outputs)) ++ (linesOf (map oneLine (c .bads)) ++ (linesOf (map oneLine (c .constraints)) ++ gateBytes (c .gates))) in
-      let r = file-least binary [] q tail 1 2 c (binaryLatches c) (s .latches) (s .counts) (s .all-counts) (s .all-latches) in
-      (subst (λ (x : List ℕ). length (binaryOf c ++ tail) ≤ length x) (sym e) (r .0), λ h. r .1 (subst (λ (x : List ℕ). length x ≤ length (binaryOf c ++ tail)) e h))
+      let r = file-least binary [] q tail 1 2 c (binaryLatches c) (s .latches) (s .counts) (s .all-counts) (s .all-latches) in (
+        subst (λ (x : List ℕ). length (binaryOf c ++ tail) ≤ length x) (sym e) (r .0),
+        λ h. r .1 (subst (λ (x : List ℕ). length x ≤ length (binaryOf c ++ tail)) e h),
+      )
 
   trimmed-by : (k : ℕ) (full lats : List (List ℕ)) (row : List ℕ) → (row ≡ shortCounts (countsOf c)) × (lats ≡ map (shortest k) full)
-      → Trimmed 5 row × AllTrimmed k lats
-  trimmed-by k full lats row h =
-      (subst (Trimmed 5) (sym (h .0)) (shortest-trimmed 5 (allCounts (countsOf c))), subst (AllTrimmed k) (sym (h .1)) (all-shortest-trimmed k full))
+      → NoTrailingZero 5 row × NoTrailingZeros k lats
+  trimmed-by k full lats row h = (
+    subst (NoTrailingZero 5) (sym (h .0)) (shortest-trimmed 5 (allCounts (countsOf c))),
+    subst (NoTrailingZeros k) (sym (h .1)) (all-shortest-trimmed k full),
+  )
 
-  short-trimmed : (s : States V19 file c tail) → Shortest file c tail → NothingLeftOver s
+  short-trimmed : (s : States V19 file c tail) → Shortest file c tail → ZerosLeftOff s
   short-trimmed (asText s e w t) (shortText f) =
       trimmed-by 2 (textLatches c) (s .latches) (s .counts) (as-text s e .1 (subst (λ (x : List ℕ). length file ≤ length x) f (omega arith)))
   short-trimmed (asText s e w t) (shortBinary f) =
@@ -243,24 +250,24 @@ module _ (file : List ℕ) (c : Circuit) (tail : List ℕ) where
       trimmed-by 1 (binaryLatches c) (s .latches) (s .counts) (as-binary s e .1 (subst (λ (x : List ℕ). length file ≤ length x) f (omega arith)))
 
   -- a file that states a circuit and a tail is in the shortest form exactly if none of its lines ends in a 0 that may be left off
-  pub short-exactly-trimmed : (s : States V19 file c tail) → Shortest file c tail ↔ NothingLeftOver s
-  short-exactly-trimmed s = (short-trimmed s, trimmed-short file c tail s)
+  pub shortest-exactly-left-off : (s : States V19 file c tail) → Shortest file c tail ↔ ZerosLeftOff s
+  shortest-exactly-left-off s = (short-trimmed s, trimmed-short file c tail s)
 
 -- and exactly if no file of its form that states the same has fewer bytes
-abbrev pub Fewest : List ℕ → Circuit → List ℕ → Type 0
-Fewest file c tail = (other : List ℕ) → States V19 other c tail → formIn other ≡ formIn file → length file ≤ length other
+abbrev pub FewestBytes : List ℕ → Circuit → List ℕ → Type 0
+FewestBytes file c tail = (other : List ℕ) → States V19 other c tail → formIn other ≡ formIn file → length file ≤ length other
 
 module _ (file : List ℕ) (c : Circuit) (tail : List ℕ) where
   forms-differ : (f g : Form) → f ≡ text → g ≡ binary → f ≡ g → ⊥
   forms-differ f g e h k = let z : _≡_ {A = ℕ} 0 1 = cc in omega arith
 
-  short-fewest : Shortest file c tail → Fewest file c tail
+  short-fewest : Shortest file c tail → FewestBytes file c tail
   short-fewest (shortText f) other (asText s e w t) g = subst (λ (x : List ℕ). length x ≤ length other) (sym f) (as-text other c tail s e .0)
   short-fewest (shortText f) other (asBinary s e o w t) g = absurd (forms-differ (formIn file) (formIn other) (ap formIn f) (ap formIn e) (sym g))
   short-fewest (shortBinary f) other (asText s e w t) g = absurd (forms-differ (formIn other) (formIn file) (ap formIn e) (ap formIn f) g)
   short-fewest (shortBinary f) other (asBinary s e o w t) g = subst (λ (x : List ℕ). length x ≤ length other) (sym f) (as-binary other c tail s e .0)
 
-  fewest-short : States V19 file c tail → Fewest file c tail → Shortest file c tail
+  fewest-short : States V19 file c tail → FewestBytes file c tail → Shortest file c tail
   fewest-short (asText s e w t) h =
       let r = as-text file c tail s e .1 (h (textOf c ++ tail) (states-text (textOf c ++ tail) c tail w t refl) (sym (ap formIn e))) in
       shortText (e ∙ ap₂ (λ (x : List ℕ) (y : List (List ℕ)). (headerOf text x ++ textLines y c) ++ tail) (r .0) (r .1))
@@ -268,5 +275,5 @@ module _ (file : List ℕ) (c : Circuit) (tail : List ℕ) where
       let r = as-binary file c tail s e .1 (h (binaryOf c ++ tail) (states-binary (binaryOf c ++ tail) c tail w t refl o) (sym (ap formIn e))) in
       shortBinary (e ∙ ap₂ (λ (x : List ℕ) (y : List (List ℕ)). (headerOf binary x ++ binaryLines y c) ++ tail) (r .0) (r .1))
 
-  pub short-exactly-fewest : States V19 file c tail → Shortest file c tail ↔ Fewest file c tail
-  short-exactly-fewest s = (short-fewest, fewest-short s)
+  pub shortest-exactly-fewest : States V19 file c tail → Shortest file c tail ↔ FewestBytes file c tail
+  shortest-exactly-fewest s = (short-fewest, fewest-short s)
