@@ -311,9 +311,7 @@ static inline uint32_t tree_take(void) {
     return i;
 }
 
-static inline uint32_t renamed(const uint32_t *number, uint32_t l) {
-    return 2 * number[l / 2] | (l & 1);
-}
+static inline uint32_t renamed(const uint32_t *number, uint32_t l) { return 2 * number[l / 2] | (l & 1); }
 
 static void number_leaves(struct base *b, const struct circuit *c, struct circuit *to) {
     uint32_t next = 1;
@@ -367,9 +365,7 @@ static inline uint32_t slot_of(const uint32_t *slots, uint32_t mask, const uint3
     return h;
 }
 
-static inline uint32_t became(const uint32_t *now, uint32_t l) {
-    return now[l / 2] ^ (l & 1);
-}
+static inline uint32_t became(const uint32_t *now, uint32_t l) { return now[l / 2] ^ (l & 1); }
 
 /* The literal that stands for x and y, x not below y, after folding and sharing; a new gate if need be. */
 static inline uint32_t folded(uint32_t *slots, uint32_t mask, uint32_t base, uint32_t *n, uint32_t *kept, uint32_t x,
@@ -445,9 +441,7 @@ void used(struct base *b, const struct circuit *c, struct circuit *to) {
 static const uint8_t sign3[2][4] = {{0, 1, 2, 2}, {1, 0, 2, 2}};
 static const uint8_t and3[3][4] = {{0, 0, 0, 0}, {0, 1, 2, 0}, {0, 2, 2, 0}};
 
-static inline uint8_t valued(const uint8_t *value, uint32_t l) {
-    return sign3[l & 1][value[l / 2]];
-}
+static inline uint8_t valued(const uint8_t *value, uint32_t l) { return sign3[l & 1][value[l / 2]]; }
 
 void step3(struct base *b, const struct circuit *c, uint8_t *state, const uint8_t *ins, uint8_t *outs) {
     const uint32_t *g = c->table[GATES], i = (uint32_t)c->counts[I], l = (uint32_t)c->counts[L];
@@ -461,9 +455,9 @@ void step3(struct base *b, const struct circuit *c, uint8_t *state, const uint8_
     for (uint32_t k = 0; k < a; k++, g += 3)
         value[g[0] / 2] = and3[valued(value, g[1])][valued(value, g[2])];
     for (uint32_t k = 0; k < o; k++)
-        outs[k] = (uint8_t)"01x"[valued(value, c->table[OUTPUTS][k])];
+        outs[k] = (uint8_t) "01x"[valued(value, c->table[OUTPUTS][k])];
     for (uint32_t k = 0; k < l; k++)
-        state[k] = (uint8_t)"01x"[valued(value, c->table[LATCHES][2 * k + 1])];
+        state[k] = (uint8_t) "01x"[valued(value, c->table[LATCHES][2 * k + 1])];
 }
 
 void count3(uint32_t *numbers, const uint8_t *values, const uint8_t *before, size_t length) {

@@ -224,9 +224,7 @@ static int filed_same(struct work *w) {
 }
 
 /* Every output is 0, so that no step ends the question early. */
-static void never_one(struct work *w) {
-    memset(w->given.table[OUTPUTS], 0, 4 * w->given.counts[O]);
-}
+static void never_one(struct work *w) { memset(w->given.table[OUTPUTS], 0, 4 * w->given.counts[O]); }
 
 static int was_never_one(struct work *w) {
     desk_witness3(w);
@@ -287,8 +285,10 @@ static int explained_well(struct work *w) {
     return value != 'x' && w->outs[0] == value;
 }
 
-#define BASE(f) {#f, base_##f, 0}
-#define ONE_STEP(f) {"one step", desk_##f, 0}
+#define BASE(f)                                                                                                        \
+    { #f, base_##f, 0 }
+#define ONE_STEP(f)                                                                                                    \
+    { "one step", desk_##f, 0 }
 enum { READ_BINARY, READ_TEXT, WRITE_BINARY, WRITE_TEXT, CONVERT, REDUCE, DROP, STEP, ROWS_STEP, ROWS_REPORT };
 enum { REPORT = ROWS_REPORT + 1, WITNESS, FILLED, EXPLAIN, ORDER, FILES, WORST, TASKS };
 static const struct task tasks[TASKS] = {
@@ -301,25 +301,42 @@ static const struct task tasks[TASKS] = {
     {"drop", desk_drop, {BASE(used)}, clear_written, desk_check, NULL, dropped_same, 1.5, 1},
     {"step", desk_step, {BASE(step3)}, clear_scratch, desk_check, NULL, stepped_same, 1.5, 1},
     {"64 rows", desk_rows, {ONE_STEP(step), BASE(lanes)}, clear_scratch, desk_check, NULL, rows_same, 4, 1},
-    {"report of 64 rows", desk_report_rows, {ONE_STEP(step), BASE(lane_counts)}, clear_scratch, desk_check, NULL,
-     row_reports_same, 4, 1},
-    {"report, one of 8 steps", desk_report, {{"witness3", desk_witness3, 0}, BASE(count3)}, clear_scratch, desk_check,
-     no_longer_one, reported_same, 1.5, STEPS},
+    {"report of 64 rows",
+     desk_report_rows,
+     {ONE_STEP(step), BASE(lane_counts)},
+     clear_scratch,
+     desk_check,
+     NULL,
+     row_reports_same,
+     4,
+     1},
+    {"report, one of 8 steps",
+     desk_report,
+     {{"witness3", desk_witness3, 0}, BASE(count3)},
+     clear_scratch,
+     desk_check,
+     no_longer_one,
+     reported_same,
+     1.5,
+     STEPS},
     {"one of 8 steps", desk_witness3, {BASE(steps)}, clear_scratch, desk_check, never_one, was_never_one, 1.5, STEPS},
-    {"one of 256 fillings", desk_witness, {BASE(fillings)}, clear_scratch, desk_check, always_one, was_always_one, 1.5,
+    {"one of 256 fillings",
+     desk_witness,
+     {BASE(fillings)},
+     clear_scratch,
+     desk_check,
+     always_one,
+     was_always_one,
+     1.5,
      FILLINGS},
     {"explain", desk_explain, {ONE_STEP(ones)}, clear_scratch, desk_check, all_known, explained_well, 3, 1},
     {"convert", desk_convert, {BASE(convert)}, NULL, NULL, NULL, converted_same, 2.5, 1},
     {"convert a file", desk_file, {BASE(file)}, NULL, NULL, base_print, filed_same, 2.5, 1},
     {"reduce, worst", desk_reduce, {BASE(strash)}, NULL, NULL, NULL, reduced_same, 0, 1}};
 
-static struct circuit random_one(uint32_t gates) {
-    return random_circuit(gates, 12);
-}
+static struct circuit random_one(uint32_t gates) { return random_circuit(gates, 12); }
 
-static struct circuit duplicates(uint32_t gates) {
-    return random_circuit(gates, 60);
-}
+static struct circuit duplicates(uint32_t gates) { return random_circuit(gates, 60); }
 
 static const uint32_t sizes[SIZES] = {10000, 100000, 1000000};
 

@@ -47,9 +47,7 @@ static struct circuit lent_circuit(const uint8_t *file, size_t length) {
 }
 
 /* As many bytes as a binary file of these counts can have, and as a text file can. */
-static size_t longest(const uint64_t *counts) {
-    return 60 + 8 * (counts[L] + counts[O]) + 6 * counts[A];
-}
+static size_t longest(const uint64_t *counts) { return 60 + 8 * (counts[L] + counts[O]) + 6 * counts[A]; }
 
 static size_t longest_text(const uint64_t *counts) {
     return 60 + 8 * (counts[I] + 2 * counts[L] + counts[O] + 3 * counts[A]);

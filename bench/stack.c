@@ -14,13 +14,9 @@ enum { STACK = 1 << 20, PAINT = 0xA5 };
 static call *running;
 static struct work *worked_on;
 
-static void empty(struct work *w) {
-    w->answer[0] = 0;
-}
+static void empty(struct work *w) { w->answer[0] = 0; }
 
-static void start(void) {
-    running(worked_on);
-}
+static void start(void) { running(worked_on); }
 
 /* Bytes of the stack that are no longer painted. */
 static size_t used_by(call *run, struct work *w) {

@@ -5,12 +5,10 @@
 
 static void put_any(uint8_t *values, uint64_t length) {
     for (uint64_t i = 0; i < length; i++)
-        values[i] = (uint8_t)"01x"[below(3)];
+        values[i] = (uint8_t) "01x"[below(3)];
 }
 
-static size_t report_length(const uint64_t *counts) {
-    return 4 * (counts[O] + counts[L]);
-}
+static size_t report_length(const uint64_t *counts) { return 4 * (counts[O] + counts[L]); }
 
 struct work work_on(struct circuit given) {
     const uint64_t *n = given.counts;
@@ -33,7 +31,7 @@ struct work work_on(struct circuit given) {
     put_any(w.ins, STEPS * n[I]);
     put_any(w.row_ins, ROWS * n[I]);
     for (uint32_t i = 0; i < n[I]; i++)
-        w.few[i] = i < FEW_X ? 'x' : (uint8_t)"01"[below(2)];
+        w.few[i] = i < FEW_X ? 'x' : (uint8_t) "01"[below(2)];
     return w;
 }
 
@@ -75,49 +73,37 @@ void base_textq(struct work *w) {
         give_up("textq refuses");
 }
 
-void desk_check(struct work *w) {
-    golvanzo_check(w->given.counts, TABLES(w->given), SCRATCH(w), w->answer);
-}
+void desk_check(struct work *w) { golvanzo_check(w->given.counts, TABLES(w->given), SCRATCH(w), w->answer); }
 
 void desk_write_text(struct work *w) {
     golvanzo_write_text(w->given.counts, TABLES(w->given), SCRATCH(w), NULL, 0, w->out, w->out_length, w->answer);
 }
 
-void base_print(struct work *w) {
-    w->file_length = print(&w->given, w->file);
-}
+void base_print(struct work *w) { w->file_length = print(&w->given, w->file); }
 
 void desk_write_binary(struct work *w) {
     golvanzo_write_binary(w->given.counts, TABLES(w->given), SCRATCH(w), NULL, 0, w->out, w->out_length, w->answer);
 }
 
-void base_encode(struct work *w) {
-    w->file_length = encode(&w->given, w->file);
-}
+void base_encode(struct work *w) { w->file_length = encode(&w->given, w->file); }
 
 void desk_convert(struct work *w) {
     golvanzo_convert(w->given.counts, TABLES(w->given), TABLES(w->made), SCRATCH(w), w->answer);
 }
 
-void base_convert(struct work *w) {
-    convert(&w->base, &w->given, &w->base_made);
-}
+void base_convert(struct work *w) { convert(&w->base, &w->given, &w->base_made); }
 
 void desk_reduce(struct work *w) {
     golvanzo_reduce(w->given.counts, TABLES(w->given), TABLES(w->made), SCRATCH(w), w->answer);
 }
 
-void base_strash(struct work *w) {
-    strash(&w->base, &w->given, &w->base_made);
-}
+void base_strash(struct work *w) { strash(&w->base, &w->given, &w->base_made); }
 
 void desk_drop(struct work *w) {
     golvanzo_drop(w->given.counts, TABLES(w->given), TABLES(w->made), SCRATCH(w), w->answer);
 }
 
-void base_used(struct work *w) {
-    used(&w->base, &w->given, &w->base_made);
-}
+void base_used(struct work *w) { used(&w->base, &w->given, &w->base_made); }
 
 void desk_step(struct work *w) {
     golvanzo_step(w->given.counts, TABLES(w->given), SCRATCH(w), w->state, w->given.counts[L], w->ins,
@@ -135,9 +121,7 @@ void desk_explain(struct work *w) {
     golvanzo_explain(n, TABLES(w->given), SCRATCH(w), w->state, n[L], w->ins, n[I], 0, w->out, n[L] + n[I], w->answer);
 }
 
-void base_step3(struct work *w) {
-    step3(&w->base, &w->given, w->state, w->ins, w->outs);
-}
+void base_step3(struct work *w) { step3(&w->base, &w->given, w->state, w->ins, w->outs); }
 
 void desk_rows(struct work *w) {
     const uint64_t *n = w->given.counts;
@@ -145,9 +129,7 @@ void desk_rows(struct work *w) {
                   w->row_outs, ROWS * n[O], w->answer);
 }
 
-void base_lanes(struct work *w) {
-    lanes(&w->base, &w->given, w->row_ins, w->row_nexts, w->row_outs);
-}
+void base_lanes(struct work *w) { lanes(&w->base, &w->given, w->row_ins, w->row_nexts, w->row_outs); }
 
 void desk_report_rows(struct work *w) {
     const uint64_t *n = w->given.counts;
@@ -155,9 +137,7 @@ void desk_report_rows(struct work *w) {
                          w->answer);
 }
 
-void base_lane_counts(struct work *w) {
-    lane_counts(&w->base, &w->given, w->row_ins, w->base_report);
-}
+void base_lane_counts(struct work *w) { lane_counts(&w->base, &w->given, w->row_ins, w->base_report); }
 
 void desk_witness3(struct work *w) {
     golvanzo_witness3(w->given.counts, TABLES(w->given), SCRATCH(w), STEPS, w->ins, STEPS * w->given.counts[I],

@@ -4,9 +4,7 @@
 
 #include "plan.h"
 
-static int is_digit(uint8_t byte) {
-    return '0' <= byte && byte <= '9';
-}
+static int is_digit(uint8_t byte) { return '0' <= byte && byte <= '9'; }
 
 /* A letter, a position, a space and a name to the end of the line. A comment begins with "c" and a new line. */
 int plan_next_symbol(const struct plan *plan, size_t *at, struct plan_symbol *symbol) {

@@ -14,9 +14,7 @@ _Static_assert(sizeof(golvanzo_size) == 8 && sizeof(size_t) <= 8, "every length 
 static const struct plan_end done = {0, 0}, no_memory = {PLAN_NO_MEMORY, 0};
 
 /* Never null for a length of 0, so that null is a lack of memory. */
-static void *lent(size_t bytes) {
-    return malloc(bytes + (bytes == 0));
-}
+static void *lent(size_t bytes) { return malloc(bytes + (bytes == 0)); }
 
 /* Words of table 5 for every call but a read (docs/PAPER.md, "Tables and bytes"). The desk question is about reading
    alone, which may ask for fewer. */
@@ -367,9 +365,7 @@ struct plan_end plan_report(struct plan *plan, uint64_t number, const uint8_t *v
 /* The lanes of the library (docs/PAPER.md, "Many rows at once"). */
 enum { LANES = 64 };
 
-static uint64_t rows_now(uint64_t left) {
-    return left < LANES ? left : LANES;
-}
+static uint64_t rows_now(uint64_t left) { return left < LANES ? left : LANES; }
 
 /* No rows are one call too, so that the plan is judged. */
 struct plan_end plan_rows(struct plan *plan, uint64_t rows, const uint8_t *inputs, uint8_t *nexts, uint8_t *outputs) {

@@ -1,5 +1,3 @@
 #include "golvanzo.h"
 
-const char *golvanzo_version(void) {
-    return GOLVANZO_VERSION_STRING;
-}
+const char *golvanzo_version(void) { return GOLVANZO_VERSION_STRING; }

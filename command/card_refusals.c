@@ -17,9 +17,7 @@ static uint64_t card_number(const struct source *cards, size_t at) {
 }
 
 /* A count as read: M, I, L, O, A. */
-static uint64_t card_count(const struct source *cards, int k) {
-    return card_number(cards, MARK + NUMBER * (size_t)k);
-}
+static uint64_t card_count(const struct source *cards, int k) { return card_number(cards, MARK + NUMBER * (size_t)k); }
 
 /* Records of one kind: where they start, how many there are, how many numbers each has, what such a number is called. */
 struct records {
@@ -27,9 +25,7 @@ struct records {
     const char *mark, *what;
 };
 
-static uint64_t end_of(const struct records *r) {
-    return r->at + r->count * (MARK + NUMBER * r->numbers);
-}
+static uint64_t end_of(const struct records *r) { return r->at + r->count * (MARK + NUMBER * r->numbers); }
 
 /* The records of latches, outputs or gates. */
 static struct records records_of(const struct source *cards, uint64_t table) {

@@ -7,8 +7,8 @@
 #include <string.h>
 #include <sys/stat.h>
 
-#include "command.h"
 #include "card_refusals.h"
+#include "command.h"
 #include "say.h"
 #include "symbols.h"
 
@@ -135,9 +135,7 @@ static int by_stem(const void *a, const void *b) {
 }
 
 /* Nothing of the tree is its own. */
-static void leave(void *name) {
-    (void)name;
-}
+static void leave(void *name) { (void)name; }
 
 /* Why an entry of the folder is no file, or null: nobody would write to a pipe that is waited for. */
 static const char *no_file(const char *name) {
@@ -180,9 +178,7 @@ static int move_entry(const struct move *move, const struct request *request, co
     return status;
 }
 
-static int is_visible(const struct dirent *entry) {
-    return entry->d_name[0] != '.';
-}
+static int is_visible(const struct dirent *entry) { return entry->d_name[0] != '.'; }
 
 /* In the order of names; a file that is refused leaves the others alone. Each line is there when its file is done, whatever
    ends the command. */
@@ -246,10 +242,6 @@ static int run_move(const struct move *move, const struct request *request) {
     return move_folder(move, request, &from);
 }
 
-int run_file(const struct request *request) {
-    return run_move(&moves[0], request);
-}
+int run_file(const struct request *request) { return run_move(&moves[0], request); }
 
-int run_card(const struct request *request) {
-    return run_move(&moves[1], request);
-}
+int run_card(const struct request *request) { return run_move(&moves[1], request); }

@@ -92,9 +92,7 @@ int find_differences(const struct side *sides, struct differences *found) {
     return lent ? DONE : no_memory();
 }
 
-void free_differences(struct differences *found) {
-    free(found->at);
-}
+void free_differences(struct differences *found) { free(found->at); }
 
 /* "output 0 ("needle")": a long name is cut. */
 static void print_entry_name(const struct side *side, int list, uint64_t entry, FILE *to) {
@@ -246,9 +244,10 @@ static void print_sides(const struct side *sides, const struct differences *foun
 void print_differences(const struct side *sides, const struct differences *found, FILE *to) {
     print_sides(sides, found, to);
     if (only_gates(found))
-        fputs("every output, next state, bad state and constraint takes the same gates: they stand in another order, or are "
-              "used by nothing.\n\"same\" can't see through that; \"plan alike\" asks whether two plans do the same\n",
-              to);
+        fputs(
+            "every output, next state, bad state and constraint takes the same gates: they stand in another order, or are "
+            "used by nothing.\n\"same\" can't see through that; \"plan alike\" asks whether two plans do the same\n",
+            to);
     if (only_tail(found))
         fputs("the plans are the same but for names and comments, which --plan leaves out\n", to);
 }

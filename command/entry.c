@@ -33,9 +33,7 @@ int find_entry(const struct plan *plan, const struct names *names, int list, con
 }
 
 /* A literal is cut at what is above all of them. */
-static uint32_t cut(uint64_t literal) {
-    return literal < UINT32_MAX ? (uint32_t)literal : UINT32_MAX;
-}
+static uint32_t cut(uint64_t literal) { return literal < UINT32_MAX ? (uint32_t)literal : UINT32_MAX; }
 
 int find_literal(const struct plan *plan, const struct names *names, const char *word, uint32_t *literal) {
     uint64_t number;

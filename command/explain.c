@@ -87,7 +87,8 @@ static int say_not_explained(const struct request *request, const struct plan *p
     else
         say_refused_of(file->name, end, "%s \"%s\" is x at step %s, and only 0 and 1 are explained", noun, asked->word,
                        request->step);
-    if (end.place == 1 && asked->word[0] != '\0' && other != NULL && *other != letters[asked->list] && read_position(asked->word + 1, &number))
+    if (end.place == 1 && asked->word[0] != '\0' && other != NULL && *other != letters[asked->list] &&
+        read_position(asked->word + 1, &number))
         say_more("%s is %s %llu; an output, a bad state or a constraint is explained, each by its own option",
                  asked->word, nouns[other - letters], (ull)number);
     return REFUSED;

@@ -91,9 +91,7 @@ static int read_all(int from, struct source *source, first_bytes *first) {
 
 static const char standard_input[] = "standard input";
 
-const char *typed_name(const struct source *source) {
-    return source->name == standard_input ? "-" : source->name;
-}
+const char *typed_name(const struct source *source) { return source->name == standard_input ? "-" : source->name; }
 
 static int read_file(const char *name, struct source *source, first_bytes *first) {
     int standard = strcmp(name, "-") == 0;
@@ -111,17 +109,11 @@ static int read_file(const char *name, struct source *source, first_bytes *first
     return REFUSED;
 }
 
-int read_source(const char *name, struct source *source) {
-    return read_file(name, source, first_of_plan);
-}
+int read_source(const char *name, struct source *source) { return read_file(name, source, first_of_plan); }
 
-int read_cards(const char *name, struct source *source) {
-    return read_file(name, source, first_of_cards);
-}
+int read_cards(const char *name, struct source *source) { return read_file(name, source, first_of_cards); }
 
-int read_bytes(const char *name, struct source *source) {
-    return read_file(name, source, first_of_any);
-}
+int read_bytes(const char *name, struct source *source) { return read_file(name, source, first_of_any); }
 
 void free_source(struct source *source) {
     free(source->at);
@@ -129,9 +121,7 @@ void free_source(struct source *source) {
     source->length = 0;
 }
 
-static int cannot_write(const struct output *output) {
-    return fail("%s: %s", output->name, strerror(errno));
-}
+static int cannot_write(const struct output *output) { return fail("%s: %s", output->name, strerror(errno)); }
 
 /* The file that the name leads to, past links: what is renamed must not take the place of a link, nor of one that leads nowhere. */
 static char *target_of(const char *name) {
@@ -248,9 +238,7 @@ static int descriptor_of(const struct stat *about) {
     return -1;
 }
 
-static FILE *open_again(int file) {
-    return file == STDOUT_FILENO ? stdout : fdopen(dup(file), "wb");
-}
+static FILE *open_again(int file) { return file == STDOUT_FILENO ? stdout : fdopen(dup(file), "wb"); }
 
 /* What is open already is written where it is, since who opened it would not see a file in its place; so is a device or a pipe. A
    file that may not be written is opened only for the error. */
@@ -297,9 +285,7 @@ void drop_output(struct output *output) {
 /* Whether files are brought to the disk together, when the last one is written: one by one takes longer than to write them. */
 static int together;
 
-void begin_folder(void) {
-    together = 1;
-}
+void begin_folder(void) { together = 1; }
 
 int end_folder(const char *name) {
     int folder = open(name, O_RDONLY | O_DIRECTORY), good = folder >= 0 && syncfs(folder) == 0, why = errno;

@@ -22,10 +22,11 @@ void print_help(FILE *to, const struct command *command) {
     fputs("plan COMMAND [-o OUT] FILE ..\n", to);
     for (int k = 0; k < command_count; k++)
         fprintf(to, "  %-8s %s\n", commands[k].name, commands[k].what);
-    fprintf(to,
-            "%s\"plan COMMAND --help\" says more of a command, \"plan help 9\" what refusal 9 means. \"plan check FILE\" is a "
-            "good one to begin with.\n",
-            common);
+    fprintf(
+        to,
+        "%s\"plan COMMAND --help\" says more of a command, \"plan help 9\" what refusal 9 means. \"plan check FILE\" is a "
+        "good one to begin with.\n",
+        common);
 }
 
 /* What a word after help asks for; 0 if it asks for nothing that there is. */
@@ -37,7 +38,7 @@ static int print_about(FILE *to, const char *word) {
         print_help(to, command);
     else if (strcmp(word, "refusals") == 0)
         print_meanings(to);
-    else if (word[0] >= '0' && word[0] <= '9' && *end == '\0' && meaning_of(number) != NULL)
+    else if (word[0] >= '0' && word[0] <= '9' && *end == '\0' && is_refusal(number))
         print_meaning(to, number);
     else
         return 0;

@@ -10,9 +10,7 @@ struct json json_line(FILE *to) {
     return json;
 }
 
-void json_end(struct json *json) {
-    fputs("}\n", json->to);
-}
+void json_end(struct json *json) { fputs("}\n", json->to); }
 
 static void put_string(FILE *to, const uint8_t *bytes, size_t length) {
     fputc('"', to);

@@ -39,9 +39,7 @@ static int compare_inodes(const void *a, const void *b) {
     return x->inode < y->inode ? -1 : x->inode > y->inode;
 }
 
-static int compare_paths(const void *a, const void *b) {
-    return strcmp(a, b);
-}
+static int compare_paths(const void *a, const void *b) { return strcmp(a, b); }
 
 /* Whether a file is one of those that are read: what is written must not take its place. */
 static int is_read(const struct many *many, const char *path) {

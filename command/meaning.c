@@ -1,118 +1,18 @@
-/* The refusals for people, by their numbers; docs/REFUSALS.md says the same, and tests/plan/scripts.sh holds the two together. */
+/* The refusals for people, by their numbers, in the library's words. */
 #include "meaning.h"
 
-#include <stddef.h>
+#include "../c/plan.h"
 
-#include "../c/golvanzo.h"
-
-static const struct meaning meanings[] = {
-    [GOLVANZO_WRONG_BYTE] =
-        {"Something stands here that can't: a letter, a second space, a leading zero, a missing new line. Or "
-         "the file ends too early.",
-         "Look at the byte that is marked and write what the sentence asks for. If the file ends too early, "
-         "get it again: it was cut off."},
-    [GOLVANZO_LARGE_COUNT] =
-        {"A number of the header is over 1,048,575.",
-         "Cut the plan into smaller ones. No plan may have more than 1,048,575 of anything."},
-    [GOLVANZO_WRONG_SUM] =
-        {"The header doesn't add up: there are more inputs, latches and gates than M says, or, in binary and "
-         "on plan cards, fewer.",
-         "Correct the header: M must be at least I + L + A, and in binary and on plan cards exactly that."},
-    [GOLVANZO_SHORT_TABLE] =
-        {"The plan is too large for the room that it is given: a table lent for it is too short.",
-         "Lend longer tables: plan words FILE says how long. Of the programs, use plan instead, which takes "
-         "every size."},
-    [GOLVANZO_OUT_OF_RANGE] =
-        {"A literal is too large for M; or it is odd or 0 where an input, a latch or a gate gets its variable; "
-         "or a latch is reset to something else than 0, 1 or itself.",
-         "Correct the literal, or M, if that is too small. A literal is twice its variable, and one more where "
-         "it is negated."},
-    [GOLVANZO_DEFINED_TWICE] =
-        {"A variable is defined a second time.",
-         "Give one of the two another variable. The note shows the first definition."},
-    [GOLVANZO_NOT_DEFINED] =
-        {"A variable is used that no input, latch or gate defines.",
-         "Define the variable, or use another one. Often M or a line was left out by whoever wrote the file."},
-    [GOLVANZO_CYCLIC] =
-        {"A gate depends on itself, through any number of gates.",
-         "Break the circle: the notes go around it. A loop must pass through a latch."},
-    [GOLVANZO_BAD_DIFFERENCE] =
-        {"A gate of a binary file names a wrong wire: a difference is larger than what it is taken from, or "
-         "the first one is zero.",
-         "Have the file written again by whoever made it. As text its gates can be read: the first wrong gate "
-         "is the one that is named."},
-    [GOLVANZO_BAD_SYMBOL] =
-        {"A name is given to an input, latch, output, bad state or constraint that isn't there, or to one that "
-         "has a name.",
-         "Correct the position in the symbol, or leave one of the two names out."},
-    [GOLVANZO_SHORT_BUFFER] =
-        {"The file to be written doesn't fit into the room for it.",
-         "Lend more room: the place says how many bytes. Of the programs, use plan instead, which takes every "
-         "size."},
-    [GOLVANZO_BAD_VECTOR] =
-        {"A vector of values has the wrong length, or holds something else than 0, 1, x.",
-         "Give each line as many values as the plan has inputs, of 0, 1 and x alone."},
-    [GOLVANZO_LONG_INPUT] =
-        {"An input of a program has more than 65,536 bytes; or a report is asked over more than 65,536 steps; "
-         "or more rows are stepped at once than there are lanes.",
-         "Cut the list of vectors into shorter ones. Of the programs, use plan instead, which takes longer "
-         "files."},
-    [GOLVANZO_UNREADABLE] =
-        {"A program can't read a file: it isn't there, is a folder, or may not be read.",
-         "Look whether the name is right and whether you may read the file."},
-    [GOLVANZO_NOT_IN_ORDER] =
-        {"The tables are not in binary order, and the call needs that; convert first. Or plan cards are not. "
-         "Or a gate would get a right side that is not below its left side.",
-         "Run plan convert first. For plan rewire: choose a right side below the gate's left side."},
-    [GOLVANZO_LONG_DIFFERENCE] =
-        {"A gate of a binary file is badly written: a difference has more than three bytes, or more than it "
-         "needs. This is judged before 9.",
-         "Have the file written again by whoever made it: numbers must be written in as few bytes as they "
-         "need."},
-    [GOLVANZO_NOT_EXPLAINED] =
-        {"The explainer can't say why: there is no output of that number, or it is x in that step.",
-         "Choose another output or another step; plan trace shows the values of all. An x can't be explained."},
-    [GOLVANZO_WRONG_MARK] =
-        {"A record of plan cards starts with another mark than stands there by the counts.",
-         "The cards are mixed up or from another machine: have them punched again. plan check FILE shows what "
-         "an AIGER file is."},
-    [GOLVANZO_NOT_ON_CARDS] =
-        {"Plan cards can't hold this: symbols, a comment, a reset that is not 0, a bad state or a constraint.",
-         "Take out what cards can't hold, if it is not needed: plan strip takes names and comments off."},
-    [GOLVANZO_MANY_X] =
-        {"The witness question has too much to fill: latches that start as x and x of the list are more than "
-         "20. In three values it can be asked.",
-         "Use plan witness --three, which asks in three values, or give values for some of the x."},
-    [GOLVANZO_JUSTICE] =
-        {"The header counts justice or fairness properties (its eighth and ninth numbers), which are not read "
-         "here.",
-         "Have the file written without justice and fairness properties. Bad states and constraints are read."},
-    [GOLVANZO_NO_GATE] =
-        {"There is no such gate to be rewired: gates count from 0.",
-         "Count again: the first gate is 0, and plan check FILE says how many there are (A)."},
-    [GOLVANZO_WRONG_VALUE] =
-        {"The values on the screen are no step's: one doesn't follow from those of lower variables, or is "
-         "something else than 0, 1, x.",
-         "Compute the values again by a step of the plan as it is now."},
-    [GOLVANZO_MANY_GATES] =
-        {"The plan has more gates than the plain engine takes: it is for teaching, and asks again and again "
-         "for the same values.",
-         "Use plan trace, which takes any number of gates."},
-};
-
-enum { MEANINGS = sizeof meanings / sizeof meanings[0] };
-
-const struct meaning *meaning_of(uint64_t number) {
-    return number < MEANINGS && meanings[number].means != NULL ? &meanings[number] : NULL;
+int is_refusal(uint64_t number) {
+    return number > GOLVANZO_NOT_REFUSED && number < PLAN_NO_MEMORY && plan_sentence(number) != NULL;
 }
 
 void print_meaning(FILE *to, uint64_t number) {
-    fprintf(to, "refusal %llu: %s\nWhat to do: %s\n", (unsigned long long)number, meanings[number].means,
-            meanings[number].what_to_do);
+    fprintf(to, "refusal %llu: %s\nWhat to do: %s\n", (unsigned long long)number, plan_sentence(number),
+            plan_advice(number));
 }
 
 void print_meanings(FILE *to) {
-    for (uint64_t number = 0; number < MEANINGS; number++)
-        if (meaning_of(number) != NULL)
-            print_meaning(to, number);
+    for (uint64_t number = 1; is_refusal(number); number++)
+        print_meaning(to, number);
 }

@@ -72,10 +72,10 @@ static void man_options(FILE *to) {
 
 static void man_refusals(FILE *to) {
     fputs(".SH REFUSALS\n", to);
-    for (uint64_t number = 1; meaning_of(number) != NULL; number++) {
+    for (uint64_t number = 1; is_refusal(number); number++) {
         fprintf(to, ".TP\n\\fB%llu\\fR\n", (unsigned long long)number);
-        put_roff_line(to, "", meaning_of(number)->means);
-        put_roff_line(to, ".br\n", meaning_of(number)->what_to_do);
+        put_roff_line(to, "", plan_sentence(number));
+        put_roff_line(to, ".br\n", plan_advice(number));
     }
 }
 

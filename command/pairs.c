@@ -166,9 +166,7 @@ static int compare_all(struct pairs *pairs) {
 }
 
 /* Nothing of the tree is its own. */
-static void leave(void *member) {
-    (void)member;
-}
+static void leave(void *member) { (void)member; }
 
 int run_pairs(const struct request *request) {
     struct pairs pairs = {.request = request};

@@ -36,9 +36,9 @@ static void keep_nearest(const char *typed, const char *word, size_t *least, con
 static const char *other_word(const char *typed) {
     static const struct {
         const char *other, *ours;
-    } words[] = {{"diff", "same"},    {"cmp", "same"},      {"sim", "trace"},    {"simulate", "trace"},
-                 {"stats", "check"},  {"info", "check"},    {"cat", "convert"},  {"show", "draw"},
-                 {"dot", "draw"},     {"optimize", "drop"}, {"sweep", "drop"},   {"aigtoaig", "convert"},
+    } words[] = {{"diff", "same"},        {"cmp", "same"},      {"sim", "trace"},   {"simulate", "trace"},
+                 {"stats", "check"},      {"info", "check"},    {"cat", "convert"}, {"show", "draw"},
+                 {"dot", "draw"},         {"optimize", "drop"}, {"sweep", "drop"},  {"aigtoaig", "convert"},
                  {"version", "--version"}};
     for (size_t k = 0; k < sizeof words / sizeof words[0]; k++)
         if (strcmp(words[k].other, typed) == 0)

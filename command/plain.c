@@ -18,8 +18,8 @@ static int parts(struct plan *plan, const struct run *run, struct plan_end end) 
     struct plan_end other = plan_step_plain(plan, plain->next, run->inputs, plain->outputs);
     if (other.number != end.number || other.place != end.place)
         return 1;
-    return end.number == 0 && (memcmp(plain->next, run->next, n[PLAN_L]) != 0 ||
-                               memcmp(plain->outputs, run->outputs, n[PLAN_O]) != 0);
+    return end.number == 0 &&
+           (memcmp(plain->next, run->next, n[PLAN_L]) != 0 || memcmp(plain->outputs, run->outputs, n[PLAN_O]) != 0);
 }
 
 static int trace_beside(const struct request *request, const struct source *file, struct plan *plan) {

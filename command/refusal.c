@@ -129,9 +129,7 @@ static void say_wrong_start(const struct refusal *r) {
     say_mendable(r);
 }
 
-static const char *which_difference(const struct difference *d) {
-    return d->second ? "second" : "first";
-}
+static const char *which_difference(const struct difference *d) { return d->second ? "second" : "first"; }
 
 /* A file that ends among its gates. */
 static void say_cut_off(const struct refusal *r, const struct difference *d) {
@@ -325,9 +323,7 @@ static void say_many_gates(const struct refusal *r) {
                 (ull)r->end.place);
 }
 
-static void say_cyclic(const struct refusal *r) {
-    say_cycle(&r->scan, r->end);
-}
+static void say_cyclic(const struct refusal *r) { say_cycle(&r->scan, r->end); }
 
 int ended(struct plan_end end, const struct source *file) {
     static const struct {

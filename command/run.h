@@ -11,9 +11,7 @@ void free_view(struct plan *view);
 
 /* The lists that views are of, in the order of a run's views. */
 enum { VIEW_BADS, VIEW_CONSTRAINTS, VIEWS };
-static inline int view_list(int view) {
-    return NAMED_BADS + view;
-}
+static inline int view_list(int view) { return NAMED_BADS + view; }
 
 /* One step of a run: its number, and the bytes before and after it. With `all` the bad states and the constraints are looked at
    too. What is beside, if anything is, sees every step and says whether it parts from it; the run ends there. */
@@ -35,9 +33,7 @@ void end_run(struct run *run);
 struct plan_end next_step(struct plan *plan, struct run *run, const uint8_t *inputs);
 
 /* How many entries a view has. */
-static inline uint64_t view_entries(const struct plan *plan, int view) {
-    return entries(plan, view_list(view));
-}
+static inline uint64_t view_entries(const struct plan *plan, int view) { return entries(plan, view_list(view)); }
 
 /* trace.c: a run over the vectors of a request, each step written. */
 int trace(const struct request *request, const struct source *file, struct plan *plan, struct run *run);

@@ -16,16 +16,12 @@ enum { WIDE = 100, BEFORE = 60, GATE_BYTES = 16, GUTTER = 7 };
 /* The file of a folder that is said of in one line; null where there is room for more. */
 static const char *moving;
 
-void say_in_one_line(const char *file) {
-    moving = file;
-}
+void say_in_one_line(const char *file) { moving = file; }
 
 /* Whether scripts are said to: an object a line, on standard output. */
 static int objects;
 
-void say_in_objects(void) {
-    objects = 1;
-}
+void say_in_objects(void) { objects = 1; }
 
 /* Where it is said: lines about the files of a folder are what was asked for. */
 static FILE *told(void) {
@@ -69,9 +65,7 @@ void put_shown(FILE *to, const void *bytes, size_t length) {
     }
 }
 
-void put_text(FILE *to, const char *text) {
-    put_shown(to, text, strlen(text));
-}
+void put_text(FILE *to, const char *text) { put_shown(to, text, strlen(text)); }
 
 static void say_toned(enum tone which, const char *text) {
     fputs(tone(which), told());
@@ -133,13 +127,9 @@ int fail(const char *format, ...) {
     return FAILED;
 }
 
-int no_memory(void) {
-    return fail("there is no memory for this");
-}
+int no_memory(void) { return fail("there is no memory for this"); }
 
-static char shown(uint8_t b) {
-    return 32 <= b && b <= 126 ? (char)b : '.';
-}
+static char shown(uint8_t b) { return 32 <= b && b <= 126 ? (char)b : '.'; }
 
 void show_bytes(char *to, size_t room, const uint8_t *bytes, size_t length) {
     size_t k = 0;
@@ -314,8 +304,8 @@ void say_line_ends(const struct scan *scan, size_t at) {
 }
 
 void say_number(const char *name, struct plan_end end) {
-    const struct meaning *meaning = meaning_of(end.number);
-    say_refused_of(name, end, "%s", meaning != NULL ? meaning->means : "docs/REFUSALS.md says what that means");
+    const char *why = is_refusal(end.number) ? plan_sentence(end.number) : "docs/REFUSALS.md says what that means";
+    say_refused_of(name, end, "%s", why);
 }
 
 void say_unreadable(const char *name, const char *why) {

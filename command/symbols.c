@@ -7,9 +7,7 @@ const char letters[NAMED + 1] = "ilobc";
 const int list_counts[NAMED] = {PLAN_I, PLAN_L, PLAN_O, PLAN_B, PLAN_C};
 const char *const nouns[NAMED] = {"input", "latch", "output", "bad state", "constraint"};
 
-static int is_digit(uint8_t b) {
-    return '0' <= b && b <= '9';
-}
+static int is_digit(uint8_t b) { return '0' <= b && b <= '9'; }
 
 int next_symbol(const uint8_t *bytes, size_t length, size_t *at, struct symbol *symbol) {
     size_t k = *at + 1;
@@ -37,13 +35,9 @@ size_t symbols_end(const struct plan *plan) {
     return at;
 }
 
-void put_name(const struct symbol *symbol, FILE *to) {
-    fwrite(symbol->name, 1, symbol->length, to);
-}
+void put_name(const struct symbol *symbol, FILE *to) { fwrite(symbol->name, 1, symbol->length, to); }
 
-uint64_t entries(const struct plan *plan, int list) {
-    return plan->counts[list_counts[list]];
-}
+uint64_t entries(const struct plan *plan, int list) { return plan->counts[list_counts[list]]; }
 
 int read_names(const struct plan *plan, struct names *names) {
     struct symbol symbol;

@@ -45,9 +45,7 @@ static char *spelled(const struct symbol *symbol) {
     return word;
 }
 
-static int by_text(const void *a, const void *b) {
-    return strcmp(a, b);
-}
+static int by_text(const void *a, const void *b) { return strcmp(a, b); }
 
 /* The word of an entry, to which letter and position are put where another of the list has it; the tree holds those that are had.
    Null without memory. */
@@ -112,9 +110,7 @@ int begin_wave(struct wave *wave, const struct plan *plan, int all, FILE *to) {
     return no_memory();
 }
 
-void free_wave(struct wave *wave) {
-    free(wave->shown);
-}
+void free_wave(struct wave *wave) { free(wave->shown); }
 
 /* The values of one list, whose signals start at `first`, as far as they are others than those shown. */
 static void print_list(const struct wave *wave, uint64_t first, const uint8_t *values, uint64_t count, FILE *to) {

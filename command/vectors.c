@@ -8,9 +8,7 @@
 #include "command.h"
 #include "say.h"
 
-static int is_value(uint8_t b) {
-    return b == '0' || b == '1' || b == 'x';
-}
+static int is_value(uint8_t b) { return b == '0' || b == '1' || b == 'x'; }
 
 /* The first byte of a line that is no value; its length if all are. */
 static size_t wrong_value(const uint8_t *line, size_t length) {
@@ -95,9 +93,7 @@ int open_feed(const struct request *request, uint64_t inputs, struct feed *feed)
     return feed->vectors.source.at == NULL ? no_memory() : DONE;
 }
 
-void close_feed(struct feed *feed) {
-    free_source(&feed->vectors.source);
-}
+void close_feed(struct feed *feed) { free_source(&feed->vectors.source); }
 
 /* The bytes that are not given yet. */
 static struct source left_in(const struct feed *feed) {

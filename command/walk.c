@@ -63,9 +63,7 @@ struct walk {
     const struct stat *out;
 };
 
-static int by_name(const FTSENT **a, const FTSENT **b) {
-    return strcmp((*a)->fts_name, (*b)->fts_name);
-}
+static int by_name(const FTSENT **a, const FTSENT **b) { return strcmp((*a)->fts_name, (*b)->fts_name); }
 
 /* Why an entry can't be read, or null. */
 static const char *wrong_with(const FTSENT *entry) {

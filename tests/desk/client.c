@@ -103,9 +103,7 @@ static struct circuit to_work(struct circuit c) {
     return c;
 }
 
-static struct circuit read_file(struct bytes file) {
-    return to_work(read_alone(file));
-}
+static struct circuit read_file(struct bytes file) { return to_work(read_alone(file)); }
 
 static int all_zero(const uint32_t *words, size_t n) {
     for (size_t k = 0; k < n; k++)
@@ -126,9 +124,7 @@ static struct bytes written(struct circuit c, int binary, struct bytes tail) {
     return out;
 }
 
-static int same(struct bytes a, struct bytes b) {
-    return a.length == b.length && memcmp(a.at, b.at, a.length) == 0;
-}
+static int same(struct bytes a, struct bytes b) { return a.length == b.length && memcmp(a.at, b.at, a.length) == 0; }
 
 enum change { CONVERT, REDUCE, DROP };
 
@@ -454,7 +450,8 @@ static void reports(void) {
     expect(all_zero(six + 12, 4), "zero past the numbers", "report");
     memset(six, 0xff, sizeof six);
     golvanzo_report(COUNTS(c), SEVEN(c), TABLE(c, SCRATCH), 4, list.at, list.length, six, 11, answer);
-    expect(answer[0] == 4 && answer[1] == 6 && all_zero(six, 11), "table 6 of 11 words is too short, and zero", "report");
+    expect(answer[0] == 4 && answer[1] == 6 && all_zero(six, 11), "table 6 of 11 words is too short, and zero",
+           "report");
     golvanzo_report(COUNTS(c), SEVEN(c), TABLE(c, SCRATCH), 65537, list.at, list.length, six, 16, answer);
     expect(answer[0] == 13 && answer[1] == 65536, "13 comes before 12", "report");
     golvanzo_report(COUNTS(c), SEVEN(c), TABLE(c, SCRATCH), 3, list.at, list.length, six, 16, answer);
@@ -561,7 +558,8 @@ static void rows(void) {
     uint64_t answer[2];
     struct bytes two = FILE_OF("01"), none = {NULL, 0};
     uint32_t *report = lend(4 * 11);
-    expect(c.answer[0] == 0 && c.table[4][0] == 0 && c.table[4][1] == 1 && c.table[4][2] == 10, "starts 0, 1, x", "read");
+    expect(c.answer[0] == 0 && c.table[4][0] == 0 && c.table[4][1] == 1 && c.table[4][2] == 10, "starts 0, 1, x",
+           "read");
     rows_of(c, 0), rows_of(c, 1), rows_of(c, 63), rows_of(c, 64), rows_of(c, 65);
     golvanzo_rows(COUNTS(c), SEVEN(c), TABLE(c, SCRATCH), 1, none.at, 0, two.at, 2, none.at, 0, answer);
     expect(answer[0] == 12 && answer[1] == 1, "12 at 1", "rows");
@@ -636,7 +634,8 @@ static const struct refused {
     size_t length;
     uint64_t number, place;
 } refused_files[] = {
-#define REFUSED(file, number, place) {file, sizeof file - 1, number, place}
+#define REFUSED(file, number, place)                                                                                   \
+    { file, sizeof file - 1, number, place }
     REFUSED("aag 0 0 0 0 0", 1, 13),
     REFUSED("", 1, 0),
     REFUSED("aag 1048576 0 0 0 0\n", 2, 4),

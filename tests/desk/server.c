@@ -208,7 +208,7 @@ static void serve(uint32_t call) {
     case 19: call_read_cards(); break;
     case 20: call_write(golvanzo_write_cards); break;
     default: give_up("no such call");
-    /* clang-format on */
+        /* clang-format on */
     }
 }
 

@@ -56,9 +56,7 @@ static uint64_t get_number(void) {
     return number;
 }
 
-static void put_number(uint64_t number) {
-    put(&number, sizeof number);
-}
+static void put_number(uint64_t number) { put(&number, sizeof number); }
 
 /* Memory of exactly this length, so that a checker of addresses sees what lies outside; filled from the request. */
 static void *get_bytes(size_t length) {
@@ -85,17 +83,11 @@ static void put_memory(struct memory memory) {
     free(memory.all);
 }
 
-static struct memory get_table(void) {
-    return get_memory(sizeof(uint32_t));
-}
+static struct memory get_table(void) { return get_memory(sizeof(uint32_t)); }
 
-static struct memory get_numbers(void) {
-    return get_memory(sizeof(uint64_t));
-}
+static struct memory get_numbers(void) { return get_memory(sizeof(uint64_t)); }
 
-static struct memory get_vector(void) {
-    return get_memory(sizeof(uint8_t));
-}
+static struct memory get_vector(void) { return get_memory(sizeof(uint8_t)); }
 
 static struct given get_given(void) {
     struct given given;

@@ -26,9 +26,7 @@ static void expect_version(const char *version) {
     expect(sizeof(golvanzo_size) == 8, "a length has 64 bits");
 }
 
-static int said(const char *text) {
-    return text != NULL && text[0] != 0;
-}
+static int said(const char *text) { return text != NULL && text[0] != 0; }
 
 /* Every refusal has words, and no other number. */
 static void expect_sentences(void) {

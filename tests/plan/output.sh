@@ -54,7 +54,7 @@ replaced() {
 # Brought to the disk before it gets its name, or else it does not get it. A folder's files are so together, at the end.
 synced() {
     local before=$command
-    build_over_desk plan-synced tests/plan/synced.c -g -O1 -Wl,--wrap=fsync,--wrap=syncfs,--wrap=rename c/plan.c command/*.c
+    build_over_desk plan-synced tests/plan/synced.c -g -O1 -Wl,--wrap=fsync,--wrap=syncfs,--wrap=rename c/plan.c c/sentences.c command/*.c
     command="${emulator}target/desk/plan-synced"
     try convert -o "$room/to/made" examples/toggle.aag
     holds "to the disk, then renamed" [ "$(cat "$room/status" "$room/error")" = $'0\nfsync\nrename' ]

@@ -68,7 +68,7 @@ wrong_vectors() {
 # An engine that is wrong from its third step on, linked in the place of the plain one, is found out at that step.
 wrong_engine() {
     local which
-    build_over_desk plan-parted tests/plan/parted.c -g -O1 -Wl,--wrap=golvanzo_step_plain c/plan.c command/*.c
+    build_over_desk plan-parted tests/plan/parted.c -g -O1 -Wl,--wrap=golvanzo_step_plain c/plan.c c/sentences.c command/*.c
     command="${emulator}target/desk/plan-parted"
     printf '0 11 01 1\n1 11 10 0\ndiffer\n' >"$room/lines"
     for which in state outputs answer; do

@@ -15,13 +15,9 @@ static int says(const char *what) {
     return sync != NULL && strcmp(sync, "fails") == 0;
 }
 
-int __wrap_fsync(int file) {
-    return says("fsync") ? -1 : __real_fsync(file);
-}
+int __wrap_fsync(int file) { return says("fsync") ? -1 : __real_fsync(file); }
 
-int __wrap_syncfs(int file) {
-    return says("syncfs") ? -1 : __real_syncfs(file);
-}
+int __wrap_syncfs(int file) { return says("syncfs") ? -1 : __real_syncfs(file); }
 
 int __wrap_rename(const char *from, const char *to) {
     fprintf(stderr, "rename\n");
