@@ -87,6 +87,25 @@ struct vectors {
 int read_vectors(const struct request *request, uint64_t inputs, struct vectors *vectors);
 const uint8_t *vector(const struct vectors *vectors, uint64_t inputs, uint64_t k);
 
+/* Vectors one after another: those of a file when all its lines are judged, those of standard input as they come. Of the latter
+   `source` is a buffer of `room` bytes, of which those from `from` on are not given yet; `given` vectors and `gone` bytes came before. */
+struct feed {
+    struct vectors vectors;
+    int streams, over, status;
+    uint64_t given;
+    size_t room, from, gone;
+};
+
+int open_feed(const struct request *request, uint64_t inputs, struct feed *feed);
+void close_feed(struct feed *feed);
+
+/* The next vector, kept until one more is asked for; null after the last, and where one is refused, as `status` says. What was
+   written is on its way before one is waited for. */
+const uint8_t *next_vector(struct feed *feed, uint64_t inputs, FILE *to);
+
+/* Whether the next vector has to be waited for. */
+int must_wait(const struct feed *feed);
+
 /* The same as a list without the ends of lines, as the library takes it; `file` is its name. */
 struct list {
     const char *file;

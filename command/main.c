@@ -68,7 +68,7 @@ const struct command commands[] = {
      .more = "A vector has a value for each input: 0, 1 or x. A line for each step: state, inputs, outputs, next state.\n"
              "--vcd writes a waveform instead, for GTKWave and others, with the names of the plan.\n"
              "--all has the bad states and the constraints too, at the ends of lines or in the waveform.\n"
-             "Without VECTORS they are read from standard input.",
+             "Without VECTORS they are read from standard input, and each line is answered before the next is read.",
      .takes = TAKES_SECOND | TAKES_VCD | TAKES_ALL,
      .on_plan = run_trace},
     {.name = "plain",

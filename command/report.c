@@ -50,6 +50,8 @@ static int print_report(const struct request *request, const struct source *file
         status = open_output(&output, request->out);
     if (status == DONE) {
         const uint32_t *latches = counted->outputs + 4 * plan->counts[PLAN_O];
+        if (output.people && !request->json)
+            fprintf(output.to, "which 0 1 x changes%s\n", request->names ? " name" : "");
         print_list(output.to, request, file, plan, &names, NAMED_OUTPUTS, counted->outputs);
         print_list(output.to, request, file, plan, &names, NAMED_LATCHES, latches);
         for (int k = 0; request->all && k < VIEWS; k++)

@@ -1,5 +1,6 @@
 /* The verb that steps rows, each by itself: rows. */
 #include <stdlib.h>
+#include <string.h>
 
 #include "command.h"
 #include "symbols.h"
@@ -7,62 +8,87 @@
 /* The rows that the library steps at once. */
 enum { BLOCK = 64 };
 
-/* What the rows of a block leave: the first state of all, and the bytes of each. */
+/* The rows of a block: their inputs, the first state of all, and what each leaves. */
 struct rows {
-    uint8_t *first, *nexts, *outputs;
+    uint8_t *inputs, *first, *nexts, *outputs;
 };
 
 static int lend_rows(const struct plan *plan, struct rows *rows) {
     const uint64_t *n = plan->counts;
+    rows->inputs = malloc(BLOCK * n[PLAN_I] + 1);
     rows->first = malloc(n[PLAN_L] + 1);
     rows->nexts = malloc(BLOCK * n[PLAN_L] + 1);
     rows->outputs = malloc(BLOCK * n[PLAN_O] + 1);
-    return rows->first != NULL && rows->nexts != NULL && rows->outputs != NULL;
+    return rows->inputs != NULL && rows->first != NULL && rows->nexts != NULL && rows->outputs != NULL;
 }
 
 static void free_rows(struct rows *rows) {
+    free(rows->inputs);
     free(rows->first);
     free(rows->nexts);
     free(rows->outputs);
 }
 
+/* As many rows as are there, at most a block; one is waited for. */
+static uint64_t next_rows(const struct plan *plan, struct feed *feed, const struct rows *rows, FILE *to) {
+    uint64_t number = 0, inputs = plan->counts[PLAN_I];
+    const uint8_t *vector;
+    while (number < BLOCK && (number == 0 || !must_wait(feed)) && (vector = next_vector(feed, inputs, to)) != NULL)
+        memcpy(rows->inputs + inputs * number++, vector, inputs);
+    return number;
+}
+
 /* Steps so many rows, at most a block, and writes their lines. */
-static struct plan_end step_block(struct plan *plan, uint64_t number, const uint8_t *inputs, const struct rows *rows,
-                                  FILE *to) {
+static struct plan_end step_block(struct plan *plan, uint64_t number, const struct rows *rows, FILE *to) {
     const uint64_t *n = plan->counts;
-    struct plan_end end = plan_rows(plan, number, inputs, rows->nexts, rows->outputs);
+    struct plan_end end = plan_rows(plan, number, rows->inputs, rows->nexts, rows->outputs);
     for (uint64_t k = 0; end.number == 0 && k < number && !ferror(to); k++)
-        print_line(to, plan, rows->first, inputs + k * n[PLAN_I], rows->outputs + k * n[PLAN_O],
+        print_line(to, plan, rows->first, rows->inputs + k * n[PLAN_I], rows->outputs + k * n[PLAN_O],
                    rows->nexts + k * n[PLAN_L]);
     return end;
 }
 
 /* Block after block, so that no more is held. No rows are a block too, so that the plan is judged. */
-static struct plan_end step_blocks(struct plan *plan, const struct list *list, const struct rows *rows, FILE *to) {
+static struct plan_end step_blocks(struct plan *plan, struct feed *feed, const struct rows *rows, FILE *to) {
     struct plan_end end;
-    uint64_t at = 0, now;
+    uint64_t number;
     plan_first(plan, rows->first);
     do {
-        now = list->number - at < BLOCK ? list->number - at : BLOCK;
-        end = step_block(plan, now, list->at + at * plan->counts[PLAN_I], rows, to);
-        at += now;
-    } while (end.number == 0 && at < list->number && !ferror(to));
+        number = next_rows(plan, feed, rows, to);
+        end = step_block(plan, number, rows, to);
+    } while (end.number == 0 && number > 0 && feed->status == DONE && !ferror(to));
     return end;
 }
 
-static int step_rows(const struct request *request, const struct source *file, struct plan *plan,
-                     const struct list *list) {
+static int step_to(struct output *output, const struct source *file, struct plan *plan, struct feed *feed) {
     struct rows rows;
+    int status = lend_rows(plan, &rows) ? DONE : no_memory();
+    if (output->people)
+        fputs("state inputs outputs next\n", output->to);
+    if (status == DONE)
+        status = ended(step_blocks(plan, feed, &rows, output->to), file);
+    free_rows(&rows);
+    return status == DONE ? feed->status : status;
+}
+
+/* All refusals of a file of vectors come before the first line is written. */
+static int step_rows(const struct request *request, const struct source *file, struct plan *plan) {
+    struct feed feed;
     struct output output;
-    int status = lend_rows(plan, &rows) ? open_output(&output, request->out) : no_memory();
+    int status = put_in_order(plan, file);
+    if (status == DONE)
+        status = open_feed(request, plan->counts[PLAN_I], &feed);
+    if (status != DONE)
+        return status;
+    status = open_output(&output, request->out);
     if (status == DONE) {
-        status = ended(step_blocks(plan, list, &rows, output.to), file);
+        status = step_to(&output, file, plan, &feed);
         if (status == DONE)
             status = close_output(&output);
         else
             drop_output(&output);
     }
-    free_rows(&rows);
+    close_feed(&feed);
     return status;
 }
 
@@ -95,6 +121,8 @@ static int print_counts(const struct request *request, const struct plan *plan, 
     int status = open_output(&output, request->out);
     if (status != DONE)
         return status;
+    if (output.people)
+        fputs("which 0 1 x\n", output.to);
     for (uint64_t k = 0; k < plan->counts[PLAN_O]; k++, report += 3)
         fprintf(output.to, "o%llu %llu %llu %llu\n", (unsigned long long)k, (unsigned long long)report[0],
                 (unsigned long long)report[1], (unsigned long long)report[2]);
@@ -114,5 +142,5 @@ static int count_rows(const struct request *request, const struct source *file, 
 int run_rows(const struct request *request, const struct source *file, struct plan *plan) {
     if (request->json && !request->count)
         return fail("--json is for rows that are counted, by --count");
-    return with_list(request, file, plan, request->count ? count_rows : step_rows);
+    return request->count ? with_list(request, file, plan, count_rows) : step_rows(request, file, plan);
 }

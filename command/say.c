@@ -107,7 +107,7 @@ static void say_object(const char *file, const struct plan_end *end, const struc
     if (scan != NULL && past_lines(scan, at)) {
         json_number(&json, "byte", at);
     } else if (scan != NULL) {
-        json_number(&json, "line", line_at(scan->of, at));
+        json_number(&json, "line", scan->before + line_at(scan->of, at));
         json_number(&json, "column", at - line_start(scan, at) + 1);
     }
     if (vasprintf(&sentence, format, more) >= 0) {
@@ -190,7 +190,8 @@ static void say_where(const struct scan *scan, size_t at) {
     if (past_lines(scan, at))
         fprintf(told(), ":byte %zu: ", at);
     else
-        fprintf(told(), ":%llu:%zu: ", (unsigned long long)line_at(scan->of, at), at - line_start(scan, at) + 1);
+        fprintf(told(), ":%llu:%zu: ", (unsigned long long)(scan->before + line_at(scan->of, at)),
+                at - line_start(scan, at) + 1);
     fputs(tone(PLAIN), told());
 }
 
@@ -216,7 +217,7 @@ static void say_line(const struct scan *scan, struct spot spot) {
     if (past_lines(scan, spot.at))
         fprintf(told(), "%*s | %s\n", GUTTER, "", line);
     else
-        fprintf(told(), "%*llu | %s\n", GUTTER, (unsigned long long)line_at(s, spot.at), line);
+        fprintf(told(), "%*llu | %s\n", GUTTER, (unsigned long long)(scan->before + line_at(s, spot.at)), line);
     size_t before = spot.at - from, most = WIDE - before,
            width = end - spot.at < spot.width ? end - spot.at : spot.width;
     say_mark(before, width < most ? width : most, 1);
@@ -309,8 +310,7 @@ void say_more(const char *format, ...) {
 void say_line_ends(const struct scan *scan, size_t at) {
     const struct source *s = scan->of;
     if (at + 1 < s->length && s->at[at] == '\r' && s->at[at + 1] == '\n')
-        say_more("lines end in CR LF here, as on Windows; a new line is LF alone%s",
-                 scan->binary ? "" : ": \"tr -d '\\r'\" takes the CR away");
+        say_more("lines end in CR LF here, as on Windows; a new line is LF alone: \"tr -d '\\r'\" takes the CR away");
 }
 
 void say_number(const char *name, struct plan_end end) {

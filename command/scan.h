@@ -9,12 +9,13 @@ enum section { HEADER, INPUTS, LATCHES, OUTPUTS, BADS, CONSTRAINTS, GATES, TAIL 
 enum { ALL_COUNTS = 9, FIELDS = 3 };
 
 /* The counts M I L O A B C J F with their places, `known` of them; where the header's line ends, where the lines after it
-   start, where the differences of a binary file do, and where the tail does. */
+   start, where the differences of a binary file do, and where the tail does. `before` is how many lines came before the bytes. */
 struct scan {
     const struct source *of;
     int binary, known;
     uint64_t counts[ALL_COUNTS];
     size_t count_at[ALL_COUNTS], header, body, gates, tail;
+    uint64_t before;
 };
 
 struct scan scan_of(const struct source *source);

@@ -35,11 +35,15 @@ static void print_run(FILE *to, const struct plan *plan, const struct run *run) 
 }
 
 /* Steps with every vector, each step being written; stops where it can't be, or where what is beside parts. */
-static struct plan_end step_all(struct plan *plan, const struct vectors *vectors, struct run *run,
-                                const struct wave *wave, FILE *to) {
+static struct plan_end step_all(struct plan *plan, struct feed *feed, struct run *run, const struct wave *wave,
+                                FILE *to) {
     struct plan_end end = {0, 0};
-    for (run->step = 0; run->step < vectors->number && end.number == 0 && !ferror(to); run->step++) {
-        end = next_step(plan, run, vector(vectors, plan->counts[PLAN_I], run->step));
+    const uint8_t *inputs;
+    for (run->step = 0; end.number == 0 && !ferror(to); run->step++) {
+        inputs = next_vector(feed, plan->counts[PLAN_I], to);
+        if (inputs == NULL)
+            break;
+        end = next_step(plan, run, inputs);
         if (run->parts != NULL && run->parts(plan, run, end)) {
             run->parted = 1;
             fputs("differ\n", to);
@@ -56,13 +60,14 @@ static struct plan_end step_all(struct plan *plan, const struct vectors *vectors
 }
 
 static int trace_to(FILE *to, const struct request *request, const struct source *file, struct plan *plan,
-                    const struct vectors *vectors, struct run *run) {
+                    struct feed *feed, struct run *run) {
     struct wave wave;
     int status = begin_run(plan, run) ? DONE : no_memory();
     if (status == DONE && request->vcd)
         status = begin_wave(&wave, plan, run->all, to);
     if (status == DONE) {
-        status = ended(step_all(plan, vectors, run, request->vcd ? &wave : NULL, to), file);
+        status = ended(step_all(plan, feed, run, request->vcd ? &wave : NULL, to), file);
+        status = status == DONE ? feed->status : status;
         if (request->vcd)
             free_wave(&wave);
     }
@@ -70,22 +75,22 @@ static int trace_to(FILE *to, const struct request *request, const struct source
     return status;
 }
 
-/* Of a plan in binary order: all refusals of the vectors come before the first line is written. */
+/* Of a plan in binary order: all refusals of a file of vectors come before the first line is written. */
 int trace(const struct request *request, const struct source *file, struct plan *plan, struct run *run) {
-    struct vectors vectors;
+    struct feed feed;
     struct output output;
-    int status = read_vectors(request, plan->counts[PLAN_I], &vectors);
+    int status = open_feed(request, plan->counts[PLAN_I], &feed);
     if (status != DONE)
         return status;
     status = open_output(&output, request->out);
     if (status == DONE) {
-        status = trace_to(output.to, request, file, plan, &vectors, run);
+        status = trace_to(output.to, request, file, plan, &feed, run);
         if (status == DONE)
             status = close_output(&output);
         else
             drop_output(&output);
     }
-    free_source(&vectors.source);
+    close_feed(&feed);
     return status;
 }
 
