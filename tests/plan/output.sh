@@ -117,6 +117,7 @@ open_already() {
     holds "-o /dev/stdout writes to a pipe" cmp -s examples/toggle.aig <($command convert -o /dev/stdout examples/toggle.aag | cat)
     # what is open to be read is replaced
     cp examples/toggle.aag "$room/to/made"
+    # shellcheck disable=SC2094 # all of it is read before it is written
     accepts /dev/null convert -o "$room/to/made" - <"$room/to/made"
     holds "-o replaces what is read" cmp -s examples/toggle.aig "$room/to/made"
     rm "$room/to"/*

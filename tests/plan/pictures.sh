@@ -1,4 +1,4 @@
-# shellcheck shell=bash disable=SC2154 # of run, which sources this
+# shellcheck shell=bash disable=SC2016,SC2154 # the dollars are those of a waveform; of run, which sources this
 # Names that mean something else in a waveform or a drawing, and drawings that are too large to be read.
 
 # In a waveform a name is one word, no keyword, no range of bits, and no other's of its list; a single bit's may end in its place.

@@ -28,6 +28,7 @@ END
 # at_once WORD..: each line is answered before the next is written.
 at_once() {
     local line answer
+    # shellcheck disable=SC2086 # the words that start it
     coproc ASKED { timeout 60 $command "$@" examples/toggle.aag - 2>"$room/error"; }
     for line in 11 x1 00; do
         echo $line >&"${ASKED[1]}"
@@ -35,6 +36,7 @@ at_once() {
         while [[ ${2-} == --vcd && $answer != \#* ]] && IFS= read -r -t 50 answer <&"${ASKED[0]}"; do :; done
         printf '%s\n' "$answer"
     done >"$room/answers"
+    # shellcheck disable=SC1083,SC2093 # the descriptor is closed
     exec {ASKED[1]}>&-
     wait "$ASKED_PID"
 }
