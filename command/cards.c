@@ -145,13 +145,6 @@ static const char *no_file(const char *name) {
     return S_ISDIR(about.st_mode) ? "it is a folder, which is given by itself" : "it is no file";
 }
 
-static void print_moved(const char *from, const char *out) {
-    put_text(stdout, from);
-    fputs(": ", stdout);
-    put_text(stdout, out);
-    fputc('\n', stdout);
-}
-
 /* One line for the file, whatever becomes of it. Only a file that is moved takes the name. */
 static int move_entry(const struct move *move, const struct request *request, const char *name, void **moved) {
     char *const *first = tfind(name, moved, by_stem);
@@ -171,7 +164,7 @@ static int move_entry(const struct move *move, const struct request *request, co
     if (status == DONE && tsearch(name, moved, by_stem) == NULL)
         status = no_memory();
     if (status == DONE)
-        print_moved(from, out);
+        say_written(from, out);
     say_in_one_line(NULL);
     free(from);
     free(out);

@@ -245,8 +245,8 @@ void print_differences(const struct side *sides, const struct differences *found
     print_sides(sides, found, to);
     if (only_gates(found))
         fputs(
-            "every output, next state, bad state and constraint takes the same gates: they stand in another order, or are "
-            "used by nothing.\n\"same\" can't see through that; \"plan alike\" asks whether two plans do the same\n",
+            "every output, next state, bad state and constraint takes the same gates: they stand in another order, or "
+            "are used by nothing.\n\"same\" can't see through that; \"plan alike\" asks whether two plans do the same\n",
             to);
     if (only_tail(found))
         fputs("the plans are the same but for names and comments, which --plan leaves out\n", to);

@@ -74,14 +74,6 @@ static char *out_name(const struct many *many, const struct found *found, const 
     return path;
 }
 
-static void print_moved(const char *from, const char *to) {
-    progress_clear();
-    put_text(stdout, from);
-    fputs(": ", stdout);
-    put_text(stdout, to);
-    fputc('\n', stdout);
-}
-
 /* Of two that would be written under one name the first that is written stays. */
 static int write_one(struct many *many, const struct found *found, const struct source *file, struct plan *plan) {
     struct request one = *many->request;
@@ -100,7 +92,7 @@ static int write_one(struct many *many, const struct found *found, const struct 
     if (status == DONE)
         status = many->command->on_plan(&one, file, plan);
     if (status == DONE && !one.quiet)
-        print_moved(found->path, out);
+        say_written(found->path, out);
     if (status == DONE && tsearch(out, &many->written, compare_paths) != NULL)
         return DONE;
     free(out);

@@ -297,6 +297,14 @@ void say_more(const char *format, ...) {
     va_end(more);
 }
 
+void say_written(const char *from, const char *to) {
+    progress_clear();
+    put_text(stdout, from);
+    fputs(": ", stdout);
+    put_text(stdout, to);
+    fputc('\n', stdout);
+}
+
 void say_line_ends(const struct scan *scan, size_t at) {
     const struct source *s = scan->of;
     if (at + 1 < s->length && s->at[at] == '\r' && s->at[at + 1] == '\n')

@@ -36,6 +36,9 @@ void say_in_one_line(const char *file);
 /* From now on scripts are said to: each refusal is an object on standard output, and notes are left out. */
 void say_in_objects(void);
 
+/* The line of a file of many that became another. */
+void say_written(const char *from, const char *to);
+
 /* A note where the byte of a place belongs to an end of a line that is of another kind. */
 void say_line_ends(const struct scan *scan, size_t at);
 
