@@ -31,7 +31,8 @@ static struct known *find(const struct gates *gates, const uint32_t sides[2]) {
 }
 
 /* Gates come after what they take; the number of classes grows. */
-static void add_gates(const struct plan *plan, int side, struct classes *classes, struct gates *gates, uint32_t *number) {
+static void add_gates(const struct plan *plan, int side, struct classes *classes, struct gates *gates,
+                      uint32_t *number) {
     uint32_t given = (uint32_t)(plan->counts[PLAN_I] + plan->counts[PLAN_L]);
     for (uint32_t v = 0; v <= given; v++)
         classes->of[side][v] = v;

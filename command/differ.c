@@ -246,8 +246,8 @@ static void print_sides(const struct side *sides, const struct differences *foun
 void print_differences(const struct side *sides, const struct differences *found, FILE *to) {
     print_sides(sides, found, to);
     if (only_gates(found))
-        fputs("every output, next state, bad state and constraint takes the same gates: they stand in another order, or are "
-              "used by nothing.\n\"same\" can't see through that; \"plan alike\" asks whether two plans do the same\n",
+        fputs("every output, next state, bad state and constraint takes the same gates: they stand in another order, or "
+              "are used by nothing.\n\"same\" can't see through that; \"plan alike\" asks whether two plans do the same\n",
               to);
     if (only_tail(found))
         fputs("the plans are the same but for names and comments, which --plan leaves out\n", to);

@@ -79,7 +79,7 @@ static void print_object(const struct source *file, const struct plan *plan, con
 /* 17 in words: the library says that there is no such output, or that it is x. */
 static int say_not_explained(const struct request *request, const struct plan *plan, const struct source *file,
                              const struct asked *asked, struct plan_end end) {
-    const char *noun = nouns[asked->list], *other = strchr(letters, asked->word[0]);
+    const char *noun = nouns[asked->list], *other = asked->word[0] == '\0' ? NULL : strchr(letters, asked->word[0]);
     uint64_t number;
     if (end.place == 1)
         say_refused_of(file->name, end, "there is no %s \"%s\": the plan has %llu, counted from 0", noun, asked->word,
@@ -87,7 +87,7 @@ static int say_not_explained(const struct request *request, const struct plan *p
     else
         say_refused_of(file->name, end, "%s \"%s\" is x at step %s, and only 0 and 1 are explained", noun, asked->word,
                        request->step);
-    if (end.place == 1 && asked->word[0] != '\0' && other != NULL && *other != letters[asked->list] && read_position(asked->word + 1, &number))
+    if (end.place == 1 && other != NULL && *other != letters[asked->list] && read_position(asked->word + 1, &number))
         say_more("%s is %s %llu; an output, a bad state or a constraint is explained, each by its own option",
                  asked->word, nouns[other - letters], (ull)number);
     return REFUSED;

@@ -23,8 +23,8 @@ void print_help(FILE *to, const struct command *command) {
     for (int k = 0; k < command_count; k++)
         fprintf(to, "  %-8s %s\n", commands[k].name, commands[k].what);
     fprintf(to,
-            "%s\"plan COMMAND --help\" says more of a command, \"plan help 9\" what refusal 9 means. \"plan check FILE\" is a "
-            "good one to begin with.\n",
+            "%s\"plan COMMAND --help\" says more of a command, \"plan help 9\" what refusal 9 means. \"plan check FILE\" "
+            "is a good one to begin with.\n",
             common);
 }
 

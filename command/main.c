@@ -3,7 +3,6 @@
 #include <string.h>
 
 #include "commands.h"
-#include "json.h"
 #include "say.h"
 
 const struct command commands[] = {

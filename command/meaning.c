@@ -10,7 +10,7 @@ static const struct meaning meanings[] = {
         {"Something stands here that can't: a letter, a second space, a leading zero, a missing new line. Or "
          "the file ends too early.",
          "Look at the byte that is marked and write what the sentence asks for. If the file ends too early, "
-         "get it again: it was cut off."},
+         "get it again: it was cut off. plan mend FILE mends what suppliers' programs often get wrong."},
     [GOLVANZO_LARGE_COUNT] =
         {"A number of the header is over 1,048,575.",
          "Cut the plan into smaller ones. No plan may have more than 1,048,575 of anything."},

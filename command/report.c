@@ -83,6 +83,8 @@ static int tell_report(const struct request *request, const struct source *file,
     struct counted counted = {.outputs = NULL};
     int status = count_steps(plan, file, list, &counted.outputs);
     for (int k = 0; status == DONE && request->all && k < VIEWS; k++) {
+        if (view_entries(plan, k) == 0)
+            continue;
         struct plan view = view_of(plan, view_list(k));
         status = count_steps(&view, file, list, &counted.views[k]);
         free_view(&view);

@@ -63,8 +63,8 @@ static int edit_ended(const struct request *request, const struct edit *edit, st
     else if (end.number == GOLVANZO_OUT_OF_RANGE)
         say_refused_of(file->name, end, "right side %s is above 2M + 1 = %llu", side, (ull)most);
     else if (end.number == GOLVANZO_NOT_IN_ORDER)
-        say_refused_of(file->name, end, "right side %s is not below %llu, the left side of gate %llu (variable %llu)", side,
-                       (ull)left, (ull)edit->gate, (ull)left / 2);
+        say_refused_of(file->name, end, "right side %s is not below %llu, the left side of gate %llu (variable %llu)",
+                       side, (ull)left, (ull)edit->gate, (ull)left / 2);
     else
         return ended(end, file);
     return REFUSED;

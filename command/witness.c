@@ -142,7 +142,7 @@ static void print_look(const struct plan *plan, const struct names *names, const
     if (look->seen == SEEN_ONE)
         fputs(filled ? ", where every x is 0" : "", to);
     else
-        fprintf(to, "%s", look->seen == SEEN_BROKEN ? ", and no output or bad state is 1 before" : "no output or bad state is 1");
+        fputs(look->seen == SEEN_BROKEN ? ", and no output or bad state is 1 before" : "no output or bad state is 1", to);
     if (look->seen != SEEN_ONE && filled)
         fprintf(to, ", in filling %llu:", (ull)answer->filling);
     fputc('\n', to);

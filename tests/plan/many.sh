@@ -154,7 +154,7 @@ odd_names() {
 
 # Pairs: text beside binary, and the same name in two folders.
 pairs() {
-    local one=$room/one two=$room/two
+    local one=$room/first-folder two=$room/second-folder
     mkdir -p "$one/deep" "$two/deep"
     cp examples/toggle.aag "$one/a.aag"
     cp examples/toggle.aig "$one/a.aig"
