@@ -1,6 +1,6 @@
 # shellcheck shell=bash disable=SC2154 # of run, which sources this
 # The first use, later ones, and the proof, in a folder of its own where rt and the compiler behind it are scripts: they
-# say what those say and hand over the proved archive, the same marked as not proved, or that with a byte changed.
+# say what those say and hand over the proved archive, the same marked as not proved, or that with one function changed.
 
 project=$room/project
 kit=$room/kit
@@ -68,8 +68,8 @@ copy_project() {
         mkdir -p "$project/crates/$name/src"
         echo "// $name" >"$project/crates/$name/src/lib.rt"
     done
-    printf '%s\n' '# Leaves' plan: 'room: plan' '# Others: none is under desk' 'unused: plan room' 'desk: room' \
-        'program: desk unused' >"$project/crates.txt"
+    printf '%s\n' '# Leaves' plan: 'room: plan' '# Others' 'unused: plan room' \
+        'desk: room # and not unused' 'program: desk unused' >"$project/crates.txt"
     cp "$room/unproved.a" "$room/quick.a"
 }
 
