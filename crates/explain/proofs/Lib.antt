@@ -1,3 +1,4 @@
+pub mod Words
 pub mod Blaming
 pub mod Cleared
 pub mod Shown

@@ -75,21 +75,21 @@ fn blame_from(gates: &[u32], k: usize, lits: usize, m: usize, n: usize, t: &mut 
     ensures { λ _. ⌜ ((w : ℕ → Value) (seen : List ℕ) → Known w lits m n seen (now (t .entry))
         → Known w lits m n (walk (blames w) (gateAt (now (gates .entry)) k ∷ []) seen) (now (t .exit))) ⌝ }
 {
-    let v = Lit::at(gates[3 * k]).var().index() as usize;
+    let v = Lit::at(gates[3 * k]).var();
     let rhs0 = Lit::at(gates[3 * k + 1]);
     let rhs1 = Lit::at(gates[3 * k + 2]);
-    if t[m + v] == MAY0 {
+    if t[m + v.index() as usize] == MAY0 {
         return;
     }
-    let own = lits + 2 * v;
+    let own = v.lit();
     // it can't be 0
-    if t[own + 1] == 0 {
+    if t[lits + own.negated().word() as usize] == 0 {
         mark(rhs1, m, t);
         mark(rhs0, m, t);
         return;
     }
     // it may be both, which no gate is that is come to from an output at 0 or 1
-    if t[own] != 0 {
+    if t[lits + own.word() as usize] != 0 {
         return;
     }
     let side = zero_side(rhs0, rhs1, lits, t);

@@ -71,19 +71,18 @@ impl Lit {
     pub fn signed_as(self, other: Lit) -> Lit
         ensures { λ r. ⌜ r ≡ signedAs self other ⌝ }
     {
-        Lit(self.0 ^ (other.0 % 2))
+        Lit(self.0 ^ other.sign())
     }
 
     // Whether the literal is in its range under M, where it defines a variable or does not.
     pub fn within(self, defines: bool, m: u32) -> bool
         ensures { λ r. ⌜ r ≡ inRange defines m (wordOf self) ⌝ }
     {
-        let l = self.0;
-        let v = l / 2;
+        let v = self.var().index();
         if !defines {
             return v <= m;
         }
-        if l % 2 == 1 {
+        if self.sign() == 1 {
             return false;
         }
         if v == 0 {

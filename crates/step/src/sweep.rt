@@ -15,6 +15,7 @@ use crate::values::MAY1;
 use crate::values::load_resets;
 use plan::Counts;
 use plan::Lit;
+use plan::Var;
 
 // Whether a literal may be 1: one read, whatever its sign, as each literal has a word of its own.
 fn may_be_1(t: &[u32], lits: usize, l: Lit) -> u32
@@ -85,7 +86,7 @@ fn settle_gates(gates: &[u32], n: usize, first: usize, t: &mut [u32])
     requires { ⌜ Gated (now gates) n first (now t) ⌝ }
     ensures { λ _. ⌜ Settles (now (gates .entry)) n first (now (t .entry)) (now (t .exit)) ⌝ }
 {
-    let mut to = 2 * first;
+    let mut to = Var::at(first as u32).lit().word() as usize;
     let mut at = 0;
     let mut i = 0;
     while i < n {

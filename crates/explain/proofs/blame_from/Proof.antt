@@ -9,6 +9,7 @@ use Rattle.plan.specs.Circuit.{Gate}
 use Rattle.laws.proofs.Tables.{gateAt}
 use Rattle.drop.specs.Marks.{Below}
 use Rattle.explain.specs.Known.{Space, Known}
+use Rattle.explain.proofs.Words.{uncut, not-word}
 use Rattle.explain.proofs.Blaming.{not-come, at-x, at-1, side-below, side-0}
 use borrow.Author.Needs.{needs}
 use Rattle.explain.proofs.blame_from.Statement.{statement}
@@ -16,7 +17,7 @@ use Rattle.explain.proofs.blame_from.Tie as tie
 
 -- the call's arguments where the gate is read, and its three literals
 abbrev start : tie.After-at3 → tie.Start
-start d = d .before .before .before .before .before .before .before .before .before .before
+start d = d .before .before .before .before .before .before .before .before .before
 
 abbrev gate : tie.After-at3 → Gate
 gate d = gateAt (start d .args .gates .now) (start d .args .k)
@@ -30,10 +31,10 @@ below d = start d .pre .1 .0
 space : (d : tie.After-at3) → let a = start d .args in Space (a .lits) (a .m) (a .n) (table d)
 space d = start d .pre .1 .1
 
-v-is : (d : tie.After-at3) → d .before .before .before .before .index .result ≡ varOf (gate d .lhs)
+v-is : (d : tie.After-at3) → indexOf (d .before .before .before .before .var .result) ≡ varOf (gate d .lhs)
 v-is d =
-    let i = d .before .before .before .before in
-    i .index .ensures ∙ ap indexOf (i .before .var .ensures) ∙ ap (λ (l : Lit). varOf (wordOf l)) (i .before .before .at .ensures)
+    let v = d .before .before .before .before in
+    ap indexOf (v .var .ensures) ∙ ap (λ (l : Lit). varOf (wordOf l)) (v .before .at .ensures)
 
 r0-is : (d : tie.After-at3) → wordOf (d .before .before .at2 .result) ≡ gate d .rhs0
 r0-is d = ap wordOf (d .before .before .at2 .ensures)
@@ -43,26 +44,45 @@ r1-is d = ap wordOf (d .at3 .ensures)
 
 -- back to it from where the gate is come to, where it may be 0, where it is 0
 abbrev read : tie.Else1 → tie.After-at3
-read e = e .before .before
+read e = e .before .before .before
 
 abbrev first : tie.Else2 → tie.Else1
-first e = e .before .before
+first e = e .before .before .before .before .before
 
 abbrev second : tie.Else3 → tie.Else2
-second e = e .before .before
+second e = e .before .before .before
+
+-- where the variable's mark stands, and the words of its literal and of the negated one
+mark-at : (i : tie.After-index) → let d = i .before in start d .args .m + i .index .result ≡ start d .args .m + varOf (gate d .lhs)
+mark-at i = ap (λ (v : ℕ). start (i .before) .args .m + v) (i .index .ensures ∙ v-is (i .before))
+
+own-word : (q : tie.After-lit) → wordOf (q .lit .result) ≡ 2 * varOf (gate (read (q .before)) .lhs)
+own-word q =
+    let d = read (q .before) in
+    let known = d .before .before .before .before .before .before .before .before .shared-slice-known .given (3 * start d .args .k) in
+    let low : gate d .lhs < 4294967296 = omega (arith, known) in
+    ap wordOf (q .lit .ensures) ∙ uncut _ (gate d .lhs) (v-is d) low
+
+own-at : (x : tie.After-word2) → let d = read (first (x .before)) in
+    start d .args .lits + x .word2 .result ≡ start d .args .lits + 2 * varOf (gate d .lhs)
+own-at x =
+    let e = x .before in
+    ap (λ (l : ℕ). start (read (first e)) .args .lits + l) (x .word2 .ensures ∙ own-word (e .before .before .before .before))
+
+negated-at : (x : tie.After-word) → let d = read (x .before .before .before) in
+    start d .args .lits + x .word .result ≡ start d .args .lits + 2 * varOf (gate d .lhs) + 1
+negated-at x =
+    let q = x .before .before in
+    not-word _ _ _ _ (x .word .ensures ∙ ap wordOf (x .before .negated .ensures)) (own-word q)
 
 come-to : (e : tie.Else1) → let d = read e in getD (table d) (start d .args .m + varOf (gate d .lhs)) 0 ≡ 1 → ⊥
-come-to e z = let d = read e in e .if1 .left (ap (λ (v : ℕ). getD (table d) (start d .args .m + v) 0) (v-is d) ∙ z)
+come-to e z = e .if1 .left (ap (λ (i : ℕ). getD (table (read e)) i 0) (mark-at (e .before .before)) ∙ z)
 
 may-be-0 : (e : tie.Else2) → let d = read (first e) in getD (table d) (start d .args .lits + 2 * varOf (gate d .lhs) + 1) 0 ≡ 0 → ⊥
-may-be-0 e z =
-    let d = read (first e) in
-    e .if2 .left (ap (λ (v : ℕ). getD (table d) (start d .args .lits + 2 * v + 1) 0) (v-is d) ∙ z)
+may-be-0 e z = e .if2 .left (ap (λ (i : ℕ). getD (table (read (first e))) i 0) (negated-at (e .before .before)) ∙ z)
 
 at-zero : (e : tie.Else3) → let d = read (first (second e)) in getD (table d) (start d .args .lits + 2 * varOf (gate d .lhs)) 0 ≡ 0
-at-zero e =
-    let d = read (first (second e)) in
-    ap (λ (v : ℕ). getD (table d) (start d .args .lits + 2 * v) 0) (sym (v-is d)) ∙ e .if3 .left
+at-zero e = ap (λ (i : ℕ). getD (table (read (first (second e)))) i 0) (sym (own-at (e .before .before))) ∙ e .if3 .left
 
 mul-at : tie.Need-mul-at
 mul-at c = search needs
@@ -78,12 +98,6 @@ at-requires c κs = search needs
 
 var-requires : tie.Need-var-requires
 var-requires c κs = search needs
-
-index-requires : tie.Need-index-requires
-index-requires c κs = search needs
-
-cast-v : tie.Need-cast-v
-cast-v c = search needs
 
 mul-at-3 : tie.Need-mul-at-3
 mul-at-3 c = search needs
@@ -115,6 +129,12 @@ shared-slice-read-at-3 c = search needs
 at-requires-3 : tie.Need-at-requires-3
 at-requires-3 c κs = search needs
 
+index-requires : tie.Need-index-requires
+index-requires c κs = search needs
+
+cast-if1 : tie.Need-cast-if1
+cast-if1 c = search needs
+
 add-if1 : tie.Need-add-if1
 add-if1 c = search needs
 
@@ -122,20 +142,26 @@ mul-if1 : tie.Need-mul-if1
 mul-if1 c = search needs
 
 slice-read-if1 : tie.Need-slice-read-if1
-slice-read-if1 c = let d = c .before in omega (arith, v-is d, below d .lhs, space d .long)
+slice-read-if1 c = let d = c .before .before in omega (arith, mark-at (c .before), below d .lhs, space d .long)
 
 returns : tie.Need-returns
 returns c = λ w seen k.
-    let d = c .before .before in
+    let d = c .before .before .before in
     let a = start d .args in
     not-come w (a .lits) (a .m) (a .n) (gate d) (below d .lhs) seen (table d) k
-    (ap (λ (v : ℕ). getD (table d) (a .m + v) 0) (sym (v-is d)) ∙ c .if1 .taken)
+    (ap (λ (i : ℕ). getD (table d) i 0) (sym (mark-at (c .before .before))) ∙ c .if1 .taken)
 
-mul-own : tie.Need-mul-own
-mul-own c = search needs
+lit-requires : tie.Need-lit-requires
+lit-requires c κs = search needs
 
-add-own : tie.Need-add-own
-add-own c = search needs
+negated-requires : tie.Need-negated-requires
+negated-requires c κs = search needs
+
+word-requires : tie.Need-word-requires
+word-requires c κs = search needs
+
+cast-if2 : tie.Need-cast-if2
+cast-if2 c = search needs
 
 add-if2 : tie.Need-add-if2
 add-if2 c = search needs
@@ -144,14 +170,14 @@ mul-if2 : tie.Need-mul-if2
 mul-if2 c = search needs
 
 slice-read-if2 : tie.Need-slice-read-if2
-slice-read-if2 c = let d = read (c .before) in omega (arith, v-is d, below d .lhs, space d .apart, space d .long)
+slice-read-if2 c = let d = read (c .before .before .before .before) in omega (arith, negated-at (c .before), below d .lhs, space d .apart, space d .long)
 
 mark-requires : tie.Need-mark-requires
-mark-requires c κs = let d = read (c .before .before .before) in omega (arith, ap varOf (r1-is d), below d .rhs1, space d .long)
+mark-requires c κs = let d = read (c .before .before .before .before .before .before) in omega (arith, ap varOf (r1-is d), below d .rhs1, space d .long)
 
 mark-requires-2 : tie.Need-mark-requires-2
 mark-requires-2 c κs =
-    let d = read (c .before .before .before .before .before .before .before) in
+    let d = read (c .before .before .before .before .before .before .before .before .before .before) in
     omega (arith, ap varOf (r0-is d), below d .rhs0, space d .long, c .before .before .t .given)
 
 same-length : tie.Need-same-length
@@ -160,12 +186,12 @@ same-length c = search needs
 returns-2 : tie.Need-returns-2
 returns-2 c = λ w seen k.
     let q = c .before .before .before .before .before .before in
-    let e = q .before .before .before .before in
+    let e = q .before .before .before .before .before .before .before in
     let d = read e in
     let a = start d .args in
     let g = gate d in
     at-1 w (a .lits) (a .m) (a .n) g (below d .lhs) seen (table d) k (come-to e) (c .before .before .mark2 .last .1 .1 .0)
-    (ap (λ (v : ℕ). getD (table d) (a .lits + 2 * v + 1) 0) (sym (v-is d)) ∙ q .before .before .if2 .taken)
+    (ap (λ (i : ℕ). getD (table d) i 0) (sym (negated-at (q .before .before .before .before))) ∙ q .before .before .if2 .taken)
     (subst (λ (v : ℕ). Known w (a .lits) (a .m) (a .n) (v ∷ varOf (g .rhs1) ∷ seen) (c .before .before .mark2 .last .1 .1 .0))
     (ap varOf (r0-is d))
     (c .before .before .mark2 .ensures w (a .lits) (a .n) (varOf (g .rhs1) ∷ seen) (space d .apart)
@@ -173,19 +199,28 @@ returns-2 c = λ w seen k.
     (subst (λ (v : ℕ). Known w (a .lits) (a .m) (a .n) (v ∷ seen) (q .mark .last .1 .1 .0)) (ap varOf (r1-is d))
     (q .mark .ensures w (a .lits) (a .n) seen (space d .apart) (omega (arith, ap varOf (r1-is d), below d .rhs1)) k))))
 
+word-requires-2 : tie.Need-word-requires-2
+word-requires-2 c κs = search needs
+
+cast-if3 : tie.Need-cast-if3
+cast-if3 c = search needs
+
+add-if3 : tie.Need-add-if3
+add-if3 c = search needs
+
 mul-if3 : tie.Need-mul-if3
 mul-if3 c = search needs
 
 slice-read-if3 : tie.Need-slice-read-if3
-slice-read-if3 c = let d = read (first (c .before)) in omega (arith, v-is d, below d .lhs, space d .apart, space d .long)
+slice-read-if3 c = let d = read (first (c .before .before)) in omega (arith, own-at (c .before), below d .lhs, space d .apart, space d .long)
 
 returns-3 : tie.Need-returns-3
 returns-3 c = λ w seen k.
-    let e = c .before .before in
+    let e = c .before .before .before in
     let d = read (first e) in
     let a = start d .args in
     at-x w (a .lits) (a .m) (a .n) (gate d) (below d .lhs) seen (table d) k (come-to (first e)) (may-be-0 e)
-    (λ z. c .if3 .taken (ap (λ (v : ℕ). getD (table d) (a .lits + 2 * v) 0) (v-is d) ∙ z))
+    (λ z. c .if3 .taken (ap (λ (i : ℕ). getD (table d) i 0) (own-at (c .before .before)) ∙ z))
 
 zero-side-requires : tie.Need-zero-side-requires
 zero-side-requires c κs =
@@ -233,8 +268,6 @@ blame-from-spec =
     shared-slice-read-at
     at-requires
     var-requires
-    index-requires
-    cast-v
     mul-at-3
     add-at
     mul-at-4
@@ -245,12 +278,16 @@ blame-from-spec =
     mul-at-6
     shared-slice-read-at-3
     at-requires-3
+    index-requires
+    cast-if1
     add-if1
     mul-if1
     slice-read-if1
     returns
-    mul-own
-    add-own
+    lit-requires
+    negated-requires
+    word-requires
+    cast-if2
     add-if2
     mul-if2
     slice-read-if2
@@ -258,6 +295,9 @@ blame-from-spec =
     mark-requires-2
     same-length
     returns-2
+    word-requires-2
+    cast-if3
+    add-if3
     mul-if3
     slice-read-if3
     returns-3

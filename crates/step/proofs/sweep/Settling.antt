@@ -88,6 +88,7 @@ module _ {n : Counts} {x : Tables} (r : Runs n x) where
 
       pub sweeps : Sweeps (x .gates) (n .A) leaves (litsOf n) t1
       sweeps = record {
+        few = omega (arith, r .fits .most-M, r .fits .sum);
         gates-long = r .fits .gates-long;
         table-long = omega (arith, literals-long, same, all-variables);
         ordered = gates-binary;

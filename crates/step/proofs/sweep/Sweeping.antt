@@ -1,5 +1,5 @@
 -- One turn of the sweep over the gates, and the sweep over a part of a table.
-use Prim.Native.Nat.{ℕ, _+_, _*_, _-_, _<_, _≤_}
+use Prim.Native.Nat.{ℕ, _+_, _*_, _-_, _%_, _^_, _<_, _≤_}
 use mathlib.Core.Path.{_≡_, refl, sym, ap, ap₂, _∙_, subst}
 use mathlib.Core.List.{List, [], _∷_, _++_, append-nil}
 use native.Mathlib.Nat.{le-refl}
@@ -9,7 +9,7 @@ use borrow.Rule.Slice.PartMut.{midOf, putMid, postOf, mid-len, post-is}
 use lib.ListN.{length, getD, take, drop, length-drop}
 use lib.Seq.{take-all, drop-drop, drop-length}
 use lib.Bits.{bitAnd, bitOr}
-use Rattle.plan.specs.Literals.{varOf, negOf}
+use Rattle.plan.specs.Literals.{most, litOf, varOf, negOf}
 use Rattle.plan.specs.Circuit.{Gate}
 use Rattle.plan.specs.Step.{Value, and, lit}
 use Rattle.plan.specs.Outcome.{put}
@@ -26,6 +26,10 @@ sweep-snoc : (l : List Value) (gs : List Gate) (g : Gate)
     → sweep l (gs ++ (g ∷ [])) ≡ sweep l gs ++ (and (lit (at (sweep l gs)) (g .rhs0)) (lit (at (sweep l gs)) (g .rhs1)) ∷ [])
 sweep-snoc l [] g = refl
 sweep-snoc l (x ∷ gs) g = sweep-snoc (l ++ (and (lit (at l) (x .rhs0)) (lit (at l) (x .rhs1)) ∷ [])) gs g
+
+-- a variable's literal is not cut
+pub uncut : (v : ℕ) → v ≤ most + 1 → litOf v % 2 ^ 32 ≡ 2 * v
+uncut v h = omega arith
 
 -- i gates are settled, whatever values stand below
 abbrev pub Settled : List ℕ → ℕ → List ℕ → ℕ → List ℕ → Type 0
@@ -107,6 +111,7 @@ module _ {gates : List ℕ} {n first lits : ℕ} {t : List ℕ} (p : Sweeps gate
 
   pub gated : Gated gates n first (midOf lits long t)
   gated = record {
+    few = p .few;
     gates-long = p .gates-long;
     table-long = omega (arith, p .table-long, mid-len lits (length t) t (le-refl (length t)));
     ordered = p .ordered;

@@ -4,7 +4,7 @@ use mathlib.Core.Path.{_≡_}
 use mathlib.Core.List.{List, [], _∷_, map}
 use lib.ListN.{length, getD}
 use lib.Bits.{bitAnd, bitOr}
-use Rattle.plan.specs.Literals.{varOf, negOf}
+use Rattle.plan.specs.Literals.{most, varOf, negOf}
 use Rattle.plan.specs.Step.{Value}
 use Rattle.plan.specs.Outcome.{put}
 use Rattle.laws.proofs.Tables.{gatesAt}
@@ -43,6 +43,7 @@ spread n lits t = put t lits (litWords (valuesAt t 0 n))
 
 -- n gates in binary order from variable `first` on, and a word for each literal of theirs and of all below
 pub record Gated (gates : List ℕ) (n first : ℕ) (t : List ℕ) : Type 0 where
+  pub few : first ≤ most + 1
   pub gates-long : 3 * n ≤ length gates
   pub table-long : 2 * (first + n) ≤ length t
   pub ordered : Binary first (gatesAt gates n)
@@ -54,6 +55,7 @@ Settles gates n first t t′ =
 
 -- the same from `lits` on, where the values below stand
 pub record Sweeps (gates : List ℕ) (n first lits : ℕ) (t : List ℕ) : Type 0 where
+  pub few : first ≤ most + 1
   pub gates-long : 3 * n ≤ length gates
   pub table-long : lits + 2 * (first + n) ≤ length t
   pub ordered : Binary first (gatesAt gates n)

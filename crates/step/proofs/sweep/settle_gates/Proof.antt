@@ -3,10 +3,10 @@ use mathlib.Core.Path.{_≡_, refl, sym, ap, ap₂, _∙_, subst}
 use native.Mathlib.Omega.{arith}
 use lib.ListN.{length, getD}
 use Rattle.plan.specs.declared.Lit.{Lit}
-use Rattle.plan.specs.Literals.{wordOf, litAt}
+use Rattle.plan.specs.Literals.{wordOf, litAt, doubled}
 use Rattle.plan.specs.Outcome.{put}
 use Rattle.step.specs.sweep.Lookup.{andWords, Inside}
-use Rattle.step.proofs.sweep.Sweeping.{Settled, settled-none, first-in, second-in, settled-more, settled-all}
+use Rattle.step.proofs.sweep.Sweeping.{Settled, settled-none, first-in, second-in, settled-more, settled-all, uncut}
 use borrow.Author.Needs.{needs}
 use Rattle.step.proofs.sweep.settle_gates.Statement.{statement}
 use Rattle.step.proofs.sweep.settle_gates.Tie as tie
@@ -20,7 +20,7 @@ abbrev μ-loop : tie.MeasureT-loop
 
 -- back to the start from a turn, and to the turn from where both its sides are read
 abbrev start : tie.In-loop Inv-loop μ-loop → tie.Start Inv-loop μ-loop
-start q = q .before .before .before .before
+start q = q .before .before .before .before .before .before .before
 
 abbrev turn : tie.After-put-and-arg Inv-loop μ-loop → tie.In-loop Inv-loop μ-loop
 turn b = b .before .before .before .before .before
@@ -33,20 +33,38 @@ side q j l e = e ∙ ap (λ (k : ℕ). litAt (getD (start q .args .gates .now) (
 
 -- both right sides
 first-side : (b : tie.After-put-and-arg Inv-loop μ-loop)
-    → b .before .before .before .at .result ≡ litAt (getD (start (turn b) .args .gates .now) (3 * turn b .before .loop .i + 1) 0)
-first-side b = side (turn b) 1 (b .before .before .before .at .result) (b .before .before .before .at .ensures)
+    → b .before .before .before .at2 .result ≡ litAt (getD (start (turn b) .args .gates .now) (3 * turn b .before .loop .i + 1) 0)
+first-side b = side (turn b) 1 (b .before .before .before .at2 .result) (b .before .before .before .at2 .ensures)
 
 second-side : (b : tie.After-put-and-arg Inv-loop μ-loop)
-    → b .before .at2 .result ≡ litAt (getD (start (turn b) .args .gates .now) (3 * turn b .before .loop .i + 2) 0)
-second-side b = side (turn b) 2 (b .before .at2 .result) (b .before .at2 .ensures)
+    → b .before .at3 .result ≡ litAt (getD (start (turn b) .args .gates .now) (3 * turn b .before .loop .i + 2) 0)
+second-side b = side (turn b) 2 (b .before .at3 .result) (b .before .at3 .ensures)
 
-mul-to : tie.Need-mul-to Inv-loop μ-loop
-mul-to c = search needs
+cast-at : tie.Need-cast-at Inv-loop μ-loop
+cast-at c = let p = c .before .before .pre in record { fits = omega (arith, p .few) }
+
+at-requires : tie.Need-at-requires Inv-loop μ-loop
+at-requires c κs = search needs
+
+lit-requires : tie.Need-lit-requires Inv-loop μ-loop
+lit-requires c κs = search needs
+
+word-requires : tie.Need-word-requires Inv-loop μ-loop
+word-requires c κs = search needs
+
+cast-to : tie.Need-cast-to Inv-loop μ-loop
+cast-to c = search needs
+
+-- the literal of the first gate's variable
+first-lit : (c : tie.After-word Inv-loop μ-loop) → c .word .result ≡ 2 * c .before .before .before .before .before .args .first
+first-lit c =
+    let s = c .before .before .before .before .before in
+    c .word .ensures ∙ ap wordOf (c .before .lit .ensures ∙ ap doubled (c .before .before .at .ensures)) ∙ uncut (s .args .first) (s .pre .few)
 
 loop-holds : tie.Need-loop-holds Inv-loop μ-loop
 loop-holds c =
-    let a = c .before .before .args in
-    (omega arith, omega arith, omega arith, refl, settled-none (a .gates .now) (a .first) (a .t .now))
+    let a = c .before .before .before .before .before .args in
+    (omega arith, omega (arith, first-lit c), omega arith, refl, settled-none (a .gates .now) (a .first) (a .t .now))
 
 add-at : tie.Need-add-at Inv-loop μ-loop
 add-at c = search needs
@@ -57,8 +75,8 @@ mul-at c = search needs
 shared-slice-read-at : tie.Need-shared-slice-read-at Inv-loop μ-loop
 shared-slice-read-at c = search needs
 
-at-requires : tie.Need-at-requires Inv-loop μ-loop
-at-requires c κs = search needs
+at-requires-2 : tie.Need-at-requires-2 Inv-loop μ-loop
+at-requires-2 c κs = search needs
 
 add-at-2 : tie.Need-add-at-2 Inv-loop μ-loop
 add-at-2 c = search needs
@@ -69,8 +87,8 @@ mul-at-2 c = search needs
 shared-slice-read-at-2 : tie.Need-shared-slice-read-at-2 Inv-loop μ-loop
 shared-slice-read-at-2 c = search needs
 
-at-requires-2 : tie.Need-at-requires-2 Inv-loop μ-loop
-at-requires-2 c κs = search needs
+at-requires-3 : tie.Need-at-requires-3 Inv-loop μ-loop
+at-requires-3 c κs = search needs
 
 put-and-requires : tie.Need-put-and-requires Inv-loop μ-loop
 put-and-requires c κs =
@@ -116,7 +134,7 @@ same-length c = c .before .loop .inv .3
 returns : tie.Need-returns Inv-loop μ-loop
 returns c =
     let w = c .before .loop in
-    settled-all (c .before .before .before .before .pre) (w .i) (w .t) (w .inv .4) (omega arith)
+    settled-all (c .before .before .before .before .before .before .before .pre) (w .i) (w .t) (w .inv .4) (omega arith)
 
 pub settle-gates-spec : {M : Type 1} → statement M
 settle-gates-spec =
@@ -124,16 +142,20 @@ settle-gates-spec =
     (tie.spec
     Inv-loop
     μ-loop
-    mul-to
+    cast-at
+    at-requires
+    lit-requires
+    word-requires
+    cast-to
     loop-holds
     add-at
     mul-at
     shared-slice-read-at
-    at-requires
+    at-requires-2
     add-at-2
     mul-at-2
     shared-slice-read-at-2
-    at-requires-2
+    at-requires-3
     put-and-requires
     add-to
     add-at-3
