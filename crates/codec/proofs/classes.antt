@@ -1,1 +1,2 @@
 pub mod ByClass
+pub mod Odd

@@ -1,12 +1,14 @@
 // Numbers of the text form: "0", or a digit 1 to 9 and then any digits (the paper, text form; AIGER report, section 5).
 ghost use mathlib.Core.Path.{_≡_};
-ghost use Prim.Native.Nat.{_+_, _*_, _≤_, min};
-ghost use lib.ListN.{length};
+ghost use Prim.Native.Nat.{_+_, _*_, _<_, _≤_, min};
+ghost use lib.ListN.{length, getD};
+ghost use Rattle.plan.specs.declared.Class.the-variants.{Digit};
 ghost use Rattle.plan.specs.Literals.{beyond};
-ghost use Rattle.plan.specs.Bytes.{digits};
+ghost use Rattle.plan.specs.Bytes.{classOf, digits};
 ghost use Rattle.plan.specs.Outcome.{numberAt, Says, put, writeNumber};
 use crate::classes;
 use crate::room;
+use plan::Class;
 use plan::Number;
 use plan::Refusal;
 use plan::Written;
@@ -22,6 +24,25 @@ fn with_digit(v: u32, d: u8) -> u32
     if w < BEYOND as u64 { w as u32 } else { BEYOND }
 }
 
+// The number that starts with a digit 1 to 9 at a position.
+fn read_digits(file: &[u8], at: usize) -> Number
+    requires { ⌜ at < length (now file) ⌝ }
+    requires { ⌜ classOf (getD (now file) at 0) ≡ Digit ⌝ }
+    ensures { λ r. ⌜ r ≡ numberAt (now (file .entry)) at ⌝ }
+{
+    let mut v = with_digit(0, file[at] - 48);
+    let mut i = at + 1;
+    while i < file.len() {
+        let b = file[i];
+        if !classes::is_digit(b) {
+            return Number::Value(v, i);
+        }
+        v = with_digit(v, b - 48);
+        i += 1;
+    }
+    Number::Value(v, i)
+}
+
 // The number at a position, which may lie past the end.
 pub fn read_number(file: &[u8], at: usize) -> Number
     ensures { λ r. ⌜ r ≡ numberAt (now (file .entry)) at ⌝ }
@@ -29,26 +50,14 @@ pub fn read_number(file: &[u8], at: usize) -> Number
     if file.len() <= at {
         return Number::Wrong(at);
     }
-    let first = file[at];
-    if first == 48 {
-        return Number::Value(0, at + 1);
+    match classes::class_of(file[at]) {
+        Class::Zero => Number::Value(0, at + 1),
+        Class::Digit => read_digits(file, at),
+        Class::Line => Number::Wrong(at),
+        Class::Space => Number::Wrong(at),
+        Class::Print => Number::Wrong(at),
+        Class::Rest => Number::Wrong(at),
     }
-    let c = classes::class_of(first);
-    if !classes::is_digit(c) {
-        return Number::Wrong(at);
-    }
-    let mut v: u32 = with_digit(0, first - 48);
-    let mut i = at + 1;
-    while i < file.len() {
-        let b = file[i];
-        let k = classes::class_of(b);
-        if !classes::is_digit(k) {
-            return Number::Value(v, i);
-        }
-        v = with_digit(v, b - 48);
-        i += 1;
-    }
-    Number::Value(v, i)
 }
 
 // How many digits a number has, counted one by one.

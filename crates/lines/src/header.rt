@@ -5,6 +5,7 @@ ghost use Rattle.plan.specs.Header.{moreCounts, header, wordsFor, listOf};
 ghost use Rattle.plan.specs.Outcome.{headedBy, formOf};
 ghost use Rattle.laws.proofs.Reading.Headers.{AllMost};
 ghost use Rattle.lines.specs.header.Parts.{magicEnd, magic, Above, counted, sums, wordsOf};
+use crate::ends;
 use crate::read_numbers;
 use codec::classes::stands;
 use plan::Counts;
@@ -31,7 +32,7 @@ fn end_of_magic(file: &[u8], form: Magic) -> Magic
     if !stands(file, 2, b'g') {
         return Magic::Wrong(2);
     }
-    if !stands(file, 3, b' ') {
+    if !ends(file, 3, false) {
         return Magic::Wrong(3);
     }
     form

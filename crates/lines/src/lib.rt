@@ -44,7 +44,7 @@ enum Going {
     Wrong,
 }
 
-// Whether a number of a line ends here: with a new line after the last, with a space before the next.
+// Whether a part of a line ends here: with a new line after the last, with a space before the next.
 fn ends(file: &[u8], at: usize, last: bool) -> bool
     ensures { λ r. ⌜ r ≡ eqb (getD (now (file .entry)) at 0) (endFor last) ⌝ }
 {

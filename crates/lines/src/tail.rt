@@ -9,6 +9,7 @@ ghost use Rattle.plan.specs.Tail.{isKind, countOf, comment as commentAt, starts
 ghost use Rattle.plan.specs.Given.{refusalOf};
 ghost use Rattle.plan.specs.Outcome.{cutNumber, passedBy, checkedBy};
 ghost use Rattle.lines.specs.tail.Marks.{later, symbolLine, entryOf, firstWord, markedSymbol, marksAfter, Holds, Blank};
+use crate::ends;
 use codec::classes::class_of;
 use codec::classes::stands;
 use codec::numbers::read_number;
@@ -57,11 +58,11 @@ fn read_line(file: &[u8], at: usize) -> Number
     match read_number(file, at + 1) {
         Number::Wrong(place) => Number::Wrong(place),
         Number::Value(entry, space) => {
-            if !stands(file, space, 32) {
+            if !ends(file, space, false) {
                 return Number::Wrong(space);
             }
             let end = name_end(file, space + 1);
-            if !stands(file, end, 10) {
+            if !ends(file, end, true) {
                 return Number::Wrong(end);
             }
             Number::Value(entry, end + 1)
@@ -105,7 +106,7 @@ fn starts_symbol(version: Version, file: &[u8], at: usize) -> bool
     if b != 99 {
         return true;
     }
-    !stands(file, at + 1, 10)
+    !ends(file, at + 1, true)
 }
 
 // The count of a letter's list.
@@ -169,10 +170,10 @@ fn comment(file: &[u8], at: usize) -> Checked
     if !stands(file, at, 99) {
         return Checked::Refused(Refusal::WrongByte(at));
     }
-    if !stands(file, at + 1, 10) {
+    if !ends(file, at + 1, true) {
         return Checked::Refused(Refusal::WrongByte(at + 1));
     }
-    if !stands(file, file.len() - 1, 10) {
+    if !ends(file, file.len() - 1, true) {
         return Checked::Refused(Refusal::WrongByte(file.len()));
     }
     Checked::Good

@@ -2,19 +2,19 @@
 use Prim.Native.Nat.{ℕ, suc, _+_, _-_, _*_, _<_, _≤_, min}
 use mathlib.Core.Path.{_≡_, refl, sym, ap, ap₂, _∙_}
 use mathlib.Core.List.{List, [], _∷_}
-use mathlib.Core.Bool.{Bool, true, false, true≢false}
+use mathlib.Core.Bool.{true}
 use native.Mathlib.Omega.{arith}
 use native.Mathlib.Nat.{le-refl, le-trans}
 use native.Mathlib.Decide.{decLe}
 use lib.ListN.{length, drop, getD, List·getD-eq-default}
 use Rattle.plan.specs.declared.Class.{Class}
-use Rattle.plan.specs.declared.Class.the-variants.{Line, Space, Zero, Digit, Print, Rest}
+use Rattle.plan.specs.declared.Class.the-variants.{Digit}
 use Rattle.plan.specs.declared.Number.{Number}
 use Rattle.plan.specs.declared.Number.the-variants.{Value, Wrong}
 use Rattle.plan.specs.Literals.{beyond}
 use Rattle.plan.specs.Bytes.{classOf, digitClass, span, decimal, numberBy}
 use Rattle.plan.specs.Outcome.{cutNumber, numberAt}
-use Rattle.laws.proofs.Reading.Number.{class-says, digit-bounds, class-digit}
+use Rattle.laws.proofs.Reading.Number.{class-says, digit-bounds}
 use Rattle.laws.proofs.Reading.Spans.{span-more}
 
 -- digits only make a value larger
@@ -32,10 +32,6 @@ cut k v l = by-size (decLe v k)
         let e : min v k ≡ k = omega arith in
         ap (λ (x : ℕ). min (decimal x l) k) e ∙ omega (arith, grows v l, grows k l)
 
--- what the two leaves say of a byte
-pub tested : (b : ℕ) {c : Class} {r t : Bool} → c ≡ classOf b → r ≡ digitClass c → r ≡ t → digitClass (classOf b) ≡ t
-tested b p q e = ap digitClass (sym p) ∙ (sym q ∙ e)
-
 pub at-least : (b : ℕ) → digitClass (classOf b) ≡ true → 48 ≤ b
 at-least b e = digit-bounds b (classOf b) (class-says b) e .0
 
@@ -44,19 +40,9 @@ module _ (s : List ℕ) (at : ℕ) where
   pub past-end : length s ≤ at → Wrong at ≡ numberAt s at
   past-end h = ap (λ (b : ℕ). cutNumber (numberBy (classOf b) (drop at s) at)) (sym (List·getD-eq-default s 0 h))
 
-  pub zero-alone : getD s at 0 ≡ 48 → Value 0 (at + 1) ≡ numberAt s at
-  zero-alone e = ap (λ (b : ℕ). cutNumber (numberBy (classOf b) (drop at s) at)) (sym e)
-
-  pub no-digit : digitClass (classOf (getD s at 0)) ≡ false → Wrong at ≡ numberAt s at
-  no-digit e = go (classOf (getD s at 0)) e
-    where
-      go : (c : Class) → digitClass c ≡ false → Wrong at ≡ cutNumber (numberBy c (drop at s) at)
-      go Line e = refl
-      go Space e = refl
-      go Zero e = absurd (true≢false e)
-      go Digit e = absurd (true≢false e)
-      go Print e = refl
-      go Rest e = refl
+  -- by the class of its first byte
+  pub starting : (c : Class) → c ≡ classOf (getD s at 0) → cutNumber (numberBy c (drop at s) at) ≡ numberAt s at
+  starting c e = ap (λ (k : Class). cutNumber (numberBy k (drop at s) at)) e
 
 pub record Scan (s : List ℕ) (at v i : ℕ) : Type 0 where
   pub value : min (decimal v (span digitClass (drop i s))) beyond ≡ min (decimal 0 (span digitClass (drop at s))) beyond
@@ -90,9 +76,7 @@ module _ {s : List ℕ} {at v i : ℕ} (scan : Scan s at v i) where
       ap₂ {C = Number} Value v-is i-is ∙ ap (λ (c : Class). cutNumber (numberBy c (drop at s) at)) (sym (scan .first))
 
 -- the first digit, which is not 0, was read
-pub starts : (s : List ℕ) (at w : ℕ) → at < length s → (getD s at 0 ≡ 48 → ⊥) → digitClass (classOf (getD s at 0)) ≡ true
+pub starts : (s : List ℕ) (at w : ℕ) → at < length s → classOf (getD s at 0) ≡ Digit
     → w ≡ min (0 * 10 + (getD s at 0 - 48)) beyond → Scan s at w (at + 1)
-starts s at w h z d e =
-    let k = digit-bounds (getD s at 0) (classOf (getD s at 0)) (class-says (getD s at 0)) d in
-    let is-digit : classOf (getD s at 0) ≡ Digit = class-digit (getD s at 0) (omega (arith, k .0)) (k .1) in
-    step {s = s} {at = at} {v = 0} {i = at} (record { value = refl; next = refl; small = omega arith; first = is-digit }) w h d e
+starts s at w h d e =
+    step {s = s} {at = at} {v = 0} {i = at} (record { value = refl; next = refl; small = omega arith; first = d }) w h (ap digitClass d) e

@@ -11,10 +11,10 @@ returns-2 : tie.Need-returns-2
 returns-2 c = rw (c .match .keys2)
 
 returns-3 : tie.Need-returns-3
-returns-3 c = rw (c .if4 .taken)
+returns-3 c = rw (c .match .keys3)
 
 returns-4 : tie.Need-returns-4
-returns-4 c = digit (c .before .before .before .before .before .args .b) (omega arith) (omega arith)
+returns-4 c = digit (c .before .before .before .before .args .b) (omega arith) (omega arith)
 
 returns-5 : tie.Need-returns-5
 returns-5 c = print-low (c .before .before .before .args .b) (omega arith) (omega arith)

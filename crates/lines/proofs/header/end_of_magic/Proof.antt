@@ -11,23 +11,23 @@ stands-requires c κs = search needs
 returns : tie.Need-returns
 returns c = simp (sym (c .before .stands .ensures) ∙ not-true _ (c .if1 .taken))
 
-stands-requires-2 : tie.Need-stands-requires-2
-stands-requires-2 c κs = search needs
+ends-requires : tie.Need-ends-requires
+ends-requires c κs = search needs
 
 returns-2 : tie.Need-returns-2
 returns-2 c =
     simp (
       sym (c .before .before .before .stands .ensures) ∙ not-false _ (c .before .before .if1 .left),
-      sym (c .before .stands2 .ensures) ∙ not-true _ (c .if2 .taken),
+      sym (c .before .ends .ensures) ∙ not-true _ (c .if2 .taken),
     )
 
 returns-3 : tie.Need-returns-3
 returns-3 c =
     simp (
       sym (c .before .before .before .stands .ensures) ∙ not-false _ (c .before .before .if1 .left),
-      sym (c .before .stands2 .ensures) ∙ not-false _ (c .if2 .left),
+      sym (c .before .ends .ensures) ∙ not-false _ (c .if2 .left),
     )
 
 pub end-of-magic-spec : {M : Type 1} → statement M
 end-of-magic-spec =
-    tie.close (tie.spec stands-requires returns stands-requires-2 returns-2 returns-3)
+    tie.close (tie.spec stands-requires returns ends-requires returns-2 returns-3)

@@ -11,11 +11,11 @@ stands-requires c κs = search needs
 returns : tie.Need-returns
 returns c = rw (sym (c .before .stands .ensures) ∙ not-true _ (c .if1 .taken))
 
-add-stands : tie.Need-add-stands
-add-stands c = search needs
+add-ends : tie.Need-add-ends
+add-ends c = search needs
 
-stands-requires-2 : tie.Need-stands-requires-2
-stands-requires-2 c κs = search needs
+ends-requires : tie.Need-ends-requires
+ends-requires c κs = search needs
 
 add-t7 : tie.Need-add-t7
 add-t7 c = search needs
@@ -24,29 +24,29 @@ returns-2 : tie.Need-returns-2
 returns-2 c =
     rw (
       sym (c .before .before .before .stands .ensures) ∙ not-false _ (c .before .before .if1 .left),
-      sym (c .before .stands2 .ensures) ∙ not-true _ (c .if2 .taken),
+      sym (c .before .ends .ensures) ∙ not-true _ (c .if2 .taken),
     )
 
-sub-stands : tie.Need-sub-stands
-sub-stands c = search needs
+sub-ends : tie.Need-sub-ends
+sub-ends c = search needs
 
-stands-requires-3 : tie.Need-stands-requires-3
-stands-requires-3 c κs = search needs
+ends-requires-2 : tie.Need-ends-requires-2
+ends-requires-2 c κs = search needs
 
 returns-3 : tie.Need-returns-3
 returns-3 c =
     rw (
       sym (c .before .before .before .before .before .stands .ensures) ∙ not-false _ (c .before .before .before .before .if1 .left),
-      sym (c .before .before .before .stands2 .ensures) ∙ not-false _ (c .before .before .if2 .left),
-      sym (c .before .stands3 .ensures) ∙ not-true _ (c .if3 .taken),
+      sym (c .before .before .before .ends .ensures) ∙ not-false _ (c .before .before .if2 .left),
+      sym (c .before .ends2 .ensures) ∙ not-true _ (c .if3 .taken),
     )
 
 returns-4 : tie.Need-returns-4
 returns-4 c =
     rw (
       sym (c .before .before .before .before .before .stands .ensures) ∙ not-false _ (c .before .before .before .before .if1 .left),
-      sym (c .before .before .before .stands2 .ensures) ∙ not-false _ (c .before .before .if2 .left),
-      sym (c .before .stands3 .ensures) ∙ not-false _ (c .if3 .left),
+      sym (c .before .before .before .ends .ensures) ∙ not-false _ (c .before .before .if2 .left),
+      sym (c .before .ends2 .ensures) ∙ not-false _ (c .if3 .left),
     )
 
 pub comment-spec : {M : Type 1} → statement M
@@ -55,11 +55,11 @@ comment-spec =
     (tie.spec
     stands-requires
     returns
-    add-stands
-    stands-requires-2
+    add-ends
+    ends-requires
     add-t7
     returns-2
-    sub-stands
-    stands-requires-3
+    sub-ends
+    ends-requires-2
     returns-3
     returns-4)

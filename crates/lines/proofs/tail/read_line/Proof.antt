@@ -19,8 +19,8 @@ enum-known-place c = search needs
 enum-known-entry : tie.Need-enum-known-entry
 enum-known-entry c = search needs
 
-stands-requires : tie.Need-stands-requires
-stands-requires c κs = search needs
+ends-requires : tie.Need-ends-requires
+ends-requires c κs = search needs
 
 returns : tie.Need-returns
 returns c =
@@ -28,19 +28,19 @@ returns c =
     let a = start .args in
     let g = c .before .before .before .entry .given in
     no-space (a .file .now) (a .at) (g .0 .0) (g .0 .1 .0) (sym (g .1) ∙ c .before .before .before .before .before .read-number .ensures)
-    (sym (c .before .stands .ensures) ∙ not-true _ (c .if1 .taken))
+    (sym (c .before .ends .ensures) ∙ not-true _ (c .if1 .taken))
 
 add-name-end : tie.Need-add-name-end
 add-name-end c =
     let a = c .before .before .before .before .before .before .before .args in
     let g = c .before .before .before .entry .given in
-    omega (arith, stands-in (a .file .now) (g .0 .1 .0) 32 (omega arith) (sym (c .before .stands .ensures) ∙ not-false _ (c .if1 .left)))
+    omega (arith, stands-in (a .file .now) (g .0 .1 .0) 32 (omega arith) (sym (c .before .ends .ensures) ∙ not-false _ (c .if1 .left)))
 
 name-end-requires : tie.Need-name-end-requires
 name-end-requires c κs = search needs
 
-stands-requires-2 : tie.Need-stands-requires-2
-stands-requires-2 c κs = search needs
+ends-requires-2 : tie.Need-ends-requires-2
+ends-requires-2 c κs = search needs
 
 returns-2 : tie.Need-returns-2
 returns-2 c =
@@ -49,14 +49,14 @@ returns-2 c =
     let a = v .before .before .args in
     let g = t .before .before .entry .given in
     no-line (a .file .now) (a .at) (g .0 .0) (g .0 .1 .0) (sym (g .1) ∙ v .read-number .ensures) _
-    (sym (t .stands .ensures) ∙ not-false _ (c .before .before .before .if1 .left)) (c .before .before .name-end .ensures)
-    (sym (c .before .stands2 .ensures) ∙ not-true _ (c .if2 .taken))
+    (sym (t .ends .ensures) ∙ not-false _ (c .before .before .before .if1 .left)) (c .before .before .name-end .ensures)
+    (sym (c .before .ends2 .ensures) ∙ not-true _ (c .if2 .taken))
 
 add-t12 : tie.Need-add-t12
 add-t12 c =
     let start = c .before .before .before .before .before .before .before .before .before .before in
     let a = start .args in
-    let newline = sym (c .before .stands2 .ensures) ∙ not-false _ (c .if2 .left) in
+    let newline = sym (c .before .ends2 .ensures) ∙ not-false _ (c .if2 .left) in
     omega (arith, stands-in (a .file .now) (c .before .before .name-end .result) 10 (omega arith) newline)
 
 returns-3 : tie.Need-returns-3
@@ -72,8 +72,8 @@ returns-4 c =
     let a = v .before .before .args in
     let g = t .before .before .entry .given in
     line-ends (a .file .now) (a .at) (g .0 .0) (g .0 .1 .0) (sym (g .1) ∙ v .read-number .ensures) _
-    (sym (t .stands .ensures) ∙ not-false _ (c .before .before .before .if1 .left)) (c .before .before .name-end .ensures)
-    (sym (c .before .stands2 .ensures) ∙ not-false _ (c .if2 .left))
+    (sym (t .ends .ensures) ∙ not-false _ (c .before .before .before .if1 .left)) (c .before .before .name-end .ensures)
+    (sym (c .before .ends2 .ensures) ∙ not-false _ (c .if2 .left))
 
 pub read-line-spec : {M : Type 1} → statement M
 read-line-spec =
@@ -83,11 +83,11 @@ read-line-spec =
     read-number-requires
     enum-known-place
     enum-known-entry
-    stands-requires
+    ends-requires
     returns
     add-name-end
     name-end-requires
-    stands-requires-2
+    ends-requires-2
     returns-2
     add-t12
     returns-3

@@ -20,15 +20,15 @@ returns-2 : tie.Need-returns-2
 returns-2 c =
     let a = c .before .before .before .before .before .args in no-comment (a .version) (a .file .now) (a .at) (sym (c .before .before .is-kind .ensures) ∙ not-false _ (c .before .if1 .left)) (c .if2 .taken)
 
-add-stands : tie.Need-add-stands
-add-stands c = omega arith
+add-ends : tie.Need-add-ends
+add-ends c = omega arith
 
-stands-requires : tie.Need-stands-requires
-stands-requires c κs = search needs
+ends-requires : tie.Need-ends-requires
+ends-requires c κs = search needs
 
 returns-3 : tie.Need-returns-3
 returns-3 c =
-    let a = c .before .before .before .before .before .before .args in by-next (a .version) (a .file .now) (a .at) _ (sym (c .before .before .before .is-kind .ensures) ∙ not-false _ (c .before .before .if1 .left)) (c .before .if2 .left) (c .stands .ensures)
+    let a = c .before .before .before .before .before .before .args in by-next (a .version) (a .file .now) (a .at) _ (sym (c .before .before .before .is-kind .ensures) ∙ not-false _ (c .before .before .if1 .left)) (c .before .if2 .left) (c .ends .ensures)
 
 pub starts-symbol-spec : {M : Type 1} → statement M
 starts-symbol-spec =
@@ -38,6 +38,6 @@ starts-symbol-spec =
     is-kind-requires
     returns
     returns-2
-    add-stands
-    stands-requires
+    add-ends
+    ends-requires
     returns-3)
