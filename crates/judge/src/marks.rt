@@ -5,7 +5,7 @@ ghost use mathlib.Core.Bool.{true};
 ghost use Prim.Native.Nat.{_+_, _*_, _/_, _<_};
 ghost use lib.ListN.{length};
 ghost use Rattle.tables.specs.bitmap.Bitmap.{isOn};
-ghost use Rattle.judge.specs.marks.Levels.{p0, p3, Levels, marked, Lowered, TakenOff, First};
+ghost use Rattle.judge.specs.marks.Levels.{p0, p3, Levels, marked, Lowered, TakenOff, FirstPair};
 use tables::bitmap;
 
 // Gate i is marked.
@@ -51,10 +51,10 @@ pub fn unmark(t: &mut [u32], n: usize, a: usize, j: usize)
     lower(t, s, j / 32768, three);
 }
 
-// The first gate that is marked; where none is, some number from a on.
-pub fn first(t: &[u32], n: usize, a: usize) -> usize
+// The pair of gates that the first marked one is in, by its first gate; a where none is marked.
+pub fn first_pair(t: &[u32], n: usize, a: usize) -> usize
     requires { ⌜ (p3 n a < length (now t)) × (a < 1048576) × (0 < a) × Levels (now t) n a ⌝ }
-    ensures { λ r. ⌜ First (now (t .entry)) n a r ⌝ }
+    ensures { λ r. ⌜ FirstPair (now (t .entry)) n a r ⌝ }
 {
     let p = n + 2 * a;
     let q = p + (a / 32 + 1);
@@ -66,5 +66,9 @@ pub fn first(t: &[u32], n: usize, a: usize) -> usize
     let x = bitmap::next_on(t, s, 0);
     let y = bitmap::next_on(t, r, 32 * x);
     let z = bitmap::next_on(t, q, 32 * y);
-    bitmap::next_on(t, p, 32 * z)
+    let j = bitmap::next_on(t, p, 32 * z);
+    if a <= j {
+        return a;
+    }
+    j / 2 * 2
 }

@@ -8,7 +8,7 @@ use borrow.Author.Tests.{lt-ltb, ltb-true}
 use lib.ListN.{getD}
 use Rattle.laws.proofs.Running.Lists.{absent}
 use Rattle.tables.specs.bitmap.Bitmap.{isOn, NextOn}
-use Rattle.judge.specs.marks.Levels.{p0, p1, p2, p3, Level, Levels, First}
+use Rattle.judge.specs.marks.Levels.{p0, p1, p2, p3, Level, Levels, FirstPair}
 use Rattle.judge.proofs.marks.Turning.{lit, told, lit-pos, next-there}
 
 -- r is the first place that is on at p, in a word up to the one numbered m
@@ -70,5 +70,13 @@ none-marked t n a c small l z h = absent (isOn t (p0 n a) c) dark
         let top : p3 n a + c / 32 / 32 / 32 / 32 ≡ p3 n a = omega arith in
         omega (arith, z, subst (λ (x : ℕ). 0 < getD t x 0) top (lit-pos t (p3 n a) (c / 32 / 32 / 32) on₃))
 
-pub first-found : (t : List ℕ) (n a r : ℕ) → FirstOn t (p0 n a) (a / 32) r → First t n a r
-first-found t n a r f = record { dark = λ c h k. f .dark c h; there = λ h. f .on }
+-- the pair of the first gate that is marked, if it is one of a gates
+pub pair-found : (t : List ℕ) (n a j : ℕ) → FirstOn t (p0 n a) (a / 32) j → j < a → FirstPair t n a (j / 2 * 2)
+pair-found t n a j f h = record {
+  within = omega arith;
+  dark = λ c l k. f .dark c (omega arith);
+  there = λ l. record { gate = j; even = omega arith; low = omega arith; high = omega arith; within = h; on = f .on };
+}
+
+pub pair-past : (t : List ℕ) (n a j : ℕ) → FirstOn t (p0 n a) (a / 32) j → a ≤ j → FirstPair t n a a
+pair-past t n a j f h = record { within = omega arith; dark = λ c l k. f .dark c (omega arith); there = λ l. absurd (omega arith) }

@@ -11,7 +11,7 @@ use Rattle.plan.specs.Literals.{varOf}
 use Rattle.tables.specs.bitmap.Bitmap.{isOn}
 use Rattle.laws.proofs.Tables.{gateAt}
 use Rattle.judge.specs.order.Numbers.{NumTable, InRange}
-use Rattle.judge.specs.marks.Levels.{p0, First}
+use Rattle.judge.specs.marks.Levels.{p0, FirstPair}
 use Rattle.judge.specs.order.Waiting.{shown, clean, numberedV, readyAt, lhsOf, counted, Waiting, every, Given}
 use Rattle.judge.proofs.order.Shown.{shown-low, clean-length, clean-set, clean-same, ready-clean, ready-left, given-here, given-other}
 use Rattle.judge.proofs.order.Counting.{counted-more}
@@ -24,7 +24,7 @@ abbrev pub Idle : List ℕ → List ℕ → ℕ → ℕ → Type 0
 Idle gates t a j = (i : ℕ) → i < j → i < a → readyAt gates t i ≡ false
 
 module _ (gates t : List ℕ) (n a : ℕ) (w : Waiting gates t n a every) where
-  pub idle-first : (r : ℕ) → First t n a r → Idle gates t a r
+  pub idle-first : (r : ℕ) → FirstPair t n a r → Idle gates t a r
   idle-first r f i h k = sym (w .marks .here i k) ∙ f .dark i h k
 
   pub marked-ready : (j : ℕ) (b : Bool) → j < a → isOn t (p0 n a) j ≡ b → readyAt gates t j ≡ b

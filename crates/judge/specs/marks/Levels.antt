@@ -1,6 +1,6 @@
 -- The marks in a table: after n words and two for each of a gates come a bit for each gate, a bit for each word of those that is not 0, a
 -- bit for each word of these, and so once more.
-use Prim.Native.Nat.{ℕ, _+_, _*_, _/_, _<_, _≤_}
+use Prim.Native.Nat.{ℕ, _+_, _*_, _/_, _%_, _<_, _≤_}
 use mathlib.Core.Path.{_≡_}
 use mathlib.Core.Bool.{true, false, not, cond}
 use mathlib.Core.List.{List}
@@ -46,13 +46,24 @@ pub record Lowered (t u : List ℕ) (p i e r : ℕ) : Type 0 where
   pub still : e ≡ 0 → (getD u (p + i / 32) 0 ≡ getD t (p + i / 32) 0) × (r ≡ 0)
   pub turned : e ≡ 1 → (isOn u p i ≡ not (isOn t p i)) × (r ≡ cond (eqb (getD u (p + i / 32) 0) 0) 1 0)
 
--- what `unmark` does, and what `first` finds
+-- what `unmark` does
 pub record TakenOff (t u : List ℕ) (n a j : ℕ) : Type 0 where
   pub low : Agree (p0 n a) t u
   pub others : (c : ℕ) → (c ≡ j → ⊥) → c / 32 ≤ a / 32 → isOn u (p0 n a) c ≡ isOn t (p0 n a) c
   pub gone : isOn u (p0 n a) j ≡ false
   pub levels : Levels u n a
 
-pub record First (t : List ℕ) (n a r : ℕ) : Type 0 where
+-- a marked gate of the pair that starts at r
+pub record InPair (t : List ℕ) (n a r : ℕ) : Type 0 where
+  pub gate : ℕ
+  pub even : r % 2 ≡ 0
+  pub low : r ≤ gate
+  pub high : gate ≤ r + 1
+  pub within : gate < a
+  pub on : isOn t (p0 n a) gate ≡ true
+
+-- what `first_pair` finds: no gate before it is marked, and one of it is, where any is
+pub record FirstPair (t : List ℕ) (n a r : ℕ) : Type 0 where
+  pub within : r ≤ a
   pub dark : (c : ℕ) → c < r → c < a → isOn t (p0 n a) c ≡ false
-  pub there : r < a → isOn t (p0 n a) r ≡ true
+  pub there : r < a → InPair t n a r

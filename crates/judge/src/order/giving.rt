@@ -39,8 +39,8 @@ fn give(gates: &[u32], t: &mut [u32], n: usize, a: usize, j: usize, x: u32)
     wake(gates, t, n, a, h);
 }
 
-// The scan starts at the first mark and yields the next gate that is ready; where none is, no further number is given. Gives how many
-// gates have one.
+// The scan starts at the pair of gates that the first mark is in, and yields the next gate that is ready; where none is, no further
+// number is given. Gives how many gates have one.
 pub fn assign(gates: &[u32], t: &mut [u32], first: u32, n: usize, a: usize) -> usize
     requires { ⌜ Space (now gates) (now t) n a × (0 < first) × (first + a < 2147483648) × Waiting (now gates) (now t) n a every
         × (counted (now gates) (now t) a ≡ 0) ⌝ }
@@ -51,7 +51,7 @@ pub fn assign(gates: &[u32], t: &mut [u32], first: u32, n: usize, a: usize) -> u
     let mut next = first;
     let mut k: usize = 0;
     'numbers: while k < a {
-        let mut j = marks::first(t, n, a);
+        let mut j = marks::first_pair(t, n, a);
         loop {
             if a <= j {
                 break 'numbers;

@@ -26,8 +26,8 @@ numbers-holds c = let P = c .before .before in
     let A = P .args in
     (omega arith, refl, omega arith, state-start (A .gates .now) (A .t .now) (A .n) (A .a) (A .first) (omega (arith, P .pre .0 .table-long)) (P .pre .3) (P .pre .4))
 
-first-requires : tie.Need-first-requires Inv-loop μ-loop Inv-numbers μ-numbers
-first-requires c κs = let P = c .before .before .before .before .before in
+first-pair-requires : tie.Need-first-pair-requires Inv-loop μ-loop Inv-numbers μ-numbers
+first-pair-requires c κs = let P = c .before .before .before .before .before in
     let A = P .args in
     let N = c .before .before .numbers in
     let more = c .before .numbers-test .taken in
@@ -37,7 +37,7 @@ first-requires c κs = let P = c .before .before .before .before .before in
 loop-holds : tie.Need-loop-holds Inv-loop μ-loop Inv-numbers μ-numbers
 loop-holds c = let A = c .before .before .before .before .before .before .args in
     let N = c .before .before .before .numbers in
-    idle-first (A .gates .now) (N .t) (A .n) (A .a) (N .inv .3 .waiting) (c .first .result) (c .first .ensures)
+    idle-first (A .gates .now) (N .t) (A .n) (A .a) (N .inv .3 .waiting) (c .first-pair .result) (c .first-pair .ensures)
 
 mul-is-on : tie.Need-mul-is-on Inv-loop μ-loop Inv-numbers μ-numbers
 mul-is-on c = omega arith
@@ -148,7 +148,7 @@ assign-spec =
     Inv-numbers
     μ-numbers
     numbers-holds
-    first-requires
+    first-pair-requires
     loop-holds
     mul-is-on
     add-is-on

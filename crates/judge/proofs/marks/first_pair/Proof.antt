@@ -4,9 +4,9 @@ use mathlib.Core.Path.{_≡_, subst}
 use native.Mathlib.Omega.{arith}
 use borrow.Author.Needs.{needs}
 use Rattle.judge.specs.marks.Levels.{p0, p1, p2, p3}
-use Rattle.judge.proofs.marks.Finding.{FirstOn, first-in, first-down, first-top, none-marked, first-found}
-use Rattle.judge.proofs.marks.first.Statement.{statement}
-use Rattle.judge.proofs.marks.first.Tie as tie
+use Rattle.judge.proofs.marks.Finding.{FirstOn, first-in, first-down, first-top, none-marked, pair-found, pair-past}
+use Rattle.judge.proofs.marks.first_pair.Statement.{statement}
+use Rattle.judge.proofs.marks.first_pair.Tie as tie
 
 -- the first place that is on at each level
 top : (c : tie.After-next-on) → let P = c .before .before .before .before in
@@ -73,6 +73,7 @@ returns : tie.Need-returns
 returns c = let P = c .before .before .before in
     let A = P .args in
     record {
+      within = omega arith;
       dark = λ k h q. none-marked (A .t .now) (A .n) (A .a) k (P .pre .1) (P .pre .3) (c .if1 .taken) q;
       there = λ h. absurd (omega arith);
     }
@@ -107,16 +108,30 @@ next-on-requires-4 c κs = let P = c .before .before .before .before .before .be
     let z = first-in (A .t .now) (p0 (A .n) (A .a)) (p1 (A .n) (A .a)) (A .a / 32) (c .next-on3 .result) (P .pre .3 .one) (third c) in
     (omega (arith, z), omega (arith, z))
 
-returns-2 : tie.Need-returns-2
-returns-2 c = let d = c .before in
+-- the first gate that is marked
+gate : (c : tie.After-next-on4) → let P = c .before .before .before .before .before .before .before in
+    FirstOn (P .args .t .now) (p0 (P .args .n) (P .args .a)) (P .args .a / 32) (c .next-on4 .result)
+gate c = let d = c .before in
     let P = d .before .before .before .before .before .before in
     let A = P .args in
-    first-found (A .t .now) (A .n) (A .a) (c .next-on4 .result)
-    (first-down (A .t .now) (p0 (A .n) (A .a)) (p1 (A .n) (A .a)) (A .a / 32) (d .next-on3 .result) (c .next-on4 .result) (P .pre .3 .one)
-    (third d) (omega (arith, d .before .before .before .before .before .shared-slice-known .given (p0 (A .n) (A .a) + d .next-on3 .result))) (c .next-on4 .ensures))
+    first-down (A .t .now) (p0 (A .n) (A .a)) (p1 (A .n) (A .a)) (A .a / 32) (d .next-on3 .result) (c .next-on4 .result) (P .pre .3 .one)
+    (third d) (omega (arith, d .before .before .before .before .before .shared-slice-known .given (p0 (A .n) (A .a) + d .next-on3 .result))) (c .next-on4 .ensures)
 
-pub first-spec : {M : Type 1} → statement M
-first-spec =
+returns-2 : tie.Need-returns-2
+returns-2 c = let d = c .before in
+    let A = d .before .before .before .before .before .before .before .args in
+    pair-past (A .t .now) (A .n) (A .a) (d .next-on4 .result) (gate d) (c .if2 .taken)
+
+mul-result : tie.Need-mul-result
+mul-result c = search needs
+
+returns-3 : tie.Need-returns-3
+returns-3 c = let d = c .before in
+    let A = d .before .before .before .before .before .before .before .args in
+    pair-found (A .t .now) (A .n) (A .a) (d .next-on4 .result) (gate d) (omega (arith, c .if2 .left))
+
+pub first-pair-spec : {M : Type 1} → statement M
+first-pair-spec =
     tie.close
     (tie.spec
     mul-p
@@ -137,4 +152,6 @@ first-spec =
     next-on-requires-3
     mul-next-on-3
     next-on-requires-4
-    returns-2)
+    returns-2
+    mul-result
+    returns-3)
