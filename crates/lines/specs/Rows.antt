@@ -30,6 +30,7 @@ endFor false = 32
 abbrev pub going : Bool → Bool → ℕ → Going
 going must may b = cond (eqb b 10) (cond must Wrong Stop) (cond (eqb b 32) (cond may On Wrong) Wrong)
 
+-- 5: the place found, or none
 abbrev pub foundOf : Found → Option ℕ
 foundOf Nothing = none
 foundOf (At place) = some place

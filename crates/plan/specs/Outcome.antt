@@ -1,7 +1,7 @@
 -- What each public function answers and leaves in all it was lent: one function of what it is handed for each, and one relation.
 use Prim.Native.Nat.{ℕ, _+_, _*_, min}
 use mathlib.Core.Path.{_≡_}
-use mathlib.Core.Bool.{Bool, true, false, _&&_}
+use mathlib.Core.Bool.{Bool, true, false, cond, _&&_}
 use mathlib.Core.Option.{Option, none, some}
 use mathlib.Core.List.{List, [], _∷_, _++_, map}
 use lib.Dec.{eqb}
@@ -9,7 +9,7 @@ use lib.ListN.{length, take, drop}
 use Rattle.plan.specs.declared.Refusal.{Refusal}
 use Rattle.plan.specs.declared.Version.{Version}
 use Rattle.plan.specs.declared.Version.the-variants.{V2007, V19}
-use Rattle.plan.specs.declared.Refusal.the-variants.{ShortBuffer, BadVector}
+use Rattle.plan.specs.declared.Refusal.the-variants.{WrongByte, ShortBuffer, BadVector}
 use Rattle.plan.specs.declared.Number.{Number}
 use Rattle.plan.specs.declared.Number.the-variants.{Value, Wrong}
 use Rattle.plan.specs.declared.Loaded.{Loaded}
@@ -30,6 +30,8 @@ use Rattle.plan.specs.declared.Verdict.{Verdict}
 use Rattle.plan.specs.declared.Verdict.the-variants as verdict
 use Rattle.plan.specs.declared.Finding.{Finding}
 use Rattle.plan.specs.declared.Finding.the-variants as finding
+use Rattle.plan.specs.declared.Traced.{Traced}
+use Rattle.plan.specs.declared.Traced.the-variants as traced
 use Rattle.plan.specs.Literals.{beyond}
 use Rattle.plan.specs.Refusals.{Parse, got, refused, numberOf, placeOf, stage, firstOf}
 use Rattle.plan.specs.Circuit.{Circuit, Tables, countsOf, lengthsOf, holding, allCleared, cleared}
@@ -84,6 +86,25 @@ findingValues (finding.Yes tried) = 0 ∷ 0 ∷ 1 ∷ tried ∷ []
 findingValues (finding.No tried) = 0 ∷ 0 ∷ 0 ∷ tried ∷ []
 findingValues (finding.Undecided tried) = 0 ∷ 0 ∷ 2 ∷ tried ∷ []
 findingValues (finding.Refused r) = refusalValues r (0 ∷ 0 ∷ [])
+
+-- how many lines of a run
+abbrev pub tracedValues : Traced → List ℕ
+tracedValues (traced.Lines n) = 0 ∷ 0 ∷ n ∷ []
+tracedValues (traced.Refused r) = refusalValues r (0 ∷ [])
+
+-- of parts of a file: the position after the part; of a header also its form, text 0 and binary 1, and the counts; of a number, whose
+-- only refusal is 1, also its value
+abbrev pub passedValues : Passed → List ℕ
+passedValues (passed.To next) = 0 ∷ 0 ∷ next ∷ []
+passedValues (passed.Refused r) = refusalValues r (0 ∷ [])
+
+abbrev pub headedValues : Headed → List ℕ
+headedValues (headed.Accepted isBinary n next) = 0 ∷ 0 ∷ cond isBinary 1 0 ∷ next ∷ listOf n
+headedValues (headed.Refused r) = refusalValues r (0 ∷ 0 ∷ 0 ∷ 0 ∷ 0 ∷ 0 ∷ 0 ∷ 0 ∷ 0 ∷ [])
+
+abbrev pub numberValues : Number → List ℕ
+numberValues (Value v next) = 0 ∷ 0 ∷ next ∷ v ∷ []
+numberValues (Wrong place) = refusalValues (WrongByte place) (0 ∷ 0 ∷ [])
 
 -- a number at a position, cut above every limit
 abbrev pub cutNumber : Parse ℕ → Number

@@ -11,6 +11,7 @@ use Rattle.tables.specs.bitmap.Bitmap.{isOn}
 use Rattle.judge.specs.declared.used.Missing.{Missing}
 use Rattle.judge.specs.declared.used.Missing.the-variants.{Nothing, Least}
 
+-- 7: the least variable, or none
 abbrev pub missingOf : Missing → Option ℕ
 missingOf Nothing = none
 missingOf (Least v) = some v

@@ -6,6 +6,7 @@ use lib.Dec.{eqb}
 use Rattle.plan.specs.declared.Traced.{Traced}
 use Rattle.plan.specs.declared.Traced.the-variants as traced
 use Rattle.plan.specs.Refusals.{numberOf, placeOf}
+use Rattle.plan.specs.Outcome.{refusalValues}
 use Rattle.plan.specs.Whole.{TraceEntry, TraceExit, trace}
 use Rattle.plan.specs.Plain.{plainTrace}
 use Rattle.runs.specs.declared.comparing.Compared.{Compared}
@@ -40,6 +41,12 @@ pub record CompareExit : Type 0 where
   pub out : List ℕ
   pub twin : List ℕ
   pub again : List ℕ
+
+-- the answer as numbers: 1 if both engines leave the same and 0 if they part, and how many lines
+abbrev pub comparedValues : Compared → List ℕ
+comparedValues (Lines k) = 0 ∷ 0 ∷ 1 ∷ k ∷ []
+comparedValues Differ = 0 ∷ 0 ∷ 0 ∷ 0 ∷ []
+comparedValues (Refused r) = refusalValues r (0 ∷ 0 ∷ [])
 
 abbrev pub comparedBy : Bool → Traced → Compared
 comparedBy true (traced.Lines k) = Lines k
