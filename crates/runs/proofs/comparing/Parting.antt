@@ -4,7 +4,7 @@ use mathlib.Core.Path.{_≡_, refl, sym, ap, ap₂, _∙_}
 use mathlib.Core.Bool.{Bool, true, false, _&&_, false≢true}
 use mathlib.Core.Option.{Option, none, some}
 use mathlib.Core.List.{List, [], _∷_, _++_, map}
-use borrow.Author.Tests.{eq-eqb, eqb-true}
+use borrow.Author.Tests.{eq-eqb, ne-eqb, eqb-true}
 use lib.Dec.{eqb}
 use lib.ListN.{length, replicate, length-replicate}
 use Rattle.plan.specs.declared.Refusal.{Refusal}
@@ -14,10 +14,11 @@ use Rattle.plan.specs.Refusals.{numberOf, placeOf, firstOf}
 use Rattle.plan.specs.Circuit.{wordsToWork, against}
 use Rattle.plan.specs.Given.{given, stages, orderStage}
 use Rattle.plan.specs.Step.{codeOf, valueOf, run}
-use Rattle.plan.specs.Outcome.{put}
+use Rattle.plan.specs.Outcome.{put, tracedValues}
 use Rattle.plan.specs.Programs.{stepLines}
 use Rattle.plan.specs.Whole.{TraceEntry, TraceExit, traceStage, nextLines, stateAfter, tracedBy, trace}
 use Rattle.laws.proofs.Reading.Common.{and-left, and-right}
+use Rattle.laws.proofs.Writing.Over.{refusal-number}
 use Rattle.tables.specs.Lengths.{lengthsIn, sizesOf}
 use Rattle.step.proofs.Checks.{answer}
 use Rattle.plan.specs.Plain.{plainTrace}
@@ -46,8 +47,32 @@ same-is a b false p = go (sameBytes a b) refl
     go false e = sym e
 
 answer-same : (t : Traced) → sameAnswer t t ≡ true
-answer-same (traced.Lines k) = eq-eqb k k refl
-answer-same (traced.Refused r) = ap₂ _&&_ (eq-eqb (numberOf r) (numberOf r) refl) (eq-eqb (placeOf r) (placeOf r) refl)
+answer-same t = bytes-same (tracedValues t)
+
+-- by case: the numbers of lines, or of refusals and their places, decide; no refusal has the number 0
+last-true : (x : Bool) → (x && true) ≡ x
+last-true true = refl
+last-true false = refl
+
+module _ {a b : Traced} {k m : ℕ} (p : a ≡ traced.Lines k) (q : b ≡ traced.Lines m) where
+  pub both-lines : eqb k m ≡ sameAnswer a b
+  both-lines = sym (ap₂ sameAnswer p q ∙ last-true (eqb k m))
+
+module _ {a b : Traced} {k : ℕ} {s : Refusal} (p : a ≡ traced.Lines k) (q : b ≡ traced.Refused s) where
+  pub first-lines : false ≡ sameAnswer a b
+  first-lines =
+      sym (ap₂ sameAnswer p q
+      ∙ ap (λ (x : Bool). x && sameBytes (0 ∷ k ∷ []) (placeOf s ∷ 0 ∷ [])) (ne-eqb 0 (numberOf s) (λ e. refusal-number s (sym e))))
+
+module _ {a b : Traced} {r : Refusal} {m : ℕ} (p : a ≡ traced.Refused r) (q : b ≡ traced.Lines m) where
+  pub second-lines : false ≡ sameAnswer a b
+  second-lines =
+      sym (ap₂ sameAnswer p q
+      ∙ ap (λ (x : Bool). x && sameBytes (placeOf r ∷ 0 ∷ []) (0 ∷ m ∷ [])) (ne-eqb (numberOf r) 0 (refusal-number r)))
+
+module _ {a b : Traced} {r s : Refusal} (p : a ≡ traced.Refused r) (q : b ≡ traced.Refused s) where
+  pub no-lines : (eqb (numberOf r) (numberOf s) && eqb (placeOf r) (placeOf s)) ≡ sameAnswer a b
+  no-lines = sym (ap₂ sameAnswer p q ∙ ap (λ (x : Bool). eqb (numberOf r) (numberOf s) && x) (last-true (eqb (placeOf r) (placeOf s))))
 
 -- three tests in a row: the first or the second fails, or the third decides
 pub first-fails : (x y z : Bool) → x ≡ false → false ≡ (x && (y && z))

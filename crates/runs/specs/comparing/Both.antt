@@ -5,8 +5,7 @@ use mathlib.Core.List.{List, [], _∷_}
 use lib.Dec.{eqb}
 use Rattle.plan.specs.declared.Traced.{Traced}
 use Rattle.plan.specs.declared.Traced.the-variants as traced
-use Rattle.plan.specs.Refusals.{numberOf, placeOf}
-use Rattle.plan.specs.Outcome.{refusalValues}
+use Rattle.plan.specs.Outcome.{refusalValues, tracedValues}
 use Rattle.plan.specs.Whole.{TraceEntry, TraceExit, trace}
 use Rattle.plan.specs.Plain.{plainTrace}
 use Rattle.runs.specs.declared.comparing.Compared.{Compared}
@@ -20,10 +19,7 @@ sameBytes (a ∷ l) (b ∷ m) = eqb a b && sameBytes l m
 
 -- as many lines, or the same refusal
 abbrev pub sameAnswer : Traced → Traced → Bool
-sameAnswer (traced.Lines k) (traced.Lines m) = eqb k m
-sameAnswer (traced.Lines k) (traced.Refused s) = false
-sameAnswer (traced.Refused r) (traced.Lines m) = false
-sameAnswer (traced.Refused r) (traced.Refused s) = eqb (numberOf r) (numberOf s) && eqb (placeOf r) (placeOf s)
+sameAnswer a b = sameBytes (tracedValues a) (tracedValues b)
 
 abbrev pub agree : TraceExit → TraceExit → Bool
 agree a b = sameAnswer (a .answer) (b .answer) && (sameBytes (a .state) (b .state) && sameBytes (a .out) (b .out))

@@ -1,5 +1,5 @@
-use mathlib.Core.Path.{sym, ap₂, _∙_}
-use Rattle.runs.specs.comparing.Both.{sameAnswer}
+use mathlib.Core.Path.{_∙_}
+use Rattle.runs.proofs.comparing.Parting.{both-lines, first-lines, second-lines, no-lines}
 use borrow.Author.Needs.{needs}
 use Rattle.runs.proofs.comparing.same_answer.Statement.{statement}
 use Rattle.runs.proofs.comparing.same_answer.Tie as tie
@@ -26,17 +26,17 @@ same-refusal-requires : tie.Need-same-refusal-requires
 same-refusal-requires c κs = search needs
 
 returns : tie.Need-returns
-returns c = sym (ap₂ sameAnswer (c .before .before .before .before .a .given .1) (c .before .b .given .1))
+returns c = both-lines (c .before .before .before .before .a .given .1) (c .before .b .given .1)
 
 returns-2 : tie.Need-returns-2
-returns-2 c = sym (ap₂ sameAnswer (c .before .before .before .a .given .1) (c .enum-told .given .1))
+returns-2 c = first-lines (c .before .before .before .a .given .1) (c .enum-told .given .1)
 
 returns-3 : tie.Need-returns-3
-returns-3 c = sym (ap₂ sameAnswer (c .before .before .before .a2 .given .1) (c .enum-told2 .given .1))
+returns-3 c = second-lines (c .before .before .before .a2 .given .1) (c .enum-told2 .given .1)
 
 returns-4 : tie.Need-returns-4
 returns-4 c =
-    c .same-refusal .ensures ∙ sym (ap₂ sameAnswer (c .before .before .before .before .before .a2 .given .1) (c .before .before .b2 .given .1))
+    c .same-refusal .ensures ∙ no-lines (c .before .before .before .before .before .a2 .given .1) (c .before .before .b2 .given .1)
 
 pub same-answer-spec : {M : Type 1} → statement M
 same-answer-spec =
