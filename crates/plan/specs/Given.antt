@@ -73,7 +73,8 @@ outsideIn c =
 -- 6 over the lines of table t; `seen` holds the variables defined before
 abbrev pub twiceOf : ℕ → List ℕ → List (List ℕ) → Option ℕ
 twiceOf t seen [] = none
-twiceOf t seen (row ∷ rows) = orElse (twice true seen (placed t row)) (twiceOf t (seen ++ (varOf (literalOf row) ∷ [])) rows)
+twiceOf t seen (row ∷ rows) =
+    orElse (twice true seen (placed t row)) (twiceOf t (seen ++ (varOf (literalOf row) ∷ [])) rows)
 
 abbrev pub twiceIn : Circuit → Option ℕ
 twiceIn c =
@@ -109,7 +110,8 @@ refusalOf (refused r) = some r
 abbrev pub tailStage : Given → List ℕ → Option Refusal
 tailStage g tail = refusalOf (tailAt V19 tail (g .counts) 0)
 
--- 11: the length needed to hold bytes from a position on, cut at the largest number of 64 bits, where a buffer is shorter
+-- 11: the length needed to hold bytes from a position on, cut at the largest number of 64 bits, where a buffer is
+-- shorter
 abbrev pub room : List ℕ → ℕ → List ℕ → Option ℕ
 room out at bytes = cond (leb (at + length bytes) (length out)) none (some (min (at + length bytes) (2 ^ 64 - 1)))
 

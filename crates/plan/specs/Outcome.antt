@@ -1,4 +1,5 @@
--- What each public function answers and leaves in all it was lent: one function of what it is handed for each, and one relation.
+-- What each public function answers and leaves in all it was lent: one function of what it is handed for each, and
+-- one relation.
 use Prim.Native.Nat.{ℕ, _+_, _*_, min}
 use mathlib.Core.Path.{_≡_}
 use mathlib.Core.Bool.{Bool, true, false, _&&_}
@@ -148,8 +149,13 @@ pub record LoadExit : Type 0 where
   pub scratch : List ℕ
 
 abbrev pub loadBy : ReadEntry → Parse Circuit → LoadExit
-loadBy e (got c start) = record { answer = loaded.Accepted (countsOf c) start; tables = holding (e .tables) c; scratch = cleared (e .scratch) }
-loadBy e (refused r) = record { answer = loaded.Refused r; tables = allCleared (e .tables); scratch = cleared (e .scratch) }
+loadBy e (got c start) = record {
+  answer = loaded.Accepted (countsOf c) start;
+  tables = holding (e .tables) c;
+  scratch = cleared (e .scratch);
+}
+loadBy e (refused r) =
+    record { answer = loaded.Refused r; tables = allCleared (e .tables); scratch = cleared (e .scratch) }
 
 -- by a version of the report
 abbrev pub loadAs : Version → ReadEntry → LoadExit
@@ -172,7 +178,12 @@ tailOf file (loaded.Refused r) = []
 abbrev pub readAs : Version → ReadEntry → ReadExit
 readAs v e =
     let x = loadAs v e in
-    record { answer = loadedValues (x .answer); tail = tailOf (e .file) (x .answer); tables = x .tables; scratch = x .scratch }
+    record {
+      answer = loadedValues (x .answer);
+      tail = tailOf (e .file) (x .answer);
+      tables = x .tables;
+      scratch = x .scratch;
+    }
 
 -- the reader, and that of 2007
 abbrev pub read : ReadEntry → ReadExit
@@ -212,8 +223,13 @@ pub record FileExit : Type 0 where
   pub out : List ℕ
 
 abbrev pub writtenBy : Option Refusal → FileEntry → List ℕ → FileExit
-writtenBy none e bytes = record { answer = written.Bytes (length bytes); scratch = cleared (e .circuit .scratch); out = put (e .out) 0 bytes }
-writtenBy (some r) e bytes = record { answer = written.Refused r; scratch = cleared (e .circuit .scratch); out = e .out }
+writtenBy none e bytes = record {
+  answer = written.Bytes (length bytes);
+  scratch = cleared (e .circuit .scratch);
+  out = put (e .out) 0 bytes;
+}
+writtenBy (some r) e bytes =
+    record { answer = written.Refused r; scratch = cleared (e .circuit .scratch); out = e .out }
 
 abbrev pub writeText : FileEntry → FileExit
 writeText e =
@@ -238,8 +254,13 @@ pub record MakeExit : Type 0 where
   pub scratch : List ℕ
 
 abbrev pub madeBy : Option Refusal → MakeEntry → Circuit → MakeExit
-madeBy none e c = record { answer = made.Accepted (countsOf c); written = holding (e .written) c; scratch = cleared (e .circuit .scratch) }
-madeBy (some r) e c = record { answer = made.Refused r; written = allCleared (e .written); scratch = cleared (e .circuit .scratch) }
+madeBy none e c = record {
+  answer = made.Accepted (countsOf c);
+  written = holding (e .written) c;
+  scratch = cleared (e .circuit .scratch);
+}
+madeBy (some r) e c =
+    record { answer = made.Refused r; written = allCleared (e .written); scratch = cleared (e .circuit .scratch) }
 
 abbrev pub conversion : MakeEntry → MakeExit
 conversion e =
@@ -290,7 +311,12 @@ steppedBy none e = record {
   state = map codeOf (nextOf (given (e .circuit)) (map valueOf (e .state)) (map valueOf (e .inputs)));
   outputs = map codeOf (outputsOf (given (e .circuit)) (map valueOf (e .state)) (map valueOf (e .inputs)));
 }
-steppedBy (some r) e = record { answer = stepped.Refused r; scratch = cleared (e .circuit .scratch); state = e .state; outputs = e .outputs }
+steppedBy (some r) e = record {
+  answer = stepped.Refused r;
+  scratch = cleared (e .circuit .scratch);
+  state = e .state;
+  outputs = e .outputs;
+}
 
 abbrev pub step : StepEntry → StepExit
 step e =

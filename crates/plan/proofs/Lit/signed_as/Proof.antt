@@ -1,3 +1,4 @@
+-- This literal, negated if the other is. Each answer is given by `toggled-by`.
 use mathlib.Core.Path.{ap}
 use Prim.Native.Nat.{_%_}
 use native.Mathlib.Omega.{arith}

@@ -1,3 +1,4 @@
+-- Whether the literal is in its range under M, where it defines a variable or does not. The answers are given by `defines`, `uses` and `odd`.
 use borrow.Author.Tests.{not-true, not-false}
 use Rattle.plan.proofs.Ranges.{uses, odd, zero-var, defines}
 use Rattle.plan.proofs.Lit.within.Statement.{statement}
