@@ -1,3 +1,4 @@
+-- One step of all rows from the resets. Each answer is given by `holds`.
 use mathlib.Core.Path.{_∙_}
 use native.Mathlib.Omega.{arith}
 use Rattle.rows.proofs.lanes.Stepping.{sweeps, holds}
@@ -44,13 +45,5 @@ returns c =
 pub step-lanes-spec : {M : Type 1} → statement M
 step-lanes-spec =
     tie.close
-    (tie.spec
-    put-planes-requires
-    load-rows-requires
-    add-load-resets
-    load-resets-requires
-    add-sweep-lanes
-    add-sweep-lanes-2
-    sweep-lanes-requires
-    same-length
-    returns)
+    (tie.spec put-planes-requires load-rows-requires add-load-resets load-resets-requires add-sweep-lanes
+    add-sweep-lanes-2 sweep-lanes-requires same-length returns)
