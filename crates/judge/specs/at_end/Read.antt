@@ -19,7 +19,8 @@ use Rattle.tables.specs.Held.{circuitIn}
 abbrev pub closing : Circuit → Option Refusal
 closing c = firstOf (stage NotDefined (undefinedIn c) ∷ stage Cyclic (cyclicIn c) ∷ [])
 
--- the tables hold a circuit in which no check before 7 fails, whatever the resets are, and scratch, from `base` on, marks the variables that are defined
+-- the tables hold a circuit in which no check before 7 fails, whatever the resets are, and scratch, from `base` on,
+-- marks the variables that are defined
 pub record Read (n : Counts) (inputs latches outputs gates bads constraints scratch : List ℕ) (base : ℕ) : Type 0 where
   pub most-M : n .M ≤ most
   pub sum : n .I + n .L + n .A ≤ n .M
@@ -38,4 +39,5 @@ pub record Read (n : Counts) (inputs latches outputs gates bads constraints scra
   pub bads-inside : allInside false (n .M) (map oneLine (take (n .B) bads)) ≡ true
   pub constraints-inside : allInside false (n .M) (map oneLine (take (n .C) constraints)) ≡ true
   pub different : allNew [] (definedIn (circuitIn n inputs latches outputs gates [] bads constraints)) ≡ true
-  pub marked : Agrees (n .M) (definedIn (circuitIn n inputs latches outputs gates [] bads constraints)) (drop base scratch)
+  pub marked : Agrees (n .M) (definedIn (circuitIn n inputs latches outputs gates [] bads constraints))
+      (drop base scratch)

@@ -215,17 +215,24 @@ module _ (file : List ℕ) (c : Circuit) (tail : List ℕ) where
       × (length file ≤ length (textOf c ++ tail) → (s .counts ≡ shortCounts (countsOf c)) × (s .latches ≡ map (shortest 2) (textLatches c)))
   as-text s e =
       let p = linesOf (map oneLine (c .inputs)) in
-      let q = linesOf (map oneLine (c .outputs)) ++ (linesOf (map oneLine (c .bads)) ++ (linesOf (map oneLine (c .constraints)) ++ linesOf (map gateLine (c .gates)))) in
-      let r = file-least text p q tail 2 3 c (textLatches c) (s .latches) (s .counts) (s .all-counts) (s .all-latches) in
-      (subst (λ (x : List ℕ). length (textOf c ++ tail) ≤ length x) (sym e) (r .0), λ h. r .1 (subst (λ (x : List ℕ). length x ≤ length (textOf c ++ tail)) e h))
+      let q = linesOf (map oneLine (c .outputs)) ++ (linesOf (map oneLine (c .bads))
+      ++ (linesOf (map oneLine (c .constraints)) ++ linesOf (map gateLine (c .gates)))) in
+      let r = file-least text p q tail 2 3 c (textLatches c) (s .latches) (s .counts) (s .all-counts) (s .all-latches) in (
+        subst (λ (x : List ℕ). length (textOf c ++ tail) ≤ length x) (sym e) (r .0),
+        λ h. r .1
+            (subst (λ (x : List ℕ). length x ≤ length (textOf c ++ tail)) e h),
+      )
 
   as-binary : (s : Spelled V19 c 1 (binaryLatches c)) → file ≡ (headerOf binary (s .counts) ++ binaryLines (s .latches) c) ++ tail
       → (length (binaryOf c ++ tail) ≤ length file)
       × (length file ≤ length (binaryOf c ++ tail) → (s .counts ≡ shortCounts (countsOf c)) × (s .latches ≡ map (shortest 1) (binaryLatches c)))
   as-binary s e =
       let q = linesOf (map oneLine (c .outputs)) ++ (linesOf (map oneLine (c .bads)) ++ (linesOf (map oneLine (c .constraints)) ++ gateBytes (c .gates))) in
-      let r = file-least binary [] q tail 1 2 c (binaryLatches c) (s .latches) (s .counts) (s .all-counts) (s .all-latches) in
-      (subst (λ (x : List ℕ). length (binaryOf c ++ tail) ≤ length x) (sym e) (r .0), λ h. r .1 (subst (λ (x : List ℕ). length x ≤ length (binaryOf c ++ tail)) e h))
+      let r = file-least binary [] q tail 1 2 c (binaryLatches c) (s .latches) (s .counts) (s .all-counts) (s .all-latches) in (
+        subst (λ (x : List ℕ). length (binaryOf c ++ tail) ≤ length x) (sym e) (r .0),
+        λ h. r .1
+            (subst (λ (x : List ℕ). length x ≤ length (binaryOf c ++ tail)) e h),
+      )
 
   trimmed-by : (k : ℕ) (full lats : List (List ℕ)) (row : List ℕ) → (row ≡ shortCounts (countsOf c)) × (lats ≡ map (shortest k) full)
       → Trimmed 5 row × AllTrimmed k lats

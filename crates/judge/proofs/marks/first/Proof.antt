@@ -27,7 +27,11 @@ second c =
     let words : A .a / 32768 ≡ A .a / 1024 / 32 = omega arith in
     subst (λ (m : ℕ). FirstOn (A .t .now) (p2 (A .n) (A .a)) m (c .next-on2 .result)) words
     (first-down (A .t .now) (p2 (A .n) (A .a)) (p3 (A .n) (A .a)) (A .a / 32768) (c .before .next-on .result) (c .next-on2 .result)
-    (P .pre .3 .three) (top (c .before)) (omega (arith, c .before .before .before .before .shared-slice-known .given (p2 (A .n) (A .a) + c .before .next-on .result))) (c .next-on2 .ensures))
+    (P .pre .3 .three) (top (c .before)) (omega (
+      arith,
+      c .before .before .before .before .shared-slice-known .given
+          (p2 (A .n) (A .a) + c .before .next-on .result),
+    )) (c .next-on2 .ensures))
 
 third : (c : tie.After-next-on3) → let P = c .before .before .before .before .before .before in
     FirstOn (P .args .t .now) (p1 (P .args .n) (P .args .a)) (P .args .a / 32 / 32) (c .next-on3 .result)
@@ -37,7 +41,11 @@ third c =
     let words : A .a / 1024 ≡ A .a / 32 / 32 = omega arith in
     subst (λ (m : ℕ). FirstOn (A .t .now) (p1 (A .n) (A .a)) m (c .next-on3 .result)) words
     (first-down (A .t .now) (p1 (A .n) (A .a)) (p2 (A .n) (A .a)) (A .a / 1024) (c .before .next-on2 .result) (c .next-on3 .result)
-    (P .pre .3 .two) (second (c .before)) (omega (arith, c .before .before .before .before .before .shared-slice-known .given (p1 (A .n) (A .a) + c .before .next-on2 .result))) (c .next-on3 .ensures))
+    (P .pre .3 .two) (second (c .before)) (omega (
+      arith,
+      c .before .before .before .before .before .shared-slice-known .given
+          (p1 (A .n) (A .a) + c .before .next-on2 .result),
+    )) (c .next-on3 .ensures))
 
 mul-p : tie.Need-mul-p
 mul-p c = search needs
@@ -113,28 +121,12 @@ returns-2 c = let d = c .before in
     let A = P .args in
     first-found (A .t .now) (A .n) (A .a) (c .next-on4 .result)
     (first-down (A .t .now) (p0 (A .n) (A .a)) (p1 (A .n) (A .a)) (A .a / 32) (d .next-on3 .result) (c .next-on4 .result) (P .pre .3 .one)
-    (third d) (omega (arith, d .before .before .before .before .before .shared-slice-known .given (p0 (A .n) (A .a) + d .next-on3 .result))) (c .next-on4 .ensures))
+    (third d) (omega (arith, d .before .before .before .before .before .shared-slice-known .given (p0 (A .n) (A .a) + d .next-on3 .result)))
+    (c .next-on4 .ensures))
 
 pub first-spec : {M : Type 1} → statement M
 first-spec =
     tie.close
-    (tie.spec
-    mul-p
-    add-p
-    add-q
-    add-q-2
-    add-r
-    add-r-2
-    add-s
-    add-s-2
-    mul-if1
-    shared-slice-read-if1
-    returns
-    next-on-requires
-    mul-next-on
-    next-on-requires-2
-    mul-next-on-2
-    next-on-requires-3
-    mul-next-on-3
-    next-on-requires-4
-    returns-2)
+    (tie.spec mul-p add-p add-q add-q-2 add-r add-r-2 add-s add-s-2 mul-if1 shared-slice-read-if1 returns
+    next-on-requires mul-next-on next-on-requires-2 mul-next-on-2 next-on-requires-3 mul-next-on-3
+    next-on-requires-4 returns-2)
