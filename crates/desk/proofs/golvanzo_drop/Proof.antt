@@ -1,3 +1,5 @@
+-- Drops the unused gates of the circuit in given tables, which are in binary order, into written ones: the same answer. Each answer is given by
+-- `made-told`.
 use native.Mathlib.Omega.{arith}
 use borrow.Author.Needs.{needs}
 use Rattle.plan.specs.Circuit.{seven}
@@ -74,16 +76,5 @@ returns c =
 pub golvanzo-drop-spec : {M : Type 1} → statement M
 golvanzo-drop-spec =
     tie.close
-    (tie.spec
-    counts-requires
-    drop-unused-requires
-    made-requires
-    same-length
-    same-length-2
-    same-length-3
-    same-length-4
-    same-length-5
-    same-length-6
-    same-length-7
-    same-length-8
-    returns)
+    (tie.spec counts-requires drop-unused-requires made-requires same-length same-length-2 same-length-3
+    same-length-4 same-length-5 same-length-6 same-length-7 same-length-8 returns)

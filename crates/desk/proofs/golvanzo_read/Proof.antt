@@ -1,3 +1,5 @@
+-- Reads a file of AIGER 1.9 into the tables; where its tail starts, which after a refusal is the file's length. Each answer is given by
+-- `tail-starts`.
 use native.Mathlib.Omega.{arith}
 use borrow.Author.Needs.{needs}
 use Rattle.plan.specs.declared.Version.the-variants.{V19}
@@ -83,15 +85,5 @@ returns c =
 pub golvanzo-read-spec : {M : Type 1} → statement M
 golvanzo-read-spec =
     tie.close
-    (tie.spec
-    read-requires
-    sub-result
-    same-length
-    same-length-2
-    same-length-3
-    same-length-4
-    same-length-5
-    same-length-6
-    same-length-7
-    same-length-8
-    returns)
+    (tie.spec read-requires sub-result same-length same-length-2 same-length-3 same-length-4 same-length-5
+    same-length-6 same-length-7 same-length-8 returns)

@@ -57,15 +57,5 @@ returns c =
 pub golvanzo-read-cards-spec : {M : Type 1} → statement M
 golvanzo-read-cards-spec =
     tie.close
-    (tie.spec
-    read-cards-requires
-    loaded-requires
-    same-length
-    same-length-2
-    same-length-3
-    same-length-4
-    same-length-5
-    same-length-6
-    same-length-7
-    same-length-8
-    returns)
+    (tie.spec read-cards-requires loaded-requires same-length same-length-2 same-length-3 same-length-4
+    same-length-5 same-length-6 same-length-7 same-length-8 returns)

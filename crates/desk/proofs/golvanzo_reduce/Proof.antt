@@ -1,3 +1,4 @@
+-- Reduces the circuit in given tables, which are in binary order, into written ones: the same answer. Each answer is given by `made-told`.
 use native.Mathlib.Omega.{arith}
 use borrow.Author.Needs.{needs}
 use Rattle.plan.specs.Circuit.{seven}
@@ -73,16 +74,5 @@ returns c =
 pub golvanzo-reduce-spec : {M : Type 1} → statement M
 golvanzo-reduce-spec =
     tie.close
-    (tie.spec
-    counts-requires
-    reduce-requires
-    made-requires
-    same-length
-    same-length-2
-    same-length-3
-    same-length-4
-    same-length-5
-    same-length-6
-    same-length-7
-    same-length-8
-    returns)
+    (tie.spec counts-requires reduce-requires made-requires same-length same-length-2 same-length-3
+    same-length-4 same-length-5 same-length-6 same-length-7 same-length-8 returns)

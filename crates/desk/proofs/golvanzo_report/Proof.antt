@@ -1,3 +1,4 @@
+-- The needle report of a list of vectors: number (0: reported) and place; the numbers go to table 6. Each answer is given by `report-told`.
 use native.Mathlib.Omega.{arith}
 use borrow.Author.Needs.{needs}
 use Rattle.plan.specs.Circuit.{seven}
@@ -43,10 +44,4 @@ returns c =
 pub golvanzo-report-spec : {M : Type 1} → statement M
 golvanzo-report-spec =
     tie.close
-    (tie.spec
-    counts-requires
-    report-requires
-    stepped-requires
-    same-length
-    same-length-2
-    returns)
+    (tie.spec counts-requires report-requires stepped-requires same-length same-length-2 returns)
