@@ -6,7 +6,8 @@ ghost use lib.ListN.{length};
 ghost use Rattle.plan.specs.Literals.{litAt, wordOf};
 ghost use Rattle.plan.specs.Outcome.{put};
 ghost use Rattle.laws.proofs.Tables.{firsts, gateAt};
-ghost use Rattle.convert.specs.renumber.Renumbered.{numberIn, literalBy, Known, wordAt, columnBy, placed, Placeable, Whole};
+ghost use Rattle.convert.specs.renumber.Renumbered.{numberIn, literalBy, Known, wordAt, columnBy, placed};
+ghost use Rattle.convert.specs.renumber.Renumbered.{Placeable, Whole};
 use plan::Lit;
 use plan::Var;
 

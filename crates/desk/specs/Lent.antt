@@ -10,8 +10,10 @@ use Rattle.plan.specs.Rows.{RowsEntry, RowReportEntry}
 use Rattle.plan.specs.Rewire.{RewireEntry}
 use Rattle.plan.specs.Header.{countsFrom}
 use Rattle.plan.specs.Outcome.{Says}
-use Rattle.plan.specs.Lent.{Slice, Seven, after, toRead, toCheck, toWrite, toMake, toStep, toExplain, toTry, toAsk, toReport, toStepRows, toReportRows, toRewire}
-use Rattle.desk.specs.Told.{ReadTold, CardsTold, CheckTold, FileTold, MakeTold, StepTold, ExplainTold, WitnessTold, RewireTold}
+use Rattle.plan.specs.Lent.{Slice, Seven, after, toRead, toCheck, toWrite, toMake, toStep, toExplain, toTry, toAsk}
+use Rattle.plan.specs.Lent.{toReport, toStepRows, toReportRows, toRewire}
+use Rattle.desk.specs.Told.{ReadTold, CardsTold, CheckTold, FileTold, MakeTold, StepTold, ExplainTold}
+use Rattle.desk.specs.Told.{WitnessTold, RewireTold}
 use Rattle.desk.specs.Reported.{ReportTold}
 use Rattle.desk.specs.RowsTold.{RowsTold, RowReportTold}
 

@@ -7,8 +7,10 @@ use Rattle.plan.specs.declared.Loaded.the-variants.{Accepted, Refused}
 use Rattle.plan.specs.declared.Version.the-variants.{V2007, V19}
 use Rattle.plan.specs.Given.{Given}
 use Rattle.plan.specs.Circuit.{Tables}
-use Rattle.plan.specs.Outcome.{ReadEntry, LoadExit, FileEntry, FileExit, MakeEntry, MakeExit, StepEntry, StepExit, WitnessEntry}
-use Rattle.plan.specs.Outcome.{loadedValues, checkedValues, writtenValues, madeValues, steppedValues, verdictValues, findingValues}
+use Rattle.plan.specs.Outcome.{ReadEntry, LoadExit, FileEntry, FileExit, MakeEntry, MakeExit, StepEntry, StepExit}
+use Rattle.plan.specs.Outcome.{WitnessEntry}
+use Rattle.plan.specs.Outcome.{loadedValues, checkedValues, writtenValues, madeValues, steppedValues, verdictValues}
+use Rattle.plan.specs.Outcome.{findingValues}
 use Rattle.plan.specs.Outcome as outcome
 use Rattle.plan.specs.Drop as drop
 use Rattle.plan.specs.Fillings.{FilledEntry}

@@ -9,12 +9,14 @@ use lib.Dec.{eqb, ltb}
 use lib.ListN.{length, getD, drop, replicate}
 use Rattle.plan.specs.declared.Counts.{Counts}
 use Rattle.plan.specs.declared.Refusal.{Refusal}
-use Rattle.plan.specs.declared.Refusal.the-variants.{WrongByte, LargeCount, WrongSum, ShortTable, OutOfRange, NotInOrder, WrongMark, NotOnCards}
+use Rattle.plan.specs.declared.Refusal.the-variants.{WrongByte, LargeCount, WrongSum, ShortTable, OutOfRange}
+use Rattle.plan.specs.declared.Refusal.the-variants.{NotInOrder, WrongMark, NotOnCards}
 use Rattle.plan.specs.declared.Written.{Written}
 use Rattle.plan.specs.declared.Written.the-variants as written
 use Rattle.plan.specs.Literals.{litOf}
 use Rattle.plan.specs.Refusals.{Parse, got, refused, _then_, unless, stage, firstOf}
-use Rattle.plan.specs.Circuit.{Gate, Circuit, Tables, countsOf, lengthsOf, wordsToWork, against, short, nexts, cleared, allCleared}
+use Rattle.plan.specs.Circuit.{Gate, Circuit, Tables, countsOf, lengthsOf, wordsToWork, against, short, nexts}
+use Rattle.plan.specs.Circuit.{cleared, allCleared}
 use Rattle.plan.specs.Bytes.{Placed}
 use Rattle.plan.specs.Header.{binary, over, adds}
 use Rattle.plan.specs.Binary.{litsFrom, latchesFrom, binaryOf, binaryOrder}

@@ -8,10 +8,12 @@ use lib.ListN.{length}
 use Rattle.plan.specs.declared.Counts.{Counts}
 use Rattle.plan.specs.declared.Version.the-variants.{V19}
 use Rattle.plan.specs.declared.Refusal.{Refusal}
-use Rattle.plan.specs.declared.Refusal.the-variants.{LargeCount, WrongSum, ShortTable, OutOfRange, DefinedTwice, NotDefined, Cyclic, ShortBuffer, NotInOrder}
+use Rattle.plan.specs.declared.Refusal.the-variants.{LargeCount, WrongSum, ShortTable, OutOfRange, DefinedTwice}
+use Rattle.plan.specs.declared.Refusal.the-variants.{NotDefined, Cyclic, ShortBuffer, NotInOrder}
 use Rattle.plan.specs.Literals.{varOf}
 use Rattle.plan.specs.Refusals.{Parse, got, refused, stage}
-use Rattle.plan.specs.Circuit.{Circuit, Tables, Lent, circuitOf, lengthsOf, wordsToWork, against, short, oneLine, latchLine, gateLine, literalOf, vars, currents, resetsOk}
+use Rattle.plan.specs.Circuit.{Circuit, Tables, Lent, circuitOf, lengthsOf, wordsToWork, against, short}
+use Rattle.plan.specs.Circuit.{oneLine, latchLine, gateLine, literalOf, vars, currents, resetsOk}
 use Rattle.plan.specs.Bytes.{Placed, outside, twice}
 use Rattle.plan.specs.Header.{text, listOf, over, adds}
 use Rattle.plan.specs.Depends.{undefinedIn, cyclicIn}

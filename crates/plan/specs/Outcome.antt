@@ -40,7 +40,8 @@ use Rattle.plan.specs.Text.{textOf}
 use Rattle.plan.specs.Difference.{groupsOf}
 use Rattle.plan.specs.Binary.{binaryOf}
 use Rattle.plan.specs.Reading.{readFile}
-use Rattle.plan.specs.Given.{Given, given, lentAlone, lentWith, orElse, failingAt, stages, orderStage, tailStage, room, roomStage, inOrderThen}
+use Rattle.plan.specs.Given.{Given, given, lentAlone, lentWith, orElse, failingAt, stages, orderStage}
+use Rattle.plan.specs.Given.{tailStage, room, roomStage, inOrderThen}
 use Rattle.plan.specs.Convert.{convert}
 use Rattle.plan.specs.Reduce.{reduce}
 use Rattle.plan.specs.Step.{codeOf, valueOf, isCode, outputsOf, nextOf, witnessed}

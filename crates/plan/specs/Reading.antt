@@ -11,10 +11,12 @@ use Rattle.plan.specs.declared.Version.the-variants.{V19}
 use Rattle.plan.specs.declared.Refusal.the-variants.{ShortTable, NotDefined, Cyclic}
 use Rattle.plan.specs.Literals.{most}
 use Rattle.plan.specs.Refusals.{Parse, got, _then_, unless}
-use Rattle.plan.specs.Circuit.{Circuit, countsOf, wordsToWork, against, short, oneLine, latchLine, gateLine, allInside, has, allNew, definedIn, usedIn, resetsOk}
+use Rattle.plan.specs.Circuit.{Circuit, countsOf, wordsToWork, against, short, oneLine, latchLine, gateLine}
+use Rattle.plan.specs.Circuit.{allInside, has, allNew, definedIn, usedIn, resetsOk}
 use Rattle.plan.specs.Bytes.{Spells, AllSpell}
 use Rattle.plan.specs.Depends.{undefinedIn, cyclicIn, Depends}
-use Rattle.plan.specs.Header.{moreCounts, moreResets, Form, text, binary, header, allCounts, headerOf, wordsToRead, formIn}
+use Rattle.plan.specs.Header.{moreCounts, moreResets, Form, text, binary, header, allCounts, headerOf}
+use Rattle.plan.specs.Header.{wordsToRead, formIn}
 use Rattle.plan.specs.Text.{textBody, textLines, textLatches, textOf}
 use Rattle.plan.specs.Binary.{binaryBody, binaryLines, binaryLatches, binaryOf, binaryOrder}
 use Rattle.plan.specs.Tail.{tailAt, TailOk}

@@ -16,7 +16,8 @@ loaded-requires : tie.Need-loaded-requires
 loaded-requires c κs = search needs
 
 same-length : tie.Need-same-length
-same-length c = c .before .before .before .before .before .before .before .before .before .before .before .before .before .before .before .before .before .inputs .given
+same-length c = c .before .before .before .before .before .before .before .before .before .before .before .before .before .before .before .before
+    .before .inputs .given
 
 same-length-2 : tie.Need-same-length-2
 same-length-2 c = c .before .before .before .before .before .before .before .before .before .before .before .before .before .before .before .latches .given
@@ -45,7 +46,8 @@ told answer x = record { answer = answer; tables = x .tables; scratch = x .scrat
 
 returns : tie.Need-returns
 returns c =
-    let read = c .before .before .before .before .before .before .before .before .before .before .before .before .before .before .before .before .before .before .read-cards in
+    let read = c .before .before .before .before .before .before .before .before .before .before .before .before .before .before .before .before
+    .before .before .read-cards in
     let l = read .last in
     let x : LoadExit = record {
       answer = read .result;

@@ -27,7 +27,8 @@ same-length-2 c = omega (arith, c .before .before .before .six .given)
 
 returns : tie.Need-returns
 returns c =
-    let start = c .before .before .before .before .before .before .before .before .before .before .before .before .before .before .before .before .before .before .before .before in
+    let start = c .before .before .before .before .before .before .before .before .before .before .before .before .before .before .before .before
+    .before .before .before .before in
     let counts′ = c .before .before .before .before .before .before .before .before .before .counts in
     let reported = c .before .before .before .before .before .before .report in
     let a = start .args in

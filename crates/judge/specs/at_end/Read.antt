@@ -10,7 +10,8 @@ use Rattle.plan.specs.declared.Refusal.{Refusal}
 use Rattle.plan.specs.declared.Refusal.the-variants.{NotDefined, Cyclic}
 use Rattle.plan.specs.Literals.{most}
 use Rattle.plan.specs.Refusals.{stage, firstOf}
-use Rattle.plan.specs.Circuit.{Circuit, oneLine, latchLine, gateLine, latchOf, gateOf, rowsOf, definedIn, allNew, allInside}
+use Rattle.plan.specs.Circuit.{Circuit, oneLine, latchLine, gateLine, latchOf, gateOf, rowsOf, definedIn, allNew}
+use Rattle.plan.specs.Circuit.{allInside}
 use Rattle.plan.specs.Depends.{undefinedIn, cyclicIn}
 use Rattle.laws.proofs.Marks.{Agrees}
 use Rattle.tables.specs.Held.{circuitIn}

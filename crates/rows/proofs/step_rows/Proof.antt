@@ -135,7 +135,13 @@ returns-4 c =
     let e = entry (start d) in
     let zero = c .before .before .clear3 .ensures ∙ ap (λ (k : ℕ). replicate k 0) (s .scratch4 .given ∙ same d) in
     done-rows e _ zero (past-check (e .circuit) (rowStage e) (says d) (told d))
-    (few-good e (omega (arith, c .before .before .before .before .before .before .before .before .before .before .before .before .before .before .before .before .if1 .left)) (no-table _ _ (c .before .before .before .before .before .before .before .before .before .before .before .before .before .before .if2 .left) (c .before .before .before .before .before .before .before .before .before .before .before .before .before .before .before .bad-rows .ensures))) _ _
+    (few-good e (omega (
+      arith,
+      c .before .before .before .before .before .before .before .before .before .before .before .before .before .before
+          .before .before .if1 .left,
+    )) (no-table _ _ (c .before .before .before .before .before .before .before .before .before .before .before .before
+    .before .before .if2 .left) (c .before .before .before .before .before .before .before .before .before .before .before .before .before .before
+    .before .bad-rows .ensures))) _ _
     (s .before .step-lists .ensures (e .circuit .tables) (runs (e .circuit) (rowStage e) (says d) (told d)))
 
 pub step-rows-spec : {M : Type 1} → statement M

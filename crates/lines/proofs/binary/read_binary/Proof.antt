@@ -61,7 +61,8 @@ same-length-3 c = search needs
 
 returns : tie.Need-returns
 returns c =
-    let start = c .before .before .before .before .before .before .before .before .before .before .before .before .before .before .before .before .before .before .before .before .before .before .before .before in
+    let start = c .before .before .before .before .before .before .before .before .before .before .before .before .before .before .before .before
+    .before .before .before .before .before .before .before .before in
     let a = start .args in
     let s = agreeing (a .marks .now) (a .n .M) in
     let told₁ = latches-told (a .version) (a .file .now) (a .n .M) _ (a .n .L) (1 + a .n .I) (a .at) (s .0) (a .latches .now) (a .resets .now) _ _ _ _
@@ -74,7 +75,8 @@ returns c =
 
 read-observed-requires : tie.Need-read-observed-requires
 read-observed-requires c κs =
-    let start = c .before .before .before .before .before .before .before .before .before .before .before .before .before .before .before .before .before .before .before .before .before .before .before .before .before .before .before .before .before in
+    let start = c .before .before .before .before .before .before .before .before .before .before .before .before .before .before .before .before
+    .before .before .before .before .before .before .before .before .before .before .before .before .before in
     (start .pre .0, (start .pre .1 .1 .1 .1 .0, (start .pre .1 .1 .1 .1 .1 .1 .1 .0, start .pre .1 .1 .1 .1 .1 .1 .1 .1)))
 
 enum-known-read-2 : tie.Need-enum-known-read-2
@@ -103,11 +105,16 @@ same-length-9 c = search needs
 
 returns-2 : tie.Need-returns-2
 returns-2 c =
-    let start = c .before .before .before .before .before .before .before .before .before .before .before .before .before .before .before .before .before .before .before .before .before .before .before .before .before .before .before .before .before .before .before .before .before .before .before .before .before .before .before .before in
+    let start = c .before .before .before .before .before .before .before .before .before .before .before .before .before .before .before .before
+    .before .before .before .before .before .before .before .before .before .before .before .before .before .before .before .before .before .before
+    .before .before .before .before .before .before in
     let a = start .args in
     let s = agreeing (a .marks .now) (a .n .M) in
     let told₁ = latches-told (a .version) (a .file .now) (a .n .M) _ (a .n .L) (1 + a .n .I) (a .at) (s .0) (a .latches .now) (a .resets .now) _ _ _ _
-    (c .before .before .before .before .before .before .before .before .before .before .before .before .before .before .before .before .before .before .before .before .before .before .before .before .before .before .before .before .before .more-resets .ensures) (c .before .before .before .before .before .before .before .before .before .before .before .before .before .before .before .before .before .before .before .before .before .before .before .before .read-latches .ensures (s .0) (s .1)) in
+    (c .before .before .before .before .before .before .before .before .before .before .before .before .before .before .before .before .before .before
+    .before .before .before .before .before .before .before .before .before .before .before .more-resets .ensures)
+    (c .before .before .before .before .before .before .before .before .before .before .before .before .before .before .before .before .before .before
+    .before .before .before .before .before .before .read-latches .ensures (s .0) (s .1)) in
     let a₁ = was-read (LatchesHeld (a .n .M) (1 + a .n .I) (s .0) (a .latches .now) (a .resets .now) _ _ _)
     (latchLines (a .file .now) 1 false (a .n .M) (moreResets (a .version)) (a .n .L) (1 + a .n .I) [] (a .at)) _ _ told₁
     (c .before .before .before .before .before .before .before .before .before .before .before .before .before .before .before .before .read .given .1) in
@@ -120,26 +127,36 @@ returns-2 c =
 
 run-on-requires : tie.Need-run-on-requires
 run-on-requires c κs =
-    let start = c .before .before .before .before .before .before .before .before .before .before .before .before .before .before .before .before .before .before .before .before .before .before .before .before .before .before .before .before .before .before .before .before .before .before .before .before .before .before .before .before .before .before in (start .pre .1 .1 .0, omega (arith, start .pre .0, start .pre .1 .0))
+    let start = c .before .before .before .before .before .before .before .before .before .before .before .before .before .before .before .before
+    .before .before .before .before .before .before .before .before .before .before .before .before .before .before .before .before .before .before
+    .before .before .before .before .before .before .before .before in (start .pre .1 .1 .0, omega (arith, start .pre .0, start .pre .1 .0))
 
 cast-read-gates : tie.Need-cast-read-gates
 cast-read-gates c =
-    let start = c .before .before .before .before .before .before .before .before .before .before .before .before .before .before .before .before .before .before .before .before .before .before .before .before .before .before .before .before .before .before .before .before .before .before .before .before .before .before .before .before .before .before .before .before .before .before in omega (arith, start .pre .0, start .pre .1 .0)
+    let start = c .before .before .before .before .before .before .before .before .before .before .before .before .before .before .before .before
+    .before .before .before .before .before .before .before .before .before .before .before .before .before .before .before .before .before .before
+    .before .before .before .before .before .before .before .before .before .before .before .before in omega (arith, start .pre .0, start .pre .1 .0)
 
 add-read-gates : tie.Need-add-read-gates
 add-read-gates c =
-    let start = c .before .before .before .before .before .before .before .before .before .before .before .before .before .before .before .before .before .before .before .before .before .before .before .before .before .before .before .before .before .before .before .before .before .before .before .before .before .before .before .before .before .before .before .before .before .before in omega (arith, start .pre .0, start .pre .1 .0)
+    let start = c .before .before .before .before .before .before .before .before .before .before .before .before .before .before .before .before
+    .before .before .before .before .before .before .before .before .before .before .before .before .before .before .before .before .before .before
+    .before .before .before .before .before .before .before .before .before .before .before .before in omega (arith, start .pre .0, start .pre .1 .0)
 
 read-gates-requires : tie.Need-read-gates-requires
 read-gates-requires c κs =
-    let start = c .before .before .before .before .before .before .before .before .before .before .before .before .before .before .before .before .before .before .before .before .before .before .before .before .before .before .before .before .before .before .before .before .before .before .before .before .before .before .before .before .before .before .before .before .before .before .before in (start .pre .1 .1 .1 .1 .1 .0, omega (arith, start .pre .0, start .pre .1 .0))
+    let start = c .before .before .before .before .before .before .before .before .before .before .before .before .before .before .before .before
+    .before .before .before .before .before .before .before .before .before .before .before .before .before .before .before .before .before .before
+    .before .before .before .before .before .before .before .before .before .before .before .before .before
+    in (start .pre .1 .1 .1 .1 .1 .0, omega (arith, start .pre .0, start .pre .1 .0))
 
 same-length-10 : tie.Need-same-length-10
 same-length-10 c = search needs
 
 same-length-11 : tie.Need-same-length-11
 same-length-11 c =
-    c .before .before .before .before .before .before .before .before .before .before .before .before .before .before .before .before .before .before .before .before .before .before .before .before .before .before .before .before .before .before .before .before .before .latches .given
+    c .before .before .before .before .before .before .before .before .before .before .before .before .before .before .before .before .before .before
+    .before .before .before .before .before .before .before .before .before .before .before .before .before .before .before .latches .given
 
 same-length-12 : tie.Need-same-length-12
 same-length-12 c = search needs
@@ -149,7 +166,8 @@ same-length-13 c = search needs
 
 same-length-14 : tie.Need-same-length-14
 same-length-14 c =
-    c .before .before .before .before .before .before .before .before .before .before .before .before .before .before .before .before .before .before .before .before .before .before .before .before .before .before .before .before .before .before .before .resets .given
+    c .before .before .before .before .before .before .before .before .before .before .before .before .before .before .before .before .before .before
+    .before .before .before .before .before .before .before .before .before .before .before .before .before .resets .given
 
 same-length-15 : tie.Need-same-length-15
 same-length-15 c = search needs
@@ -162,17 +180,26 @@ same-length-17 c = search needs
 
 returns-3 : tie.Need-returns-3
 returns-3 c =
-    let start = c .before .before .before .before .before .before .before .before .before .before .before .before .before .before .before .before .before .before .before .before .before .before .before .before .before .before .before .before .before .before .before .before .before .before .before .before .before .before .before .before .before .before .before .before .before .before .before .before .before .before in
+    let start = c .before .before .before .before .before .before .before .before .before .before .before .before .before .before .before .before
+    .before .before .before .before .before .before .before .before .before .before .before .before .before .before .before .before .before .before
+    .before .before .before .before .before .before .before .before .before .before .before .before .before .before .before .before in
     let a = start .args in
     let s = agreeing (a .marks .now) (a .n .M) in
     let told₁ = latches-told (a .version) (a .file .now) (a .n .M) _ (a .n .L) (1 + a .n .I) (a .at) (s .0) (a .latches .now) (a .resets .now) _ _ _ _
-    (c .before .before .before .before .before .before .before .before .before .before .before .before .before .before .before .before .before .before .before .before .before .before .before .before .before .before .before .before .before .before .before .before .before .before .before .before .before .before .before .more-resets .ensures) (c .before .before .before .before .before .before .before .before .before .before .before .before .before .before .before .before .before .before .before .before .before .before .before .before .before .before .before .before .before .before .before .before .before .before .read-latches .ensures (s .0) (s .1)) in
+    (c .before .before .before .before .before .before .before .before .before .before .before .before .before .before .before .before .before .before
+    .before .before .before .before .before .before .before .before .before .before .before .before .before .before .before .before .before .before
+    .before .before .before .more-resets .ensures)
+    (c .before .before .before .before .before .before .before .before .before .before .before .before .before .before .before .before .before .before
+    .before .before .before .before .before .before .before .before .before .before .before .before .before .before .before .before .read-latches
+    .ensures (s .0) (s .1)) in
     let a₁ = was-read (LatchesHeld (a .n .M) (1 + a .n .I) (s .0) (a .latches .now) (a .resets .now) _ _ _)
     (latchLines (a .file .now) 1 false (a .n .M) (moreResets (a .version)) (a .n .L) (1 + a .n .I) [] (a .at)) _ _ told₁
-    (c .before .before .before .before .before .before .before .before .before .before .before .before .before .before .before .before .before .before .before .before .before .before .before .before .before .before .read .given .1) in
+    (c .before .before .before .before .before .before .before .before .before .before .before .before .before .before .before .before .before .before
+    .before .before .before .before .before .before .before .before .read .given .1) in
     let told₂ = observed-told (a .n .M) (s .0) (a .outputs .now) (a .bads .now) (a .constraints .now)
     (observedAt (a .file .now) (a .n) _) _ _ _ _ _
-    (c .before .before .before .before .before .before .before .before .before .before .before .before .before .before .before .before .before .before .before .before .read-observed .ensures (s .0) (a₁ .held .agrees)) in
+    (c .before .before .before .before .before .before .before .before .before .before .before .before .before .before .before .before .before .before
+    .before .before .read-observed .ensures (s .0) (a₁ .held .agrees)) in
     let a₂ = was-read (AllHeld (a .n .M) (s .0) (a .outputs .now) (a .bads .now) (a .constraints .now) _ _ _ _)
     (observedAt (a .file .now) (a .n) _) _ _ told₂
     (c .before .before .before .before .before .before .before .before .before .before .read2 .given .1) in

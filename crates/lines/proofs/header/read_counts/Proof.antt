@@ -23,7 +23,8 @@ line c =
     line-read (a .version) (a .file .now) _ _ _ _ (c .before .before .before .before .before .before .before .before .more-counts .ensures)
     (sym (c .before .next .given .1) ∙ r .ensures .0) (r .ensures .1)
 
-small : (c : tie.Else2) (k : ℕ) → getD (c .before .before .before .before .before .before .before .before .before .before .before .read-numbers .last .1 .1 .1 .1 .0) k 0 ≤ most
+small : (c : tie.Else2) (k : ℕ) → getD (c .before .before .before .before .before .before .before .before .before .before .before .read-numbers .last
+    .1 .1 .1 .1 .0) k 0 ≤ most
 small c k =
     let a = c .before .before .before .before .before .before .before .before .before .before .before .before .before .before .before .before .args in
     counts-small (a .version) (a .file .now) (line (c .before .before .before .before .before .before)) _
@@ -119,7 +120,8 @@ adds-up-requires c κs = search needs
 
 returns-3 : tie.Need-returns-3
 returns-3 c =
-    let a = c .before .before .before .before .before .before .before .before .before .before .before .before .before .before .before .before .before .before .args in
+    let a = c .before .before .before .before .before .before .before .before .before .before .before .before .before .before .before .before .before
+    .before .args in
     sum-wrong (a .version) (a .file .now) (line (c .before .before .before .before .before .before .before .before)) _
     (c .before .before .before .before .before .before .first-above .ensures) (c .before .before .before .before .before .if1 .left) _
     (c .before .before .before .first-above2 .ensures) (c .before .before .if2 .left) (a .binary)
@@ -151,7 +153,8 @@ returns-4 c =
 
 returns-5 : tie.Need-returns-5
 returns-5 c =
-    let a = c .before .before .before .before .before .before .before .before .before .before .before .before .before .before .before .before .before .before .args in
+    let a = c .before .before .before .before .before .before .before .before .before .before .before .before .before .before .before .before .before
+    .before .args in
     sum-right (a .version) (a .file .now) (line (c .before .before .before .before .before .before .before .before)) _
     (c .before .before .before .before .before .before .first-above .ensures) (c .before .before .before .before .before .if1 .left) _
     (c .before .before .before .first-above2 .ensures) (c .before .before .if2 .left) (a .binary)

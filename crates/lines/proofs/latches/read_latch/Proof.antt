@@ -77,7 +77,11 @@ mul-table-4 c = search needs
 
 slice-write-table-2 : tie.Need-slice-write-table-2
 slice-write-table-2 c =
-    simp length-set (omega (arith, c .before .before .before .before .before .before .before .before .before .before .before .before .before .before .pre .1 .1 .1 .1 .0))
+    simp length-set (omega (
+      arith,
+      c .before .before .before .before .before .before .before .before .before .before .before .before .before .before
+          .pre .1 .1 .1 .1 .0,
+    ))
 
 array-read-resets : tie.Need-array-read-resets
 array-read-resets c = search needs

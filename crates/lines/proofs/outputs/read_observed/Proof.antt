@@ -55,11 +55,13 @@ same-length-5 c = search needs
 
 returns-2 : tie.Need-returns-2
 returns-2 c =
-    let a = c .before .before .before .before .before .before .before .before .before .before .before .before .before .before .before .before .before .before .before .before .before .before .before .before .before .args in
+    let a = c .before .before .before .before .before .before .before .before .before .before .before .before .before .before .before .before .before
+    .before .before .before .before .before .before .before .before .args in
     λ seen agrees.
     let r₁ = was-read (ListHeld (a .n .M) seen (a .outputs .now) _ _) (lines (a .file .now) 1 false (a .n .M) (a .n .O) [] (a .at)) _ _
     (list-told (a .file .now) (a .n .M) (a .n .O) (a .at) seen (a .outputs .now) _ _ _
-    (c .before .before .before .before .before .before .before .before .before .before .before .before .before .before .before .before .read-lines .ensures seen agrees)) (c .before .before .before .before .before .before .before .before .before .before .read .given .1) in
+    (c .before .before .before .before .before .before .before .before .before .before .before .before .before .before .before .before .read-lines
+    .ensures seen agrees)) (c .before .before .before .before .before .before .before .before .before .before .read .given .1) in
     bads-refused (a .file .now) (a .n) (a .at) seen (a .outputs .now) (a .bads .now) (a .constraints .now) _ _ _ _ _ r₁
     (was-refused (ListHeld (a .n .M) seen (a .bads .now) _ _) (lines (a .file .now) 1 false (a .n .M) (a .n .B) [] _) _ _
     (list-told (a .file .now) (a .n .M) (a .n .B) _ seen (a .bads .now) _ _ _
@@ -68,7 +70,8 @@ returns-2 c =
 
 read-lines-requires-3 : tie.Need-read-lines-requires-3
 read-lines-requires-3 c κs =
-    let pre = c .before .before .before .before .before .before .before .before .before .before .before .before .before .before .before .before .before .before .before .before .before .before .before .before .before .before .before .before .pre in
+    let pre = c .before .before .before .before .before .before .before .before .before .before .before .before .before .before .before .before
+    .before .before .before .before .before .before .before .before .before .before .before .before .pre in
     (pre .0, (omega arith, (omega (arith, pre .1 .1 .1), tt)))
 
 same-length-6 : tie.Need-same-length-6
@@ -85,11 +88,15 @@ same-length-9 c = search needs
 
 returns-3 : tie.Need-returns-3
 returns-3 c =
-    let a = c .before .before .before .before .before .before .before .before .before .before .before .before .before .before .before .before .before .before .before .before .before .before .before .before .before .before .before .before .before .before .before .before .before .args in
+    let a = c .before .before .before .before .before .before .before .before .before .before .before .before .before .before .before .before .before
+    .before .before .before .before .before .before .before .before .before .before .before .before .before .before .before .before .args in
     λ seen agrees.
     let r₁ = was-read (ListHeld (a .n .M) seen (a .outputs .now) _ _) (lines (a .file .now) 1 false (a .n .M) (a .n .O) [] (a .at)) _ _
     (list-told (a .file .now) (a .n .M) (a .n .O) (a .at) seen (a .outputs .now) _ _ _
-    (c .before .before .before .before .before .before .before .before .before .before .before .before .before .before .before .before .before .before .before .before .before .before .before .before .read-lines .ensures seen agrees)) (c .before .before .before .before .before .before .before .before .before .before .before .before .before .before .before .before .before .before .read .given .1) in
+    (c .before .before .before .before .before .before .before .before .before .before .before .before .before .before .before .before .before .before
+    .before .before .before .before .before .before .read-lines .ensures seen agrees))
+    (c .before .before .before .before .before .before .before .before .before .before .before .before .before .before .before .before .before .before
+    .read .given .1) in
     let r₂ = was-read (ListHeld (a .n .M) seen (a .bads .now) _ _) (lines (a .file .now) 1 false (a .n .M) (a .n .B) [] _) _ _
     (list-told (a .file .now) (a .n .M) (a .n .B) _ seen (a .bads .now) _ _ _
     (c .before .before .before .before .before .before .before .before .before .before .before .before .before .before .read-lines2 .ensures seen

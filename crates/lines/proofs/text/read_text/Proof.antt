@@ -37,7 +37,8 @@ same-length-2 c = search needs
 
 returns : tie.Need-returns
 returns c =
-    let start = c .before .before .before .before .before .before .before .before .before .before .before .before .before .before .before .before .before .before .before in
+    let start = c .before .before .before .before .before .before .before .before .before .before .before .before .before .before .before .before
+    .before .before .before in
     let a = start .args in
     let unmarked = agrees-none _ (a .marks .now) (start .pre .1 .1 .1 .1 .1 .1 .1 .1 .1 .1) in
     let told₁ = rows-told (a .file .now) 1 (a .n .M) (a .n .I) (a .at) [] (a .inputs .now) _ _ _
@@ -51,7 +52,8 @@ more-resets-requires c κs = search needs
 
 read-latches-requires : tie.Need-read-latches-requires
 read-latches-requires c κs =
-    let start = c .before .before .before .before .before .before .before .before .before .before .before .before .before .before .before .before .before .before .before .before .before .before .before .before in
+    let start = c .before .before .before .before .before .before .before .before .before .before .before .before .before .before .before .before
+    .before .before .before .before .before .before .before .before in
     let more = c .before .before .before .more-resets .ensures in
     let least = few (start .args .version) in (
       start .pre .0,
@@ -94,11 +96,13 @@ same-length-6 c = search needs
 
 returns-2 : tie.Need-returns-2
 returns-2 c =
-    let start = c .before .before .before .before .before .before .before .before .before .before .before .before .before .before .before .before .before .before .before .before .before .before .before .before .before .before .before .before .before .before .before .before .before in
+    let start = c .before .before .before .before .before .before .before .before .before .before .before .before .before .before .before .before
+    .before .before .before .before .before .before .before .before .before .before .before .before .before .before .before .before .before in
     let a = start .args in
     let unmarked = agrees-none _ (a .marks .now) (start .pre .1 .1 .1 .1 .1 .1 .1 .1 .1 .1) in
     let told₁ = rows-told (a .file .now) 1 (a .n .M) (a .n .I) (a .at) [] (a .inputs .now) _ _ _
-    (c .before .before .before .before .before .before .before .before .before .before .before .before .before .before .before .before .before .before .before .before .read-lines .ensures [] unmarked) in
+    (c .before .before .before .before .before .before .before .before .before .before .before .before .before .before .before .before .before .before
+    .before .before .read-lines .ensures [] unmarked) in
     let a₁ = was-read (RowsHeld 1 (a .n .M) [] (a .inputs .now) _ _) (lines (a .file .now) 1 true (a .n .M) (a .n .I) [] (a .at)) _ _ told₁
     (c .before .before .before .before .before .before .before .before .before .before .before .before .before .before .read .given .1) in
     let told₂ = latches-told (a .version) (a .file .now) (a .n .M) _ (a .n .L) _ (heads (a₁ .value)) (a .latches .now) (a .resets .now) _ _ _ _
@@ -111,7 +115,9 @@ returns-2 c =
 
 read-observed-requires : tie.Need-read-observed-requires
 read-observed-requires c κs =
-    let start = c .before .before .before .before .before .before .before .before .before .before .before .before .before .before .before .before .before .before .before .before .before .before .before .before .before .before .before .before .before .before .before .before .before .before .before .before .before .before in
+    let start = c .before .before .before .before .before .before .before .before .before .before .before .before .before .before .before .before
+    .before .before .before .before .before .before .before .before .before .before .before .before .before .before .before .before .before .before
+    .before .before .before .before in
     (start .pre .0, (start .pre .1 .1 .1 .1 .0, (start .pre .1 .1 .1 .1 .1 .1 .1 .0, start .pre .1 .1 .1 .1 .1 .1 .1 .1 .0)))
 
 enum-known-read-3 : tie.Need-enum-known-read-3
@@ -122,7 +128,9 @@ enum-told-3 c = search needs
 
 same-length-7 : tie.Need-same-length-7
 same-length-7 c =
-    c .before .before .before .before .before .before .before .before .before .before .before .before .before .before .before .before .before .before .before .before .before .before .before .before .before .before .before .before .before .before .before .before .before .before .before .inputs .given
+    c .before .before .before .before .before .before .before .before .before .before .before .before .before .before .before .before .before .before
+    .before .before .before .before .before .before .before .before .before .before .before .before .before .before .before .before .before .inputs
+    .given
 
 same-length-8 : tie.Need-same-length-8
 same-length-8 c = search needs
@@ -144,15 +152,23 @@ same-length-13 c = search needs
 
 returns-3 : tie.Need-returns-3
 returns-3 c =
-    let start = c .before .before .before .before .before .before .before .before .before .before .before .before .before .before .before .before .before .before .before .before .before .before .before .before .before .before .before .before .before .before .before .before .before .before .before .before .before .before .before .before .before .before .before .before .before .before .before .before .before in
+    let start = c .before .before .before .before .before .before .before .before .before .before .before .before .before .before .before .before
+    .before .before .before .before .before .before .before .before .before .before .before .before .before .before .before .before .before .before
+    .before .before .before .before .before .before .before .before .before .before .before .before .before .before .before in
     let a = start .args in
     let unmarked = agrees-none _ (a .marks .now) (start .pre .1 .1 .1 .1 .1 .1 .1 .1 .1 .1) in
     let told₁ = rows-told (a .file .now) 1 (a .n .M) (a .n .I) (a .at) [] (a .inputs .now) _ _ _
-    (c .before .before .before .before .before .before .before .before .before .before .before .before .before .before .before .before .before .before .before .before .before .before .before .before .before .before .before .before .before .before .before .before .before .before .before .before .read-lines .ensures [] unmarked) in
+    (c .before .before .before .before .before .before .before .before .before .before .before .before .before .before .before .before .before .before
+    .before .before .before .before .before .before .before .before .before .before .before .before .before .before .before .before .before .before
+    .read-lines .ensures [] unmarked) in
     let a₁ = was-read (RowsHeld 1 (a .n .M) [] (a .inputs .now) _ _) (lines (a .file .now) 1 true (a .n .M) (a .n .I) [] (a .at)) _ _ told₁
-    (c .before .before .before .before .before .before .before .before .before .before .before .before .before .before .before .before .before .before .before .before .before .before .before .before .before .before .before .before .before .before .read .given .1) in
+    (c .before .before .before .before .before .before .before .before .before .before .before .before .before .before .before .before .before .before
+    .before .before .before .before .before .before .before .before .before .before .before .before .read .given .1) in
     let told₂ = latches-told (a .version) (a .file .now) (a .n .M) _ (a .n .L) _ (heads (a₁ .value)) (a .latches .now) (a .resets .now) _ _ _ _
-    (c .before .before .before .before .before .before .before .before .before .before .before .before .before .before .before .before .before .before .before .before .before .before .before .before .before .before .before .before .more-resets .ensures) (c .before .before .before .before .before .before .before .before .before .before .before .before .before .before .before .before .before .before .before .before .before .before .before .before .read-latches .ensures (heads (a₁ .value)) (a₁ .held .agrees)) in
+    (c .before .before .before .before .before .before .before .before .before .before .before .before .before .before .before .before .before .before
+    .before .before .before .before .before .before .before .before .before .before .more-resets .ensures)
+    (c .before .before .before .before .before .before .before .before .before .before .before .before .before .before .before .before .before .before
+    .before .before .before .before .before .before .read-latches .ensures (heads (a₁ .value)) (a₁ .held .agrees)) in
     let a₂ = was-read (LatchesHeld (a .n .M) (heads (a₁ .value)) (a .latches .now) (a .resets .now) _ _ _)
     (latchLines (a .file .now) 2 true (a .n .M) (moreResets (a .version)) (a .n .L) 0 (heads (a₁ .value)) _) _ _ told₂
     (c .before .before .before .before .before .before .before .before .before .before .before .before .before .before .before .before .read2 .given .1) in
@@ -166,21 +182,34 @@ returns-3 c =
 
 read-lines-requires-2 : tie.Need-read-lines-requires-2
 read-lines-requires-2 c κs =
-    let start = c .before .before .before .before .before .before .before .before .before .before .before .before .before .before .before .before .before .before .before .before .before .before .before .before .before .before .before .before .before .before .before .before .before .before .before .before .before .before .before .before .before .before .before .before .before .before .before .before .before .before .before .before in (
+    let start = c .before .before .before .before .before .before .before .before .before .before .before .before .before .before .before .before
+    .before .before .before .before .before .before .before .before .before .before .before .before .before .before .before .before .before .before
+    .before .before .before .before .before .before .before .before .before .before .before .before .before .before .before .before .before .before
+    in (
       start .pre .0,
       (
         omega arith,
         (
           omega (arith, start .pre .1 .1 .1 .1 .1 .0),
-          omega
-              (arith, c .before .before .before .before .before .before .before .before .before .before .before .before .before .before .before .before .before .before .before .before .before .before .before .before .before .before .before .before .before .before .before .before .before .before .before .before .marks .given, c .before .before .before .before .before .before .before .before .before .before .before .before .before .before .before .before .before .before .before .before .before .before .marks2 .given, c .before .before .before .before .before .before .marks3 .given, start .pre .1 .1 .1 .1 .1 .1 .1 .1 .1 .0),
+          omega (
+            arith,
+            c .before .before .before .before .before .before .before .before .before .before .before .before .before .before .before
+                .before .before .before .before .before .before .before .before .before .before .before .before .before .before .before .before .before
+                .before .before .before .before .marks .given,
+            c .before .before .before .before .before .before .before .before .before .before .before .before .before .before .before .before
+                .before .before .before .before .before .before .marks2 .given,
+            c .before .before .before .before .before .before .marks3 .given,
+            start .pre .1 .1 .1 .1 .1 .1 .1 .1 .1 .0,
+          ),
         ),
       ),
     )
 
 same-length-14 : tie.Need-same-length-14
 same-length-14 c =
-    c .before .before .before .before .before .before .before .before .before .before .before .before .before .before .before .before .before .before .before .before .before .before .before .before .before .before .before .before .before .before .before .before .before .before .before .before .before .before .before .before .before .before .before .inputs .given
+    c .before .before .before .before .before .before .before .before .before .before .before .before .before .before .before .before .before .before
+    .before .before .before .before .before .before .before .before .before .before .before .before .before .before .before .before .before .before
+    .before .before .before .before .before .before .before .inputs .given
 
 same-length-15 : tie.Need-same-length-15
 same-length-15 c = search needs
@@ -203,25 +232,42 @@ same-length-20 c = search needs
 same-length-21 : tie.Need-same-length-21
 same-length-21 c =
     c .before .marks4 .given ∙ (c .before .before .before .before .before .before .before .before .before .before .before .marks3 .given
-    ∙ (c .before .before .before .before .before .before .before .before .before .before .before .before .before .before .before .before .before .before .before .before .before .before .before .before .before .before .before .marks2 .given ∙ c .before .before .before .before .before .before .before .before .before .before .before .before .before .before .before .before .before .before .before .before .before .before .before .before .before .before .before .before .before .before .before .before .before .before .before .before .before .before .before .before .before .marks .given))
+    ∙ (c .before .before .before .before .before .before .before .before .before .before .before .before .before .before .before .before .before
+    .before .before .before .before .before .before .before .before .before .before .marks2 .given
+    ∙ c .before .before .before .before .before .before .before .before .before .before .before .before .before .before .before .before .before
+    .before .before .before .before .before .before .before .before .before .before .before .before .before .before .before .before .before .before
+    .before .before .before .before .before .before .marks .given))
 
 returns-4 : tie.Need-returns-4
 returns-4 c =
-    let start = c .before .before .before .before .before .before .before .before .before .before .before .before .before .before .before .before .before .before .before .before .before .before .before .before .before .before .before .before .before .before .before .before .before .before .before .before .before .before .before .before .before .before .before .before .before .before .before .before .before .before .before .before .before .before .before .before .before in
+    let start = c .before .before .before .before .before .before .before .before .before .before .before .before .before .before .before .before
+    .before .before .before .before .before .before .before .before .before .before .before .before .before .before .before .before .before .before
+    .before .before .before .before .before .before .before .before .before .before .before .before .before .before .before .before .before .before
+    .before .before .before .before .before in
     let a = start .args in
     let unmarked = agrees-none _ (a .marks .now) (start .pre .1 .1 .1 .1 .1 .1 .1 .1 .1 .1) in
     let told₁ = rows-told (a .file .now) 1 (a .n .M) (a .n .I) (a .at) [] (a .inputs .now) _ _ _
-    (c .before .before .before .before .before .before .before .before .before .before .before .before .before .before .before .before .before .before .before .before .before .before .before .before .before .before .before .before .before .before .before .before .before .before .before .before .before .before .before .before .before .before .before .before .read-lines .ensures [] unmarked) in
+    (c .before .before .before .before .before .before .before .before .before .before .before .before .before .before .before .before .before .before
+    .before .before .before .before .before .before .before .before .before .before .before .before .before .before .before .before .before .before
+    .before .before .before .before .before .before .before .before .read-lines .ensures [] unmarked) in
     let a₁ = was-read (RowsHeld 1 (a .n .M) [] (a .inputs .now) _ _) (lines (a .file .now) 1 true (a .n .M) (a .n .I) [] (a .at)) _ _ told₁
-    (c .before .before .before .before .before .before .before .before .before .before .before .before .before .before .before .before .before .before .before .before .before .before .before .before .before .before .before .before .before .before .before .before .before .before .before .before .before .before .read .given .1) in
+    (c .before .before .before .before .before .before .before .before .before .before .before .before .before .before .before .before .before .before
+    .before .before .before .before .before .before .before .before .before .before .before .before .before .before .before .before .before .before
+    .before .before .read .given .1) in
     let told₂ = latches-told (a .version) (a .file .now) (a .n .M) _ (a .n .L) _ (heads (a₁ .value)) (a .latches .now) (a .resets .now) _ _ _ _
-    (c .before .before .before .before .before .before .before .before .before .before .before .before .before .before .before .before .before .before .before .before .before .before .before .before .before .before .before .before .before .before .before .before .before .before .before .before .more-resets .ensures) (c .before .before .before .before .before .before .before .before .before .before .before .before .before .before .before .before .before .before .before .before .before .before .before .before .before .before .before .before .before .before .before .before .read-latches .ensures (heads (a₁ .value)) (a₁ .held .agrees)) in
+    (c .before .before .before .before .before .before .before .before .before .before .before .before .before .before .before .before .before .before
+    .before .before .before .before .before .before .before .before .before .before .before .before .before .before .before .before .before .before
+    .more-resets .ensures) (c .before .before .before .before .before .before .before .before .before .before .before .before .before .before .before
+    .before .before .before .before .before .before .before .before .before .before .before .before .before .before .before .before .before
+    .read-latches .ensures (heads (a₁ .value)) (a₁ .held .agrees)) in
     let a₂ = was-read (LatchesHeld (a .n .M) (heads (a₁ .value)) (a .latches .now) (a .resets .now) _ _ _)
     (latchLines (a .file .now) 2 true (a .n .M) (moreResets (a .version)) (a .n .L) 0 (heads (a₁ .value)) _) _ _ told₂
-    (c .before .before .before .before .before .before .before .before .before .before .before .before .before .before .before .before .before .before .before .before .before .before .before .before .read2 .given .1) in
+    (c .before .before .before .before .before .before .before .before .before .before .before .before .before .before .before .before .before .before
+    .before .before .before .before .before .before .read2 .given .1) in
     let told₃ = observed-told (a .n .M) (both (a₁ .value) (a₂ .value)) (a .outputs .now) (a .bads .now) (a .constraints .now)
     (observedAt (a .file .now) (a .n) _) _ _ _ _ _
-    (c .before .before .before .before .before .before .before .before .before .before .before .before .before .before .before .before .before .before .read-observed .ensures (both (a₁ .value) (a₂ .value)) (a₂ .held .agrees)) in
+    (c .before .before .before .before .before .before .before .before .before .before .before .before .before .before .before .before .before .before
+    .read-observed .ensures (both (a₁ .value) (a₂ .value)) (a₂ .held .agrees)) in
     let a₃ = was-read (AllHeld (a .n .M) (both (a₁ .value) (a₂ .value)) (a .outputs .now) (a .bads .now) (a .constraints .now) _ _ _ _)
     (observedAt (a .file .now) (a .n) _) _ _ told₃ (c .before .before .before .before .before .before .before .before .read3 .given .1) in
     let told₄ = rows-told (a .file .now) 3 (a .n .M) (a .n .A) _ (both (a₁ .value) (a₂ .value)) (a .gates .now) _ _ _

@@ -23,12 +23,16 @@ add-sweep-lanes c = search needs
 
 add-sweep-lanes-2 : tie.Need-add-sweep-lanes-2
 add-sweep-lanes-2 c =
-    let p = c .before .before .before .before .before .before .before .before .before .before .before .before .before .before .before .before .before .before .before .pre in
+    let p = c .before .before .before .before .before .before .before .before .before .before .before .before .before .before .before .before .before
+    .before .before .pre in
     omega (arith, p .runs .fits .sum, p .runs .fits .most-M)
 
 sweep-lanes-requires : tie.Need-sweep-lanes-requires
 sweep-lanes-requires c κs =
-    sweeps (c .before .before .before .before .before .before .before .before .before .before .before .before .before .before .before .before .before .before .before .before .pre) _ (c .before .before .before .before .t3 .given ∙ (c .before .before .before .before .before .before .before .before .before .t2 .given ∙ c .before .before .before .before .before .before .before .before .before .before .before .before .before .t .given))
+    sweeps (c .before .before .before .before .before .before .before .before .before .before .before .before .before .before .before .before .before
+    .before .before .before .pre) _ (c .before .before .before .before .t3 .given
+    ∙ (c .before .before .before .before .before .before .before .before .before .t2 .given
+    ∙ c .before .before .before .before .before .before .before .before .before .before .before .before .before .t .given))
 
 same-length : tie.Need-same-length
 same-length c = search needs
