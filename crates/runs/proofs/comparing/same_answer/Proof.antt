@@ -1,3 +1,4 @@
+-- As many lines, or the same refusal. The answer is that of the call below it.
 use mathlib.Core.Path.{sym, ap₂, _∙_}
 use Rattle.runs.specs.comparing.Both.{sameAnswer}
 use borrow.Author.Needs.{needs}
@@ -41,15 +42,5 @@ returns-4 c =
 pub same-answer-spec : {M : Type 1} → statement M
 same-answer-spec =
     tie.close
-    (tie.spec
-    enum-known-a
-    enum-known-b
-    enum-told
-    enum-known-a-2
-    enum-told-2
-    enum-known-b-2
-    same-refusal-requires
-    returns
-    returns-2
-    returns-3
-    returns-4)
+    (tie.spec enum-known-a enum-known-b enum-told enum-known-a-2 enum-told-2 enum-known-b-2
+    same-refusal-requires returns returns-2 returns-3 returns-4)
