@@ -1,4 +1,5 @@
-// The answers as numbers, for callers in C: 0 or the refusal's number, its place, and the values, which are 0 after a refusal.
+// The answers as numbers, for callers in C: 0 or the refusal's number, its place, and the values, which are 0 after
+// a refusal.
 ghost use mathlib.Core.Path.{_≡_};
 ghost use mathlib.Core.List.{_∷_, []};
 ghost use Rattle.plan.specs.Header.{countsFrom, listOf};

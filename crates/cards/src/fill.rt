@@ -39,7 +39,8 @@ fn fill_gates(file: &[u8], at: usize, n: usize, first: u32, table: &mut [u32])
     requires { ⌜ at + 10 * n ≤ length (now file) ⌝ }
     requires { ⌜ 3 * n ≤ length (now table) ⌝ }
     requires { ⌜ first + n ≤ 1048576 ⌝ }
-    ensures { λ _. ⌜ now (table .exit) ≡ put (now (table .entry)) 0 (flat (map gateLine (gatesIn first n (drop at (now (file .entry)))))) ⌝ }
+    ensures { λ _. ⌜ now (table .exit) ≡ put (now (table .entry)) 0
+        (flat (map gateLine (gatesIn first n (drop at (now (file .entry)))))) ⌝ }
 {
     let mut i: usize = 0;
     while i < n {
@@ -62,8 +63,9 @@ pub fn fill(
     gates: &mut [u32],
 )
     requires { ⌜ Ready (now file) n (now inputs) (now latches) (now outputs) (now gates) ⌝ }
-    ensures { λ _. ⌜ FirstHold (now (inputs .entry)) (now (latches .entry)) (now (outputs .entry)) (now (gates .entry)) (carded (now (file .entry)) n)
-        (now (inputs .exit)) (now (latches .exit)) (now (outputs .exit)) (now (gates .exit)) ⌝ }
+    ensures { λ _. ⌜ FirstHold (now (inputs .entry)) (now (latches .entry)) (now (outputs .entry))
+        (now (gates .entry)) (carded (now (file .entry)) n) (now (inputs .exit)) (now (latches .exit))
+        (now (outputs .exit)) (now (gates .exit)) ⌝ }
 {
     run_on(inputs, 1, n.I);
     fill_words(file, 22, n.L, latches);
@@ -83,9 +85,11 @@ pub fn judge(
     bads: &[u32],
     constraints: &[u32],
 ) -> Checked
-    requires { ⌜ Fits n (now inputs) (now latches) (now outputs) (now gates) (now resets) (now bads) (now constraints) ⌝ }
-    ensures { λ r. ⌜ r ≡ checkedBy (firstOf (judgedBy (circuitIn n (now (inputs .entry)) (now (latches .entry)) (now (outputs .entry))
-        (now (gates .entry)) (now (resets .entry)) (now (bads .entry)) (now (constraints .entry))))) ⌝ }
+    requires { ⌜ Fits n (now inputs) (now latches) (now outputs) (now gates) (now resets) (now bads)
+        (now constraints) ⌝ }
+    ensures { λ r. ⌜ r ≡ checkedBy (firstOf (judgedBy
+        (circuitIn n (now (inputs .entry)) (now (latches .entry)) (now (outputs .entry)) (now (gates .entry))
+        (now (resets .entry)) (now (bads .entry)) (now (constraints .entry))))) ⌝ }
 {
     let in_order = in_binary_order(n, inputs, latches, gates);
     let out = out_of_range(

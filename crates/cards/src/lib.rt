@@ -1,5 +1,5 @@
-// The two bytes of a mark and the four of a number on the old plan cards, low byte first: each read and written here alone; and where the
-// records start and end (the paper, plan cards).
+// The two bytes of a mark and the four of a number on the old plan cards, low byte first: each read and written
+// here alone; and where the records start and end (the paper, plan cards).
 ghost use mathlib.Core.Path.{_≡_};
 ghost use Prim.Native.Nat.{_+_, _≤_};
 ghost use lib.ListN.{length, drop};

@@ -95,7 +95,8 @@ pub fn fill_cards(
     requires { ⌜ Cardable n (now latches) (now outputs) (now gates) ⌝ }
     requires { ⌜ cardBytes n ≤ length (now out) ⌝ }
     ensures { λ r. ⌜ r ≡ cardBytes n ⌝ }
-    ensures { λ _. ⌜ now (out .exit) ≡ put (now (out .entry)) 0 (tableCards n (now (latches .entry)) (now (outputs .entry)) (now (gates .entry))) ⌝ }
+    ensures { λ _. ⌜ now (out .exit) ≡ put (now (out .entry)) 0
+        (tableCards n (now (latches .entry)) (now (outputs .entry)) (now (gates .entry))) ⌝ }
 {
     let first_latch = put_head(
         out,

@@ -18,8 +18,8 @@ use tables::lengths;
 use tables::scratch_to_work;
 use tables::too_short;
 
-// The head by 1, 18, 2 and 3, then 4, then the records, then 5 and 15. The tables are zero on entry, and `words` are lent as scratch. After a
-// refusal the tables hold what was read before it.
+// The head by 1, 18, 2 and 3, then 4, then the records, then 5 and 15. The tables are zero on entry, and `words`
+// are lent as scratch. After a refusal the tables hold what was read before it.
 fn take_cards(
     file: &[u8],
     inputs: &mut [u32],
@@ -32,9 +32,9 @@ fn take_cards(
     words: usize,
 ) -> Loaded
     requires { ⌜ now resets ≡ cleared (now resets) ⌝ }
-    ensures { λ r. ⌜ (let t = seven (now (inputs .entry)) (now (latches .entry)) (now (outputs .entry)) (now (gates .entry))
-        (now (resets .entry)) (now (bads .entry)) (now (constraints .entry)) in
-        LoadedSays t (readCards (now (file .entry)) (lengthsIn (sizesOf t) words)) r
+    ensures { λ r. ⌜ (let t = seven (now (inputs .entry)) (now (latches .entry)) (now (outputs .entry))
+        (now (gates .entry)) (now (resets .entry)) (now (bads .entry)) (now (constraints .entry)) in LoadedSays t
+        (readCards (now (file .entry)) (lengthsIn (sizesOf t) words)) r
         (seven (now (inputs .exit)) (now (latches .exit)) (now (outputs .exit)) (now (gates .exit))
         (now (resets .exit)) (now (bads .exit)) (now (constraints .exit)))) ⌝ }
 {
@@ -65,8 +65,9 @@ fn take_cards(
     }
 }
 
-// Reads cards into tables 1 to 4 and 7 to 9, whatever they hold on entry: the counts, and the file's length, since nothing follows the
-// records; or a refusal. Resets are 0, and there are no bad states and no constraints. Scratch, which is only measured, is zero afterwards.
+// Reads cards into tables 1 to 4 and 7 to 9, whatever they hold on entry: the counts, and the file's length, since
+// nothing follows the records; or a refusal. Resets are 0, and there are no bad states and no constraints. Scratch,
+// which is only measured, is zero afterwards.
 pub fn read_cards(
     file: &[u8],
     inputs: &mut [u32],

@@ -62,8 +62,8 @@ fn put_cards(n: Counts, latches: &[u32], outputs: &[u32], gates: &[u32], out: &m
     Written::Bytes(fill_cards(out, n, latches, outputs, gates))
 }
 
-// Writes given tables in binary order as cards: the number of bytes written, or a refusal, which changes no byte of `out`. What cards can't
-// hold, a tail among it, is refused by 19 just before 11. Scratch is zero afterwards.
+// Writes given tables in binary order as cards: the number of bytes written, or a refusal, which changes no byte of
+// `out`. What cards can't hold, a tail among it, is refused by 19 just before 11. Scratch is zero afterwards.
 pub fn write_cards(
     n: Counts,
     inputs: &[u32],

@@ -1,5 +1,5 @@
-// Differences of the binary form: groups of seven bits, low group first, the high bit set on all but the last byte, in the
-// fewest bytes (AIGER report, section 12).
+// Differences of the binary form: groups of seven bits, low group first, the high bit set on all but the last byte,
+// in the fewest bytes (AIGER report, section 12).
 ghost use mathlib.Core.Path.{_≡_};
 ghost use Prim.Native.Nat.{_+_, _≤_};
 ghost use lib.ListN.{length};
@@ -47,8 +47,8 @@ pub fn read_difference(file: &[u8], at: usize) -> Difference
     Difference::Bad(at)
 }
 
-// How many groups a number has: a seventh of its bits, rounded up, which for 1 to 32 bits is 9 / 64 of them, rounded down, and one more.
-// No branch: how many it will be can't be foreseen, and a wrong guess is dear.
+// How many groups a number has: a seventh of its bits, rounded up, which for 1 to 32 bits is 9 / 64 of them,
+// rounded down, and one more. No branch: how many it will be can't be foreseen, and a wrong guess is dear.
 pub fn groups_in(d: u32) -> usize
     ensures { λ r. ⌜ r ≡ length (groupsOf d) ⌝ }
 {
@@ -75,7 +75,8 @@ pub fn put_groups(out: &mut [u8], at: usize, d: u32) -> usize
 
 // Writes a number's groups from a position on, or nothing where the buffer is too short.
 pub fn write_difference(out: &mut [u8], at: usize, d: u32) -> Written
-    ensures { λ r. ⌜ Says writeDifference (record { out = now (out .entry); at = at; value = d }) (record { answer = r; out = now (out .exit) }) ⌝ }
+    ensures { λ r. ⌜ Says writeDifference (record { out = now (out .entry); at = at; value = d })
+        (record { answer = r; out = now (out .exit) }) ⌝ }
 {
     let count = groups_in(d);
     if !room::holds(out.len(), at, count) {

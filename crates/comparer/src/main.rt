@@ -1,6 +1,7 @@
-// Steps the circuit of plan.in, converted, from its first state on the vectors of standard input by both engines, and writes the tracer's
-// lines, or the line of the refusal (the paper, the plain engine). 14, 13, the reader's refusals and 4 are decided by whole::ordered, then 24,
-// and those of standard input by runs::stimulus. That the engines never part is proved in runs::comparing.
+// Steps the circuit of plan.in, converted, from its first state on the vectors of standard input by both engines,
+// and writes the tracer's lines, or the line of the refusal (the paper, the plain engine). 14, 13, the reader's
+// refusals and 4 are decided by whole::ordered, then 24, and those of standard input by runs::stimulus. That the
+// engines never part is proved in runs::comparing.
 use plan::Counts;
 use plan::Made;
 use plan::Refusal;
@@ -21,8 +22,8 @@ fn say(part: Compared) {
     }
 }
 
-// The steps of all lines by both engines, printed in parts of as many lines as fit into `out`, each once they agree on it. A part has a line
-// at least, so there are no more parts than lines.
+// The steps of all lines by both engines, printed in parts of as many lines as fit into `out`, each once they agree
+// on it. A part has a line at least, so there are no more parts than lines.
 fn compare_all(
     n: Counts,
     inputs: &[u32],
@@ -111,7 +112,8 @@ fn compare_first(
     );
 }
 
-// Standard input, and all of its lines checked before the first is printed. The plain engine has a state and a buffer of its own.
+// Standard input, and all of its lines checked before the first is printed. The plain engine has a state and a
+// buffer of its own.
 fn compare_input(
     n: Counts,
     inputs: &[u32],

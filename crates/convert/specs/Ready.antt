@@ -1,5 +1,5 @@
--- What conversion starts from when no check has failed: a well-formed circuit, the numbers of its variables, and room in the tables that
--- are written; and what it leaves. It writes tables 1 to 4 first, and then tables 7 to 9.
+-- What conversion starts from when no check has failed: a well-formed circuit, the numbers of its variables, and
+-- room in the tables that are written; and what it leaves. It writes tables 1 to 4 first, and then tables 7 to 9.
 use Prim.Native.Nat.{ℕ, _*_, _≤_}
 use mathlib.Core.Path.{_≡_}
 use mathlib.Core.List.{List, map}
@@ -33,11 +33,12 @@ pub record First (n : Counts) (latches outputs gates t to-inputs to-latches to-o
   pub outputs-long : n .O ≤ length to-outputs
   pub gates-long : 3 * n .A ≤ length to-gates
 
-pub record FirstHeld (c : Circuit) (inputs latches outputs gates inputs′ latches′ outputs′ gates′ : List ℕ) : Type 0 where
-  pub inputs-held : inputs′ ≡ put inputs 0 (c .inputs)
-  pub latches-held : latches′ ≡ put latches 0 (flat (map latchLine (c .latches)))
-  pub outputs-held : outputs′ ≡ put outputs 0 (c .outputs)
-  pub gates-held : gates′ ≡ put gates 0 (flat (map gateLine (c .gates)))
+pub record FirstHeld (c : Circuit) (inputs latches outputs gates inputs′ latches′ outputs′ gates′ : List ℕ) : Type 0
+  where
+    pub inputs-held : inputs′ ≡ put inputs 0 (c .inputs)
+    pub latches-held : latches′ ≡ put latches 0 (flat (map latchLine (c .latches)))
+    pub outputs-held : outputs′ ≡ put outputs 0 (c .outputs)
+    pub gates-held : gates′ ≡ put gates 0 (flat (map gateLine (c .gates)))
 
 -- and tables 7 to 9
 pub record Last (n : Counts) (resets bads constraints t to-resets to-bads to-constraints : List ℕ) : Type 0 where

@@ -1,4 +1,5 @@
-// Conversion: the same circuit in binary order. Inputs get the variables from 1 on, in list order, latches the next, then gates.
+// Conversion: the same circuit in binary order. Inputs get the variables from 1 on, in list order, latches the
+// next, then gates.
 ghost use Rattle.plan.specs.Circuit.{Tables, circuitOf};
 ghost use Rattle.plan.specs.Convert.{convert};
 ghost use Rattle.plan.specs.Outcome.{conversion};
@@ -30,10 +31,11 @@ fn fill(
     to_gates: &mut [u32],
     t: &[u32],
 )
-    requires { ⌜ First n (now latches) (now outputs) (now gates) (now t) (now «to_inputs») (now «to_latches») (now «to_outputs»)
-        (now «to_gates») ⌝ }
-    ensures { λ _. ⌜ ((x : Tables) → Ready n (withFirst x (now (latches .entry)) (now (outputs .entry)) (now (gates .entry))) (now (t .entry))
-        → FirstHeld (convert (circuitOf n (withFirst x (now (latches .entry)) (now (outputs .entry)) (now (gates .entry)))))
+    requires { ⌜ First n (now latches) (now outputs) (now gates) (now t) (now «to_inputs») (now «to_latches»)
+        (now «to_outputs») (now «to_gates») ⌝ }
+    ensures { λ _. ⌜ ((x : Tables) → Ready n (withFirst x (now (latches .entry)) (now (outputs .entry))
+        (now (gates .entry))) (now (t .entry)) → FirstHeld
+        (convert (circuitOf n (withFirst x (now (latches .entry)) (now (outputs .entry)) (now (gates .entry)))))
         (now («to_inputs» .entry)) (now («to_latches» .entry)) (now («to_outputs» .entry)) (now («to_gates» .entry))
         (now («to_inputs» .exit)) (now («to_latches» .exit)) (now («to_outputs» .exit)) (now («to_gates» .exit))) ⌝ }
 {
@@ -57,19 +59,22 @@ fn fill_last(
     to_constraints: &mut [u32],
     t: &[u32],
 )
-    requires { ⌜ Last n (now resets) (now bads) (now constraints) (now t) (now «to_resets») (now «to_bads») (now «to_constraints») ⌝ }
-    ensures { λ _. ⌜ ((x : Tables) → Ready n (withLast x (now (resets .entry)) (now (bads .entry)) (now (constraints .entry))) (now (t .entry))
-        → LastHeld (convert (circuitOf n (withLast x (now (resets .entry)) (now (bads .entry)) (now (constraints .entry)))))
-        (now («to_resets» .entry)) (now («to_bads» .entry)) (now («to_constraints» .entry))
-        (now («to_resets» .exit)) (now («to_bads» .exit)) (now («to_constraints» .exit))) ⌝ }
+    requires { ⌜ Last n (now resets) (now bads) (now constraints) (now t) (now «to_resets») (now «to_bads»)
+        (now «to_constraints») ⌝ }
+    ensures { λ _. ⌜ ((x : Tables) → Ready n (withLast x (now (resets .entry)) (now (bads .entry))
+        (now (constraints .entry))) (now (t .entry))
+        → LastHeld (convert (circuitOf n (withLast x (now (resets .entry)) (now (bads .entry))
+        (now (constraints .entry))))) (now («to_resets» .entry)) (now («to_bads» .entry))
+        (now («to_constraints» .entry)) (now («to_resets» .exit)) (now («to_bads» .exit))
+        (now («to_constraints» .exit))) ⌝ }
 {
     renumber_column(resets, 1, 0, n.L, t, to_resets);
     renumber_column(bads, 1, 0, n.B, t, to_bads);
     renumber_column(constraints, 1, 0, n.C, t, to_constraints);
 }
 
-// The same circuit in binary order, or the first refusal of the given tables, after which the written tables are zero throughout.
-// Scratch is zero afterwards.
+// The same circuit in binary order, or the first refusal of the given tables, after which the written tables are
+// zero throughout. Scratch is zero afterwards.
 pub fn convert(
     n: Counts,
     inputs: &[u32],
@@ -88,8 +93,8 @@ pub fn convert(
     to_constraints: &mut [u32],
     scratch: &mut [u32],
 ) -> Made
-    ensures { λ r. ⌜ Makes conversion n inputs latches outputs gates resets bads constraints «to_inputs» «to_latches» «to_outputs»
-        «to_gates» «to_resets» «to_bads» «to_constraints» scratch r ⌝ }
+    ensures { λ r. ⌜ Makes conversion n inputs latches outputs gates resets bads constraints «to_inputs» «to_latches»
+        «to_outputs» «to_gates» «to_resets» «to_bads» «to_constraints» scratch r ⌝ }
 {
     clear_all(
         to_inputs,

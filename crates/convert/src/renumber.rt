@@ -6,7 +6,8 @@ ghost use lib.ListN.{length};
 ghost use Rattle.plan.specs.Literals.{litAt, wordOf};
 ghost use Rattle.plan.specs.Outcome.{put};
 ghost use Rattle.laws.proofs.Tables.{firsts, gateAt};
-ghost use Rattle.convert.specs.renumber.Renumbered.{numberIn, literalBy, Known, wordAt, columnBy, placed, Placeable, Whole};
+ghost use Rattle.convert.specs.renumber.Renumbered.{numberIn, literalBy, Known, wordAt, columnBy, placed};
+ghost use Rattle.convert.specs.renumber.Renumbered.{Placeable, Whole};
 use plan::Lit;
 use plan::Var;
 
@@ -40,7 +41,8 @@ pub fn renumber_column(
     requires { ⌜ stride * n ≤ length (now table) ⌝ }
     requires { ⌜ n ≤ length (now to) ⌝ }
     requires { ⌜ ((i : ℕ) → i < n → Known (now t) (wordAt (now table) stride column i)) ⌝ }
-    ensures { λ _. ⌜ now (to .exit) ≡ put (now (to .entry)) 0 (firsts (columnBy (now (t .entry)) (now (table .entry)) stride column) n) ⌝ }
+    ensures { λ _. ⌜ now (to .exit) ≡ put (now (to .entry)) 0
+        (firsts (columnBy (now (t .entry)) (now (table .entry)) stride column) n) ⌝ }
 {
     let mut at = column;
     let mut i = 0;
@@ -55,7 +57,8 @@ pub fn renumber_column(
 fn place_gate(gates: &[u32], i: usize, first: usize, a: usize, t: &[u32], to: &mut [u32])
     requires { ⌜ (3 * i + 2 < length (now gates)) × (3 * a ≤ length (now to)) ⌝ }
     requires { ⌜ Placeable (now t) first a (gateAt (now gates) i) ⌝ }
-    ensures { λ _. ⌜ now (to .exit) ≡ placed (now (t .entry)) first (now (to .entry)) (gateAt (now (gates .entry)) i) ⌝ }
+    ensures { λ _. ⌜ now (to .exit) ≡ placed (now (t .entry)) first (now (to .entry))
+        (gateAt (now (gates .entry)) i) ⌝ }
 {
     let number = number_of(t, Lit::at(gates[3 * i]));
     let rhs0 = renumbered(t, Lit::at(gates[3 * i + 1]));

@@ -1,6 +1,6 @@
 // Writes plan.in in its other form to standard output, or the line of the refusal
-// (the paper, programs). 14, 13, the reader's refusals, 4 and 11 are decided by making::converting.
-use making::converting;
+// (the paper, programs). 14, 13, the reader's refusals, 4 and 11 are decided by making::convert_whole.
+use making::convert_whole;
 
 fn main() {
     let mut file = [0u8; 65537];
@@ -22,7 +22,7 @@ fn main() {
     let mut made_constraints = [0u32; 4096];
     let mut scratch = [0u32; 16384];
     let mut out = [0u8; 65536];
-    let answer = converting::convert_whole(
+    let answer = convert_whole(
         office::readable(plan),
         &file[0..n],
         &mut inputs,

@@ -5,11 +5,13 @@ use mathlib.Core.List.{List}
 use Rattle.plan.specs.declared.Counts.{Counts}
 use Rattle.plan.specs.Circuit.{Tables}
 use Rattle.plan.specs.Given.{Given}
-use Rattle.plan.specs.Outcome.{CheckExit, FileEntry, FileExit, MakeEntry, MakeExit, StepExit, WitnessExit, checkedValues, writtenValues, madeValues, steppedValues, verdictValues, findingValues, StepEntry}
+use Rattle.plan.specs.Outcome.{CheckExit, FileEntry, FileExit, MakeEntry, MakeExit, StepExit, WitnessExit, checkedValues, writtenValues, madeValues}
+use Rattle.plan.specs.Outcome.{steppedValues, verdictValues, findingValues, StepEntry}
 use Rattle.plan.specs.Outcome as outcome
 use Rattle.plan.specs.Fillings.{FilledExit}
 use Rattle.plan.specs.Fillings as fillings
-use Rattle.desk.specs.Told.{CheckTold, check, FileTold, toldFile, MakeTold, toldMade, StepTold, WitnessTold, witness, witness3, ExplainTold, explain, toldStep, RewireTold, rewiring}
+use Rattle.desk.specs.Told.{CheckTold, check, FileTold, toldFile, MakeTold, toldMade, StepTold, WitnessTold, witness, witness3, ExplainTold}
+use Rattle.desk.specs.Told.{explain, toldStep, RewireTold, rewiring}
 use Rattle.plan.specs.Explain.{ExplainExit}
 use Rattle.plan.specs.Explain as blame
 use Rattle.plan.specs.Rewire.{RewireExit}

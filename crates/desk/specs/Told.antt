@@ -7,8 +7,10 @@ use Rattle.plan.specs.declared.Loaded.the-variants.{Accepted, Refused}
 use Rattle.plan.specs.declared.Version.the-variants.{V2007, V19}
 use Rattle.plan.specs.Given.{Given}
 use Rattle.plan.specs.Circuit.{Tables}
-use Rattle.plan.specs.Outcome.{ReadEntry, LoadExit, FileEntry, FileExit, MakeEntry, MakeExit, StepEntry, StepExit, WitnessEntry}
-use Rattle.plan.specs.Outcome.{loadedValues, checkedValues, writtenValues, madeValues, steppedValues, verdictValues, findingValues}
+use Rattle.plan.specs.Outcome.{ReadEntry, LoadExit, FileEntry, FileExit, MakeEntry, MakeExit, StepEntry, StepExit}
+use Rattle.plan.specs.Outcome.{WitnessEntry}
+use Rattle.plan.specs.Outcome.{loadedValues, checkedValues, writtenValues, madeValues, steppedValues, verdictValues}
+use Rattle.plan.specs.Outcome.{findingValues}
 use Rattle.plan.specs.Outcome as outcome
 use Rattle.plan.specs.Drop as drop
 use Rattle.plan.specs.Fillings.{FilledEntry}
@@ -31,7 +33,12 @@ startOf file (Accepted n start) = start
 startOf file (Refused r) = length file
 
 abbrev pub toldRead : ReadEntry → LoadExit → ReadTold
-toldRead e x = record { start = startOf (e .file) (x .answer); answer = loadedValues (x .answer); tables = x .tables; scratch = x .scratch }
+toldRead e x = record {
+  start = startOf (e .file) (x .answer);
+  answer = loadedValues (x .answer);
+  tables = x .tables;
+  scratch = x .scratch;
+}
 
 abbrev pub read : ReadEntry → ReadTold
 read e = toldRead e (outcome.loadAs V19 e)
@@ -71,7 +78,11 @@ pub record CardsTold : Type 0 where
   pub scratch : List ℕ
 
 abbrev pub readCards : ReadEntry → CardsTold
-readCards e = let x = cards.loadCards e in record { answer = loadedValues (x .answer); tables = x .tables; scratch = x .scratch }
+readCards e = let x = cards.loadCards e in record {
+  answer = loadedValues (x .answer);
+  tables = x .tables;
+  scratch = x .scratch;
+}
 
 -- conversion, reduction and dropping
 pub record MakeTold : Type 0 where
@@ -114,7 +125,8 @@ pub record ExplainTold : Type 0 where
   pub marks : List ℕ
 
 abbrev pub explain : blame.ExplainEntry → ExplainTold
-explain e = let x = blame.explain e in record { answer = steppedValues (x .answer); scratch = x .scratch; marks = x .marks }
+explain e =
+    let x = blame.explain e in record { answer = steppedValues (x .answer); scratch = x .scratch; marks = x .marks }
 
 -- the witness question
 pub record WitnessTold : Type 0 where
@@ -136,4 +148,9 @@ pub record RewireTold : Type 0 where
 
 abbrev pub rewiring : RewireEntry → RewireTold
 rewiring e =
-    let x = rewire.rewiring e in record { answer = steppedValues (x .answer); gates = x .gates; scratch = x .scratch; values = x .values }
+    let x = rewire.rewiring e in record {
+      answer = steppedValues (x .answer);
+      gates = x .gates;
+      scratch = x .scratch;
+      values = x .values;
+    }

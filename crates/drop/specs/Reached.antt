@@ -18,7 +18,8 @@ column table stride at n = firsts (varAt table stride at) n
 abbrev pub reachedIn : Counts → List ℕ → List ℕ → List ℕ → List ℕ → List ℕ → List ℕ
 reachedIn n latches outputs gates bads constraints =
     walk sidesOf (gatesAt gates (n .A))
-    (column latches 2 1 (n .L) ++ (column outputs 1 0 (n .O) ++ (column bads 1 0 (n .B) ++ (column constraints 1 0 (n .C) ++ []))))
+    (column latches 2 1 (n .L) ++ (column outputs 1 0 (n .O)
+    ++ (column bads 1 0 (n .B) ++ (column constraints 1 0 (n .C) ++ []))))
 
 -- a column lies in its table, and its variables have words in t
 pub record Marking (table : List ℕ) (stride at n : ℕ) (t : List ℕ) : Type 0 where

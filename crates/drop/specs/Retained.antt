@@ -19,7 +19,8 @@ dropped true = none
 dropped false = some 0
 
 abbrev pub retainGate : List ℕ → Reduced → Gate → Reduced
-retainGate vs r g = retain r (becomes (r .became) (g .rhs0)) (becomes (r .became) (g .rhs1)) (dropped (has (varOf (g .lhs)) vs))
+retainGate vs r g =
+    retain r (becomes (r .became) (g .rhs0)) (becomes (r .became) (g .rhs1)) (dropped (has (varOf (g .lhs)) vs))
 
 abbrev pub retainGates : List ℕ → Reduced → List Gate → Reduced
 retainGates vs r [] = r
@@ -27,7 +28,8 @@ retainGates vs r (g ∷ gs) = retainGates vs (retainGate vs r g) gs
 
 -- the first k gates of a table, over the variables below base
 unfoldable pub kept : List ℕ → List ℕ → ℕ → ℕ → Reduced
-kept vs gates base k = retainGates vs (record { became = litsFrom 0 base; retained = []; fresh = base }) (gatesAt gates k)
+kept vs gates base k =
+    retainGates vs (record { became = litsFrom 0 base; retained = []; fresh = base }) (gatesAt gates k)
 
 -- k gates are done, of which n are retained: what the variables became stands first in t, the marks after it
 pub record Held (vs gates to₀ to t : List ℕ) (base k n : ℕ) : Type 0 where

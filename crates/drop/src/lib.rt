@@ -1,4 +1,5 @@
-// Unused gates are dropped and the gaps closed in order: marks from the roots down, then one pass up (the paper, unused gates).
+// Unused gates are dropped and the gaps closed in order: marks from the roots down, then one pass up (the paper,
+// unused gates).
 ghost use mathlib.Core.Path.{_≡_};
 ghost use mathlib.Core.List.{List, [], _∷_, _++_};
 ghost use Prim.Native.Nat.{ℕ, _+_, _*_, _<_, _≤_};
@@ -27,7 +28,8 @@ use tables::lengths;
 // Marks a literal's variable.
 fn mark(l: Lit, t: &mut [u32])
     requires { ⌜ varOf (wordOf l) < length (now t) ⌝ }
-    ensures { λ _. ⌜ ((seen : List ℕ) → Marked seen (now (t .entry)) → Marked (varOf (wordOf l) ∷ seen) (now (t .exit))) ⌝ }
+    ensures { λ _. ⌜ ((seen : List ℕ) → Marked seen (now (t .entry))
+        → Marked (varOf (wordOf l) ∷ seen) (now (t .exit))) ⌝ }
 {
     let v = l.var().index() as usize;
     t[v] = 1;
@@ -78,7 +80,8 @@ fn reach(gates: &[u32], a: usize, t: &mut [u32])
     }
 }
 
-// Gate k. If it is not marked it is dropped, and its word says 0, which nothing asks for; else it is retained with the next variable.
+// Gate k. If it is not marked it is dropped, and its word says 0, which nothing asks for; else it is retained with
+// the next variable.
 fn retain_gate(
     gates: &[u32],
     base: usize,
@@ -88,7 +91,8 @@ fn retain_gate(
     t: &mut [u32],
 ) -> usize
     requires { ⌜ Roomy (now gates) (now to) (now t) base k n ⌝ }
-    ensures { λ r. ⌜ Stepped (now (gates .entry)) (now (to .entry)) (now (to .exit)) (now (t .entry)) (now (t .exit)) base k n r ⌝ }
+    ensures { λ r. ⌜ Stepped (now (gates .entry)) (now (to .entry)) (now (to .exit)) (now (t .entry))
+        (now (t .exit)) base k n r ⌝ }
 {
     if t[base + k] == 0 {
         return n;
@@ -104,7 +108,8 @@ fn retain_gate(
     n + 1
 }
 
-// The gates of marked variables, in order, and their number; first in t, where the marks stood, what each variable became.
+// The gates of marked variables, in order, and their number; first in t, where the marks stood, what each variable
+// became.
 fn retain_gates(gates: &[u32], base: usize, a: usize, to: &mut [u32], t: &mut [u32]) -> usize
     requires { ⌜ Retainable (now gates) (now to) (now t) base a ⌝ }
     ensures { λ r. ⌜ ((vs : List ℕ) → Marked vs (now (t .entry))
@@ -120,7 +125,8 @@ fn retain_gates(gates: &[u32], base: usize, a: usize, to: &mut [u32], t: &mut [u
     n
 }
 
-// The gates that next states, outputs, bad states and constraints reach, and their number; first in t what each variable became.
+// The gates that next states, outputs, bad states and constraints reach, and their number; first in t what each
+// variable became.
 fn retain_reached(
     n: Counts,
     latches: &[u32],
@@ -132,9 +138,9 @@ fn retain_reached(
     t: &mut [u32],
 ) -> usize
     requires { ⌜ Reachable n (now latches) (now outputs) (now gates) (now bads) (now constraints) (now to) (now t) ⌝ }
-    ensures { λ r. ⌜ Done
-        (reachedIn n (now (latches .entry)) (now (outputs .entry)) (now (gates .entry)) (now (bads .entry)) (now (constraints .entry)))
-        (now (gates .entry)) (now (to .entry)) (now (to .exit)) (now (t .exit)) (1 + n .I + n .L) (n .A) r ⌝ }
+    ensures { λ r. ⌜ Done (reachedIn n (now (latches .entry)) (now (outputs .entry)) (now (gates .entry))
+        (now (bads .entry)) (now (constraints .entry))) (now (gates .entry)) (now (to .entry)) (now (to .exit))
+        (now (t .exit)) (1 + n .I + n .L) (n .A) r ⌝ }
 {
     mark_column(constraints, 1, 0, n.C, t);
     mark_column(bads, 1, 0, n.B, t);
@@ -144,9 +150,10 @@ fn retain_reached(
     retain_gates(gates, 1 + n.I + n.L, n.A, to, t)
 }
 
-// The circuit without its unused gates in the tables lent for writing, which are zero past it, and its counts; or the first refusal, with 15,
-// after which they are zero throughout. Scratch is zero afterwards. Gates come first, in order, and the literals of the other tables
-// follow; a constant, an input and a latch stay, so that a table is replaced whole.
+// The circuit without its unused gates in the tables lent for writing, which are zero past it, and its counts; or
+// the first refusal, with 15, after which they are zero throughout. Scratch is zero afterwards. Gates come first,
+// in order, and the literals of the other tables follow; a constant, an input and a latch stay, so that a table is
+// replaced whole.
 pub fn drop_unused(
     n: Counts,
     inputs: &[u32],
@@ -165,8 +172,8 @@ pub fn drop_unused(
     to_constraints: &mut [u32],
     scratch: &mut [u32],
 ) -> Made
-    ensures { λ r. ⌜ Makes dropping n inputs latches outputs gates resets bads constraints «to_inputs» «to_latches» «to_outputs» «to_gates»
-        «to_resets» «to_bads» «to_constraints» scratch r ⌝ }
+    ensures { λ r. ⌜ Makes dropping n inputs latches outputs gates resets bads constraints «to_inputs» «to_latches»
+        «to_outputs» «to_gates» «to_resets» «to_bads» «to_constraints» scratch r ⌝ }
 {
     clear_all(
         to_inputs,

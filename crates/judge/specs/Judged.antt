@@ -1,4 +1,5 @@
--- The stages of the checks of given tables: with 15 or without, over the tables' lengths; and what 2, 3 and 4 leave of them.
+-- The stages of the checks of given tables: with 15 or without, over the tables' lengths; and what 2, 3 and 4 leave
+-- of them.
 use Prim.Native.Nat.{ℕ}
 use mathlib.Core.Bool.{Bool, true, false}
 use mathlib.Core.Option.{Option}
@@ -42,7 +43,8 @@ circuitStages ordered n t = drop 3 (allStages ordered (record { counts = n; tabl
 
 -- of two tables that bear one number the shorter counts
 abbrev pub lentShorter : Given → Sizes → List Lent
-lentShorter g to = against 1 (wordsToWork (g .counts)) (lengthsIn (shorterOf (sizesOf (g .tables)) to) (length (g .scratch)))
+lentShorter g to =
+    against 1 (wordsToWork (g .counts)) (lengthsIn (shorterOf (sizesOf (g .tables)) to) (length (g .scratch)))
 
 -- an answer of tables that are not in binary order
 abbrev pub unordered : Checked → Bool → Checked

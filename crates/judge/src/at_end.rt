@@ -1,5 +1,5 @@
-// Refusal 7, then 8, over the whole circuit in the tables: what is left to check when every literal is in range and no variable is
-// defined twice.
+// Refusal 7, then 8, over the whole circuit in the tables: what is left to check when every literal is in range and
+// no variable is defined twice.
 ghost use mathlib.Core.Path.{_≡_};
 ghost use mathlib.Core.Bool.{true, false};
 ghost use mathlib.Core.List.{List, map};
@@ -54,7 +54,8 @@ fn number_leaves(n: Counts, inputs: &[u32], latches: &[u32], t: &mut [u32])
 // Whether the gates need no order: nobody asks for their numbers, and each uses variables below its own alone.
 fn needs_no_order(numbers: bool, gates: &[u32], a: usize) -> bool
     requires { ⌜ 3 * a ≤ length (now gates) ⌝ }
-    ensures { λ r. ⌜ (r ≡ true → (numbers ≡ false) × (ascends (map gateOf (rowsOf 3 a (now (gates .entry)))) ≡ true)) ⌝ }
+    ensures { λ r. ⌜ (r ≡ true → (numbers ≡ false) × (ascends (map gateOf (rowsOf 3 a (now (gates .entry)))) ≡ true))
+        ⌝ }
 {
     if numbers {
         return false;
@@ -62,7 +63,8 @@ fn needs_no_order(numbers: bool, gates: &[u32], a: usize) -> bool
     order::ascending(gates, a)
 }
 
-// 7, then 8, in which resets have no part. Where numbers are asked, those of all variables stand in the scratch if nothing is refused.
+// 7, then 8, in which resets have no part. Where numbers are asked, those of all variables stand in the scratch if
+// nothing is refused.
 pub fn check(
     n: Counts,
     inputs: &[u32],
@@ -75,8 +77,10 @@ pub fn check(
     base: usize,
     numbers: bool,
 ) -> Checked
-    requires { ⌜ Read n (now inputs) (now latches) (now outputs) (now gates) (now bads) (now constraints) (now scratch) base ⌝ }
-    ensures { λ r. ⌜ ((resets : List ℕ) → r ≡ checkedBy (closing (circuitIn n (now (inputs .entry)) (now (latches .entry)) (now (outputs .entry))
+    requires { ⌜ Read n (now inputs) (now latches) (now outputs) (now gates) (now bads) (now constraints)
+        (now scratch) base ⌝ }
+    ensures { λ r. ⌜ ((resets : List ℕ) → r ≡ checkedBy
+        (closing (circuitIn n (now (inputs .entry)) (now (latches .entry)) (now (outputs .entry))
         (now (gates .entry)) resets (now (bads .entry)) (now (constraints .entry))))) ⌝ }
     ensures { λ r. ⌜ (numbers ≡ true → r ≡ Good
         → AllNumbered n (now (inputs .entry)) (now (latches .entry)) (now (gates .entry)) (now (scratch .exit))) ⌝ }

@@ -70,7 +70,8 @@ fn stands_at(lhs: u32, rhs0: u32, rhs1: u32, v: u32) -> bool
 fn gates_in_order(gates: &[u32], n: usize, first: u32) -> bool
     requires { ⌜ 3 * n ≤ length (now gates) ⌝ }
     requires { ⌜ first + n ≤ 2147483648 ⌝ }
-    ensures { λ r. ⌜ r ≡ (runs first (rowsOf 3 n (now (gates .entry))) && falls (map gateOf (rowsOf 3 n (now (gates .entry))))) ⌝ }
+    ensures { λ r. ⌜ r ≡ (runs first (rowsOf 3 n (now (gates .entry))) && falls
+        (map gateOf (rowsOf 3 n (now (gates .entry))))) ⌝ }
 {
     let mut v = first;
     let mut at = 0;
@@ -89,8 +90,9 @@ fn gates_in_order(gates: &[u32], n: usize, first: u32) -> bool
 // Outputs, bad states and constraints have no order to keep.
 pub fn in_binary_order(n: Counts, inputs: &[u32], latches: &[u32], gates: &[u32]) -> bool
     requires { ⌜ Long n (now inputs) (now latches) (now gates) ⌝ }
-    ensures { λ r. ⌜ ((outputs resets bads constraints : List ℕ)
-        → r ≡ binaryOrder (circuitIn n (now (inputs .entry)) (now (latches .entry)) outputs (now (gates .entry)) resets bads constraints)) ⌝ }
+    ensures { λ r. ⌜ ((outputs resets bads constraints : List ℕ) → r
+        ≡ binaryOrder (circuitIn n (now (inputs .entry)) (now (latches .entry)) outputs
+        (now (gates .entry)) resets bads constraints)) ⌝ }
 {
     if n.I + n.L + n.A != n.M {
         return false;

@@ -1,4 +1,5 @@
-// The checks of given tables: 2, 3, 4, 5, 6, 7, 8 over the whole circuit, in this order, and 15 for the callers that ask it.
+// The checks of given tables: 2, 3, 4, 5, 6, 7, 8 over the whole circuit, in this order, and 15 for the callers
+// that ask it.
 ghost use mathlib.Core.Path.{_≡_};
 ghost use mathlib.Core.Bool.{true, false, not, _&&_};
 ghost use mathlib.Core.List.{List};
@@ -99,11 +100,13 @@ fn unordered(answer: Checked, ordered: bool) -> Checked
     }
 }
 
-// Whether the tables are found to be in binary order. Where numbers are asked nobody looks: in any order the gates get theirs.
+// Whether the tables are found to be in binary order. Where numbers are asked nobody looks: in any order the gates
+// get theirs.
 fn found_in_order(numbers: bool, n: Counts, inputs: &[u32], latches: &[u32], gates: &[u32]) -> bool
     requires { ⌜ Long n (now inputs) (now latches) (now gates) ⌝ }
-    ensures { λ r. ⌜ ((outputs resets bads constraints : List ℕ) → r ≡ (not numbers
-        && binaryOrder (circuitIn n (now (inputs .entry)) (now (latches .entry)) outputs (now (gates .entry)) resets bads constraints))) ⌝ }
+    ensures { λ r. ⌜ ((outputs resets bads constraints : List ℕ) → r
+        ≡ (not numbers && binaryOrder (circuitIn n (now (inputs .entry)) (now (latches .entry)) outputs
+        (now (gates .entry)) resets bads constraints))) ⌝ }
 {
     if numbers {
         return false;
@@ -130,9 +133,9 @@ fn lent_enough(n: Counts, to: Sizes, scratch: usize) -> Checked
     Checked::Good
 }
 
-// 5, then 6, then 7, then 8, then 15. Tables in binary order whose literals are in range can't meet 6, 7 or 8 (AIGER report,
-// section 7), so that they need no marks: one pass over the gates is all. Marks of variables stand in the scratch;
-// the numbers of all variables do at the end, where they are asked and nothing is refused.
+// 5, then 6, then 7, then 8, then 15. Tables in binary order whose literals are in range can't meet 6, 7 or 8
+// (AIGER report, section 7), so that they need no marks: one pass over the gates is all. Marks of variables stand
+// in the scratch; the numbers of all variables do at the end, where they are asked and nothing is refused.
 fn judge_circuit(
     n: Counts,
     inputs: &[u32],
@@ -146,11 +149,13 @@ fn judge_circuit(
     ordered: bool,
     numbers: bool,
 ) -> Checked
-    requires { ⌜ Fits n (now inputs) (now latches) (now outputs) (now gates) (now resets) (now bads) (now constraints) ⌝ }
+    requires { ⌜ Fits n (now inputs) (now latches) (now outputs) (now gates) (now resets) (now bads)
+        (now constraints) ⌝ }
     requires { ⌜ Scratch n (now scratch) ⌝ }
     requires { ⌜ (numbers ≡ true → ordered ≡ false) ⌝ }
-    ensures { λ r. ⌜ r ≡ checkedBy (firstOf (circuitStages ordered n (seven (now (inputs .entry)) (now (latches .entry)) (now (outputs .entry))
-        (now (gates .entry)) (now (resets .entry)) (now (bads .entry)) (now (constraints .entry))))) ⌝ }
+    ensures { λ r. ⌜ r ≡ checkedBy (firstOf (circuitStages ordered n
+        (seven (now (inputs .entry)) (now (latches .entry)) (now (outputs .entry)) (now (gates .entry))
+        (now (resets .entry)) (now (bads .entry)) (now (constraints .entry))))) ⌝ }
     ensures { λ r. ⌜ (numbers ≡ true → r ≡ Good
         → AllNumbered n (now (inputs .entry)) (now (latches .entry)) (now (gates .entry)) (now (scratch .exit))) ⌝ }
 {
@@ -210,9 +215,9 @@ fn judge(
     numbers: bool,
 ) -> Checked
     requires { ⌜ (numbers ≡ true → ordered ≡ false) ⌝ }
-    ensures { λ r. ⌜ (let g = givenAt n (seven (now (inputs .entry)) (now (latches .entry)) (now (outputs .entry)) (now (gates .entry))
-        (now (resets .entry)) (now (bads .entry)) (now (constraints .entry))) (now (scratch .entry)) in
-        r ≡ checkedBy (firstOf (allStages ordered g (lentShorter g to)))) ⌝ }
+    ensures { λ r. ⌜ (let g = givenAt n (seven (now (inputs .entry)) (now (latches .entry)) (now (outputs .entry))
+        (now (gates .entry)) (now (resets .entry)) (now (bads .entry)) (now (constraints .entry)))
+        (now (scratch .entry)) in r ≡ checkedBy (firstOf (allStages ordered g (lentShorter g to)))) ⌝ }
     ensures { λ r. ⌜ (numbers ≡ true → r ≡ Good
         → AllNumbered n (now (inputs .entry)) (now (latches .entry)) (now (gates .entry)) (now (scratch .exit))) ⌝ }
 {
@@ -236,7 +241,8 @@ fn judge(
     )
 }
 
-// The first refusal of given tables where tables of the sizes `to` are lent for writing, with 15 or without. Scratch is zero afterwards.
+// The first refusal of given tables where tables of the sizes `to` are lent for writing, with 15 or without.
+// Scratch is zero afterwards.
 pub fn check_to_make(
     n: Counts,
     inputs: &[u32],
@@ -250,7 +256,8 @@ pub fn check_to_make(
     to: Sizes,
     ordered: bool,
 ) -> Checked
-    ensures { λ r. ⌜ (let g = givenAt n (seven (now (inputs .entry)) (now (latches .entry)) (now (outputs .entry)) (now (gates .entry))
+    ensures { λ r. ⌜ (let g = givenAt n (seven (now (inputs .entry)) (now (latches .entry)) (now (outputs .entry))
+        (now (gates .entry))
         (now (resets .entry)) (now (bads .entry)) (now (constraints .entry))) (now (scratch .entry)) in
         ((t : Tables) → to ≡ sizesOf t → _≡_ {A = CheckExit} (record { answer = r; scratch = now (scratch .exit) })
         (checkBy (allStages ordered g (lentWith g t)) g))) ⌝ }
@@ -273,7 +280,8 @@ pub fn check_to_make(
     answer
 }
 
-// The same without 15; where nothing is refused the numbers that conversion gives to all variables stand in the scratch.
+// The same without 15; where nothing is refused the numbers that conversion gives to all variables stand in the
+// scratch.
 pub fn number(
     n: Counts,
     inputs: &[u32],
@@ -286,9 +294,10 @@ pub fn number(
     scratch: &mut [u32],
     to: Sizes,
 ) -> Checked
-    ensures { λ r. ⌜ (let g = givenAt n (seven (now (inputs .entry)) (now (latches .entry)) (now (outputs .entry)) (now (gates .entry))
-        (now (resets .entry)) (now (bads .entry)) (now (constraints .entry))) (now (scratch .entry)) in
-        ((t : Tables) → to ≡ sizesOf t → r ≡ checkedBy (firstOf (allStages false g (lentWith g t))))) ⌝ }
+    ensures { λ r. ⌜ (let g = givenAt n (seven (now (inputs .entry)) (now (latches .entry)) (now (outputs .entry))
+        (now (gates .entry)) (now (resets .entry)) (now (bads .entry)) (now (constraints .entry)))
+        (now (scratch .entry)) in ((t : Tables) → to ≡ sizesOf t → r
+        ≡ checkedBy (firstOf (allStages false g (lentWith g t))))) ⌝ }
     ensures { λ r. ⌜ (r ≡ Good
         → AllNumbered n (now (inputs .entry)) (now (latches .entry)) (now (gates .entry)) (now (scratch .exit))) ⌝ }
     ensures { λ r. ⌜ ((q : Refusal) → r ≡ Refused q → now (scratch .exit) ≡ cleared (now (scratch .entry))) ⌝ }
@@ -314,7 +323,8 @@ pub fn number(
     answer
 }
 
-// Whether given tables hold a circuit that a reader could have accepted, or the first refusal. Scratch is zero afterwards.
+// Whether given tables hold a circuit that a reader could have accepted, or the first refusal. Scratch is zero
+// afterwards.
 pub fn check(
     n: Counts,
     inputs: &[u32],
@@ -374,7 +384,8 @@ pub fn check_in_order(
     )
 }
 
-// The same answer. After a refusal scratch is zero; where nothing is refused it is left as it comes, for the caller to clear.
+// The same answer. After a refusal scratch is zero; where nothing is refused it is left as it comes, for the caller
+// to clear.
 pub fn judge_in_order(
     n: Counts,
     inputs: &[u32],
@@ -386,8 +397,9 @@ pub fn judge_in_order(
     constraints: &[u32],
     scratch: &mut [u32],
 ) -> Checked
-    ensures { λ r. ⌜ r ≡ checkInOrder (givenAt n (seven (now (inputs .entry)) (now (latches .entry)) (now (outputs .entry)) (now (gates .entry))
-        (now (resets .entry)) (now (bads .entry)) (now (constraints .entry))) (now (scratch .entry))) .answer ⌝ }
+    ensures { λ r. ⌜ r ≡ checkInOrder (givenAt n (seven (now (inputs .entry)) (now (latches .entry))
+        (now (outputs .entry)) (now (gates .entry)) (now (resets .entry)) (now (bads .entry))
+        (now (constraints .entry))) (now (scratch .entry))) .answer ⌝ }
     ensures { λ r. ⌜ ((q : Refusal) → r ≡ Refused q → now (scratch .exit) ≡ cleared (now (scratch .entry))) ⌝ }
 {
     let to = lengths(inputs, latches, outputs, gates, resets, bads, constraints);

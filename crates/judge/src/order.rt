@@ -1,7 +1,6 @@
-// The order of gates. Each next number goes, among the gates still without one, to the first gate in file order whose right sides
-// are both numbered; a gate that gets none lies on a cycle or above one.
-//
-// Never quadratic: a gate with a right side that has no number waits for the gate that defines it; when that gets its number, the gates
+// The order of gates. Each next number goes, among the gates still without one, to the first gate in file order
+// whose right sides are both numbered; a gate that gets none lies on a cycle or above one.  Never quadratic: a gate
+// with a right side that has no number waits for the gate that defines it; when that gets its number, the gates
 // that wait for it wait for their other side, or are marked; the next number goes to the first marked gate.
 ghost use mathlib.Core.Path.{_≡_};
 ghost use mathlib.Core.Bool.{true};
@@ -27,14 +26,15 @@ mod chains;
 mod giving;
 mod words;
 
-// Numbers from `first` on for the gates, in the first n words of t, which hold the numbers of the leaves; the rest of t is left as
-// it comes. Gives how many gates have one.
+// Numbers from `first` on for the gates, in the first n words of t, which hold the numbers of the leaves; the rest
+// of t is left as it comes. Gives how many gates have one.
 fn number(gates: &[u32], t: &mut [u32], first: u32, n: usize, a: usize) -> usize
-    requires { ⌜ Room (now gates) (now t) n a × (0 < first) × (first + a < 2147483648) × Fresh (now t) n × Blank (now t) n
-        × Known (now gates) (now t) n a ⌝ }
+    requires { ⌜ Room (now gates) (now t) n a × (0 < first) × (first + a < 2147483648) × Fresh (now t) n
+        × Blank (now t) n × Known (now gates) (now t) n a ⌝ }
     ensures { λ r. ⌜ r ≡ counted (now (gates .entry)) (now (t .exit)) a ⌝ }
     ensures { λ r. ⌜ ((lv : List ℕ) → NumTable lv (take n (now (t .entry))) → getD lv 0 1 ≡ 0 → length lv ≡ first
-        → NumTable (lv ++ lefts (scanned (map gateOf (rowsOf 3 a (now (gates .entry)))) a lv)) (take n (now (t .exit)))) ⌝ }
+        → NumTable (lv ++ lefts (scanned (map gateOf (rowsOf 3 a (now (gates .entry)))) a lv))
+        (take n (now (t .exit)))) ⌝ }
 {
     words::name_all(gates, t, n, a);
     chains::hang_all(gates, t, n, a);
@@ -58,16 +58,18 @@ fn first_out(gates: &[u32], t: &[u32], a: usize) -> usize
     a
 }
 
-// Refusal 8, of gates whose leaves t numbers: the left variable of the first gate in file order that gets no number. The numbers stay.
+// Refusal 8, of gates whose leaves t numbers: the left variable of the first gate in file order that gets no
+// number. The numbers stay.
 pub fn cycle(gates: &[u32], t: &mut [u32], first: u32, n: usize, a: usize) -> Checked
-    requires { ⌜ Room (now gates) (now t) n a × (0 < first) × (first + a < 2147483648) × Fresh (now t) n × Blank (now t) n
-        × Known (now gates) (now t) n a ⌝ }
+    requires { ⌜ Room (now gates) (now t) n a × (0 < first) × (first + a < 2147483648) × Fresh (now t) n
+        × Blank (now t) n × Known (now gates) (now t) n a ⌝ }
     ensures { λ r. ⌜ ((c : Circuit) → c .gates ≡ map gateOf (rowsOf 3 a (now (gates .entry)))
-        → distinct (leaves c ++ lefts (c .gates)) ≡ true → allIn (rights (c .gates)) (leaves c ++ lefts (c .gates)) ≡ true
-        → NumTable (leaves c) (take n (now (t .entry))) → length (leaves c) ≡ first
-        → r ≡ checkedBy (stage Cyclic (cyclicIn c))) ⌝ }
+        → distinct (leaves c ++ lefts (c .gates)) ≡ true → allIn (rights (c .gates)) (leaves c ++ lefts (c .gates))
+        ≡ true → NumTable (leaves c) (take n (now (t .entry))) → length (leaves c) ≡ first → r
+        ≡ checkedBy (stage Cyclic (cyclicIn c))) ⌝ }
     ensures { λ r. ⌜ ((lv : List ℕ) → NumTable lv (take n (now (t .entry))) → getD lv 0 1 ≡ 0 → length lv ≡ first
-        → NumTable (lv ++ lefts (scanned (map gateOf (rowsOf 3 a (now (gates .entry)))) a lv)) (take n (now (t .exit)))) ⌝ }
+        → NumTable (lv ++ lefts (scanned (map gateOf (rowsOf 3 a (now (gates .entry)))) a lv))
+        (take n (now (t .exit)))) ⌝ }
 {
     if number(gates, t, first, n, a) == a {
         return Checked::Good;

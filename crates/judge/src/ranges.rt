@@ -22,7 +22,8 @@ fn word_within(word: u32, defines: bool, m: u32) -> bool
     Lit::at(word).within(defines, m)
 }
 
-// Whether the k words of the row that starts at `start` are in their ranges. The first defines or not, the others never do.
+// Whether the k words of the row that starts at `start` are in their ranges. The first defines or not, the others
+// never do.
 fn row_within(table: &[u32], start: usize, k: usize, defines: bool, m: u32) -> bool
     requires { ⌜ start + k ≤ length (now table) ⌝ }
     ensures { λ r. ⌜ r ≡ inside defines m (take k (drop start (now (table .entry)))) ⌝ }
@@ -90,8 +91,8 @@ fn resets_within(latches: &[u32], resets: &[u32], n: usize) -> bool
     true
 }
 
-// The first of tables 1 to 4 with a literal out of its range, or 0. Inputs, latches and gates define, outputs do not. Binary order
-// leaves no input and no gate out of range.
+// The first of tables 1 to 4 with a literal out of its range, or 0. Inputs, latches and gates define, outputs do
+// not. Binary order leaves no input and no gate out of range.
 fn first_tables(
     n: Counts,
     inputs: &[u32],
@@ -101,9 +102,10 @@ fn first_tables(
     in_order: bool,
 ) -> usize
     requires { ⌜ FirstRoom n (now inputs) (now latches) (now outputs) (now gates) ⌝ }
-    requires { ⌜ («in_order» ≡ true → binaryOrder (circuitIn n (now inputs) (now latches) (now outputs) (now gates) [] [] []) ≡ true) ⌝ }
-    ensures { λ r. ⌜ tableOf r
-        ≡ outsideFirst (circuitIn n (now (inputs .entry)) (now (latches .entry)) (now (outputs .entry)) (now (gates .entry)) [] [] []) ⌝ }
+    requires { ⌜ («in_order» ≡ true → binaryOrder
+        (circuitIn n (now inputs) (now latches) (now outputs) (now gates) [] [] []) ≡ true) ⌝ }
+    ensures { λ r. ⌜ tableOf r ≡ outsideFirst (circuitIn n (now (inputs .entry)) (now (latches .entry))
+        (now (outputs .entry)) (now (gates .entry)) [] [] []) ⌝ }
 {
     let m = n.M as u32;
     if !known_within(in_order, inputs, 1, n.I, true, m) {
@@ -130,8 +132,8 @@ fn last_tables(
     constraints: &[u32],
 ) -> usize
     requires { ⌜ LastRoom n (now latches) (now resets) (now bads) (now constraints) ⌝ }
-    ensures { λ r. ⌜ tableOf r
-        ≡ outsideLast (circuitIn n [] (now (latches .entry)) [] [] (now (resets .entry)) (now (bads .entry)) (now (constraints .entry))) ⌝ }
+    ensures { λ r. ⌜ tableOf r ≡ outsideLast (circuitIn n [] (now (latches .entry)) [] [] (now (resets .entry))
+        (now (bads .entry)) (now (constraints .entry))) ⌝ }
 {
     let m = n.M as u32;
     if !resets_within(latches, resets, n.L) {
@@ -158,11 +160,14 @@ pub fn out_of_range(
     constraints: &[u32],
     in_order: bool,
 ) -> usize
-    requires { ⌜ Fits n (now inputs) (now latches) (now outputs) (now gates) (now resets) (now bads) (now constraints) ⌝ }
-    requires { ⌜ («in_order» ≡ true
-        → binaryOrder (circuitIn n (now inputs) (now latches) (now outputs) (now gates) (now resets) (now bads) (now constraints)) ≡ true) ⌝ }
-    ensures { λ r. ⌜ tableOf r ≡ outsideIn (circuitIn n (now (inputs .entry)) (now (latches .entry)) (now (outputs .entry)) (now (gates .entry))
-        (now (resets .entry)) (now (bads .entry)) (now (constraints .entry))) ⌝ }
+    requires { ⌜ Fits n (now inputs) (now latches) (now outputs) (now gates) (now resets) (now bads)
+        (now constraints) ⌝ }
+    requires { ⌜ («in_order» ≡ true → binaryOrder
+        (circuitIn n (now inputs) (now latches) (now outputs) (now gates) (now resets) (now bads) (now constraints))
+        ≡ true) ⌝ }
+    ensures { λ r. ⌜ tableOf r ≡ outsideIn (circuitIn n (now (inputs .entry)) (now (latches .entry))
+        (now (outputs .entry)) (now (gates .entry)) (now (resets .entry)) (now (bads .entry))
+        (now (constraints .entry))) ⌝ }
 {
     let first = first_tables(n, inputs, latches, outputs, gates, in_order);
     if first != 0 {

@@ -1,4 +1,5 @@
-// Table 6 judged among the tables: 4 names the least that is too short, and 6 stands between 5 and 7 (the paper, the needle report).
+// Table 6 judged among the tables: 4 names the least that is too short, and 6 stands between 5 and 7 (the paper,
+// the needle report).
 ghost use mathlib.Core.Path.{_≡_};
 ghost use Rattle.judge.specs.table_six.Judged.{beforeSixth, withSixth};
 use answers::refusals::told_number;
@@ -17,8 +18,9 @@ fn before_sixth(refusal: Refusal) -> bool
     number < 4
 }
 
-// The answer of `given::judge_in_order` or `check_in_order`, with table 6, which is too short or not. The caller tests that by a division,
-// since the answer may be that a count is too large, and then a product of counts need not fit.
+// The answer of `given::judge_in_order` or `check_in_order`, with table 6, which is too short or not. The caller
+// tests that by a division, since the answer may be that a count is too large, and then a product of counts need
+// not fit.
 pub fn with_sixth(answer: Checked, short: bool) -> Checked
     ensures { λ r. ⌜ r ≡ withSixth answer short ⌝ }
 {

@@ -33,8 +33,8 @@ fn mark_rows(table: &[u32], stride: usize, n: usize, marks: &mut [u32]) -> bool
     false
 }
 
-// The table, 1, 2 or 4, of the first definition of a variable that is defined before it, in the order of the tables; 0 if there is
-// none. The other tables define nothing.
+// The table, 1, 2 or 4, of the first definition of a variable that is defined before it, in the order of the
+// tables; 0 if there is none. The other tables define nothing.
 pub fn defined_twice(
     n: Counts,
     inputs: &[u32],
@@ -43,7 +43,8 @@ pub fn defined_twice(
     marks: &mut [u32],
 ) -> usize
     requires { ⌜ Ranged n (now inputs) (now latches) (now gates) (now marks) ⌝ }
-    ensures { λ r. ⌜ TwiceSays n (now (inputs .entry)) (now (latches .entry)) (now (gates .entry)) r (now (marks .exit)) ⌝ }
+    ensures { λ r. ⌜ TwiceSays n (now (inputs .entry)) (now (latches .entry)) (now (gates .entry)) r
+        (now (marks .exit)) ⌝ }
 {
     if mark_rows(inputs, 1, n.I, marks) {
         return 1;

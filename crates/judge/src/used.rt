@@ -27,8 +27,8 @@ fn variable(word: u32) -> u32
     Lit::at(word).var().index()
 }
 
-// The least so far, or the variable of a used literal below it that has no mark. Nearly every variable has one, so one test
-// decides nearly always.
+// The least so far, or the variable of a used literal below it that has no mark. Nearly every variable has one, so
+// one test decides nearly always.
 fn lower(least: u32, word: u32, marks: &[u32]) -> u32
     requires { ⌜ varOf word < length (now marks) ⌝ }
     ensures { λ r. ⌜ r ≡ lower (now (marks .entry)) least word ⌝ }
@@ -93,14 +93,16 @@ fn least_observed(
 ) -> u32
     requires { ⌜ Observed n (now outputs) (now bads) (now constraints) (now marks) ⌝ }
     ensures { λ r. ⌜ r ≡ lowest (now (marks .entry)) before
-        (words (now (outputs .entry)) (n .O) ++ (words (now (bads .entry)) (n .B) ++ words (now (constraints .entry)) (n .C))) ⌝ }
+        (words (now (outputs .entry)) (n .O) ++ (words (now (bads .entry)) (n .B)
+        ++ words (now (constraints .entry)) (n .C))) ⌝ }
 {
     let by_outputs = least(outputs, 0, 1, n.O, marks, before);
     let by_bads = least(bads, 0, 1, n.B, marks, by_outputs);
     least(constraints, 0, 1, n.C, marks, by_bads)
 }
 
-// The least variable of a next state, of what is observed or of a right side that is not defined, from marks of those that are.
+// The least variable of a next state, of what is observed or of a right side that is not defined, from marks of
+// those that are.
 pub fn undefined(
     n: Counts,
     latches: &[u32],
@@ -111,10 +113,10 @@ pub fn undefined(
     marks: &[u32],
 ) -> Missing
     requires { ⌜ InReach n (now latches) (now outputs) (now gates) (now bads) (now constraints) (now marks) ⌝ }
-    ensures { λ r. ⌜ ((inputs resets : List ℕ)
-        → let c = circuitOf n (seven inputs (now (latches .entry)) (now (outputs .entry)) (now (gates .entry)) resets (now (bads .entry))
-        (now (constraints .entry))) in
-        Agrees (n .M) (definedIn c) (now (marks .entry)) → missingOf r ≡ undefinedIn c) ⌝ }
+    ensures { λ r. ⌜ ((inputs resets : List ℕ) → let c = circuitOf n
+        (seven inputs (now (latches .entry)) (now (outputs .entry)) (now (gates .entry)) resets (now (bads .entry))
+        (now (constraints .entry))) in Agrees (n .M) (definedIn c) (now (marks .entry)) → missingOf r ≡ undefinedIn c)
+        ⌝ }
 {
     let m = n.M as u32;
     // One more than M: above every variable.

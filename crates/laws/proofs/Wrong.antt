@@ -14,7 +14,8 @@ use Rattle.plan.specs.declared.Stepped.the-variants as stepped
 use Rattle.plan.specs.Circuit.{Circuit, Tables, countsOf, holding, allCleared, cleared}
 use Rattle.plan.specs.Given.{Given, given}
 use Rattle.plan.specs.Text.{textOf}
-use Rattle.plan.specs.Outcome.{Says, ReadEntry, LoadExit, load, MakeEntry, MakeExit, conversion, reduction, StepEntry, StepExit, step, FileEntry, FileExit, writeText, put}
+use Rattle.plan.specs.Outcome.{Says, ReadEntry, LoadExit, load, MakeEntry, MakeExit, conversion, reduction, StepEntry, StepExit, step, FileEntry}
+use Rattle.plan.specs.Outcome.{FileExit, writeText, put}
 use Rattle.plan.specs.Programs.{bytesOf}
 
 abbrev words : ℕ → List ℕ

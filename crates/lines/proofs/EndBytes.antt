@@ -29,7 +29,8 @@ by-class last b = go (eqb b 10) (eqb b 32) refl refl last
     others false false false l = refl
 
     go : (t1 t2 : Bool) → eqb b 10 ≡ t1 → eqb b 32 ≡ t2 → (l : Bool)
-        → endClass l (cond t1 Line (cond t2 Space (cond (eqb b 48) Zero (cond (leb 49 b && leb b 57) Digit (cond (leb 33 b && leb b 126) Print Rest))))) ≡ eqb b (endFor l)
+        → endClass l (cond t1 Line (cond t2 Space
+        (cond (eqb b 48) Zero (cond (leb 49 b && leb b 57) Digit (cond (leb 33 b && leb b 126) Print Rest))))) ≡ eqb b (endFor l)
     go true t2 e1 e2 true = sym e1
     go true t2 e1 e2 false = sym (ne-eqb b 32 (λ h. omega (arith, eqb-true b 10 e1)))
     go false true e1 e2 true = sym e1

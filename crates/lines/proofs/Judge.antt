@@ -48,7 +48,8 @@ module _ (file : List ℕ) (d : Bool) (m : ℕ) (ls : List ℕ) (o : Option ℕ)
             → judged ls o d m (p then λ ns last. got (record { value = v; place = pos } ∷ ns) last)
             ≡ judged (ls ++ (v ∷ [])) (orElse o (cond (inRange d m v) none (some pos))) false m p
         go (got xs last) =
-            ap₂ (λ (x : Option ℕ) (y : List ℕ). unless x OutOfRange (got y last)) (later o (inRange d m v) pos (outside false m xs)) (sym (append-snoc ls v (values xs)))
+            ap₂ (λ (x : Option ℕ) (y : List ℕ). unless x OutOfRange (got y last)) (later o (inRange d m v) pos (outside false m xs))
+            (sym (append-snoc ls v (values xs)))
         go (refused r) = refl
 
 pub judge-done : (file : List ℕ) (d : Bool) (m : ℕ) (ls : List ℕ) (o : Option ℕ) (pos : ℕ)

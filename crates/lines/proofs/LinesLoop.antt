@@ -107,7 +107,8 @@ module _ {file : List ℕ} {k : ℕ} {d : Bool} {m n at : ℕ} {t₀ marks₀ ta
   stops h r t′ marks′ e seen a =
       let b = s .before seen a in
       says-refused seen r t′ marks′ (turned b h
-      ∙ lines-stop file k d m (b .rows) (rest h b .0) (seen ++ heads (b .rows)) pos r (line-refused file d m (seen ++ heads (b .rows)) k pos r (passed-refused _ r e)))
+      ∙ lines-stop file k d m (b .rows) (rest h b .0) (seen ++ heads (b .rows)) pos r
+      (line-refused file d m (seen ++ heads (b .rows)) k pos r (passed-refused _ r e)))
 
   module _ (h : i < n) (positive : 0 < k) (ls : List ℕ) (next : ℕ) (e : row file k d m pos ≡ got ls next) where
     -- marks tell whether the line's variable was seen
@@ -115,7 +116,8 @@ module _ {file : List ℕ} {k : ℕ} {d : Bool} {m n at : ℕ} {t₀ marks₀ ta
         → marked d (varOf (literalOf ls)) marks ≡ (d && has (varOf (literalOf ls)) (seen ++ heads rows))
     tells seen rows a = go d a
       where
-        go : (x : Bool) → Agrees m (seenAfter x seen rows) marks → marked x (varOf (literalOf ls)) marks ≡ (x && has (varOf (literalOf ls)) (seen ++ heads rows))
+        go : (x : Bool) → Agrees m (seenAfter x seen rows) marks → marked x (varOf (literalOf ls)) marks
+            ≡ (x && has (varOf (literalOf ls)) (seen ++ heads rows))
         go true q = q (varOf (literalOf ls)) (row-var file k d m pos ls next positive e)
         go false q = refl
 
@@ -140,7 +142,8 @@ module _ {file : List ℕ} {k : ℕ} {d : Bool} {m n at : ℕ} {t₀ marks₀ ta
             → Agrees m (seenAfter x seen (rows ++ (ls ∷ []))) (marking x false (varOf (literalOf ls)) marks)
         go false q w = q
         go true q w =
-            subst (λ (z : List ℕ). Agrees m z (raised marks 0 (varOf (literalOf ls)))) (append-assoc seen (heads rows) (varOf (literalOf ls) ∷ []) ∙ ap (λ (z : List ℕ). seen ++ z) (sym (heads-snoc rows ls)))
+            subst (λ (z : List ℕ). Agrees m z (raised marks 0 (varOf (literalOf ls))))
+            (append-assoc seen (heads rows) (varOf (literalOf ls) ∷ []) ∙ ap (λ (z : List ℕ). seen ++ z) (sym (heads-snoc rows ls)))
             (agrees-more m (seen ++ heads rows) marks (varOf (literalOf ls)) q (omega (arith, row-var file k d m pos ls next positive e)))
 
     marking-length : (x : Bool) → length (marking x false (varOf (literalOf ls)) marks) ≡ length marks
@@ -182,7 +185,8 @@ module _ {file : List ℕ} {k : ℕ} {d : Bool} {m n at : ℕ} {t₀ marks₀ ta
       let b = s .before seen a in
       let none : b .left ≡ zero = omega (arith, b .sum) in
       subst (λ (p : Parse (List (List ℕ))). LinesSay d m seen t₀ p (To pos) table marks)
-      (sym (b .whole ∙ ap (λ (x : ℕ). onRows (b .rows) (lines file k d m x (seen ++ heads (b .rows)) pos)) none ∙ lines-done file k d m (b .rows) (seen ++ heads (b .rows)) pos))
+      (sym (b .whole ∙ ap (λ (x : ℕ). onRows (b .rows) (lines file k d m x (seen ++ heads (b .rows)) pos)) none
+      ∙ lines-done file k d m (b .rows) (seen ++ heads (b .rows)) pos))
       (refl, b .held, b .agrees)
 
 -- the first word of a line that was put into a table

@@ -28,7 +28,8 @@ use Rattle.lines.proofs.EndBytes.{end-is}
 use Rattle.lines.proofs.Judge.{judged, judge-wrong, judge-cut, judge-turn, judge-done, inside-small, row-inside}
 
 -- the numbers ls are read, `left` are to come, and their words stand in the table
-pub record Scan (file : List ℕ) (k : ℕ) (defines : Bool) (m at : ℕ) (t₀ : List ℕ) (base : ℕ) (t : List ℕ) (pos : ℕ) (d : Bool) (bad : Found) (j : ℕ) : Type 0 where
+pub record Scan (file : List ℕ) (k : ℕ) (defines : Bool) (m at : ℕ) (t₀ : List ℕ) (base : ℕ) (t : List ℕ) (pos : ℕ) (d : Bool) (bad : Found)
+    (j : ℕ) : Type 0 where
   pub ls : List ℕ
   pub left : ℕ
   pub sum : j + left ≡ k

@@ -55,7 +55,8 @@ abbrev pub seenAfter : Bool → List ℕ → List (List ℕ) → List ℕ
 seenAfter true seen rows = seen ++ heads rows
 seenAfter false seen rows = seen
 
--- what n lines leave: the lines in the table from its start, and marks of all that is defined; after a refusal only the refusal counts
+-- what n lines leave: the lines in the table from its start, and marks of all that is defined; after a refusal only
+-- the refusal counts
 abbrev pub LinesSay : Bool → ℕ → List ℕ → List ℕ → Parse (List (List ℕ)) → Passed → List ℕ → List ℕ → Type 0
 LinesSay d m seen table (got rows next) r table′ marks′ =
     (r ≡ To next) × (table′ ≡ put table 0 (flat rows)) × Agrees m (seenAfter d seen rows) marks′

@@ -1,5 +1,5 @@
-// What follows the header of the binary form: a next state for each latch, possibly with a reset, and what is observed as lines, then the
-// gates as differences (AIGER report, sections 11 and 12).
+// What follows the header of the binary form: a next state for each latch, possibly with a reset, and what is
+// observed as lines, then the gates as differences (AIGER report, sections 11 and 12).
 ghost use mathlib.Core.Path.{_≡_};
 ghost use Prim.Native.Nat.{_+_, _*_, _≤_};
 ghost use lib.ListN.{length};
@@ -16,8 +16,9 @@ use plan::Counts;
 use plan::Passed;
 use plan::Version;
 
-// Reads the body into tables 1 to 4 and 7 to 9. Nothing is defined twice here, so marks of any length and content will do: they are lent only
-// because lines are read by one reader. After a refusal nothing is promised of the tables: the caller clears them.
+// Reads the body into tables 1 to 4 and 7 to 9. Nothing is defined twice here, so marks of any length and content
+// will do: they are lent only because lines are read by one reader. After a refusal nothing is promised of the
+// tables: the caller clears them.
 pub fn read_binary(
     version: Version,
     file: &[u8],

@@ -1,5 +1,5 @@
-// What only the binary form has: gates as differences, and inputs and latches whose variables run on (AIGER report, sections 11
-// and 12).
+// What only the binary form has: gates as differences, and inputs and latches whose variables run on (AIGER report,
+// sections 11 and 12).
 ghost use mathlib.Core.Path.{_≡_};
 ghost use mathlib.Core.List.{map};
 ghost use Prim.Native.Nat.{_+_, _*_, _<_, _≤_};
@@ -65,7 +65,8 @@ fn gate_at(file: &[u8], at: usize, v: u32) -> Gated
     }
 }
 
-// n gates of the variables from first on, three words each. After a refusal nothing is promised of the words: the caller clears them.
+// n gates of the variables from first on, three words each. After a refusal nothing is promised of the words: the
+// caller clears them.
 fn read_run(file: &[u8], at: usize, first: u32, n: usize, table: &mut [u32]) -> Passed
     requires { ⌜ 3 * n ≤ length (now table) ⌝ }
     requires { ⌜ first + n ≤ 1048576 ⌝ }
@@ -91,8 +92,9 @@ fn read_run(file: &[u8], at: usize, first: u32, n: usize, table: &mut [u32]) -> 
     Passed::To(next)
 }
 
-// The same in two runs: what is called from two places the compiler keeps as a function of its own. Among the tables of a whole file, where it
-// would be inlined, the loop looks up the file's address and length in memory at every byte, and takes a tenth longer.
+// The same in two runs: what is called from two places the compiler keeps as a function of its own. Among the
+// tables of a whole file, where it would be inlined, the loop looks up the file's address and length in memory at
+// every byte, and takes a tenth longer.
 pub fn read_gates(file: &[u8], at: usize, first: u32, n: usize, table: &mut [u32]) -> Passed
     requires { ⌜ 3 * n ≤ length (now table) ⌝ }
     requires { ⌜ first + n ≤ 1048576 ⌝ }
@@ -125,12 +127,13 @@ pub fn run_on(table: &mut [u32], first: u32, n: usize)
     }
 }
 
-// n next states, one word each, become n latches of the variables from first on, two words each: from the last one down, so that
-// no next state is overwritten before it is moved.
+// n next states, one word each, become n latches of the variables from first on, two words each: from the last one
+// down, so that no next state is overwritten before it is moved.
 pub fn spread(table: &mut [u32], first: u32, n: usize)
     requires { ⌜ 2 * n ≤ length (now table) ⌝ }
     requires { ⌜ first + n ≤ 1048576 ⌝ }
-    ensures { λ _. ⌜ now (table .exit) ≡ put (now (table .entry)) 0 (flat (map latchLine (latchesFrom first (take n (now (table .entry)))))) ⌝ }
+    ensures { λ _. ⌜ now (table .exit) ≡ put (now (table .entry)) 0
+        (flat (map latchLine (latchesFrom first (take n (now (table .entry)))))) ⌝ }
 {
     let mut i = n;
     while i > 0 {

@@ -1,5 +1,5 @@
-// Lines of latches: the one reader of them in both forms. In text a line has the latch's own literal and its next state, in binary its next
-// state alone; in 1.9 it may end with a reset.
+// Lines of latches: the one reader of them in both forms. In text a line has the latch's own literal and its next
+// state, in binary its next state alone; in 1.9 it may end with a reset.
 ghost use mathlib.Core.Path.{_≡_};
 ghost use mathlib.Core.List.{List, [], _∷_, map};
 ghost use Prim.Native.Nat.{ℕ, _+_, _*_, _≤_, _<_};
@@ -13,7 +13,8 @@ ghost use Rattle.plan.specs.Outcome.{passedBy, put};
 ghost use Rattle.laws.proofs.Marks.{Agrees};
 ghost use Rattle.laws.proofs.Reading.Cut.{cut};
 ghost use Rattle.lines.specs.Rows.{foundOf, placesOf, MarksFor};
-ghost use Rattle.lines.specs.latches.Latches.{literals, frameOf, judged, latchRow, latchIn, Own, OwnAll, LatchesSay};
+ghost use Rattle.lines.specs.latches.Latches.{literals, frameOf, judged, latchRow, latchIn, Own, OwnAll};
+ghost use Rattle.lines.specs.latches.Latches.{LatchesSay};
 use crate::Found;
 use crate::defined_before;
 use crate::read_numbers;
@@ -34,8 +35,8 @@ pub fn more_resets(version: Version) -> usize
     }
 }
 
-// The numbers of a latch's line as its own literal, its next state and its reset, which is 0 if it is left off: by 1. In binary the own
-// literal stands in no file.
+// The numbers of a latch's line as its own literal, its next state and its reset, which is 0 if it is left off: by
+// 1. In binary the own literal stands in no file.
 fn read_frame(
     file: &[u8],
     at: usize,
@@ -50,8 +51,10 @@ fn read_frame(
     requires { ⌜ now words ≡ 0 ∷ 0 ∷ 0 ∷ [] ⌝ }
     requires { ⌜ now places ≡ 0 ∷ 0 ∷ 0 ∷ [] ⌝ }
     ensures { λ r. ⌜ r ≡ passedBy (numbers (now (file .entry)) (literals defines) (literals defines + more) at) ⌝ }
-    ensures { λ _. ⌜ ((xs : List Placed) (next : ℕ) → numbers (now (file .entry)) (literals defines) (literals defines + more) at ≡ got xs next
-        → (now (words .exit) ≡ frameOf defines (litOf v) (map cut (values xs))) × (now (places .exit) ≡ frameOf defines 0 (placesOf xs))) ⌝ }
+    ensures { λ _. ⌜ ((xs : List Placed) (next : ℕ)
+        → numbers (now (file .entry)) (literals defines) (literals defines + more) at ≡ got xs next
+        → (now (words .exit) ≡ frameOf defines (litOf v) (map cut (values xs)))
+        × (now (places .exit) ≡ frameOf defines 0 (placesOf xs))) ⌝ }
 {
     if defines {
         return read_numbers(file, at, 2, 2 + more, words, places, 0);
@@ -84,7 +87,8 @@ fn judge(
     Found::Nothing
 }
 
-// One line of a latch, by 1 over the whole line, then 5 from left to right: two words of the table and one of the resets.
+// One line of a latch, by 1 over the whole line, then 5 from left to right: two words of the table and one of the
+// resets.
 fn read_latch(
     file: &[u8],
     at: usize,
@@ -131,8 +135,8 @@ fn read_latch(
     }
 }
 
-// n lines of latches into both tables from their starts, each by 1, then 5, then 6. Where lines define none the latches are of the variables
-// from `first` on, and marks of any length and content will do.
+// n lines of latches into both tables from their starts, each by 1, then 5, then 6. Where lines define none the
+// latches are of the variables from `first` on, and marks of any length and content will do.
 pub fn read_latches(
     file: &[u8],
     at: usize,

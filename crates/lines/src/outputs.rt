@@ -10,7 +10,8 @@ use crate::read_lines;
 use plan::Counts;
 use plan::Passed;
 
-// O, B and C lines of one literal, each list into its table. They define nothing, so marks of any length and content will do and stay as they are.
+// O, B and C lines of one literal, each list into its table. They define nothing, so marks of any length and
+// content will do and stay as they are.
 pub fn read_observed(
     file: &[u8],
     at: usize,
@@ -25,8 +26,9 @@ pub fn read_observed(
     requires { ⌜ n .B ≤ length (now bads) ⌝ }
     requires { ⌜ n .C ≤ length (now constraints) ⌝ }
     ensures { λ r. ⌜ ((seen : List ℕ) → Agrees (n .M) seen (now (marks .entry))
-        → ObservedSay (n .M) seen (now (outputs .entry)) (now (bads .entry)) (now (constraints .entry)) (observedAt (now (file .entry)) n at)
-        r (now (outputs .exit)) (now (bads .exit)) (now (constraints .exit)) (now (marks .exit))) ⌝ }
+        → ObservedSay (n .M) seen (now (outputs .entry)) (now (bads .entry)) (now (constraints .entry))
+        (observedAt (now (file .entry)) n at) r (now (outputs .exit)) (now (bads .exit)) (now (constraints .exit))
+        (now (marks .exit))) ⌝ }
 {
     let m = n.M as u32;
     let read = read_lines(file, at, 1, false, m, n.O, outputs, marks);

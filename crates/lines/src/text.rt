@@ -13,9 +13,9 @@ use plan::Counts;
 use plan::Passed;
 use plan::Version;
 
-// I lines of one literal, L of two and possibly a reset, O, B and C of one, A of three, each list into its table. Inputs, latches and gates
-// define, and marks carry what is defined from one list to the next. After a refusal nothing is promised of tables and marks: the caller
-// clears them.
+// I lines of one literal, L of two and possibly a reset, O, B and C of one, A of three, each list into its table.
+// Inputs, latches and gates define, and marks carry what is defined from one list to the next. After a refusal
+// nothing is promised of tables and marks: the caller clears them.
 pub fn read_text(
     version: Version,
     file: &[u8],

@@ -1,5 +1,5 @@
-// What the programs do with files: an input is read whole, as far as a buffer goes, and what was written, or the refusal, is printed.
-// A buffer of one byte more than an input may have shows that it has too many.
+// What the programs do with files: an input is read whole, as far as a buffer goes, and what was written, or the
+// refusal, is printed. A buffer of one byte more than an input may have shows that it has too many.
 ghost use mathlib.Core.Path.{_≡_};
 ghost use Prim.Native.Nat.{_≤_};
 ghost use lib.ListN.{length};
@@ -15,8 +15,8 @@ pub enum Input {
     Unreadable,
 }
 
-// The bytes of an input from the start of a buffer on. A read that fails, also after others that did not, makes it unreadable: a folder
-// can be opened, and then no byte of it can be read.
+// The bytes of an input from the start of a buffer on. A read that fails, also after others that did not, makes it
+// unreadable: a folder can be opened, and then no byte of it can be read.
 pub fn read_input(fd: i32, buf: &mut [u8]) -> Input
     ensures { λ r. ⌜ came r ≤ length (now (buf .exit)) ⌝ }
 {

@@ -31,10 +31,12 @@ pub record Teaches (n : Counts) (gates state ins : List ℕ) : Type 0 where
 
 -- the values of outputs and of next states, as codes
 abbrev pub outputCodes : Counts → List ℕ → List ℕ → List ℕ → List ℕ → List ℕ
-outputCodes n outputs gates state ins = firsts (λ k. codeOf (lit (variableIn n gates state ins) (getD outputs k 0))) (n .O)
+outputCodes n outputs gates state ins =
+    firsts (λ k. codeOf (lit (variableIn n gates state ins) (getD outputs k 0))) (n .O)
 
 abbrev pub nextCodes : Counts → List ℕ → List ℕ → List ℕ → List ℕ → List ℕ
-nextCodes n latches gates state ins = firsts (λ k. codeOf (lit (variableIn n gates state ins) (getD latches (2 * k + 1) 0))) (n .L)
+nextCodes n latches gates state ins =
+    firsts (λ k. codeOf (lit (variableIn n gates state ins) (getD latches (2 * k + 1) 0))) (n .L)
 
 -- outputs of variables up to M, and a buffer for their values
 pub record Outs (n : Counts) (outputs outs : List ℕ) : Type 0 where

@@ -1,6 +1,6 @@
-// The plain engine: a step straight from the rules, for teaching circuits (the paper, the plain engine). The value of a literal asks for
-// its variable, and the value of a gate's variable asks for two literals; nothing is held but the next states. docs/LESSON.md walks
-// through it.
+// The plain engine: a step straight from the rules, for teaching circuits (the paper, the plain engine). The value
+// of a literal asks for its variable, and the value of a gate's variable asks for two literals; nothing is held but
+// the next states. docs/LESSON.md walks through it.
 ghost use mathlib.Core.Path.{_≡_};
 ghost use mathlib.Core.Bool.{true};
 ghost use Prim.Native.Nat.{_≤_};
@@ -63,7 +63,8 @@ fn and_of(a: u8, b: u8) -> u8
 fn literal_value(n: Counts, gates: &[u32], state: &[u8], ins: &[u8], l: Lit) -> u8
     requires { ⌜ Teaches n (now gates) (now state) (now ins) ⌝ }
     requires { ⌜ varOf (wordOf l) ≤ n .M ⌝ }
-    ensures { λ r. ⌜ r ≡ codeOf (lit (variableIn n (now (gates .entry)) (now (state .entry)) (now (ins .entry))) (wordOf l)) ⌝ }
+    ensures { λ r. ⌜ r ≡ codeOf (lit (variableIn n (now (gates .entry)) (now (state .entry)) (now (ins .entry)))
+        (wordOf l)) ⌝ }
 {
     let value = variable_value(n, gates, state, ins, l.var());
     if l.sign() == 0 {
@@ -72,12 +73,13 @@ fn literal_value(n: Counts, gates: &[u32], state: &[u8], ins: &[u8], l: Lit) -> 
     not_of(value)
 }
 
-// The value of a variable: the constant's, an input's, a latch's, or the And of its gate's two right sides, which are of lower
-// variables (AIGER report, section 11), so that the asking ends.
+// The value of a variable: the constant's, an input's, a latch's, or the And of its gate's two right sides, which
+// are of lower variables (AIGER report, section 11), so that the asking ends.
 fn variable_value(n: Counts, gates: &[u32], state: &[u8], ins: &[u8], v: Var) -> u8
     requires { ⌜ Teaches n (now gates) (now state) (now ins) ⌝ }
     requires { ⌜ indexOf v ≤ n .M ⌝ }
-    ensures { λ r. ⌜ r ≡ codeOf (variableIn n (now (gates .entry)) (now (state .entry)) (now (ins .entry)) (indexOf v)) ⌝ }
+    ensures { λ r. ⌜ r ≡ codeOf (variableIn n (now (gates .entry)) (now (state .entry)) (now (ins .entry))
+        (indexOf v)) ⌝ }
 {
     let index = v.index() as usize;
     if index == 0 {
@@ -106,7 +108,8 @@ fn give_outputs(
 )
     requires { ⌜ Teaches n (now gates) (now state) (now ins) ⌝ }
     requires { ⌜ Outs n (now outputs) (now outs) ⌝ }
-    ensures { λ _. ⌜ now (outs .exit) ≡ outputCodes n (now (outputs .entry)) (now (gates .entry)) (now (state .entry)) (now (ins .entry)) ⌝ }
+    ensures { λ _. ⌜ now (outs .exit) ≡ outputCodes n (now (outputs .entry)) (now (gates .entry)) (now (state .entry))
+        (now (ins .entry)) ⌝ }
 {
     let mut i = 0;
     while i < n.O {
@@ -165,8 +168,8 @@ pub fn plain_vectors(
     take_next(scratch, state);
 }
 
-// One step by the rules alone: the outputs go into their buffer, and the next state over the state. On a refusal no vector changes;
-// scratch is zero afterwards.
+// One step by the rules alone: the outputs go into their buffer, and the next state over the state. On a refusal no
+// vector changes; scratch is zero afterwards.
 pub fn step_plain(
     n: Counts,
     inputs: &[u32],

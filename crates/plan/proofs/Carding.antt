@@ -57,7 +57,8 @@ pub goes-on : filer (some (emptyCards ++ (0 ∷ []))) ≡ bytesOf "refused 1 at 
 goes-on = refl
 
 -- the first wrong mark, in file order; then 2 at the number's first byte; then 3; 5 by the table; 15
-pub wrong-mark : filer (some (bytesOf "PH" ++ (small 0 ++ (small 0 ++ (small 1 ++ (small 0 ++ (small 0 ++ (bytesOf "PO" ++ small 0)))))))) ≡ bytesOf "refused 18 at 22\n"
+pub wrong-mark : filer (some (bytesOf "PH" ++ (small 0 ++ (small 0 ++ (small 1 ++ (small 0 ++ (small 0 ++ (bytesOf "PO" ++ small 0))))))))
+    ≡ bytesOf "refused 18 at 22\n"
 wrong-mark = refl
 
 pub large-M : filer (some (bytesOf "PH" ++ ((0 ∷ 0 ∷ 16 ∷ 0 ∷ []) ++ (small 0 ++ (small 0 ++ (small 0 ++ small 0)))))) ≡ bytesOf "refused 2 at 2\n"
@@ -66,11 +67,13 @@ large-M = refl
 pub wrong-sum : filer (some (bytesOf "PH" ++ (small 1 ++ (small 0 ++ (small 0 ++ (small 0 ++ small 0)))))) ≡ bytesOf "refused 3 at 0\n"
 wrong-sum = refl
 
-pub out-of-range : filer (some (bytesOf "PH" ++ (small 0 ++ (small 0 ++ (small 0 ++ (small 1 ++ (small 0 ++ (bytesOf "PO" ++ small 2)))))))) ≡ bytesOf "refused 5 at 3\n"
+pub out-of-range : filer (some (bytesOf "PH" ++ (small 0 ++ (small 0 ++ (small 0 ++ (small 1 ++ (small 0 ++ (bytesOf "PO" ++ small 2))))))))
+    ≡ bytesOf "refused 5 at 3\n"
 out-of-range = refl
 
 -- a gate of itself is not in binary order: 15, and never 8
-pub own-side : filer (some (bytesOf "PH" ++ (small 1 ++ (small 0 ++ (small 0 ++ (small 0 ++ (small 1 ++ (bytesOf "PA" ++ (small 2 ++ small 0))))))))) ≡ bytesOf "refused 15 at 0\n"
+pub own-side : filer (some (bytesOf "PH" ++ (small 1 ++ (small 0 ++ (small 0 ++ (small 0 ++ (small 1 ++ (bytesOf "PA" ++ (small 2 ++ small 0)))))))))
+    ≡ bytesOf "refused 15 at 0\n"
 own-side = refl
 
 -- what cards can't hold: a comment, a reset of 1, a bad state, a constraint

@@ -62,7 +62,8 @@ gateBytes (g ∷ gs) = groupsOf (g .lhs - g .rhs0) ++ (groupsOf (g .rhs0 - g .rh
 
 abbrev pub binaryLines : List (List ℕ) → Circuit → List ℕ
 binaryLines lats c =
-    linesOf lats ++ (linesOf (map oneLine (c .outputs)) ++ (linesOf (map oneLine (c .bads)) ++ (linesOf (map oneLine (c .constraints))
+    linesOf lats ++ (linesOf (map oneLine (c .outputs))
+    ++ (linesOf (map oneLine (c .bads)) ++ (linesOf (map oneLine (c .constraints))
     ++ gateBytes (c .gates))))
 
 abbrev pub binaryLatches : Circuit → List (List ℕ)

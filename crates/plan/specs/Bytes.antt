@@ -83,7 +83,8 @@ pub record Placed : Type 0 where
 abbrev pub goesOn : List ℕ → ℕ → ℕ → ℕ → Parse Bool
 goesOn file must zero at = expect file 10 at then λ _ next. got false next
 goesOn file (suc must) (suc may) at = expect file 32 at then λ _ next. got true next
-goesOn file zero (suc may) at = cond (eqb (getD file at 0) 10) (got false (at + 1)) (expect file 32 at then λ _ next. got true next)
+goesOn file zero (suc may) at =
+    cond (eqb (getD file at 0) 10) (got false (at + 1)) (expect file 32 at then λ _ next. got true next)
 
 abbrev pub less : ℕ → ℕ
 less zero = zero
@@ -186,7 +187,8 @@ withResets (row ∷ rows) (r ∷ rs) = (row ++ (r ∷ [])) ∷ withResets rows r
 
 -- a line of at least `must` and at most `may` numbers spells these, of which trailing zeros are left off
 abbrev pub Spells : ℕ → ℕ → List ℕ → List ℕ → Type 0
-Spells must may full row = (must ≤ length row) × (length row ≤ may) × (row ++ replicate (length full - length row) 0 ≡ full)
+Spells must may full row =
+    (must ≤ length row) × (length row ≤ may) × (row ++ replicate (length full - length row) 0 ≡ full)
 
 abbrev pub AllSpell : ℕ → ℕ → List (List ℕ) → List (List ℕ) → Type 0
 AllSpell must may [] [] = Unit {0}

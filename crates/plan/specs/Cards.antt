@@ -1,4 +1,5 @@
--- The old plan cards: records of a two-byte mark and then four-byte numbers, low byte first, of circuits in binary order.
+-- The old plan cards: records of a two-byte mark and then four-byte numbers, low byte first, of circuits in binary
+-- order.
 use Prim.Native.Nat.{ℕ, suc, zero, _+_, _*_, _/_, _%_}
 use mathlib.Core.Path.{_≡_}
 use mathlib.Core.Bool.{Bool, true, cond, _&&_}
@@ -8,12 +9,14 @@ use lib.Dec.{eqb, ltb}
 use lib.ListN.{length, getD, drop, replicate}
 use Rattle.plan.specs.declared.Counts.{Counts}
 use Rattle.plan.specs.declared.Refusal.{Refusal}
-use Rattle.plan.specs.declared.Refusal.the-variants.{WrongByte, LargeCount, WrongSum, ShortTable, OutOfRange, NotInOrder, WrongMark, NotOnCards}
+use Rattle.plan.specs.declared.Refusal.the-variants.{WrongByte, LargeCount, WrongSum, ShortTable, OutOfRange}
+use Rattle.plan.specs.declared.Refusal.the-variants.{NotInOrder, WrongMark, NotOnCards}
 use Rattle.plan.specs.declared.Written.{Written}
 use Rattle.plan.specs.declared.Written.the-variants as written
 use Rattle.plan.specs.Literals.{litOf}
 use Rattle.plan.specs.Refusals.{Parse, got, refused, _then_, unless, stage, firstOf}
-use Rattle.plan.specs.Circuit.{Gate, Circuit, Tables, countsOf, lengthsOf, wordsToWork, against, short, nexts, cleared, allCleared}
+use Rattle.plan.specs.Circuit.{Gate, Circuit, Tables, countsOf, lengthsOf, wordsToWork, against, short, nexts}
+use Rattle.plan.specs.Circuit.{cleared, allCleared}
 use Rattle.plan.specs.Bytes.{Placed}
 use Rattle.plan.specs.Header.{binary, over, adds}
 use Rattle.plan.specs.Binary.{litsFrom, latchesFrom, binaryOf, binaryOrder}
@@ -111,7 +114,8 @@ abbrev pub wrongLength : ℕ → ℕ → Option ℕ
 wrongLength asked size = cond (ltb size asked) (some size) (cond (ltb asked size) (some asked) none)
 
 abbrev pub badLength : List ℕ → Option ℕ
-badLength file = cond (ltb (length file) 22) (some (length file)) (wrongLength (cardBytes (countsAt file)) (length file))
+badLength file =
+    cond (ltb (length file) 22) (some (length file)) (wrongLength (cardBytes (countsAt file)) (length file))
 
 -- where the latches, the outputs and the gates start
 abbrev pub latchesAt : ℕ
@@ -142,7 +146,8 @@ wordsIn (suc n) l = word (drop 2 l) ∷ wordsIn n (drop 6 l)
 
 abbrev pub gatesIn : ℕ → ℕ → List ℕ → List Gate
 gatesIn v zero l = []
-gatesIn v (suc n) l = record { lhs = litOf v; rhs0 = word (drop 2 l); rhs1 = word (drop 6 l) } ∷ gatesIn (suc v) n (drop 10 l)
+gatesIn v (suc n) l =
+    record { lhs = litOf v; rhs0 = word (drop 2 l); rhs1 = word (drop 6 l) } ∷ gatesIn (suc v) n (drop 10 l)
 
 -- the circuit of cards with these counts: defining literals from their positions, resets 0
 abbrev pub carded : List ℕ → Counts → Circuit
@@ -192,7 +197,8 @@ abbrev pub writeCards : FileEntry → FileExit
 writeCards e =
     let g = e .circuit in
     let bytes = cardsOf (given g) in
-    writtenBy (firstOf (inOrderThen g (tailStage g (e .tail) ∷ cardStage g (e .tail) ∷ roomStage (e .out) bytes ∷ []))) e bytes
+    writtenBy (firstOf (inOrderThen g
+    (tailStage g (e .tail) ∷ cardStage g (e .tail) ∷ roomStage (e .out) bytes ∷ []))) e bytes
 
 -- whole files: from the bytes of an input to the bytes that are written, for any tables lent
 pub record CardEntry : Type 0 where

@@ -77,7 +77,8 @@ pub record Lent : Type 0 where
 -- tables t, t + 1 .. with their needs and lengths
 abbrev pub against : ℕ → List ℕ → List ℕ → List Lent
 against t [] lengths = []
-against t (n ∷ needs) lengths = record { table = t; needed = n; words = getD lengths 0 0 } ∷ against (t + 1) needs (drop 1 lengths)
+against t (n ∷ needs) lengths =
+    record { table = t; needed = n; words = getD lengths 0 0 } ∷ against (t + 1) needs (drop 1 lengths)
 
 abbrev pub orLess : ℕ → Option ℕ → Option ℕ
 orLess v none = some v

@@ -15,8 +15,8 @@ lowThen low (Value high next) = Value (low + 128 * high) next
 lowThen low (Ends place) = Ends place
 lowThen low (Bad place) = Bad place
 
--- groups of seven bits, low group first, the high bit (128) set on all but the last byte, in the fewest bytes, so that the last
--- is 0 only where it is the first; at most k more
+-- groups of seven bits, low group first, the high bit (128) set on all but the last byte, in the fewest bytes, so
+-- that the last is 0 only where it is the first; at most k more
 abbrev pub groups : List ℕ → ℕ → ℕ → ℕ → Difference
 groups file first zero at = Bad first
 groups file first (suc k) at =

@@ -1,4 +1,5 @@
--- Unused gates: every gate that no output, next state, bad state or constraint reaches is dropped, and the gaps are closed in order.
+-- Unused gates: every gate that no output, next state, bad state or constraint reaches is dropped, and the gaps are
+-- closed in order.
 use Prim.Native.Nat.{ℕ, _+_}
 use mathlib.Core.Bool.{cond}
 use mathlib.Core.List.{List, [], _∷_, _++_, map}

@@ -31,7 +31,8 @@ blamesAt vx w g = []
 abbrev pub blames : (ℕ → Value) → Gate → List ℕ
 blames w g = blamesAt (w (varOf (g .lhs))) w g
 
--- v is blamed for a literal in a step: the literal's variable is, whatever its sign, and all that is blamed from there, in any number of steps
+-- v is blamed for a literal in a step: the literal's variable is, whatever its sign, and all that is blamed from
+-- there, in any number of steps
 abbrev pub Blamed : Circuit → List Value → List Value → ℕ → ℕ → Type 0
 Blamed c state ins l v = Walked (blames (valuesOf c state ins)) (c .gates) (varOf l ∷ []) v
 
@@ -105,7 +106,8 @@ outputStage e =
     (failingAt 2 (not (same (valueAsked e) vx))))
 
 abbrev pub explainedBy : Option Refusal → ExplainEntry → ExplainExit
-explainedBy none e = record { answer = Done; scratch = cleared (e .circuit .scratch); marks = put (e .marks) 0 (marksAsked e) }
+explainedBy none e =
+    record { answer = Done; scratch = cleared (e .circuit .scratch); marks = put (e .marks) 0 (marksAsked e) }
 explainedBy (some r) e = record { answer = Refused r; scratch = cleared (e .circuit .scratch); marks = e .marks }
 
 -- 11 with L + I, after 12 and 17

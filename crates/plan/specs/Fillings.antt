@@ -57,7 +57,8 @@ startOf c = map codeOf (first c)
 abbrev pub asked : Circuit → List ℕ → List ℕ
 asked c bytes = startOf c ++ bytes
 
--- stepping a list from a start shows a 1 on some output or bad state, every constraint being 1 there and at all steps before
+-- stepping a list from a start shows a 1 on some output or bad state, every constraint being 1 there and at all
+-- steps before
 abbrev pub showsAt : Circuit → List ℕ → ℕ → List ℕ → Bool
 showsAt c start number bytes = shows1 (run c (map valueOf start) (vectorsOf c number bytes))
 

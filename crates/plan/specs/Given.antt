@@ -8,10 +8,12 @@ use lib.ListN.{length}
 use Rattle.plan.specs.declared.Counts.{Counts}
 use Rattle.plan.specs.declared.Version.the-variants.{V19}
 use Rattle.plan.specs.declared.Refusal.{Refusal}
-use Rattle.plan.specs.declared.Refusal.the-variants.{LargeCount, WrongSum, ShortTable, OutOfRange, DefinedTwice, NotDefined, Cyclic, ShortBuffer, NotInOrder}
+use Rattle.plan.specs.declared.Refusal.the-variants.{LargeCount, WrongSum, ShortTable, OutOfRange, DefinedTwice}
+use Rattle.plan.specs.declared.Refusal.the-variants.{NotDefined, Cyclic, ShortBuffer, NotInOrder}
 use Rattle.plan.specs.Literals.{varOf}
 use Rattle.plan.specs.Refusals.{Parse, got, refused, stage}
-use Rattle.plan.specs.Circuit.{Circuit, Tables, Lent, circuitOf, lengthsOf, wordsToWork, against, short, oneLine, latchLine, gateLine, literalOf, vars, currents, resetsOk}
+use Rattle.plan.specs.Circuit.{Circuit, Tables, Lent, circuitOf, lengthsOf, wordsToWork, against, short}
+use Rattle.plan.specs.Circuit.{oneLine, latchLine, gateLine, literalOf, vars, currents, resetsOk}
 use Rattle.plan.specs.Bytes.{Placed, outside, twice}
 use Rattle.plan.specs.Header.{text, listOf, over, adds}
 use Rattle.plan.specs.Depends.{undefinedIn, cyclicIn}
@@ -73,7 +75,8 @@ outsideIn c =
 -- 6 over the lines of table t; `seen` holds the variables defined before
 abbrev pub twiceOf : ℕ → List ℕ → List (List ℕ) → Option ℕ
 twiceOf t seen [] = none
-twiceOf t seen (row ∷ rows) = orElse (twice true seen (placed t row)) (twiceOf t (seen ++ (varOf (literalOf row) ∷ [])) rows)
+twiceOf t seen (row ∷ rows) =
+    orElse (twice true seen (placed t row)) (twiceOf t (seen ++ (varOf (literalOf row) ∷ [])) rows)
 
 abbrev pub twiceIn : Circuit → Option ℕ
 twiceIn c =
@@ -109,7 +112,8 @@ refusalOf (refused r) = some r
 abbrev pub tailStage : Given → List ℕ → Option Refusal
 tailStage g tail = refusalOf (tailAt V19 tail (g .counts) 0)
 
--- 11: the length needed to hold bytes from a position on, cut at the largest number of 64 bits, where a buffer is shorter
+-- 11: the length needed to hold bytes from a position on, cut at the largest number of 64 bits, where a buffer is
+-- shorter
 abbrev pub room : List ℕ → ℕ → List ℕ → Option ℕ
 room out at bytes = cond (leb (at + length bytes) (length out)) none (some (min (at + length bytes) (2 ^ 64 - 1)))
 

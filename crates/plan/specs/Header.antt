@@ -38,7 +38,15 @@ moreResets V19 = 1
 
 -- M, I, L, O, A, B, C, those left off being 0
 abbrev pub countsFrom : List ℕ → Counts
-countsFrom l = record { M = getD l 0 0; I = getD l 1 0; L = getD l 2 0; O = getD l 3 0; A = getD l 4 0; B = getD l 5 0; C = getD l 6 0 }
+countsFrom l = record {
+  M = getD l 0 0;
+  I = getD l 1 0;
+  L = getD l 2 0;
+  O = getD l 3 0;
+  A = getD l 4 0;
+  B = getD l 5 0;
+  C = getD l 6 0;
+}
 
 abbrev pub listOf : Counts → List ℕ
 listOf n = n .M ∷ n .I ∷ n .L ∷ n .O ∷ n .A ∷ n .B ∷ n .C ∷ []
@@ -72,7 +80,8 @@ header v file at =
     numbers file 5 (5 + moreCounts v) at then λ xs next.
     unless (over xs) LargeCount
     (unless (above0 (drop 7 xs)) Justice
-    (cond (adds form (countsFrom (values xs))) (got (record { form = form; counts = countsFrom (values xs) }) next) (refused (WrongSum 0))))
+    (cond (adds form (countsFrom (values xs))) (got (record { form = form; counts = countsFrom (values xs) }) next)
+    (refused (WrongSum 0))))
 
 -- the same, written: all counts, of which J and F are 0; the shortest line of them; the header of a line
 abbrev pub allCounts : Counts → List ℕ
@@ -84,7 +93,8 @@ shortCounts n = shortest 5 (allCounts n)
 abbrev pub headerOf : Form → List ℕ → List ℕ
 headerOf form row = 97 ∷ letterOf form ∷ 103 ∷ 32 ∷ lineOf row
 
--- the words of table 5 to read a file: in binary one for the symbol of each entry, and none to mark variables in, as 6, 7 and 8 can't be met there
+-- the words of table 5 to read a file: in binary one for the symbol of each entry, and none to mark variables in,
+-- as 6, 7 and 8 can't be met there
 abbrev pub scratchToRead : Form → Counts → ℕ
 scratchToRead text n = scratchToWork n
 scratchToRead binary n = n .I + n .L + n .O + n .B + n .C
@@ -98,7 +108,8 @@ formIn file = cond (eqb (getD file 1 0) 105) binary text
 
 -- the desk question: the words that table t needs to read the file, or 2 ^ 64 - 1
 abbrev pub wordsBy : ℕ → Parse Head → ℕ
-wordsBy t (got h next) = cond ((leb 1 t && leb t 5) || (leb 7 t && leb t 9)) (getD (wordsToRead (h .form) (h .counts)) (t - 1) 0) (2 ^ 64 - 1)
+wordsBy t (got h next) = cond ((leb 1 t && leb t 5) || (leb 7 t && leb t 9))
+    (getD (wordsToRead (h .form) (h .counts)) (t - 1) 0) (2 ^ 64 - 1)
 wordsBy t (refused r) = 2 ^ 64 - 1
 
 abbrev pub wordsFor : List ℕ → ℕ → ℕ

@@ -34,7 +34,8 @@ plainTrace e =
     let g = e .circuit in
     tracedBy (firstOf (inOrderThen g (gatesStage g ∷ traceStage e ∷ []))) e
 
--- the comparer writes the tracer's lines, which both engines give; 24 is judged with plan.in, before standard input is read
+-- the comparer writes the tracer's lines, which both engines give; 24 is judged with plan.in, before standard input
+-- is read
 abbrev pub comparer : Option (List ℕ) → Option (List ℕ) → List ℕ
 comparer planIn standardIn =
     printed (input planIn λ file.

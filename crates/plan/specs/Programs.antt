@@ -50,8 +50,8 @@ input (some bytes) rest = cond (leb (length bytes) 65536) (rest bytes) (refused 
 abbrev pub fitting : List ℕ → Parse (List ℕ)
 fitting bytes = cond (leb (length bytes) lentBytes) (got bytes (length bytes)) (refused (ShortBuffer (length bytes)))
 
--- the converter writes the other form. A binary file may be read whose table 5 is too short for the calls that follow: 4 at 5, after all that a
--- reader checks, in each program
+-- the converter writes the other form. A binary file may be read whose table 5 is too short for the calls that
+-- follow: 4 at 5, after all that a reader checks, in each program
 abbrev pub otherForm : Form → Circuit → List ℕ
 otherForm text c = binaryOf (convert c)
 otherForm binary c = textOf c
@@ -92,7 +92,8 @@ stimulus n bytes =
 
 -- one line per step: state, inputs, outputs, next state, one space between
 abbrev pub stepLine : Step → List ℕ
-stepLine s = map codeOf (s .state) ++ (32 ∷ (map codeOf (s .inputs) ++ (32 ∷ (map codeOf (s .outputs) ++ (32 ∷ (map codeOf (s .next) ++ (10 ∷ [])))))))
+stepLine s = map codeOf (s .state) ++ (32 ∷ (map codeOf (s .inputs)
+    ++ (32 ∷ (map codeOf (s .outputs) ++ (32 ∷ (map codeOf (s .next) ++ (10 ∷ [])))))))
 
 abbrev pub stepLines : List Step → List ℕ
 stepLines [] = []

@@ -11,10 +11,12 @@ use Rattle.plan.specs.declared.Version.the-variants.{V19}
 use Rattle.plan.specs.declared.Refusal.the-variants.{ShortTable, NotDefined, Cyclic}
 use Rattle.plan.specs.Literals.{most}
 use Rattle.plan.specs.Refusals.{Parse, got, _then_, unless}
-use Rattle.plan.specs.Circuit.{Circuit, countsOf, wordsToWork, against, short, oneLine, latchLine, gateLine, allInside, has, allNew, definedIn, usedIn, resetsOk}
+use Rattle.plan.specs.Circuit.{Circuit, countsOf, wordsToWork, against, short, oneLine, latchLine, gateLine}
+use Rattle.plan.specs.Circuit.{allInside, has, allNew, definedIn, usedIn, resetsOk}
 use Rattle.plan.specs.Bytes.{Spells, AllSpell}
 use Rattle.plan.specs.Depends.{undefinedIn, cyclicIn, Depends}
-use Rattle.plan.specs.Header.{moreCounts, moreResets, Form, text, binary, header, allCounts, headerOf, wordsToRead, formIn}
+use Rattle.plan.specs.Header.{moreCounts, moreResets, Form, text, binary, header, allCounts, headerOf}
+use Rattle.plan.specs.Header.{wordsToRead, formIn}
 use Rattle.plan.specs.Text.{textBody, textLines, textLatches, textOf}
 use Rattle.plan.specs.Binary.{binaryBody, binaryLines, binaryLatches, binaryOf, binaryOrder}
 use Rattle.plan.specs.Tail.{tailAt, TailOk}
@@ -23,8 +25,8 @@ abbrev pub body : Version → List ℕ → Form → Counts → ℕ → Parse Cir
 body v file text n at = textBody v file n at
 body v file binary n at = binaryBody v file n at
 
--- header by 1, 2, 21, 3; then 4; then the file in order, its tail too; when the whole file has been read 7, then 8, which
--- no binary file can meet. The position is where the tail starts
+-- header by 1, 2, 21, 3; then 4; then the file in order, its tail too; when the whole file has been read 7, then 8,
+-- which no binary file can meet. The position is where the tail starts
 abbrev pub readFile : Version → List ℕ → List ℕ → Parse Circuit
 readFile v file lengths =
     header v file 0 then λ h at.
@@ -33,7 +35,8 @@ readFile v file lengths =
     tailAt v file (h .counts) at then λ _ _.
     unless (undefinedIn c) NotDefined (unless (cyclicIn c) Cyclic (got c at)))
 
--- a file that is read for calls that follow: all that a reader checks, then 4 for those calls, which are lent tables of the lengths `later`
+-- a file that is read for calls that follow: all that a reader checks, then 4 for those calls, which are lent
+-- tables of the lengths `later`
 abbrev pub readToWork : List ℕ → List ℕ → List ℕ → Parse Circuit
 readToWork file lengths later =
     readFile V19 file lengths then λ c at.
@@ -69,9 +72,11 @@ pub record Spelled (v : Version) (c : Circuit) (k : ℕ) (full : List (List ℕ)
 
 -- the file states the circuit and the tail
 pub data States (v : Version) (file : List ℕ) (c : Circuit) (tail : List ℕ) : Type 0 where
-  asText : (s : Spelled v c 2 (textLatches c)) → file ≡ (headerOf text (s .counts) ++ textLines (s .latches) c) ++ tail → WellFormed c
+  asText : (s : Spelled v c 2 (textLatches c))
+      → file ≡ (headerOf text (s .counts) ++ textLines (s .latches) c) ++ tail → WellFormed c
       → TailOk v (countsOf c) tail → States v file c tail
-  asBinary : (s : Spelled v c 1 (binaryLatches c)) → file ≡ (headerOf binary (s .counts) ++ binaryLines (s .latches) c) ++ tail
+  asBinary : (s : Spelled v c 1 (binaryLatches c))
+      → file ≡ (headerOf binary (s .counts) ++ binaryLines (s .latches) c) ++ tail
       → binaryOrder c ≡ true → WellFormed c → TailOk v (countsOf c) tail → States v file c tail
 
 -- the file is in the shortest form, in which our writers write

@@ -25,8 +25,8 @@ abbrev pub twin : ℕ → ℕ → List Gate → Option ℕ
 twin a b [] = none
 twin a b (g ∷ gs) = cond (eqb (g .rhs0) a && eqb (g .rhs1) b) (some (g .lhs)) (twin a b gs)
 
--- the literal that stands in for a gate, if one does: equal sides give that side; a side and its negation give 0; a side 0 gives
--- 0; a side 1 gives the other; otherwise, larger first, an earlier retained gate with the same pair
+-- the literal that stands in for a gate, if one does: equal sides give that side; a side and its negation give 0; a
+-- side 0 gives 0; a side 1 gives the other; otherwise, larger first, an earlier retained gate with the same pair
 abbrev pub standIn : ℕ → ℕ → List Gate → Option ℕ
 standIn a b retained =
     cond (eqb a b) (some a)

@@ -1,5 +1,5 @@
--- The needle report: for each output and each latch, over a list of vectors, the steps at 0, at 1, at x, and the steps whose value differs from
--- the step before.
+-- The needle report: for each output and each latch, over a list of vectors, the steps at 0, at 1, at x, and the
+-- steps whose value differs from the step before.
 use Prim.Native.Nat.{ℕ, zero, suc, _+_, _*_}
 use mathlib.Core.Bool.{cond}
 use mathlib.Core.Option.{Option, none, some}
@@ -53,7 +53,8 @@ inTurn tell (suc n) = inTurn tell n ++ tell n
 -- the outputs', then the latches' numbers
 abbrev pub needles : Circuit → List Step → List ℕ
 needles c steps =
-    inTurn (λ i. numbersOf (outputAlong steps i)) (length (c .outputs)) ++ inTurn (λ i. numbersOf (latchAlong steps i)) (length (c .latches))
+    inTurn (λ i. numbersOf (outputAlong steps i)) (length (c .outputs))
+    ++ inTurn (λ i. numbersOf (latchAlong steps i)) (length (c .latches))
 
 abbrev pub reportOf : Circuit → ℕ → List ℕ → List ℕ
 reportOf c number bytes = needles c (run c (first c) (vectorsOf c number bytes))

@@ -28,7 +28,8 @@ needleLines outputs latches numbers =
     inTurn (λ i. needleLine 111 i (take 4 (drop (4 * i) numbers))) outputs
     ++ inTurn (λ i. needleLine 108 i (take 4 (drop (4 * (outputs + i)) numbers))) latches
 
--- the reporter converts the circuit; all of plan.in's refusals, and 4 at table 6 after them, come before those of standard input
+-- the reporter converts the circuit; all of plan.in's refusals, and 4 at table 6 after them, come before those of
+-- standard input
 abbrev pub reporter : Option (List ℕ) → Option (List ℕ) → List ℕ
 reporter planIn standardIn =
     printed (input planIn λ file.
@@ -37,4 +38,5 @@ reporter planIn standardIn =
     (input standardIn λ bytes.
     stimulus (length (c .inputs)) bytes then λ list end.
     let d = convert c in
-    got (needleLines (length (d .outputs)) (length (d .latches)) (needles d (run d (first d) (map (map valueOf) list)))) end))
+    got (needleLines (length (d .outputs)) (length (d .latches))
+    (needles d (run d (first d) (map (map valueOf) list)))) end))

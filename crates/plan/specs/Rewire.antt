@@ -51,14 +51,16 @@ stateOn c bytes = map valueOf (take (length (c .latches)) (drop (1 + length (c .
 abbrev pub valueOn : List ℕ → ℕ → Value
 valueOn bytes v = valueOf (getD bytes v 0)
 
--- what a variable's value must be: the constant is 0, an input or a latch has its own, a gate the And of its right sides' values
+-- what a variable's value must be: the constant is 0, an input or a latch has its own, a gate the And of its right
+-- sides' values
 abbrev pub follows : List Gate → List ℕ → ℕ → Value
 follows gs bytes v = gateValue (valueOn bytes) (cond (eqb v 0) v0 (valueOn bytes v)) (find v gs)
 
 -- 23: the least variable, of n from v on, whose byte is another
 abbrev pub wrongFrom : List Gate → List ℕ → ℕ → ℕ → Option ℕ
 wrongFrom gs bytes v zero = none
-wrongFrom gs bytes v (suc n) = cond (eqb (getD bytes v 0) (codeOf (follows gs bytes v))) (wrongFrom gs bytes (suc v) n) (some v)
+wrongFrom gs bytes v (suc n) =
+    cond (eqb (getD bytes v 0) (codeOf (follows gs bytes v))) (wrongFrom gs bytes (suc v) n) (some v)
 
 abbrev pub wrongOn : Circuit → List ℕ → Option ℕ
 wrongOn c bytes = wrongFrom (c .gates) bytes 0 (c .M + 1)
@@ -80,7 +82,8 @@ editStages n k a b len =
     ∷ stage BadVector (vector 4 (eqb len (n .M + 1)))
     ∷ []
 
--- the call: given tables, of which the gates' is lent for writing, the gate's number, its right sides, and the values, which are written over
+-- the call: given tables, of which the gates' is lent for writing, the gate's number, its right sides, and the
+-- values, which are written over
 pub record RewireEntry : Type 0 where
   pub circuit : Given
   pub gate : ℕ
@@ -113,4 +116,5 @@ abbrev pub rewiring : RewireEntry → RewireExit
 rewiring e =
     let g = e .circuit in
     rewiredBy (firstOf (inOrderThen g
-    (editStages (g .counts) (e .gate) (e .rhs0) (e .rhs1) (length (e .values)) ++ (stage WrongValue (wrongOn (given g) (e .values)) ∷ [])))) e
+    (editStages (g .counts) (e .gate) (e .rhs0) (e .rhs1) (length (e .values))
+    ++ (stage WrongValue (wrongOn (given g) (e .values)) ∷ [])))) e

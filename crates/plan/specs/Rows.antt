@@ -1,4 +1,5 @@
--- Many rows at once: each row is one input vector, stepped once from the resets. Their outputs and next states as bytes, and their report.
+-- Many rows at once: each row is one input vector, stepped once from the resets. Their outputs and next states as
+-- bytes, and their report.
 use Prim.Native.Nat.{ℕ, _*_}
 use mathlib.Core.Option.{Option, none, some}
 use mathlib.Core.List.{List, [], _∷_, _++_, map}
@@ -77,7 +78,12 @@ steppedRows none e = record {
   nexts = nextBytes (rowSteps (given (e .circuit)) (e .rows) (e .inputs));
   outputs = outputBytes (rowSteps (given (e .circuit)) (e .rows) (e .inputs));
 }
-steppedRows (some r) e = record { answer = stepped.Refused r; scratch = cleared (e .circuit .scratch); nexts = e .nexts; outputs = e .outputs }
+steppedRows (some r) e = record {
+  answer = stepped.Refused r;
+  scratch = cleared (e .circuit .scratch);
+  nexts = e .nexts;
+  outputs = e .outputs;
+}
 
 abbrev pub stepRows : RowsEntry → RowsExit
 stepRows e =
@@ -97,7 +103,8 @@ pub record RowReportExit : Type 0 where
   pub report : List ℕ
 
 abbrev pub rowReportStage : RowReportEntry → Option Refusal
-rowReportStage e = firstOf (manyRows (e .rows) ∷ stage BadVector (vectorOf 2 (e .rows * e .circuit .counts .I) (e .inputs)) ∷ [])
+rowReportStage e =
+    firstOf (manyRows (e .rows) ∷ stage BadVector (vectorOf 2 (e .rows * e .circuit .counts .I) (e .inputs)) ∷ [])
 
 abbrev pub reportedRows : Option Refusal → RowReportEntry → RowReportExit
 reportedRows none e = record {
@@ -105,7 +112,8 @@ reportedRows none e = record {
   scratch = cleared (e .circuit .scratch);
   report = filled (e .report) (rowReport (given (e .circuit)) (rowSteps (given (e .circuit)) (e .rows) (e .inputs)));
 }
-reportedRows (some r) e = record { answer = stepped.Refused r; scratch = cleared (e .circuit .scratch); report = cleared (e .report) }
+reportedRows (some r) e =
+    record { answer = stepped.Refused r; scratch = cleared (e .circuit .scratch); report = cleared (e .report) }
 
 abbrev pub reportRows : RowReportEntry → RowReportExit
 reportRows e =

@@ -119,7 +119,8 @@ first c = map resetValue (c .resets)
 abbrev pub vectorsOf : Circuit → ℕ → List ℕ → List (List Value)
 vectorsOf c number bytes = map (map valueOf) (rowsOf (length (c .inputs)) number bytes)
 
--- the witness question in three values: 1 on some output or bad state at some step, every constraint being 1 there and at all steps before
+-- the witness question in three values: 1 on some output or bad state at some step, every constraint being 1 there
+-- and at all steps before
 abbrev pub is1 : Value → Bool
 is1 v0 = false
 is1 v1 = true

@@ -24,7 +24,8 @@ isKind V19 b = eqb b 105 || (eqb b 108 || (eqb b 111 || (eqb b 98 || eqb b 99)))
 
 -- the count of a letter's list
 abbrev pub countOf : Counts → ℕ → ℕ
-countOf n b = cond (eqb b 105) (n .I) (cond (eqb b 108) (n .L) (cond (eqb b 111) (n .O) (cond (eqb b 98) (n .B) (n .C))))
+countOf n b =
+    cond (eqb b 105) (n .I) (cond (eqb b 108) (n .L) (cond (eqb b 111) (n .O) (cond (eqb b 98) (n .B) (n .C))))
 
 abbrev pub named : Symbol → List Symbol → Bool
 named s [] = false

@@ -33,7 +33,8 @@ textBody v file n at =
 abbrev pub textLines : List (List ℕ) → Circuit → List ℕ
 textLines lats c =
     linesOf (map oneLine (c .inputs)) ++ (linesOf lats
-    ++ (linesOf (map oneLine (c .outputs)) ++ (linesOf (map oneLine (c .bads)) ++ (linesOf (map oneLine (c .constraints))
+    ++ (linesOf (map oneLine (c .outputs)) ++ (linesOf (map oneLine (c .bads))
+    ++ (linesOf (map oneLine (c .constraints))
     ++ linesOf (map gateLine (c .gates))))))
 
 abbrev pub textLatches : Circuit → List (List ℕ)

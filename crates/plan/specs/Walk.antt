@@ -8,7 +8,8 @@ use Rattle.plan.specs.Literals.{varOf}
 use Rattle.plan.specs.Circuit.{Gate, has}
 use Rattle.plan.specs.Depends.{find}
 
--- v is walked to: the walk starts there, or comes there from the gate of a variable that is walked to; `on` says where a gate leads
+-- v is walked to: the walk starts there, or comes there from the gate of a variable that is walked to; `on` says
+-- where a gate leads
 pub data Walked (on : Gate → List ℕ) (gs : List Gate) (from : List ℕ) : ℕ → Type 0 where
   start : {v : ℕ} → has v from ≡ true → Walked on gs from v
   onward : {u v : ℕ} {g : Gate} → Walked on gs from u → find u gs ≡ some g → has v (on g) ≡ true → Walked on gs from v

@@ -53,8 +53,8 @@ pub record WholeExit : Type 0 where
   pub scratch : List ℕ
   pub out : List ℕ
 
--- the circuit of the file, by all that a reader checks; then 4 for the tables to make a circuit in and for scratch, of which a binary file may need
--- less to be read. The position is the tail's
+-- the circuit of the file, by all that a reader checks; then 4 for the tables to make a circuit in and for scratch,
+-- of which a binary file may need less to be read. The position is the tail's
 abbrev pub loaded : WholeEntry → List ℕ → Parse Circuit
 loaded e file = readToWork file (lengthsOf (e .read) (e .scratch)) (lengthsOf (e .made) (e .scratch))
 
@@ -187,7 +187,8 @@ tracedBy none e =
       state = map codeOf (stateAfter c state (nextLines e));
       out = put (e .out) 0 (stepLines (run c state (nextLines e)));
     }
-tracedBy (some r) e = record { answer = traced.Refused r; scratch = cleared (e .circuit .scratch); state = e .state; out = e .out }
+tracedBy (some r) e =
+    record { answer = traced.Refused r; scratch = cleared (e .circuit .scratch); state = e .state; out = e .out }
 
 abbrev pub trace : TraceEntry → TraceExit
 trace e =

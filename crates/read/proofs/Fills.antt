@@ -31,11 +31,13 @@ use Rattle.read.specs.body.Rest.{rest, Room, LoadedSays}
 use Rattle.read.proofs.body.After.{body-passed, body-refused}
 
 -- the counts of what is read are the header's
-body-counts : (v : Version) (file : List ℕ) → Bytes file → (f : Form) (n : Counts) (at : ℕ) (c : Circuit) (e : ℕ) → adds f n ≡ true → body v file f n at ≡ got c e → countsOf c ≡ n
+body-counts : (v : Version) (file : List ℕ) → Bytes file → (f : Form) (n : Counts) (at : ℕ) (c : Circuit) (e : ℕ) → adds f n ≡ true
+    → body v file f n at ≡ got c e → countsOf c ≡ n
 body-counts v file bytes text n at c e s q = text-took file v n at c e q .counts
 body-counts v file bytes binary n at c e s q = binary-took file bytes v n at c e (eqb-true _ _ s) q .0 .counts
 
-rest-counts : (v : Version) (file : List ℕ) → Bytes file → (f : Form) (n : Counts) (at : ℕ) (c : Circuit) (e : ℕ) → adds f n ≡ true → rest v file f n at ≡ got c e → countsOf c ≡ n
+rest-counts : (v : Version) (file : List ℕ) → Bytes file → (f : Form) (n : Counts) (at : ℕ) (c : Circuit) (e : ℕ) → adds f n ≡ true
+    → rest v file f n at ≡ got c e → countsOf c ≡ n
 rest-counts v file bytes f n at c e s q =
     let t = then-got (body v file f n at) _ c e q in
     let u = then-got (tailAt v file n (t .1)) _ c e (t .3) in
@@ -59,7 +61,8 @@ module _ (v : Version) (file : List ℕ) (t t′ : Tables) (scratch : List ℕ) 
       whole : readFile v file (lengthsOf t scratch) ≡ rest v file f n at
       whole = rw (e, s)
 
-      pub rest-refused : (k : Refusal) (r : Passed) → BodySays t (rest v file f n at) r t′ → r ≡ passed.Refused k → LoadedSays t (readFile v file (lengthsOf t scratch)) (Refused k) t′
+      pub rest-refused : (k : Refusal) (r : Passed) → BodySays t (rest v file f n at) r t′ → r ≡ passed.Refused k
+          → LoadedSays t (readFile v file (lengthsOf t scratch)) (Refused k) t′
       rest-refused k r h q =
           loaded-refused t t′ (readFile v file (lengthsOf t scratch)) k
           (whole ∙ body-refused t (rest v file f n at) k t′ (subst (λ (x : Passed). BodySays t (rest v file f n at) x t′) q h))

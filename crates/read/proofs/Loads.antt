@@ -42,7 +42,8 @@ by-refusal e t′ (refused j) r h k q =
     ap (λ (x : Refusal). record { answer = Refused x; tables = allCleared (e .tables); scratch = cleared (e .scratch) }) same
 
 pub not-accepted : (v : Version) (e : ReadEntry) (t′ : Tables) (r : Loaded)
-    → LoadedSays (allCleared (e .tables)) (readFile v (e .file) (lengthsOf (allCleared (e .tables)) (cleared (e .scratch)))) r t′ → (k : Refusal) → r ≡ Refused k
+    → LoadedSays (allCleared (e .tables)) (readFile v (e .file) (lengthsOf (allCleared (e .tables)) (cleared (e .scratch)))) r t′ → (k : Refusal) → r
+    ≡ Refused k
     → record { answer = Refused k; tables = allCleared (e .tables); scratch = cleared (e .scratch) } ≡ loadAs v e
 not-accepted v e t′ r h k q =
     by-refusal e t′ (readFile v (e .file) (lengthsOf (allCleared (e .tables)) (cleared (e .scratch)))) r h k q
@@ -74,5 +75,6 @@ module _ (v : Version) (e : ReadEntry) (T t′ : Tables) (S : List ℕ) (r : Loa
   pub load-accepted : (n : Counts) (start : ℕ) → r ≡ Accepted n start → record { answer = r; tables = t′; scratch = scratch } ≡ loadAs v e
   load-accepted n start q = (λ i. record { answer = q i; tables = t′; scratch = s-is i }) ∙ accepted v e t′ r carried n start q
 
-  pub load-refused : (k : Refusal) → r ≡ Refused k → (x : Tables) → x ≡ allCleared (e .tables) → record { answer = Refused k; tables = x; scratch = scratch } ≡ loadAs v e
+  pub load-refused : (k : Refusal) → r ≡ Refused k → (x : Tables) → x ≡ allCleared (e .tables)
+      → record { answer = Refused k; tables = x; scratch = scratch } ≡ loadAs v e
   load-refused k q x x-is = (λ i. record { answer = Refused k; tables = x-is i; scratch = s-is i }) ∙ not-accepted v e t′ r carried k q

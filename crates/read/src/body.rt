@@ -2,6 +2,7 @@
 ghost use mathlib.Core.Path.{_≡_};
 ghost use Prim.Native.Nat.{_+_, _≤_};
 ghost use Rattle.plan.specs.Circuit.{seven};
+ghost use Rattle.plan.specs.Lent.{before, after};
 ghost use Rattle.plan.specs.Header.{text, binary};
 ghost use Rattle.laws.proofs.Held.{BodySays};
 ghost use Rattle.read.specs.body.Rest.{rest, Room};
@@ -14,8 +15,8 @@ use plan::Counts;
 use plan::Passed;
 use plan::Version;
 
-// What follows the header of a text file: the body, the tail, then 7 and 8. Marks of symbols stand at the start of the scratch, marks of
-// variables after them.
+// What follows the header of a text file: the body, the tail, then 7 and 8. Marks of symbols stand at the start of
+// the scratch, marks of variables after them.
 pub fn rest_of_text(
     version: Version,
     file: &[u8],
@@ -30,15 +31,13 @@ pub fn rest_of_text(
     constraints: &mut [u32],
     scratch: &mut [u32],
 ) -> Passed
-    requires { ⌜ Room text n
-        (seven (now inputs) (now latches) (now outputs) (now gates) (now resets) (now bads) (now constraints)) (now scratch) ⌝ }
+    requires { ⌜ Room text n (seven (now inputs) (now latches) (now outputs) (now gates) (now resets) (now bads)
+        (now constraints)) (now scratch) ⌝ }
     requires { ⌜ n .I + n .L + n .A ≤ n .M ⌝ }
     ensures { λ r. ⌜ BodySays
-        (seven (now (inputs .entry)) (now (latches .entry)) (now (outputs .entry)) (now (gates .entry))
-        (now (resets .entry)) (now (bads .entry)) (now (constraints .entry)))
+        (before inputs latches outputs gates resets bads constraints)
         (rest version (now (file .entry)) text n at) r
-        (seven (now (inputs .exit)) (now (latches .exit)) (now (outputs .exit)) (now (gates .exit))
-        (now (resets .exit)) (now (bads .exit)) (now (constraints .exit))) ⌝ }
+        (after inputs latches outputs gates resets bads constraints) ⌝ }
 {
     let base = n.I + n.L + n.O + n.B + n.C;
     let read = read_text(
@@ -78,8 +77,8 @@ pub fn rest_of_text(
     }
 }
 
-// What follows the header of a binary file: the body and the tail. Marks of symbols are all that stands in the scratch, from its start. The
-// order of its variables leaves nothing to 6, 7 and 8.
+// What follows the header of a binary file: the body and the tail. Marks of symbols are all that stands in the
+// scratch, from its start. The order of its variables leaves nothing to 6, 7 and 8.
 pub fn rest_of_binary(
     version: Version,
     file: &[u8],
@@ -94,15 +93,13 @@ pub fn rest_of_binary(
     constraints: &mut [u32],
     scratch: &mut [u32],
 ) -> Passed
-    requires { ⌜ Room binary n
-        (seven (now inputs) (now latches) (now outputs) (now gates) (now resets) (now bads) (now constraints)) (now scratch) ⌝ }
+    requires { ⌜ Room binary n (seven (now inputs) (now latches) (now outputs) (now gates) (now resets) (now bads)
+        (now constraints)) (now scratch) ⌝ }
     requires { ⌜ n .I + n .L + n .A ≡ n .M ⌝ }
     ensures { λ r. ⌜ BodySays
-        (seven (now (inputs .entry)) (now (latches .entry)) (now (outputs .entry)) (now (gates .entry))
-        (now (resets .entry)) (now (bads .entry)) (now (constraints .entry)))
+        (before inputs latches outputs gates resets bads constraints)
         (rest version (now (file .entry)) binary n at) r
-        (seven (now (inputs .exit)) (now (latches .exit)) (now (outputs .exit)) (now (gates .exit))
-        (now (resets .exit)) (now (bads .exit)) (now (constraints .exit))) ⌝ }
+        (after inputs latches outputs gates resets bads constraints) ⌝ }
 {
     let base = n.I + n.L + n.O + n.B + n.C;
     let read = read_binary(

@@ -9,7 +9,7 @@ ghost use Rattle.plan.specs.Reading.{readFile};
 ghost use Rattle.plan.specs.Outcome.{Says, loadAs, readAs, formOf};
 ghost use Rattle.laws.proofs.Held.{BodySays};
 ghost use Rattle.read.specs.body.Rest.{rest, Room, LoadedSays};
-ghost use Rattle.plan.specs.Lent.{Loads};
+ghost use Rattle.plan.specs.Lent.{before, after, toRead, Loads};
 use crate::body::rest_of_binary;
 use crate::body::rest_of_text;
 use answers::numbers::no_counts;
@@ -46,15 +46,13 @@ fn rest_of(
     constraints: &mut [u32],
     scratch: &mut [u32],
 ) -> Passed
-    requires { ⌜ Room (formOf binary) n
-        (seven (now inputs) (now latches) (now outputs) (now gates) (now resets) (now bads) (now constraints)) (now scratch) ⌝ }
+    requires { ⌜ Room (formOf binary) n (seven (now inputs) (now latches) (now outputs) (now gates) (now resets)
+        (now bads) (now constraints)) (now scratch) ⌝ }
     requires { ⌜ adds (formOf binary) n ≡ true ⌝ }
     ensures { λ r. ⌜ BodySays
-        (seven (now (inputs .entry)) (now (latches .entry)) (now (outputs .entry)) (now (gates .entry))
-        (now (resets .entry)) (now (bads .entry)) (now (constraints .entry)))
+        (before inputs latches outputs gates resets bads constraints)
         (rest version (now (file .entry)) (formOf binary) n at) r
-        (seven (now (inputs .exit)) (now (latches .exit)) (now (outputs .exit)) (now (gates .exit))
-        (now (resets .exit)) (now (bads .exit)) (now (constraints .exit))) ⌝ }
+        (after inputs latches outputs gates resets bads constraints) ⌝ }
 {
     if binary {
         return rest_of_binary(
@@ -88,7 +86,8 @@ fn rest_of(
     )
 }
 
-// The header by 1, 2, 21, 3, then 4, then the file in order, then 7, then 8. After a refusal the tables hold what was read before it.
+// The header by 1, 2, 21, 3, then 4, then the file in order, then 7, then 8. After a refusal the tables hold what
+// was read before it.
 fn fill(
     version: Version,
     file: &[u8],
@@ -102,13 +101,10 @@ fn fill(
     scratch: &mut [u32],
 ) -> Loaded
     requires { ⌜ ((i : ℕ) → getD (now scratch) i 0 ≡ 0) ⌝ }
-    ensures { λ r. ⌜ LoadedSays
-        (seven (now (inputs .entry)) (now (latches .entry)) (now (outputs .entry)) (now (gates .entry))
-        (now (resets .entry)) (now (bads .entry)) (now (constraints .entry)))
-        (readFile version (now (file .entry)) (lengthsOf (seven (now (inputs .entry)) (now (latches .entry)) (now (outputs .entry)) (now (gates .entry))
-        (now (resets .entry)) (now (bads .entry)) (now (constraints .entry))) (now (scratch .entry)))) r
-        (seven (now (inputs .exit)) (now (latches .exit)) (now (outputs .exit)) (now (gates .exit))
-        (now (resets .exit)) (now (bads .exit)) (now (constraints .exit))) ⌝ }
+    ensures { λ r. ⌜ LoadedSays (before inputs latches outputs gates resets bads constraints)
+        (readFile version (now (file .entry)) (lengthsOf
+        (before inputs latches outputs gates resets bads constraints) (now (scratch .entry)))) r
+        (after inputs latches outputs gates resets bads constraints) ⌝ }
 {
     match read_header(version, file) {
         Headed::Refused(r) => Loaded::Refused(r),
@@ -141,8 +137,8 @@ fn fill(
     }
 }
 
-// Reads a file by a version of the report into tables 1 to 4 and 7 to 9, whatever they hold on entry: the counts and where the tail starts, or
-// a refusal. In 2007 resets are 0, and there are no bad states and no constraints.
+// Reads a file by a version of the report into tables 1 to 4 and 7 to 9, whatever they hold on entry: the counts
+// and where the tail starts, or a refusal. In 2007 resets are 0, and there are no bad states and no constraints.
 pub fn load(
     version: Version,
     file: &[u8],
@@ -179,8 +175,8 @@ pub fn load(
     read
 }
 
-// Reads a file by a version of the report into tables 1 to 4 and 7 to 9 and hands back its tail, which is empty after a refusal. The answer is
-// the number, 0 if the file is accepted, the place and the counts.
+// Reads a file by a version of the report into tables 1 to 4 and 7 to 9 and hands back its tail, which is empty
+// after a refusal. The answer is the number, 0 if the file is accepted, the place and the counts.
 pub fn read<'a>(
     version: Version,
     file: &'a [u8],
@@ -195,17 +191,11 @@ pub fn read<'a>(
     answer: &mut [u64; 9],
 ) -> &'a [u8]
     ensures { λ r. ⌜ Says (readAs version)
-        (record {
-          file = now (file .entry);
-          tables = (seven (now (inputs .entry)) (now (latches .entry)) (now (outputs .entry)) (now (gates .entry))
-              (now (resets .entry)) (now (bads .entry)) (now (constraints .entry)));
-          scratch = now (scratch .entry);
-        })
+        (toRead file inputs latches outputs gates resets bads constraints scratch)
         (record {
           answer = now (answer .exit);
           tail = now r;
-          tables = (seven (now (inputs .exit)) (now (latches .exit)) (now (outputs .exit)) (now (gates .exit))
-              (now (resets .exit)) (now (bads .exit)) (now (constraints .exit)));
+          tables = after inputs latches outputs gates resets bads constraints;
           scratch = now (scratch .exit);
         }) ⌝ }
 {

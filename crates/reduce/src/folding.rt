@@ -93,7 +93,8 @@ fn fold_gate(
 ) -> usize
     requires { ⌜ Roomy (now gates) (now to) (now scratch) base w k ⌝ }
     requires { ⌜ Held (now gates) (now to) (now scratch) base w k n ⌝ }
-    ensures { λ r. ⌜ Stepped (now (gates .entry)) (now (to .entry)) (now (to .exit)) (now (scratch .exit)) base w k n r ⌝ }
+    ensures { λ r. ⌜ Stepped (now (gates .entry)) (now (to .entry)) (now (to .exit))
+        (now (scratch .exit)) base w k n r ⌝ }
 {
     let a = becomes(scratch, Lit::at(gates[3 * k + 1]));
     let b = becomes(scratch, Lit::at(gates[3 * k + 2]));
@@ -134,8 +135,8 @@ fn name_gates(to: &mut [u32], base: usize, n: usize)
     }
 }
 
-// Folds a gates over the variables below base: the retained gates and their number, and, first in the scratch, what each variable
-// became.
+// Folds a gates over the variables below base: the retained gates and their number, and, first in the scratch, what
+// each variable became.
 pub fn fold_gates(
     gates: &[u32],
     base: usize,

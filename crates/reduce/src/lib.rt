@@ -1,4 +1,5 @@
-// Reduction: folds gates in order, and writes what is left of the circuit into tables lent for writing (the paper, reduction).
+// Reduction: folds gates in order, and writes what is left of the circuit into tables lent for writing (the paper,
+// reduction).
 ghost use mathlib.Core.Path.{_≡_};
 ghost use Rattle.plan.specs.Outcome.{reduction};
 ghost use Rattle.reduce.specs.Becoming.{Replaceable, replaced};
@@ -54,9 +55,10 @@ pub fn three_become(
     all_become(c, k, became, to_c);
 }
 
-// The reduced circuit in the tables lent for writing, which are zero past it, and its counts; or the first refusal, with 15, after which
-// they are zero throughout. Scratch is zero afterwards. Gates come first, in order, and the literals of the other tables follow; a
-// constant, an input and a latch became themselves, so that a table is replaced whole.
+// The reduced circuit in the tables lent for writing, which are zero past it, and its counts; or the first refusal,
+// with 15, after which they are zero throughout. Scratch is zero afterwards. Gates come first, in order, and the
+// literals of the other tables follow; a constant, an input and a latch became themselves, so that a table is
+// replaced whole.
 pub fn reduce(
     n: Counts,
     inputs: &[u32],
@@ -75,8 +77,8 @@ pub fn reduce(
     to_constraints: &mut [u32],
     scratch: &mut [u32],
 ) -> Made
-    ensures { λ r. ⌜ Makes reduction n inputs latches outputs gates resets bads constraints «to_inputs» «to_latches» «to_outputs» «to_gates»
-        «to_resets» «to_bads» «to_constraints» scratch r ⌝ }
+    ensures { λ r. ⌜ Makes reduction n inputs latches outputs gates resets bads constraints «to_inputs» «to_latches»
+        «to_outputs» «to_gates» «to_resets» «to_bads» «to_constraints» scratch r ⌝ }
 {
     clear_all(
         to_inputs,

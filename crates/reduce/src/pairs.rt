@@ -1,10 +1,9 @@
-// Retained gates by their pair of right sides. The tree is a digital search tree: from the pair's root the bits of the smaller side lead
-// on, so that a pair is found in at most 22 steps, whatever gates were retained before. The smaller side moves the root on from the
-// larger side, over all roots, so that gates that share a side don't share a root.
-//
-// A gate hangs at a slot: at one of 2 × w roots, which are the scratch's words from w on, or at another gate's link for a bit. A gate's
-// link for the bit 1 is a word of the scratch from 3 × w on; for the bit 0 it is the first word of the gate's own row, until its left
-// side is written there.
+// Retained gates by their pair of right sides. The tree is a digital search tree: from the pair's root the bits of
+// the smaller side lead on, so that a pair is found in at most 22 steps, whatever gates were retained before. The
+// smaller side moves the root on from the larger side, over all roots, so that gates that share a side don't share
+// a root.  A gate hangs at a slot: at one of 2 × w roots, which are the scratch's words from w on, or at another
+// gate's link for a bit. A gate's link for the bit 1 is a word of the scratch from 3 × w on; for the bit 0 it is
+// the first word of the gate's own row, until its left side is written there.
 ghost use mathlib.Core.Path.{_≡_};
 ghost use mathlib.Core.Bool.{_&&_};
 ghost use Prim.Native.Nat.{suc, _+_, _*_, _<_, _≤_};
@@ -45,7 +44,8 @@ pub fn left_side(base: usize, i: usize) -> Lit
 // Whether gate i has the sides x and y.
 fn has_sides(gates: &[u32], i: usize, x: Lit, y: Lit) -> bool
     requires { ⌜ 3 * i + 3 ≤ length (now gates) ⌝ }
-    ensures { λ r. ⌜ r ≡ (eqb (gateAt (now (gates .entry)) i .rhs0) (wordOf x) && eqb (gateAt (now (gates .entry)) i .rhs1) (wordOf y)) ⌝ }
+    ensures { λ r. ⌜ r ≡ (eqb (gateAt (now (gates .entry)) i .rhs0) (wordOf x) && eqb
+        (gateAt (now (gates .entry)) i .rhs1) (wordOf y)) ⌝ }
 {
     if gates[3 * i + 1] != x.word() {
         return false;
@@ -153,8 +153,8 @@ fn set_slot(gates: &mut [u32], scratch: &mut [u32], w: usize, slot: Slot, n: usi
 pub fn hang(gates: &mut [u32], scratch: &mut [u32], w: usize, slot: Slot, n: usize, x: Lit, y: Lit)
     requires { ⌜ Room (now gates) (now scratch) w n ⌝ }
     requires { ⌜ Within w n slot ⌝ }
-    ensures { λ _. ⌜ (now (gates .exit) ≡ stored (gatesHung (now (gates .entry)) w (numberOf w slot) n) n (wordOf x) (wordOf y))
-        × (now (scratch .exit) ≡ scratchHung (now (scratch .entry)) w (numberOf w slot) n) ⌝ }
+    ensures { λ _. ⌜ (now (gates .exit) ≡ stored (gatesHung (now (gates .entry)) w (numberOf w slot) n) n (wordOf x)
+        (wordOf y)) × (now (scratch .exit) ≡ scratchHung (now (scratch .entry)) w (numberOf w slot) n) ⌝ }
 {
     set_slot(gates, scratch, w, slot, n);
     gates[3 * n + 1] = x.word();

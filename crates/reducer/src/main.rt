@@ -1,6 +1,6 @@
 // Writes plan.in reduced and in binary form to standard output, or the line of the refusal
-// (the paper, programs). 14, 13, the reader's refusals, 4 and 11 are decided by making::reducing.
-use making::reducing;
+// (the paper, programs). 14, 13, the reader's refusals, 4 and 11 are decided by making::reduce_whole.
+use making::reduce_whole;
 
 fn main() {
     let mut file = [0u8; 65537];
@@ -22,7 +22,7 @@ fn main() {
     let mut made_constraints = [0u32; 4096];
     let mut scratch = [0u32; 16384];
     let mut out = [0u8; 65536];
-    let answer = reducing::reduce_whole(
+    let answer = reduce_whole(
         office::readable(plan),
         &file[0..n],
         &mut inputs,

@@ -56,7 +56,8 @@ module _ (e : ReportEntry) where
 
       pub refused-long : mostSteps < e .number → checked.Refused (LongInput mostSteps) ≡ checkedBy (firstOf (reportStages e))
       refused-long h =
-          sym (ap checkedBy (past ∙ ap (λ (t : Bool). firstOf (stage LongInput (failingAt mostSteps t) ∷ listStage list ∷ [])) (lt-leb (e .number) mostSteps h)))
+          sym (ap checkedBy (past ∙ ap (λ (t : Bool). firstOf (stage LongInput (failingAt mostSteps t) ∷ listStage list ∷ []))
+          (lt-leb (e .number) mostSteps h)))
 
       module _ (h : e .number ≤ mostSteps) where
         by-list : (t : Bool) → whole ≡ t → firstOf (reportStages e) ≡ firstOf (none ∷ stage BadVector (vector 2 t) ∷ [])

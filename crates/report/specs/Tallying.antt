@@ -15,8 +15,8 @@ use Rattle.report.specs.needles.Tally.{kept}
 abbrev pub tally : Counts → List Step → List ℕ
 tally n steps = inTurn (λ i. kept (outputAlong steps i)) (n .O) ++ inTurn (λ i. kept (latchAlong steps i)) (n .L)
 
--- a turn: tables that hold an accepted circuit in binary order, scratch that holds a state between two steps, a vector, and table 6, which holds the
--- words of all needles after fewer steps than a report may have
+-- a turn: tables that hold an accepted circuit in binary order, scratch that holds a state between two steps, a
+-- vector, and table 6, which holds the words of all needles after fewer steps than a report may have
 pub record Turns (n : Counts) (latches outputs gates scratch ins six : List ℕ) : Type 0 where
   pub others : Tables
   pub state : List Value
@@ -36,7 +36,8 @@ pub record Turned (n : Counts) (c : Circuit) (s i : List Value) (done : List Ste
   pub held : six ≡ tally n (done ++ (stepOf c s i ∷ [])) ++ rest
 
 -- the same before the first vector of a whole list
-pub record Tallies (n : Counts) (latches outputs gates scratch : List ℕ) (number : ℕ) (bytes six : List ℕ) : Type 0 where
+pub record Tallies (n : Counts) (latches outputs gates scratch : List ℕ) (number : ℕ)
+    (bytes six : List ℕ) : Type 0 where
   pub others : Tables
   pub state : List Value
   pub runs : Runs n (these others latches outputs gates)
@@ -49,7 +50,8 @@ pub record Tallies (n : Counts) (latches outputs gates scratch : List ℕ) (numb
   pub held : six ≡ tally n [] ++ rest
 
 -- the same before the first state stands
-pub record Fills (n : Counts) (latches outputs gates resets scratch : List ℕ) (number : ℕ) (bytes six : List ℕ) : Type 0 where
+pub record Fills (n : Counts) (latches outputs gates resets scratch : List ℕ) (number : ℕ)
+    (bytes six : List ℕ) : Type 0 where
   pub inputs : List ℕ
   pub bads : List ℕ
   pub constraints : List ℕ

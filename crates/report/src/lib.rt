@@ -1,5 +1,5 @@
-// The needle report: a list of input vectors is stepped from the state of the resets, and each output's and each latch's values are counted
-// (the paper, the needle report).
+// The needle report: a list of input vectors is stepped from the state of the resets, and each output's and each
+// latch's values are counted (the paper, the needle report).
 ghost use mathlib.Core.Path.{_≡_};
 ghost use mathlib.Core.List.{List, [], _++_, map};
 ghost use Prim.Native.Nat.{ℕ, _+_, _*_};
@@ -32,7 +32,8 @@ pub mod needles;
 // The most steps of a report.
 const MOST: usize = 65536;
 
-// Whether a table 6 of these words is too short for four for each output and each latch. A division, as the counts may be any numbers.
+// Whether a table 6 of these words is too short for four for each output and each latch. A division, as the counts
+// may be any numbers.
 pub fn too_few(words: usize, n: Counts) -> bool
     ensures { λ r. ⌜ r ≡ ltb words (4 * (n .O + n .L)) ⌝ }
 {
@@ -55,10 +56,10 @@ fn turn(
 )
     requires { ⌜ Turns n (now latches) (now outputs) (now gates) (now scratch) (now ins) (now six) ⌝ }
     ensures { λ _. ⌜ ((x : Tables) (s : List Value) (done : List Step) (rest : List ℕ)
-        → Runs n (these x (now (latches .entry)) (now (outputs .entry)) (now (gates .entry)))
-        → length s ≡ n .L → Rests n s (now (scratch .entry)) → now (six .entry) ≡ tally n done ++ rest
-        → Turned n (circuitOf n (these x (now (latches .entry)) (now (outputs .entry)) (now (gates .entry)))) s (map valueOf (now (ins .entry)))
-        done rest (now (scratch .exit)) (now (six .exit))) ⌝ }
+        → Runs n (these x (now (latches .entry)) (now (outputs .entry)) (now (gates .entry))) → length s ≡ n .L
+        → Rests n s (now (scratch .entry)) → now (six .entry) ≡ tally n done ++ rest
+        → Turned n (circuitOf n (these x (now (latches .entry)) (now (outputs .entry)) (now (gates .entry)))) s
+        (map valueOf (now (ins .entry))) done rest (now (scratch .exit)) (now (six .exit))) ⌝ }
 {
     let rows = 4 * n.O;
     count_all(scratch, 1 + n.I, n.L, rows, six);
@@ -80,10 +81,10 @@ fn tally(
 )
     requires { ⌜ Tallies n (now latches) (now outputs) (now gates) (now scratch) number (now bytes) (now six) ⌝ }
     ensures { λ _. ⌜ ((x : Tables) (s : List Value) (rest : List ℕ)
-        → Runs n (these x (now (latches .entry)) (now (outputs .entry)) (now (gates .entry)))
-        → length s ≡ n .L → Rests n s (now (scratch .entry)) → now (six .entry) ≡ tally n [] ++ rest
-        → now (six .exit) ≡ tally n (let c = circuitOf n (these x (now (latches .entry)) (now (outputs .entry)) (now (gates .entry))) in
-        run c s (vectorsOf c number (now (bytes .entry)))) ++ rest) ⌝ }
+        → Runs n (these x (now (latches .entry)) (now (outputs .entry)) (now (gates .entry))) → length s ≡ n .L
+        → Rests n s (now (scratch .entry)) → now (six .entry) ≡ tally n [] ++ rest → now (six .exit)
+        ≡ tally n (let c = circuitOf n (these x (now (latches .entry)) (now (outputs .entry)) (now (gates .entry)))
+        in run c s (vectorsOf c number (now (bytes .entry)))) ++ rest) ⌝ }
 {
     let mut at = 0;
     let mut k = 0;
@@ -107,11 +108,12 @@ fn fill(
     bytes: &[u8],
     six: &mut [u32],
 )
-    requires { ⌜ Fills n (now latches) (now outputs) (now gates) (now resets) (now scratch) number (now bytes) (now six) ⌝ }
+    requires { ⌜ Fills n (now latches) (now outputs) (now gates) (now resets) (now scratch) number (now bytes)
+        (now six) ⌝ }
     ensures { λ _. ⌜ ((inputs bads constraints rest : List ℕ)
-        → Runs n (seven inputs (now (latches .entry)) (now (outputs .entry)) (now (gates .entry)) (now (resets .entry)) bads constraints)
-        → now (six .entry) ≡ tally n [] ++ rest
-        → now (six .exit) ≡ reportOf (circuitOf n (seven inputs (now (latches .entry)) (now (outputs .entry)) (now (gates .entry))
+        → Runs n (seven inputs (now (latches .entry)) (now (outputs .entry)) (now (gates .entry))
+        (now (resets .entry)) bads constraints) → now (six .entry) ≡ tally n [] ++ rest → now (six .exit)
+        ≡ reportOf (circuitOf n (seven inputs (now (latches .entry)) (now (outputs .entry)) (now (gates .entry))
         (now (resets .entry)) bads constraints)) number (now (bytes .entry)) ++ rest) ⌝ }
 {
     start_values(n, resets, scratch);
@@ -119,7 +121,8 @@ fn fill(
     finish(n.O + n.L, six);
 }
 
-// 2, 3, 4 with a table 6 of these words, 5, 6, 7, 8, 15, then 13, then 12: whole vectors alone. Scratch is zero afterwards.
+// 2, 3, 4 with a table 6 of these words, 5, 6, 7, 8, 15, then 13, then 12: whole vectors alone. Scratch is zero
+// afterwards.
 fn judge(
     n: Counts,
     inputs: &[u32],
@@ -138,7 +141,8 @@ fn judge(
         (record {
           circuit = (record {
             counts = n;
-            tables = seven (now (inputs .entry)) (now (latches .entry)) (now (outputs .entry)) (now (gates .entry)) (now (resets .entry))
+            tables = seven (now (inputs .entry)) (now (latches .entry)) (now (outputs .entry)) (now (gates .entry))
+                (now (resets .entry))
                 (now (bads .entry)) (now (constraints .entry));
             scratch = now (scratch .entry);
           });
@@ -183,9 +187,10 @@ fn blank(six: &mut [u32])
     clear(six);
 }
 
-// The needle report: for each output, then for each latch, how many of `number` steps from the resets have it at 0, at 1, at x, and how many
-// differ from the step before. The circuit is checked once, and the whole list judged before the first step. Past these numbers, and after
-// a refusal throughout, table 6 is zero; scratch is zero afterwards.
+// The needle report: for each output, then for each latch, how many of `number` steps from the resets have it at 0,
+// at 1, at x, and how many differ from the step before. The circuit is checked once, and the whole list judged
+// before the first step. Past these numbers, and after a refusal throughout, table 6 is zero; scratch is zero
+// afterwards.
 pub fn report(
     n: Counts,
     inputs: &[u32],
@@ -200,7 +205,8 @@ pub fn report(
     bytes: &[u8],
     six: &mut [u32],
 ) -> Stepped
-    ensures { λ r. ⌜ Reports report n inputs latches outputs gates resets bads constraints scratch number bytes six r ⌝ }
+    ensures { λ r. ⌜ Reports report n inputs latches outputs gates resets bads constraints scratch number bytes six r
+        ⌝ }
 {
     blank(six);
     match judge(

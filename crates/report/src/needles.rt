@@ -1,5 +1,6 @@
-// The numbers of needles: how often each value was there, and how often it changed (the needle report). While a run goes on, the fourth word
-// of a needle holds in its last two bits the value of the step before, so that nothing but table 6 is asked for.
+// The numbers of needles: how often each value was there, and how often it changed (the needle report). While a run
+// goes on, the fourth word of a needle holds in its last two bits the value of the step before, so that nothing but
+// table 6 is asked for.
 ghost use mathlib.Core.Path.{_≡_};
 ghost use Prim.Native.Nat.{_+_, _*_, _/_, _%_, _≤_, _<_};
 ghost use lib.ListN.{length, take, drop};
@@ -27,10 +28,12 @@ fn change(last: u32, value: u32) -> u32
     (last / 4 + differs(last % 4, value)) * 4 + value
 }
 
-// One step more of one needle, whose four words start at `at`. The value's word, 1, 2 or 3, picks the count: no test on it decides the way.
+// One step more of one needle, whose four words start at `at`. The value's word, 1, 2 or 3, picks the count: no
+// test on it decides the way.
 fn count(value: u32, at: usize, six: &mut [u32])
     requires { ⌜ Counts1 value at (now six) ⌝ }
-    ensures { λ _. ⌜ now (six .exit) ≡ put (now (six .entry)) at (counted (take 4 (drop at (now (six .entry)))) value) ⌝ }
+    ensures { λ _. ⌜ now (six .exit) ≡ put (now (six .entry)) at
+        (counted (take 4 (drop at (now (six .entry)))) value) ⌝ }
 {
     let slot = at + (value - 1) as usize;
     six[slot] = six[slot] + 1;
@@ -41,7 +44,8 @@ fn count(value: u32, at: usize, six: &mut [u32])
 // One step more of n needles, whose words start at `at`, by the values in words from `from` on.
 pub fn count_all(t: &[u32], from: usize, n: usize, at: usize, six: &mut [u32])
     requires { ⌜ CountsAll (now t) from n at (now six) ⌝ }
-    ensures { λ _. ⌜ now (six .exit) ≡ put (now (six .entry)) at (countedAll (now (t .entry)) from n at (now (six .entry))) ⌝ }
+    ensures { λ _. ⌜ now (six .exit) ≡ put (now (six .entry)) at
+        (countedAll (now (t .entry)) from n at (now (six .entry))) ⌝ }
 {
     let mut row = at;
     let mut i = 0;

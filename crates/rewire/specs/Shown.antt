@@ -15,7 +15,8 @@ Shows w n bytes = (v : ℕ) → v < n → getD bytes v 0 ≡ codeOf (w v)
 
 -- from gate k on, each gate's value is the And of its right sides'
 pub record Follows (w : ℕ → Value) (gates : List ℕ) (base k a : ℕ) : Type 0 where
-  pub holds : (j : ℕ) → k < j + 1 → j < a → w (base + j) ≡ and (lit w (gateAt gates j .rhs0)) (lit w (gateAt gates j .rhs1))
+  pub holds : (j : ℕ) → k < j + 1 → j < a → w (base + j)
+      ≡ and (lit w (gateAt gates j .rhs0)) (lit w (gateAt gates j .rhs1))
 
 -- gate j has a row, and both its right sides have a byte
 pub record Row (gates : List ℕ) (j : ℕ) (values : List ℕ) : Type 0 where

@@ -1,5 +1,5 @@
-// One gate rewired at the desk: the edit is judged, its two right sides are stored, and the values from it upward are computed anew, in
-// one pass over the bytes on the screen (the paper, rewiring one gate).
+// One gate rewired at the desk: the edit is judged, its two right sides are stored, and the values from it upward
+// are computed anew, in one pass over the bytes on the screen (the paper, rewiring one gate).
 ghost use mathlib.Core.Path.{_≡_};
 ghost use mathlib.Core.List.{[], _∷_};
 ghost use Prim.Native.Nat.{ℕ, _+_, _*_, _<_, _≤_, min, max};
@@ -22,7 +22,8 @@ use plan::Stepped;
 use plan::Var;
 use step::codes::is_code;
 
-// A code, negated if the sign is 1: "0" and "1" differ in the lowest bit, and "x", which stays, alone has the bit of 64.
+// A code, negated if the sign is 1: "0" and "1" differ in the lowest bit, and "x", which stays, alone has the bit
+// of 64.
 fn signed_code(sign: u8, code: u8) -> u8
     ensures { λ r. ⌜ ((a : Value) → sign < 2 → code ≡ codeOf a → r ≡ codeOf (signedValue sign a)) ⌝ }
 {
@@ -41,7 +42,8 @@ fn and_code(x: u8, y: u8) -> u8
 // The code of a literal.
 fn code_at(values: &[u8], l: Lit) -> u8
     requires { ⌜ varOf (wordOf l) < length (now values) ⌝ }
-    ensures { λ r. ⌜ ((a : Value) → getD (now (values .entry)) (varOf (wordOf l)) 0 ≡ codeOf a → r ≡ codeOf (signedValue (signOf (wordOf l)) a)) ⌝ }
+    ensures { λ r. ⌜ ((a : Value) → getD (now (values .entry)) (varOf (wordOf l)) 0 ≡ codeOf a → r
+        ≡ codeOf (signedValue (signOf (wordOf l)) a)) ⌝ }
 {
     let v = l.var().index() as usize;
     let sign = l.sign() as u8;
@@ -80,11 +82,13 @@ fn wrong_leaf(values: &[u8], n: usize) -> Checked
     Checked::Good
 }
 
-// 23 among the gates, whose variables run on from `base`, where all values below are right: each is judged by those of its right sides.
+// 23 among the gates, whose variables run on from `base`, where all values below are right: each is judged by those
+// of its right sides.
 fn wrong_gate(gates: &[u32], a: usize, base: usize, values: &[u8]) -> Checked
     requires { ⌜ Ordered (now gates) a base (now values) ⌝ }
     requires { ⌜ Shows (valueOn (now values)) base (now values) ⌝ }
-    ensures { λ r. ⌜ r ≡ checkedBy (stage WrongValue (wrongFrom (gatesAt (now (gates .entry)) a) (now (values .entry)) base a)) ⌝ }
+    ensures { λ r. ⌜ r ≡ checkedBy (stage WrongValue
+        (wrongFrom (gatesAt (now (gates .entry)) a) (now (values .entry)) base a)) ⌝ }
 {
     let mut j = 0;
     while j < a {
@@ -100,7 +104,8 @@ fn wrong_gate(gates: &[u32], a: usize, base: usize, values: &[u8]) -> Checked
 fn wrong_value(gates: &[u32], a: usize, base: usize, values: &[u8]) -> Checked
     requires { ⌜ Ordered (now gates) a base (now values) ⌝ }
     requires { ⌜ 1 ≤ base ⌝ }
-    ensures { λ r. ⌜ r ≡ checkedBy (stage WrongValue (wrongFrom (gatesAt (now (gates .entry)) a) (now (values .entry)) 0 (base + a))) ⌝ }
+    ensures { λ r. ⌜ r ≡ checkedBy (stage WrongValue
+        (wrongFrom (gatesAt (now (gates .entry)) a) (now (values .entry)) 0 (base + a))) ⌝ }
 {
     let leaf = wrong_leaf(values, base);
     if let Checked::Refused(r) = leaf {
@@ -151,8 +156,8 @@ fn set_sides(gates: &mut [u32], gate: usize, rhs0: Lit, rhs1: Lit)
 fn recompute(gates: &[u32], k: usize, a: usize, base: usize, values: &mut [u8])
     requires { ⌜ Ordered (now gates) a base (now values) ⌝ }
     requires { ⌜ k ≤ a ⌝ }
-    ensures { λ _. ⌜ ((w : ℕ → Value) → Shows w (base + k) (now (values .entry)) → Follows w (now (gates .entry)) base k a
-        → Shows w (base + a) (now (values .exit))) ⌝ }
+    ensures { λ _. ⌜ ((w : ℕ → Value) → Shows w (base + k) (now (values .entry))
+        → Follows w (now (gates .entry)) base k a → Shows w (base + a) (now (values .exit))) ⌝ }
 {
     let mut j = k;
     while j < a {
@@ -161,8 +166,9 @@ fn recompute(gates: &[u32], k: usize, a: usize, base: usize, values: &mut [u8])
     }
 }
 
-// The gate gets the two right sides, in either order, and the values become those of a fresh step of the edited circuit on the same inputs
-// and state. On a refusal neither the gates' table nor a value changes; scratch is zero afterwards.
+// The gate gets the two right sides, in either order, and the values become those of a fresh step of the edited
+// circuit on the same inputs and state. On a refusal neither the gates' table nor a value changes; scratch is zero
+// afterwards.
 pub fn rewire(
     n: Counts,
     inputs: &[u32],
@@ -178,7 +184,8 @@ pub fn rewire(
     rhs1: u32,
     values: &mut [u8],
 ) -> Stepped
-    ensures { λ r. ⌜ Rewires rewiring n inputs latches outputs gates resets bads constraints scratch gate rhs0 rhs1 values r ⌝ }
+    ensures { λ r. ⌜ Rewires rewiring n inputs latches outputs gates resets bads constraints scratch gate rhs0 rhs1
+        values r ⌝ }
 {
     match check_in_order(
         n,

@@ -104,7 +104,8 @@ module _ (e : RowReportEntry) where
   right h q = simp (le-leb _ _ h, q)
 
   -- a: the answer of the checks without table 6; b: whether that is too short
-  module _ (a r : Checked) (b : Bool) (judged : a ≡ checkInOrder (e .circuit) .answer) (short : b ≡ ltb (length (e .report)) needed) (told : r ≡ withSixth a b) where
+  module _ (a r : Checked) (b : Bool) (judged : a ≡ checkInOrder (e .circuit) .answer) (short : b ≡ ltb (length (e .report)) needed)
+      (told : r ≡ withSixth a b) where
     says : r ≡ checkedBy (firstOf (sixthStages (e .circuit) needed (e .report)))
     says = told ∙ (ap (λ (x : Checked). withSixth x b) judged ∙ with-sixth (e .circuit) needed (e .report) b short)
 

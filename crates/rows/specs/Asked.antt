@@ -23,7 +23,8 @@ pub record Room (n : Counts) (latches outputs gates resets scratch : List ℕ) :
 -- 12 by the lengths of the buffers
 abbrev pub badRows : Counts → ℕ → ℕ → List ℕ → ℕ → Option ℕ
 badRows n rows nexts ins outs =
-    orElse (vector 1 (eqb nexts (rows * n .L))) (orElse (vectorOf 2 (rows * n .I) ins) (vector 3 (eqb outs (rows * n .O))))
+    orElse (vector 1 (eqb nexts (rows * n .L))) (orElse (vectorOf 2 (rows * n .I) ins)
+    (vector 3 (eqb outs (rows * n .O))))
 
 -- rows that have lanes, their inputs and buffers
 pub record Lists (n : Counts) (rows : ℕ) (nexts ins outs : List ℕ) : Type 0 where

@@ -1,8 +1,8 @@
-// Many rows at once: up to 64 input vectors are stepped once from the resets, one bit lane for each row (the paper, many rows). A plane is
-// 64 lanes in two words of scratch. Each literal has one, lit in the rows where the literal may be 1; where it may be 0 its negation may be 1.
-//
-// Between bytes and planes stand blocks of up to 64 columns. A byte of a block has the bits of one column in 8 rows, that of column j in rows
-// 8 g to 8 g + 7 at 64 g + j, so that what a row's bytes need stands side by side and is worked on many at once.
+// Many rows at once: up to 64 input vectors are stepped once from the resets, one bit lane for each row (the paper,
+// many rows). A plane is 64 lanes in two words of scratch. Each literal has one, lit in the rows where the literal
+// may be 1; where it may be 0 its negation may be 1.  Between bytes and planes stand blocks of up to 64 columns. A
+// byte of a block has the bits of one column in 8 rows, that of column j in rows 8 g to 8 g + 7 at 64 g + j, so
+// that what a row's bytes need stands side by side and is worked on many at once.
 ghost use mathlib.Core.Path.{_≡_};
 ghost use mathlib.Core.List.{[], _∷_};
 ghost use Prim.Native.Nat.{ℕ, _+_, _-_, _*_, _/_, _%_, _^_, _<_, _≤_};
@@ -14,15 +14,18 @@ ghost use Rattle.plan.specs.Circuit.{Tables, circuitOf};
 ghost use Rattle.plan.specs.Outcome.{put};
 ghost use Rattle.step.specs.sweep.Running.{Runs};
 ghost use Rattle.rows.specs.Planes.Planes.{bit, other, column};
-ghost use Rattle.rows.specs.lanes.Words.{planeAt, bothAt, planeWords, everyRow, byteOf, halfIn, wordIn, blockPlane, codeBy, codeAt};
-ghost use Rattle.rows.specs.lanes.Working.{Grows, Sweeps, Swept, There, gatePlanes, both, Ready, Holds, Shows, literalAt, codesOf, countsAt, countsOf};
+ghost use Rattle.rows.specs.lanes.Words.{planeAt, bothAt, planeWords, everyRow, byteOf, halfIn, wordIn};
+ghost use Rattle.rows.specs.lanes.Words.{blockPlane, codeBy, codeAt};
+ghost use Rattle.rows.specs.lanes.Working.{Grows, Sweeps, Swept, There, gatePlanes, both, Ready, Holds, Shows};
+ghost use Rattle.rows.specs.lanes.Working.{literalAt, codesOf, countsAt, countsOf};
 ghost use Rattle.rows.specs.lanes.Blocks.{Striped, Written, Packed, Block, Blocked};
 use plan::Counts;
 use plan::Lit;
 
 const FULL: u64 = 18446744073709551615;
 
-// 1 where a byte differs from a code, by a sum instead of a test: half of what is not 0, rounded up, and 127 make 128 or more.
+// 1 where a byte differs from a code, by a sum instead of a test: half of what is not 0, rounded up, and 127 make
+// 128 or more.
 fn other_than(code: u8, b: u8) -> u8
     ensures { λ r. ⌜ r ≡ other code b ⌝ }
 {
@@ -72,8 +75,8 @@ fn put_planes(one: u64, zero: u64, to: usize, t: &mut [u32])
 fn add_row(code: u8, bytes: &[u8], from: usize, w: usize, lit: u8, to: usize, block: &mut [u8])
     requires { ⌜ (from + w ≤ length (now bytes)) × (to + w ≤ length (now block)) ⌝ }
     requires { ⌜ ((j : ℕ) → j < w → getD (now block) (to + j) 0 + lit < 256) ⌝ }
-    ensures { λ _. ⌜ Written (λ j. getD (now (block .entry)) (to + j) 0 + other code (getD (now (bytes .entry)) (from + j) 0) * lit) to w
-        (now (block .entry)) (now (block .exit)) ⌝ }
+    ensures { λ _. ⌜ Written (λ j. getD (now (block .entry)) (to + j) 0 + other code
+        (getD (now (bytes .entry)) (from + j) 0) * lit) to w (now (block .entry)) (now (block .exit)) ⌝ }
 {
     let mut j = 0;
     while j < w {
@@ -135,7 +138,8 @@ fn word_of(block: &[u8], at: usize) -> u32
 fn put_columns(ones: &[u8], zeros: &[u8], w: usize, before: usize, t: &mut [u32])
     requires { ⌜ (w ≤ 64) × (512 ≤ length (now ones)) × (512 ≤ length (now zeros)) ⌝ }
     requires { ⌜ 4 * (before + w) ≤ length (now t) ⌝ }
-    ensures { λ _. ⌜ Grows before (blockPlane (now (ones .entry))) (blockPlane (now (zeros .entry))) w (now (t .entry)) (now (t .exit)) ⌝ }
+    ensures { λ _. ⌜ Grows before (blockPlane (now (ones .entry))) (blockPlane (now (zeros .entry))) w
+        (now (t .entry)) (now (t .exit)) ⌝ }
 {
     let mut to = 4 * before;
     let mut j = 0;
@@ -176,8 +180,8 @@ fn width(left: usize) -> usize
 // The inputs' planes, from the rows' bytes, behind the constant's.
 fn load_rows(bytes: &[u8], n: usize, rows: usize, t: &mut [u32])
     requires { ⌜ (rows ≤ 64) × (n * rows ≤ length (now bytes)) × (4 * (1 + n) ≤ length (now t)) ⌝ }
-    ensures { λ _. ⌜ Grows 1 (λ j. column 48 (now (bytes .entry)) j n rows) (λ j. column 49 (now (bytes .entry)) j n rows) n
-        (now (t .entry)) (now (t .exit)) ⌝ }
+    ensures { λ _. ⌜ Grows 1 (λ j. column 48 (now (bytes .entry)) j n rows)
+        (λ j. column 49 (now (bytes .entry)) j n rows) n (now (t .entry)) (now (t .exit)) ⌝ }
 {
     let mut j = 0;
     while j < n {
@@ -197,8 +201,8 @@ fn rows_but(reset: u32, code: u32) -> u64
     FULL
 }
 
-// The latches' planes, by their resets, behind those of `before` variables: in every row the same. A latch whose reset is its own literal
-// may be both.
+// The latches' planes, by their resets, behind those of `before` variables: in every row the same. A latch whose
+// reset is its own literal may be both.
 fn load_resets(resets: &[u32], before: usize, n: usize, t: &mut [u32])
     requires { ⌜ (n ≤ length (now resets)) × (4 * (before + n) ≤ length (now t)) ⌝ }
     ensures { λ _. ⌜ Grows before (λ j. everyRow (other 0 (getD (now (resets .entry)) j 0)))
@@ -221,7 +225,8 @@ fn put_gate(a: Lit, b: Lit, to: usize, t: &mut [u32])
     requires { ⌜ There (wordOf a) (now t) ⌝ }
     requires { ⌜ There (wordOf b) (now t) ⌝ }
     requires { ⌜ to + 4 ≤ length (now t) ⌝ }
-    ensures { λ _. ⌜ now (t .exit) ≡ put (now (t .entry)) to (planeWords (gatePlanes (now (t .entry)) (wordOf a) (wordOf b))) ⌝ }
+    ensures { λ _. ⌜ now (t .exit) ≡ put (now (t .entry)) to
+        (planeWords (gatePlanes (now (t .entry)) (wordOf a) (wordOf b))) ⌝ }
 {
     let one = plane_of(t, a) & plane_of(t, b);
     let zero = plane_of(t, a.negated()) | plane_of(t, b.negated());
@@ -255,7 +260,8 @@ pub fn step_lanes(
 )
     requires { ⌜ Ready n (now gates) (now resets) (now bytes) rows (now t) ⌝ }
     ensures { λ _. ⌜ ((x : Tables) → Runs n (both x (now (gates .entry)) (now (resets .entry)))
-        → Holds n (circuitOf n (both x (now (gates .entry)) (now (resets .entry)))) (now (bytes .entry)) rows (now (t .exit))) ⌝ }
+        → Holds n (circuitOf n (both x (now (gates .entry)) (now (resets .entry)))) (now (bytes .entry)) rows
+        (now (t .exit))) ⌝ }
 {
     // the constant
     put_planes(0, FULL, 0, t);
@@ -280,7 +286,8 @@ fn put_bytes(plane: u64, j: usize, block: &mut [u8])
     }
 }
 
-// The planes of w literals of a table, from the one of column `from` on, as blocks: where each may be 1, and where it may be both.
+// The planes of w literals of a table, from the one of column `from` on, as blocks: where each may be 1, and where
+// it may be both.
 fn pack(
     table: &[u32],
     start: usize,
@@ -293,8 +300,10 @@ fn pack(
 )
     requires { ⌜ Shows (now table) start stride (from + w) (now t) ⌝ }
     requires { ⌜ (0 < w) × (w ≤ 64) × (512 ≤ length (now ones)) × (512 ≤ length (now boths)) ⌝ }
-    ensures { λ _. ⌜ Packed (λ j. planeAt (now (t .entry)) (literalAt (now (table .entry)) start stride (from + j))) w (now (ones .exit)) ⌝ }
-    ensures { λ _. ⌜ Packed (λ j. bothAt (now (t .entry)) (literalAt (now (table .entry)) start stride (from + j))) w (now (boths .exit)) ⌝ }
+    ensures { λ _. ⌜ Packed (λ j. planeAt (now (t .entry)) (literalAt (now (table .entry)) start stride (from + j))) w
+        (now (ones .exit)) ⌝ }
+    ensures { λ _. ⌜ Packed (λ j. bothAt (now (t .entry)) (literalAt (now (table .entry)) start stride (from + j))) w
+        (now (boths .exit)) ⌝ }
 {
     let mut at = stride * from + start;
     let mut j = 0;
@@ -329,8 +338,8 @@ fn put_codes(
 )
     requires { ⌜ lane < 8 ⌝ }
     requires { ⌜ (from + w ≤ length (now ones)) × (from + w ≤ length (now boths)) × (to + w ≤ length (now out)) ⌝ }
-    ensures { λ _. ⌜ Written (λ j. codeBy (getD (now (ones .entry)) (from + j) 0) (getD (now (boths .entry)) (from + j) 0) lane) to w
-        (now (out .entry)) (now (out .exit)) ⌝ }
+    ensures { λ _. ⌜ Written (λ j. codeBy (getD (now (ones .entry)) (from + j) 0)
+        (getD (now (boths .entry)) (from + j) 0) lane) to w (now (out .entry)) (now (out .exit)) ⌝ }
 {
     let mut j = 0;
     while j < w {
@@ -353,8 +362,9 @@ fn put_block(
 )
     requires { ⌜ Block from w n rows (now out) ⌝ }
     requires { ⌜ (512 ≤ length (now ones)) × (512 ≤ length (now boths)) ⌝ }
-    ensures { λ _. ⌜ Blocked (λ k j. codeBy (getD (now (ones .entry)) (64 * (k / 8) + j) 0) (getD (now (boths .entry)) (64 * (k / 8) + j) 0) (k % 8))
-        from w n rows (now (out .entry)) (now (out .exit)) ⌝ }
+    ensures { λ _. ⌜ Blocked (λ k j. codeBy (getD (now (ones .entry)) (64 * (k / 8) + j) 0)
+        (getD (now (boths .entry)) (64 * (k / 8) + j) 0) (k % 8)) from w n rows (now (out .entry))
+        (now (out .exit)) ⌝ }
 {
     let mut to = from;
     let mut k = 0;
@@ -448,7 +458,8 @@ pub fn count_rows(outputs: &[u32], n: usize, rows: usize, t: &[u32], report: &mu
     requires { ⌜ Shows (now outputs) 0 1 n (now t) ⌝ }
     requires { ⌜ rows ≤ 64 ⌝ }
     requires { ⌜ 3 * n ≤ length (now report) ⌝ }
-    ensures { λ _. ⌜ now (report .exit) ≡ put (now (report .entry)) 0 (countsOf (now (outputs .entry)) n (2 ^ rows - 1) (now (t .entry))) ⌝ }
+    ensures { λ _. ⌜ now (report .exit) ≡ put (now (report .entry)) 0
+        (countsOf (now (outputs .entry)) n (2 ^ rows - 1) (now (t .entry))) ⌝ }
 {
     let mask = mask_of(rows);
     let mut at = 0;

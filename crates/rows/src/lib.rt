@@ -1,5 +1,5 @@
-// Many rows at once, from vectors of bytes into vectors of bytes or into a report: up to 64 rows, each stepped once from the resets (the
-// paper, many rows).
+// Many rows at once, from vectors of bytes into vectors of bytes or into a report: up to 64 rows, each stepped once
+// from the resets (the paper, many rows).
 ghost use mathlib.Core.Path.{_≡_};
 ghost use mathlib.Core.Bool.{cond, _&&_};
 ghost use Prim.Native.Nat.{_*_, _≤_};
@@ -65,7 +65,8 @@ fn whole_rows(ins: &[u8], rows: usize, each: usize) -> bool
     only_codes(ins)
 }
 
-// The first list that is refused: 1 the next states and 3 the outputs, of which the length is judged, 2 the inputs; or 0.
+// The first list that is refused: 1 the next states and 3 the outputs, of which the length is judged, 2 the inputs;
+// or 0.
 fn bad_rows(n: Counts, rows: usize, nexts: usize, ins: &[u8], outs: usize) -> usize
     requires { ⌜ rows ≤ 64 ⌝ }
     requires { ⌜ (n .I ≤ most) × (n .L ≤ most) × (n .O ≤ most) ⌝ }
@@ -83,7 +84,8 @@ fn bad_rows(n: Counts, rows: usize, nexts: usize, ins: &[u8], outs: usize) -> us
     0
 }
 
-// A step of rows whose tables and lists are good. Of scratch it asks the length alone: every word is written before it is read.
+// A step of rows whose tables and lists are good. Of scratch it asks the length alone: every word is written before
+// it is read.
 fn step_lists(
     n: Counts,
     latches: &[u32],
@@ -98,17 +100,18 @@ fn step_lists(
 )
     requires { ⌜ Room n (now latches) (now outputs) (now gates) (now resets) (now scratch) ⌝ }
     requires { ⌜ Lists n rows (now nexts) (now ins) (now outs) ⌝ }
-    ensures { λ _. ⌜ ((x : Tables) → Runs n (these x (now (latches .entry)) (now (outputs .entry)) (now (gates .entry)) (now (resets .entry)))
-        → Leaves (circuitOf n (these x (now (latches .entry)) (now (outputs .entry)) (now (gates .entry)) (now (resets .entry))))
-        rows (now (ins .entry)) (now (nexts .exit)) (now (outs .exit))) ⌝ }
+    ensures { λ _. ⌜ ((x : Tables) → Runs n (these x (now (latches .entry)) (now (outputs .entry))
+        (now (gates .entry)) (now (resets .entry)))
+        → Leaves (circuitOf n (these x (now (latches .entry)) (now (outputs .entry)) (now (gates .entry))
+        (now (resets .entry)))) rows (now (ins .entry)) (now (nexts .exit)) (now (outs .exit))) ⌝ }
 {
     step_lanes(n, gates, resets, ins, rows, scratch);
     store_rows(latches, 1, 2, n.L, rows, scratch, nexts);
     store_rows(outputs, 0, 1, n.O, rows, scratch, outs);
 }
 
-// One step of each row from the resets: next states and outputs go into their buffers, L and O bytes a row. On a refusal no buffer changes;
-// scratch is zero afterwards.
+// One step of each row from the resets: next states and outputs go into their buffers, L and O bytes a row. On a
+// refusal no buffer changes; scratch is zero afterwards.
 pub fn step_rows(
     n: Counts,
     inputs: &[u32],
@@ -124,7 +127,8 @@ pub fn step_rows(
     ins: &[u8],
     outs: &mut [u8],
 ) -> Stepped
-    ensures { λ r. ⌜ StepsRows stepRows n inputs latches outputs gates resets bads constraints scratch rows nexts ins outs r ⌝ }
+    ensures { λ r. ⌜ StepsRows stepRows n inputs latches outputs gates resets bads constraints scratch rows nexts ins
+        outs r ⌝ }
 {
     match judge_in_order(
         n,
@@ -178,10 +182,12 @@ fn report_lists(
     report: &mut [u32],
 )
     requires { ⌜ Reports n (now outputs) (now gates) (now resets) rows (now ins) (now scratch) (now report) ⌝ }
-    ensures { λ _. ⌜ ((x : Tables) → Runs n (these x (x .latches) (now (outputs .entry)) (now (gates .entry)) (now (resets .entry)))
-        → now (report .exit) ≡ filled (now (report .entry))
-        (rowReport (circuitOf n (these x (x .latches) (now (outputs .entry)) (now (gates .entry)) (now (resets .entry))))
-        (rowSteps (circuitOf n (these x (x .latches) (now (outputs .entry)) (now (gates .entry)) (now (resets .entry)))) rows (now (ins .entry))))) ⌝ }
+    ensures { λ _. ⌜ ((x : Tables) → Runs n (these x (x .latches) (now (outputs .entry)) (now (gates .entry))
+        (now (resets .entry))) → now (report .exit)
+        ≡ filled (now (report .entry)) (rowReport
+        (circuitOf n (these x (x .latches) (now (outputs .entry)) (now (gates .entry)) (now (resets .entry))))
+        (rowSteps (circuitOf n (these x (x .latches) (now (outputs .entry)) (now (gates .entry))
+        (now (resets .entry)))) rows (now (ins .entry))))) ⌝ }
 {
     step_lanes(n, gates, resets, ins, rows, scratch);
     clear(report);
@@ -190,15 +196,16 @@ fn report_lists(
 
 // A refusal leaves table 6 zero, and scratch.
 fn refuse(refusal: Refusal, scratch: &mut [u32], report: &mut [u32]) -> Stepped
-    ensures { λ r. ⌜ (r ≡ Refused refusal) × (now (scratch .exit) ≡ cleared (now (scratch .entry))) × (now (report .exit) ≡ cleared (now (report .entry))) ⌝ }
+    ensures { λ r. ⌜ (r ≡ Refused refusal) × (now (scratch .exit) ≡ cleared (now (scratch .entry)))
+        × (now (report .exit) ≡ cleared (now (report .entry))) ⌝ }
 {
     clear(scratch);
     clear(report);
     Stepped::Refused(refusal)
 }
 
-// The row report, into table 6: three numbers for each output, which add up to the rows. On a refusal table 6 is zero; scratch is zero
-// afterwards.
+// The row report, into table 6: three numbers for each output, which add up to the rows. On a refusal table 6 is
+// zero; scratch is zero afterwards.
 pub fn report_rows(
     n: Counts,
     inputs: &[u32],
@@ -213,7 +220,8 @@ pub fn report_rows(
     ins: &[u8],
     report: &mut [u32],
 ) -> Stepped
-    ensures { λ r. ⌜ ReportsRows reportRows n inputs latches outputs gates resets bads constraints scratch rows ins report r ⌝ }
+    ensures { λ r. ⌜ ReportsRows reportRows n inputs latches outputs gates resets bads constraints scratch rows ins
+        report r ⌝ }
 {
     let short = report.len() / 3 < n.O;
     let answer = judge_in_order(

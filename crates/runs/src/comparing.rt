@@ -1,4 +1,5 @@
-// A part of a run as lines, by the plain engine: what the comparer holds against the tracer's lines (the paper, the plain engine).
+// A part of a run as lines, by the plain engine: what the comparer holds against the tracer's lines (the paper, the
+// plain engine).
 ghost use mathlib.Core.Path.{_≡_};
 ghost use mathlib.Core.List.{[], _∷_, _++_};
 ghost use Prim.Native.Nat.{_+_, _≤_, _<_};
@@ -49,8 +50,8 @@ fn put_bytes(bytes: &[u8], last: u8, out: &mut [u8], at: usize) -> usize
     end + 1
 }
 
-// One line and its step: the state, the inputs, the outputs and the next state, which stands in the state's place then. The position
-// after the line.
+// One line and its step: the state, the inputs, the outputs and the next state, which stands in the state's place
+// then. The position after the line.
 fn plain_line(
     n: Counts,
     latches: &[u32],
@@ -67,8 +68,9 @@ fn plain_line(
     requires { ⌜ Vector (n .I) (now ins) ⌝ }
     requires { ⌜ at + lineWidth n ≤ length (now out) ⌝ }
     ensures { λ r. ⌜ r ≡ at + lineWidth n ⌝ }
-    ensures { λ _. ⌜ ((x : Tables) → Runs n (these x (now (latches .entry)) (now (outputs .entry)) (now (gates .entry)))
-        → Lined (circuitOf n (these x (now (latches .entry)) (now (outputs .entry)) (now (gates .entry)))) (now (state .entry))
+    ensures { λ _. ⌜ ((x : Tables) → Runs n (these x (now (latches .entry)) (now (outputs .entry))
+        (now (gates .entry))) → Lined (circuitOf n
+        (these x (now (latches .entry)) (now (outputs .entry)) (now (gates .entry)))) (now (state .entry))
         (now (ins .entry)) (now (state .exit)) (now (out .entry)) at (now (out .exit))) ⌝ }
 {
     let inputs_at = put_bytes(state, b' ', out, at);
@@ -103,8 +105,9 @@ fn plain_lines(
     requires { ⌜ Room n (now latches) (now outputs) (now gates) (now scratch) ⌝ }
     requires { ⌜ Vector (n .L) (now state) ⌝ }
     requires { ⌜ Listed n number (now vectors) (now out) ⌝ }
-    ensures { λ _. ⌜ ((x : Tables) → Runs n (these x (now (latches .entry)) (now (outputs .entry)) (now (gates .entry)))
-        → Left (circuitOf n (these x (now (latches .entry)) (now (outputs .entry)) (now (gates .entry)))) (now (state .entry))
+    ensures { λ _. ⌜ ((x : Tables) → Runs n (these x (now (latches .entry)) (now (outputs .entry))
+        (now (gates .entry))) → Left (circuitOf n
+        (these x (now (latches .entry)) (now (outputs .entry)) (now (gates .entry)))) (now (state .entry))
         (firstOnes number (now (vectors .entry))) (now (state .exit)) (now (out .entry)) (now (out .exit))) ⌝ }
 {
     let mut at = 0;
@@ -138,8 +141,9 @@ fn judge_plain(n: Counts, state: &[u8], vectors: &[u8]) -> Traced
     judge(n, state, vectors)
 }
 
-// A part of a run by the plain engine: as many whole lines as fit into `out`, from the state that is given; the state after them goes over
-// it. The answer is the number of lines. On a refusal neither changes; scratch is zero afterwards.
+// A part of a run by the plain engine: as many whole lines as fit into `out`, from the state that is given; the
+// state after them goes over it. The answer is the number of lines. On a refusal neither changes; scratch is zero
+// afterwards.
 pub fn trace_plain(
     n: Counts,
     inputs: &[u32],
@@ -158,7 +162,8 @@ pub fn trace_plain(
         (record {
           circuit = (record {
             counts = n;
-            tables = seven (now (inputs .entry)) (now (latches .entry)) (now (outputs .entry)) (now (gates .entry)) (now (resets .entry))
+            tables = seven (now (inputs .entry)) (now (latches .entry)) (now (outputs .entry)) (now (gates .entry))
+                (now (resets .entry))
                 (now (bads .entry)) (now (constraints .entry));
             scratch = now (scratch .entry);
           });
@@ -232,8 +237,8 @@ fn same_answer(a: Traced, b: Traced) -> bool
 
 // Whether both engines answer the same, and leave the same state and the same lines.
 fn agree(part: Traced, plain: Traced, state: &[u8], twin: &[u8], out: &[u8], again: &[u8]) -> bool
-    ensures { λ r. ⌜ r ≡ (sameAnswer part plain
-        && (sameBytes (now (state .entry)) (now (twin .entry)) && sameBytes (now (out .entry)) (now (again .entry)))) ⌝ }
+    ensures { λ r. ⌜ r ≡ (sameAnswer part plain &&
+        (sameBytes (now (state .entry)) (now (twin .entry)) && sameBytes (now (out .entry)) (now (again .entry)))) ⌝ }
 {
     if !same_answer(part, plain) {
         return false;
@@ -244,8 +249,8 @@ fn agree(part: Traced, plain: Traced, state: &[u8], twin: &[u8], out: &[u8], aga
     same(out, again)
 }
 
-// A part of a run by both engines, the stepper into `state` and `out`, the plain engine into `twin` and `again`; and whether they leave the
-// same. From the same state and buffer, and with at most 24 gates, they never part.
+// A part of a run by both engines, the stepper into `state` and `out`, the plain engine into `twin` and `again`;
+// and whether they leave the same. From the same state and buffer, and with at most 24 gates, they never part.
 pub fn compare(
     n: Counts,
     inputs: &[u32],
@@ -267,7 +272,8 @@ pub fn compare(
           part = (record {
             circuit = (record {
               counts = n;
-              tables = seven (now (inputs .entry)) (now (latches .entry)) (now (outputs .entry)) (now (gates .entry)) (now (resets .entry))
+              tables = seven (now (inputs .entry)) (now (latches .entry)) (now (outputs .entry)) (now (gates .entry))
+                  (now (resets .entry))
                   (now (bads .entry)) (now (constraints .entry));
               scratch = now (scratch .entry);
             });

@@ -1,4 +1,5 @@
-// The lines of a needle report, and the vectors of standard input as the report takes them (the paper, the needle report).
+// The lines of a needle report, and the vectors of standard input as the report takes them (the paper, the needle
+// report).
 ghost use mathlib.Core.Path.{_≡_};
 ghost use mathlib.Core.List.{[], _∷_};
 ghost use Prim.Native.Nat.{_+_, _*_, _<_, _≤_};
@@ -33,7 +34,8 @@ fn put_needle(letter: u8, number: usize, row: &[u32], out: &mut [u8], at: usize)
 fn put_needles(letter: u8, n: usize, six: &[u32], first: usize, out: &mut [u8], at: usize) -> usize
     requires { ⌜ 4 * (first + n) ≤ length (now six) ⌝ }
     requires { ⌜ at + 66 * n ≤ length (now out) ⌝ }
-    ensures { λ r. ⌜ r ≡ at + length (inTurn (λ i. needleLine letter i (take 4 (drop (4 * (first + i)) (now (six .entry))))) n) ⌝ }
+    ensures { λ r. ⌜ r ≡ at + length (inTurn (λ i. needleLine letter i
+        (take 4 (drop (4 * (first + i)) (now (six .entry))))) n) ⌝ }
     ensures { λ r. ⌜ r ≤ at + 66 * n ⌝ }
     ensures { λ _. ⌜ now (out .exit) ≡ put (now (out .entry)) at
         (inTurn (λ i. needleLine letter i (take 4 (drop (4 * (first + i)) (now (six .entry))))) n) ⌝ }
@@ -50,11 +52,12 @@ fn put_needles(letter: u8, n: usize, six: &[u32], first: usize, out: &mut [u8], 
     next
 }
 
-// The lines of a report, the outputs' and then the latches', from the start of a buffer, of as many needles as table 6 and the buffer have room
-// for; how many bytes.
+// The lines of a report, the outputs' and then the latches', from the start of a buffer, of as many needles as
+// table 6 and the buffer have room for; how many bytes.
 pub fn put_report(outputs: usize, latches: usize, six: &[u32], out: &mut [u8]) -> usize
     ensures { λ r. ⌜ r ≡ length (fittingLines outputs latches (now (six .entry)) (now (out .entry))) ⌝ }
-    ensures { λ _. ⌜ now (out .exit) ≡ put (now (out .entry)) 0 (fittingLines outputs latches (now (six .entry)) (now (out .entry))) ⌝ }
+    ensures { λ _. ⌜ now (out .exit) ≡ put (now (out .entry)) 0
+        (fittingLines outputs latches (now (six .entry)) (now (out .entry))) ⌝ }
 {
     let rows = lesser(six.len() / 4, out.len() / LINE);
     let o = lesser(outputs, rows);
@@ -76,7 +79,8 @@ fn keep(b: u8, out: &mut [u8], at: usize) -> usize
     at + 1
 }
 
-// Lines without their ends, one after the other, as a report takes vectors, of as many bytes as the buffer has; how many are left of them.
+// Lines without their ends, one after the other, as a report takes vectors, of as many bytes as the buffer has; how
+// many are left of them.
 pub fn pack(lines: &[u8], out: &mut [u8]) -> usize
     ensures { λ r. ⌜ r ≡ length (packedInto (now (out .entry)) (now (lines .entry))) ⌝ }
     ensures { λ r. ⌜ r ≤ length (now (out .exit)) ⌝ }

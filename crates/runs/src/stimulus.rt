@@ -20,7 +20,8 @@ fn ends(bytes: &[u8]) -> bool
     bytes[n - 1] == b'\n'
 }
 
-// The lines of `width` codes each, in one pass: past the width of a line only a new line can stand, and before it only a code.
+// The lines of `width` codes each, in one pass: past the width of a line only a new line can stand, and before it
+// only a code.
 fn scan_lines(bytes: &[u8], width: usize) -> Traced
     ensures { λ r. ⌜ r ≡ scan width 0 0 (now (bytes .entry)) ⌝ }
 {

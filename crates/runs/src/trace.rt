@@ -42,8 +42,8 @@ fn put_part(t: &[u32], first: usize, count: usize, last: u8, out: &mut [u8], at:
     end + 1
 }
 
-// One line and its step: the state that scratch holds, the inputs, the outputs and the next state, which scratch holds then. The
-// position after the line.
+// One line and its step: the state that scratch holds, the inputs, the outputs and the next state, which scratch
+// holds then. The position after the line.
 fn write_line(
     n: Counts,
     latches: &[u32],
@@ -59,10 +59,10 @@ fn write_line(
     requires { ⌜ at + lineWidth n ≤ length (now out) ⌝ }
     ensures { λ r. ⌜ r ≡ at + lineWidth n ⌝ }
     ensures { λ _. ⌜ ((x : Tables) (s : List Value)
-        → Runs n (these x (now (latches .entry)) (now (outputs .entry)) (now (gates .entry)))
-        → length s ≡ n .L → Rests n s (now (scratch .entry))
-        → Wrote n (circuitOf n (these x (now (latches .entry)) (now (outputs .entry)) (now (gates .entry)))) s (map valueOf (now (ins .entry)))
-        (now (scratch .exit)) (now (out .entry)) at (now (out .exit))) ⌝ }
+        → Runs n (these x (now (latches .entry)) (now (outputs .entry)) (now (gates .entry))) → length s ≡ n .L
+        → Rests n s (now (scratch .entry)) → Wrote n
+        (circuitOf n (these x (now (latches .entry)) (now (outputs .entry)) (now (gates .entry)))) s
+        (map valueOf (now (ins .entry))) (now (scratch .exit)) (now (out .entry)) at (now (out .exit))) ⌝ }
 {
     let inputs_at = put_part(scratch, 1 + n.I, n.L, b' ', out, at);
     load(ins, 1, scratch);
@@ -72,8 +72,8 @@ fn write_line(
     put_part(scratch, 1 + n.I, n.L, b'\n', out, next_at)
 }
 
-// The lines of the first `number` vectors, from the start of a buffer that has room for them. Scratch holds the state between two
-// steps, and after the last.
+// The lines of the first `number` vectors, from the start of a buffer that has room for them. Scratch holds the
+// state between two steps, and after the last.
 fn trace_lines(
     n: Counts,
     latches: &[u32],
@@ -112,8 +112,8 @@ fn trace_lines(
     }
 }
 
-// The same from the state that is given, over which the state after the last line goes. Of scratch it asks the length alone: every word
-// is written before it is read.
+// The same from the state that is given, over which the state after the last line goes. Of scratch it asks the
+// length alone: every word is written before it is read.
 fn trace_from(
     n: Counts,
     latches: &[u32],
@@ -128,8 +128,9 @@ fn trace_from(
     requires { ⌜ Room n (now latches) (now outputs) (now gates) (now scratch) ⌝ }
     requires { ⌜ length (now state) ≡ n .L ⌝ }
     requires { ⌜ Listed n number (now vectors) (now out) ⌝ }
-    ensures { λ _. ⌜ ((x : Tables) → Runs n (these x (now (latches .entry)) (now (outputs .entry)) (now (gates .entry)))
-        → Left (circuitOf n (these x (now (latches .entry)) (now (outputs .entry)) (now (gates .entry)))) (now (state .entry))
+    ensures { λ _. ⌜ ((x : Tables) → Runs n (these x (now (latches .entry)) (now (outputs .entry))
+        (now (gates .entry))) → Left (circuitOf n
+        (these x (now (latches .entry)) (now (outputs .entry)) (now (gates .entry)))) (now (state .entry))
         (firstOnes number (now (vectors .entry))) (now (state .exit)) (now (out .entry)) (now (out .exit))) ⌝ }
 {
     // the constant
@@ -154,7 +155,8 @@ pub fn fitting(n: Counts, lines: usize, room: usize) -> usize
 // The lines of vectors, by 12: place 1 the state, 2 the vectors.
 pub fn judge(n: Counts, state: &[u8], vectors: &[u8]) -> Traced
     ensures { λ r. ⌜ r ≡ judged (eqb (length (now (state .entry))) (n .L) && allCodes (now (state .entry)))
-        (ended (now (vectors .entry)) && allVectors (n .I) (linesIn (now (vectors .entry)))) (length (linesIn (now (vectors .entry)))) ⌝ }
+        (ended (now (vectors .entry)) && allVectors (n .I) (linesIn (now (vectors .entry))))
+        (length (linesIn (now (vectors .entry)))) ⌝ }
 {
     if !codes_in(state, n.L) {
         return Traced::Refused(Refusal::BadVector(1));
@@ -184,8 +186,9 @@ pub fn past(bytes: &[u8], from: usize, count: usize) -> usize
     at
 }
 
-// A part of a run: as many whole lines as fit into `out`, from the state that is given; the state after them goes over it. The answer is
-// the number of lines. On a refusal neither changes; scratch is zero afterwards (the paper, programs and their output).
+// A part of a run: as many whole lines as fit into `out`, from the state that is given; the state after them goes
+// over it. The answer is the number of lines. On a refusal neither changes; scratch is zero afterwards (the paper,
+// programs and their output).
 pub fn trace(
     n: Counts,
     inputs: &[u32],
@@ -204,7 +207,8 @@ pub fn trace(
         (record {
           circuit = (record {
             counts = n;
-            tables = seven (now (inputs .entry)) (now (latches .entry)) (now (outputs .entry)) (now (gates .entry)) (now (resets .entry))
+            tables = seven (now (inputs .entry)) (now (latches .entry)) (now (outputs .entry)) (now (gates .entry))
+                (now (resets .entry))
                 (now (bads .entry)) (now (constraints .entry));
             scratch = now (scratch .entry);
           });

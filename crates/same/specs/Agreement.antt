@@ -30,7 +30,8 @@ sameSides rename g k0 k1 = sameLiteral rename (g .rhs0) k0 && sameLiteral rename
 
 abbrev pub sameGate : (ℕ → ℕ) → Gate → Gate → Bool
 sameGate rename g h =
-    sameLiteral rename (g .lhs) (h .lhs) && (sameSides rename g (h .rhs0) (h .rhs1) || sameSides rename g (h .rhs1) (h .rhs0))
+    sameLiteral rename (g .lhs) (h .lhs) && (sameSides rename g (h .rhs0) (h .rhs1) || sameSides rename g (h .rhs1)
+    (h .rhs0))
 
 -- as many entries, and each the same as the one at its place
 module _ {A : Type 0} where
@@ -57,7 +58,8 @@ pub record AcceptedText (file lengths : List ℕ) (c : Circuit) (tail : List ℕ
   pub accepted : readFile V19 file lengths ≡ got c start
   pub rest : drop start file ≡ tail
 
--- two such files of one plan: their circuits agree under a one-to-one renaming, and their symbol and comment bytes are equal
+-- two such files of one plan: their circuits agree under a one-to-one renaming, and their symbol and comment bytes
+-- are equal
 pub record SamePlan (lengths file other : List ℕ) : Type 0 where
   pub rename : ℕ → ℕ
   pub one-to-one : OneToOne rename

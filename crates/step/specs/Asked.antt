@@ -1,5 +1,5 @@
--- What is asked where nothing is refused: tables that hold an accepted circuit in binary order, room in scratch, and vectors of the
--- right length.
+-- What is asked where nothing is refused: tables that hold an accepted circuit in binary order, room in scratch,
+-- and vectors of the right length.
 use Prim.Native.Nat.{ℕ}
 use mathlib.Core.Path.{_≡_}
 use mathlib.Core.List.{List, map}

@@ -1,4 +1,5 @@
-// Refusal 12: a vector of wrong length, or a byte of a state or of inputs but "0", "1", "x" (the paper, refusal numbers).
+// Refusal 12: a vector of wrong length, or a byte of a state or of inputs but "0", "1", "x" (the paper, refusal
+// numbers).
 ghost use mathlib.Core.Path.{_≡_};
 ghost use mathlib.Core.Bool.{_&&_};
 ghost use Prim.Native.Nat.{_*_};
@@ -47,8 +48,10 @@ pub fn codes_in(bytes: &[u8], n: usize) -> bool
 
 // The first vector that is refused: 1 the state, 2 the inputs, 3 the outputs, of which only the length is judged; or 0.
 pub fn bad_vector(n: Counts, state: &[u8], ins: &[u8], outs: usize) -> usize
-    ensures { λ r. ⌜ tableOf r ≡ orElse (vector 1 (eqb (length (now (state .entry))) (n .L) && allCodes (now (state .entry))))
-        (orElse (vector 2 (eqb (length (now (ins .entry))) (n .I) && allCodes (now (ins .entry)))) (vector 3 (eqb outs (n .O)))) ⌝ }
+    ensures { λ r. ⌜ tableOf r ≡ orElse (vector 1
+        (eqb (length (now (state .entry))) (n .L) && allCodes (now (state .entry))))
+        (orElse (vector 2 (eqb (length (now (ins .entry))) (n .I) && allCodes (now (ins .entry))))
+        (vector 3 (eqb outs (n .O)))) ⌝ }
 {
     if !codes_in(state, n.L) {
         return 1;

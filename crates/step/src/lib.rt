@@ -20,7 +20,8 @@ pub mod codes;
 pub mod sweep;
 pub mod values;
 
-// A step whose tables and vectors are good. Of scratch it asks the length alone: every word is written before it is read.
+// A step whose tables and vectors are good. Of scratch it asks the length alone: every word is written before it is
+// read.
 fn step_vectors(
     n: Counts,
     latches: &[u32],
@@ -46,8 +47,8 @@ fn step_vectors(
     store(scratch, n.M + 1, outs);
 }
 
-// One step: the outputs go into their buffer, and the next state over the state. On a refusal no vector changes; scratch is zero
-// afterwards.
+// One step: the outputs go into their buffer, and the next state over the state. On a refusal no vector changes;
+// scratch is zero afterwards.
 pub fn step(
     n: Counts,
     inputs: &[u32],

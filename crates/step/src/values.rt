@@ -1,5 +1,5 @@
-// Values 0, 1 and x as words of scratch, of the bits "may be 0" and "may be 1", and as codes "0", "1" and "x" of vectors (the paper,
-// stepping).
+// Values 0, 1 and x as words of scratch, of the bits "may be 0" and "may be 1", and as codes "0", "1" and "x" of
+// vectors (the paper, stepping).
 ghost use mathlib.Core.Path.{_≡_};
 ghost use mathlib.Core.List.{map};
 ghost use Prim.Native.Nat.{_+_, _≤_};
@@ -55,7 +55,8 @@ fn word_of_reset(reset: u32) -> u32
 pub fn load_resets(resets: &[u32], n: usize, first: usize, t: &mut [u32])
     requires { ⌜ n ≤ length (now resets) ⌝ }
     requires { ⌜ first + n ≤ length (now t) ⌝ }
-    ensures { λ _. ⌜ now (t .exit) ≡ put (now (t .entry)) first (words (map resetValue (take n (now (resets .entry))))) ⌝ }
+    ensures { λ _. ⌜ now (t .exit) ≡ put (now (t .entry)) first
+        (words (map resetValue (take n (now (resets .entry))))) ⌝ }
 {
     let mut i = 0;
     while i < n {

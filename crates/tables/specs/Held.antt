@@ -7,7 +7,8 @@ use Rattle.plan.specs.Literals.{most}
 use Rattle.plan.specs.Circuit.{Circuit, seven, circuitOf}
 
 abbrev pub circuitIn : Counts → List ℕ → List ℕ → List ℕ → List ℕ → List ℕ → List ℕ → List ℕ → Circuit
-circuitIn n inputs latches outputs gates resets bads constraints = circuitOf n (seven inputs latches outputs gates resets bads constraints)
+circuitIn n inputs latches outputs gates resets bads constraints =
+    circuitOf n (seven inputs latches outputs gates resets bads constraints)
 
 -- counts that 2 and 3 let pass, and tables that are long enough
 pub record Fits (n : Counts) (inputs latches outputs gates resets bads constraints : List ℕ) : Type 0 where

@@ -42,10 +42,10 @@ pub fn clear_all(
     bads: &mut [u32],
     constraints: &mut [u32],
 )
-    ensures { λ _. ⌜ seven (now (inputs .exit)) (now (latches .exit)) (now (outputs .exit)) (now (gates .exit)) (now (resets .exit)) (now (bads .exit))
-        (now (constraints .exit))
-        ≡ allCleared (seven (now (inputs .entry)) (now (latches .entry)) (now (outputs .entry)) (now (gates .entry)) (now (resets .entry))
-        (now (bads .entry)) (now (constraints .entry))) ⌝ }
+    ensures { λ _. ⌜ seven (now (inputs .exit)) (now (latches .exit)) (now (outputs .exit)) (now (gates .exit))
+        (now (resets .exit)) (now (bads .exit)) (now (constraints .exit))
+        ≡ allCleared (seven (now (inputs .entry)) (now (latches .entry)) (now (outputs .entry)) (now (gates .entry))
+        (now (resets .entry)) (now (bads .entry)) (now (constraints .entry))) ⌝ }
 {
     clear(inputs);
     clear(latches);
@@ -66,8 +66,8 @@ pub fn lengths(
     bads: &[u32],
     constraints: &[u32],
 ) -> Sizes
-    ensures { λ r. ⌜ r ≡ sizesOf (seven (now (inputs .entry)) (now (latches .entry)) (now (outputs .entry)) (now (gates .entry))
-        (now (resets .entry)) (now (bads .entry)) (now (constraints .entry))) ⌝ }
+    ensures { λ r. ⌜ r ≡ sizesOf (seven (now (inputs .entry)) (now (latches .entry)) (now (outputs .entry))
+        (now (gates .entry)) (now (resets .entry)) (now (bads .entry)) (now (constraints .entry))) ⌝ }
 {
     Sizes {
         inputs: inputs.len(),
@@ -100,8 +100,8 @@ pub fn scratch_to_read(binary: bool, n: Counts) -> usize
     scratch_to_work(n)
 }
 
-// Refusal 4: the least of tables 1 to 5 and 7 to 9 that is shorter than the counts ask and, for table 5, than `needed`, or 0. Tables are
-// looked at in the order of their numbers.
+// Refusal 4: the least of tables 1 to 5 and 7 to 9 that is shorter than the counts ask and, for table 5, than
+// `needed`, or 0. Tables are looked at in the order of their numbers.
 pub fn too_short(n: Counts, to: Sizes, needed: usize, scratch: usize) -> usize
     requires { ⌜ (n .L ≤ most) × (n .A ≤ most) ⌝ }
     ensures { λ r. ⌜ tableOf r ≡ short (against 1 (wordsWith needed n) (lengthsIn to scratch)) ⌝ }

@@ -1,5 +1,6 @@
-// Traces the circuit of plan.in, converted, from its first state on the vectors of standard input, or writes the line of the refusal (the
-// paper, programs). 14, 13, the reader's refusals and 4 are decided by whole::ordered, those of standard input by runs::trace.
+// Traces the circuit of plan.in, converted, from its first state on the vectors of standard input, or writes the
+// line of the refusal (the paper, programs). 14, 13, the reader's refusals and 4 are decided by whole::ordered,
+// those of standard input by runs::trace.
 use plan::Counts;
 use plan::Made;
 use plan::Traced;
@@ -8,8 +9,8 @@ use runs::trace;
 use step::values;
 use whole::ordered;
 
-// The steps of all lines, printed in parts of as many lines as fit into `out`. A part has a line at least, so there are no more parts than
-// lines.
+// The steps of all lines, printed in parts of as many lines as fit into `out`. A part has a line at least, so there
+// are no more parts than lines.
 fn trace_all(
     n: Counts,
     inputs: &[u32],

@@ -1,11 +1,11 @@
-// Runs the worked examples of the paper and of the AIGER report, and writes what came of each. The arguments are three words for each: what
-// is asked, the example's file, and the file of its vectors where it is to be stepped.
+// Runs the worked examples of the paper and of the AIGER report, and writes what came of each. The arguments are
+// three words for each: what is asked, the example's file, and the file of its vectors where it is to be stepped.
 ghost use Prim.Native.Nat.{_≤_};
 ghost use lib.ListN.{length};
 use codec::differences;
 use libc::STDOUT_FILENO;
-use making::converting;
-use making::reducing;
+use making::convert_whole;
+use making::reduce_whole;
 use plan::Counts;
 use plan::Difference;
 use plan::Loaded;
@@ -149,7 +149,7 @@ fn show_converted(file: &[u8]) {
     let mut made_constraints = [0u32; 64];
     let mut scratch = [0u32; 256];
     let mut out = [0u8; 512];
-    let answer = converting::convert_whole(
+    let answer = convert_whole(
         true,
         file,
         &mut inputs,
@@ -190,7 +190,7 @@ fn show_reduced(file: &[u8]) {
     let mut made_constraints = [0u32; 64];
     let mut scratch = [0u32; 256];
     let mut out = [0u8; 512];
-    let answer = reducing::reduce_whole(
+    let answer = reduce_whole(
         true,
         file,
         &mut inputs,

@@ -19,15 +19,14 @@ use Rattle.plan.specs.Tail.{TailOk}
 use Rattle.plan.specs.Reading.{WellFormed}
 use Rattle.plan.specs.Given.{Given, given, lentAlone, lentWith, stages, orderStage, refusalOf, tailStage, room, roomStage}
 use Rattle.plan.specs.Convert.{convert}
-use Rattle.plan.specs.Reduce.{reduce}
-use Rattle.plan.specs.Outcome.{WriteExit, putBy, putBytes, FileEntry, FileExit, writtenBy, writeText, writeBinary, MakeEntry, MakeExit, madeBy, conversion, reduction}
+use Rattle.plan.specs.Outcome.{WriteExit, putBy, putBytes, FileEntry, FileExit, writtenBy, writeText, writeBinary, MakeEntry, MakeExit, madeBy, conversion}
 use Rattle.laws.proofs.Reading.Short.{short-none}
 use Rattle.laws.proofs.Reading.Tails.{tail-exactly}
-use Rattle.laws.proofs.Running.Counts.{counts-convert, tail-convert, tail-reduce}
+use Rattle.laws.proofs.Running.Counts.{counts-convert, tail-convert}
 use Rattle.laws.proofs.Writing.Nothing.{both-first}
 use Rattle.laws.proofs.Writing.Fine.{Fine, counts-given, nothing-fine}
-use Rattle.laws.proofs.Writing.Later.{Left, conversion-left, reduction-left}
-use Rattle.laws.proofs.Writing.Accepting.{conversion-accepted, reduction-accepted}
+use Rattle.laws.proofs.Writing.Later.{Left, conversion-left}
+use Rattle.laws.proofs.Writing.Accepting.{conversion-accepted}
 use Rattle.tables.specs.declared.Sizes.{Sizes}
 use Rattle.tables.specs.Lengths.{lengthsIn, sizesOf}
 use Rattle.whole.specs.Opening.{shortIn, Ready}
@@ -74,40 +73,54 @@ module _ (g : Given) (tail out : List ℕ) (fine : firstOf (stages g (lentAlone 
       (both-first (stages g (lentAlone g)) (orderStage g ∷ tailStage g tail ∷ roomStage out bytes ∷ []) fine ∙ rest)
       ∙ put-is entry bytes (room out 0 bytes))
 
--- what a conversion or a reduction leaves
+-- what a making leaves
 abbrev pub after : Counts → MakeExit → Given
 after n x = record { counts = n; tables = x .written; scratch = x .scratch }
 
-module _ (y : MakeExit) (d : Circuit) (accepted : y .answer ≡ made.Accepted (countsOf d))
-    (lefts : (n : Counts) → y .answer ≡ made.Accepted n → Left (after n y) d × (binaryOrder d ≡ true)) (tail : List ℕ)
-    (t : TailOk V19 (countsOf d) tail) (x : MakeExit) (said : x ≡ y) where
+-- a making that is not refused: its circuit is in binary order, stands in tables that no check refuses, and takes the tail
+pub record Passed (y : MakeExit) (d : Circuit) (tail : List ℕ) : Type 0 where
+  pub took : y .answer ≡ made.Accepted (countsOf d)
+  pub lefts : (n : Counts) → y .answer ≡ made.Accepted n → Left (after n y) d × (binaryOrder d ≡ true)
+  pub tail-ok : TailOk V19 (countsOf d) tail
+
+module _ (y : MakeExit) (d : Circuit) (tail : List ℕ) (p : Passed y d tail) (x : MakeExit) (said : x ≡ y) where
   pub not-refused : (r : Refusal) → x .answer ≡ made.Refused r → ⊥
   not-refused r a =
-      let b : made.Refused r ≡ made.Accepted (countsOf d) = sym a ∙ (ap (λ (z : MakeExit). z .answer) said ∙ accepted) in
+      let b : made.Refused r ≡ made.Accepted (countsOf d) = sym a ∙ (ap (λ (z : MakeExit). z .answer) said ∙ p .took) in
       let z : _≡_ {A = ℕ} 0 1 = cc in omega arith
 
   module _ (n : Counts) (a : x .answer ≡ made.Accepted n) where
-    pub left-is : Left (after n x) d × (binaryOrder d ≡ true)
+    left-is : Left (after n x) d × (binaryOrder d ≡ true)
     left-is =
         subst (λ (z : MakeExit). Left (after n z) d × (binaryOrder d ≡ true)) (sym said)
-        (lefts n (ap (λ (z : MakeExit). z .answer) (sym said) ∙ a))
+        (p .lefts n (ap (λ (z : MakeExit). z .answer) (sym said) ∙ a))
+
+    pub made-counts : n ≡ countsOf d
+    made-counts = left-is .0 .counts
+
+    pub made-is : given (after n x) ≡ d
+    made-is = left-is .0 .holds
+
+    pub made-in-order : binaryOrder (given (after n x)) ≡ true
+    made-in-order = ap binaryOrder made-is ∙ left-is .1
 
     tail-is : TailOk V19 n tail
-    tail-is = subst (λ (m : Counts). TailOk V19 m tail) (sym (left-is .0 .counts)) t
-
-    order-is : binaryOrder (given (after n x)) ≡ true
-    order-is = ap binaryOrder (left-is .0 .holds) ∙ left-is .1
+    tail-is = subst (λ (m : Counts). TailOk V19 m tail) (sym made-counts) (p .tail-ok)
 
     -- written as binary
     pub made-put : (out : List ℕ) (z : FileExit) → z ≡ writeBinary (record { circuit = after n x; tail = tail; out = out })
         → shown z ≡ putBytes out 0 (binaryOf d ++ tail)
     made-put out z wrote =
-        binary-put (after n x) tail out (left-is .0 .fine) tail-is order-is z wrote
-        ∙ ap (λ (c : Circuit). putBytes out 0 (binaryOf c ++ tail)) (left-is .0 .holds)
+        binary-put (after n x) tail out (left-is .0 .fine) tail-is made-in-order z wrote
+        ∙ ap (λ (c : Circuit). putBytes out 0 (binaryOf c ++ tail)) made-is
 
--- as many variables as are defined
-abbrev fewest : Counts → Counts
-fewest n = record { M = n .I + n .L + n .A; I = n .I; L = n .L; O = n .O; A = n .A; B = n .B; C = n .C }
+    -- it stands ready for the next making, beside tables that are long enough
+    pub made-ready : (sizes : Sizes) → shortIn n sizes (x .scratch) ≡ none → Ready (after n x) tail sizes
+    made-ready sizes long = record { fine = left-is .0 .fine; tail-ok = tail-is; long = long }
+
+-- the counts with k gates, and as many variables as are defined
+abbrev pub smaller : Counts → ℕ → Counts
+smaller n k = record { M = n .I + n .L + k; I = n .I; L = n .L; O = n .O; A = k; B = n .B; C = n .C }
 
 -- tables that stand ready
 module _ (g : Given) (tail : List ℕ) (made : Sizes) (ready : Ready g tail made) where
@@ -126,89 +139,45 @@ module _ (g : Given) (tail : List ℕ) (made : Sizes) (ready : Ready g tail made
   pub long-here : shortIn (countsOf (given g)) made (g .scratch) ≡ none
   long-here = ap (λ (m : Counts). shortIn m made (g .scratch)) counts-are ∙ ready .long
 
-  -- fewer variables ask for less scratch
-  fewest-long : shortIn (fewest (g .counts)) (sizesOf (g .tables)) (g .scratch) ≡ none
-  fewest-long =
+  -- no more gates ask for no more of the tables they came from
+  pub smaller-long : (n : Counts) (k : ℕ) → n ≡ smaller (g .counts) k → k ≤ g .counts .A → (s : List ℕ) → length s ≡ length (g .scratch)
+      → shortIn n (sizesOf (g .tables)) s ≡ none
+  smaller-long n k same few s kept =
       let l = short-none (lentAlone g) .0 (fine-is .room) in
       let sum = fine-is .sum in
-      let less : 4 * (fewest (g .counts) .M + 1) + g .counts .O + g .counts .B + g .counts .C ≤ length (g .scratch)
+      let h4 : 3 * k ≤ length (g .tables .gates) = omega (arith, l .1 .1 .1 .0) in
+      let h5 : 4 * (g .counts .I + g .counts .L + k + 1) + g .counts .O + g .counts .B + g .counts .C ≤ length (g .scratch)
       = omega (arith, l .1 .1 .1 .1 .0) in
-      short-none (against 1 (wordsToWork (fewest (g .counts))) (lengthsOf (g .tables) (g .scratch))) .1
-      (l .0, (l .1 .0, (l .1 .1 .0, (l .1 .1 .1 .0, (less, l .1 .1 .1 .1 .1)))))
+      ap₂ (λ (m : Counts) (j : ℕ). short (against 1 (wordsToWork m) (lengthsIn (sizesOf (g .tables)) j))) same kept
+      ∙ short-none (against 1 (wordsToWork (smaller (g .counts) k)) (lengthsOf (g .tables) (g .scratch))) .1
+      (l .0, (l .1 .0, (l .1 .1 .0, (h4, (h5, l .1 .1 .1 .1 .1)))))
+
+-- a making clears scratch, and leaves its length
+pub scratch-kept : (o : Option Refusal) (e : MakeEntry) (d : Circuit) → length (madeBy o e d .scratch) ≡ length (e .circuit .scratch)
+scratch-kept none e d = length-replicate (length (e .circuit .scratch)) 0
+scratch-kept (some r) e d = length-replicate (length (e .circuit .scratch)) 0
 
 -- the conversion
-module _ (g : Given) (t : Tables) (tail : List ℕ) (ready : Ready g tail (sizesOf t)) (x : MakeExit)
-    (said : x ≡ conversion (record { circuit = g; written = t })) where
+module _ (g : Given) (t : Tables) (tail : List ℕ) (ready : Ready g tail (sizesOf t)) where
   abbrev e : MakeEntry
   e = record { circuit = g; written = t }
 
-  abbrev made-long : Sizes
-  made-long = sizesOf t
+  pub converts : Passed (conversion (record { circuit = g; written = t })) (convert (given g)) tail
+  converts = record {
+    took = conversion-accepted g (given g) (left-here g tail (sizesOf t) ready) t (long-here g tail (sizesOf t) ready);
+    lefts = conversion-left e;
+    tail-ok = tail-convert V19 (given g) tail (tail-here g tail (sizesOf t) ready);
+  }
 
-  took : conversion (record { circuit = g; written = t }) .answer ≡ made.Accepted (countsOf (convert (given g)))
-  took = conversion-accepted g (given g) (left-here g tail made-long ready) t (long-here g tail made-long ready)
-
-  converted-tail : TailOk V19 (countsOf (convert (given g))) tail
-  converted-tail = tail-convert V19 (given g) tail (tail-here g tail made-long ready)
-
-  pub converts : (r : Refusal) → x .answer ≡ made.Refused r → ⊥
-  converts = not-refused (conversion e) (convert (given g)) took (conversion-left e) tail converted-tail x said
-
-  module _ (n : Counts) (a : x .answer ≡ made.Accepted n) where
-    pub converted-put : (out : List ℕ) (z : FileExit) → z ≡ writeBinary (record { circuit = after n x; tail = tail; out = out })
-        → shown z ≡ putBytes out 0 (binaryOf (convert (given g)) ++ tail)
-    converted-put = made-put (conversion e) (convert (given g)) took (conversion-left e) tail converted-tail x said n a
-
-    left-made : Left (after n x) (convert (given g)) × (binaryOrder (convert (given g)) ≡ true)
-    left-made = left-is (conversion e) (convert (given g)) took (conversion-left e) tail converted-tail x said n a
-
-    pub converted-is : given (after n x) ≡ convert (given g)
-    converted-is = left-made .0 .holds
-
-    pub converted-in-order : binaryOrder (given (after n x)) ≡ true
-    converted-in-order = ap binaryOrder converted-is ∙ left-made .1
-
-    -- it stands ready to be reduced back into the tables it was read into
-    counts-now : n ≡ fewest (g .counts)
-    counts-now =
-        let w : WellFormed (given g) = fine-is g tail made-long ready .formed in
-        left-made .0 .counts ∙ (counts-convert (given g) w ∙ ap fewest (counts-are g tail made-long ready))
-
-    scratch-now : length (x .scratch) ≡ length (g .scratch)
-    scratch-now = ap (λ (y : MakeExit). length (y .scratch)) said ∙ go (firstOf (stages g (lentWith g t)))
-      where
-        go : (o : Option Refusal) → length (madeBy o e (convert (given g)) .scratch) ≡ length (g .scratch)
-        go none = length-replicate (length (g .scratch)) 0
-        go (some r) = length-replicate (length (g .scratch)) 0
-
-    pub converted-ready : Ready (after n x) tail (sizesOf (g .tables))
-    converted-ready = record {
-      fine = left-made .0 .fine;
-      tail-ok = subst (λ (m : Counts). TailOk V19 m tail) (sym (left-made .0 .counts)) converted-tail;
-      long =
-          ap₂ (λ (m : Counts) (k : ℕ). short (against 1 (wordsToWork m) (lengthsIn (sizesOf (g .tables)) k))) counts-now scratch-now
-          ∙ fewest-long g tail made-long ready;
-    }
-
--- the reduction of a circuit in binary order
-module _ (g : Given) (t : Tables) (tail : List ℕ) (ready : Ready g tail (sizesOf t)) (order : binaryOrder (given g) ≡ true) (x : MakeExit)
-    (said : x ≡ reduction (record { circuit = g; written = t })) where
-  abbrev f : MakeEntry
-  f = record { circuit = g; written = t }
-
-  abbrev into-long : Sizes
-  into-long = sizesOf t
-
-  pub took-too : reduction (record { circuit = g; written = t }) .answer ≡ made.Accepted (countsOf (reduce (given g)))
-  took-too = reduction-accepted g (given g) (left-here g tail into-long ready) t (long-here g tail into-long ready) order
-
-  pub reduced-tail : TailOk V19 (countsOf (reduce (given g))) tail
-  reduced-tail = tail-reduce V19 (given g) tail (tail-here g tail into-long ready)
-
-  pub reduces : (r : Refusal) → x .answer ≡ made.Refused r → ⊥
-  reduces = not-refused (reduction f) (reduce (given g)) took-too (reduction-left f) tail reduced-tail x said
-
-  pub reduced-put : (n : Counts) → x .answer ≡ made.Accepted n → (out : List ℕ) (z : FileExit)
-      → z ≡ writeBinary (record { circuit = after n x; tail = tail; out = out })
-      → shown z ≡ putBytes out 0 (binaryOf (reduce (given g)) ++ tail)
-  reduced-put n a = made-put (reduction f) (reduce (given g)) took-too (reduction-left f) tail reduced-tail x said n a
+  -- it stands ready for the next making, back into the tables it was read into
+  pub converted-ready : (x : MakeExit) → x ≡ conversion (record { circuit = g; written = t }) → (n : Counts) → x .answer ≡ made.Accepted n
+      → Ready (after n x) tail (sizesOf (g .tables))
+  converted-ready x said n a =
+      let w : WellFormed (given g) = fine-is g tail (sizesOf t) ready .formed in
+      let counts : n ≡ smaller (g .counts) (g .counts .A)
+      = made-counts _ _ tail converts x said n a
+      ∙ (counts-convert (given g) w ∙ ap (λ (m : Counts). smaller m (m .A)) (counts-are g tail (sizesOf t) ready)) in
+      let kept : length (x .scratch) ≡ length (g .scratch)
+      = ap (λ (y : MakeExit). length (y .scratch)) said ∙ scratch-kept (firstOf (stages g (lentWith g t))) e (convert (given g)) in
+      made-ready _ _ tail converts x said n a (sizesOf (g .tables))
+      (smaller-long g tail (sizesOf t) ready n (g .counts .A) counts (omega arith) (x .scratch) kept)

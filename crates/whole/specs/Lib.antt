@@ -1,4 +1,5 @@
 -- What whole files are stated with.
 pub mod Opening
 pub mod Parts
+pub mod Lent
 pub mod ordered

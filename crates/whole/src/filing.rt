@@ -1,9 +1,6 @@
-// Whole files: from the bytes of plan cards to those of binary AIGER, and from AIGER to cards (the paper, plan cards and programs).
-ghost use mathlib.Core.Path.{_≡_};
-ghost use Rattle.plan.specs.Circuit.{seven};
-ghost use Rattle.plan.specs.Outcome.{Says};
-ghost use Rattle.plan.specs.Whole.{inputOf};
-ghost use Rattle.whole.specs.Parts.{toldBy};
+// Whole files: from the bytes of plan cards to those of binary AIGER, and from AIGER to cards (the paper, plan
+// cards and programs).
+ghost use Rattle.whole.specs.Lent.{Moves, TellsMove};
 ghost use Rattle.plan.specs.Cards.{fileWhole, cardWhole, filedCards, cardedFile};
 use crate::open_file;
 use cards::reading::read_cards;
@@ -33,14 +30,8 @@ fn file_cards(
     scratch: &mut [u32],
     out: &mut [u8],
 ) -> Written
-    ensures { λ r. ⌜ record { answer = r; out = now (out .exit) } ≡ toldBy (now (out .entry)) (filedCards
-        (record {
-          plan = inputOf readable (now (file .entry));
-          tables = seven (now (inputs .entry)) (now (latches .entry)) (now (outputs .entry)) (now (gates .entry)) (now (resets .entry))
-              (now (bads .entry)) (now (constraints .entry));
-          scratch = now (scratch .entry);
-          out = now (out .entry);
-        })) ⌝ }
+    ensures { λ r. ⌜ TellsMove filedCards readable file inputs latches outputs gates resets bads constraints scratch
+        out r ⌝ }
 {
     if !readable {
         return Written::Refused(Refusal::Unreadable(0));
@@ -76,7 +67,8 @@ fn file_cards(
     }
 }
 
-// The cards of an AIGER file in either form, by 14, 13, what a reader checks, 4, 15, 19 and 11. The tables hold what was left in them.
+// The cards of an AIGER file in either form, by 14, 13, what a reader checks, 4, 15, 19 and 11. The tables hold
+// what was left in them.
 fn card_file(
     readable: bool,
     file: &[u8],
@@ -90,14 +82,8 @@ fn card_file(
     scratch: &mut [u32],
     out: &mut [u8],
 ) -> Written
-    ensures { λ r. ⌜ record { answer = r; out = now (out .exit) } ≡ toldBy (now (out .entry)) (cardedFile
-        (record {
-          plan = inputOf readable (now (file .entry));
-          tables = seven (now (inputs .entry)) (now (latches .entry)) (now (outputs .entry)) (now (gates .entry)) (now (resets .entry))
-              (now (bads .entry)) (now (constraints .entry));
-          scratch = now (scratch .entry);
-          out = now (out .entry);
-        })) ⌝ }
+    ensures { λ r. ⌜ TellsMove cardedFile readable file inputs latches outputs gates resets bads constraints scratch
+        out r ⌝ }
 {
     let own = lengths(inputs, latches, outputs, gates, resets, bads, constraints);
     match open_file(
@@ -130,7 +116,8 @@ fn card_file(
     }
 }
 
-// The binary file of a whole file of cards: the number of bytes, or a refusal, which changes no byte of `out`. All tables are zero afterwards.
+// The binary file of a whole file of cards: the number of bytes, or a refusal, which changes no byte of `out`. All
+// tables are zero afterwards.
 pub fn file_whole(
     readable: bool,
     file: &[u8],
@@ -144,21 +131,8 @@ pub fn file_whole(
     scratch: &mut [u32],
     out: &mut [u8],
 ) -> Written
-    ensures { λ r. ⌜ Says fileWhole
-        (record {
-          plan = inputOf readable (now (file .entry));
-          tables = seven (now (inputs .entry)) (now (latches .entry)) (now (outputs .entry)) (now (gates .entry)) (now (resets .entry))
-              (now (bads .entry)) (now (constraints .entry));
-          scratch = now (scratch .entry);
-          out = now (out .entry);
-        })
-        (record {
-          answer = r;
-          tables = seven (now (inputs .exit)) (now (latches .exit)) (now (outputs .exit)) (now (gates .exit)) (now (resets .exit)) (now (bads .exit))
-              (now (constraints .exit));
-          scratch = now (scratch .exit);
-          out = now (out .exit);
-        }) ⌝ }
+    ensures { λ r. ⌜ Moves fileWhole readable file inputs latches outputs gates resets bads constraints scratch out r
+        ⌝ }
 {
     let answer = file_cards(
         readable,
@@ -178,7 +152,8 @@ pub fn file_whole(
     answer
 }
 
-// The cards of a whole AIGER file: the number of bytes, or a refusal, which changes no byte of `out`. All tables are zero afterwards.
+// The cards of a whole AIGER file: the number of bytes, or a refusal, which changes no byte of `out`. All tables
+// are zero afterwards.
 pub fn card_whole(
     readable: bool,
     file: &[u8],
@@ -192,21 +167,8 @@ pub fn card_whole(
     scratch: &mut [u32],
     out: &mut [u8],
 ) -> Written
-    ensures { λ r. ⌜ Says cardWhole
-        (record {
-          plan = inputOf readable (now (file .entry));
-          tables = seven (now (inputs .entry)) (now (latches .entry)) (now (outputs .entry)) (now (gates .entry)) (now (resets .entry))
-              (now (bads .entry)) (now (constraints .entry));
-          scratch = now (scratch .entry);
-          out = now (out .entry);
-        })
-        (record {
-          answer = r;
-          tables = seven (now (inputs .exit)) (now (latches .exit)) (now (outputs .exit)) (now (gates .exit)) (now (resets .exit)) (now (bads .exit))
-              (now (constraints .exit));
-          scratch = now (scratch .exit);
-          out = now (out .exit);
-        }) ⌝ }
+    ensures { λ r. ⌜ Moves cardWhole readable file inputs latches outputs gates resets bads constraints scratch out r
+        ⌝ }
 {
     let answer = card_file(
         readable,

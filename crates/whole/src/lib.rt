@@ -1,6 +1,5 @@
 // A whole file comes in: from the bytes of an input to tables that hold its circuit (the paper, programs).
-ghost use Rattle.plan.specs.Circuit.{seven};
-ghost use Rattle.whole.specs.Opening.{Opens};
+ghost use Rattle.whole.specs.Lent.{OpensFile};
 use plan::Loaded;
 use plan::Refusal;
 use plan::Version;
@@ -15,8 +14,8 @@ pub mod ordered;
 // The longest input.
 const LONGEST: usize = 65536;
 
-// Reads a file by 14, 13, what a reader checks and 4 for the calls that follow: for the tables to make a circuit in, and for scratch, of which
-// a binary file may need less to be read.
+// Reads a file by 14, 13, what a reader checks and 4 for the calls that follow: for the tables to make a circuit
+// in, and for scratch, of which a binary file may need less to be read.
 pub fn open_file(
     readable: bool,
     file: &[u8],
@@ -30,18 +29,7 @@ pub fn open_file(
     scratch: &mut [u32],
     made: Sizes,
 ) -> Loaded
-    ensures { λ r. ⌜ Opens
-        (record {
-          readable = readable;
-          file = now (file .entry);
-          tables = (seven (now (inputs .entry)) (now (latches .entry)) (now (outputs .entry)) (now (gates .entry)) (now (resets .entry)) (now (bads .entry))
-              (now (constraints .entry)));
-          scratch = now (scratch .entry);
-          made = made;
-        })
-        r (seven (now (inputs .exit)) (now (latches .exit)) (now (outputs .exit)) (now (gates .exit)) (now (resets .exit)) (now (bads .exit))
-        (now (constraints .exit)))
-        (now (scratch .exit)) ⌝ }
+    ensures { λ r. ⌜ OpensFile readable file inputs latches outputs gates resets bads constraints scratch made r ⌝ }
 {
     if !readable {
         return Loaded::Refused(Refusal::Unreadable(0));

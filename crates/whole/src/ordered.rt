@@ -1,10 +1,5 @@
 // Opening a whole file: from the bytes of an input to its circuit in binary order (the paper, programs).
-ghost use mathlib.Core.Path.{_≡_};
-ghost use mathlib.Core.List.{[]};
-ghost use Rattle.plan.specs.Circuit.{seven};
-ghost use Rattle.plan.specs.Outcome.{Says};
-ghost use Rattle.plan.specs.Whole.{inputOf, openWhole};
-ghost use Rattle.whole.specs.ordered.Leaving.{leftBy};
+ghost use Rattle.whole.specs.Lent.{OpensMade, OpensWhole};
 use crate::open_file;
 use plan::Loaded;
 use plan::Made;
@@ -12,8 +7,8 @@ use tables::clear;
 use tables::clear_all;
 use tables::lengths;
 
-// The circuit of a file, converted into the tables to make one in; or a refusal, after which those are zero. The tables that the file was
-// read into hold what was left in them.
+// The circuit of a file, converted into the tables to make one in; or a refusal, after which those are zero. The
+// tables that the file was read into hold what was left in them.
 fn open_made(
     readable: bool,
     file: &[u8],
@@ -33,21 +28,8 @@ fn open_made(
     made_constraints: &mut [u32],
     scratch: &mut [u32],
 ) -> Made
-    ensures { λ r. ⌜ (record {
-      answer = r;
-      written = (seven (now («made_inputs» .exit)) (now («made_latches» .exit)) (now («made_outputs» .exit)) (now («made_gates» .exit))
-          (now («made_resets» .exit)) (now («made_bads» .exit)) (now («made_constraints» .exit)));
-      scratch = now (scratch .exit);
-    }) ≡ leftBy (openWhole
-        (record {
-          plan = inputOf readable (now (file .entry));
-          read = (seven (now (inputs .entry)) (now (latches .entry)) (now (outputs .entry)) (now (gates .entry)) (now (resets .entry)) (now (bads .entry))
-              (now (constraints .entry)));
-          made = (seven (now («made_inputs» .entry)) (now («made_latches» .entry)) (now («made_outputs» .entry)) (now («made_gates» .entry))
-              (now («made_resets» .entry)) (now («made_bads» .entry)) (now («made_constraints» .entry)));
-          scratch = now (scratch .entry);
-          out = [];
-        })) ⌝ }
+    ensures { λ r. ⌜ OpensMade readable file inputs latches outputs gates resets bads constraints «made_inputs»
+        «made_latches» «made_outputs» «made_gates» «made_resets» «made_bads» «made_constraints» scratch r ⌝ }
 {
     let made = lengths(
         made_inputs,
@@ -105,8 +87,8 @@ fn open_made(
     }
 }
 
-// The circuit of a whole file in binary order, in the tables to make one in, and its counts; or a refusal, after which those are zero. The
-// tables that it was read into, and scratch, are zero afterwards.
+// The circuit of a whole file in binary order, in the tables to make one in, and its counts; or a refusal, after
+// which those are zero. The tables that it was read into, and scratch, are zero afterwards.
 pub fn open_whole(
     readable: bool,
     file: &[u8],
@@ -126,24 +108,8 @@ pub fn open_whole(
     made_constraints: &mut [u32],
     scratch: &mut [u32],
 ) -> Made
-    ensures { λ r. ⌜ Says openWhole
-        (record {
-          plan = inputOf readable (now (file .entry));
-          read = (seven (now (inputs .entry)) (now (latches .entry)) (now (outputs .entry)) (now (gates .entry)) (now (resets .entry)) (now (bads .entry))
-              (now (constraints .entry)));
-          made = (seven (now («made_inputs» .entry)) (now («made_latches» .entry)) (now («made_outputs» .entry)) (now («made_gates» .entry))
-              (now («made_resets» .entry)) (now («made_bads» .entry)) (now («made_constraints» .entry)));
-          scratch = now (scratch .entry);
-          out = [];
-        })
-        (record {
-          answer = r;
-          read = (seven (now (inputs .exit)) (now (latches .exit)) (now (outputs .exit)) (now (gates .exit)) (now (resets .exit)) (now (bads .exit))
-              (now (constraints .exit)));
-          made = (seven (now («made_inputs» .exit)) (now («made_latches» .exit)) (now («made_outputs» .exit)) (now («made_gates» .exit))
-              (now («made_resets» .exit)) (now («made_bads» .exit)) (now («made_constraints» .exit)));
-          scratch = now (scratch .exit);
-        }) ⌝ }
+    ensures { λ r. ⌜ OpensWhole readable file inputs latches outputs gates resets bads constraints «made_inputs»
+        «made_latches» «made_outputs» «made_gates» «made_resets» «made_bads» «made_constraints» scratch r ⌝ }
 {
     let answer = open_made(
         readable,

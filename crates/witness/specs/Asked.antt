@@ -24,8 +24,10 @@ pub record Begins (n : Counts) (resets t : List ℕ) : Type 0 where
   pub room : 1 + n .I + n .L ≤ length t
   pub few : xCount (codesOf resets (n .L)) ≤ 20
 
--- tables that hold an accepted circuit in binary order, scratch that is long enough, and a whole list; few x in start and list
-pub record Holds (n : Counts) (latches outputs gates resets bads constraints scratch : List ℕ) (number : ℕ) (bytes : List ℕ) : Type 0 where
+-- tables that hold an accepted circuit in binary order, scratch that is long enough, and a whole list; few x in
+-- start and list
+pub record Holds (n : Counts) (latches outputs gates resets bads constraints scratch : List ℕ) (number : ℕ)
+    (bytes : List ℕ) : Type 0 where
   pub inputs : List ℕ
   pub runs : Runs n (seven inputs latches outputs gates resets bads constraints)
   pub scratch-long : Scratch n scratch

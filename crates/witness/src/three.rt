@@ -39,8 +39,9 @@ pub fn shown(n: Counts, bads: &[u32], t: &[u32]) -> bool
     any_lit(bads, n.B, out + n.O, t)
 }
 
-// Whether a list, whose bytes are good, shows 1 on some output or bad state from the state that scratch holds, every constraint being 1
-// there and at all steps before. Between two steps the state stays in scratch; the first 1 ends it, and the first constraint that is not.
+// Whether a list, whose bytes are good, shows 1 on some output or bad state from the state that scratch holds,
+// every constraint being 1 there and at all steps before. Between two steps the state stays in scratch; the first 1
+// ends it, and the first constraint that is not.
 fn shows_one(
     n: Counts,
     latches: &[u32],
@@ -55,10 +56,11 @@ fn shows_one(
     requires { ⌜ Starts n (now latches) (now outputs) (now gates) (now bads) (now constraints) (now scratch) ⌝ }
     requires { ⌜ length (now bytes) ≡ number * n .I ⌝ }
     ensures { λ r. ⌜ ((inputs resets : List ℕ) (s : List Value)
-        → Runs n (seven inputs (now (latches .entry)) (now (outputs .entry)) (now (gates .entry)) resets (now (bads .entry)) (now (constraints .entry)))
-        → length s ≡ n .L → Rests n s (now (scratch .entry))
-        → r ≡ showsFrom (circuitOf n (seven inputs (now (latches .entry)) (now (outputs .entry)) (now (gates .entry)) resets (now (bads .entry))
-        (now (constraints .entry)))) s number (now (bytes .entry))) ⌝ }
+        → Runs n (seven inputs (now (latches .entry)) (now (outputs .entry)) (now (gates .entry)) resets
+        (now (bads .entry)) (now (constraints .entry))) → length s ≡ n .L → Rests n s (now (scratch .entry)) → r
+        ≡ showsFrom (circuitOf n (seven inputs (now (latches .entry)) (now (outputs .entry))
+        (now (gates .entry)) resets (now (bads .entry)) (now (constraints .entry)))) s number (now (bytes .entry)))
+        ⌝ }
 {
     let lits = n.M + 1 + n.O;
     let mut at = 0;
@@ -79,9 +81,9 @@ fn shows_one(
     false
 }
 
-// The witness question: whether stepping a list of `number` vectors from the resets gives 1 on some output or bad state at some step,
-// every constraint being 1 there and at all steps before. The circuit is checked once, and the whole list judged before the first step.
-// Scratch is zero afterwards.
+// The witness question: whether stepping a list of `number` vectors from the resets gives 1 on some output or bad
+// state at some step, every constraint being 1 there and at all steps before. The circuit is checked once, and the
+// whole list judged before the first step. Scratch is zero afterwards.
 pub fn witness3(
     n: Counts,
     inputs: &[u32],

@@ -1,5 +1,5 @@
-// The two forms of a file in the shortest form, written into a buffer that has room, and how long they are (the paper, text form and
-// binary form; AIGER report, sections 7, 11 and 12; AIGER 1.9).
+// The two forms of a file in the shortest form, written into a buffer that has room, and how long they are (the
+// paper, text form and binary form; AIGER report, sections 7, 11 and 12; AIGER 1.9).
 ghost use mathlib.Core.Path.{_≡_};
 ghost use mathlib.Core.List.{_++_};
 ghost use Prim.Native.Nat.{_+_, _*_, _<_, _≤_};
@@ -8,7 +8,8 @@ ghost use Rattle.plan.specs.Header.{listOf, shortCounts};
 ghost use Rattle.plan.specs.Outcome.{put};
 ghost use Rattle.laws.proofs.Reading.Headers.{AllMost};
 ghost use Rattle.tables.specs.Held.{Fits};
-ghost use Rattle.write.specs.forms.Forms.{headBytes, observedBytes, textBytes, binaryBytes, Observable, Printable};
+ghost use Rattle.write.specs.forms.Forms.{headBytes, observedBytes, textBytes, binaryBytes, Observable};
+ghost use Rattle.write.specs.forms.Forms.{Printable};
 use crate::print::gates_length;
 use crate::print::latches_length;
 use crate::print::lines_length;
@@ -77,7 +78,8 @@ fn write_header(out: &mut [u8], letter: u8, n: Counts) -> usize
 // The bytes of the lines of outputs, bad states and constraints.
 fn observed_length(n: Counts, outputs: &[u32], bads: &[u32], constraints: &[u32]) -> usize
     requires { ⌜ Observable n (now outputs) (now bads) (now constraints) ⌝ }
-    ensures { λ r. ⌜ r ≡ length (observedBytes n (now (outputs .entry)) (now (bads .entry)) (now (constraints .entry))) ⌝ }
+    ensures { λ r. ⌜ r ≡ length (observedBytes n (now (outputs .entry)) (now (bads .entry))
+        (now (constraints .entry))) ⌝ }
     ensures { λ r. ⌜ r ≤ 34603008 ⌝ }
 {
     lines_length(outputs, 1, n.O) + lines_length(bads, 1, n.B) + lines_length(constraints, 1, n.C)
@@ -94,7 +96,8 @@ fn write_observed(
 ) -> usize
     requires { ⌜ Observable n (now outputs) (now bads) (now constraints) ⌝ }
     requires { ⌜ at + length (observedBytes n (now outputs) (now bads) (now constraints)) ≤ length (now out) ⌝ }
-    ensures { λ r. ⌜ r ≡ at + length (observedBytes n (now (outputs .entry)) (now (bads .entry)) (now (constraints .entry))) ⌝ }
+    ensures { λ r. ⌜ r ≡ at + length (observedBytes n (now (outputs .entry)) (now (bads .entry))
+        (now (constraints .entry))) ⌝ }
     ensures { λ _. ⌜ now (out .exit) ≡ put (now (out .entry)) at
         (observedBytes n (now (outputs .entry)) (now (bads .entry)) (now (constraints .entry))) ⌝ }
 {
@@ -114,9 +117,10 @@ pub fn text_length(
     bads: &[u32],
     constraints: &[u32],
 ) -> usize
-    requires { ⌜ Fits n (now inputs) (now latches) (now outputs) (now gates) (now resets) (now bads) (now constraints) ⌝ }
-    ensures { λ r. ⌜ r ≡ length (textBytes n (now (inputs .entry)) (now (latches .entry)) (now (outputs .entry)) (now (gates .entry))
-        (now (resets .entry)) (now (bads .entry)) (now (constraints .entry))) ⌝ }
+    requires { ⌜ Fits n (now inputs) (now latches) (now outputs) (now gates) (now resets) (now bads)
+        (now constraints) ⌝ }
+    ensures { λ r. ⌜ r ≡ length (textBytes n (now (inputs .entry)) (now (latches .entry)) (now (outputs .entry))
+        (now (gates .entry)) (now (resets .entry)) (now (bads .entry)) (now (constraints .entry))) ⌝ }
 {
     header_length(n)
         + lines_length(inputs, 1, n.I)
@@ -125,8 +129,8 @@ pub fn text_length(
         + lines_length(gates, 3, n.A)
 }
 
-// The text form from the start of a buffer that has room: I lines of one literal, L of two and possibly a reset, O, B and C of one, A of
-// three. The position after it.
+// The text form from the start of a buffer that has room: I lines of one literal, L of two and possibly a reset, O,
+// B and C of one, A of three. The position after it.
 pub fn fill_text(
     out: &mut [u8],
     n: Counts,
@@ -138,11 +142,12 @@ pub fn fill_text(
     bads: &[u32],
     constraints: &[u32],
 ) -> usize
-    requires { ⌜ Fits n (now inputs) (now latches) (now outputs) (now gates) (now resets) (now bads) (now constraints) ⌝ }
-    requires { ⌜ length (textBytes n (now inputs) (now latches) (now outputs) (now gates) (now resets) (now bads) (now constraints))
-        ≤ length (now out) ⌝ }
-    ensures { λ r. ⌜ r ≡ length (textBytes n (now (inputs .entry)) (now (latches .entry)) (now (outputs .entry)) (now (gates .entry))
-        (now (resets .entry)) (now (bads .entry)) (now (constraints .entry))) ⌝ }
+    requires { ⌜ Fits n (now inputs) (now latches) (now outputs) (now gates) (now resets) (now bads)
+        (now constraints) ⌝ }
+    requires { ⌜ length (textBytes n (now inputs) (now latches) (now outputs) (now gates) (now resets) (now bads)
+        (now constraints)) ≤ length (now out) ⌝ }
+    ensures { λ r. ⌜ r ≡ length (textBytes n (now (inputs .entry)) (now (latches .entry)) (now (outputs .entry))
+        (now (gates .entry)) (now (resets .entry)) (now (bads .entry)) (now (constraints .entry))) ⌝ }
     ensures { λ _. ⌜ now (out .exit) ≡ put (now (out .entry)) 0
         (textBytes n (now (inputs .entry)) (now (latches .entry)) (now (outputs .entry)) (now (gates .entry))
         (now (resets .entry)) (now (bads .entry)) (now (constraints .entry))) ⌝ }
@@ -174,8 +179,8 @@ pub fn binary_length(
         + gates_length(gates, n.A)
 }
 
-// The binary form from the start of a buffer that has room: L lines of a next state and possibly a reset, O, B and C of one literal, A
-// gates. The position after it.
+// The binary form from the start of a buffer that has room: L lines of a next state and possibly a reset, O, B and
+// C of one literal, A gates. The position after it.
 pub fn fill_binary(
     out: &mut [u8],
     n: Counts,
@@ -187,8 +192,8 @@ pub fn fill_binary(
     constraints: &[u32],
 ) -> usize
     requires { ⌜ Printable n (now latches) (now outputs) (now gates) (now resets) (now bads) (now constraints) ⌝ }
-    requires { ⌜ length (binaryBytes n (now latches) (now outputs) (now gates) (now resets) (now bads) (now constraints))
-        ≤ length (now out) ⌝ }
+    requires { ⌜ length (binaryBytes n (now latches) (now outputs) (now gates) (now resets) (now bads)
+        (now constraints)) ≤ length (now out) ⌝ }
     ensures { λ r. ⌜ r ≡ length (binaryBytes n (now (latches .entry)) (now (outputs .entry)) (now (gates .entry))
         (now (resets .entry)) (now (bads .entry)) (now (constraints .entry))) ⌝ }
     ensures { λ _. ⌜ now (out .exit) ≡ put (now (out .entry)) 0

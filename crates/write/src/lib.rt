@@ -1,5 +1,5 @@
-// Writing given tables in text form or binary form, and their tail (the paper, text form, binary form, and refusal numbers; AIGER
-// report, sections 7, 11 and 12; AIGER 1.9).
+// Writing given tables in text form or binary form, and their tail (the paper, text form, binary form, and refusal
+// numbers; AIGER report, sections 7, 11 and 12; AIGER 1.9).
 ghost use mathlib.Core.Path.{_≡_};
 ghost use mathlib.Core.List.{_++_};
 ghost use Rattle.plan.specs.Refusals.{firstOf};
@@ -40,9 +40,11 @@ fn put_text(
     tail: &[u8],
     out: &mut [u8],
 ) -> Written
-    requires { ⌜ Fits n (now inputs) (now latches) (now outputs) (now gates) (now resets) (now bads) (now constraints) ⌝ }
+    requires { ⌜ Fits n (now inputs) (now latches) (now outputs) (now gates) (now resets) (now bads)
+        (now constraints) ⌝ }
     ensures { λ r. ⌜ record { answer = r; out = now (out .exit) } ≡ putBytes (now (out .entry)) 0
-        (textBytes n (now (inputs .entry)) (now (latches .entry)) (now (outputs .entry)) (now (gates .entry)) (now (resets .entry))
+        (textBytes n (now (inputs .entry)) (now (latches .entry)) (now (outputs .entry)) (now (gates .entry))
+        (now (resets .entry))
         (now (bads .entry)) (now (constraints .entry)) ++ now (tail .entry)) ⌝ }
 {
     let text = text_length(
@@ -86,7 +88,8 @@ fn put_binary(
 ) -> Written
     requires { ⌜ Printable n (now latches) (now outputs) (now gates) (now resets) (now bads) (now constraints) ⌝ }
     ensures { λ r. ⌜ record { answer = r; out = now (out .exit) } ≡ putBytes (now (out .entry)) 0
-        (binaryBytes n (now (latches .entry)) (now (outputs .entry)) (now (gates .entry)) (now (resets .entry)) (now (bads .entry))
+        (binaryBytes n (now (latches .entry)) (now (outputs .entry)) (now (gates .entry)) (now (resets .entry))
+        (now (bads .entry))
         (now (constraints .entry)) ++ now (tail .entry)) ⌝ }
 {
     let binary = binary_length(n, latches, outputs, gates, resets, bads, constraints);
@@ -111,8 +114,8 @@ fn check_tables(
     ordered: bool,
 ) -> Checked
     ensures { λ r. ⌜ r ≡ checkedBy (firstOf (tableStages ordered
-        (givenIn n (now (inputs .entry)) (now (latches .entry)) (now (outputs .entry)) (now (gates .entry)) (now (resets .entry)) (now (bads .entry))
-        (now (constraints .entry)) (now (scratch .entry))))) ⌝ }
+        (givenIn n (now (inputs .entry)) (now (latches .entry)) (now (outputs .entry)) (now (gates .entry))
+        (now (resets .entry)) (now (bads .entry)) (now (constraints .entry)) (now (scratch .entry))))) ⌝ }
     ensures { λ _. ⌜ now (scratch .exit) ≡ cleared (now (scratch .entry)) ⌝ }
 {
     if ordered {
@@ -141,7 +144,8 @@ fn check_tables(
     )
 }
 
-// The same, then the tail by 1 and 10, whose offsets count from the tail's start. Scratch holds its marks and is zero afterwards.
+// The same, then the tail by 1 and 10, whose offsets count from the tail's start. Scratch holds its marks and is
+// zero afterwards.
 pub fn judge(
     n: Counts,
     inputs: &[u32],
@@ -156,8 +160,9 @@ pub fn judge(
     ordered: bool,
 ) -> Checked
     ensures { λ r. ⌜ r ≡ checkedBy (firstOf (writerStages ordered
-        (givenIn n (now (inputs .entry)) (now (latches .entry)) (now (outputs .entry)) (now (gates .entry)) (now (resets .entry)) (now (bads .entry))
-        (now (constraints .entry)) (now (scratch .entry))) (now (tail .entry)))) ⌝ }
+        (givenIn n (now (inputs .entry)) (now (latches .entry)) (now (outputs .entry)) (now (gates .entry))
+        (now (resets .entry)) (now (bads .entry)) (now (constraints .entry)) (now (scratch .entry)))
+        (now (tail .entry)))) ⌝ }
     ensures { λ _. ⌜ now (scratch .exit) ≡ cleared (now (scratch .entry)) ⌝ }
 {
     match check_tables(
@@ -181,8 +186,8 @@ pub fn judge(
     }
 }
 
-// Writes the text form of given tables and the tail: the number of bytes written, or a refusal, which changes no byte of `out`. Scratch
-// is zero afterwards.
+// Writes the text form of given tables and the tail: the number of bytes written, or a refusal, which changes no
+// byte of `out`. Scratch is zero afterwards.
 pub fn write_text(
     n: Counts,
     inputs: &[u32],
@@ -227,8 +232,8 @@ pub fn write_text(
     }
 }
 
-// Writes the binary form of given tables in binary order and the tail: the number of bytes written, or a refusal, which changes no byte
-// of `out`. Scratch is zero afterwards.
+// Writes the binary form of given tables in binary order and the tail: the number of bytes written, or a refusal,
+// which changes no byte of `out`. Scratch is zero afterwards.
 pub fn write_binary(
     n: Counts,
     inputs: &[u32],

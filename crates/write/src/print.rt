@@ -1,5 +1,6 @@
-// Lines of literals and of latches, and gates of the binary form, written into a buffer that has room (the paper, writing; AIGER report,
-// sections 7 and 12). A writer asks for the length first, so that nothing is written where the buffer is too short.
+// Lines of literals and of latches, and gates of the binary form, written into a buffer that has room (the paper,
+// writing; AIGER report, sections 7 and 12). A writer asks for the length first, so that nothing is written where
+// the buffer is too short.
 ghost use mathlib.Core.Path.{_≡_};
 ghost use mathlib.Core.List.{map};
 ghost use Prim.Native.Nat.{_+_, _-_, _*_, _<_, _≤_};
@@ -230,8 +231,9 @@ fn write_gate(out: &mut [u8], at: usize, lhs: u32, rhs0: u32, rhs1: u32) -> usiz
     differences::put_groups(out, middle, above(rhs0, rhs1))
 }
 
-// The groups of a number that has three at most. Three bytes are stored always, since how many groups there are can't be foreseen and a
-// wrong guess is dear; what follows is put over those past the groups. The position after the groups.
+// The groups of a number that has three at most. Three bytes are stored always, since how many groups there are
+// can't be foreseen and a wrong guess is dear; what follows is put over those past the groups. The position after
+// the groups.
 fn put_three(out: &mut [u8], at: usize, d: u32) -> usize
     requires { ⌜ d < 2097152 ⌝ }
     requires { ⌜ at + 3 ≤ length (now out) ⌝ }
@@ -274,7 +276,8 @@ pub fn write_gates(out: &mut [u8], at: usize, gates: &[u32], n: usize) -> usize
     requires { ⌜ 3 * n ≤ 16777216 ⌝ }
     requires { ⌜ at + length (gateBytes (map gateOf (rowsOf 3 n (now gates)))) ≤ length (now out) ⌝ }
     ensures { λ r. ⌜ r ≡ at + length (gateBytes (map gateOf (rowsOf 3 n (now (gates .entry))))) ⌝ }
-    ensures { λ _. ⌜ now (out .exit) ≡ put (now (out .entry)) at (gateBytes (map gateOf (rowsOf 3 n (now (gates .entry))))) ⌝ }
+    ensures { λ _. ⌜ now (out .exit) ≡ put (now (out .entry)) at
+        (gateBytes (map gateOf (rowsOf 3 n (now (gates .entry))))) ⌝ }
 {
     let mut next = at;
     let mut i = 0;

@@ -19,7 +19,9 @@ use Rattle.plan.specs.Header.{binary, over, adds}
 use Rattle.plan.specs.Binary.{latchesFrom, binaryOrder}
 use Rattle.plan.specs.Reading.{WellFormed, Room}
 use Rattle.plan.specs.Given.{orElse, failing, outsideIn}
-use Rattle.plan.specs.Cards.{wordAt, wordBytes, markBytes, marked, headCard, wordCards, gateCards, cardsOf, allZero, holdable, CardStates, countsAt, countsPlaced, cardBytes, wrongLength, badLength, latchesAt, outputsAt, gatesAt, wrongIn, wrongMarks, wordsIn, gatesIn, carded, cardHead, readCards}
+use Rattle.plan.specs.Cards.{wordAt, wordBytes, markBytes, marked, headCard, wordCards, gateCards, cardsOf, allZero, holdable, CardStates, countsAt}
+use Rattle.plan.specs.Cards.{countsPlaced, cardBytes, wrongLength, badLength, latchesAt, outputsAt, gatesAt, wrongIn, wrongMarks, wordsIn, gatesIn}
+use Rattle.plan.specs.Cards.{carded, cardHead, readCards}
 use Rattle.laws.proofs.Reading.Common.{got-value, got-next, then-got, and-left, and-right, and-intro}
 use Rattle.laws.proofs.Reading.Differences.{Bytes}
 use Rattle.laws.proofs.Reading.Headers.{AllMost, over-none, most-none}
@@ -28,7 +30,8 @@ use Rattle.laws.proofs.Running.Binary.{Bounded}
 use Rattle.laws.proofs.Running.InOrder.{outputs-bounded, nexts-bounded, well-formed}
 use Rattle.laws.proofs.Running.Resets.{resets-length}
 use Rattle.laws.proofs.Writing.Nothing.{failing-none, none-inside, inside-none}
-use Rattle.cards.proofs.Laws.Records.{Words, word-back, mark-none, mark-first, word-first, bytes-drop, words-back, words-marked, length-words, words-took, length-words-in, gates-back, gates-marked, length-gates, gates-took, length-gates-in}
+use Rattle.cards.proofs.Laws.Records.{Words, word-back, mark-none, mark-first, word-first, bytes-drop, words-back, words-marked, length-words}
+use Rattle.cards.proofs.Laws.Records.{words-took, length-words-in, gates-back, gates-marked, length-gates, gates-took, length-gates-in}
 use Rattle.cards.proofs.Laws.Passing.{past-none, past-got}
 
 -- literals within the limits are numbers of 32 bits

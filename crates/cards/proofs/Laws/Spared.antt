@@ -27,7 +27,12 @@ Spared (refused r) = Apart r
 
 -- a check before what is read next, whose refusal has another number
 apart : (r : Refusal) (k : ℕ) → numberOf r ≡ k → (k ≤ 8 → k ≤ 5) → Apart r
-apart r k e h = record { six = λ x. other 6 x (omega arith, omega arith); seven = λ x. other 7 x (omega arith, omega arith); eight = λ x. other 8 x (omega arith, omega arith) }
+apart r k e h = record {
+  six = λ x. other 6 x (omega arith, omega arith);
+  seven = λ x. other 7 x (omega arith, omega arith);
+  eight = λ x. other 8 x
+      (omega arith, omega arith);
+}
   where
     other : (n : ℕ) → numberOf r ≡ n → (5 < n) × (n ≤ 8) → ⊥
     other n x i = omega (arith, e, x, i .0, i .1, h (omega (arith, e, x, i .1)))

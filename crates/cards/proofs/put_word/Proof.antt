@@ -54,18 +54,5 @@ returns c = let a = c .args in (refl, word-put (a .out .now) (a .at) (a .word) (
 pub put-word-spec : {M : Type 1} → statement M
 put-word-spec =
     tie.close
-    (tie.spec
-    cast-out
-    slice-write-out
-    cast-out-2
-    add-out
-    slice-write-out-2
-    cast-out-3
-    add-out-2
-    slice-write-out-3
-    cast-out-4
-    add-out-3
-    slice-write-out-4
-    add-result
-    same-length
-    returns)
+    (tie.spec cast-out slice-write-out cast-out-2 add-out slice-write-out-2 cast-out-3 add-out-2
+    slice-write-out-3 cast-out-4 add-out-3 slice-write-out-4 add-result same-length returns)

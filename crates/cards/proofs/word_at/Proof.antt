@@ -53,16 +53,5 @@ returns c =
 pub word-at-spec : {M : Type 1} → statement M
 word-at-spec =
     tie.close
-    (tie.spec
-    shared-slice-read-a
-    cast-a
-    add-b
-    shared-slice-read-b
-    cast-b
-    add-c
-    shared-slice-read-c
-    cast-c
-    add-d
-    shared-slice-read-d
-    cast-d
-    returns)
+    (tie.spec shared-slice-read-a cast-a add-b shared-slice-read-b cast-b add-c shared-slice-read-c cast-c
+    add-d shared-slice-read-d cast-d returns)

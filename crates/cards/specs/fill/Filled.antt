@@ -27,7 +27,8 @@ pub record Ready (file : List ℕ) (n : Counts) (inputs latches outputs gates : 
   pub gates-long : 3 * n .A ≤ length gates
 
 -- tables 1 to 4 hold a circuit from their start on, all else as it was
-pub record FirstHold (inputs latches outputs gates : List ℕ) (c : Circuit) (inputs′ latches′ outputs′ gates′ : List ℕ) : Type 0 where
+pub record FirstHold (inputs latches outputs gates : List ℕ) (c : Circuit)
+    (inputs′ latches′ outputs′ gates′ : List ℕ) : Type 0 where
   pub inputs-held : inputs′ ≡ put inputs 0 (c .inputs)
   pub latches-held : latches′ ≡ put latches 0 (flat (map latchLine (c .latches)))
   pub outputs-held : outputs′ ≡ put outputs 0 (c .outputs)

@@ -7,7 +7,8 @@ use Rattle.comparer.proofs.compare_all.Statement.{statement}
 use Rattle.comparer.proofs.compare_all.Tie as tie
 
 abbrev Inv-loop : tie.InvT-loop
-Inv-loop n inputs latches outputs gates resets bads constraints scratch₀ state₀ vectors lines out₀ twin₀ again₀ at₀ parts₀ scratch state out twin again at parts =
+Inv-loop n inputs latches outputs gates resets bads constraints scratch₀ state₀ vectors lines out₀ twin₀ again₀ at₀ parts₀ scratch state out
+    twin again at parts =
     Kept at vectors scratch₀ state₀ out₀ twin₀ again₀ scratch state out twin again
 
 abbrev μ-loop : tie.MeasureT-loop
@@ -111,37 +112,8 @@ returns-3 c = search needs
 pub compare-all-spec : {M : Type 1} → statement M
 compare-all-spec =
     tie.close
-    (tie.spec
-    Inv-loop
-    μ-loop
-    loop-holds
-    sub-compare
-    part-compare-start
-    part-compare-end
-    compare-requires
-    enum-known-part
-    say-requires
-    same-length
-    same-length-2
-    same-length-3
-    same-length-4
-    same-length-5
-    returns
-    past-requires
-    print-requires
-    past-requires-2
-    same-length-6
-    same-length-7
-    same-length-8
-    same-length-9
-    same-length-10
-    returns-2
-    sub-parts
-    loop-less
-    loop-again
-    same-length-11
-    same-length-12
-    same-length-13
-    same-length-14
-    same-length-15
-    returns-3)
+    (tie.spec Inv-loop μ-loop loop-holds sub-compare part-compare-start part-compare-end compare-requires
+    enum-known-part say-requires same-length same-length-2 same-length-3 same-length-4 same-length-5 returns
+    past-requires print-requires past-requires-2 same-length-6 same-length-7 same-length-8 same-length-9
+    same-length-10 returns-2 sub-parts loop-less loop-again same-length-11 same-length-12 same-length-13
+    same-length-14 same-length-15 returns-3)

@@ -5,6 +5,16 @@ use Rattle.convert.proofs.Filling.{nexts-known, outputs-known, gates-pl
 use Rattle.convert.proofs.fill.Statement.{statement}
 use Rattle.convert.proofs.fill.Tie as tie
 
+-- moments, each named by what happened there
+abbrev start-of : tie.After-run-on-arg → tie.Start
+start-of c = c .before .before .before .before .before .before .before .before .before .before .before
+
+abbrev renumber-column-of : tie.After-spread-arg → tie.After-renumber-column
+renumber-column-of c = c .before .before .before
+
+abbrev before-spread : tie.After-renumber-column-arg2 → tie.After-spread-arg
+before-spread c = c .before .before .before .before
+
 -- back to the start from where inputs are written
 abbrev start : tie.After-run-on → tie.Start
 start c = c .before .before .before .before .before .before .before .before .before .before .before .before
@@ -27,7 +37,7 @@ add-first-gate c = search needs
 
 run-on-requires : tie.Need-run-on-requires
 run-on-requires c κs =
-    let p = c .before .before .before .before .before .before .before .before .before .before .before .pre in
+    let p = start-of c .pre in
     (p .inputs-long, omega (arith, p .ready .fits .sum, p .ready .fits .most-M))
 
 renumber-column-requires : tie.Need-renumber-column-requires
@@ -37,17 +47,17 @@ renumber-column-requires c κs =
 
 cast-spread : tie.Need-cast-spread
 cast-spread c =
-    let p = start (running (c .before .before .before)) .pre in
+    let p = start (running (renumber-column-of c)) .pre in
     record { fits = omega (arith, p .ready .fits .sum, p .ready .fits .most-M) }
 
 spread-requires : tie.Need-spread-requires
 spread-requires c κs =
-    let p = start (running (c .before .before .before)) .pre in
+    let p = start (running (renumber-column-of c)) .pre in
     (omega (arith, p .latches-long, c .before .before .to-latches .given), omega (arith, p .ready .fits .sum, p .ready .fits .most-M))
 
 renumber-column-requires-2 : tie.Need-renumber-column-requires-2
 renumber-column-requires-2 c κs =
-    let p = start (running (c .before .before .before .before .before .before .before)) .pre in
+    let p = start (running (renumber-column-of (before-spread c))) .pre in
     (omega arith, (omega (arith, p .ready .fits .outputs-long), (p .outputs-long, outputs-known (p .ready))))
 
 place-gates-requires : tie.Need-place-gates-requires

@@ -5,19 +5,29 @@ use Rattle.convert.proofs.Filling.{resets-known, bads-known, constraint
 use Rattle.convert.proofs.fill_last.Statement.{statement}
 use Rattle.convert.proofs.fill_last.Tie as tie
 
+-- moments, each named by what happened there
+abbrev start-of : tie.After-renumber-column-arg → tie.Start
+start-of c = c .before .before .before .before .before .before .before .before
+
+abbrev before-renumber-column : tie.After-renumber-column-arg2 → tie.After-renumber-column-arg
+before-renumber-column c = c .before .before .before .before
+
+abbrev before-renumber-column2 : tie.After-renumber-column-arg3 → tie.After-renumber-column-arg
+before-renumber-column2 c = before-renumber-column (c .before .before .before .before)
+
 renumber-column-requires : tie.Need-renumber-column-requires
 renumber-column-requires c κs =
-    let p = c .before .before .before .before .before .before .before .before .pre in
+    let p = start-of c .pre in
     (omega arith, (omega (arith, p .ready .fits .resets-long), (p .resets-long, resets-known (p .ready))))
 
 renumber-column-requires-2 : tie.Need-renumber-column-requires-2
 renumber-column-requires-2 c κs =
-    let p = c .before .before .before .before .before .before .before .before .before .before .before .before .pre in
+    let p = start-of (before-renumber-column c) .pre in
     (omega arith, (omega (arith, p .ready .fits .bads-long), (p .bads-long, bads-known (p .ready))))
 
 renumber-column-requires-3 : tie.Need-renumber-column-requires-3
 renumber-column-requires-3 c κs =
-    let p = c .before .before .before .before .before .before .before .before .before .before .before .before .before .before .before .before .pre in
+    let p = start-of (before-renumber-column2 c) .pre in
     (omega arith, (omega (arith, p .ready .fits .constraints-long), (p .constraints-long, constraints-known (p .ready))))
 
 same-length : tie.Need-same-length

@@ -5,7 +5,7 @@ use Rattle.converter.proofs.main.Statement.{statement}
 use Rattle.converter.proofs.main.Tie as tie
 use Rattle.converter.proofs.main.Reads as reads
 use Rattle.converter.proofs.main.Lts as lts
-use Rattle.making.proofs.converting.convert_whole.Reads as convert-whole-reads
+use Rattle.making.proofs.convert_whole.Reads as convert-whole-reads
 use Rattle.office.proofs.print_written.Reads as print-written-reads
 use Rattle.office.proofs.read_plan.Reads as read-plan-reads
 use Rattle.office.proofs.readable.Reads as readable-reads
@@ -122,31 +122,11 @@ returns c = search needs
 pub main-spec : {M : Type 1} → statement M
 main-spec =
     tie.close
-    (tie.spec
-    slice-aggregate-read-plan
-    read-plan-requires
-    size-requires
-    readable-requires
-    sub-convert-whole
-    part-convert-whole-start
-    part-convert-whole-end
-    slice-aggregate-convert-whole
-    slice-aggregate-convert-whole-2
-    slice-aggregate-convert-whole-3
-    slice-aggregate-convert-whole-4
-    slice-aggregate-convert-whole-5
-    slice-aggregate-convert-whole-6
-    slice-aggregate-convert-whole-7
-    slice-aggregate-convert-whole-8
-    slice-aggregate-convert-whole-9
-    slice-aggregate-convert-whole-10
-    slice-aggregate-convert-whole-11
-    slice-aggregate-convert-whole-12
-    slice-aggregate-convert-whole-13
-    slice-aggregate-convert-whole-14
-    slice-aggregate-convert-whole-15
-    slice-aggregate-convert-whole-16
-    convert-whole-requires
-    slice-aggregate-print-written
-    print-written-requires
-    returns)
+    (tie.spec slice-aggregate-read-plan read-plan-requires size-requires readable-requires sub-convert-whole
+    part-convert-whole-start part-convert-whole-end slice-aggregate-convert-whole
+    slice-aggregate-convert-whole-2 slice-aggregate-convert-whole-3 slice-aggregate-convert-whole-4
+    slice-aggregate-convert-whole-5 slice-aggregate-convert-whole-6 slice-aggregate-convert-whole-7
+    slice-aggregate-convert-whole-8 slice-aggregate-convert-whole-9 slice-aggregate-convert-whole-10
+    slice-aggregate-convert-whole-11 slice-aggregate-convert-whole-12 slice-aggregate-convert-whole-13
+    slice-aggregate-convert-whole-14 slice-aggregate-convert-whole-15 slice-aggregate-convert-whole-16
+    convert-whole-requires slice-aggregate-print-written print-written-requires returns)

@@ -1,3 +1,4 @@
+-- Whether given tables hold a circuit that a reader could have accepted: number (0: they do) and place. Each answer is given by `check-told`.
 use native.Mathlib.Omega.{arith}
 use borrow.Author.Needs.{needs}
 use Rattle.plan.specs.Circuit.{seven}
@@ -34,9 +35,4 @@ returns c =
 pub golvanzo-check-spec : {M : Type 1} → statement M
 golvanzo-check-spec =
     tie.close
-    (tie.spec
-    counts-requires
-    check-requires
-    checked-requires
-    same-length
-    returns)
+    (tie.spec counts-requires check-requires checked-requires same-length returns)

@@ -1,3 +1,5 @@
+-- Converts the circuit in given tables into written ones: number (0: converted), place and the counts M, I, L, O, A, B, C. Each answer is given by
+-- `made-told`.
 use native.Mathlib.Omega.{arith}
 use borrow.Author.Needs.{needs}
 use Rattle.plan.specs.Circuit.{seven}
@@ -25,7 +27,11 @@ same-length c =
     omega (arith, d0 .before .before .to-inputs .given)
 
 same-length-2 : tie.Need-same-length-2
-same-length-2 c = omega (arith, c .before .before .before .before .before .before .before .before .before .before .before .before .before .before .before .to-latches .given)
+same-length-2 c = omega (
+  arith,
+  c .before .before .before .before .before .before .before .before .before .before .before .before .before .before
+      .before .to-latches .given,
+)
 
 same-length-3 : tie.Need-same-length-3
 same-length-3 c = omega (arith, c .before .before .before .before .before .before .before .before .before .before .before .before .before .to-outputs .given)
@@ -73,16 +79,5 @@ returns c =
 pub golvanzo-convert-spec : {M : Type 1} → statement M
 golvanzo-convert-spec =
     tie.close
-    (tie.spec
-    counts-requires
-    convert-requires
-    made-requires
-    same-length
-    same-length-2
-    same-length-3
-    same-length-4
-    same-length-5
-    same-length-6
-    same-length-7
-    same-length-8
-    returns)
+    (tie.spec counts-requires convert-requires made-requires same-length same-length-2 same-length-3
+    same-length-4 same-length-5 same-length-6 same-length-7 same-length-8 returns)

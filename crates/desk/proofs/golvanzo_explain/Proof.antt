@@ -1,3 +1,5 @@
+-- What made an output 0 or 1 in a step of given tables, which are in binary order: number (0: explained) and place. Each answer is given by
+-- `explain-told`.
 use native.Mathlib.Omega.{arith}
 use borrow.Author.Needs.{needs}
 use Rattle.plan.specs.Circuit.{seven}

@@ -16,7 +16,8 @@ loaded-requires : tie.Need-loaded-requires
 loaded-requires c κs = search needs
 
 same-length : tie.Need-same-length
-same-length c = c .before .before .before .before .before .before .before .before .before .before .before .before .before .before .before .before .before .inputs .given
+same-length c = c .before .before .before .before .before .before .before .before .before .before .before .before .before .before .before .before
+    .before .inputs .given
 
 same-length-2 : tie.Need-same-length-2
 same-length-2 c = c .before .before .before .before .before .before .before .before .before .before .before .before .before .before .before .latches .given
@@ -45,7 +46,8 @@ told answer x = record { answer = answer; tables = x .tables; scratch = x .scrat
 
 returns : tie.Need-returns
 returns c =
-    let read = c .before .before .before .before .before .before .before .before .before .before .before .before .before .before .before .before .before .before .read-cards in
+    let read = c .before .before .before .before .before .before .before .before .before .before .before .before .before .before .before .before
+    .before .before .read-cards in
     let l = read .last in
     let x : LoadExit = record {
       answer = read .result;
@@ -57,15 +59,5 @@ returns c =
 pub golvanzo-read-cards-spec : {M : Type 1} → statement M
 golvanzo-read-cards-spec =
     tie.close
-    (tie.spec
-    read-cards-requires
-    loaded-requires
-    same-length
-    same-length-2
-    same-length-3
-    same-length-4
-    same-length-5
-    same-length-6
-    same-length-7
-    same-length-8
-    returns)
+    (tie.spec read-cards-requires loaded-requires same-length same-length-2 same-length-3 same-length-4
+    same-length-5 same-length-6 same-length-7 same-length-8 returns)

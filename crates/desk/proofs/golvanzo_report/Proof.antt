@@ -1,3 +1,4 @@
+-- The needle report of a list of vectors: number (0: reported) and place; the numbers go to table 6. Each answer is given by `report-told`.
 use native.Mathlib.Omega.{arith}
 use borrow.Author.Needs.{needs}
 use Rattle.plan.specs.Circuit.{seven}
@@ -26,7 +27,8 @@ same-length-2 c = omega (arith, c .before .before .before .six .given)
 
 returns : tie.Need-returns
 returns c =
-    let start = c .before .before .before .before .before .before .before .before .before .before .before .before .before .before .before .before .before .before .before .before in
+    let start = c .before .before .before .before .before .before .before .before .before .before .before .before .before .before .before .before
+    .before .before .before .before in
     let counts′ = c .before .before .before .before .before .before .before .before .before .counts in
     let reported = c .before .before .before .before .before .before .report in
     let a = start .args in
@@ -43,10 +45,4 @@ returns c =
 pub golvanzo-report-spec : {M : Type 1} → statement M
 golvanzo-report-spec =
     tie.close
-    (tie.spec
-    counts-requires
-    report-requires
-    stepped-requires
-    same-length
-    same-length-2
-    returns)
+    (tie.spec counts-requires report-requires stepped-requires same-length same-length-2 returns)

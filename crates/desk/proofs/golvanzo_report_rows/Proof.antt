@@ -1,3 +1,4 @@
+-- The row report of up to 64 rows, into table 6: number (0: reported) and place. Each answer is given by `report-told`.
 use native.Mathlib.Omega.{arith}
 use borrow.Author.Needs.{needs}
 use Rattle.plan.specs.Circuit.{seven}
@@ -43,10 +44,4 @@ returns c =
 pub golvanzo-report-rows-spec : {M : Type 1} → statement M
 golvanzo-report-rows-spec =
     tie.close
-    (tie.spec
-    counts-requires
-    report-rows-requires
-    stepped-requires
-    same-length
-    same-length-2
-    returns)
+    (tie.spec counts-requires report-rows-requires stepped-requires same-length same-length-2 returns)

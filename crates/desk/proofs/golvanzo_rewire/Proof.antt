@@ -1,3 +1,5 @@
+-- The right sides of one gate of given tables, which are in binary order, with the values of a step: number (0: rewired) and place. Each answer is
+-- given by `rewire-told`.
 use borrow.Author.Needs.{needs}
 use Rattle.plan.specs.Circuit.{seven}
 use Rattle.plan.specs.Header.{countsFrom}
@@ -45,11 +47,4 @@ returns c =
 pub golvanzo-rewire-spec : {M : Type 1} → statement M
 golvanzo-rewire-spec =
     tie.close
-    (tie.spec
-    counts-requires
-    rewire-requires
-    stepped-requires
-    same-length
-    same-length-2
-    same-length-3
-    returns)
+    (tie.spec counts-requires rewire-requires stepped-requires same-length same-length-2 same-length-3 returns)

@@ -1,3 +1,4 @@
+-- Up to 64 rows, each stepped once from the resets: number (0: stepped) and place. Each answer is given by `rows-told`.
 use native.Mathlib.Omega.{arith}
 use borrow.Author.Needs.{needs}
 use Rattle.plan.specs.Circuit.{seven}
@@ -48,11 +49,5 @@ returns c =
 pub golvanzo-rows-spec : {M : Type 1} → statement M
 golvanzo-rows-spec =
     tie.close
-    (tie.spec
-    counts-requires
-    step-rows-requires
-    stepped-requires
-    same-length
-    same-length-2
-    same-length-3
+    (tie.spec counts-requires step-rows-requires stepped-requires same-length same-length-2 same-length-3
     returns)

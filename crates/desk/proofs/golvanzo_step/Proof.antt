@@ -1,3 +1,4 @@
+-- One step of the circuit in given tables, which are in binary order: number (0: stepped) and place. Each answer is given by `step-told`.
 use native.Mathlib.Omega.{arith}
 use borrow.Author.Needs.{needs}
 use Rattle.plan.specs.Circuit.{seven}
@@ -48,11 +49,4 @@ returns c =
 pub golvanzo-step-spec : {M : Type 1} → statement M
 golvanzo-step-spec =
     tie.close
-    (tie.spec
-    counts-requires
-    step-requires
-    stepped-requires
-    same-length
-    same-length-2
-    same-length-3
-    returns)
+    (tie.spec counts-requires step-requires stepped-requires same-length same-length-2 same-length-3 returns)

@@ -1,3 +1,4 @@
+-- The same by the plain engine, for at most 24 gates. Each answer is given by `step-told`.
 use native.Mathlib.Omega.{arith}
 use borrow.Author.Needs.{needs}
 use Rattle.plan.specs.Circuit.{seven}
@@ -49,11 +50,5 @@ returns c =
 pub golvanzo-step-plain-spec : {M : Type 1} → statement M
 golvanzo-step-plain-spec =
     tie.close
-    (tie.spec
-    counts-requires
-    step-plain-requires
-    stepped-requires
-    same-length
-    same-length-2
-    same-length-3
+    (tie.spec counts-requires step-plain-requires stepped-requires same-length same-length-2 same-length-3
     returns)

@@ -1,3 +1,5 @@
+-- The witness question by fillings, of which at most `allowance` are tried: number (0: answered), place, 1 for yes, 0 for no or 2 for undecided, and
+-- how many were tried. Each answer is given by `witness-told`.
 use native.Mathlib.Omega.{arith}
 use borrow.Author.Needs.{needs}
 use Rattle.plan.specs.Circuit.{seven}
@@ -36,9 +38,4 @@ returns c =
 pub golvanzo-witness-spec : {M : Type 1} → statement M
 golvanzo-witness-spec =
     tie.close
-    (tie.spec
-    counts-requires
-    witness-requires
-    finding-requires
-    same-length
-    returns)
+    (tie.spec counts-requires witness-requires finding-requires same-length returns)

@@ -1,3 +1,5 @@
+-- The witness question in three values, in which nothing is filled: number (0: answered), place, and 1 for yes or 0 for no. Each answer is given by
+-- `witness3-told`.
 use native.Mathlib.Omega.{arith}
 use borrow.Author.Needs.{needs}
 use Rattle.plan.specs.Circuit.{seven}
@@ -36,9 +38,4 @@ returns c =
 pub golvanzo-witness3-spec : {M : Type 1} → statement M
 golvanzo-witness3-spec =
     tie.close
-    (tie.spec
-    counts-requires
-    witness3-requires
-    verdict-requires
-    same-length
-    returns)
+    (tie.spec counts-requires witness3-requires verdict-requires same-length returns)

@@ -1,3 +1,4 @@
+-- The same in binary form. Each answer is given by `file-told`.
 use native.Mathlib.Omega.{arith}
 use borrow.Author.Needs.{needs}
 use Rattle.plan.specs.Circuit.{seven}
@@ -33,16 +34,15 @@ returns c =
     let a = start .args in
     let g : Given = givenAt (countsFrom (a .counts .now)) (seven (a .inputs .now) (a .latches .now) (a .outputs .now) (a .gates .now)
     (a .resets .now) (a .bads .now) (a .constraints .now)) (a .scratch .now) in
-    let x : FileExit = record { answer = wrote .result; scratch = wrote .last .1 .1 .1 .1 .1 .1 .1 .1 .0; out = wrote .last .1 .1 .1 .1 .1 .1 .1 .1 .1 .1 .0 } in
+    let x : FileExit = record {
+      answer = wrote .result;
+      scratch = wrote .last .1 .1 .1 .1 .1 .1 .1 .1 .0;
+      out
+          = wrote .last .1 .1 .1 .1 .1 .1 .1 .1 .1 .1 .0;
+    } in
     file-told writeBinary g (a .tail .now) (a .out .now) _ x _ (counts′ .ensures) (wrote .ensures) (c .written .ensures)
 
 pub golvanzo-write-binary-spec : {M : Type 1} → statement M
 golvanzo-write-binary-spec =
     tie.close
-    (tie.spec
-    counts-requires
-    write-binary-requires
-    written-requires
-    same-length
-    same-length-2
-    returns)
+    (tie.spec counts-requires write-binary-requires written-requires same-length same-length-2 returns)

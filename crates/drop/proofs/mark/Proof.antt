@@ -1,3 +1,4 @@
+-- Marks a literal's variable. Each answer is given by `mark-one`.
 use Prim.Native.Nat.{ℕ}
 use mathlib.Core.Path.{_≡_, sym, ap, _∙_, subst}
 use mathlib.Core.List.{_∷_}

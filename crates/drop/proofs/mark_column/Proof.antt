@@ -1,3 +1,5 @@
+-- Marks the variables of n words of a table, from `start` on by `stride`. The loop keeps `Column table stride first n t₀ t at i`; the measure is `n -
+-- i`. `column-turn` carries it from turn to turn, and `firsts` gives the answer.
 use borrow.Author.Needs.{needs}
 use Prim.Native.Nat.{ℕ, _+_, _-_, _*_, _≤_}
 use mathlib.Core.Path.{_≡_, ap, _∙_, subst}
@@ -82,17 +84,5 @@ returns c = λ seen m.
 pub mark-column-spec : {M : Type 1} → statement M
 mark-column-spec =
     tie.close
-    (tie.spec
-    Inv-loop
-    μ-loop
-    loop-holds
-    mul-at
-    shared-slice-read-at
-    at-requires
-    mark-requires
-    add-at
-    add-i
-    loop-less
-    loop-again
-    same-length
-    returns)
+    (tie.spec Inv-loop μ-loop loop-holds mul-at shared-slice-read-at at-requires mark-requires add-at add-i
+    loop-less loop-again same-length returns)

@@ -1,3 +1,5 @@
+-- From the last gate to the first: in binary order a gate is marked, if at all, before it is come to. The loop keeps `Walking gates a t₀ t k`; the
+-- measure is `k`. `walking-more` carries it from turn to turn, and `walking-end` gives the answer.
 use borrow.Author.Needs.{needs}
 use Prim.Native.Nat.{ℕ, _-_, _<_}
 use mathlib.Core.Path.{sym, subst}
@@ -46,13 +48,4 @@ returns c = λ seen m. walking-end _ _ _ _ _ (omega (arith, c .loop-test .left))
 pub reach-spec : {M : Type 1} → statement M
 reach-spec =
     tie.close
-    (tie.spec
-    Inv-loop
-    μ-loop
-    loop-holds
-    sub-k
-    reach-from-requires
-    loop-less
-    loop-again
-    same-length
-    returns)
+    (tie.spec Inv-loop μ-loop loop-holds sub-k reach-from-requires loop-less loop-again same-length returns)

@@ -1,3 +1,4 @@
+-- Gate k. The answers are given by `drops` and `retains`.
 use Prim.Native.Nat.{_+_, _*_}
 use mathlib.Core.Path.{_≡_, ap, _∙_}
 use native.Mathlib.Omega.{arith}
@@ -10,6 +11,13 @@ use borrow.Author.Needs.{needs}
 use Rattle.drop.proofs.retain_gate.Statement.{statement}
 use Rattle.drop.proofs.retain_gate.Tie as tie
 
+-- moments, each named by what happened there
+abbrev start-of : tie.After-slice-known3 → tie.Start
+start-of c = c .before .before .before .before
+
+abbrev at-start : tie.After-at → tie.After-slice-known3
+at-start c = c .before .before .before .before .before .before
+
 add-if1 : tie.Need-add-if1
 add-if1 c = search needs
 
@@ -21,7 +29,7 @@ slice-read-if1 c = search needs
 
 returns : tie.Need-returns
 returns c =
-    let s = c .before .before .before .before .before in
+    let s = start-of (c .before) in
     drops _ _ _ _ _ _ (s .pre) (c .if1 .taken)
 
 left-side-requires : tie.Need-left-side-requires
@@ -47,7 +55,7 @@ at-requires c κs = search needs
 
 becomes-requires : tie.Need-becomes-requires
 becomes-requires c κs =
-    let s = c .before .before .before .before .before .before .before .before .before .before in
+    let s = start-of (at-start c) in
     omega (arith, ap (λ (l : Lit). varOf (wordOf l)) (c .at .ensures), s .pre .in-place .rhs0, s .pre .t-long)
 
 mul-at-3 : tie.Need-mul-at-3
@@ -68,7 +76,7 @@ at-requires-2 c κs = search needs
 becomes-requires-2 : tie.Need-becomes-requires-2
 becomes-requires-2 c κs =
     let d = c .before .before .before .before in
-    let s = d .before .before .before .before .before .before .before .before .before .before in
+    let s = start-of (at-start d) in
     omega (arith, ap (λ (l : Lit). varOf (wordOf l)) (c .at2 .ensures), s .pre .in-place .rhs1, s .pre .t-long)
 
 mul-row : tie.Need-mul-row
@@ -135,7 +143,7 @@ returns-2 c =
     let a = b .before .before .before .before in
     let w = a .before .before .before .before in
     let i = w .before .before in
-    let s = i .before .before .before .before .before in
+    let s = start-of (i .before) in
     let x = c .before .before .word2 .ensures ∙ ap wordOf (l .larger .ensures) in
     let y = c .word3 .ensures ∙ ap wordOf (c .before .smaller .ensures) in
     let ae : wordOf (a .becomes .result) ≡ becomes (s .args .t .now) (getD (s .args .gates .now) (3 * s .args .k + 1) 0)
@@ -148,42 +156,8 @@ returns-2 c =
 pub retain-gate-spec : {M : Type 1} → statement M
 retain-gate-spec =
     tie.close
-    (tie.spec
-    add-if1
-    mul-if1
-    slice-read-if1
-    returns
-    left-side-requires
-    word-requires
-    mul-at
-    add-at
-    mul-at-2
-    shared-slice-read-at
-    at-requires
-    becomes-requires
-    mul-at-3
-    add-at-2
-    mul-at-4
-    shared-slice-read-at-2
-    at-requires-2
-    becomes-requires-2
-    mul-row
-    mul-to
-    slice-write-to
-    larger-requires
-    word-requires-2
-    add-to
-    mul-to-2
-    slice-write-to-2
-    smaller-requires
-    word-requires-3
-    add-to-2
-    mul-to-3
-    slice-write-to-3
-    add-t
-    mul-t
-    slice-write-t
-    add-result
-    same-length
-    same-length-2
-    returns-2)
+    (tie.spec add-if1 mul-if1 slice-read-if1 returns left-side-requires word-requires mul-at add-at mul-at-2
+    shared-slice-read-at at-requires becomes-requires mul-at-3 add-at-2 mul-at-4 shared-slice-read-at-2
+    at-requires-2 becomes-requires-2 mul-row mul-to slice-write-to larger-requires word-requires-2 add-to
+    mul-to-2 slice-write-to-2 smaller-requires word-requires-3 add-to-2 mul-to-3 slice-write-to-3 add-t mul-t
+    slice-write-t add-result same-length same-length-2 returns-2)

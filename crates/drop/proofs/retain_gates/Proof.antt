@@ -1,3 +1,5 @@
+-- The gates of marked variables, in order, and their number; first in t, where the marks stood, what each variable became. The loop keeps `Going
+-- gates to₀ t₀ to t base a k n`; the measure is `a - k`. `going-more` carries it from turn to turn, and `going-end` and `begun` give the answer.
 use borrow.Author.Needs.{needs}
 use Prim.Native.Nat.{_-_}
 use mathlib.Core.Path.{_∙_}
@@ -49,15 +51,5 @@ returns c = λ vs m.
 pub retain-gates-spec : {M : Type 1} → statement M
 retain-gates-spec =
     tie.close
-    (tie.spec
-    Inv-loop
-    μ-loop
-    run-on-requires
-    loop-holds
-    retain-gate-requires
-    add-k
-    loop-less
-    loop-again
-    same-length
-    same-length-2
-    returns)
+    (tie.spec Inv-loop μ-loop run-on-requires loop-holds retain-gate-requires add-k loop-less loop-again
+    same-length same-length-2 returns)

@@ -1,3 +1,5 @@
+-- From the last gate to the first: in binary order a gate is marked, if at all, before it is come to. The loop keeps `Walking gates a lits m n t₀ t
+-- k`; the measure is `k`. `walking-more` carries it from turn to turn, and `walking-end` gives the answer.
 use borrow.Author.Needs.{needs}
 use Prim.Native.Nat.{_-_, _<_}
 use native.Mathlib.Omega.{arith}
@@ -45,13 +47,4 @@ returns c = walking-end _ _ _ _ _ _ _ _ (omega (arith, c .loop-test .left)) (c .
 pub blame-spec : {M : Type 1} → statement M
 blame-spec =
     tie.close
-    (tie.spec
-    Inv-loop
-    μ-loop
-    loop-holds
-    sub-k
-    blame-from-requires
-    loop-less
-    loop-again
-    same-length
-    returns)
+    (tie.spec Inv-loop μ-loop loop-holds sub-k blame-from-requires loop-less loop-again same-length returns)

@@ -1,3 +1,5 @@
+-- Which places of state and inputs made an output 0 or 1: "1" for marked and "0" for not, in the first L + I bytes of the buffer, state first. The
+-- answers are given by `refused-vector`, `bad-is` and `some-table`.
 use Prim.Native.Nat.{ℕ}
 use mathlib.Core.Path.{_≡_, sym, ap, _∙_}
 use lib.ListN.{length, replicate}
@@ -111,18 +113,6 @@ returns-3 c =
 pub explain-spec : {M : Type 1} → statement M
 explain-spec =
     tie.close
-    (tie.spec
-    judge-in-order-requires
-    enum-known-refusal
-    enum-told
-    bad-vector-requires
-    clear-requires
-    same-length
-    returns
-    explain-output-requires
-    clear-requires-2
-    same-length-2
-    returns-2
-    same-length-3
-    same-length-4
-    returns-3)
+    (tie.spec judge-in-order-requires enum-known-refusal enum-told bad-vector-requires clear-requires
+    same-length returns explain-output-requires clear-requires-2 same-length-2 returns-2 same-length-3
+    same-length-4 returns-3)

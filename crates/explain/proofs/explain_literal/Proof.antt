@@ -1,3 +1,4 @@
+-- What made a literal what it is: the marks go first into the buffer, state first. Each answer is given by `explained`.
 use mathlib.Core.Path.{_∙_}
 use native.Mathlib.Omega.{arith}
 use Rattle.explain.proofs.Explaining.{explained}
@@ -66,19 +67,5 @@ returns c = λ x latches outputs s i r settled.
 pub explain-literal-spec : {M : Type 1} → statement M
 explain-literal-spec =
     tie.close
-    (tie.spec
-    add-size
-    add-lits
-    mul-m
-    add-m
-    unmark-requires
-    mark-requires
-    blame-requires
-    add-show
-    add-show-2
-    show-requires
-    add-show-3
-    show-requires-2
-    same-length
-    same-length-2
-    returns)
+    (tie.spec add-size add-lits mul-m add-m unmark-requires mark-requires blame-requires add-show add-show-2
+    show-requires add-show-3 show-requires-2 same-length same-length-2 returns)

@@ -1,3 +1,4 @@
+-- One output explained, where tables and vectors are good: 17, then 11, then the marks. The answers are given by `not-there`, `is-x` and `x-word`.
 use Prim.Native.Nat.{ℕ, _+_, _<_}
 use mathlib.Core.Path.{_≡_, sym, ap, _∙_}
 use mathlib.Core.List.{List, map}
@@ -147,22 +148,6 @@ returns-4 c = λ x t r.
 pub explain-output-spec : {M : Type 1} → statement M
 explain-output-spec =
     tie.close
-    (tie.spec
-    returns
-    settle-requires
-    add-value
-    add-value-2
-    mul-value
-    slice-read-value
-    add-needed
-    same-length
-    returns-2
-    same-length-2
-    returns-3
-    mul-at
-    shared-slice-read-at
-    at-requires
-    explain-literal-requires
-    same-length-3
-    same-length-4
-    returns-4)
+    (tie.spec returns settle-requires add-value add-value-2 mul-value slice-read-value add-needed same-length
+    returns-2 same-length-2 returns-3 mul-at shared-slice-read-at at-requires explain-literal-requires
+    same-length-3 same-length-4 returns-4)

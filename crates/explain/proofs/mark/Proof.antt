@@ -1,3 +1,4 @@
+-- Marks a literal's variable, where the marks stand from m on. Each answer is given by `mark-more`.
 use Prim.Native.Nat.{ℕ, _+_}
 use mathlib.Core.Path.{_≡_, sym, ap, _∙_, subst}
 use mathlib.Core.List.{_∷_}

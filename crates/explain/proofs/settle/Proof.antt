@@ -1,3 +1,4 @@
+-- The values of all literals in a step whose tables and vectors are good. The answers are given by `stands` and `with-outputs`.
 use mathlib.Core.Path.{_∙_}
 use native.Mathlib.Omega.{arith}
 use lib.ListN.{length-set}
@@ -58,11 +59,5 @@ returns c = λ x r.
 pub settle-spec : {M : Type 1} → statement M
 settle-spec =
     tie.close
-    (tie.spec
-    slice-write-scratch
-    add-load
-    load-requires
-    load-requires-2
-    step-values-requires
-    same-length
+    (tie.spec slice-write-scratch add-load load-requires load-requires-2 step-values-requires same-length
     returns)

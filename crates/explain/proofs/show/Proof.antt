@@ -1,3 +1,4 @@
+-- The codes of `count` words from `first` on go into a part of a buffer. Each answer is given by `part-put`.
 use Rattle.explain.proofs.Cleared.{part-put}
 use borrow.Author.Needs.{needs}
 use Rattle.explain.proofs.show.Statement.{statement}

@@ -1,3 +1,5 @@
+-- No variable is marked. The loop keeps `Clearing m n t₀ t v`; the measure is `n - v`. `clearing-more` carries it from turn to turn, and
+-- `clearing-end` gives the answer.
 use borrow.Author.Needs.{needs}
 use Prim.Native.Nat.{_-_}
 use native.Mathlib.Omega.{arith}
@@ -41,15 +43,5 @@ returns c = clearing-end _ _ _ _ _ (c .loop-test .left) (c .before .loop .inv)
 pub unmark-spec : {M : Type 1} → statement M
 unmark-spec =
     tie.close
-    (tie.spec
-    Inv-loop
-    μ-loop
-    loop-holds
-    add-t
-    mul-t
-    slice-write-t
-    add-v
-    loop-less
-    loop-again
-    same-length
+    (tie.spec Inv-loop μ-loop loop-holds add-t mul-t slice-write-t add-v loop-less loop-again same-length
     returns)

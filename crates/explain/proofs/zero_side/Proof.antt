@@ -1,3 +1,4 @@
+-- The first right side that is 0, of a gate at 0. The answer is that of the call below it.
 use mathlib.Core.Path.{sym, ap, _∙_}
 use mathlib.Core.Bool.{Bool, cond}
 use borrow.Author.Tests.{eq-eqb, ne-eqb}

@@ -1,3 +1,4 @@
+-- Refusal 3: whether I + L + A is at most M, as a true sum. Each answer is given by `taken-off`.
 use Prim.Native.Nat.{_+_}
 use mathlib.Core.Path.{sym}
 use native.Mathlib.Omega.{arith}

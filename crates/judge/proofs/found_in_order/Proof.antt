@@ -1,3 +1,4 @@
+-- Whether the tables are found to be in binary order. The answers are given by `not-looked` and `looked`.
 use borrow.Author.Needs.{needs}
 use mathlib.Core.Path.{_∙_}
 use Rattle.judge.proofs.Judging.{not-looked, looked}

@@ -92,13 +92,5 @@ returns-2 c =
 pub judge-spec : {M : Type 1} → statement M
 judge-spec =
     tie.close
-    (tie.spec
-    lengths-requires
-    shorter-requires
-    lent-enough-requires
-    enum-known-lent
-    returns
-    enum-told
-    judge-circuit-requires
-    same-length
-    returns-2)
+    (tie.spec lengths-requires shorter-requires lent-enough-requires enum-known-lent returns enum-told
+    judge-circuit-requires same-length returns-2)

@@ -126,16 +126,5 @@ returns-4 c =
 pub judge-circuit-spec : {M : Type 1} → statement M
 judge-circuit-spec =
     tie.close
-    (tie.spec
-    found-in-order-requires
-    out-of-range-requires
-    returns
-    returns-2
-    clear-requires
-    defined-twice-requires
-    same-length
-    returns-3
-    check-requires
-    unordered-requires
-    same-length-2
-    returns-4)
+    (tie.spec found-in-order-requires out-of-range-requires returns returns-2 clear-requires
+    defined-twice-requires same-length returns-3 check-requires unordered-requires same-length-2 returns-4)

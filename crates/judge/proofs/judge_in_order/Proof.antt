@@ -61,13 +61,5 @@ returns-2 c = (told (c .before .before .before .before), λ q refused. not-good 
 pub judge-in-order-spec : {M : Type 1} → statement M
 judge-in-order-spec =
     tie.close
-    (tie.spec
-    lengths-requires
-    judge-requires
-    enum-told
-    clear-requires
-    same-length
-    returns
-    enum-told-2
-    same-length-2
-    returns-2)
+    (tie.spec lengths-requires judge-requires enum-told clear-requires same-length returns enum-told-2
+    same-length-2 returns-2)

@@ -1,3 +1,5 @@
+-- Refusal 2: which of M, I, L, O, A, B, C, numbered from 1, is the first over the limit, or 0. Each answer is rewritten with the tests that led to
+-- it.
 use borrow.Author.Tests.{le-leb, lt-leb}
 use Rattle.judge.proofs.large_count.Statement.{statement}
 use Rattle.judge.proofs.large_count.Tie as tie

@@ -1,3 +1,5 @@
+-- 2, 3, then 4: the least of lent tables of these sizes, with scratch, that is too short. The answers are given by `at-two`, `some-table` and
+-- `no-table`.
 use borrow.Author.Needs.{needs}
 use Prim.Native.Nat.{ℕ}
 use mathlib.Core.Path.{_≡_, sym, ap, _∙_}
@@ -30,12 +32,14 @@ returns-2 c =
 
 scratch-to-work-requires : tie.Need-scratch-to-work-requires
 scratch-to-work-requires c κs =
-    let m = small-counts (c .before .before .before .before .args .n) (no-table _ _ (c .before .before .if1 .left) (c .before .before .before .large-count .ensures)) in
+    let m = small-counts (c .before .before .before .before .args .n)
+    (no-table _ _ (c .before .before .if1 .left) (c .before .before .before .large-count .ensures)) in
     (m .0, m .2, m .4, m .5)
 
 too-short-requires : tie.Need-too-short-requires
 too-short-requires c κs =
-    let m = small-counts (c .before .before .before .before .before .args .n) (no-table _ _ (c .before .before .before .if1 .left) (c .before .before .before .before .large-count .ensures)) in
+    let m = small-counts (c .before .before .before .before .before .args .n)
+    (no-table _ _ (c .before .before .before .if1 .left) (c .before .before .before .before .large-count .ensures)) in
     (m .1, m .3)
 
 -- 4, with the words of table 5 for every call
@@ -66,12 +70,5 @@ returns-4 c =
 pub lent-enough-spec : {M : Type 1} → statement M
 lent-enough-spec =
     tie.close
-    (tie.spec
-    large-count-requires
-    returns
-    adds-up-requires
-    returns-2
-    scratch-to-work-requires
-    too-short-requires
-    returns-3
-    returns-4)
+    (tie.spec large-count-requires returns adds-up-requires returns-2 scratch-to-work-requires
+    too-short-requires returns-3 returns-4)

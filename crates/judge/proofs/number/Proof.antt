@@ -61,12 +61,5 @@ returns-2 c =
 pub number-spec : {M : Type 1} → statement M
 number-spec =
     tie.close
-    (tie.spec
-    judge-requires
-    enum-known-answer
-    clear-requires
-    same-length
-    returns
-    enum-told
-    same-length-2
+    (tie.spec judge-requires enum-known-answer clear-requires same-length returns enum-told same-length-2
     returns-2)

@@ -160,8 +160,13 @@ module _ (gates t : List ℕ) (n a i : ℕ) (D E : ℕ → Bool) (space : Space 
       );
       once = distinct-cons i (m .l) (absent (has i (m .l)) (λ e. apart i (m .its i e .1) refl)) (m .once);
       its = λ c e. has-cases _ i c (m .l) e
-          (λ z. subst (λ (x : ℕ). (x < a) × (E x ≡ true) × (watched gates u x ≡ 2147483648 + q) × (numberedV u (lhsOf gates x) ≡ false)) z
-          (inn, now-done, watched-agree gates t u n a (space .inside) low-l i inn ∙ waits, numbered-agree t u n (lhsOf gates i) low-l (space .inside i inn .0) ∙ own-open))
+          (λ z. subst (λ (x : ℕ). (x < a) × (E x ≡ true) × (watched gates u x ≡ 2147483648 + q) × (numberedV u (lhsOf gates x) ≡ false)) z (
+            inn,
+            now-done,
+            watched-agree gates t u n a (space .inside) low-l i inn
+                ∙ waits,
+            numbered-agree t u n (lhsOf gates i) low-l (space .inside i inn .0) ∙ own-open,
+          ))
           (λ e′.
           let k = m .its c e′ in (
             k .0,

@@ -28,7 +28,8 @@ latchesOf n latches = map latchOf (rowsOf 2 (n .L) latches)
 abbrev pub leavesOf : Counts → List ℕ → List ℕ → List ℕ
 leavesOf n inputs latches = zero ∷ (vars (inputsOf n inputs) ++ currents (latchesOf n latches))
 
--- what `number_leaves` asks: literals in range, no variable twice, and a table whose words of variables up to M are blank
+-- what `number_leaves` asks: literals in range, no variable twice, and a table whose words of variables up to M are
+-- blank
 pub record Leaves (n : Counts) (inputs latches t : List ℕ) : Type 0 where
   pub most-M : n .M ≤ most
   pub sum : n .I + n .L ≤ n .M

@@ -10,7 +10,8 @@ use Rattle.plan.specs.declared.Refusal.{Refusal}
 use Rattle.plan.specs.declared.Refusal.the-variants.{NotDefined, Cyclic}
 use Rattle.plan.specs.Literals.{most}
 use Rattle.plan.specs.Refusals.{stage, firstOf}
-use Rattle.plan.specs.Circuit.{Circuit, oneLine, latchLine, gateLine, latchOf, gateOf, rowsOf, definedIn, allNew, allInside}
+use Rattle.plan.specs.Circuit.{Circuit, oneLine, latchLine, gateLine, latchOf, gateOf, rowsOf, definedIn, allNew}
+use Rattle.plan.specs.Circuit.{allInside}
 use Rattle.plan.specs.Depends.{undefinedIn, cyclicIn}
 use Rattle.laws.proofs.Marks.{Agrees}
 use Rattle.tables.specs.Held.{circuitIn}
@@ -19,7 +20,8 @@ use Rattle.tables.specs.Held.{circuitIn}
 abbrev pub closing : Circuit → Option Refusal
 closing c = firstOf (stage NotDefined (undefinedIn c) ∷ stage Cyclic (cyclicIn c) ∷ [])
 
--- the tables hold a circuit in which no check before 7 fails, whatever the resets are, and scratch, from `base` on, marks the variables that are defined
+-- the tables hold a circuit in which no check before 7 fails, whatever the resets are, and scratch, from `base` on,
+-- marks the variables that are defined
 pub record Read (n : Counts) (inputs latches outputs gates bads constraints scratch : List ℕ) (base : ℕ) : Type 0 where
   pub most-M : n .M ≤ most
   pub sum : n .I + n .L + n .A ≤ n .M
@@ -38,4 +40,5 @@ pub record Read (n : Counts) (inputs latches outputs gates bads constraints scra
   pub bads-inside : allInside false (n .M) (map oneLine (take (n .B) bads)) ≡ true
   pub constraints-inside : allInside false (n .M) (map oneLine (take (n .C) constraints)) ≡ true
   pub different : allNew [] (definedIn (circuitIn n inputs latches outputs gates [] bads constraints)) ≡ true
-  pub marked : Agrees (n .M) (definedIn (circuitIn n inputs latches outputs gates [] bads constraints)) (drop base scratch)
+  pub marked : Agrees (n .M) (definedIn (circuitIn n inputs latches outputs gates [] bads constraints))
+      (drop base scratch)

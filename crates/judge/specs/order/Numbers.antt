@@ -1,4 +1,5 @@
--- A table of numbers: for each variable its number, which is its place in the order; 0 for one that has none yet, and for the constant.
+-- A table of numbers: for each variable its number, which is its place in the order; 0 for one that has none yet,
+-- and for the constant.
 use Prim.Native.Nat.{ℕ, _<_}
 use mathlib.Core.Path.{_≡_}
 use mathlib.Core.Bool.{Bool, not, cond, _&&_, _||_}
@@ -19,7 +20,8 @@ numberedT num v = eqb v 0 || not (eqb (getD num v 0) 0)
 
 -- a gate whose left side has no number and whose right sides have
 unfoldable pub readyT : List ℕ → Gate → Bool
-readyT num g = not (numberedT num (varOf (g .lhs))) && (numberedT num (varOf (g .rhs0)) && numberedT num (varOf (g .rhs1)))
+readyT num g =
+    not (numberedT num (varOf (g .lhs))) && (numberedT num (varOf (g .rhs0)) && numberedT num (varOf (g .rhs1)))
 
 -- a gate's variables are below n; those of the first a gates
 abbrev pub InTable : ℕ → Gate → Type 0

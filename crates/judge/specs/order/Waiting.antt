@@ -1,6 +1,6 @@
--- The table that `number` works in: a word for each of n variables, for each of a gates where its chain starts, for each gate which one
--- comes after it in its chain, then the marks of the gates.
--- A variable's word below 2 ^ 31 is its number; from there on it names the gate that defines it, which has no number yet.
+-- The table that `number` works in: a word for each of n variables, for each of a gates where its chain starts, for
+-- each gate which one comes after it in its chain, then the marks of the gates. A variable's word below 2 ^ 31 is
+-- its number; from there on it names the gate that defines it, which has no number yet.
 use Prim.Native.Nat.{ℕ, zero, suc, _+_, _-_, _*_, _/_, _<_, _≤_}
 use mathlib.Core.Path.{_≡_}
 use mathlib.Core.Bool.{Bool, true, false, not, cond, _&&_, _||_}
@@ -54,21 +54,24 @@ counted gates t (suc k) = counted gates t k + cond (numberedV t (lhsOf gates k))
 
 -- the word that gate i waits for: its first right side's if that names a gate, else its second one's
 unfoldable pub watched : List ℕ → List ℕ → ℕ → ℕ
-watched gates t i = cond (ltb (getD t (rhs0Of gates i) 0) 2147483648) (getD t (rhs1Of gates i) 0) (getD t (rhs0Of gates i) 0)
+watched gates t i =
+    cond (ltb (getD t (rhs0Of gates i) 0) 2147483648) (getD t (rhs1Of gates i) 0) (getD t (rhs0Of gates i) 0)
 
 -- the words of the left variables of k gates name them
 abbrev pub withNames : List ℕ → ℕ → List ℕ → List ℕ
 withNames gates zero t = t
 withNames gates (suc k) t = set (withNames gates k t) (lhsOf gates k) (2147483648 + k)
 
--- a left variable without a number names its gate; no other word names one; a right variable that names none has a number
+-- a left variable without a number names its gate; no other word names one; a right variable that names none has a
+-- number
 pub record Named (gates t : List ℕ) (n a : ℕ) : Type 0 where
   pub own : (i : ℕ) → i < a → numberedV t (lhsOf gates i) ≡ false → getD t (lhsOf gates i) 0 ≡ 2147483648 + i
   pub names : (v : ℕ) → v < n → 2147483648 ≤ getD t v 0 → (getD t v 0 < 2147483648 + a) × (numberedV t v ≡ false)
   pub low0 : (i : ℕ) → i < a → getD t (rhs0Of gates i) 0 < 2147483648 → numberedV t (rhs0Of gates i) ≡ true
   pub low1 : (i : ℕ) → i < a → getD t (rhs1Of gates i) 0 < 2147483648 → numberedV t (rhs1Of gates i) ≡ true
 
--- the chain that starts at h is l: a place in it is 1 more than the gate, 0 its end; what comes after gate i stands in word b + i
+-- the chain that starts at h is l: a place in it is 1 more than the gate, 0 its end; what comes after gate i stands
+-- in word b + i
 abbrev pub Chain : List ℕ → ℕ → ℕ → List ℕ → Type 0
 Chain t b h [] = h ≡ 0
 Chain t b h (i ∷ l) = (h ≡ i + 1) × Chain t b (getD t (b + i) 0) l
@@ -107,7 +110,8 @@ before k i = ltb i k
 abbrev pub every : ℕ → Bool
 every i = true
 
--- the gates and the table are long enough, and the gates' variables are below n: of the list of gates, and by their places
+-- the gates and the table are long enough, and the gates' variables are below n: of the list of gates, and by their
+-- places
 pub record Room (gates t : List ℕ) (n a : ℕ) : Type 0 where
   pub gates-long : 3 * a ≤ length gates
   pub table-long : wordsFor n a ≤ length t
@@ -140,7 +144,8 @@ unfoldable pub linked : List ℕ → ℕ → ℕ → ℕ → ℕ → List ℕ
 linked t n a i g = set (set t (n + a + i) (getD t (n + g) 0)) (n + g) (i + 1)
 
 unfoldable pub hung : List ℕ → List ℕ → ℕ → ℕ → ℕ → List ℕ
-hung gates t n a i = cond (ltb (watched gates t i) 2147483648) (marked t n a i) (linked t n a i (watched gates t i - 2147483648))
+hung gates t n a i =
+    cond (ltb (watched gates t i) 2147483648) (marked t n a i) (linked t n a i (watched gates t i - 2147483648))
 
 -- what `wake` asks: the gates of the chain that starts at h are the only ones that are not done, and have no number
 pub record Waking (gates t : List ℕ) (n a h : ℕ) : Type 0 where

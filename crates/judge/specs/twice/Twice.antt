@@ -13,13 +13,14 @@ use Rattle.laws.proofs.Marks.{Agrees}
 use Rattle.tables.specs.Lengths.{tableOf}
 use Rattle.tables.specs.Held.{circuitIn}
 
--- what rows that define these variables answer, after the variables `seen`: whether one of them was seen already; if none was,
--- they are marked too
+-- what rows that define these variables answer, after the variables `seen`: whether one of them was seen already;
+-- if none was, they are marked too
 pub record RowsSay (m : ℕ) (seen heads : List ℕ) (r : Bool) (marks′ : List ℕ) : Type 0 where
   pub told : r ≡ not (allNew seen heads)
   pub marked : r ≡ false → Agrees m (seen ++ heads) marks′
 
--- tables with the words that the counts ask, of which those that define are in range, and blank marks for the variables up to M
+-- tables with the words that the counts ask, of which those that define are in range, and blank marks for the
+-- variables up to M
 pub record Ranged (n : Counts) (inputs latches gates marks : List ℕ) : Type 0 where
   pub most-M : n .M ≤ most
   pub inputs-long : n .I ≤ length inputs
@@ -31,8 +32,11 @@ pub record Ranged (n : Counts) (inputs latches gates marks : List ℕ) : Type 0 
   pub gates-inside : allInside true (n .M) (map gateLine (map gateOf (rowsOf 3 (n .A) gates))) ≡ true
   pub blank : (v : ℕ) → v ≤ n .M → getD marks v 0 ≡ 0
 
--- 6 names the table that is answered, whatever the other tables are; without 6, each variable that is defined has a mark
+-- 6 names the table that is answered, whatever the other tables are; without 6, each variable that is defined has a
+-- mark
 pub record TwiceSays (n : Counts) (inputs latches gates : List ℕ) (r : ℕ) (marks′ : List ℕ) : Type 0 where
-  pub told : (outputs resets bads constraints : List ℕ) → tableOf r ≡ twiceIn (circuitIn n inputs latches outputs gates resets bads constraints)
-  pub marked : (outputs resets bads constraints : List ℕ) → twiceIn (circuitIn n inputs latches outputs gates resets bads constraints) ≡ none
+  pub told : (outputs resets bads constraints : List ℕ) → tableOf r
+      ≡ twiceIn (circuitIn n inputs latches outputs gates resets bads constraints)
+  pub marked : (outputs resets bads constraints : List ℕ)
+      → twiceIn (circuitIn n inputs latches outputs gates resets bads constraints) ≡ none
       → Agrees (n .M) (definedIn (circuitIn n inputs latches outputs gates resets bads constraints)) marks′

@@ -24,7 +24,8 @@ every table start stride n = firsts (λ i. getD table (stride * i + start) 0) n
 abbrev pub words : List ℕ → ℕ → List ℕ
 words table n = every table 0 1 n
 
--- the least so far, or the variable of a used literal below it that has no mark; variable 0, of the constants, needs none
+-- the least so far, or the variable of a used literal below it that has no mark; variable 0, of the constants,
+-- needs none
 unfoldable pub lower : List ℕ → ℕ → ℕ → ℕ
 lower marks k l = cond (eqb 0 (varOf l) || isOn marks 0 (varOf l)) k (min (varOf l) k)
 

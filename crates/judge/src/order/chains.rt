@@ -1,5 +1,6 @@
-// The chains: a gate waits for at most one other, which defines a right side of it that has no number. Word n + g has where gate g's
-// chain starts, word n + a + i which gate comes after gate i. A place in a chain is 1 more than the gate, and 0 is its end.
+// The chains: a gate waits for at most one other, which defines a right side of it that has no number. Word n + g
+// has where gate g's chain starts, word n + a + i which gate comes after gate i. A place in a chain is 1 more than
+// the gate, and 0 is its end.
 ghost use mathlib.Core.Path.{_≡_};
 ghost use mathlib.Core.Bool.{false};
 ghost use Prim.Native.Nat.{ℕ, _+_, _<_};
@@ -27,7 +28,8 @@ pub fn hang(gates: &[u32], t: &mut [u32], n: usize, a: usize, i: usize)
 pub fn hang_all(gates: &[u32], t: &mut [u32], n: usize, a: usize)
     requires { ⌜ Space (now gates) (now t) n a × Waiting (now gates) (now t) n a (before 0)
         × ((i : ℕ) → i < a → numberedV (now t) (lhsOf (now gates) i) ≡ false) ⌝ }
-    ensures { λ _. ⌜ Waiting (now (gates .entry)) (now (t .exit)) n a every × Agree n (now (t .entry)) (now (t .exit)) ⌝ }
+    ensures { λ _. ⌜ Waiting (now (gates .entry)) (now (t .exit)) n a every
+        × Agree n (now (t .entry)) (now (t .exit)) ⌝ }
 {
     let mut i: usize = 0;
     while i < a {

@@ -1,4 +1,5 @@
-// A variable's word: below 2 ^ 31 its number, 0 for none; from there on 2 ^ 31 more than the gate that defines it, which has no number.
+// A variable's word: below 2 ^ 31 its number, 0 for none; from there on 2 ^ 31 more than the gate that defines it,
+// which has no number.
 ghost use mathlib.Core.Path.{_≡_};
 ghost use Prim.Native.Nat.{ℕ, _+_, _*_, _<_, _≤_};
 ghost use lib.ListN.{length, getD, set};

@@ -33,7 +33,8 @@ written-is-read out at n small h e =
     ∙ ap (λ (v : ℕ). Value v end) cut
 
 -- the same of what the writer leaves
-pub reads-what-was-written : (out x : List ℕ) (at n k : ℕ) → n < beyond → writeNumber (record { out = out; at = at; value = n }) ≡ record { answer = Bytes k; out = x }
+pub reads-what-was-written : (out x : List ℕ) (at n k : ℕ) → n < beyond → writeNumber (record { out = out; at = at; value = n })
+    ≡ record { answer = Bytes k; out = x }
     → digitClass (classOf (getD out (at + k) 0)) ≡ false → numberAt x at ≡ Value n (at + k)
 reads-what-was-written out x at n k small e after = go (leb (at + length (digits n)) (length out)) refl e
   where

@@ -19,9 +19,11 @@ use Rattle.laws.proofs.Reading.Lines.{RowsOk, lines-took}
 use Rattle.laws.proofs.Reading.Rows.{rows-long, rows-inside, rows-using, one-back, map-forth, map-long, BodyOk}
 use Rattle.laws.proofs.Reading.Order.{InOrder}
 use Rattle.laws.proofs.Reading.Differences.{Bytes, gates-took, gates-reads}
-use Rattle.laws.proofs.Reading.Runs.{upFrom, lits-inside, latches-inside, gates-inside, vars-lits, currents-latches, lefts-gates, run-new, length-lits, length-latches, length-nexts, nexts-latches, BinaryOrder}
+use Rattle.laws.proofs.Reading.Runs.{upFrom, lits-inside, latches-inside, gates-inside, vars-lits, currents-latches, lefts-gates, run-new}
+use Rattle.laws.proofs.Reading.Runs.{length-lits, length-latches, length-nexts, nexts-latches, BinaryOrder}
 use Rattle.laws.proofs.Reading.Texts.{few-resets, using-reads}
-use Rattle.laws.proofs.Reading.Latches.{LatchesOk, latches-took, latches-reads, resets-binary, binary-resets, latches-spelled, latches-spell, latches-least, take-one}
+use Rattle.laws.proofs.Reading.Latches.{LatchesOk, latches-took, latches-reads, resets-binary, binary-resets, latches-spelled, latches-spell}
+use Rattle.laws.proofs.Reading.Latches.{latches-least, take-one}
 
 pub latches-using : (m : ℕ) (ls : List Latch) → allInside true m (map latchLine ls) ≡ true
     → allInside false m (map oneLine (nexts ls)) ≡ true

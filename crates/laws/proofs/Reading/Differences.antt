@@ -226,7 +226,8 @@ module _ (file : List ℕ) where
 
   -- one gate: its bytes, and what a gate of binary order keeps
   pub gate-took : Bytes file → (v at : ℕ) (g : Gate) (n : ℕ) → gate file v at ≡ got g n
-      → (drop at file ≡ groupsOf (g .lhs - g .rhs0) ++ (groupsOf (g .rhs0 - g .rhs1) ++ drop n file)) × (g .lhs ≡ 2 * v) × (g .rhs0 < g .lhs) × (g .rhs1 ≤ g .rhs0)
+      → (drop at file ≡ groupsOf (g .lhs - g .rhs0) ++ (groupsOf (g .rhs0 - g .rhs1) ++ drop n file)) × (g .lhs ≡ 2 * v) × (g .rhs0 < g .lhs)
+      × (g .rhs1 ≤ g .rhs0)
   gate-took bytes v at g n q =
       let a = then-got (difference file true (2 * v) at) _ g n q in
       let b = then-got (difference file false (2 * v - a .0) (a .1)) _ g n (a .3) in

@@ -16,7 +16,8 @@ use Rattle.plan.specs.declared.Counts.{Counts}
 use Rattle.plan.specs.Literals.{most}
 use Rattle.plan.specs.Bytes.{expect, Placed, numbers, values, Spells}
 use Rattle.plan.specs.Header.{moreCounts, Form, text, binary, letterOf, letter, countsFrom, listOf, allCounts, over, above0, adds, Head, header, headerOf}
-use Rattle.laws.proofs.Reading.Common.{not-got, got-value, got-next, then-got, unless-got, cond-got, Reads, byte-there, byte-is, byte-past, expect-took, expect-reads}
+use Rattle.laws.proofs.Reading.Common.{not-got, got-value, got-next, then-got, unless-got, cond-got, Reads, byte-there, byte-is, byte-past}
+use Rattle.laws.proofs.Reading.Common.{expect-took, expect-reads}
 use Rattle.laws.proofs.Reading.Lines.{numbers-took, numbers-reads}
 
 abbrev pub AllMost : List ℕ → Type 0
@@ -129,7 +130,8 @@ module _ (file : List ℕ) where
           byte-there file at 105 (omega arith) (eqb-true _ _ q) ∙ ap₂ (λ (x : Form) (y : ℕ). letterOf x ∷ drop y file) f-is n-is
       second false q e = absurd (not-got _ _ _ e)
 
-      go : (t : Bool) → eqb (getD file at 0) 97 ≡ t → cond t (got text (at + 1)) (cond (eqb (getD file at 0) 105) (got binary (at + 1)) (refused (WrongByte at))) ≡ got f n
+      go : (t : Bool) → eqb (getD file at 0) 97 ≡ t
+          → cond t (got text (at + 1)) (cond (eqb (getD file at 0) 105) (got binary (at + 1)) (refused (WrongByte at))) ≡ got f n
           → drop at file ≡ letterOf f ∷ drop n file
       go true q e =
           let f-is : text ≡ f = cc in

@@ -11,7 +11,8 @@ use lib.Seq.{take-all, take-suc, drop-cons, take-at, drop-at, getD-append-add}
 use Rattle.plan.specs.Refusals.{got}
 use Rattle.plan.specs.Literals.{litOf, varOf, isReset}
 use Rattle.plan.specs.Circuit.{Latch, oneLine, latchLine, literalOf, latchOf, inside, heads, resetsOk}
-use Rattle.plan.specs.Bytes.{Placed, numbers, values, outside, twice, wrongReset, ownOf, latchLineAt, latchLines, resetAfter, lineOf, linesOf, withResets, Spells, AllSpell}
+use Rattle.plan.specs.Bytes.{Placed, numbers, values, outside, twice, wrongReset, ownOf, latchLineAt, latchLines, resetAfter, lineOf, linesOf}
+use Rattle.plan.specs.Bytes.{withResets, Spells, AllSpell}
 use Rattle.plan.specs.Binary.{latchesFrom}
 use Rattle.laws.proofs.Reading.Common.{got-value, got-next, then-got, unless-got, Reads, and-left, and-right, and-intro}
 use Rattle.laws.proofs.Reading.Lines.{numbers-took, numbers-reads, New, outside-none, inside-none, twice-none, new-none, RowOk, RowsOk}

@@ -12,8 +12,10 @@ use lib.ListN.{length, getD, drop}
 use Rattle.plan.specs.Refusals.{Parse, got, _then_}
 use Rattle.plan.specs.Literals.{varOf, inRange}
 use Rattle.plan.specs.Circuit.{literalOf, has, inside}
-use Rattle.plan.specs.Bytes.{classOf, digitClass, number, expect, endOf, Placed, goesOn, less, numbers, values, outside, twice, line, lines, digits, lineOf, linesOf}
-use Rattle.laws.proofs.Reading.Common.{got-value, got-next, then-got, unless-got, Reads, byte-there, byte-is, byte-past, expect-took, expect-reads, and-left, and-right, and-intro}
+use Rattle.plan.specs.Bytes.{classOf, digitClass, number, expect, endOf, Placed, goesOn, less, numbers, values, outside, twice, line, lines, digits}
+use Rattle.plan.specs.Bytes.{lineOf, linesOf}
+use Rattle.laws.proofs.Reading.Common.{got-value, got-next, then-got, unless-got, Reads, byte-there, byte-is, byte-past, expect-took}
+use Rattle.laws.proofs.Reading.Common.{expect-reads, and-left, and-right, and-intro}
 use Rattle.laws.proofs.Reading.Number.{number-took, number-reads}
 
 pub end-pos : (k : ℕ) → 0 < endOf k

@@ -20,7 +20,8 @@ use Rattle.plan.specs.declared.Refusal.the-variants.{WrongByte, ShortTable, Out
 use Rattle.plan.specs.Literals.{varOf, litOf}
 use Rattle.plan.specs.Refusals.{numberOf, Parse, got, refused, _then_, unless}
 use Rattle.plan.specs.Circuit.{Circuit, literalOf, definedIn, usedIn, allNew, against, short}
-use Rattle.plan.specs.Bytes.{classOf, nameClass, span, numberBy, number, expect, goesOn, less, Placed, numbers, values, outside, wrongReset, ownOf, line, lines, latchLineAt, latchLines}
+use Rattle.plan.specs.Bytes.{classOf, nameClass, span, numberBy, number, expect, goesOn, less, Placed, numbers, values, outside, wrongReset, ownOf}
+use Rattle.plan.specs.Bytes.{line, lines, latchLineAt, latchLines}
 use Rattle.plan.specs.Depends.{undefinedIn, cyclicIn}
 use Rattle.plan.specs.Header.{moreResets, Form, binary, Head, header, adds, wordsToRead}
 use Rattle.plan.specs.Difference.{differenceAt, differenceSays, difference}

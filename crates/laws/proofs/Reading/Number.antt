@@ -172,7 +172,8 @@ module _ (file : List ℕ) (at n next : ℕ) where
       let spelled : digits n ≡ b ∷ l
       = ap digits (sym v ∙ ap (decimal 0) w)
       ∙ (digits-decimal (0 * 10 + (b - 48)) l (omega (arith, k .0)) (span-pass digitClass (drop (at + 1) file))
-      ∙ (ap (λ (x : List ℕ). x ++ l) (spell-small (0 * 10 + (b - 48)) (0 * 10 + (b - 48)) (omega (arith, k .1))) ∙ ap (λ (x : ℕ). x ∷ l) (omega (arith, k .0)))) in (
+      ∙ (ap (λ (x : List ℕ). x ++ l) (spell-small (0 * 10 + (b - 48)) (0 * 10 + (b - 48)) (omega (arith, k .1)))
+      ∙ ap (λ (x : ℕ). x ∷ l) (omega (arith, k .0)))) in (
         span-split digitClass (drop at file)
             ∙ ap₂ (λ (x y : List ℕ). x ++ y) (w ∙ sym spelled) (drop-drop (length (span digitClass (drop at file))) at file ∙ ap (λ (x : ℕ). drop x file) m),
         sym m ∙ ap (λ (x : List ℕ). at + length x) (w ∙ sym spelled),
@@ -246,5 +247,6 @@ number-digits file at (suc n) s c e =
     ap (λ (k : Class). numberBy k (drop at file) at) is-digit
     ∙ (ap (λ (l : List ℕ). got (decimal 0 l) (at + length l)) w ∙ ap (λ (v : ℕ). got v (at + length (digits m))) (decimal-spell m m (omega arith)))
 
-pub number-reads : (file : List ℕ) (at n x : ℕ) (s : List ℕ) → digitClass (classOf x) ≡ false → drop at file ≡ digits n ++ (x ∷ s) → Reads file (number file at) n (x ∷ s)
+pub number-reads : (file : List ℕ) (at n x : ℕ) (s : List ℕ) → digitClass (classOf x) ≡ false → drop at file ≡ digits n ++ (x ∷ s)
+    → Reads file (number file at) n (x ∷ s)
 number-reads file at n x s c e = (at + length (digits n), number-digits file at n (x ∷ s) c e, past file at (digits n) (x ∷ s) e)

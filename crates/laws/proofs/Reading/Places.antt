@@ -12,7 +12,8 @@ use lib.ListN.{length, getD, take, drop, length-append, length-drop}
 use Rattle.plan.specs.declared.Class.{Class}
 use Rattle.plan.specs.declared.Class.the-variants.{Line, Space, Zero, Digit, Print, Rest}
 use Rattle.plan.specs.declared.Refusal.{Refusal}
-use Rattle.plan.specs.declared.Refusal.the-variants.{WrongByte, LargeCount, WrongSum, ShortTable, OutOfRange, DefinedTwice, NotDefined, Cyclic, BadDifference, BadSymbol, LongDifference, Justice}
+use Rattle.plan.specs.declared.Refusal.the-variants.{WrongByte, LargeCount, WrongSum, ShortTable, OutOfRange, DefinedTwice, NotDefined, Cyclic}
+use Rattle.plan.specs.declared.Refusal.the-variants.{BadDifference, BadSymbol, LongDifference, Justice}
 use Rattle.plan.specs.Refusals.{numberOf, placeOf, Parse, got, refused, _then_, unless}
 use Rattle.plan.specs.declared.Counts.{Counts}
 use Rattle.plan.specs.declared.Version.{Version}
@@ -21,7 +22,8 @@ use Rattle.plan.specs.declared.Difference.the-variants.{Value, Ends, Bad}
 use Rattle.plan.specs.Literals.{varOf}
 use Rattle.plan.specs.Circuit.{Circuit, literalOf, heads, against, short}
 use Rattle.plan.specs.Depends.{undefinedIn, cyclicIn}
-use Rattle.plan.specs.Bytes.{classOf, digitClass, nameClass, span, numberBy, number, expect, goesOn, less, Placed, numbers, values, outside, twice, wrongReset, ownOf, line, lines, latchLineAt, latchLines}
+use Rattle.plan.specs.Bytes.{classOf, digitClass, nameClass, span, numberBy, number, expect, goesOn, less, Placed, numbers, values, outside, twice}
+use Rattle.plan.specs.Bytes.{wrongReset, ownOf, line, lines, latchLineAt, latchLines}
 use Rattle.plan.specs.Header.{moreCounts, moreResets, Form, text, binary, letter, over, above0, adds, countsFrom, header, wordsToRead}
 use Rattle.plan.specs.Difference.{lowThen, groups, differenceAt, differenceSays, difference}
 use Rattle.plan.specs.Binary.{gate, gatesFrom}
@@ -135,7 +137,8 @@ module _ (file : List ℕ) where
       stays-then (expect file 103 b) _ (expect-stays 103 b (omega arith) h2) (λ _ c h3.
       stays-then (expect file 32 c) _ (expect-stays 32 c (omega arith) h3) (λ _ d h4.
       stays-then (numbers file 5 (5 + moreCounts v) d) _ (numbers-stays 5 (5 + moreCounts v) d h4) (λ xs e h5.
-      stays-unless (over xs) LargeCount _ (λ x e. absurd (omega arith)) (stays-unless (above0 (drop 7 xs)) Justice _ (λ x e. absurd (omega arith)) (stays-cond (adds f (countsFrom (values xs))) (got (record {
+      stays-unless (over xs) LargeCount _ (λ x e. absurd (omega arith))
+      (stays-unless (above0 (drop 7 xs)) Justice _ (λ x e. absurd (omega arith)) (stays-cond (adds f (countsFrom (values xs))) (got (record {
         form = f;
         counts = countsFrom (values xs);
       }) e) (refused (WrongSum 0)) (λ _. on h5) (λ _. off (λ e. absurd (omega arith))))))))))

@@ -9,7 +9,8 @@ use lib.ListN.{length, drop}
 use lib.Seq.{append-snoc}
 use Rattle.plan.specs.declared.Counts.{Counts}
 use Rattle.plan.specs.Literals.{varOf}
-use Rattle.plan.specs.Circuit.{Circuit, countsOf, oneLine, latchLine, gateLine, literalOf, latchOf, gateOf, flat, heads, has, allNew, definedIn, inside, allInside, resetsOk}
+use Rattle.plan.specs.Circuit.{Circuit, countsOf, oneLine, latchLine, gateLine, literalOf, latchOf, gateOf, flat, heads, has, allNew, definedIn}
+use Rattle.plan.specs.Circuit.{inside, allInside, resetsOk}
 use Rattle.plan.specs.Bytes.{AllSpell}
 use Rattle.laws.proofs.Reading.Common.{and-left, and-right, and-intro}
 use Rattle.laws.proofs.Reading.Lines.{New, RowsOk}

@@ -9,7 +9,8 @@ use borrow.Author.Tests.{eqb-true, eq-eqb, le-leb}
 use lib.Dec.{eqb, leb}
 use lib.ListN.{length, length-map}
 use Rattle.plan.specs.Literals.{varOf, inRange}
-use Rattle.plan.specs.Circuit.{Gate, Latch, Circuit, countsOf, oneLine, latchLine, gateLine, literalOf, vars, currents, lefts, nexts, has, allNew, inside, allInside}
+use Rattle.plan.specs.Circuit.{Gate, Latch, Circuit, countsOf, oneLine, latchLine, gateLine, literalOf, vars, currents, lefts, nexts, has, allNew}
+use Rattle.plan.specs.Circuit.{inside, allInside}
 use Rattle.plan.specs.Header.{binary, adds}
 use Rattle.plan.specs.Binary.{litsFrom, latchesFrom, runs, falls, binaryOrder}
 use Rattle.laws.proofs.Reading.Common.{and-left, and-right, and-intro}

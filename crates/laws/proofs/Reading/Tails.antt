@@ -15,8 +15,10 @@ use Rattle.plan.specs.declared.Counts.{Counts}
 use Rattle.plan.specs.declared.Version.{Version}
 use Rattle.plan.specs.declared.Version.the-variants.{V2007, V19}
 use Rattle.plan.specs.Bytes.{classOf, nameClass, span, numberBy, number, expect, digits}
-use Rattle.plan.specs.Tail.{Symbol, isKind, fits, symbol, endsLine, comment, startsSymbol, tailFrom, tailAt, TailOk, symbolOf, symbolsOf, isName, symbolsOk, CommentOk, empty, lines}
-use Rattle.laws.proofs.Reading.Common.{in-file, not-got, got-value, got-next, then-got, cond-got, Reads, byte-there, byte-is, byte-past, past, expect-took, expect-reads, and-left, and-right, and-intro}
+use Rattle.plan.specs.Tail.{Symbol, isKind, fits, symbol, endsLine, comment, startsSymbol, tailFrom, tailAt, TailOk, symbolOf, symbolsOf, isName}
+use Rattle.plan.specs.Tail.{symbolsOk, CommentOk, empty, lines}
+use Rattle.laws.proofs.Reading.Common.{in-file, not-got, got-value, got-next, then-got, cond-got, Reads, byte-there, byte-is, byte-past, past}
+use Rattle.laws.proofs.Reading.Common.{expect-took, expect-reads, and-left, and-right, and-intro}
 use Rattle.laws.proofs.Reading.Number.{AllPass, span-pass, span-split, span-all, number-took, number-reads}
 
 pub kind-pos : (v : Version) (b : ℕ) → isKind v b ≡ true → 0 < b
@@ -138,7 +140,8 @@ module _ (v : Version) (file : List ℕ) (n : Counts) where
           )
 
       second : Later k → (t : Bool) → startsSymbol v file at ≡ t
-          → cond t (symbol file n seen at then λ s next. tailFrom v file n k (s ∷ seen) next then λ ss last. got (s ∷ ss) last) (comment file at) ≡ got ss e → Rest seen ss at
+          → cond t (symbol file n seen at then λ s next. tailFrom v file n k (s ∷ seen) next then λ ss last. got (s ∷ ss) last) (comment file at)
+          ≡ got ss e → Rest seen ss at
       second ih true i q =
           let t = then-got (symbol file n seen at) _ ss e q in
           let u = then-got (tailFrom v file n k (t .0 ∷ seen) (t .1)) _ ss e (t .3) in
@@ -147,7 +150,8 @@ module _ (v : Version) (file : List ℕ) (n : Counts) where
       second ih false i q = comment-took seen at ss e q
 
       first : Later k → (t : Bool) → leb (length file) at ≡ t
-          → cond t (got [] at) (cond (startsSymbol v file at) (symbol file n seen at then λ s next. tailFrom v file n k (s ∷ seen) next then λ ss last. got (s ∷ ss) last) (comment file at)) ≡ got ss e
+          → cond t (got [] at) (cond (startsSymbol v file at)
+          (symbol file n seen at then λ s next. tailFrom v file n k (s ∷ seen) next then λ ss last. got (s ∷ ss) last) (comment file at)) ≡ got ss e
           → Rest seen ss at
       first ih true l q =
           subst (λ (x : List Symbol). Rest seen x at) (got-value [] ss at e q) ([], drop-of-length-le file (leb-true _ _ l), refl, empty)
@@ -184,7 +188,8 @@ symbols-long [] = omega arith
 symbols-long (s ∷ ss) = omega (arith, length-append (symbolOf s) (symbolsOf ss), symbols-long ss)
 
 -- a tail is accepted where it starts exactly if it is well formed
-pub tail-exactly : (v : Version) (file : List ℕ) (n : Counts) (at : ℕ) → ((ss : List Symbol) × (e : ℕ) × (tailAt v file n at ≡ got ss e)) ↔ TailOk v n (drop at file)
+pub tail-exactly : (v : Version) (file : List ℕ) (n : Counts) (at : ℕ)
+    → ((ss : List Symbol) × (e : ℕ) × (tailAt v file n at ≡ got ss e)) ↔ TailOk v n (drop at file)
 tail-exactly v file n at = (λ t. formed (t .0) (t .1) (t .2), accepted)
   where
     formed : (ss : List Symbol) (e : ℕ) → tailAt v file n at ≡ got ss e → TailOk v n (drop at file)

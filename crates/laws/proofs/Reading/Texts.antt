@@ -16,8 +16,10 @@ use Rattle.plan.specs.Text.{textBody, textLines, textLatches}
 use Rattle.plan.specs.Reading.{WellFormed}
 use Rattle.laws.proofs.Reading.Common.{got-value, got-next, then-got, Reads}
 use Rattle.laws.proofs.Reading.Lines.{RowsOk, lines-took, lines-reads}
-use Rattle.laws.proofs.Reading.Rows.{rows-long, rows-inside, rows-new, rows-defining, rows-using, one-back, gate-back, map-forth, map-long, new-both, new-first, new-second, BodyOk}
-use Rattle.laws.proofs.Reading.Latches.{LatchesOk, latches-took, latches-reads, resets-text, text-resets, latches-spelled, latches-spell, latches-least, heads-take, take-two}
+use Rattle.laws.proofs.Reading.Rows.{rows-long, rows-inside, rows-new, rows-defining, rows-using, one-back, gate-back, map-forth, map-long}
+use Rattle.laws.proofs.Reading.Rows.{new-both, new-first, new-second, BodyOk}
+use Rattle.laws.proofs.Reading.Latches.{LatchesOk, latches-took, latches-reads, resets-text, text-resets, latches-spelled, latches-spell}
+use Rattle.laws.proofs.Reading.Latches.{latches-least, heads-take, take-two}
 
 pub few-resets : (v : Version) → moreResets v ≤ 1
 few-resets V2007 = omega arith

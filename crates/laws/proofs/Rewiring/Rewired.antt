@@ -152,7 +152,8 @@ module _ (c : Circuit) (w : WellFormed c) (t : binaryOrder c ≡ true) (k a b : 
             let kept : (r : Bool) → settled (c .gates) m (side r g) ≡ true → after (side r g) ≡ before (side r g)
             = λ r f. ih (side r g) f (λ x. d (one (g, r, e, x))) (λ x. d (more (g, r, e, refl) x)) in
             after-is u n (some g) e
-            ∙ ap₂ and (ap (signedValue (signOf (g .rhs0))) (kept true (and-left (settled (c .gates) m (varOf (g .rhs0))) (settled (c .gates) m (varOf (g .rhs1))) q)))
+            ∙ ap₂ and (ap (signedValue (signOf (g .rhs0)))
+            (kept true (and-left (settled (c .gates) m (varOf (g .rhs0))) (settled (c .gates) m (varOf (g .rhs1))) q)))
             (ap (signedValue (signOf (g .rhs1))) (kept false (and-right (settled (c .gates) m (varOf (g .rhs0))) (settled (c .gates) m (varOf (g .rhs1))) q)))
             ∙ sym (before-is u (some g) e)
 

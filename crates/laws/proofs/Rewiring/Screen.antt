@@ -224,7 +224,8 @@ module _ (c : Circuit) (w : WellFormed c) (t : binaryOrder c ≡ true) (bytes : 
         high : Dec (v < c .M + 1) → inner c ≤ v → valueOn bytes v ≡ gateValue (valueOn bytes) (leafValue c s i v) (find v (c .gates))
         high (yes k) h = on-follows v k ∙ gate-case (find v (c .gates)) refl h k
         high (no k) h =
-            past-end v (omega arith) ∙ sym (ap (gateValue (valueOn bytes) (leafValue c s i v)) (find-above (inner c) (c .gates) binary v (omega (arith, order .sum))))
+            past-end v (omega arith) ∙ sym (ap (gateValue (valueOn bytes) (leafValue c s i v))
+            (find-above (inner c) (c .gates) binary v (omega (arith, order .sum))))
 
         leaf-case : Dec (v ≡ 0) → v < inner c → valueOn bytes v ≡ leafValue c s i v
         leaf-case (no n) h = sym (leaf-on v h n)

@@ -8,7 +8,8 @@ use borrow.Author.Tests.{leb-true}
 use lib.Dec.{eqb, leb}
 use lib.ListN.{length}
 use Rattle.plan.specs.Literals.{varOf, signOf, inRange}
-use Rattle.plan.specs.Circuit.{Latch, Gate, Circuit, oneLine, latchLine, gateLine, heads, vars, currents, lefts, definedIn, nexts, observed, roots, rights, usedIn, has, allNew, inside, allInside}
+use Rattle.plan.specs.Circuit.{Latch, Gate, Circuit, oneLine, latchLine, gateLine, heads, vars, currents, lefts, definedIn, nexts, observed, roots}
+use Rattle.plan.specs.Circuit.{rights, usedIn, has, allNew, inside, allInside}
 use Rattle.plan.specs.Depends.{settled}
 use Rattle.plan.specs.Reading.{WellFormed}
 use Rattle.plan.specs.Convert.{leaves}

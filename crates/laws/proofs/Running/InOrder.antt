@@ -7,7 +7,8 @@ use native.Mathlib.Omega.{arith}
 use borrow.Author.Tests.{leb-true, le-leb}
 use lib.ListN.{length}
 use Rattle.plan.specs.Literals.{most, varOf, inRange}
-use Rattle.plan.specs.Circuit.{Gate, Latch, Circuit, oneLine, latchLine, vars, currents, definedIn, usedIn, nexts, roots, rights, has, allNew, inside, allInside, observed, resetsOk}
+use Rattle.plan.specs.Circuit.{Gate, Latch, Circuit, oneLine, latchLine, vars, currents, definedIn, usedIn, nexts, roots, rights, has, allNew, inside}
+use Rattle.plan.specs.Circuit.{allInside, observed, resetsOk}
 use Rattle.plan.specs.Depends.{Depends}
 use Rattle.plan.specs.Reading.{WellFormed}
 use Rattle.plan.specs.Convert.{leaves}
@@ -15,7 +16,8 @@ use Rattle.laws.proofs.Reading.Common.{and-left, and-right, and-intro}
 use Rattle.laws.proofs.Reading.Members.{has-cases}
 use Rattle.laws.proofs.Reading.Cycles.{settled-exactly}
 use Rattle.laws.proofs.Reading.Order.{InOrder}
-use Rattle.laws.proofs.Reading.Runs.{upFrom, up-append, lits-inside, latches-inside, gates-inside, vars-lits, currents-latches, lefts-gates, run-new, length-nexts, BinaryOrder}
+use Rattle.laws.proofs.Reading.Runs.{upFrom, up-append, lits-inside, latches-inside, gates-inside, vars-lits, currents-latches, lefts-gates}
+use Rattle.laws.proofs.Reading.Runs.{run-new, length-nexts, BinaryOrder}
 use Rattle.laws.proofs.Running.Found.{AllG}
 use Rattle.laws.proofs.Running.Accepted.{leaves-lefts}
 use Rattle.laws.proofs.Running.Binary.{Binary, settled-binary, inner, Bounded, Ordered}

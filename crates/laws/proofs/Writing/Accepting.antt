@@ -25,7 +25,8 @@ use Rattle.plan.specs.Given.{Given, given, lentAlone, lentWith, stages, orderSt
 use Rattle.plan.specs.Convert.{convert}
 use Rattle.plan.specs.Reduce.{reduce}
 use Rattle.plan.specs.Step.{codeOf, valueOf, outputsOf, nextOf, witnessed}
-use Rattle.plan.specs.Outcome.{FileEntry, writtenBy, writeText, writeBinary, madeBy, conversion, reduction, allCodes, StepEntry, stepStage, steppedBy, step, WitnessEntry, verdictBy, listStage, witness3}
+use Rattle.plan.specs.Outcome.{FileEntry, writtenBy, writeText, writeBinary, madeBy, conversion, reduction, allCodes, StepEntry, stepStage, steppedBy}
+use Rattle.plan.specs.Outcome.{step, WitnessEntry, verdictBy, listStage, witness3}
 use Rattle.laws.proofs.Reading.Short.{short-none, long-both}
 use Rattle.laws.proofs.Reading.Tails.{tail-exactly}
 use Rattle.laws.proofs.Writing.Nothing.{both-first}

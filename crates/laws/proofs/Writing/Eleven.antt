@@ -12,7 +12,8 @@ use Rattle.plan.specs.declared.Class.{Class}
 use Rattle.plan.specs.declared.Class.the-variants.{Line, Space, Zero, Digit, Print, Rest}
 use Rattle.plan.specs.declared.Counts.{Counts}
 use Rattle.plan.specs.declared.Refusal.{Refusal}
-use Rattle.plan.specs.declared.Refusal.the-variants.{WrongByte, LargeCount, WrongSum, ShortTable, OutOfRange, DefinedTwice, NotDefined, Cyclic, BadSymbol, NotInOrder}
+use Rattle.plan.specs.declared.Refusal.the-variants.{WrongByte, LargeCount, WrongSum, ShortTable, OutOfRange, DefinedTwice, NotDefined, Cyclic}
+use Rattle.plan.specs.declared.Refusal.the-variants.{BadSymbol, NotInOrder}
 use Rattle.plan.specs.Refusals.{Parse, got, refused, _then_, numberOf, stage, firstOf}
 use Rattle.plan.specs.Bytes.{classOf, nameClass, span, numberBy, number, expect}
 use Rattle.plan.specs.Binary.{binaryOrder}

@@ -53,7 +53,15 @@ module _ (g : Given) (c : Circuit) (left : Left g c) (order : binaryOrder c ≡ 
   one-step state ins ls li =
       step-done g c left order (map codeOf state) (map codeOf ins) outs (length-map state codeOf ∙ ls) (all-codes state)
       (length-map ins codeOf ∙ li) (all-codes ins) room
-      ∙ ap₂ (λ (s i : List Value). exitOf g (record { state = state; inputs = ins; outputs = outputsOf c s i; bads = badsOf c state ins; constraints = constraintsOf c state ins; next = nextOf c s i }))
+      ∙ ap₂ (λ (s i : List Value). exitOf g (record {
+        state = state;
+        inputs = ins;
+        outputs = outputsOf c s i;
+        bads = badsOf c state ins;
+        constraints
+            = constraintsOf c state ins;
+        next = nextOf c s i;
+      }))
       (codes-values state) (codes-values ins)
 
   pub steps-run : (list : List (List Value)) → Sized (length (c .inputs)) list → (state : List Value) → length state ≡ length (c .latches)

@@ -1,3 +1,4 @@
+-- Marks the variable of a literal that defines; whether it was marked already. The answers are given by `unasked`, `was-marked` and `now-marked`.
 use Prim.Native.Nat.{_<_}
 use borrow.Author.Needs.{needs}
 use mathlib.Core.Path.{_≡_, ap, _∙_}
@@ -64,14 +65,5 @@ returns-3 c =
 pub defined-before-spec : {M : Type 1} → statement M
 defined-before-spec =
     tie.close
-    (tie.spec
-    returns
-    var-requires
-    index-requires
-    cast-v
-    is-on-requires
-    same-length
-    returns-2
-    raise-requires
-    same-length-2
-    returns-3)
+    (tie.spec returns var-requires index-requires cast-v is-on-requires same-length returns-2 raise-requires
+    same-length-2 returns-3)

@@ -1,3 +1,4 @@
+-- Whether a number of a line ends here: with a new line after the last, with a space before the next. The answers are given by `past-end` and `told`.
 use borrow.Author.Needs.{needs}
 use lib.ListN.{getD, List·getD-eq-default}
 use Rattle.lines.proofs.EndBytes.{told, past-end}
@@ -66,19 +67,5 @@ returns-7 c =
 pub ends-spec : {M : Type 1} → statement M
 ends-spec =
     tie.close
-    (tie.spec
-    returns
-    shared-slice-read-class-of
-    class-of-requires
-    enum-told
-    enum-told-2
-    enum-told-3
-    enum-told-4
-    enum-told-5
-    enum-told-6
-    returns-2
-    returns-3
-    returns-4
-    returns-5
-    returns-6
-    returns-7)
+    (tie.spec returns shared-slice-read-class-of class-of-requires enum-told enum-told-2 enum-told-3
+    enum-told-4 enum-told-5 enum-told-6 returns-2 returns-3 returns-4 returns-5 returns-6 returns-7)

@@ -141,7 +141,8 @@ module _ (v : Version) (file : List ℕ) where
     pub large : (form : Form) (r : ℕ) → Above w 0 most r → r < 9 → headed.Refused (LargeCount (getD p r 0)) ≡ headedBy (counted v file form)
     large form r a l =
         let o : over (s .xs) ≡ some (getD (placesOf (s .xs)) r 0)
-        = over-some (s .xs) r (there r most (a .found l)) (λ k h. omega (arith, a .before k (omega arith) h, s .words k)) (omega (arith, a .found l, s .words r)) in
+        = over-some (s .xs) r (there r most (a .found l)) (λ k h. omega (arith, a .before k (omega arith) h, s .words k))
+        (omega (arith, a .found l, s .words r)) in
         let all : counted v file form ≡ refused (LargeCount (getD (placesOf (s .xs)) r 0)) = rw (s .read, o) in
         ap (λ (x : ℕ). headed.Refused (LargeCount x)) (s .places r) ∙ sym (ap headedBy all)
 

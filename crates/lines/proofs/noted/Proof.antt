@@ -1,3 +1,4 @@
+-- What was found first. Each answer is rewritten with the tests that led to it.
 use borrow.Author.Needs.{needs}
 use Rattle.lines.proofs.noted.Statement.{statement}
 use Rattle.lines.proofs.noted.Tie as tie

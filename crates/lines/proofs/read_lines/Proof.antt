@@ -1,3 +1,6 @@
+-- n lines of k literals, of which the first defines or not, into the table from its start: each line by 1, then 5, then 6. The loop keeps `Loop file
+-- k defines m n at table₀ marks₀ table marks pos base i`; the measure is `n - i`. `passed-to`, `line-word` and `fits` carry it from turn to turn, and
+-- `stops`, `passed-to` and `line-word` give the answer.
 use Prim.Native.Nat.{ℕ, _-_, _<_, _≤_}
 use mathlib.Core.Path.{_≡_, sym, ap, ap₂, _∙_}
 use mathlib.Core.Bool.{Bool}
@@ -44,7 +47,8 @@ returns : tie.Need-returns Inv-loop μ-loop
 returns c =
     let start = c .before .before .before .before .before .before .before .before .before .before .before .before in
     let loop = c .before .before .before .before .before .before .before .before .loop in
-    stops (loop .inv) (start .pre .1 .1 .0) (c .before .before .before .before .before .before .before .loop-test .taken) _ _ _ (sym (c .before .r .given .1) ∙ c .before .before .before .before .before .read-row .ensures .0)
+    stops (loop .inv) (start .pre .1 .1 .0) (c .before .before .before .before .before .before .before .loop-test .taken) _ _ _
+    (sym (c .before .r .given .1) ∙ c .before .before .before .before .before .read-row .ensures .0)
 
 enum-known-next : tie.Need-enum-known-next Inv-loop μ-loop
 enum-known-next c = search needs
@@ -53,7 +57,13 @@ mul-at : tie.Need-mul-at Inv-loop μ-loop
 mul-at c =
     let start = c .before .before .before .before .before .before .before .before .before .before .before .before in
     let loop = c .before .before .before .before .before .before .before .before .loop in
-    let h : loop .base < length (c .before .before .before .before .before .read-row .last .1 .1 .1 .1 .1 .0) = omega (arith, c .before .before .before .before .table .given, fits (loop .inv) (start .pre .1 .1 .0) (c .before .before .before .before .before .before .before .loop-test .taken), start .pre .1 .0) in
+    let h : loop .base < length (c .before .before .before .before .before .read-row .last .1 .1 .1 .1 .1 .0) = omega (
+      arith,
+      c .before .before .before .before .table .given,
+      fits (loop .inv) (start .pre .1 .1 .0)
+          (c .before .before .before .before .before .before .before .loop-test .taken),
+      start .pre .1 .0,
+    ) in
     search needs
 
 slice-read-at : tie.Need-slice-read-at Inv-loop μ-loop
@@ -74,10 +84,12 @@ defined-before-requires c κs =
     let read-row = c .before .before .before .before .before .before .before .before .read-row in
     let a = start .args in
     let l = loop in
-    let p = passed-to (row (a .file .now) (a .k) (a .defines) (a .m) (l .pos)) _ (sym (c .before .before .before .before .next .given .1) ∙ read-row .ensures .0) in
+    let p = passed-to (row (a .file .now) (a .k) (a .defines) (a .m) (l .pos)) _
+    (sym (c .before .before .before .before .next .given .1) ∙ read-row .ensures .0) in
     let held = read-row .ensures .1 (p .0) _ (p .1) in
     let word : wordOf (c .before .at .result) ≡ literalOf (p .0)
-    = ap wordOf (c .before .at .ensures) ∙ line-word (a .file .now) (a .k) (a .defines) (a .m) (l .pos) (p .0) _ (p .1) (start .pre .1 .0) _ _ (l .base) held (fits (l .inv) (start .pre .1 .1 .0) (loop-test .taken)) in
+    = ap wordOf (c .before .at .ensures) ∙ line-word (a .file .now) (a .k) (a .defines) (a .m) (l .pos) (p .0) _ (p .1) (start .pre .1 .0) _ _
+    (l .base) held (fits (l .inv) (start .pre .1 .1 .0) (loop-test .taken)) in
     let small : varOf (literalOf (p .0)) ≤ a .m = row-var (a .file .now) (a .k) (a .defines) (a .m) (l .pos) (p .0) _ (start .pre .1 .0) (p .1) in
     marks-less (a .defines) _ (a .m) (a .marks .now) _ (omega (arith, ap varOf word, small)) (l .inv .wide-marks) (start .pre .1 .1 .1)
 
@@ -94,7 +106,8 @@ same-length-4 c =
 
 returns-2 : tie.Need-returns-2 Inv-loop μ-loop
 returns-2 c =
-    let start = c .before .before .before .before .before .before .before .before .before .before .before .before .before .before .before .before .before .before .before in
+    let start = c .before .before .before .before .before .before .before .before .before .before .before .before .before .before .before .before
+    .before .before .before in
     let loop = c .before .before .before .before .before .before .before .before .before .before .before .before .before .before .before .loop in
     let loop-test = c .before .before .before .before .before .before .before .before .before .before .before .before .before .before .loop-test in
     let read-row = c .before .before .before .before .before .before .before .before .before .before .before .before .read-row in
@@ -106,13 +119,15 @@ returns-2 c =
     let p = passed-to (row (a .file .now) (a .k) (a .defines) (a .m) (l .pos)) _ (sym (next .given .1) ∙ read-row .ensures .0) in
     let held = read-row .ensures .1 (p .0) _ (p .1) in
     let word : wordOf (at .result) ≡ literalOf (p .0)
-    = ap wordOf (at .ensures) ∙ line-word (a .file .now) (a .k) (a .defines) (a .m) (l .pos) (p .0) _ (p .1) (start .pre .1 .0) _ _ (l .base) held (fits (l .inv) room (loop-test .taken)) in
+    = ap wordOf (at .ensures) ∙ line-word (a .file .now) (a .k) (a .defines) (a .m) (l .pos) (p .0) _ (p .1) (start .pre .1 .0) _ _ (l .base) held
+    (fits (l .inv) room (loop-test .taken)) in
     let told = c .before .before .before .defined-before .ensures .0 ∙ ap (λ (x : ℕ). marked (a .defines) (varOf x) (l .marks)) word in
     twice-told (l .inv) room (loop-test .taken) (start .pre .1 .0) (p .0) _ (p .1) _ _ (sym told ∙ c .if1 .taken)
 
 add-base : tie.Need-add-base Inv-loop μ-loop
 add-base c =
-    let start = c .before .before .before .before .before .before .before .before .before .before .before .before .before .before .before .before .before .before .before in
+    let start = c .before .before .before .before .before .before .before .before .before .before .before .before .before .before .before .before
+    .before .before .before in
     let loop = c .before .before .before .before .before .before .before .before .before .before .before .before .before .before .before .loop in
     let loop-test = c .before .before .before .before .before .before .before .before .before .before .before .before .before .before .loop-test in
     omega (arith, fits (loop .inv) (start .pre .1 .1 .0) (loop-test .taken), loop .inv .wide)
@@ -125,7 +140,8 @@ loop-less c = omega arith
 
 loop-again : tie.Need-loop-again Inv-loop μ-loop
 loop-again c =
-    let start = c .before .before .before .before .before .before .before .before .before .before .before .before .before .before .before .before .before .before .before in
+    let start = c .before .before .before .before .before .before .before .before .before .before .before .before .before .before .before .before
+    .before .before .before in
     let loop = c .before .before .before .before .before .before .before .before .before .before .before .before .before .before .before .loop in
     let loop-test = c .before .before .before .before .before .before .before .before .before .before .before .before .before .before .loop-test in
     let read-row = c .before .before .before .before .before .before .before .before .before .before .before .before .read-row in
@@ -137,7 +153,8 @@ loop-again c =
     let p = passed-to (row (a .file .now) (a .k) (a .defines) (a .m) (l .pos)) _ (sym (next .given .1) ∙ read-row .ensures .0) in
     let held = read-row .ensures .1 (p .0) _ (p .1) in
     let word : wordOf (at .result) ≡ literalOf (p .0)
-    = ap wordOf (at .ensures) ∙ line-word (a .file .now) (a .k) (a .defines) (a .m) (l .pos) (p .0) _ (p .1) (start .pre .1 .0) _ _ (l .base) held (fits (l .inv) room (loop-test .taken)) in
+    = ap wordOf (at .ensures) ∙ line-word (a .file .now) (a .k) (a .defines) (a .m) (l .pos) (p .0) _ (p .1) (start .pre .1 .0) _ _ (l .base) held
+    (fits (l .inv) room (loop-test .taken)) in
     let told = c .before .before .before .defined-before .ensures .0 ∙ ap (λ (x : ℕ). marked (a .defines) (varOf x) (l .marks)) word in
     turns (l .inv) room (loop-test .taken) (start .pre .1 .0) (p .0) _ (p .1) _ _ (start .pre .1 .1 .1) (sym told ∙ c .if1 .left) held
     (c .before .before .before .defined-before .ensures .1 ∙ ap₂ (λ (x : ℕ) (y : Bool). marking (a .defines) y (varOf x) (l .marks)) word (c .if1 .left))
@@ -154,27 +171,6 @@ returns-3 c = ends-here (c .before .loop .inv) (c .before .before .before .befor
 pub read-lines-spec : {M : Type 1} → statement M
 read-lines-spec =
     tie.close
-    (tie.spec
-    Inv-loop
-    μ-loop
-    loop-holds
-    read-row-requires
-    enum-known-r
-    same-length
-    same-length-2
-    returns
-    enum-known-next
-    mul-at
-    slice-read-at
-    at-requires
-    defined-before-requires
-    same-length-3
-    same-length-4
-    returns-2
-    add-base
-    add-i
-    loop-less
-    loop-again
-    same-length-5
-    same-length-6
-    returns-3)
+    (tie.spec Inv-loop μ-loop loop-holds read-row-requires enum-known-r same-length same-length-2 returns
+    enum-known-next mul-at slice-read-at at-requires defined-before-requires same-length-3 same-length-4
+    returns-2 add-base add-i loop-less loop-again same-length-5 same-length-6 returns-3)

@@ -1,3 +1,6 @@
+-- A line of numbers, of which some must stand there and no more than some may: their words and their places from `base` on, by 1. The loop keeps
+-- `Scan file must may at base words₀ places₀ words places pos j`; the measure is `may - j`. `turns` carries it from turn to turn, and `wrong-number`,
+-- `wrong-end` and `stops` give the answer.
 use Prim.Native.Nat.{_+_, _-_}
 use mathlib.Core.Path.{sym, _∙_}
 use native.Mathlib.Omega.{arith}
@@ -40,7 +43,8 @@ returns : tie.Need-returns Inv-loop μ-loop
 returns c =
     let start = c .before .before .before .before .before .before .before .before .before in
     let s = c .before .before .before .before .before .loop .inv in
-    wrong-number s (start .pre .0) (start .pre .1 .0) (start .pre .1 .1) _ (c .before .before .before .before .loop-test .taken) (sym (c .before .place .given .1) ∙ c .before .before .before .read-number .ensures) _ _
+    wrong-number s (start .pre .0) (start .pre .1 .0) (start .pre .1 .1) _ (c .before .before .before .before .loop-test .taken)
+    (sym (c .before .place .given .1) ∙ c .before .before .before .read-number .ensures) _ _
 
 enum-known-v : tie.Need-enum-known-v Inv-loop μ-loop
 enum-known-v c = search needs
@@ -103,7 +107,10 @@ returns-2 : tie.Need-returns-2 Inv-loop μ-loop
 returns-2 c =
     let start = c .before .before .before .before .before .before .before .before .before .before .before .before in
     let s = c .before .before .before .before .before .before .before .before .loop .inv in
-    wrong-end s (start .pre .0) (start .pre .1 .0) (start .pre .1 .1) _ _ (c .before .before .before .before .before .before .before .loop-test .taken) (sym (c .before .before .before .before .v .given .1) ∙ c .before .before .before .before .before .before .read-number .ensures) (sym (c .before .before .goes-on .ensures) ∙ c .enum-told .given .1) _ _
+    wrong-end s (start .pre .0) (start .pre .1 .0) (start .pre .1 .1) _ _
+    (c .before .before .before .before .before .before .before .loop-test .taken)
+    (sym (c .before .before .before .before .v .given .1) ∙ c .before .before .before .before .before .before .read-number .ensures)
+    (sym (c .before .before .goes-on .ensures) ∙ c .enum-told .given .1) _ _
 
 enum-told-2 : tie.Need-enum-told-2 Inv-loop μ-loop
 enum-told-2 c = search needs
@@ -113,7 +120,12 @@ add-t24 c =
     let start = c .before .before .before .before .before .before .before .before .before .before .before .before in
     let s = c .before .before .before .before .before .before .before .before .loop .inv in
     let g = c .before .before .goes-on .ensures in
-    omega (arith, stop-inner (start .args .file .now) _ (ltb (c .before .before .before .before .before .before .before .before .loop .j + 1) (start .args .must)) (ltb (c .before .before .before .before .before .before .before .before .loop .j + 1) (start .args .may)) (sym g ∙ c .enum-told2 .given .1))
+    omega (
+      arith,
+      stop-inner (start .args .file .now) _
+          (ltb (c .before .before .before .before .before .before .before .before .loop .j + 1) (start .args .must))
+          (ltb (c .before .before .before .before .before .before .before .before .loop .j + 1) (start .args .may)) (sym g ∙ c .enum-told2 .given .1),
+    )
 
 same-length-5 : tie.Need-same-length-5 Inv-loop μ-loop
 same-length-5 c =
@@ -131,7 +143,9 @@ returns-3 : tie.Need-returns-3 Inv-loop μ-loop
 returns-3 c =
     let start = c .before .before .before .before .before .before .before .before .before .before .before .before in
     let s = c .before .before .before .before .before .before .before .before .loop .inv in
-    stops s (start .pre .0) (start .pre .1 .0) (start .pre .1 .1) _ _ (c .before .before .before .before .before .before .before .loop-test .taken) (sym (c .before .before .before .before .v .given .1) ∙ c .before .before .before .before .before .before .read-number .ensures) (sym (c .before .before .goes-on .ensures) ∙ c .enum-told2 .given .1)
+    stops s (start .pre .0) (start .pre .1 .0) (start .pre .1 .1) _ _ (c .before .before .before .before .before .before .before .loop-test .taken)
+    (sym (c .before .before .before .before .v .given .1) ∙ c .before .before .before .before .before .before .read-number .ensures)
+    (sym (c .before .before .goes-on .ensures) ∙ c .enum-told2 .given .1)
 
 enum-told-3 : tie.Need-enum-told-3 Inv-loop μ-loop
 enum-told-3 c = search needs
@@ -141,7 +155,12 @@ add-pos c =
     let start = c .before .before .before .before .before .before .before .before .before .before .before .before in
     let s = c .before .before .before .before .before .before .before .before .loop .inv in
     let g = c .before .before .goes-on .ensures in
-    omega (arith, on-inner (start .args .file .now) _ (ltb (c .before .before .before .before .before .before .before .before .loop .j + 1) (start .args .must)) (ltb (c .before .before .before .before .before .before .before .before .loop .j + 1) (start .args .may)) (sym g ∙ c .enum-told3 .given .1))
+    omega (
+      arith,
+      on-inner (start .args .file .now) _
+          (ltb (c .before .before .before .before .before .before .before .before .loop .j + 1) (start .args .must))
+          (ltb (c .before .before .before .before .before .before .before .before .loop .j + 1) (start .args .may)) (sym g ∙ c .enum-told3 .given .1),
+    )
 
 add-j : tie.Need-add-j Inv-loop μ-loop
 add-j c = omega arith
@@ -153,7 +172,9 @@ loop-again : tie.Need-loop-again Inv-loop μ-loop
 loop-again c =
     let start = c .before .before .before .before .before .before .before .before .before .before .before .before in
     let s = c .before .before .before .before .before .before .before .before .loop .inv in
-    turns s (start .pre .0) (start .pre .1 .0) (start .pre .1 .1) _ _ (c .before .before .before .before .before .before .before .loop-test .taken) (sym (c .before .before .before .before .v .given .1) ∙ c .before .before .before .before .before .before .read-number .ensures) (sym (c .before .before .goes-on .ensures) ∙ c .enum-told3 .given .1)
+    turns s (start .pre .0) (start .pre .1 .0) (start .pre .1 .1) _ _ (c .before .before .before .before .before .before .before .loop-test .taken)
+    (sym (c .before .before .before .before .v .given .1) ∙ c .before .before .before .before .before .before .read-number .ensures)
+    (sym (c .before .before .goes-on .ensures) ∙ c .enum-told3 .given .1)
 
 same-length-7 : tie.Need-same-length-7 Inv-loop μ-loop
 same-length-7 c =
@@ -176,39 +197,8 @@ returns-4 c =
 pub read-numbers-spec : {M : Type 1} → statement M
 read-numbers-spec =
     tie.close
-    (tie.spec
-    Inv-loop
-    μ-loop
-    loop-holds
-    read-number-requires
-    enum-known-place
-    same-length
-    same-length-2
-    returns
-    enum-known-v
-    add-words
-    mul-words
-    slice-write-words
-    add-places
-    mul-places
-    slice-write-places
-    add-goes-on
-    add-goes-on-2
-    goes-on-requires
-    enum-told
-    same-length-3
-    same-length-4
-    returns-2
-    enum-told-2
-    add-t24
-    same-length-5
-    same-length-6
-    returns-3
-    enum-told-3
-    add-pos
-    add-j
-    loop-less
-    loop-again
-    same-length-7
-    same-length-8
-    returns-4)
+    (tie.spec Inv-loop μ-loop loop-holds read-number-requires enum-known-place same-length same-length-2
+    returns enum-known-v add-words mul-words slice-write-words add-places mul-places slice-write-places
+    add-goes-on add-goes-on-2 goes-on-requires enum-told same-length-3 same-length-4 returns-2 enum-told-2
+    add-t24 same-length-5 same-length-6 returns-3 enum-told-3 add-pos add-j loop-less loop-again same-length-7
+    same-length-8 returns-4)

@@ -1,3 +1,6 @@
+-- One line of k literals, of which the first defines or not, into the table from `base` on: by 1 over the whole line, then 5. The loop keeps `Scan
+-- file k defines m at table₀ base table pos d bad j`; the measure is `k - j`. `turns` carries it from turn to turn, and `wrong-number`,
+-- `not-accepted` and `wrong-end` give the answer.
 use Prim.Native.Nat.{_+_, _-_, _≤_}
 use mathlib.Core.Path.{refl, sym, ap, _∙_}
 use native.Mathlib.Omega.{arith}
@@ -35,7 +38,8 @@ returns : tie.Need-returns Inv-loop μ-loop
 returns c =
     let start = c .before .before .before .before .before .before .before .before in
     let a = start .args in
-    let r = wrong-number (c .before .before .before .before .before .loop .inv) _ (c .before .before .before .before .loop-test .taken) (sym (c .before .place .given .1) ∙ c .before .before .before .read-number .ensures) in
+    let r = wrong-number (c .before .before .before .before .before .loop .inv) _ (c .before .before .before .before .loop-test .taken)
+    (sym (c .before .place .given .1) ∙ c .before .before .before .read-number .ensures) in
     (r, λ ls next q. not-accepted (row (a .file .now) (a .k) (a .defines) (a .m) (a .at)) _ r _ ls next q)
 
 enum-known-v : tie.Need-enum-known-v Inv-loop μ-loop
@@ -56,7 +60,10 @@ returns-2 : tie.Need-returns-2 Inv-loop μ-loop
 returns-2 c =
     let start = c .before .before .before .before .before .before .before .before .before .before in
     let a = start .args in
-    let r = wrong-end (c .before .before .before .before .before .before .before .loop .inv) _ _ (c .before .before .before .before .before .before .loop-test .taken) (sym (c .before .before .before .v .given .1) ∙ c .before .before .before .before .before .read-number .ensures) (sym (c .before .ends .ensures) ∙ not-true _ (c .if1 .taken)) in
+    let r = wrong-end (c .before .before .before .before .before .before .before .loop .inv) _ _
+    (c .before .before .before .before .before .before .loop-test .taken)
+    (sym (c .before .before .before .v .given .1) ∙ c .before .before .before .before .before .read-number .ensures)
+    (sym (c .before .ends .ensures) ∙ not-true _ (c .if1 .taken)) in
     (r, λ ls next q. not-accepted (row (a .file .now) (a .k) (a .defines) (a .m) (a .at)) _ r _ ls next q)
 
 add-table : tie.Need-add-table Inv-loop μ-loop
@@ -85,7 +92,11 @@ add-pos : tie.Need-add-pos Inv-loop μ-loop
 add-pos c =
     let start = c .before .before .before .before .before .before .before .before .before .before .before .before .before in
     let loop = c .before .before .before .before .before .before .before .before .before .before .loop in
-    omega (arith, inner (start .args .file .now) _ (eqb (loop .j + 1) (start .args .k)) (sym (c .before .before .before .before .ends .ensures) ∙ not-false _ (c .before .before .before .if1 .left)))
+    omega (
+      arith,
+      inner (start .args .file .now) _ (eqb (loop .j + 1) (start .args .k))
+          (sym (c .before .before .before .before .ends .ensures) ∙ not-false _ (c .before .before .before .if1 .left)),
+    )
 
 add-j : tie.Need-add-j Inv-loop μ-loop
 add-j c = omega arith
@@ -99,8 +110,11 @@ loop-again c =
     let loop = c .before .before .before .before .before .before .before .before .before .before .loop in
     let loop-test = c .before .before .before .before .before .before .before .before .before .loop-test in
     let read-number = c .before .before .before .before .before .before .before .before .read-number in
-    turns (loop .inv) _ _ (loop-test .taken) (sym (c .before .before .before .before .before .before .v .given .1) ∙ read-number .ensures) _ _ (start .pre .0) (start .pre .1)
-    (sym (c .before .before .before .before .ends .ensures) ∙ not-false _ (c .before .before .before .if1 .left)) (c .before .within .ensures ∙ ap (λ (l : Lit). inRange (loop .d) (start .args .m) (wordOf l)) (c .before .before .at .ensures)) (c .noted .ensures)
+    turns (loop .inv) _ _ (loop-test .taken) (sym (c .before .before .before .before .before .before .v .given .1) ∙ read-number .ensures) _ _
+    (start .pre .0) (start .pre .1)
+    (sym (c .before .before .before .before .ends .ensures) ∙ not-false _ (c .before .before .before .if1 .left))
+    (c .before .within .ensures ∙ ap (λ (l : Lit). inRange (loop .d) (start .args .m) (wordOf l)) (c .before .before .at .ensures))
+    (c .noted .ensures)
 
 enum-told : tie.Need-enum-told Inv-loop μ-loop
 enum-told c = search needs
@@ -134,32 +148,7 @@ returns-4 c =
 pub read-row-spec : {M : Type 1} → statement M
 read-row-spec =
     tie.close
-    (tie.spec
-    Inv-loop
-    μ-loop
-    loop-holds
-    read-number-requires
-    enum-known-place
-    same-length
-    returns
-    enum-known-v
-    add-ends
-    ends-requires
-    same-length-2
-    returns-2
-    add-table
-    mul-table
-    slice-write-table
-    at-requires
-    within-requires
-    noted-requires
-    add-pos
-    add-j
-    loop-less
-    loop-again
-    enum-told
-    enum-known-bad
-    same-length-3
-    returns-3
-    same-length-4
-    returns-4)
+    (tie.spec Inv-loop μ-loop loop-holds read-number-requires enum-known-place same-length returns
+    enum-known-v add-ends ends-requires same-length-2 returns-2 add-table mul-table slice-write-table
+    at-requires within-requires noted-requires add-pos add-j loop-less loop-again enum-told enum-known-bad
+    same-length-3 returns-3 same-length-4 returns-4)

@@ -31,7 +31,8 @@ counted v file form =
     numbers file 5 (5 + moreCounts v) 4 then λ xs next.
     unless (over xs) LargeCount
     (unless (above0 (drop 7 xs)) Justice
-    (cond (adds form (countsFrom (values xs))) (got (record { form = form; counts = countsFrom (values xs) }) next) (refused (WrongSum 0))))
+    (cond (adds form (countsFrom (values xs))) (got (record { form = form; counts = countsFrom (values xs) }) next)
+    (refused (WrongSum 0))))
 
 abbrev pub headedFrom : Version → List ℕ → Magic → Parse Head
 headedFrom v file Text = counted v file text
@@ -52,4 +53,5 @@ sums false sum m = leb sum m
 
 -- the words of table t
 abbrev pub wordsOf : Form → Counts → ℕ → ℕ
-wordsOf form n t = cond ((leb 1 t && leb t 5) || (leb 7 t && leb t 9)) (getD (wordsToRead form n) (t - 1) 0) (2 ^ 64 - 1)
+wordsOf form n t =
+    cond ((leb 1 t && leb t 5) || (leb 7 t && leb t 9)) (getD (wordsToRead form n) (t - 1) 0) (2 ^ 64 - 1)

@@ -35,11 +35,13 @@ judged m own next reset p q r =
 
 -- one line by 1 and 5
 abbrev pub faults : Bool → ℕ → ℕ → List Placed → Option ℕ
-faults d m v xs = orElse (outside d m (take (literals d) xs)) (wrongReset (ownOf d v (values xs)) (drop (literals d) xs))
+faults d m v xs =
+    orElse (outside d m (take (literals d) xs)) (wrongReset (ownOf d v (values xs)) (drop (literals d) xs))
 
 abbrev pub latchRow : List ℕ → Bool → ℕ → ℕ → ℕ → ℕ → Parse (List ℕ)
 latchRow file d m more v at =
-    numbers file (literals d) (literals d + more) at then λ xs next. unless (faults d m v xs) OutOfRange (got (values xs) next)
+    numbers file (literals d) (literals d + more) at then λ xs next. unless (faults d m v xs) OutOfRange
+    (got (values xs) next)
 
 -- the latch of a line, and of lines
 abbrev pub latchIn : Bool → ℕ → List ℕ → Latch
@@ -59,9 +61,10 @@ abbrev pub OwnAll : Bool → ℕ → ℕ → ℕ → Type 0
 OwnAll true m first n = Unit {0}
 OwnAll false m first n = (0 < first) × (first + n ≤ m + 1)
 
--- what n lines leave: the latches and their resets from the start of their tables, and marks of all that is defined; after a refusal only the
--- refusal counts
-abbrev pub LatchesSay : Bool → ℕ → ℕ → List ℕ → List ℕ → List ℕ → Parse (List (List ℕ)) → Passed → List ℕ → List ℕ → List ℕ → Type 0
+-- what n lines leave: the latches and their resets from the start of their tables, and marks of all that is
+-- defined; after a refusal only the refusal counts
+abbrev pub LatchesSay : Bool → ℕ → ℕ → List ℕ → List ℕ → List ℕ → Parse (List (List ℕ)) → Passed → List ℕ → List ℕ
+    → List ℕ → Type 0
 LatchesSay d m v seen table resets (got rows next) r table′ resets′ marks′ =
     (r ≡ To next) × (table′ ≡ put table 0 (flat (map latchLine (latchesIn d v rows))))
     × (resets′ ≡ put resets 0 (map (resetAfter (literals d)) rows)) × Agrees m (seenAfter d seen rows) marks′

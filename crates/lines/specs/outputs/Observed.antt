@@ -26,7 +26,9 @@ observedAt file n at =
     got (record { outputs = map literalOf outs; bads = map literalOf bads; constraints = map literalOf cons }) at
 
 -- the three lists from the start of their tables, and marks as they were; after a refusal only the refusal counts
-abbrev pub ObservedSay : ℕ → List ℕ → List ℕ → List ℕ → List ℕ → Parse Observed → Passed → List ℕ → List ℕ → List ℕ → List ℕ → Type 0
+abbrev pub ObservedSay : ℕ → List ℕ → List ℕ → List ℕ → List ℕ → Parse Observed → Passed → List ℕ → List ℕ → List ℕ
+    → List ℕ → Type 0
 ObservedSay m seen a b c (got o next) r a′ b′ c′ marks′ =
-    (r ≡ To next) × (a′ ≡ put a 0 (o .outputs)) × (b′ ≡ put b 0 (o .bads)) × (c′ ≡ put c 0 (o .constraints)) × Agrees m seen marks′
+    (r ≡ To next) × (a′ ≡ put a 0 (o .outputs)) × (b′ ≡ put b 0 (o .bads)) × (c′ ≡ put c 0 (o .constraints))
+    × Agrees m seen marks′
 ObservedSay m seen a b c (refused r′) r a′ b′ c′ marks′ = r ≡ Refused r′

@@ -52,7 +52,8 @@ free n marks s = ltb (s .entry) (countOf n (s .kind)) && eqb (getD marks (wordOf
 
 -- a symbol line by 1, then 10, by the marks
 abbrev pub markedSymbol : List ℕ → Counts → List ℕ → ℕ → Parse Symbol
-markedSymbol file n marks at = symbolLine file at then λ s next. cond (free n marks s) (got s next) (refused (BadSymbol at))
+markedSymbol file n marks at =
+    symbolLine file at then λ s next. cond (free n marks s) (got s next) (refused (BadSymbol at))
 
 abbrev pub marksAfter : Counts → List ℕ → Parse Symbol → List ℕ
 marksAfter n marks (got s next) = set marks (wordOf n s) 1

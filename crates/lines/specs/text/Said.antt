@@ -12,6 +12,7 @@ use Rattle.laws.proofs.Held.{BodySays}
 use Rattle.laws.proofs.Marks.{Agrees}
 
 -- the answer and the tables; of a body that is accepted, marks of all that it defines
-pub record TextSays (v : Version) (file : List ℕ) (n : Counts) (at : ℕ) (t : Tables) (r : Passed) (t′ : Tables) (marks : List ℕ) : Type 0 where
+pub record TextSays (v : Version) (file : List ℕ) (n : Counts) (at : ℕ) (t : Tables) (r : Passed) (t′ : Tables)
+    (marks : List ℕ) : Type 0 where
   pub body : BodySays t (textBody v file n at) r t′
   pub marked : (c : Circuit) (next : ℕ) → textBody v file n at ≡ got c next → Agrees (n .M) (definedIn c) marks

@@ -1,3 +1,4 @@
+-- The bytes of an input from the start of a buffer on. The loop keeps `Kept n buf₀ buf`; the measure is `length buf₀ - n`.
 use Prim.Native.Nat.{_-_}
 use mathlib.Core.Path.{refl}
 use native.Mathlib.Omega.{arith}
@@ -73,25 +74,6 @@ returns-4 c = search needs
 pub read-input-spec : {M : Type 1} → statement M
 read-input-spec =
     tie.close
-    (tie.spec
-    Inv-loop
-    μ-loop
-    returns
-    loop-holds
-    sub-read
-    part-read-start
-    part-read-end
-    read-requires
-    same-length
-    returns-2
-    sub-count
-    part-count-start
-    part-count-end
-    count-requires
-    same-length-2
-    returns-3
-    add-n
-    loop-less
-    loop-again
-    same-length-3
-    returns-4)
+    (tie.spec Inv-loop μ-loop returns loop-holds sub-read part-read-start part-read-end read-requires
+    same-length returns-2 sub-count part-count-start part-count-end count-requires same-length-2 returns-3
+    add-n loop-less loop-again same-length-3 returns-4)

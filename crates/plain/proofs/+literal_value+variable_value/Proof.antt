@@ -1,3 +1,4 @@
+-- The value of a literal: its variable's, negated if it has the sign. The answers are given by `as-is`, `negated` and `constant-worth`.
 use Prim.Native.Nat.{ℕ, _+_, _*_, _≤_, _<_}
 use mathlib.Core.Path.{sym, ap, _∙_}
 use native.Mathlib.Omega.{arith}

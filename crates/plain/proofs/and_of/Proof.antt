@@ -1,3 +1,4 @@
+-- 0 if either is 0, 1 if both are 1, else x. The answers are given by `first-zero`, `second-zero` and `first-x`.
 use Rattle.plain.proofs.Codes.{first-zero, second-zero, first-x, second-x, both-one}
 use Rattle.plain.proofs.and_of.Statement.{statement}
 use Rattle.plain.proofs.and_of.Tie as tie

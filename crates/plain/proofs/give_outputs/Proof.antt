@@ -1,3 +1,5 @@
+-- The outputs' values go into their buffer. The loop keeps `Filled`; the measure is `n .O - i`. `filled-front` carries it from turn to turn, and
+-- `filled-all` and `filled-whole` give the answer.
 use Prim.Native.Nat.{ℕ, _-_, _≤_}
 use mathlib.Core.Path.{ap, _∙_}
 use native.Mathlib.Omega.{arith}
@@ -75,17 +77,5 @@ returns c =
 pub give-outputs-spec : {M : Type 1} → statement M
 give-outputs-spec =
     tie.close
-    (tie.spec
-    Inv-loop
-    μ-loop
-    loop-holds
-    mul-at
-    shared-slice-read-at
-    at-requires
-    literal-value-requires
-    slice-write-outs
-    add-i
-    loop-less
-    loop-again
-    same-length
-    returns)
+    (tie.spec Inv-loop μ-loop loop-holds mul-at shared-slice-read-at at-requires literal-value-requires
+    slice-write-outs add-i loop-less loop-again same-length returns)

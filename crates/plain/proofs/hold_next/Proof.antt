@@ -1,3 +1,5 @@
+-- The next states go into the first words of a table, as the state is asked for until the last of them is known. The loop keeps `Filled`; the measure
+-- is `n .L - i`. `filled-front` carries it from turn to turn, and `filled-all` gives the answer.
 use Prim.Native.Nat.{ℕ, _+_, _*_, _-_, _≤_}
 use mathlib.Core.Path.{ap, _∙_}
 use native.Mathlib.Omega.{arith}
@@ -85,21 +87,5 @@ returns c =
 pub hold-next-spec : {M : Type 1} → statement M
 hold-next-spec =
     tie.close
-    (tie.spec
-    Inv-loop
-    μ-loop
-    loop-holds
-    mul-at
-    add-at
-    mul-at-2
-    shared-slice-read-at
-    at-requires
-    literal-value-requires
-    cast-t
-    mul-t
-    slice-write-t
-    add-i
-    loop-less
-    loop-again
-    same-length
-    returns)
+    (tie.spec Inv-loop μ-loop loop-holds mul-at add-at mul-at-2 shared-slice-read-at at-requires
+    literal-value-requires cast-t mul-t slice-write-t add-i loop-less loop-again same-length returns)

@@ -1,3 +1,4 @@
+-- 0 and 1 exchange, x stays. Each answer is given by `value-x`.
 use Prim.Native.Nat.{ℕ}
 use mathlib.Core.Path.{sym, ap}
 use Rattle.plan.specs.Step.{Value, codeOf, valueOf, inv}

@@ -1,3 +1,4 @@
+-- A step whose tables and vectors are good. Each answer is given by `leaves-in`.
 use Rattle.plain.proofs.Filling.{asks, outs-in, nexts-in, bytes-in, leaves-in}
 use borrow.Author.Needs.{needs}
 use Rattle.plain.proofs.plain_vectors.Statement.{statement}
@@ -46,11 +47,5 @@ returns c = λ inputs r.
 pub plain-vectors-spec : {M : Type 1} → statement M
 plain-vectors-spec =
     tie.close
-    (tie.spec
-    give-outputs-requires
-    hold-next-requires
-    take-next-requires
-    same-length
-    same-length-2
-    same-length-3
-    returns)
+    (tie.spec give-outputs-requires hold-next-requires take-next-requires same-length same-length-2
+    same-length-3 returns)

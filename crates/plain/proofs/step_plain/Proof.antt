@@ -1,3 +1,5 @@
+-- One step by the rules alone: the outputs go into their buffer, and the next state over the state. The answers are given by `refused-plain`,
+-- `refused-gates` and `refused-vector`.
 use Prim.Native.Nat.{ℕ}
 use mathlib.Core.Path.{_≡_, sym, ap, _∙_}
 use lib.ListN.{length, replicate}
@@ -138,23 +140,6 @@ returns-4 c =
 pub step-plain-spec : {M : Type 1} → statement M
 step-plain-spec =
     tie.close
-    (tie.spec
-    judge-in-order-requires
-    enum-known-refusal
-    enum-told
-    clear-requires
-    same-length
-    returns
-    bad-vector-requires
-    clear-requires-2
-    same-length-2
-    same-length-3
-    returns-2
-    plain-vectors-requires
-    clear-requires-3
-    same-length-4
-    returns-3
-    same-length-5
-    same-length-6
-    same-length-7
-    returns-4)
+    (tie.spec judge-in-order-requires enum-known-refusal enum-told clear-requires same-length returns
+    bad-vector-requires clear-requires-2 same-length-2 same-length-3 returns-2 plain-vectors-requires
+    clear-requires-3 same-length-4 returns-3 same-length-5 same-length-6 same-length-7 returns-4)

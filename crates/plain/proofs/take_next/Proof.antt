@@ -1,3 +1,5 @@
+-- All latches take their next values at once. The loop keeps `(i ≤ length state₀) × Filled state₀ 0 (λ k. getD t k 0) i state`; the measure is
+-- `length state₀ - i`. `filled-front` carries it from turn to turn, and `filled-all`, `filled-whole` and `words-take` give the answer.
 use Prim.Native.Nat.{_-_, _≤_}
 use mathlib.Core.Path.{refl, sym, _∙_}
 use native.Mathlib.Omega.{arith}
@@ -58,16 +60,5 @@ returns c =
 pub take-next-spec : {M : Type 1} → statement M
 take-next-spec =
     tie.close
-    (tie.spec
-    Inv-loop
-    μ-loop
-    loop-holds
-    mul-state
-    shared-slice-read-state
-    cast-state
-    slice-write-state
-    add-i
-    loop-less
-    loop-again
-    same-length
-    returns)
+    (tie.spec Inv-loop μ-loop loop-holds mul-state shared-slice-read-state cast-state slice-write-state add-i
+    loop-less loop-again same-length returns)

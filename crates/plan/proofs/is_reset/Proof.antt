@@ -1,3 +1,5 @@
+-- Whether a word is a reset of the latch with this literal: 0, 1 or the latch's own literal, which is x (AIGER 1.9). Each answer is rewritten with
+-- the tests that led to it.
 use borrow.Author.Tests.{eq-eqb, ne-eqb}
 use Rattle.plan.proofs.is_reset.Statement.{statement}
 use Rattle.plan.proofs.is_reset.Tie as tie

@@ -1,3 +1,5 @@
+-- The first n literals of a table, each replaced by what it became. The loop keeps `(i ≤ n) × (length to ≡ length to₀) × (to ≡ done table became to₀
+-- i)`; the measure is `n - i`. `one-more` carries it from turn to turn, and `done` gives the answer.
 use Prim.Native.Nat.{ℕ, _-_, _≤_}
 use mathlib.Core.Path.{_≡_, refl, ap, ap₂, _∙_}
 use mathlib.Core.List.{List}
@@ -81,19 +83,5 @@ returns c =
 pub all-become-spec : {M : Type 1} → statement M
 all-become-spec =
     tie.close
-    (tie.spec
-    Inv-loop
-    μ-loop
-    loop-holds
-    mul-at
-    shared-slice-read-at
-    at-requires
-    becomes-requires
-    word-requires
-    mul-to
-    slice-write-to
-    add-i
-    loop-less
-    loop-again
-    same-length
-    returns)
+    (tie.spec Inv-loop μ-loop loop-holds mul-at shared-slice-read-at at-requires becomes-requires
+    word-requires mul-to slice-write-to add-i loop-less loop-again same-length returns)

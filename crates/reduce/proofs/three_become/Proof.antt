@@ -1,3 +1,4 @@
+-- The same of three tables. The answer is that of the call below it.
 use borrow.Author.Needs.{needs}
 use Rattle.reduce.proofs.three_become.Statement.{statement}
 use Rattle.reduce.proofs.three_become.Tie as tie
@@ -30,11 +31,5 @@ returns c =
 pub three-become-spec : {M : Type 1} → statement M
 three-become-spec =
     tie.close
-    (tie.spec
-    all-become-requires
-    all-become-requires-2
-    all-become-requires-3
-    same-length
-    same-length-2
-    same-length-3
-    returns)
+    (tie.spec all-become-requires all-become-requires-2 all-become-requires-3 same-length same-length-2
+    same-length-3 returns)

@@ -23,4 +23,5 @@ Ruled a b r = (gs : List Gate) → standIn a b gs ≡ orTwin r (twin (max a b) (
 abbrev pub StandsIn : List ℕ → List ℕ → ℕ → ℕ → ℕ → ℕ → ℕ → Place → Type 0
 StandsIn gates scratch base w n a b (Taken l) = standIn a b (named base gates n) ≡ some l
 StandsIn gates scratch base w n a b (Free slot) =
-    (standIn a b (named base gates n) ≡ none) × (Within w n slot × Hangs gates scratch w n (max a b) (min a b) (numberOf w slot))
+    (standIn a b (named base gates n) ≡ none) × (Within w n slot
+    × Hangs gates scratch w n (max a b) (min a b) (numberOf w slot))

@@ -16,7 +16,8 @@ use Rattle.reduce.specs.declared.pairs.Place.{Place}
 use Rattle.reduce.specs.declared.pairs.Place.the-variants.{Taken, Free}
 use Rattle.reduce.specs.pairs.Tree.{node, symbol, slotOf, Grown}
 
--- how far the smaller side moves a pair's root: its product with 2 ^ 32 over the golden ratio, cut to 32 bits, on a scale of 2 × w
+-- how far the smaller side moves a pair's root: its product with 2 ^ 32 over the golden ratio, cut to 32 bits, on a
+-- scale of 2 × w
 unfoldable pub spreadOf : ℕ → ℕ → ℕ
 spreadOf w y = y * 2654435769 % 4294967296 * (2 * w) / 4294967296
 
@@ -43,7 +44,8 @@ word gates scratch w s = cond (ltb s (4 * w)) (getD scratch s 0) (getD gates (3 
 
 -- gate i of such a table is of variable base + i
 abbrev pub namedAt : ℕ → List ℕ → ℕ → Gate
-namedAt base gates i = record { lhs = litOf (base + i); rhs0 = getD gates (3 * i + 1) 0; rhs1 = getD gates (3 * i + 2) 0 }
+namedAt base gates i =
+    record { lhs = litOf (base + i); rhs0 = getD gates (3 * i + 1) 0; rhs1 = getD gates (3 * i + 2) 0 }
 
 abbrev pub named : ℕ → List ℕ → ℕ → List Gate
 named base gates = firsts (namedAt base gates)

@@ -36,8 +36,8 @@ node S q (suc i) = on S q i
 abbrev pub symbol : (ℕ → ℕ → ℕ) → (ℕ → ℕ) → ℕ → ℕ
 symbol S q k = q (depth S q k - 1)
 
--- the places at which gates hang, numbered: after w words of another use come 2 × w roots, then one link of each gate; the other links
--- are numbered from 4 × w on
+-- the places at which gates hang, numbered: after w words of another use come 2 × w roots, then one link of each
+-- gate; the other links are numbered from 4 × w on
 abbrev pub slotOf : ℕ → ℕ → ℕ → ℕ
 slotOf w zero c = w + c
 slotOf w (suc i) zero = 4 * w + i
@@ -49,4 +49,5 @@ pub record Good (w : ℕ) (q : ℕ → ℕ) : Type 0 where
 
 -- each node's word leads to the first gate after it on the path
 abbrev pub Grown : (ℕ → ℕ → ℕ) → ℕ → ℕ → (ℕ → ℕ) → Type 0
-Grown S w n word = (q : ℕ → ℕ) → Good w q → (k : ℕ) → k ≤ n → node S q k ≡ true → word (slotOf w k (symbol S q k)) ≡ firstOn S q k n
+Grown S w n word =
+    (q : ℕ → ℕ) → Good w q → (k : ℕ) → k ≤ n → node S q k ≡ true → word (slotOf w k (symbol S q k)) ≡ firstOn S q k n

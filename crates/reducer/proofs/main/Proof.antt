@@ -9,7 +9,7 @@ use Rattle.office.proofs.print_written.Reads as print-written-reads
 use Rattle.office.proofs.read_plan.Reads as read-plan-reads
 use Rattle.office.proofs.readable.Reads as readable-reads
 use Rattle.office.proofs.size.Reads as size-reads
-use Rattle.making.proofs.reducing.reduce_whole.Reads as reduce-whole-reads
+use Rattle.making.proofs.reduce_whole.Reads as reduce-whole-reads
 
 -- src/main.rt:5:34
 slice-aggregate-read-plan : tie.Need-slice-aggregate-read-plan
@@ -122,31 +122,11 @@ returns c = search needs
 pub main-spec : {M : Type 1} → statement M
 main-spec =
     tie.close
-    (tie.spec
-    slice-aggregate-read-plan
-    read-plan-requires
-    size-requires
-    readable-requires
-    sub-reduce-whole
-    part-reduce-whole-start
-    part-reduce-whole-end
-    slice-aggregate-reduce-whole
-    slice-aggregate-reduce-whole-2
-    slice-aggregate-reduce-whole-3
-    slice-aggregate-reduce-whole-4
-    slice-aggregate-reduce-whole-5
-    slice-aggregate-reduce-whole-6
-    slice-aggregate-reduce-whole-7
-    slice-aggregate-reduce-whole-8
-    slice-aggregate-reduce-whole-9
-    slice-aggregate-reduce-whole-10
-    slice-aggregate-reduce-whole-11
-    slice-aggregate-reduce-whole-12
-    slice-aggregate-reduce-whole-13
-    slice-aggregate-reduce-whole-14
-    slice-aggregate-reduce-whole-15
-    slice-aggregate-reduce-whole-16
-    reduce-whole-requires
-    slice-aggregate-print-written
-    print-written-requires
-    returns)
+    (tie.spec slice-aggregate-read-plan read-plan-requires size-requires readable-requires sub-reduce-whole
+    part-reduce-whole-start part-reduce-whole-end slice-aggregate-reduce-whole slice-aggregate-reduce-whole-2
+    slice-aggregate-reduce-whole-3 slice-aggregate-reduce-whole-4 slice-aggregate-reduce-whole-5
+    slice-aggregate-reduce-whole-6 slice-aggregate-reduce-whole-7 slice-aggregate-reduce-whole-8
+    slice-aggregate-reduce-whole-9 slice-aggregate-reduce-whole-10 slice-aggregate-reduce-whole-11
+    slice-aggregate-reduce-whole-12 slice-aggregate-reduce-whole-13 slice-aggregate-reduce-whole-14
+    slice-aggregate-reduce-whole-15 slice-aggregate-reduce-whole-16 reduce-whole-requires
+    slice-aggregate-print-written print-written-requires returns)

@@ -1,3 +1,4 @@
+-- The numbers of all needles, from the resets. Each answer is given by `all-finished`.
 use Prim.Native.Nat.{ℕ}
 use mathlib.Core.Path.{_≡_, ap, _∙_}
 use mathlib.Core.List.{List, []}
@@ -49,7 +50,8 @@ add-finish c = search needs
 
 finish-requires : tie.Need-finish-requires
 finish-requires c κs =
-    let s = c .before .before .before .before .before .before .before .before .before .before .before .before .before .before .before .before .before .before .before .before in
+    let s = c .before .before .before .before .before .before .before .before .before .before .before .before .before .before .before .before .before
+    .before .before .before in
     let p = s .pre in
     omega (arith, ap length (p .held) ∙ length-append (tally (s .args .n) []) (p .rest), tally-long (s .args .n) [], c .before .before .before .six .given)
 
@@ -61,23 +63,19 @@ same-length-2 c = search needs
 
 returns : tie.Need-returns
 returns c = λ inputs bads constraints rest r held.
-    let s = c .before .before .before .before .before .before .before .before .before .before .before .before .before .before .before .before .before .before .before .before .before .before .before in
+    let s = c .before .before .before .before .before .before .before .before .before .before .before .before .before .before .before .before .before
+    .before .before .before .before .before .before in
     let n = s .args .n in
     let x = tables s inputs bads constraints in
     let d = circuitOf n x in
     c .before .before .finish .ensures
     ∙ all-finished n d (run d (first d) (vectorsOf d (s .args .number) (s .args .bytes .now))) rest (ap (λ (m : Counts). m .O) (r .counts))
     (ap (λ (m : Counts). m .L) (r .counts)) _
-    (c .before .before .before .before .before .before .before .before .before .tally .ensures x (first d) rest r (first-long r) (c .before .before .before .before .before .before .before .before .before .before .before .before .before .before .start-values .ensures) held)
+    (c .before .before .before .before .before .before .before .before .before .tally .ensures x (first d) rest r (first-long r)
+    (c .before .before .before .before .before .before .before .before .before .before .before .before .before .before .start-values .ensures) held)
 
 pub fill-spec : {M : Type 1} → statement M
 fill-spec =
     tie.close
-    (tie.spec
-    start-values-requires
-    tally-requires
-    add-finish
-    finish-requires
-    same-length
-    same-length-2
+    (tie.spec start-values-requires tally-requires add-finish finish-requires same-length same-length-2
     returns)

@@ -1,3 +1,5 @@
+-- 2, 3, 4 with a table 6 of these words, 5, 6, 7, 8, 15, then 13, then 12: whole vectors alone. The answers are given by `refused-long`,
+-- `refused-list` and `refused-first`.
 use Prim.Native.Nat.{ℕ, _+_, _*_}
 use mathlib.Core.Path.{_≡_, sym, ap, _∙_}
 use mathlib.Core.List.{List}
@@ -108,18 +110,6 @@ returns-4 c =
 pub judge-spec : {M : Type 1} → statement M
 judge-spec =
     tie.close
-    (tie.spec
-    check-in-order-requires
-    too-few-requires
-    with-sixth-requires
-    enum-known-refusal
-    enum-told
-    whole-list-requires
-    same-length
-    returns
-    same-length-2
-    returns-2
-    same-length-3
-    returns-3
-    same-length-4
+    (tie.spec check-in-order-requires too-few-requires with-sixth-requires enum-known-refusal enum-told
+    whole-list-requires same-length returns same-length-2 returns-2 same-length-3 returns-3 same-length-4
     returns-4)

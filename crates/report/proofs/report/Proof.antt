@@ -1,3 +1,5 @@
+-- The needle report: for each output, then for each latch, how many of `number` steps from the resets have it at 0, at 1, at x, and how many differ
+-- from the step before. The answers are given by `refused-some`, `runs` and `tables-good`.
 use Prim.Native.Nat.{ℕ, _+_, _-_, _*_}
 use mathlib.Core.Path.{_≡_, refl, sym, ap, _∙_}
 use mathlib.Core.Option.{Option, none, some}
@@ -122,7 +124,8 @@ same-length-3 : tie.Need-same-length-3
 same-length-3 c = search needs
 
 same-length-4 : tie.Need-same-length-4
-same-length-4 c = c .before .before .before .before .before .six2 .given ∙ judged (c .before .before .before .before .before .before .before .before .before .before .before) .before .before .before .six .given
+same-length-4 c = c .before .before .before .before .before .six2 .given
+    ∙ judged (c .before .before .before .before .before .before .before .before .before .before .before) .before .before .before .six .given
 
 returns-2 : tie.Need-returns-2
 returns-2 c =
@@ -133,7 +136,9 @@ returns-2 c =
     let t = e .circuit .tables in
     let circuit = given (e .circuit) in
     let r = holds d in
-    let scratch = c .before .before .clear .ensures ∙ ap (λ (k : ℕ). replicate k 0) (c .before .before .before .before .before .before .before .scratch2 .given ∙ c .before .before .before .before .before .before .before .before .before .before .before .before .before .before .scratch .given) in
+    let scratch = c .before .before .clear .ensures
+    ∙ ap (λ (k : ℕ). replicate k 0) (c .before .before .before .before .before .before .before .scratch2 .given
+    ∙ c .before .before .before .before .before .before .before .before .before .before .before .before .before .before .scratch .given) in
     let six =
     c .before .before .before .before .before .before .before .before .fill .ensures (t .inputs) (t .bads) (t .constraints) (rest s) r (held d)
     ∙ filled-report n circuit (run circuit (first circuit) (vectorsOf circuit (e .number) (e .bytes))) (rest s) (ap (λ (m : Counts). m .O) (r .counts))
@@ -143,16 +148,5 @@ returns-2 c =
 pub report-spec : {M : Type 1} → statement M
 report-spec =
     tie.close
-    (tie.spec
-    blank-requires
-    judge-requires
-    enum-known-refusal
-    enum-told
-    fill-requires
-    clear-requires
-    same-length
-    same-length-2
-    returns
-    same-length-3
-    same-length-4
-    returns-2)
+    (tie.spec blank-requires judge-requires enum-known-refusal enum-told fill-requires clear-requires
+    same-length same-length-2 returns same-length-3 same-length-4 returns-2)

@@ -1,3 +1,5 @@
+-- All vectors of a list, whose bytes are good, from the state that scratch holds. The loop keeps `Tables`; the measure is `number - k`. `next-row`
+-- and `going-on` carry it from turn to turn, and `all-gone` gives the answer.
 use Prim.Native.Nat.{ℕ, _+_, _*_, _-_, _≤_}
 use mathlib.Core.Path.{_≡_, refl, sym, _∙_}
 use mathlib.Core.List.{List, [], _++_}
@@ -113,18 +115,5 @@ returns c = λ x v rest r l z held.
 pub tally-spec : {M : Type 1} → statement M
 tally-spec =
     tie.close
-    (tie.spec
-    Inv-loop
-    μ-loop
-    loop-holds
-    add-end
-    sub-turn
-    part-turn-start
-    part-turn-end
-    turn-requires
-    add-k
-    loop-less
-    loop-again
-    same-length
-    same-length-2
-    returns)
+    (tie.spec Inv-loop μ-loop loop-holds add-end sub-turn part-turn-start part-turn-end turn-requires add-k
+    loop-less loop-again same-length same-length-2 returns)

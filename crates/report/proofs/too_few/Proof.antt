@@ -1,3 +1,4 @@
+-- Whether a table 6 of these words is too short for four for each output and each latch. The answers hold by computing.
 use Prim.Native.Nat.{ℕ, _+_, _*_, _<_, _≤_, _/_, _-_}
 use mathlib.Core.Path.{_≡_, sym, _∙_}
 use mathlib.Core.Bool.{true}

@@ -1,3 +1,5 @@
+-- One vector: the latches are counted by the state that scratch holds before the step, the outputs after it. The answers are given by `stands`,
+-- `outputs-counted` and `latches-counted`.
 use mathlib.Core.Path.{_≡_, refl, _∙_}
 use mathlib.Core.List.{List, map}
 use native.Mathlib.Omega.{arith}
@@ -104,14 +106,5 @@ returns c = λ x v done rest r l z held.
 pub turn-spec : {M : Type 1} → statement M
 turn-spec =
     tie.close
-    (tie.spec
-    mul-rows
-    add-count-all
-    count-all-requires
-    load-requires
-    step-values-requires
-    add-count-all-2
-    count-all-requires-2
-    same-length
-    same-length-2
-    returns)
+    (tie.spec mul-rows add-count-all count-all-requires load-requires step-values-requires add-count-all-2
+    count-all-requires-2 same-length same-length-2 returns)

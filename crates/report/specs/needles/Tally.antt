@@ -1,4 +1,5 @@
--- A needle's four words while a run goes on: the fourth holds the changes, and in its last two bits the word of the last value, 0 for none.
+-- A needle's four words while a run goes on: the fourth holds the changes, and in its last two bits the word of the
+-- last value, 0 for none.
 use Prim.Native.Nat.{ℕ, zero, suc, _+_, _*_, _/_, _%_, _<_, _≤_}
 use mathlib.Core.Bool.{Bool, cond}
 use mathlib.Core.List.{List, [], _∷_}

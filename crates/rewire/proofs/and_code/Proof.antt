@@ -1,3 +1,4 @@
+-- The And of two codes: it is 1 where both are, and x where both may be 1 and not both are. Each answer is given by `and-codes`.
 use Rattle.rewire.proofs.Codes.{and-codes}
 use Rattle.rewire.proofs.and_code.Statement.{statement}
 use Rattle.rewire.proofs.and_code.Tie as tie

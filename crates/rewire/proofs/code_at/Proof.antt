@@ -1,3 +1,4 @@
+-- The code of a literal. The answer is that of the call below it.
 use Prim.Native.Nat.{ℕ}
 use mathlib.Core.Path.{_≡_, ap, _∙_}
 use native.Mathlib.Omega.{arith}
@@ -44,12 +45,5 @@ returns c =
 pub code-at-spec : {M : Type 1} → statement M
 code-at-spec =
     tie.close
-    (tie.spec
-    var-requires
-    index-requires
-    cast-v
-    sign-requires
-    cast-sign
-    shared-slice-read-signed-code
-    signed-code-requires
-    returns)
+    (tie.spec var-requires index-requires cast-v sign-requires cast-sign shared-slice-read-signed-code
+    signed-code-requires returns)

@@ -1,3 +1,4 @@
+-- The value of gate j by those of its right sides; no test on a value decides the way (the paper, stepping). Each answer is given by `gateAt`.
 use mathlib.Core.Path.{ap, _∙_}
 use native.Mathlib.Omega.{arith}
 use lib.ListN.{getD}
@@ -43,7 +44,8 @@ at-requires-2 : tie.Need-at-requires-2
 at-requires-2 c κs = search needs
 
 code-at-requires-2 : tie.Need-code-at-requires-2
-code-at-requires-2 c κs = omega (arith, ap (λ (l : Lit). varOf (wordOf l)) (c .at2 .ensures), c .before .before .before .before .before .before .before .pre .rhs1)
+code-at-requires-2 c κs =
+    omega (arith, ap (λ (l : Lit). varOf (wordOf l)) (c .at2 .ensures), c .before .before .before .before .before .before .before .pre .rhs1)
 
 and-code-requires : tie.Need-and-code-requires
 and-code-requires c κs = search needs
@@ -66,18 +68,5 @@ returns c =
 pub gate-code-spec : {M : Type 1} → statement M
 gate-code-spec =
     tie.close
-    (tie.spec
-    mul-at
-    add-at
-    mul-at-2
-    shared-slice-read-at
-    at-requires
-    code-at-requires
-    mul-at-3
-    add-at-2
-    mul-at-4
-    shared-slice-read-at-2
-    at-requires-2
-    code-at-requires-2
-    and-code-requires
-    returns)
+    (tie.spec mul-at add-at mul-at-2 shared-slice-read-at at-requires code-at-requires mul-at-3 add-at-2
+    mul-at-4 shared-slice-read-at-2 at-requires-2 code-at-requires-2 and-code-requires returns)

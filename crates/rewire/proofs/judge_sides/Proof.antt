@@ -1,3 +1,5 @@
+-- 22, 5, 15, then 12, of a gate's number, its right sides and the length of the values. The answers are given by `no-gate`, `out-first` and
+-- `out-second`.
 use mathlib.Core.Path.{_≡_, sym, ap, _∙_}
 use mathlib.Core.Bool.{true, false}
 use native.Mathlib.Omega.{arith}
@@ -128,7 +130,8 @@ returns-6 c =
     let g = second (h .before .before) in
     let f = g .before .before in
     let a = start (first f) .args in
-    wrong-length (a .n) (a .gate) (wordOf (a .rhs0)) (wordOf (a .rhs1)) (a .len) (there (first f)) (in0 f) (in1 g) (low0 h) (low1 i) (ne-eqb _ _ (c .if6 .taken))
+    wrong-length (a .n) (a .gate) (wordOf (a .rhs0)) (wordOf (a .rhs1)) (a .len) (there (first f)) (in0 f) (in1 g) (low0 h) (low1 i)
+    (ne-eqb _ _ (c .if6 .taken))
 
 returns-7 : tie.Need-returns-7
 returns-7 c =
@@ -142,23 +145,6 @@ returns-7 c =
 pub judge-sides-spec : {M : Type 1} → statement M
 judge-sides-spec =
     tie.close
-    (tie.spec
-    returns
-    cast-m
-    within-requires
-    returns-2
-    within-requires-2
-    returns-3
-    add-at
-    add-at-2
-    add-at-3
-    cast-at
-    at-requires
-    lit-requires
-    below-requires
-    returns-4
-    below-requires-2
-    returns-5
-    add-if6
-    returns-6
+    (tie.spec returns cast-m within-requires returns-2 within-requires-2 returns-3 add-at add-at-2 add-at-3
+    cast-at at-requires lit-requires below-requires returns-4 below-requires-2 returns-5 add-if6 returns-6
     returns-7)

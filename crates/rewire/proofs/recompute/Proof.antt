@@ -1,3 +1,5 @@
+-- The values of gates k to a - 1, whose variables run on from `base`, in order: what lies below the rewired gate stays. The loop keeps `Going gates k
+-- a base values₀ values j`; the measure is `a - j`. `sides-below`, `going-more` and `gateAt` carry it from turn to turn.
 use Prim.Native.Nat.{ℕ, _+_, _-_, _<_}
 use mathlib.Core.Path.{_≡_, subst}
 use native.Mathlib.Omega.{arith}
@@ -53,8 +55,10 @@ loop-again c =
     let l = d .before .loop in
     let a = start d .args in
     let s = sides-below (a .base) (a .gates .now) (a .a) (l .j) (d .loop-test .taken) (start d .pre .0 .binary) in
-    going-more _ _ _ _ _ (l .values) (l .j) (c .gate-code .result) (d .loop-test .taken) (room d) (length-set (l .values) (a .base + l .j) (c .gate-code .result))
-    (λ w shows. c .gate-code .ensures w (shows (varOf (gateAt (a .gates .now) (l .j) .rhs0)) (s .0)) (shows (varOf (gateAt (a .gates .now) (l .j) .rhs1)) (s .1)))
+    going-more _ _ _ _ _ (l .values) (l .j) (c .gate-code .result) (d .loop-test .taken) (room d)
+    (length-set (l .values) (a .base + l .j) (c .gate-code .result))
+    (λ w shows. c .gate-code .ensures w (shows (varOf (gateAt (a .gates .now) (l .j) .rhs0)) (s .0))
+    (shows (varOf (gateAt (a .gates .now) (l .j) .rhs1)) (s .1)))
     (l .inv)
 
 same-length : tie.Need-same-length Inv-loop μ-loop
@@ -71,15 +75,5 @@ returns c =
 pub recompute-spec : {M : Type 1} → statement M
 recompute-spec =
     tie.close
-    (tie.spec
-    Inv-loop
-    μ-loop
-    loop-holds
-    gate-code-requires
-    add-values
-    slice-write-values
-    add-j
-    loop-less
-    loop-again
-    same-length
-    returns)
+    (tie.spec Inv-loop μ-loop loop-holds gate-code-requires add-values slice-write-values add-j loop-less
+    loop-again same-length returns)

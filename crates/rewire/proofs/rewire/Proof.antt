@@ -1,3 +1,5 @@
+-- The gate gets the two right sides, in either order, and the values become those of a fresh step of the edited circuit on the same inputs and state.
+-- The answers are given by `refused-sides`, `refused-value` and `refused-tables`.
 use Prim.Native.Nat.{_+_, _*_, min, max}
 use mathlib.Core.Path.{_≡_, ap₂, _∙_}
 use mathlib.Core.List.{[], _∷_}
@@ -151,7 +153,8 @@ set-sides-requires c κs =
     let f = fit w in
     let j = f .before .before in
     let d = passed j in
-    row-fits (entry (start d)) _ _ (said d) (d .enum-told .given .1) _ (sides-told j) (f .enum-told2 .given .1) _ (w .wrong-value .ensures) (h .enum-told3 .given .1)
+    row-fits (entry (start d)) _ _ (said d) (d .enum-told .given .1) _ (sides-told j) (f .enum-told2 .given .1) _ (w .wrong-value .ensures)
+    (h .enum-told3 .given .1)
 
 recompute-requires : tie.Need-recompute-requires
 recompute-requires c κs =
@@ -206,33 +209,8 @@ returns-4 c =
 pub rewire-spec : {M : Type 1} → statement M
 rewire-spec =
     tie.close
-    (tie.spec
-    check-in-order-requires
-    enum-known-r
-    enum-told
-    at-requires
-    at-requires-2
-    judge-sides-requires
-    enum-known-sides
-    same-length
-    same-length-2
-    returns
-    enum-told-2
-    add-base
-    add-base-2
-    wrong-value-requires
-    enum-known-shown
-    same-length-3
-    same-length-4
-    same-length-5
-    returns-2
-    enum-told-3
-    set-sides-requires
-    recompute-requires
-    same-length-6
-    same-length-7
-    returns-3
-    same-length-8
-    same-length-9
-    same-length-10
+    (tie.spec check-in-order-requires enum-known-r enum-told at-requires at-requires-2 judge-sides-requires
+    enum-known-sides same-length same-length-2 returns enum-told-2 add-base add-base-2 wrong-value-requires
+    enum-known-shown same-length-3 same-length-4 same-length-5 returns-2 enum-told-3 set-sides-requires
+    recompute-requires same-length-6 same-length-7 returns-3 same-length-8 same-length-9 same-length-10
     returns-4)

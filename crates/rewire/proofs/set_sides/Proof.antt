@@ -1,3 +1,4 @@
+-- The gate gets these right sides, larger first. Each answer is given by `two-stores`.
 use Prim.Native.Nat.{ℕ, _+_, _*_}
 use mathlib.Core.Path.{ap, ap₂, _∙_}
 use mathlib.Core.List.{[], _∷_}
@@ -62,18 +63,5 @@ returns c =
 pub set-sides-spec : {M : Type 1} → statement M
 set-sides-spec =
     tie.close
-    (tie.spec
-    larger-requires
-    word-requires
-    mul-gates
-    add-gates
-    mul-gates-2
-    slice-write-gates
-    smaller-requires
-    word-requires-2
-    mul-gates-3
-    add-gates-2
-    mul-gates-4
-    slice-write-gates-2
-    same-length
-    returns)
+    (tie.spec larger-requires word-requires mul-gates add-gates mul-gates-2 slice-write-gates smaller-requires
+    word-requires-2 mul-gates-3 add-gates-2 mul-gates-4 slice-write-gates-2 same-length returns)

@@ -1,3 +1,6 @@
+-- 23 among the gates, whose variables run on from `base`, where all values below are right: each is judged by those of its right sides. The loop
+-- keeps `Gating gates a base values j`; the measure is `a - j`. `gating-turn` carries it from turn to turn, and `gating-stop`, `judging-end` and
+-- `gatesAt` give the answer.
 use Prim.Native.Nat.{_+_, _-_, _<_}
 use native.Mathlib.Omega.{arith}
 use lib.ListN.{length}
@@ -59,16 +62,5 @@ returns-2 c =
 pub wrong-gate-spec : {M : Type 1} → statement M
 wrong-gate-spec =
     tie.close
-    (tie.spec
-    Inv-loop
-    μ-loop
-    loop-holds
-    add-if1
-    shared-slice-read-if1
-    gate-code-requires
-    add-t11
-    returns
-    add-j
-    loop-less
-    loop-again
-    returns-2)
+    (tie.spec Inv-loop μ-loop loop-holds add-if1 shared-slice-read-if1 gate-code-requires add-t11 returns
+    add-j loop-less loop-again returns-2)

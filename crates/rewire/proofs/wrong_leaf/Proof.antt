@@ -1,3 +1,6 @@
+-- 23 among the first n variables, which are no gates': the constant, inputs and latches. The loop keeps `(1 ≤ v) × Judging [] values 0 n v`; the
+-- measure is `n - v`. `judging-turn` and `leaf-right` carry it from turn to turn, and `judging-stop`, `judging-start` and `leaf-wrong` give the
+-- answer.
 use borrow.Author.Needs.{needs}
 use Prim.Native.Nat.{_-_, _≤_}
 use mathlib.Core.Path.{sym, _∙_}
@@ -26,7 +29,8 @@ loop-holds : tie.Need-loop-holds Inv-loop μ-loop
 loop-holds c =
     let a = c .before .before .before in (
       omega arith,
-      judging-turn [] (a .args .values .now) 0 (a .args .n) 0 (judging-start [] (a .args .values .now) 0 (a .args .n)) (omega (arith, a .pre .0)) (c .if1 .left),
+      judging-turn [] (a .args .values .now) 0 (a .args .n) 0 (judging-start [] (a .args .values .now) 0 (a .args .n)) (omega (arith, a .pre .0))
+          (c .if1 .left),
     )
 
 shared-slice-read-is-code : tie.Need-shared-slice-read-is-code Inv-loop μ-loop
@@ -65,16 +69,5 @@ returns-3 c =
 pub wrong-leaf-spec : {M : Type 1} → statement M
 wrong-leaf-spec =
     tie.close
-    (tie.spec
-    Inv-loop
-    μ-loop
-    shared-slice-read-if1
-    returns
-    loop-holds
-    shared-slice-read-is-code
-    is-code-requires
-    returns-2
-    add-v
-    loop-less
-    loop-again
-    returns-3)
+    (tie.spec Inv-loop μ-loop shared-slice-read-if1 returns loop-holds shared-slice-read-is-code
+    is-code-requires returns-2 add-v loop-less loop-again returns-3)

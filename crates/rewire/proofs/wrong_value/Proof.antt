@@ -1,3 +1,4 @@
+-- 23: the least variable whose value is wrong. The answers are given by `leaf-refused` and `leaves-good`.
 use mathlib.Core.Path.{sym, _∙_}
 use Rattle.rewire.proofs.Wrong.{leaf-refused, leaves-good, leaves-shown}
 use borrow.Author.Needs.{needs}

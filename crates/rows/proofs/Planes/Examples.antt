@@ -42,7 +42,8 @@ short-nexts = refl
 pub wrong-input : stepRows (handed 3 3 (bytesOf "0?x") 0) .answer ≡ Refused (BadVector 2)
 wrong-input = refl
 
-pub short-outputs : stepRows (handed 3 3 (bytesOf "01x") 5) ≡ record { answer = Refused (BadVector 3); scratch = replicate 18 0; nexts = replicate 3 7; outputs = replicate 5 7 }
+pub short-outputs : stepRows (handed 3 3 (bytesOf "01x") 5)
+    ≡ record { answer = Refused (BadVector 3); scratch = replicate 18 0; nexts = replicate 3 7; outputs = replicate 5 7 }
 short-outputs = refl
 
 abbrev asked : ℕ → List ℕ → ℕ → RowReportEntry

@@ -1,3 +1,5 @@
+-- The first list that is refused: 1 the next states and 3 the outputs, of which the length is judged, 2 the inputs; or 0. The answers are given by
+-- `bad-state`, `wholeIn` and `bad-inputs`.
 use Prim.Native.Nat.{_*_}
 use lib.Dec.{eqb}
 use mathlib.Core.Path.{sym, _∙_}

@@ -1,3 +1,4 @@
+-- 1 for a byte but "0", "1", "x". The answer is that of the call below it.
 use Prim.Native.Nat.{ℕ}
 use mathlib.Core.Path.{sym, ap, _∙_}
 use mathlib.Core.Bool.{Bool, cond}

@@ -1,3 +1,5 @@
+-- Whether no byte is wrong. The loop keeps `allCodes bytes ≡ (eqb wrong 0 && allCodes (drop i bytes))`; the measure is `length bytes - i`.
+-- `left-more` carries it from turn to turn, and `left-none` gives the answer.
 use Prim.Native.Nat.{_-_}
 use mathlib.Core.Path.{_≡_, refl}
 use mathlib.Core.Bool.{_&&_}
@@ -45,13 +47,5 @@ returns c =
 pub only-codes-spec : {M : Type 1} → statement M
 only-codes-spec =
     tie.close
-    (tie.spec
-    Inv-loop
-    μ-loop
-    loop-holds
-    shared-slice-read-not-code
-    not-code-requires
-    add-i
-    loop-less
-    loop-again
-    returns)
+    (tie.spec Inv-loop μ-loop loop-holds shared-slice-read-not-code not-code-requires add-i loop-less
+    loop-again returns)

@@ -1,3 +1,5 @@
+-- The row report of rows whose tables and inputs are good: per output the rows at 0, at 1 and at x, and zero past them. The answers are given by
+-- `put-cleared` and `report-is`.
 use Prim.Native.Nat.{ℕ, _-_, _^_}
 use mathlib.Core.Path.{ap, _∙_}
 use mathlib.Core.List.{List}
@@ -42,10 +44,4 @@ returns c = λ x r.
 pub report-lists-spec : {M : Type 1} → statement M
 report-lists-spec =
     tie.close
-    (tie.spec
-    step-lanes-requires
-    clear-requires
-    count-rows-requires
-    same-length
-    same-length-2
-    returns)
+    (tie.spec step-lanes-requires clear-requires count-rows-requires same-length same-length-2 returns)

@@ -1,3 +1,5 @@
+-- The row report, into table 6: three numbers for each output, which add up to the rows. The answers are given by `refused-report`, `late` and
+-- `past-six`.
 use Prim.Native.Nat.{ℕ, _*_, _/_}
 use mathlib.Core.Path.{_≡_, sym, ap, _∙_}
 use mathlib.Core.Bool.{Bool}
@@ -54,7 +56,8 @@ sixth d = d .before .before
 past : (d : tie.After-enum-told) → let e = entry (start (sixth d)) in reply e ≡ firstOf (rowReportStage e ∷ [])
 past d =
     let x = sixth d in
-    past-six (entry (start x)) _ _ (short (start x)) (judged x .judge-in-order .ensures .0) (is-short (start x)) (x .with-sixth .ensures) (d .enum-told .given .1)
+    past-six (entry (start x)) _ _ (short (start x)) (judged x .judge-in-order .ensures .0) (is-short (start x)) (x .with-sixth .ensures)
+    (d .enum-told .given .1)
 
 judge-in-order-requires : tie.Need-judge-in-order-requires
 judge-in-order-requires c κs = search needs
@@ -119,7 +122,8 @@ report-lists-requires c κs =
     let w = c .before .before .before in
     let d = w .before .before in
     let x = sixth d in
-    reports (entry (start x)) _ _ (short (start x)) (judged x .judge-in-order .ensures .0) (is-short (start x)) (x .with-sixth .ensures) (d .enum-told .given .1)
+    reports (entry (start x)) _ _ (short (start x)) (judged x .judge-in-order .ensures .0) (is-short (start x)) (x .with-sixth .ensures)
+    (d .enum-told .given .1)
     _ (same x) (omega (arith, w .before .if1 .left)) (sym (w .whole-rows .ensures) ∙ not-false _ (c .before .before .if2 .left))
 
 clear-requires : tie.Need-clear-requires
@@ -154,33 +158,15 @@ returns-4 c =
     let x = sixth d in
     let e = entry (start x) in
     let good = runs e _ _ (short (start x)) (judged x .judge-in-order .ensures .0) (is-short (start x)) (x .with-sixth .ensures) (d .enum-told .given .1) in
-    done-report e _ (c .before .before .clear .ensures ∙ ap (λ (k : ℕ). replicate k 0) (c .before .before .before .before .before .before .before .scratch5 .given ∙ same x)) _
+    done-report e _ (c .before .before .clear .ensures
+    ∙ ap (λ (k : ℕ). replicate k 0) (c .before .before .before .before .before .before .before .scratch5 .given ∙ same x)) _
     (f .report-lists .ensures (e .circuit .tables) good)
     (late e (past d) none (right e (omega (arith, w .before .if1 .left)) (sym (w .whole-rows .ensures) ∙ not-false _ (f .before .before .before .if2 .left))))
 
 pub report-rows-spec : {M : Type 1} → statement M
 report-rows-spec =
     tie.close
-    (tie.spec
-    judge-in-order-requires
-    with-sixth-requires
-    enum-known-refusal
-    refuse-requires
-    enum-told
-    refuse-requires-2
-    same-length
-    same-length-2
-    returns
-    whole-rows-requires
-    refuse-requires-3
-    same-length-3
-    same-length-4
-    returns-2
-    report-lists-requires
-    clear-requires
-    same-length-5
-    same-length-6
-    returns-3
-    same-length-7
-    same-length-8
-    returns-4)
+    (tie.spec judge-in-order-requires with-sixth-requires enum-known-refusal refuse-requires enum-told
+    refuse-requires-2 same-length same-length-2 returns whole-rows-requires refuse-requires-3 same-length-3
+    same-length-4 returns-2 report-lists-requires clear-requires same-length-5 same-length-6 returns-3
+    same-length-7 same-length-8 returns-4)

@@ -1,3 +1,4 @@
+-- A step of rows whose tables and lists are good. The answers are given by `nexts-are` and `outputs-are`.
 use mathlib.Core.Path.{_∙_}
 use Rattle.rows.specs.lanes.Working.{these}
 use Rattle.rows.proofs.lanes.Rows.{outputs-are, nexts-are}
@@ -47,11 +48,5 @@ returns c = λ x r.
 pub step-lists-spec : {M : Type 1} → statement M
 step-lists-spec =
     tie.close
-    (tie.spec
-    step-lanes-requires
-    store-rows-requires
-    store-rows-requires-2
-    same-length
-    same-length-2
-    same-length-3
-    returns)
+    (tie.spec step-lanes-requires store-rows-requires store-rows-requires-2 same-length same-length-2
+    same-length-3 returns)

@@ -1,3 +1,5 @@
+-- One step of each row from the resets: next states and outputs go into their buffers, L and O bytes a row. The answers are given by `refused-late`,
+-- `past-check` and `too-many`.
 use Prim.Native.Nat.{ℕ}
 use mathlib.Core.Path.{_≡_, ap, _∙_}
 use native.Mathlib.Omega.{arith}
@@ -87,7 +89,8 @@ returns-2 c =
     let e = entry (start d) in
     let zero = c .before .before .clear2 .ensures ∙ ap (λ (k : ℕ). replicate k 0) (same d) in
     refused-late e _ zero (past-check (e .circuit) (rowStage e) (says d) (told d)) _
-    (few-bad e _ (omega (arith, c .before .before .before .before .before .before .if1 .left)) (some-table _ _ (c .before .before .before .before .if2 .taken) (c .before .before .before .before .before .bad-rows .ensures)))
+    (few-bad e _ (omega (arith, c .before .before .before .before .before .before .if1 .left))
+    (some-table _ _ (c .before .before .before .before .if2 .taken) (c .before .before .before .before .before .bad-rows .ensures)))
 
 step-lists-requires : tie.Need-step-lists-requires
 step-lists-requires c κs =
@@ -98,7 +101,8 @@ step-lists-requires c κs =
         runs = runs (e .circuit) (rowStage e) (says d) (told d);
         scratch-long = room (e .circuit) (rowStage e) (says d) (told d) (checked d .judge-in-order .last .1 .1 .1 .1 .1 .1 .1 .1 .0) (same d) .scratch-long;
       },
-      good-lists e (omega (arith, c .before .before .before .before .before .if1 .left)) (no-table _ _ (c .before .before .before .if2 .left) (c .before .before .before .before .bad-rows .ensures)),
+      good-lists e (omega (arith, c .before .before .before .before .before .if1 .left))
+          (no-table _ _ (c .before .before .before .if2 .left) (c .before .before .before .before .bad-rows .ensures)),
     )
 
 clear-requires-3 : tie.Need-clear-requires-3
@@ -131,28 +135,18 @@ returns-4 c =
     let e = entry (start d) in
     let zero = c .before .before .clear3 .ensures ∙ ap (λ (k : ℕ). replicate k 0) (s .scratch4 .given ∙ same d) in
     done-rows e _ zero (past-check (e .circuit) (rowStage e) (says d) (told d))
-    (few-good e (omega (arith, c .before .before .before .before .before .before .before .before .before .before .before .before .before .before .before .before .if1 .left)) (no-table _ _ (c .before .before .before .before .before .before .before .before .before .before .before .before .before .before .if2 .left) (c .before .before .before .before .before .before .before .before .before .before .before .before .before .before .before .bad-rows .ensures))) _ _
+    (few-good e (omega (
+      arith,
+      c .before .before .before .before .before .before .before .before .before .before .before .before .before .before
+          .before .before .if1 .left,
+    )) (no-table _ _ (c .before .before .before .before .before .before .before .before .before .before .before .before
+    .before .before .if2 .left) (c .before .before .before .before .before .before .before .before .before .before .before .before .before .before
+    .before .bad-rows .ensures))) _ _
     (s .before .step-lists .ensures (e .circuit .tables) (runs (e .circuit) (rowStage e) (says d) (told d)))
 
 pub step-rows-spec : {M : Type 1} → statement M
 step-rows-spec =
     tie.close
-    (tie.spec
-    judge-in-order-requires
-    enum-known-refusal
-    enum-told
-    clear-requires
-    same-length
-    returns
-    bad-rows-requires
-    clear-requires-2
-    same-length-2
-    returns-2
-    step-lists-requires
-    clear-requires-3
-    same-length-3
-    returns-3
-    same-length-4
-    same-length-5
-    same-length-6
-    returns-4)
+    (tie.spec judge-in-order-requires enum-known-refusal enum-told clear-requires same-length returns
+    bad-rows-requires clear-requires-2 same-length-2 returns-2 step-lists-requires clear-requires-3
+    same-length-3 returns-3 same-length-4 same-length-5 same-length-6 returns-4)

@@ -1,3 +1,4 @@
+-- Whether the inputs are `rows` vectors of `each` codes. The answers are given by `whole-not` and `whole-is`.
 use mathlib.Core.Path.{_∙_}
 use Rattle.rows.proofs.Lists.{product-small, whole-not, whole-is}
 use borrow.Author.Needs.{needs}

@@ -1,5 +1,6 @@
--- Planes: a number with a bit for each row, of any width. Each literal has one, which says in which rows the literal may be 1. A negated
--- literal may be 1 where the literal may be 0, so a variable's two planes are its two bits in every row.
+-- Planes: a number with a bit for each row, of any width. Each literal has one, which says in which rows the
+-- literal may be 1. A negated literal may be 1 where the literal may be 0, so a variable's two planes are its two
+-- bits in every row.
 use Prim.Native.Nat.{ℕ, zero, suc, _+_, _*_, _/_, _%_, _^_}
 use mathlib.Core.Bool.{cond}
 use mathlib.Core.List.{List, [], _∷_, _++_}

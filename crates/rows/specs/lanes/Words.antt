@@ -22,7 +22,8 @@ Begins q t = take (2 * length q) t ≡ planeWords q
 abbrev pub everyRow : ℕ → ℕ
 everyRow b = b * 18446744073709551615
 
--- the code in lane k, by the planes where it may be 1 and where it may be both: "0" is 48, "1" one more, and "x" is 71 more again
+-- the code in lane k, by the planes where it may be 1 and where it may be both: "0" is 48, "1" one more, and "x" is
+-- 71 more again
 abbrev pub codeBy : ℕ → ℕ → ℕ → ℕ
 codeBy one both k = 48 + bit k one + 71 * bit k both
 
@@ -47,8 +48,8 @@ wordIn block at = halfIn block at + 65536 * halfIn block (at + 128)
 abbrev pub blockPlane : List ℕ → ℕ → ℕ
 blockPlane block j = wordIn block j + wordIn block (j + 256) * 4294967296
 
--- the constant; inputs, whose rows are given: a byte but "0" may be 1, and a byte but "1" may be 0; latches, by their resets, in every row
--- the same: a reset but 0 may be 1, and a reset but 1 may be 0
+-- the constant; inputs, whose rows are given: a byte but "0" may be 1, and a byte but "1" may be 0; latches, by
+-- their resets, in every row the same: a reset but 0 may be 1, and a reset but 1 may be 0
 abbrev pub constantPlanes : List ℕ
 constantPlanes = 0 ∷ 18446744073709551615 ∷ []
 

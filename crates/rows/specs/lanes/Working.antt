@@ -28,7 +28,8 @@ pub record Sweeps (gates : List ℕ) (n before : ℕ) (t : List ℕ) : Type 0 wh
   pub ordered : Binary before (gatesAt gates n)
 
 abbrev pub Swept : List ℕ → ℕ → ℕ → List ℕ → List ℕ → Type 0
-Swept gates n before t t′ = (q : List ℕ) → length q ≡ 2 * before → Begins q t → Begins (sweepPlanes q (gatesAt gates n)) t′
+Swept gates n before t t′ =
+    (q : List ℕ) → length q ≡ 2 * before → Begins q t → Begins (sweepPlanes q (gatesAt gates n)) t′
 
 -- both planes of a literal stand in a table
 abbrev pub There : ℕ → List ℕ → Type 0
@@ -79,7 +80,8 @@ abbrev pub countsAt : List ℕ → ℕ → ℕ → List ℕ
 countsAt t mask l =
     let p = planeAt t l in
     let q = planeAt t (negOf l) in
-    ones (bitAnd (bitXor q (bitAnd p q)) mask) ∷ ones (bitAnd (bitXor p (bitAnd p q)) mask) ∷ ones (bitAnd (bitAnd p q) mask) ∷ []
+    ones (bitAnd (bitXor q (bitAnd p q)) mask) ∷ ones (bitAnd (bitXor p (bitAnd p q)) mask)
+    ∷ ones (bitAnd (bitAnd p q) mask) ∷ []
 
 abbrev pub countsOf : List ℕ → ℕ → ℕ → List ℕ → List ℕ
 countsOf table n mask t = flat (firsts (λ j. countsAt t mask (getD table j 0)) n)

@@ -75,7 +75,8 @@ module _ (n : Counts) {c : Circuit} {state ins state′ out out′ : List ℕ} {
     (long : length state′ ≡ n .L) where
   wrote-here : Wrote n c (map valueOf state) (map valueOf ins) (resting n state′) out at out′
   wrote-here = record {
-    rests = subst (λ (s : List Value). Rests n s (resting n state′)) (ap (map valueOf) (d .next) ∙ codes-values (nextOf c (map valueOf state) (map valueOf ins)))
+    rests = subst (λ (s : List Value). Rests n s (resting n state′))
+        (ap (map valueOf) (d .next) ∙ codes-values (nextOf c (map valueOf state) (map valueOf ins)))
         (rests n state′ long);
     line = d .line;
   }

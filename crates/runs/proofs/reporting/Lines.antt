@@ -40,7 +40,8 @@ lined-more {f} {out₀} {at} {i} {next} {out} p n h room next′ out′ e short 
       size = same ∙ p .size;
     }
 
-pub lined-all : {f : ℕ → List ℕ} {out₀ : List ℕ} {at i next : ℕ} {out : List ℕ} (n : ℕ) → i ≤ n → n ≤ i → Lined f out₀ at i next out → Lined f out₀ at n next out
+pub lined-all : {f : ℕ → List ℕ} {out₀ : List ℕ} {at i next : ℕ} {out : List ℕ} (n : ℕ) → i ≤ n → n ≤ i → Lined f out₀ at i next out
+    → Lined f out₀ at n next out
 lined-all {f} {out₀} {at} {i} {next} {out} n a b p =
     let e : i ≡ n = omega arith in
     record {

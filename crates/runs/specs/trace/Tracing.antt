@@ -47,7 +47,8 @@ abbrev pub firstOnes : ℕ → List ℕ → List (List Value)
 firstOnes number vectors = map (map valueOf) (take number (linesIn vectors))
 
 -- the lines of their steps from a state on, and the state after them
-pub record Ran (n : Counts) (c : Circuit) (s : List Value) (list : List (List Value)) (t′ out out′ : List ℕ) : Type 0 where
+pub record Ran (n : Counts) (c : Circuit) (s : List Value) (list : List (List Value))
+    (t′ out out′ : List ℕ) : Type 0 where
   pub rests : Rests n (stateAfter c s list) t′
   pub lines : out′ ≡ put out 0 (stepLines (run c s list))
 

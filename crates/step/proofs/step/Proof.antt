@@ -1,3 +1,5 @@
+-- One step: the outputs go into their buffer, and the next state over the state. The answers are given by `refused-vector`, `past-check` and
+-- `some-table`.
 use Prim.Native.Nat.{ℕ}
 use mathlib.Core.Path.{_≡_, ap, _∙_}
 use lib.ListN.{length, replicate}
@@ -119,20 +121,6 @@ returns-3 c =
 pub step-spec : {M : Type 1} → statement M
 step-spec =
     tie.close
-    (tie.spec
-    judge-in-order-requires
-    enum-known-refusal
-    enum-told
-    bad-vector-requires
-    clear-requires
-    same-length
-    same-length-2
-    returns
-    step-vectors-requires
-    clear-requires-2
-    same-length-3
-    returns-2
-    same-length-4
-    same-length-5
-    same-length-6
-    returns-3)
+    (tie.spec judge-in-order-requires enum-known-refusal enum-told bad-vector-requires clear-requires
+    same-length same-length-2 returns step-vectors-requires clear-requires-2 same-length-3 returns-2
+    same-length-4 same-length-5 same-length-6 returns-3)

@@ -1,3 +1,4 @@
+-- A step whose tables and vectors are good. The answers are given by `stored` and `stands`.
 use mathlib.Core.Path.{_≡_, _∙_}
 use mathlib.Core.List.{map}
 use native.Mathlib.Omega.{arith}
@@ -112,17 +113,5 @@ returns c = λ others r.
 pub step-vectors-spec : {M : Type 1} → statement M
 step-vectors-spec =
     tie.close
-    (tie.spec
-    slice-write-scratch
-    add-load
-    load-requires
-    load-requires-2
-    step-values-requires
-    add-store
-    store-requires
-    add-store-2
-    store-requires-2
-    same-length
-    same-length-2
-    same-length-3
-    returns)
+    (tie.spec slice-write-scratch add-load load-requires load-requires-2 step-values-requires add-store
+    store-requires add-store-2 store-requires-2 same-length same-length-2 same-length-3 returns)

@@ -89,7 +89,8 @@ module _ {n : Counts} {x : Tables} (r : Runs n x) where
 
   module _ {s i : List Value} {t : List ℕ} (p : Stepped n (circuitOf n x) s i t) where
     value-read : (l : ℕ) → varOf l ≤ n .M → told (wordAt (litsOf n) t l) ≡ lit (valuesOf (circuitOf n x) s i) l
-    value-read l h = ap told (word-there (litsOf n) t (valuesOf (circuitOf n x) s i) (n .M) (p .literals) l h) ∙ told-word (lit (valuesOf (circuitOf n x) s i) l)
+    value-read l h =
+        ap told (word-there (litsOf n) t (valuesOf (circuitOf n x) s i) (n .M) (p .literals) l h) ∙ told-word (lit (valuesOf (circuitOf n x) s i) l)
 
     pub bads-seen : seen (litsOf n) t (take (n .B) (x .bads)) ≡ badsOf (circuitOf n x) s i
     bads-seen =

@@ -1,5 +1,5 @@
--- A step over words: the constant's, the inputs' and the latches' from the start on; from word M + 1 on the outputs', and past these a
--- word for each literal.
+-- A step over words: the constant's, the inputs' and the latches' from the start on; from word M + 1 on the
+-- outputs', and past these a word for each literal.
 use Prim.Native.Nat.{ℕ, _+_, _≤_}
 use mathlib.Core.Path.{_≡_}
 use mathlib.Core.Bool.{true}

@@ -3,7 +3,8 @@ use mathlib.Core.Path.{_≡_, refl, sym, ap, ap₂, _∙_, subst}
 use mathlib.Core.Bool.{Bool, true, false}
 use mathlib.Core.List.{List}
 use Prim.Native.Nat.{ℕ, zero, suc, _+_, _-_, _*_, _/_, _%_, _^_, _<_, _≤_}
-use native.Mathlib.Nat.{pow-suc, pow-succ', div-eq-of-lt, zero-div, div-one, div-div-eq-div-mul, div-lt-iff-lt-mul, zero-lt-suc, not-suc-le-zero, lt-of-lt-of-le, lt-of-le-of-lt}
+use native.Mathlib.Nat.{pow-suc, pow-succ', div-eq-of-lt, zero-div, div-one, div-div-eq-div-mul, div-lt-iff-lt-mul, zero-lt-suc, not-suc-le-zero}
+use native.Mathlib.Nat.{lt-of-lt-of-le, lt-of-le-of-lt}
 use native.Mathlib.Omega.{arith}
 use borrow.Author.Tests.{eqb-true, eqb-false}
 use lib.Count.{trailingZeros, under}

@@ -1,3 +1,4 @@
+-- Zero throughout. The loop keeps what `Inv-loop` says; the measure is `length table₀ - i`. `all` gives the answer.
 use Prim.Native.Nat.{ℕ, _≤_, _<_, _-_}
 use mathlib.Core.Path.{_≡_, ap, _∙_}
 use mathlib.Core.List.{List, _++_}
@@ -47,14 +48,5 @@ returns c = all (c .before .loop .table) (c .before .before .args .table .now) (
 pub clear-spec : {M : Type 1} → statement M
 clear-spec =
     tie.close
-    (tie.spec
-    Inv-loop
-    μ-loop
-    loop-holds
-    mul-table
-    slice-write-table
-    add-i
-    loop-less
-    loop-again
-    same-length
+    (tie.spec Inv-loop μ-loop loop-holds mul-table slice-write-table add-i loop-less loop-again same-length
     returns)

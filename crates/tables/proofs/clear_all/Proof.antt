@@ -1,3 +1,4 @@
+-- Tables 1 to 4 and 7 to 9, zero throughout. The answer is that of the call below it.
 use borrow.Author.Needs.{needs}
 use Rattle.tables.proofs.clear_all.Statement.{statement}
 use Rattle.tables.proofs.clear_all.Tie as tie
@@ -66,19 +67,6 @@ returns c =
 pub clear-all-spec : {M : Type 1} → statement M
 clear-all-spec =
     tie.close
-    (tie.spec
-    clear-requires
-    clear-requires-2
-    clear-requires-3
-    clear-requires-4
-    clear-requires-5
-    clear-requires-6
-    clear-requires-7
-    same-length
-    same-length-2
-    same-length-3
-    same-length-4
-    same-length-5
-    same-length-6
-    same-length-7
-    returns)
+    (tie.spec clear-requires clear-requires-2 clear-requires-3 clear-requires-4 clear-requires-5
+    clear-requires-6 clear-requires-7 same-length same-length-2 same-length-3 same-length-4 same-length-5
+    same-length-6 same-length-7 returns)

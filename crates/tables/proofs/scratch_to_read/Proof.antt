@@ -1,3 +1,4 @@
+-- The words of table 5 to read a file: in binary those of the marks of symbols alone. The answer is that of the call below it.
 use mathlib.Core.Path.{sym, ap, _∙_}
 use mathlib.Core.Bool.{Bool}
 use borrow.Author.Needs.{needs}
@@ -34,11 +35,4 @@ returns-2 c =
 pub scratch-to-read-spec : {M : Type 1} → statement M
 scratch-to-read-spec =
     tie.close
-    (tie.spec
-    add-result
-    add-result-2
-    add-result-3
-    add-result-4
-    returns
-    scratch-to-work-requires
-    returns-2)
+    (tie.spec add-result add-result-2 add-result-3 add-result-4 returns scratch-to-work-requires returns-2)

@@ -1,3 +1,4 @@
+-- Of two tables that bear one number the shorter. The answer is that of the call below it.
 use borrow.Author.Needs.{needs}
 use Rattle.tables.proofs.shorter.Statement.{statement}
 use Rattle.tables.proofs.shorter.Tie as tie
@@ -38,12 +39,5 @@ returns c =
 pub shorter-spec : {M : Type 1} → statement M
 shorter-spec =
     tie.close
-    (tie.spec
-    lesser-requires
-    lesser-requires-2
-    lesser-requires-3
-    lesser-requires-4
-    lesser-requires-5
-    lesser-requires-6
-    lesser-requires-7
-    returns)
+    (tie.spec lesser-requires lesser-requires-2 lesser-requires-3 lesser-requires-4 lesser-requires-5
+    lesser-requires-6 lesser-requires-7 returns)

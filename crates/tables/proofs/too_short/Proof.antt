@@ -1,3 +1,5 @@
+-- Refusal 4: the least of tables 1 to 5 and 7 to 9 that is shorter than the counts ask and, for table 5, than `needed`, or 0. The answers are given
+-- by `table1`, `table2` and `table3`.
 use borrow.Author.Needs.{needs}
 use Rattle.tables.proofs.Least.{table1, table2, table3, table4, table5, table7, table8, table9, no-table}
 use Rattle.tables.proofs.too_short.Statement.{statement}
@@ -95,15 +97,5 @@ returns-9 c =
 pub too-short-spec : {M : Type 1} → statement M
 too-short-spec =
     tie.close
-    (tie.spec
-    returns
-    mul-if2
-    returns-2
-    returns-3
-    mul-if4
-    returns-4
-    returns-5
-    returns-6
-    returns-7
-    returns-8
+    (tie.spec returns mul-if2 returns-2 returns-3 mul-if4 returns-4 returns-5 returns-6 returns-7 returns-8
     returns-9)

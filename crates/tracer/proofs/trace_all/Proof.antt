@@ -91,31 +91,7 @@ returns-3 c = search needs
 pub trace-all-spec : {M : Type 1} → statement M
 trace-all-spec =
     tie.close
-    (tie.spec
-    Inv-loop
-    μ-loop
-    loop-holds
-    sub-trace
-    part-trace-start
-    part-trace-end
-    trace-requires
-    enum-known-part
-    enum-told
-    same-length
-    same-length-2
-    same-length-3
-    returns
-    past-requires
-    print-requires
-    past-requires-2
-    same-length-4
-    same-length-5
-    same-length-6
-    returns-2
-    sub-parts
-    loop-less
-    loop-again
-    same-length-7
-    same-length-8
-    same-length-9
-    returns-3)
+    (tie.spec Inv-loop μ-loop loop-holds sub-trace part-trace-start part-trace-end trace-requires
+    enum-known-part enum-told same-length same-length-2 same-length-3 returns past-requires print-requires
+    past-requires-2 same-length-4 same-length-5 same-length-6 returns-2 sub-parts loop-less loop-again
+    same-length-7 same-length-8 same-length-9 returns-3)

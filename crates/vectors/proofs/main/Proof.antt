@@ -37,14 +37,5 @@ returns c = search needs
 pub main-spec : {M : Type 1} → statement M
 main-spec =
     tie.close
-    (tie.spec
-    Inv-loop
-    μ-loop
-    arg-count-requires
-    lesser-requires
-    loop-holds
-    example-requires
-    add-k
-    loop-less
-    loop-again
-    returns)
+    (tie.spec Inv-loop μ-loop arg-count-requires lesser-requires loop-holds example-requires add-k loop-less
+    loop-again returns)

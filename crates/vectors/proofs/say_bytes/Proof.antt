@@ -38,14 +38,5 @@ returns-2 c = search needs
 pub say-bytes-spec : {M : Type 1} → statement M
 say-bytes-spec =
     tie.close
-    (tie.spec
-    Inv-loop
-    μ-loop
-    loop-holds
-    returns
-    shared-slice-read-say-byte
-    say-byte-requires
-    add-i
-    loop-less
-    loop-again
-    returns-2)
+    (tie.spec Inv-loop μ-loop loop-holds returns shared-slice-read-say-byte say-byte-requires add-i loop-less
+    loop-again returns-2)

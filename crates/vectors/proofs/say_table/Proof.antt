@@ -41,15 +41,5 @@ returns-2 c = search needs
 pub say-table-spec : {M : Type 1} → statement M
 say-table-spec =
     tie.close
-    (tie.spec
-    Inv-loop
-    μ-loop
-    loop-holds
-    returns
-    mul-say-word
-    shared-slice-read-say-word
-    say-word-requires
-    add-i
-    loop-less
-    loop-again
-    returns-2)
+    (tie.spec Inv-loop μ-loop loop-holds returns mul-say-word shared-slice-read-say-word say-word-requires
+    add-i loop-less loop-again returns-2)

@@ -17,7 +17,7 @@ use Rattle.plan.specs.Whole.{WholeEntry, OpenExit, inputOf, loaded, openBy, ope
 use Rattle.tables.specs.Lengths.{sizesOf}
 use Rattle.read.proofs.Loads.{same-cleared}
 use Rattle.whole.specs.Opening.{OpenEntry, opened, Ready}
-use Rattle.whole.proofs.Writes.{converts}
+use Rattle.whole.proofs.Writes.{converts, not-refused}
 use Rattle.whole.specs.ordered.Leaving.{leftBy}
 
 -- a conversion that does not refuse
@@ -51,7 +51,7 @@ module _ (readable : Bool) (file : List ℕ) (read lent : Tables) (scratch : Lis
       let m : MakeEntry = record { circuit = g; written = lent } in
       let c = convert (given g) in
       said
-      ∙ (accepts (firstOf (stages g (lentWith g lent))) m c (converts g lent tail ready (conversion m) refl)
+      ∙ (accepts (firstOf (stages g (lentWith g lent))) m c (not-refused _ _ tail (converts g lent tail ready) (conversion m) refl)
       ∙ ((λ i. record { answer = made.Accepted (countsOf c); written = holding lent c; scratch = same-cleared (g .scratch) scratch same i })
       ∙ sym (ap leftBy (open-is ∙ ap (openBy w) q))))
 
@@ -69,17 +69,3 @@ closed w x said read r =
     }) (openBy w p)
     go (got c start) = refl
     go (refused r) = refl
-
--- tables of the same lengths, zero throughout
-pub all-zero : (t u : Tables) → length (t .inputs) ≡ length (u .inputs) → length (t .latches) ≡ length (u .latches)
-    → length (t .outputs) ≡ length (u .outputs) → length (t .gates) ≡ length (u .gates) → length (t .resets) ≡ length (u .resets)
-    → length (t .bads) ≡ length (u .bads) → length (t .constraints) ≡ length (u .constraints) → allCleared t ≡ allCleared u
-all-zero t u i l o g r b c = λ j. record {
-  inputs = same-cleared (t .inputs) (u .inputs) i j;
-  latches = same-cleared (t .latches) (u .latches) l j;
-  outputs = same-cleared (t .outputs) (u .outputs) o j;
-  gates = same-cleared (t .gates) (u .gates) g j;
-  resets = same-cleared (t .resets) (u .resets) r j;
-  bads = same-cleared (t .bads) (u .bads) b j;
-  constraints = same-cleared (t .constraints) (u .constraints) c j;
-}

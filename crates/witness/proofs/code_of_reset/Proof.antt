@@ -1,3 +1,4 @@
+-- A reset as a code: the latch's own literal is "x". Each answer is given by `reset-other`.
 use mathlib.Core.Path.{sym, ap}
 use Prim.Native.Nat.{ℕ}
 use Rattle.plan.specs.Step.{codeOf, resetValue}

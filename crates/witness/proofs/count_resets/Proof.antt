@@ -1,3 +1,5 @@
+-- How many of n resets are x. The loop keeps `(i ≤ n) × (xs ≡ xCount (take i (codesOf resets n))) × (xs ≤ i)`; the measure is `n - i`. `code-at`,
+-- `count-more` and `codes-length` carry it from turn to turn, and `count-all` and `codes-length` give the answer.
 use Prim.Native.Nat.{_-_, _≤_}
 use mathlib.Core.Path.{_≡_, refl, ap, _∙_}
 use native.Mathlib.Omega.{arith}
@@ -64,16 +66,5 @@ returns c =
 pub count-resets-spec : {M : Type 1} → statement M
 count-resets-spec =
     tie.close
-    (tie.spec
-    Inv-loop
-    μ-loop
-    loop-holds
-    mul-code-of-reset
-    shared-slice-read-code-of-reset
-    code-of-reset-requires
-    x-of-requires
-    add-xs
-    add-i
-    loop-less
-    loop-again
-    returns)
+    (tie.spec Inv-loop μ-loop loop-holds mul-code-of-reset shared-slice-read-code-of-reset
+    code-of-reset-requires x-of-requires add-xs add-i loop-less loop-again returns)

@@ -1,3 +1,5 @@
+-- How many x a list has. The loop keeps `(i ≤ length bytes) × (n ≡ xCount (take i bytes)) × (n ≤ i)`; the measure is `length bytes - i`. `count-more`
+-- and `x-small` carry it from turn to turn, and `count-all` gives the answer.
 use Prim.Native.Nat.{_-_, _≤_}
 use mathlib.Core.Path.{_≡_, refl, _∙_}
 use native.Mathlib.Omega.{arith}
@@ -51,14 +53,5 @@ returns c =
 pub count-x-spec : {M : Type 1} → statement M
 count-x-spec =
     tie.close
-    (tie.spec
-    Inv-loop
-    μ-loop
-    loop-holds
-    shared-slice-read-x-of
-    x-of-requires
-    add-n
-    add-i
-    loop-less
-    loop-again
+    (tie.spec Inv-loop μ-loop loop-holds shared-slice-read-x-of x-of-requires add-n add-i loop-less loop-again
     returns)

@@ -1,3 +1,5 @@
+-- The word of a place of filling number k, where an x has the number x: bit x of k, 0 or 1 more than the word of 0. The answers are given by
+-- `word-0`, `word-1` and `word-bit`.
 use Rattle.witness.proofs.Words.{word-0, word-1, bit-fits, word-bit, word-other}
 use borrow.Author.Needs.{needs}
 use Rattle.witness.proofs.filled_word.Statement.{statement}
@@ -22,7 +24,8 @@ returns-3 : tie.Need-returns-3
 returns-3 c = word-bit (c .before .before .before .args .code) (c .before .before .before .args .k) (c .before .before .before .args .x) (c .if3 .taken)
 
 returns-4 : tie.Need-returns-4
-returns-4 c = word-other (c .before .before .before .args .code) (c .before .before .before .args .k) (c .before .before .before .args .x) (c .before .before .if1 .left) (c .before .if2 .left) (c .if3 .left)
+returns-4 c = word-other (c .before .before .before .args .code) (c .before .before .before .args .k) (c .before .before .before .args .x)
+    (c .before .before .if1 .left) (c .before .if2 .left) (c .if3 .left)
 
 pub filled-word-spec : {M : Type 1} → statement M
 filled-word-spec =

@@ -1,3 +1,4 @@
+-- Whether filling number `which` of start and list shows a 1. The answers are given by `start-length` and `number-shows`.
 use Prim.Native.Nat.{ℕ}
 use mathlib.Core.Path.{_≡_, sym, ap, _∙_}
 use mathlib.Core.List.{List, map}

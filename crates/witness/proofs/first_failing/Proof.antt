@@ -1,3 +1,5 @@
+-- Fillings are tried from 0 up, `most` of them: the number of the first that shows no 1, or `most`. The loop keeps `List`; the measure is `most -
+-- tried`.
 use Prim.Native.Nat.{ℕ, _-_, _≤_, _<_}
 use mathlib.Core.Path.{_≡_, refl, sym, _∙_}
 use mathlib.Core.Bool.{true}
@@ -27,10 +29,17 @@ loop-holds : tie.Need-loop-holds Inv-loop μ-loop
 loop-holds c = (omega arith, refl, λ inputs r i h. absurd (omega arith))
 
 cast-filling-shows : tie.Need-cast-filling-shows Inv-loop μ-loop
-cast-filling-shows c = record { fits = omega (arith, c .before .before .before .before .before .before .before .before .before .before .before .pre .1, c .before .loop-test .taken) }
+cast-filling-shows c = record {
+  fits = omega (
+    arith,
+    c .before .before .before .before .before .before .before .before .before .before .before .pre .1,
+    c .before .loop-test .taken,
+  );
+}
 
 filling-shows-requires : tie.Need-filling-shows-requires Inv-loop μ-loop
-filling-shows-requires c κs = holds-again (c .before .before .before .before .before .before .before .before .before .before .before .pre .0) _ (c .before .before .loop .inv .1)
+filling-shows-requires c κs = holds-again (c .before .before .before .before .before .before .before .before .before .before .before .pre .0) _
+    (c .before .before .loop .inv .1)
 
 same-length : tie.Need-same-length Inv-loop μ-loop
 same-length c = c .before .before .scratch .given ∙ c .before .before .before .before .before .before .loop .inv .1
@@ -71,16 +80,5 @@ returns-2 c = λ inputs r.
 pub first-failing-spec : {M : Type 1} → statement M
 first-failing-spec =
     tie.close
-    (tie.spec
-    Inv-loop
-    μ-loop
-    loop-holds
-    cast-filling-shows
-    filling-shows-requires
-    same-length
-    returns
-    add-tried
-    loop-less
-    loop-again
-    same-length-2
-    returns-2)
+    (tie.spec Inv-loop μ-loop loop-holds cast-filling-shows filling-shows-requires same-length returns
+    add-tried loop-less loop-again same-length-2 returns-2)

@@ -1,3 +1,5 @@
+-- A vector of filling number k goes into words from `first` on; x is the number of its first x. The loop keeps `Filled`; the measure is `length codes
+-- - i`. `count-more`, `filled-more` and `filledWord` carry it from turn to turn, and `filled-all`, `filled-words` and `count-all` give the answer.
 use Prim.Native.Nat.{ℕ, _+_, _-_, _≤_}
 use mathlib.Core.Path.{_≡_, sym, ap, _∙_}
 use native.Mathlib.Nat.{add-zero}
@@ -58,7 +60,15 @@ add-next : tie.Need-add-next Inv-loop μ-loop
 add-next c =
     let w = c .before .before .before .before .before in
     let s = w .before .before .before in
-    omega (arith, c .x-of .ensures, x-small (getD (s .args .codes .now) (w .loop .i) 0), s .pre .few, w .loop .inv .1, count-take (w .loop .i) (s .args .codes .now))
+    omega (
+      arith,
+      c .x-of .ensures,
+      x-small (getD (s .args .codes .now) (w .loop .i) 0),
+      s .pre .few,
+      w .loop .inv .1,
+      count-take (w .loop .i)
+          (s .args .codes .now),
+    )
 
 add-i : tie.Need-add-i Inv-loop μ-loop
 add-i c = search needs
@@ -96,20 +106,5 @@ returns c =
 pub load-filled-spec : {M : Type 1} → statement M
 load-filled-spec =
     tie.close
-    (tie.spec
-    Inv-loop
-    μ-loop
-    loop-holds
-    shared-slice-read-filled-word
-    filled-word-requires
-    add-t
-    mul-t
-    slice-write-t
-    shared-slice-read-x-of
-    x-of-requires
-    add-next
-    add-i
-    loop-less
-    loop-again
-    same-length
-    returns)
+    (tie.spec Inv-loop μ-loop loop-holds shared-slice-read-filled-word filled-word-requires add-t mul-t
+    slice-write-t shared-slice-read-x-of x-of-requires add-next add-i loop-less loop-again same-length returns)

@@ -1,3 +1,5 @@
+-- The same of n resets, whose x are numbered from 0. The loop keeps `Filled`; the measure is `n - i`. `code-at`, `count-more` and `codes-length`
+-- carry it from turn to turn, and `filled-all`, `codes-length` and `filled-words` give the answer.
 use Prim.Native.Nat.{ℕ, _+_, _-_, _≤_}
 use mathlib.Core.Path.{_≡_, refl, ap, _∙_}
 use mathlib.Core.List.{List}
@@ -122,21 +124,6 @@ returns c =
 pub load-resets-filled-spec : {M : Type 1} → statement M
 load-resets-filled-spec =
     tie.close
-    (tie.spec
-    Inv-loop
-    μ-loop
-    loop-holds
-    mul-code-of-reset
-    shared-slice-read-code-of-reset
-    code-of-reset-requires
-    filled-word-requires
-    add-t
-    mul-t
-    slice-write-t
-    x-of-requires
-    add-next
-    add-i
-    loop-less
-    loop-again
-    same-length
-    returns)
+    (tie.spec Inv-loop μ-loop loop-holds mul-code-of-reset shared-slice-read-code-of-reset
+    code-of-reset-requires filled-word-requires add-t mul-t slice-write-t x-of-requires add-next add-i
+    loop-less loop-again same-length returns)

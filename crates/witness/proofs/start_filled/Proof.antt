@@ -1,3 +1,4 @@
+-- The constant and the start of filling number k. The answers are given by `rests-loaded`, `constant-set` and `start-length`.
 use mathlib.Core.Path.{_∙_}
 use mathlib.Core.List.{map}
 use native.Mathlib.Omega.{arith}

@@ -1,3 +1,5 @@
+-- The answer for a list whose bytes are good, where start and list have `xs` x, which are few. The answers are given by `found-no`, `total-is` and
+-- `count-append`.
 use Prim.Native.Nat.{ℕ, _*_, _%_, _^_, _≤_}
 use mathlib.Core.Path.{_≡_, sym, ap, _∙_}
 use mathlib.Core.List.{List, []}
@@ -77,14 +79,5 @@ returns-3 c = λ inputs r.
 pub try-fillings-spec : {M : Type 1} → statement M
 try-fillings-spec =
     tie.close
-    (tie.spec
-    shl-total
-    lesser-requires
-    first-failing-requires
-    add-t19
-    same-length
-    returns
-    same-length-2
-    returns-2
-    same-length-3
-    returns-3)
+    (tie.spec shl-total lesser-requires first-failing-requires add-t19 same-length returns same-length-2
+    returns-2 same-length-3 returns-3)

@@ -1,3 +1,6 @@
+-- The witness question: whether every filling of the x of the resets and of a list of `number` vectors shows 1 on some output or bad state, every
+-- constraint being 1 there and at all steps before; at most `allowance` fillings are tried. The answers are given by `refused-list`, `past-check` and
+-- `more`.
 use Prim.Native.Nat.{ℕ, _+_, _*_}
 use mathlib.Core.Path.{_≡_, sym, ap, ap₂, _∙_}
 use mathlib.Core.Bool.{true}
@@ -204,21 +207,6 @@ returns-4 c =
 pub witness-spec : {M : Type 1} → statement M
 witness-spec =
     tie.close
-    (tie.spec
-    check-in-order-requires
-    enum-known-refusal
-    enum-told
-    whole-list-requires
-    same-length
-    returns
-    count-resets-requires
-    count-x-requires
-    add-xs
-    same-length-2
-    returns-2
-    try-fillings-requires
-    clear-requires
-    same-length-3
-    returns-3
-    same-length-4
-    returns-4)
+    (tie.spec check-in-order-requires enum-known-refusal enum-told whole-list-requires same-length returns
+    count-resets-requires count-x-requires add-xs same-length-2 returns-2 try-fillings-requires clear-requires
+    same-length-3 returns-3 same-length-4 returns-4)

@@ -1,3 +1,4 @@
+-- 1 at an x, else 0. The answers are given by `x-here` and `x-not`.
 use Rattle.witness.proofs.Words.{x-here, x-not}
 use Rattle.witness.proofs.x_of.Statement.{statement}
 use Rattle.witness.proofs.x_of.Tie as tie

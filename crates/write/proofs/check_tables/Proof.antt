@@ -8,6 +8,10 @@ use borrow.Author.Needs.{needs}
 use Rattle.write.proofs.check_tables.Statement.{statement}
 use Rattle.write.proofs.check_tables.Tie as tie
 
+-- moments, each named by what happened there
+abbrev start-of : tie.After-slice-known → tie.Start
+start-of c = c .before .before .before .before .before .before .before .before
+
 check-in-order-requires : tie.Need-check-in-order-requires
 check-in-order-requires c κs = search needs
 
@@ -18,7 +22,7 @@ returns : tie.Need-returns
 returns c =
     let checked = c .before .before in
     let test = checked .before .before in
-    let a = test .before .before .before .before .before .before .before .before .before .args in
+    let a = start-of (test .before) .args in
     let g = givenIn (a .n) (a .inputs .now) (a .latches .now) (a .outputs .now) (a .gates .now) (a .resets .now) (a .bads .now) (a .constraints .now)
     (a .scratch .now) in
     let exit = checked .check-in-order .ensures in (
@@ -37,7 +41,7 @@ returns-2 : tie.Need-returns-2
 returns-2 c =
     let checked = c .before .before in
     let test = checked .before .before in
-    let a = test .before .before .before .before .before .before .before .before .before .args in
+    let a = start-of (test .before) .args in
     let g = givenIn (a .n) (a .inputs .now) (a .latches .now) (a .outputs .now) (a .gates .now) (a .resets .now) (a .bads .now) (a .constraints .now)
     (a .scratch .now) in
     let exit = checked .check .ensures in (

@@ -10,6 +10,19 @@ use borrow.Author.Needs.{needs}
 use Rattle.write.proofs.judge.Statement.{statement}
 use Rattle.write.proofs.judge.Tie as tie
 
+-- moments, each named by what happened there
+abbrev start-of : tie.After-check-tables → tie.Start
+start-of c = c .before .before .before .before .before .before .before .before .before .before .before
+
+abbrev check-tables-of : tie.After-slice-known2 → tie.After-check-tables
+check-tables-of c = c .before .before
+
+abbrev after-check-tables : tie.After-check-arg → tie.After-slice-known2
+after-check-tables c = c .before .before .before
+
+abbrev after-check-tables2 : tie.After-known-told → tie.After-slice-known2
+after-check-tables2 c = c .before .before .before
+
 check-tables-requires : tie.Need-check-tables-requires
 check-tables-requires c κs = search needs
 
@@ -21,8 +34,8 @@ enum-told c = search needs
 
 check-requires : tie.Need-check-requires
 check-requires c κs =
-    let checked = c .before .before .before .before .before in
-    let a = checked .before .before .before .before .before .before .before .before .before .before .before .args in
+    let checked = check-tables-of (after-check-tables c) in
+    let a = start-of checked .args in
     let g = givenIn (a .n) (a .inputs .now) (a .latches .now) (a .outputs .now) (a .gates .now) (a .resets .now) (a .bads .now) (a .constraints .now)
     (a .scratch .now) in
     let says = checked .check-tables .ensures .0 in
@@ -38,8 +51,8 @@ same-length c = search needs
 
 returns : tie.Need-returns
 returns c =
-    let checked = c .before .before .before .before .before in
-    let a = checked .before .before .before .before .before .before .before .before .before .before .before .args in
+    let checked = check-tables-of (after-check-tables2 c) in
+    let a = start-of checked .args in
     let g = givenIn (a .n) (a .inputs .now) (a .latches .now) (a .outputs .now) (a .gates .now) (a .resets .now) (a .bads .now) (a .constraints .now)
     (a .scratch .now) in
     let says = checked .check-tables .ensures .0 in
@@ -55,7 +68,7 @@ returns-2 c =
     let tailed = cleared .before .before .before .before in
     let good = tailed .before .before in
     let checked = good .before .before .before .before in
-    let a = checked .before .before .before .before .before .before .before .before .before .before .before .args in
+    let a = start-of checked .args in
     let g = givenIn (a .n) (a .inputs .now) (a .latches .now) (a .outputs .now) (a .gates .now) (a .resets .now) (a .bads .now) (a .constraints .now)
     (a .scratch .now) in
     let says = checked .check-tables .ensures .0 in

@@ -6,6 +6,13 @@ use borrow.Author.Needs.{needs}
 use Rattle.write.proofs.put_text.Statement.{statement}
 use Rattle.write.proofs.put_text.Tie as tie
 
+-- moments, each named by what happened there
+abbrev start-of : tie.After-text-length → tie.Start
+start-of c = c .before .before .before .before .before .before .before .before .before .before
+
+abbrev text-length-of : tie.Else1 → tie.After-text-length
+text-length-of c = c .before .before
+
 text-length-requires : tie.Need-text-length-requires
 text-length-requires c κs = search needs
 
@@ -19,7 +26,7 @@ returns : tie.Need-returns
 returns c =
     let test = c .before in
     let counted = test .before .before in
-    let a = counted .before .before .before .before .before .before .before .before .before .before .args in
+    let a = start-of counted .args in
     let bytes = textBytes (a .n) (a .inputs .now) (a .latches .now) (a .outputs .now) (a .gates .now) (a .resets .now) (a .bads .now) (a .constraints .now) in
     no-room bytes (a .tail .now) (a .out .now) (counted .text-length .ensures) (test .before .holds .ensures)
     (not-true _ (test .if1 .taken)) (c .needed .ensures)
@@ -27,8 +34,8 @@ returns c =
 fill-text-requires : tie.Need-fill-text-requires
 fill-text-requires c κs =
     let test = c .before in
-    let counted = test .before .before in
-    let start = counted .before .before .before .before .before .before .before .before .before .before in
+    let counted = text-length-of test in
+    let start = start-of counted in
     let a = start .args in
     let bytes = textBytes (a .n) (a .inputs .now) (a .latches .now) (a .outputs .now) (a .gates .now) (a .resets .now) (a .bads .now) (a .constraints .now) in
     let fits = form-fits bytes (a .tail .now) (a .out .now) (counted .text-length .ensures) (test .before .holds .ensures)
@@ -39,8 +46,8 @@ append-requires : tie.Need-append-requires
 append-requires c κs =
     let filled = c .before .before .before in
     let test = filled .before .before in
-    let counted = test .before .before in
-    let a = counted .before .before .before .before .before .before .before .before .before .before .args in
+    let counted = text-length-of test in
+    let a = start-of counted .args in
     let bytes = textBytes (a .n) (a .inputs .now) (a .latches .now) (a .outputs .now) (a .gates .now) (a .resets .now) (a .bads .now) (a .constraints .now) in
     tail-fits bytes (a .tail .now) (a .out .now) (counted .text-length .ensures) (test .before .holds .ensures)
     (not-false _ (test .if1 .left))
@@ -54,8 +61,8 @@ returns-2 c =
     let appended = c .before .before in
     let filled = appended .before .before .before .before in
     let test = filled .before .before in
-    let counted = test .before .before in
-    let a = counted .before .before .before .before .before .before .before .before .before .before .args in
+    let counted = text-length-of test in
+    let a = start-of counted .args in
     let bytes = textBytes (a .n) (a .inputs .now) (a .latches .now) (a .outputs .now) (a .gates .now) (a .resets .now) (a .bads .now) (a .constraints .now) in
     all-put bytes (a .tail .now) (a .out .now) (counted .text-length .ensures) (test .before .holds .ensures)
     (not-false _ (test .if1 .left))

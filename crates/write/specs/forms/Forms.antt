@@ -21,7 +21,8 @@ abbrev pub oneLines : ℕ → List ℕ → List ℕ
 oneLines n table = linesOf (rowsOf 1 n table)
 
 abbrev pub observedBytes : Counts → List ℕ → List ℕ → List ℕ → List ℕ
-observedBytes n outputs bads constraints = oneLines (n .O) outputs ++ (oneLines (n .B) bads ++ oneLines (n .C) constraints)
+observedBytes n outputs bads constraints =
+    oneLines (n .O) outputs ++ (oneLines (n .B) bads ++ oneLines (n .C) constraints)
 
 -- lines of gates, and gates as differences
 abbrev pub gateLines : Counts → List ℕ → List ℕ

@@ -16,8 +16,10 @@ latchBytes false current next reset = lineOf (current ∷ next ∷ unlessZero re
 
 -- n lines of the tables, in binary form or in text form
 abbrev pub latchRows : Bool → ℕ → List ℕ → List ℕ → List (List ℕ)
-latchRows true n latches resets = map (shortest 1) (withResets (map oneLine (nexts (map latchOf (rowsOf 2 n latches)))) (take n resets))
-latchRows false n latches resets = map (shortest 2) (withResets (map latchLine (map latchOf (rowsOf 2 n latches))) (take n resets))
+latchRows true n latches resets =
+    map (shortest 1) (withResets (map oneLine (nexts (map latchOf (rowsOf 2 n latches)))) (take n resets))
+latchRows false n latches resets =
+    map (shortest 2) (withResets (map latchLine (map latchOf (rowsOf 2 n latches))) (take n resets))
 
 -- the bytes of latch i of the tables, and of m latches from i on
 abbrev pub latchBytesAt : Bool → List ℕ → List ℕ → ℕ → List ℕ

@@ -33,6 +33,8 @@ abbrev pub bytesFrom : List ℕ → ℕ → ℕ → List ℕ
 bytesFrom t zero i = []
 bytesFrom t (suc m) i = bytesAt t i ++ bytesFrom t m (i + 1)
 
--- bytes x stand from a position on once whatever follows them has been put, two bytes at least: until then these may be any
+-- bytes x stand from a position on once whatever follows them has been put, two bytes at least: until then these
+-- may be any
 abbrev pub Begun : List ℕ → ℕ → List ℕ → List ℕ → ℕ → Type 0
-Begun out at x out' next = (y : List ℕ) → 2 ≤ length y → at + length x + length y ≤ length out → put out' next y ≡ put out at (x ++ y)
+Begun out at x out' next =
+    (y : List ℕ) → 2 ≤ length y → at + length x + length y ≤ length out → put out' next y ≡ put out at (x ++ y)

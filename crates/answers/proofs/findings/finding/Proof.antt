@@ -1,3 +1,4 @@
+-- The values are 1 for yes, 0 for no or 2 for undecided, and how many fillings were tried. Each answer is given by `refusal-told`.
 use mathlib.Core.Path.{refl, sym, ap, _∙_}
 use borrow.Author.Needs.{needs}
 use Rattle.plan.specs.Outcome.{findingValues}
@@ -40,14 +41,5 @@ returns-4 c =
 pub finding-spec : {M : Type 1} → statement M
 finding-spec =
     tie.close
-    (tie.spec
-    enum-known-r
-    enum-known-r-2
-    enum-known-r-3
-    enum-known-r-4
-    told-number-requires
-    told-place-requires
-    returns
-    returns-2
-    returns-3
-    returns-4)
+    (tie.spec enum-known-r enum-known-r-2 enum-known-r-3 enum-known-r-4 told-number-requires
+    told-place-requires returns returns-2 returns-3 returns-4)

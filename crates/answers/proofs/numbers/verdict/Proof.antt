@@ -1,3 +1,4 @@
+-- The value is 1 for yes, 0 for no. Each answer is given by `refusal-told`.
 use mathlib.Core.Path.{refl, sym, ap, _∙_}
 use borrow.Author.Needs.{needs}
 use Rattle.plan.specs.Outcome.{verdictValues}
@@ -34,12 +35,5 @@ returns-3 c =
 pub verdict-spec : {M : Type 1} → statement M
 verdict-spec =
     tie.close
-    (tie.spec
-    enum-told
-    enum-told-2
-    enum-known-r
-    told-number-requires
-    told-place-requires
-    returns
-    returns-2
+    (tie.spec enum-told enum-told-2 enum-known-r told-number-requires told-place-requires returns returns-2
     returns-3)

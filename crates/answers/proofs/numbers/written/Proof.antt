@@ -1,3 +1,4 @@
+-- The value is the number of bytes written. Each answer is given by `refusal-told`.
 use mathlib.Core.Path.{refl, sym, ap, _∙_}
 use borrow.Author.Needs.{needs}
 use Rattle.plan.specs.Outcome.{writtenValues}
@@ -28,10 +29,4 @@ returns-2 c =
 pub written-spec : {M : Type 1} → statement M
 written-spec =
     tie.close
-    (tie.spec
-    enum-known-r
-    enum-known-r-2
-    told-number-requires
-    told-place-requires
-    returns
-    returns-2)
+    (tie.spec enum-known-r enum-known-r-2 told-number-requires told-place-requires returns returns-2)

@@ -92,7 +92,8 @@ loop-again c =
     let a = d .args in
     let v = a .first + s .i in
     let l = lit-is (w .before .before .at .result) (w .before .lit .result) v (omega arith) (w .before .before .at .ensures) (w .before .lit .ensures) in
-    one-gated (a .file .now) (a .at) (a .n) (a .first) (a .table .now) (s .table) (s .i) (s .inv) (d .pre .1 .0) (c .before .before .before .before .before .loop-test .taken) _ _ _
+    one-gated (a .file .now) (a .at) (a .n) (a .first) (a .table .now) (s .table) (s .i) (s .inv) (d .pre .1 .0)
+    (c .before .before .before .before .before .loop-test .taken) _ _ _
     (w .word .ensures ∙ l) (c .before .word-at .ensures) (c .word-at2 .ensures)
 
 same-length : tie.Need-same-length Inv-loop μ-loop
@@ -107,32 +108,7 @@ returns c =
 pub fill-gates-spec : {M : Type 1} → statement M
 fill-gates-spec =
     tie.close
-    (tie.spec
-    Inv-loop
-    μ-loop
-    loop-holds
-    mul-k
-    mul-card
-    add-card
-    cast-at
-    add-at
-    at-requires
-    lit-requires
-    word-requires
-    mul-table
-    slice-write-table
-    add-word-at
-    word-at-requires
-    add-table
-    mul-table-2
-    slice-write-table-2
-    add-word-at-2
-    word-at-requires-2
-    add-table-2
-    mul-table-3
-    slice-write-table-3
-    add-i
-    loop-less
-    loop-again
-    same-length
-    returns)
+    (tie.spec Inv-loop μ-loop loop-holds mul-k mul-card add-card cast-at add-at at-requires lit-requires
+    word-requires mul-table slice-write-table add-word-at word-at-requires add-table mul-table-2
+    slice-write-table-2 add-word-at-2 word-at-requires-2 add-table-2 mul-table-3 slice-write-table-3 add-i
+    loop-less loop-again same-length returns)

@@ -57,18 +57,5 @@ returns c =
 pub fill-words-spec : {M : Type 1} → statement M
 fill-words-spec =
     tie.close
-    (tie.spec
-    Inv-loop
-    μ-loop
-    loop-holds
-    mul-word-at
-    add-word-at
-    add-word-at-2
-    word-at-requires
-    mul-table
-    slice-write-table
-    add-i
-    loop-less
-    loop-again
-    same-length
-    returns)
+    (tie.spec Inv-loop μ-loop loop-holds mul-word-at add-word-at add-word-at-2 word-at-requires mul-table
+    slice-write-table add-i loop-less loop-again same-length returns)

@@ -6,6 +6,13 @@ use Rattle.cards.proofs.head.Told.{part-told, in-head, in-latches, in-o
 use Rattle.cards.proofs.head.all_marks.Statement.{statement}
 use Rattle.cards.proofs.head.all_marks.Tie as tie
 
+-- moments, each named by what happened there
+abbrev start-of : tie.After-check-marks → tie.Start
+start-of c = c .before .before
+
+abbrev check-marks-of : tie.After-enum-told → tie.After-check-marks
+check-marks-of c = c .before .before
+
 check-marks-requires : tie.Need-check-marks-requires
 check-marks-requires c κs = search needs
 
@@ -15,7 +22,7 @@ enum-known-head c = search needs
 returns : tie.Need-returns
 returns c =
     let d = c .before .before .before in
-    let a = d .before .before .args in
+    let a = start-of d .args in
     in-head (a .file .now) (a .n) _ (sym (d .check-marks .ensures) ∙ c .before .head .given .1)
 
 enum-told : tie.Need-enum-told
@@ -31,8 +38,8 @@ returns-2 : tie.Need-returns-2
 returns-2 c =
     let d = c .before .before .before in
     let e = d .before in
-    let g = e .before .before in
-    let a = g .before .before .args in
+    let g = check-marks-of e in
+    let a = start-of g .args in
     in-latches (a .file .now) (a .n) (sym (g .check-marks .ensures) ∙ e .enum-told .given .1) _
     (sym (d .check-marks2 .ensures) ∙ c .before .latches .given .1)
 
@@ -54,8 +61,8 @@ returns-3 c =
     let e = d .before .before in
     let g = e .before .before in
     let h = g .before in
-    let k = h .before .before in
-    let a = k .before .before .args in
+    let k = check-marks-of h in
+    let a = start-of k .args in
     in-outputs (a .file .now) (a .n) (sym (k .check-marks .ensures) ∙ h .enum-told .given .1)
     (sym (g .check-marks2 .ensures) ∙ e .enum-told2 .given .1) _
     (part-told (a .file .now) 79 6 (a .n .O) _ (outputsAt (a .n)) (d .before .outputs-at .ensures) _ (d .check-marks3 .ensures) ∙ c .before .outputs .given .1)
@@ -76,8 +83,8 @@ returns-4 c =
     let e = d .before .before in
     let g = e .before .before in
     let h = g .before in
-    let k = h .before .before in
-    let a = k .before .before .args in
+    let k = check-marks-of h in
+    let a = start-of k .args in
     sym (part-told (a .file .now) 65 10 (a .n .A) _ (gatesAt (a .n)) (c .before .gates-at .ensures) _ (c .check-marks4 .ensures))
     ∙ in-gates (a .file .now) (a .n) (sym (k .check-marks .ensures) ∙ h .enum-told .given .1)
     (sym (g .check-marks2 .ensures) ∙ e .enum-told2 .given .1)
@@ -86,20 +93,6 @@ returns-4 c =
 pub all-marks-spec : {M : Type 1} → statement M
 all-marks-spec =
     tie.close
-    (tie.spec
-    check-marks-requires
-    enum-known-head
-    returns
-    enum-told
-    check-marks-requires-2
-    enum-known-latches
-    returns-2
-    enum-told-2
-    outputs-at-requires
-    check-marks-requires-3
-    enum-known-outputs
-    returns-3
-    enum-told-3
-    gates-at-requires
-    check-marks-requires-4
-    returns-4)
+    (tie.spec check-marks-requires enum-known-head returns enum-told check-marks-requires-2 enum-known-latches
+    returns-2 enum-told-2 outputs-at-requires check-marks-requires-3 enum-known-outputs returns-3 enum-told-3
+    gates-at-requires check-marks-requires-4 returns-4)

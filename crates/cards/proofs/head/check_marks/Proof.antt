@@ -24,14 +24,19 @@ mark-at-requires : tie.Need-mark-at-requires Inv-loop μ-loop
 mark-at-requires c κs =
     let s = c .before .loop in
     let a = c .before .before .before .args in
-    omega (arith, in-room (a .file .now) (a .letter) (a .size) (a .n) (a .at) (s .next) (s .left) (s .inv) (c .loop-test .taken), c .before .before .before .pre .0)
+    omega (
+      arith,
+      in-room (a .file .now) (a .letter) (a .size) (a .n) (a .at) (s .next) (s .left) (s .inv) (c .loop-test .taken),
+      c .before .before .before .pre .0,
+    )
 
 returns : tie.Need-returns Inv-loop μ-loop
 returns c =
     let s = c .before .before .before .loop in
     let a = c .before .before .before .before .before .args in
     found WrongMark _ _
-    (mark-wrong (a .file .now) (a .letter) (a .size) (a .n) (a .at) (s .next) (s .left) (s .inv) (c .before .before .loop-test .taken) (c .before .mark-at .result)
+    (mark-wrong (a .file .now) (a .letter) (a .size) (a .n) (a .at) (s .next) (s .left) (s .inv) (c .before .before .loop-test .taken)
+    (c .before .mark-at .result)
     (c .before .mark-at .ensures) (not-true _ (c .if1 .taken)))
 
 add-next : tie.Need-add-next Inv-loop μ-loop
@@ -50,7 +55,8 @@ loop-again : tie.Need-loop-again Inv-loop μ-loop
 loop-again c =
     let s = c .before .before .before .loop in
     let a = c .before .before .before .before .before .args in
-    mark-fine (a .file .now) (a .letter) (a .size) (a .n) (a .at) (s .next) (s .left) (s .inv) (c .before .before .loop-test .taken) (c .before .mark-at .result)
+    mark-fine (a .file .now) (a .letter) (a .size) (a .n) (a .at) (s .next) (s .left) (s .inv) (c .before .before .loop-test .taken)
+    (c .before .mark-at .result)
     (c .before .mark-at .ensures) (not-false _ (c .if1 .left))
 
 returns-2 : tie.Need-returns-2 Inv-loop μ-loop
@@ -64,14 +70,5 @@ returns-2 c =
 pub check-marks-spec : {M : Type 1} → statement M
 check-marks-spec =
     tie.close
-    (tie.spec
-    Inv-loop
-    μ-loop
-    loop-holds
-    mark-at-requires
-    returns
-    add-next
-    sub-left
-    loop-less
-    loop-again
+    (tie.spec Inv-loop μ-loop loop-holds mark-at-requires returns add-next sub-left loop-less loop-again
     returns-2)

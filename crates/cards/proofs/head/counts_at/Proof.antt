@@ -48,15 +48,5 @@ returns c =
 pub counts-at-spec : {M : Type 1} → statement M
 counts-at-spec =
     tie.close
-    (tie.spec
-    word-at-requires
-    cast-t3
-    word-at-requires-2
-    cast-t5
-    word-at-requires-3
-    cast-t7
-    word-at-requires-4
-    cast-t9
-    word-at-requires-5
-    cast-t11
-    returns)
+    (tie.spec word-at-requires cast-t3 word-at-requires-2 cast-t5 word-at-requires-3 cast-t7
+    word-at-requires-4 cast-t9 word-at-requires-5 cast-t11 returns)

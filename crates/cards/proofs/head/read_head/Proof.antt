@@ -20,28 +20,48 @@ use borrow.Author.Needs.{needs}
 use Rattle.cards.proofs.head.read_head.Statement.{statement}
 use Rattle.cards.proofs.head.read_head.Tie as tie
 
+-- moments, each named by what happened there
+abbrev start-of : tie.After-check-length → tie.Start
+start-of c = c .before .before
+
+abbrev check-length-of : tie.After-counts-at → tie.After-check-length
+check-length-of c = c .before .before .before
+
+abbrev check-length-of2 : tie.After-known-told → tie.After-check-length
+check-length-of2 c = c .before .before .before
+
+abbrev counts-at-of : tie.After-enum-told2 → tie.After-counts-at
+counts-at-of c = c .before .before .before
+
+abbrev after-all-marks : tie.Then1 → tie.After-enum-told2
+after-all-marks c = c .before .before
+
+abbrev large-count-of : tie.After-struct-known3 → tie.After-large-count
+large-count-of c = c .before .before .before .before
+
 -- the length is right, and then every mark
 abbrev lengthened : tie.After-counts-at → tie.Start
 lengthened d = d .before .before .before .before .before
 
 right-length : (d : tie.After-counts-at) → badLength (lengthened d .args .file .now) ≡ none
 right-length d =
-    was-nothing WrongByte (badLength (lengthened d .args .file .now)) (sym (d .before .before .before .check-length .ensures) ∙ d .before .enum-told .given .1)
+    was-nothing WrongByte (badLength (lengthened d .args .file .now)) (sym (check-length-of d .check-length .ensures) ∙ d .before .enum-told .given .1)
 
 right-marks : (d : tie.After-enum-told2) → let f = lengthened (d .before .before .before) .args .file .now in wrongMarks f (countsAt f) ≡ none
 right-marks d =
-    let f = lengthened (d .before .before .before) .args .file .now in
-    ap (wrongMarks f) (sym (d .before .before .before .counts-at .ensures .0))
-    ∙ was-nothing WrongMark (wrongMarks f (d .before .before .before .counts-at .result)) (sym (d .before .before .all-marks .ensures) ∙ d .enum-told2 .given .1)
+    let f = lengthened (counts-at-of d) .args .file .now in
+    ap (wrongMarks f) (sym (counts-at-of d .counts-at .ensures .0))
+    ∙ was-nothing WrongMark (wrongMarks f (counts-at-of d .counts-at .result)) (sym (d .before .before .all-marks .ensures) ∙ d .enum-told2 .given .1)
 
 counts-are : (d : tie.After-large-count) → let f = lengthened (d .before .before .before .before) .args .file .now in
     tableOf (d .large-count .result) ≡ over (counted 1 (listOf (countsAt f)))
-counts-are d = d .large-count .ensures ∙ ap (λ (n : Counts). over (counted 1 (listOf n))) (d .before .before .before .before .counts-at .ensures .0)
+counts-are d = d .large-count .ensures ∙ ap (λ (n : Counts). over (counted 1 (listOf n))) (counts-at-of (d .before) .counts-at .ensures .0)
 
 large-at : (d : tie.Then1) → let f = lengthened (d .before .before .before .before .before) .args .file .now in
-    (over (countsPlaced (countsAt f)) ≡ some (4 * d .before .large-count .result - 2)) × (1 ≤ d .before .large-count .result) × (d .before .large-count .result ≤ 5)
+    (over (countsPlaced (countsAt f)) ≡ some (4 * d .before .large-count .result - 2)) × (1 ≤ d .before .large-count .result) ×
+    (d .before .large-count .result ≤ 5)
 large-at d =
-    let f = lengthened (d .before .before .before .before .before) .args .file .now in
+    let f = lengthened (counts-at-of (after-all-marks d)) .args .file .now in
     large-placed f (d .before .large-count .result) (some-table _ _ (d .if1 .taken) (counts-are (d .before)))
 
 check-length-requires : tie.Need-check-length-requires
@@ -52,7 +72,7 @@ enum-known-length c = search needs
 
 returns : tie.Need-returns
 returns c =
-    let f = c .before .before .before .before .before .args .file .now in
+    let f = start-of (check-length-of2 c) .args .file .now in
     head-1 f _ (sym (c .before .before .before .check-length .ensures) ∙ c .before .length .given .1)
 
 enum-told : tie.Need-enum-told
@@ -66,8 +86,8 @@ counts-at-requires c κs =
 
 all-marks-requires : tie.Need-all-marks-requires
 all-marks-requires c κs =
-    let f = c .before .before .before .before .before .args .file .now in
-    let e = length-none f (was-nothing WrongByte (badLength f) (sym (c .before .before .before .check-length .ensures) ∙ c .before .enum-told .given .1)) in
+    let f = lengthened c .args .file .now in
+    let e = length-none f (was-nothing WrongByte (badLength f) (sym (check-length-of c .check-length .ensures) ∙ c .before .enum-told .given .1)) in
     (c .counts-at .ensures .1, e ∙ ap cardBytes (sym (c .counts-at .ensures .0)))
 
 enum-known-marks : tie.Need-enum-known-marks
@@ -95,7 +115,7 @@ sub-t10 c = omega (arith, large-at c .1, large-at c .2)
 
 returns-3 : tie.Need-returns-3
 returns-3 c =
-    let d = c .before .before .before .before .before in
+    let d = counts-at-of (after-all-marks c) in
     let f = lengthened d .args .file .now in
     head-2 f (right-length d) (right-marks (c .before .before)) _ (large-at c .0)
 
@@ -107,8 +127,8 @@ add-if2-2 c = search needs
 
 returns-4 : tie.Need-returns-4
 returns-4 c =
-    let e = c .before .before .before .before .before in
-    let d = e .before .before .before .before in
+    let e = large-count-of (c .before) in
+    let d = counts-at-of (e .before) in
     let f = lengthened d .args .file .now in
     let n-is = d .counts-at .ensures .0 in
     head-3 f (right-length d) (right-marks (e .before)) (none-large f (no-table _ _ (c .before .before .before .before .if1 .left) (counts-are e)))
@@ -116,8 +136,8 @@ returns-4 c =
 
 returns-5 : tie.Need-returns-5
 returns-5 c =
-    let e = c .before .before .before .before .before in
-    let d = e .before .before .before .before in
+    let e = large-count-of (c .before) in
+    let d = counts-at-of (e .before) in
     let f = lengthened d .args .file .now in
     let n-is = d .counts-at .ensures .0 in
     ap (λ (n : Counts). headed.Accepted true n 22) n-is
@@ -127,21 +147,6 @@ returns-5 c =
 pub read-head-spec : {M : Type 1} → statement M
 read-head-spec =
     tie.close
-    (tie.spec
-    check-length-requires
-    enum-known-length
-    returns
-    enum-told
-    counts-at-requires
-    all-marks-requires
-    enum-known-marks
-    returns-2
-    enum-told-2
-    large-count-requires
-    mul-t9
-    sub-t10
-    returns-3
-    add-if2
-    add-if2-2
-    returns-4
-    returns-5)
+    (tie.spec check-length-requires enum-known-length returns enum-told counts-at-requires all-marks-requires
+    enum-known-marks returns-2 enum-told-2 large-count-requires mul-t9 sub-t10 returns-3 add-if2 add-if2-2
+    returns-4 returns-5)

@@ -11,6 +11,34 @@ use Rattle.cards.proofs.put.Putting.{two-parts, latches-size, outputs-s
 use Rattle.cards.proofs.put.fill_cards.Statement.{statement}
 use Rattle.cards.proofs.put.fill_cards.Tie as tie
 
+-- moments, each named by what happened there
+abbrev out-of : tie.After-put-outputs-arg → tie.After-out
+out-of c = c .before .before .before .before .before .before
+
+abbrev put-head-of : tie.After-put-outputs-arg → tie.After-put-head
+put-head-of c = out-of c .before
+
+abbrev start-of : tie.After-put-outputs-arg → tie.Start
+start-of c = put-head-of c .before .before .before .before .before .before .before .before .before .before .before
+
+abbrev before-put-outputs : tie.After-put-gates-arg → tie.After-put-outputs-arg
+before-put-outputs c = c .before .before .before .before
+
+abbrev out2-of : tie.After-put-gates-arg → tie.After-out2
+out2-of c = before-put-outputs c .before .before
+
+abbrev put-latches-of : tie.After-put-gates-arg → tie.After-put-latches
+put-latches-of c = out2-of c .before
+
+abbrev before-put-gates : tie.After-slice-known5 → tie.After-put-gates-arg
+before-put-gates c = c .before .before .before
+
+abbrev put-outputs-of : tie.After-slice-known5 → tie.After-put-outputs
+put-outputs-of c = before-put-gates c .before .before .before
+
+abbrev before-put-outputs2 : tie.After-slice-known5 → tie.After-put-outputs-arg
+before-put-outputs2 c = put-outputs-of c .before
+
 cast-put-head : tie.Need-cast-put-head
 cast-put-head c = search needs
 
@@ -34,20 +62,29 @@ put-latches-requires c κs = search needs
 
 put-outputs-requires : tie.Need-put-outputs-requires
 put-outputs-requires c κs =
-    let s = c .before .before .before .before .before .before .before .before .before .before .before .before .before .before .before .before .before .before in
-    (omega (arith, s .pre .1, c .before .before .before .before .before .before .before .put-head .ensures .0, c .before .before .before .put-latches .ensures .0, c .before .before .before .before .before .before .out .given, c .before .before .out2 .given), s .pre .0 .outputs-long)
-
-put-gates-requires : tie.Need-put-gates-requires
-put-gates-requires c κs =
-    let s = c .before .before .before .before .before .before .before .before .before .before .before .before .before .before .before .before .before .before .before .before .before .before in (
+    let s = start-of c in (
       omega (
         arith,
         s .pre .1,
-        c .before .before .before .before .before .before .before .before .before .before .before .put-head .ensures .0,
-        c .before .before .before .before .before .before .before .put-latches .ensures .0,
+        put-head-of c .put-head .ensures .0,
+        c .before .before .before .put-latches .ensures .0,
+        out-of c .out .given,
+        c .before .before .out2 .given,
+      ),
+      s .pre .0 .outputs-long,
+    )
+
+put-gates-requires : tie.Need-put-gates-requires
+put-gates-requires c κs =
+    let s = start-of (before-put-outputs c) in (
+      omega (
+        arith,
+        s .pre .1,
+        put-head-of (before-put-outputs c) .put-head .ensures .0,
+        put-latches-of c .put-latches .ensures .0,
         c .before .before .before .put-outputs .ensures .0,
-        c .before .before .before .before .before .before .before .before .before .before .out .given,
-        c .before .before .before .before .before .before .out2 .given,
+        out-of (before-put-outputs c) .out .given,
+        out2-of c .out2 .given,
         c .before .before .out3 .given,
       ),
       s .pre .0 .gates-long,
@@ -58,13 +95,13 @@ same-length c = search needs
 
 returns : tie.Need-returns
 returns c =
-    let s = c .before .before .before .before .before .before .before .before .before .before .before .before .before .before .before .before .before .before .before .before .before .before .before .before .before in
+    let s = start-of (before-put-outputs2 c) in
     let a = s .args in
     let n = a .n in
     let room = s .pre .1 in
-    let w1 = c .before .before .before .before .before .before .before .before .before .before .before .before .before .before .put-head .ensures in
-    let w2 = c .before .before .before .before .before .before .before .before .before .before .put-latches .ensures in
-    let w3 = c .before .before .before .before .before .before .put-outputs .ensures in
+    let w1 = put-head-of (before-put-outputs2 c) .put-head .ensures in
+    let w2 = put-latches-of (before-put-gates c) .put-latches .ensures in
+    let w3 = put-outputs-of c .put-outputs .ensures in
     let w4 = c .before .before .put-gates .ensures in
     let lats = latchCards (n .L) (a .latches .now) in
     let outs = outputCards (n .O) (a .outputs .now) in
@@ -75,9 +112,19 @@ returns c =
     let l2 = length-append (headCard n) lats in
     let l3 = length-append (headCard n ++ lats) outs in
     let l4 = length-append ((headCard n ++ lats) ++ outs) gs in
-    let e2 = two-parts (a .out .now) _ _ (headCard n) lats 0 (c .before .before .before .before .before .before .before .before .before .before .before .before .before .before .put-head .result) (w1 .1) (omega (arith, w1 .0)) (w2 .1) (omega arith) in
-    let e3 = two-parts (a .out .now) _ _ (headCard n ++ lats) outs 0 (c .before .before .before .before .before .before .before .before .before .before .put-latches .result) e2 (omega (arith, w1 .0, w2 .0)) (w3 .1) (omega arith) in
-    let e4 = two-parts (a .out .now) _ _ ((headCard n ++ lats) ++ outs) gs 0 (c .before .before .before .before .before .before .put-outputs .result) e3 (omega (arith, w1 .0, w2 .0, w3 .0)) (w4 .1)
+    let e2 = two-parts (a .out .now) _ _ (headCard n) lats 0 (put-head-of (before-put-outputs2 c) .put-head .result) (w1 .1) (omega (arith, w1 .0))
+    (w2 .1) (omega arith) in
+    let e3 = two-parts (a .out .now) _ _ (headCard n ++ lats) outs 0 (put-latches-of (before-put-gates c) .put-latches .result) e2 (omega (
+      arith,
+      w1 .0,
+      w2 .0,
+    )) (w3 .1) (omega arith) in
+    let e4 = two-parts (a .out .now) _ _ ((headCard n ++ lats) ++ outs) gs 0 (put-outputs-of c .put-outputs .result) e3 (omega (
+      arith,
+      w1 .0,
+      w2 .0,
+      w3 .0,
+    )) (w4 .1)
     (omega arith) in
     let grouped : ((headCard n ++ lats) ++ outs) ++ gs ≡ headCard n ++ (lats ++ (outs ++ gs))
     = append-assoc (headCard n ++ lats) outs gs ∙ append-assoc (headCard n) lats (outs ++ gs) in
@@ -86,15 +133,5 @@ returns c =
 pub fill-cards-spec : {M : Type 1} → statement M
 fill-cards-spec =
     tie.close
-    (tie.spec
-    cast-put-head
-    cast-put-head-2
-    cast-put-head-3
-    cast-put-head-4
-    cast-put-head-5
-    put-head-requires
-    put-latches-requires
-    put-outputs-requires
-    put-gates-requires
-    same-length
-    returns)
+    (tie.spec cast-put-head cast-put-head-2 cast-put-head-3 cast-put-head-4 cast-put-head-5 put-head-requires
+    put-latches-requires put-outputs-requires put-gates-requires same-length returns)

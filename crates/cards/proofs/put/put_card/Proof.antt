@@ -6,6 +6,13 @@ use borrow.Author.Needs.{needs}
 use Rattle.cards.proofs.put.put_card.Statement.{statement}
 use Rattle.cards.proofs.put.put_card.Tie as tie
 
+-- moments, each named by what happened there
+abbrev put-mark-of : tie.After-slice-known3 → tie.After-put-mark
+put-mark-of c = c .before .before .before .before .before .before
+
+abbrev start-of : tie.After-slice-known3 → tie.Start
+start-of c = put-mark-of c .before .before .before
+
 put-mark-requires : tie.Need-put-mark-requires
 put-mark-requires c κs = search needs
 
@@ -17,12 +24,12 @@ same-length c = search needs
 
 returns : tie.Need-returns
 returns c =
-    let a = c .before .before .before .before .before .before .before .before .before .args in
-    let mark = c .before .before .before .before .before .before .put-mark in
+    let a = start-of c .args in
+    let mark = put-mark-of c .put-mark in
     let number = c .before .before .put-word in (
       omega (arith, number .ensures .0, mark .ensures .0),
       two-parts (a .out .now) _ _ (markBytes (a .letter)) (wordBytes (a .word)) (a .at) _ (mark .ensures .1) (mark .ensures .0) (number .ensures .1)
-          (c .before .before .before .before .before .before .before .before .before .pre),
+          (start-of c .pre),
     )
 
 pub put-card-spec : {M : Type 1} → statement M

@@ -51,7 +51,15 @@ put-word-requires : tie.Need-put-word-requires Inv-loop μ-loop
 put-word-requires c κs =
     let s = c .before .before .before .before .before .before .before .before .loop in
     let d = c .before .before .before .before .before .before .before .before .before .before .before in
-    omega (arith, s .inv .next-is, s .inv .same, gates-size (d .args .gates .now) (s .i), d .pre .0, c .before .before .before .before .put-card .ensures .0, c .before .before .before .out .given)
+    omega (
+      arith,
+      s .inv .next-is,
+      s .inv .same,
+      gates-size (d .args .gates .now) (s .i),
+      d .pre .0,
+      c .before .before .before .before .put-card .ensures .0,
+      c .before .before .before .out .given,
+    )
 
 add-i : tie.Need-add-i Inv-loop μ-loop
 add-i c = search needs
@@ -72,7 +80,8 @@ loop-again c =
     let room = gates-size t (s .i) in
     let both = two-parts (s .out) _ _ (markBytes 65 ++ wordBytes r0) (wordBytes r1) (s .next) _ (first .1) (first .0) (second .1)
     (omega (arith, s .inv .next-is, s .inv .same, room, d .pre .0)) in
-    one-put (a .out .now) (a .at) (λ (k : ℕ). gatesCards k t) (a .n) (s .out) (s .next) (s .i) (s .inv) (c .before .before .before .before .before .before .before .before .before .before .loop-test .taken)
+    one-put (a .out .now) (a .at) (λ (k : ℕ). gatesCards k t) (a .n) (s .out) (s .next) (s .i) (s .inv)
+    (c .before .before .before .before .before .before .before .before .before .before .loop-test .taken)
     (markBytes 65 ++ (wordBytes r0 ++ wordBytes r1)) (gates-more t (s .i)) (omega (arith, gates-size t (s .i + 1), d .pre .0)) _ _ both
     (omega (arith, first .0, second .0)) (c .before .out2 .given ∙ c .before .before .before .before .before .before .out .given)
 
@@ -91,21 +100,6 @@ returns c =
 pub put-gates-spec : {M : Type 1} → statement M
 put-gates-spec =
     tie.close
-    (tie.spec
-    Inv-loop
-    μ-loop
-    loop-holds
-    mul-k
-    add-put-card
-    mul-put-card
-    shared-slice-read-put-card
-    put-card-requires
-    add-put-word
-    mul-put-word
-    shared-slice-read-put-word
-    put-word-requires
-    add-i
-    loop-less
-    loop-again
-    same-length
-    returns)
+    (tie.spec Inv-loop μ-loop loop-holds mul-k add-put-card mul-put-card shared-slice-read-put-card
+    put-card-requires add-put-word mul-put-word shared-slice-read-put-word put-word-requires add-i loop-less
+    loop-again same-length returns)

@@ -52,7 +52,8 @@ loop-again c =
     let t = a .latches .now in
     let bytes = markBytes 76 ++ wordBytes (getD t (2 * s .i + 1) 0) in
     let put = c .before .before .put-card .ensures in
-    one-put (a .out .now) (a .at) (λ (k : ℕ). latchCards k t) (a .n) (s .out) (s .next) (s .i) (s .inv) (c .before .before .before .before .before .loop-test .taken) bytes
+    one-put (a .out .now) (a .at) (λ (k : ℕ). latchCards k t) (a .n) (s .out) (s .next) (s .i) (s .inv)
+    (c .before .before .before .before .before .loop-test .taken) bytes
     (latches-more t (s .i)) (omega (arith, latches-size t (s .i + 1), d .pre .0)) _ _ (put .1) (put .0) (c .before .out .given)
 
 same-length : tie.Need-same-length Inv-loop μ-loop
@@ -70,17 +71,5 @@ returns c =
 pub put-latches-spec : {M : Type 1} → statement M
 put-latches-spec =
     tie.close
-    (tie.spec
-    Inv-loop
-    μ-loop
-    loop-holds
-    mul-put-card
-    add-put-card
-    mul-put-card-2
-    shared-slice-read-put-card
-    put-card-requires
-    add-i
-    loop-less
-    loop-again
-    same-length
-    returns)
+    (tie.spec Inv-loop μ-loop loop-holds mul-put-card add-put-card mul-put-card-2 shared-slice-read-put-card
+    put-card-requires add-i loop-less loop-again same-length returns)

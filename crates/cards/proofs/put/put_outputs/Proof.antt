@@ -46,7 +46,8 @@ loop-again c =
     let t = a .outputs .now in
     let bytes = markBytes 79 ++ wordBytes (getD t (s .i) 0) in
     let put = c .before .before .put-card .ensures in
-    one-put (a .out .now) (a .at) (λ (k : ℕ). outputCards k t) (a .n) (s .out) (s .next) (s .i) (s .inv) (c .before .before .before .before .before .loop-test .taken) bytes
+    one-put (a .out .now) (a .at) (λ (k : ℕ). outputCards k t) (a .n) (s .out) (s .next) (s .i) (s .inv)
+    (c .before .before .before .before .before .loop-test .taken) bytes
     (outputs-more t (s .i) (omega arith)) (omega (arith, outputs-size t (s .i + 1) (omega arith), d .pre .0)) _ _ (put .1) (put .0) (c .before .out .given)
 
 same-length : tie.Need-same-length Inv-loop μ-loop
@@ -64,15 +65,5 @@ returns c =
 pub put-outputs-spec : {M : Type 1} → statement M
 put-outputs-spec =
     tie.close
-    (tie.spec
-    Inv-loop
-    μ-loop
-    loop-holds
-    mul-put-card
-    shared-slice-read-put-card
-    put-card-requires
-    add-i
-    loop-less
-    loop-again
-    same-length
-    returns)
+    (tie.spec Inv-loop μ-loop loop-holds mul-put-card shared-slice-read-put-card put-card-requires add-i
+    loop-less loop-again same-length returns)

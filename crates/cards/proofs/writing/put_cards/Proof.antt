@@ -51,10 +51,4 @@ returns-2 c =
 pub put-cards-spec : {M : Type 1} → statement M
 put-cards-spec =
     tie.close
-    (tie.spec
-    bytes-asked-requires
-    holds-requires
-    returns
-    fill-cards-requires
-    same-length
-    returns-2)
+    (tie.spec bytes-asked-requires holds-requires returns fill-cards-requires same-length returns-2)

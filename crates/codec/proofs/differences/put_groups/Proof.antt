@@ -49,17 +49,5 @@ returns c = (last-end (c .before .loop .inv) (c .loop-test .left), last-group (c
 pub put-groups-spec : {M : Type 1} → statement M
 put-groups-spec =
     tie.close
-    (tie.spec
-    Inv-loop
-    μ-loop
-    loop-holds
-    cast-out
-    slice-write-out
-    add-i
-    loop-less
-    loop-again
-    cast-out-2
-    slice-write-out-2
-    add-result
-    same-length
-    returns)
+    (tie.spec Inv-loop μ-loop loop-holds cast-out slice-write-out add-i loop-less loop-again cast-out-2
+    slice-write-out-2 add-result same-length returns)

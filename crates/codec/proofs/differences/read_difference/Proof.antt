@@ -43,17 +43,20 @@ add-j c = search needs
 returns-4 : tie.Need-returns-4
 returns-4 c =
     let a = c .before .before .before .before .before .before .before .args in
-    sym (bad2 (a .file .now) (a .at) (c .before .before .before .before .before .before .if1 .left) (c .before .before .before .before .if2 .left) (c .before .before .before .if3 .left) (c .if5 .taken))
+    sym (bad2 (a .file .now) (a .at) (c .before .before .before .before .before .before .if1 .left) (c .before .before .before .before .if2 .left)
+    (c .before .before .before .if3 .left) (c .if5 .taken))
 
 returns-5 : tie.Need-returns-5
 returns-5 c =
     let a = c .before .before .before .before .before .before .before .args in
-    sym (value2 (a .file .now) (a .at) (c .before .before .before .before .before .before .if1 .left) (c .before .before .before .before .if2 .left) (c .before .before .before .if3 .left) (c .before .if4 .taken) (c .if5 .left))
+    sym (value2 (a .file .now) (a .at) (c .before .before .before .before .before .before .if1 .left) (c .before .before .before .before .if2 .left)
+    (c .before .before .before .if3 .left) (c .before .if4 .taken) (c .if5 .left))
 
 returns-6 : tie.Need-returns-6
 returns-6 c =
     let a = c .before .before .before .before .before .before .before .args in
-    sym (ends2 (a .file .now) (a .at) (c .before .before .before .before .before .before .if1 .left) (c .before .before .before .before .if2 .left) (c .before .before .before .if3 .left) (c .before .if4 .left) (c .if6 .taken))
+    sym (ends2 (a .file .now) (a .at) (c .before .before .before .before .before .before .if1 .left) (c .before .before .before .before .if2 .left)
+    (c .before .before .before .if3 .left) (c .before .if4 .left) (c .if6 .taken))
 
 shared-slice-read-d : tie.Need-shared-slice-read-d
 shared-slice-read-d c = search needs
@@ -67,37 +70,26 @@ add-k c = search needs
 returns-7 : tie.Need-returns-7
 returns-7 c =
     let a = c .before .before .before .before .before .before .before .before .before .before .args in
-    sym (bad3 (a .file .now) (a .at) (c .before .before .before .before .before .before .before .before .before .if1 .left) (c .before .before .before .before .before .before .before .if2 .left) (c .before .before .before .before .before .before .if3 .left) (c .before .before .before .before .if4 .left) (c .before .before .before .if6 .left) (c .if8 .taken))
+    sym (bad3 (a .file .now) (a .at) (c .before .before .before .before .before .before .before .before .before .if1 .left)
+    (c .before .before .before .before .before .before .before .if2 .left) (c .before .before .before .before .before .before .if3 .left)
+    (c .before .before .before .before .if4 .left) (c .before .before .before .if6 .left) (c .if8 .taken))
 
 returns-8 : tie.Need-returns-8
 returns-8 c =
     let a = c .before .before .before .before .before .before .before .before .before .before .args in
-    sym (value3 (a .file .now) (a .at) (c .before .before .before .before .before .before .before .before .before .if1 .left) (c .before .before .before .before .before .before .before .if2 .left) (c .before .before .before .before .before .before .if3 .left) (c .before .before .before .before .if4 .left) (c .before .before .before .if6 .left) (c .before .if7 .taken) (c .if8 .left))
+    sym (value3 (a .file .now) (a .at) (c .before .before .before .before .before .before .before .before .before .if1 .left)
+    (c .before .before .before .before .before .before .before .if2 .left) (c .before .before .before .before .before .before .if3 .left)
+    (c .before .before .before .before .if4 .left) (c .before .before .before .if6 .left) (c .before .if7 .taken) (c .if8 .left))
 
 returns-9 : tie.Need-returns-9
 returns-9 c =
     let a = c .before .before .before .before .before .before .before .before .before .args in
-    sym (bad4 (a .file .now) (a .at) (c .before .before .before .before .before .before .before .before .if1 .left) (c .before .before .before .before .before .before .if2 .left) (c .before .before .before .before .before .if3 .left) (c .before .before .before .if4 .left) (c .before .before .if6 .left) (c .if7 .left))
+    sym (bad4 (a .file .now) (a .at) (c .before .before .before .before .before .before .before .before .if1 .left)
+    (c .before .before .before .before .before .before .if2 .left) (c .before .before .before .before .before .if3 .left)
+    (c .before .before .before .if4 .left) (c .before .before .if6 .left) (c .if7 .left))
 
 pub read-difference-spec : {M : Type 1} → statement M
 read-difference-spec =
     tie.close
-    (tie.spec
-    returns
-    shared-slice-read-a
-    cast-a
-    add-i
-    returns-2
-    returns-3
-    shared-slice-read-b
-    cast-b
-    add-j
-    returns-4
-    returns-5
-    returns-6
-    shared-slice-read-d
-    cast-d
-    add-k
-    returns-7
-    returns-8
-    returns-9)
+    (tie.spec returns shared-slice-read-a cast-a add-i returns-2 returns-3 shared-slice-read-b cast-b add-j
+    returns-4 returns-5 returns-6 shared-slice-read-d cast-d add-k returns-7 returns-8 returns-9)

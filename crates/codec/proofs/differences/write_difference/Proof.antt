@@ -41,11 +41,5 @@ returns-2 c =
 pub write-difference-spec : {M : Type 1} → statement M
 write-difference-spec =
     tie.close
-    (tie.spec
-    groups-in-requires
-    holds-requires
-    needed-requires
-    returns
-    put-groups-requires
-    same-length
+    (tie.spec groups-in-requires holds-requires needed-requires returns put-groups-requires same-length
     returns-2)

@@ -64,20 +64,5 @@ returns c =
 pub put-digits-spec : {M : Type 1} → statement M
 put-digits-spec =
     tie.close
-    (tie.spec
-    Inv-loop
-    μ-loop
-    digits-in-requires
-    add-end
-    loop-holds
-    sub-i
-    cast-out
-    add-out
-    slice-write-out
-    loop-less
-    loop-again
-    cast-out-2
-    add-out-2
-    slice-write-out-2
-    same-length
-    returns)
+    (tie.spec Inv-loop μ-loop digits-in-requires add-end loop-holds sub-i cast-out add-out slice-write-out
+    loop-less loop-again cast-out-2 add-out-2 slice-write-out-2 same-length returns)

@@ -41,11 +41,5 @@ returns-2 c =
 pub write-number-spec : {M : Type 1} → statement M
 write-number-spec =
     tie.close
-    (tie.spec
-    digits-in-requires
-    holds-requires
-    needed-requires
-    returns
-    put-digits-requires
-    same-length
+    (tie.spec digits-in-requires holds-requires needed-requires returns put-digits-requires same-length
     returns-2)

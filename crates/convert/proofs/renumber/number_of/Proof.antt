@@ -1,3 +1,4 @@
+-- The number of a literal's variable. The answers hold by computing.
 use mathlib.Core.Path.{_≡_, ap, _∙_}
 use native.Mathlib.Omega.{arith}
 use borrow.Author.Needs.{needs}

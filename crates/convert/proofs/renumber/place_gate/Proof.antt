@@ -1,3 +1,4 @@
+-- Gate i goes to the row of its number. The answers are given by `gateAt` and `double-word`.
 use Prim.Native.Nat.{_+_, _*_, _-_, _<_, _≤_, min, max}
 use mathlib.Core.Path.{_≡_, sym, ap, ap₂, _∙_, subst}
 use native.Mathlib.Omega.{arith}
@@ -10,6 +11,22 @@ use Rattle.convert.specs.renumber.Renumbered.{numberIn, literalBy, Known
 use Rattle.convert.proofs.renumber.Literals.{double-word}
 use Rattle.convert.proofs.renumber.place_gate.Statement.{statement}
 use Rattle.convert.proofs.renumber.place_gate.Tie as tie
+
+-- moments, each named by what happened there
+abbrev start-of : tie.After-at → tie.Start
+start-of c = c .before .before .before .before .before
+
+abbrev number-of-of : tie.After-at3 → tie.After-number-of
+number-of-of c = c .before .before .before .before .before
+
+abbrev renumbered2-of : tie.After-word → tie.After-renumbered2
+renumbered2-of c = c .before .before .before
+
+abbrev word-of : tie.After-word2 → tie.After-word
+word-of c = c .before .before
+
+abbrev word-of2 : tie.After-word3 → tie.After-word
+word-of2 c = word-of (c .before .before)
 
 -- the start, and what the table knows of the gate there
 abbrev start : tie.After-number-of → tie.Start
@@ -57,7 +74,7 @@ at-requires c κs = search needs
 
 number-of-requires : tie.Need-number-of-requires
 number-of-requires c κs =
-    let s = c .before .before .before .before .before in
+    let s = start-of c in
     subst (λ l. Known (s .args .t .now) (wordOf l)) (sym (c .at .ensures)) (s .pre .1 .lhs)
 
 mul-at-3 : tie.Need-mul-at-3
@@ -97,7 +114,7 @@ at-requires-3 c κs = search needs
 
 renumbered-requires-2 : tie.Need-renumbered-requires-2
 renumbered-requires-2 c κs =
-    let s = start (c .before .before .before .before .before) in
+    let s = start (number-of-of c) in
     subst (λ l. Known (s .args .t .now) (wordOf l)) (sym (c .at3 .ensures)) (s .pre .1 .rhs1)
 
 cast-k : tie.Need-cast-k
@@ -122,7 +139,7 @@ mul-to : tie.Need-mul-to
 mul-to c = search needs
 
 slice-write-to : tie.Need-slice-write-to
-slice-write-to c = omega (arith, row-ends (c .before .before .before) .1)
+slice-write-to c = omega (arith, row-ends (renumbered2-of c) .1)
 
 larger-requires : tie.Need-larger-requires
 larger-requires c κs = search needs
@@ -137,7 +154,7 @@ mul-to-2 : tie.Need-mul-to-2
 mul-to-2 c = search needs
 
 slice-write-to-2 : tie.Need-slice-write-to-2
-slice-write-to-2 c = simp length-set (omega (arith, row-ends (c .before .before .before .before .before) .1))
+slice-write-to-2 c = simp length-set (omega (arith, row-ends (renumbered2-of (word-of c)) .1))
 
 smaller-requires : tie.Need-smaller-requires
 smaller-requires c κs = search needs
@@ -152,7 +169,7 @@ mul-to-3 : tie.Need-mul-to-3
 mul-to-3 c = search needs
 
 slice-write-to-3 : tie.Need-slice-write-to-3
-slice-write-to-3 c = simp length-set (omega (arith, row-ends (c .before .before .before .before .before .before .before) .1))
+slice-write-to-3 c = simp length-set (omega (arith, row-ends (renumbered2-of (word-of2 c)) .1))
 
 same-length : tie.Need-same-length
 same-length c = search needs
@@ -162,7 +179,7 @@ unfolding gateBy rowOf
 returns c =
     let w2 = c .before .before in
     let w1 = w2 .before .before in
-    let d = w1 .before .before .before in
+    let d = renumbered2-of w1 in
     let n = numbered d in
     let s = start n in
     let t = s .args .t .now in

@@ -1,3 +1,5 @@
+-- Gates in file order, each to its row, so that they stand in the order of their numbers. The loop keeps `Placed gates t first a to₀ to i`; the
+-- measure is `a - i`. `one-placed` carries it from turn to turn, and `all-placed` gives the answer.
 use Prim.Native.Nat.{_-_}
 use native.Mathlib.Omega.{arith}
 use borrow.Author.Needs.{needs}

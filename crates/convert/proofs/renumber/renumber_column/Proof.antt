@@ -1,3 +1,5 @@
+-- The literals of one column of n rows of `stride` words, each under its variable's number. The loop keeps `Written`; the measure is `n - i`.
+-- `one-written` and `next-row` carry it from turn to turn, and `all-written` gives the answer.
 use Prim.Native.Nat.{ℕ, _+_, _-_, _*_, _≤_}
 use mathlib.Core.Path.{_≡_, refl, sym, ap, _∙_, subst}
 use native.Mathlib.Nat.{mul-zero}

@@ -1,3 +1,4 @@
+-- A literal under its variable's number. Each answer is given by `by-number`.
 use mathlib.Core.Path.{ap, _∙_}
 use borrow.Author.Needs.{needs}
 use Rattle.plan.specs.Literals.{varAt, doubled, signedAs}

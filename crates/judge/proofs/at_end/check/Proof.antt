@@ -155,25 +155,6 @@ returns-3 c =
 pub check-spec : {M : Type 1} → statement M
 check-spec =
     tie.close
-    (tie.spec
-    mul-marks
-    sub-marks
-    part-marks-start
-    part-marks-end
-    undefined-requires
-    enum-known-v
-    enum-told
-    needs-no-order-requires
-    same-length
-    returns
-    clear-requires
-    number-leaves-requires
-    add-cycle
-    add-cycle-2
-    cast-cycle
-    add-cycle-3
-    cycle-requires
-    same-length-2
-    returns-2
-    same-length-3
-    returns-3)
+    (tie.spec mul-marks sub-marks part-marks-start part-marks-end undefined-requires enum-known-v enum-told
+    needs-no-order-requires same-length returns clear-requires number-leaves-requires add-cycle add-cycle-2
+    cast-cycle add-cycle-3 cycle-requires same-length-2 returns-2 same-length-3 returns-3)

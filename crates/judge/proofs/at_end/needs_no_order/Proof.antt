@@ -1,3 +1,5 @@
+-- Whether the gates need no order: nobody asks for their numbers, and each uses variables below its own alone. The answer is that of the call below
+-- it.
 use mathlib.Core.Path.{sym, _∙_}
 use mathlib.Core.Bool.{false≢true}
 use borrow.Author.Needs.{needs}

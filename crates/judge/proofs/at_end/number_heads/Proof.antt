@@ -1,3 +1,5 @@
+-- The variables of n rows, of `stride` words of which the first defines, take the numbers from `first` on. The loop keeps what `Inv-loop` says; the
+-- measure is `n - i`. `next-row` and `next-head` carry it from turn to turn.
 use Prim.Native.Nat.{ℕ, _+_, _*_, _-_, _≤_}
 use mathlib.Core.Path.{_≡_, ap, _∙_}
 use native.Mathlib.Omega.{arith}
@@ -101,22 +103,5 @@ returns c =
 pub number-heads-spec : {M : Type 1} → statement M
 number-heads-spec =
     tie.close
-    (tie.spec
-    Inv-loop
-    μ-loop
-    loop-holds
-    mul-at
-    shared-slice-read-at
-    at-requires
-    var-requires
-    index-requires
-    cast-v
-    mul-t
-    slice-write-t
-    add-next
-    add-at
-    add-i
-    loop-less
-    loop-again
-    same-length
-    returns)
+    (tie.spec Inv-loop μ-loop loop-holds mul-at shared-slice-read-at at-requires var-requires index-requires
+    cast-v mul-t slice-write-t add-next add-at add-i loop-less loop-again same-length returns)

@@ -1,3 +1,5 @@
+-- Inputs get the numbers from 1 on, in list order, and latches the next; the constant has 0, and so has what is no leaf (the paper, conversion). Each
+-- answer is given by `leaves-numbered`.
 use native.Mathlib.Omega.{arith}
 use borrow.Author.Needs.{needs}
 use Rattle.judge.proofs.at_end.Leaving.{input-below, latch-below, leaves-numbered}
@@ -35,10 +37,5 @@ returns c =
 pub number-leaves-spec : {M : Type 1} → statement M
 number-leaves-spec =
     tie.close
-    (tie.spec
-    number-heads-requires
-    add-number-heads
-    cast-number-heads
-    number-heads-requires-2
-    same-length
+    (tie.spec number-heads-requires add-number-heads cast-number-heads number-heads-requires-2 same-length
     returns)

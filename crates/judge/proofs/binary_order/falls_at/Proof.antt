@@ -1,3 +1,4 @@
+-- Whether a gate keeps lhs > rhs0 >= rhs1, so that both its differences can be written. The answer is that of the call below it.
 use Prim.Native.Nat.{ℕ}
 use mathlib.Core.Path.{_≡_, refl, sym, ap, ap₂, _∙_}
 use mathlib.Core.Bool.{Bool, true, false, not, _&&_}
@@ -54,11 +55,4 @@ returns-2 c =
 pub falls-at-spec : {M : Type 1} → statement M
 falls-at-spec =
     tie.close
-    (tie.spec
-    at-requires
-    at-requires-2
-    below-requires
-    returns
-    at-requires-3
-    below-requires-2
-    returns-2)
+    (tie.spec at-requires at-requires-2 below-requires returns at-requires-3 below-requires-2 returns-2)

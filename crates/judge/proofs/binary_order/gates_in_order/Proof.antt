@@ -1,3 +1,5 @@
+-- The same of n gates, whose variables run from `first` on: one pass. The loop keeps what `Inv-loop` says; the measure is `n - i`. `test-passes` and
+-- `order-turn` carry it from turn to turn, and `test-fails`, `order-turn` and `orderLeft` give the answer.
 use Prim.Native.Nat.{ℕ, _+_, _*_, _-_, _≤_}
 use mathlib.Core.Path.{_≡_, sym, ap, _∙_}
 use mathlib.Core.Bool.{_&&_}
@@ -103,23 +105,6 @@ returns-2 c =
 pub gates-in-order-spec : {M : Type 1} → statement M
 gates-in-order-spec =
     tie.close
-    (tie.spec
-    Inv-loop
-    μ-loop
-    loop-holds
-    mul-stands-at
-    shared-slice-read-stands-at
-    add-stands-at
-    mul-stands-at-2
-    shared-slice-read-stands-at-2
-    add-stands-at-2
-    mul-stands-at-3
-    shared-slice-read-stands-at-3
-    stands-at-requires
-    returns
-    add-v
-    add-at
-    add-i
-    loop-less
-    loop-again
-    returns-2)
+    (tie.spec Inv-loop μ-loop loop-holds mul-stands-at shared-slice-read-stands-at add-stands-at
+    mul-stands-at-2 shared-slice-read-stands-at-2 add-stands-at-2 mul-stands-at-3
+    shared-slice-read-stands-at-3 stands-at-requires returns add-v add-at add-i loop-less loop-again returns-2)

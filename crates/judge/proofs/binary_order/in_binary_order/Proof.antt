@@ -1,3 +1,4 @@
+-- Outputs, bad states and constraints have no order to keep. The answers are given by `ends-sum`, `ends-inputs` and `ends-latches`.
 use Prim.Native.Nat.{_+_}
 use mathlib.Core.Path.{_≡_, sym, _∙_}
 use mathlib.Core.Bool.{true}
@@ -86,18 +87,5 @@ returns-4 c outputs resets bads constraints =
 pub in-binary-order-spec : {M : Type 1} → statement M
 in-binary-order-spec =
     tie.close
-    (tie.spec
-    add-if1
-    add-if1-2
-    returns
-    runs-on-requires
-    returns-2
-    add-runs-on
-    cast-runs-on
-    runs-on-requires-2
-    returns-3
-    add-gates-in-order
-    add-gates-in-order-2
-    cast-gates-in-order
-    gates-in-order-requires
-    returns-4)
+    (tie.spec add-if1 add-if1-2 returns runs-on-requires returns-2 add-runs-on cast-runs-on runs-on-requires-2
+    returns-3 add-gates-in-order add-gates-in-order-2 cast-gates-in-order gates-in-order-requires returns-4)

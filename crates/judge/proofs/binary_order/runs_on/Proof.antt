@@ -1,3 +1,6 @@
+-- Whether n rows, of `stride` words of which the first defines, define the variables from `first` on, in this order. The loop keeps what `Inv-loop`
+-- says; the measure is `n - i`. `next-row`, `test-passes` and `runs-turn` carry it from turn to turn, and `test-fails`, `runs-turn` and `runsLeft`
+-- give the answer.
 use Prim.Native.Nat.{ℕ, _+_, _*_, _-_, _≤_}
 use mathlib.Core.Path.{_≡_, sym, ap, _∙_}
 use mathlib.Core.Bool.{_&&_}
@@ -92,17 +95,5 @@ returns-2 c =
 pub runs-on-spec : {M : Type 1} → statement M
 runs-on-spec =
     tie.close
-    (tie.spec
-    Inv-loop
-    μ-loop
-    loop-holds
-    mul-stands-for
-    shared-slice-read-stands-for
-    stands-for-requires
-    returns
-    add-v
-    add-at
-    add-i
-    loop-less
-    loop-again
-    returns-2)
+    (tie.spec Inv-loop μ-loop loop-holds mul-stands-for shared-slice-read-stands-for stands-for-requires
+    returns add-v add-at add-i loop-less loop-again returns-2)

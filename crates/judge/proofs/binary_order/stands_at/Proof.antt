@@ -1,3 +1,4 @@
+-- Whether a gate is that of variable v and keeps this. The answers are given by `test-fails` and `test-passes`.
 use mathlib.Core.Path.{refl, sym, _∙_}
 use borrow.Author.Needs.{needs}
 use Rattle.judge.proofs.binary_order.Steps.{test-fails, test-passes}

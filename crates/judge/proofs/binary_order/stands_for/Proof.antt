@@ -1,3 +1,4 @@
+-- Whether a table's word is the literal of variable v. The answer is that of the call below it.
 use Prim.Native.Nat.{ℕ, _<_, _%_}
 use mathlib.Core.Path.{_≡_, ap, ap₂, _∙_}
 use native.Mathlib.Omega.{arith}

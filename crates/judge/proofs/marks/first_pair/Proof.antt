@@ -27,7 +27,11 @@ second c =
     let words : A .a / 32768 ≡ A .a / 1024 / 32 = omega arith in
     subst (λ (m : ℕ). FirstOn (A .t .now) (p2 (A .n) (A .a)) m (c .next-on2 .result)) words
     (first-down (A .t .now) (p2 (A .n) (A .a)) (p3 (A .n) (A .a)) (A .a / 32768) (c .before .next-on .result) (c .next-on2 .result)
-    (P .pre .3 .three) (top (c .before)) (omega (arith, c .before .before .before .before .shared-slice-known .given (p2 (A .n) (A .a) + c .before .next-on .result))) (c .next-on2 .ensures))
+    (P .pre .3 .three) (top (c .before)) (omega (
+      arith,
+      c .before .before .before .before .shared-slice-known .given
+          (p2 (A .n) (A .a) + c .before .next-on .result),
+    )) (c .next-on2 .ensures))
 
 third : (c : tie.After-next-on3) → let P = c .before .before .before .before .before .before in
     FirstOn (P .args .t .now) (p1 (P .args .n) (P .args .a)) (P .args .a / 32 / 32) (c .next-on3 .result)
@@ -37,7 +41,11 @@ third c =
     let words : A .a / 1024 ≡ A .a / 32 / 32 = omega arith in
     subst (λ (m : ℕ). FirstOn (A .t .now) (p1 (A .n) (A .a)) m (c .next-on3 .result)) words
     (first-down (A .t .now) (p1 (A .n) (A .a)) (p2 (A .n) (A .a)) (A .a / 1024) (c .before .next-on2 .result) (c .next-on3 .result)
-    (P .pre .3 .two) (second (c .before)) (omega (arith, c .before .before .before .before .before .shared-slice-known .given (p1 (A .n) (A .a) + c .before .next-on2 .result))) (c .next-on3 .ensures))
+    (P .pre .3 .two) (second (c .before)) (omega (
+      arith,
+      c .before .before .before .before .before .shared-slice-known .given
+          (p1 (A .n) (A .a) + c .before .next-on2 .result),
+    )) (c .next-on3 .ensures))
 
 mul-p : tie.Need-mul-p
 mul-p c = search needs

@@ -60,17 +60,5 @@ returns-2 c = let P = c .before .before .before in
 pub lower-spec : {M : Type 1} → statement M
 lower-spec =
     tie.close
-    (tie.spec
-    add-k
-    mul-t
-    slice-read-t
-    cast-t
-    shl-t
-    mul-t-2
-    slice-write-t
-    mul-if1
-    slice-read-if1
-    same-length
-    returns
-    same-length-2
-    returns-2)
+    (tie.spec add-k mul-t slice-read-t cast-t shl-t mul-t-2 slice-write-t mul-if1 slice-read-if1 same-length
+    returns same-length-2 returns-2)

@@ -63,18 +63,5 @@ returns c = let c2 = c .before .before in
 pub mark-spec : {M : Type 1} → statement M
 mark-spec =
     tie.close
-    (tie.spec
-    mul-p
-    add-p
-    add-q
-    add-q-2
-    add-r
-    add-r-2
-    add-s
-    add-s-2
-    raise-requires
-    raise-requires-2
-    raise-requires-3
-    raise-requires-4
-    same-length
-    returns)
+    (tie.spec mul-p add-p add-q add-q-2 add-r add-r-2 add-s add-s-2 raise-requires raise-requires-2
+    raise-requires-3 raise-requires-4 same-length returns)

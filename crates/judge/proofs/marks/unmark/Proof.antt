@@ -58,18 +58,5 @@ returns c = let c2 = c .before .before in
 pub unmark-spec : {M : Type 1} → statement M
 unmark-spec =
     tie.close
-    (tie.spec
-    mul-p
-    add-p
-    add-q
-    add-q-2
-    add-r
-    add-r-2
-    add-s
-    add-s-2
-    lower-requires
-    lower-requires-2
-    lower-requires-3
-    lower-requires-4
-    same-length
-    returns)
+    (tie.spec mul-p add-p add-q add-q-2 add-r add-r-2 add-s add-s-2 lower-requires lower-requires-2
+    lower-requires-3 lower-requires-4 same-length returns)

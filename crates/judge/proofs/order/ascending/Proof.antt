@@ -111,27 +111,7 @@ returns-3 c =
 pub ascending-spec : {M : Type 1} → statement M
 ascending-spec =
     tie.close
-    (tie.spec
-    Inv-loop
-    μ-loop
-    loop-holds
-    mul-var-of
-    mul-var-of-2
-    shared-slice-read-var-of
-    var-of-requires
-    mul-var-of-3
-    add-var-of
-    mul-var-of-4
-    shared-slice-read-var-of-2
-    var-of-requires-2
-    returns
-    mul-var-of-5
-    add-var-of-2
-    mul-var-of-6
-    shared-slice-read-var-of-3
-    var-of-requires-3
-    returns-2
-    add-i
-    loop-less
-    loop-again
-    returns-3)
+    (tie.spec Inv-loop μ-loop loop-holds mul-var-of mul-var-of-2 shared-slice-read-var-of var-of-requires
+    mul-var-of-3 add-var-of mul-var-of-4 shared-slice-read-var-of-2 var-of-requires-2 returns mul-var-of-5
+    add-var-of-2 mul-var-of-6 shared-slice-read-var-of-3 var-of-requires-3 returns-2 add-i loop-less
+    loop-again returns-3)

@@ -93,14 +93,5 @@ returns-2 c = let f = c .before .before in
 pub cycle-spec : {M : Type 1} → statement M
 cycle-spec =
     tie.close
-    (tie.spec
-    number-requires
-    same-length
-    returns
-    first-out-requires
-    mul-var-of
-    mul-var-of-2
-    shared-slice-read-var-of
-    var-of-requires
-    same-length-2
-    returns-2)
+    (tie.spec number-requires same-length returns first-out-requires mul-var-of mul-var-of-2
+    shared-slice-read-var-of var-of-requires same-length-2 returns-2)

@@ -58,16 +58,5 @@ returns-2 c = record { within = omega arith; before = λ i h. c .before .loop .i
 pub first-out-spec : {M : Type 1} → statement M
 first-out-spec =
     tie.close
-    (tie.spec
-    Inv-loop
-    μ-loop
-    loop-holds
-    mul-numbered
-    mul-numbered-2
-    shared-slice-read-numbered
-    numbered-requires
-    returns
-    add-i
-    loop-less
-    loop-again
-    returns-2)
+    (tie.spec Inv-loop μ-loop loop-holds mul-numbered mul-numbered-2 shared-slice-read-numbered
+    numbered-requires returns add-i loop-less loop-again returns-2)

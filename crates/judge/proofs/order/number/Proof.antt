@@ -80,10 +80,4 @@ returns c = let c6 = c .before .before .before .before .before .before in
 pub number-spec : {M : Type 1} → statement M
 number-spec =
     tie.close
-    (tie.spec
-    name-all-requires
-    hang-all-requires
-    assign-requires
-    settle-requires
-    same-length
-    returns)
+    (tie.spec name-all-requires hang-all-requires assign-requires settle-requires same-length returns)

@@ -1,3 +1,4 @@
+-- The first of tables 1 to 4 with a literal out of its range, or 0. The answers are given by `table1`, `table2` and `table3`.
 use mathlib.Core.Path.{_≡_, sym, _∙_}
 use mathlib.Core.Bool.{true, false}
 use native.Mathlib.Omega.{arith}
@@ -84,14 +85,5 @@ returns-5 c =
 pub first-tables-spec : {M : Type 1} → statement M
 first-tables-spec =
     tie.close
-    (tie.spec
-    cast-m
-    known-within-requires
-    returns
-    rows-within-requires
-    returns-2
-    rows-within-requires-2
-    returns-3
-    known-within-requires-2
-    returns-4
-    returns-5)
+    (tie.spec cast-m known-within-requires returns rows-within-requires returns-2 rows-within-requires-2
+    returns-3 known-within-requires-2 returns-4 returns-5)

@@ -1,3 +1,4 @@
+-- The same, unless it is known. All that is left is found by search.
 use mathlib.Core.Path.{sym}
 use borrow.Author.Needs.{needs}
 use Rattle.judge.proofs.ranges.known_within.Statement.{statement}

@@ -1,3 +1,4 @@
+-- The first of tables 7 to 9 with a reset that is none or a literal out of its range, or 0. The answers are given by `table7`, `table8` and `table9`.
 use borrow.Author.Needs.{needs}
 use mathlib.Core.Path.{_≡_, sym, _∙_}
 use mathlib.Core.Bool.{true, false}
@@ -60,12 +61,5 @@ returns-4 c =
 pub last-tables-spec : {M : Type 1} → statement M
 last-tables-spec =
     tie.close
-    (tie.spec
-    cast-m
-    resets-within-requires
-    returns
-    rows-within-requires
-    returns-2
-    rows-within-requires-2
-    returns-3
-    returns-4)
+    (tie.spec cast-m resets-within-requires returns rows-within-requires returns-2 rows-within-requires-2
+    returns-3 returns-4)

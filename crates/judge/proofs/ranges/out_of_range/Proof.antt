@@ -1,3 +1,5 @@
+-- The first of the tables with a literal out of its range, or 0, in the order of their numbers. The answers are given by `some-table`, `by-first` and
+-- `by-last`.
 use borrow.Author.Needs.{needs}
 use mathlib.Core.Path.{_∙_}
 use Rattle.plan.specs.Circuit.{Circuit}

@@ -1,3 +1,5 @@
+-- Whether the first n latches have a reset each. The loop keeps what `Inv-loop` says; the measure is `left`. `reset-inside` carries it from turn to
+-- turn, and `reset-outside` and `resetsFrom` give the answer.
 use Prim.Native.Nat.{ℕ, _+_, _*_, _≤_}
 use mathlib.Core.Path.{_≡_, refl, sym, ap, _∙_}
 use native.Mathlib.Omega.{arith}
@@ -74,19 +76,6 @@ returns-2 c =
 pub resets-within-spec : {M : Type 1} → statement M
 resets-within-spec =
     tie.close
-    (tie.spec
-    Inv-loop
-    μ-loop
-    loop-holds
-    mul-is-reset
-    shared-slice-read-is-reset
-    mul-is-reset-2
-    shared-slice-read-is-reset-2
-    is-reset-requires
-    returns
-    add-at
-    add-i
-    sub-left
-    loop-less
-    loop-again
+    (tie.spec Inv-loop μ-loop loop-holds mul-is-reset shared-slice-read-is-reset mul-is-reset-2
+    shared-slice-read-is-reset-2 is-reset-requires returns add-at add-i sub-left loop-less loop-again
     returns-2)

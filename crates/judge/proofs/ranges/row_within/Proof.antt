@@ -1,3 +1,5 @@
+-- Whether the k words of the row that starts at `start` are in their ranges. The loop keeps what `Inv-loop` says; the measure is `left`.
+-- `word-inside` carries it from turn to turn, and `word-outside` gives the answer.
 use Prim.Native.Nat.{ℕ, _+_, _≤_}
 use mathlib.Core.Path.{_≡_, refl, sym, ap, _∙_}
 use native.Mathlib.Omega.{arith}
@@ -67,16 +69,5 @@ returns-2 c =
 pub row-within-spec : {M : Type 1} → statement M
 row-within-spec =
     tie.close
-    (tie.spec
-    Inv-loop
-    μ-loop
-    loop-holds
-    mul-word-within
-    shared-slice-read-word-within
-    word-within-requires
-    returns
-    add-at
-    sub-left
-    loop-less
-    loop-again
-    returns-2)
+    (tie.spec Inv-loop μ-loop loop-holds mul-word-within shared-slice-read-word-within word-within-requires
+    returns add-at sub-left loop-less loop-again returns-2)

@@ -1,3 +1,5 @@
+-- Whether the first n rows of k words are in their ranges, the first word of each as one that defines or not. The loop keeps what `Inv-loop` says;
+-- the measure is `left`. `row-room` and `row-inside` carry it from turn to turn, and `row-outside` gives the answer.
 use Prim.Native.Nat.{ℕ, _+_, _*_, _-_, _≤_}
 use mathlib.Core.Path.{_≡_, refl, sym, ap, _∙_}
 use native.Mathlib.Omega.{arith}
@@ -68,14 +70,5 @@ returns-2 c =
 pub rows-within-spec : {M : Type 1} → statement M
 rows-within-spec =
     tie.close
-    (tie.spec
-    Inv-loop
-    μ-loop
-    loop-holds
-    row-within-requires
-    returns
-    add-at
-    sub-left
-    loop-less
-    loop-again
+    (tie.spec Inv-loop μ-loop loop-holds row-within-requires returns add-at sub-left loop-less loop-again
     returns-2)

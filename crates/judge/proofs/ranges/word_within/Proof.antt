@@ -1,3 +1,4 @@
+-- Whether a table's word is in its range. The answer is that of the call below it.
 use borrow.Author.Needs.{needs}
 use mathlib.Core.Path.{ap, _∙_}
 use Rattle.plan.specs.declared.Lit.{Lit}

@@ -1,3 +1,4 @@
+-- Whether a refusal of given tables comes before 4 at table 6: 2, 3, and 4 at a table below it. The answer is that of the call below it.
 use Prim.Native.Nat.{ℕ}
 use mathlib.Core.Path.{_≡_, sym, ap, _∙_}
 use mathlib.Core.Bool.{Bool, cond}

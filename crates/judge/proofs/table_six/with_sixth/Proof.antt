@@ -1,3 +1,4 @@
+-- The answer of `given::judge_in_order` or `check_in_order`, with table 6, which is too short or not. The answer is that of the call below it.
 use mathlib.Core.Path.{_≡_, sym, ap, ap₂, _∙_}
 use mathlib.Core.Bool.{Bool, true, false, cond}
 use borrow.Author.Needs.{needs}
@@ -37,27 +38,23 @@ returns-2 : tie.Need-returns-2
 returns-2 c =
     let d = c .before .before .before in
     let a = d .before .before .before .args in
-    refused (a .answer) (a .short) (d .answer .given .0 .0) (c .before .before-sixth .result) true (not-false (a .short) (d .before .before .if1 .left)) (d .answer .given .1)
+    refused (a .answer) (a .short) (d .answer .given .0 .0) (c .before .before-sixth .result) true
+    (not-false (a .short) (d .before .before .if1 .left)) (d .answer .given .1)
     (c .before .before-sixth .ensures) (c .if2 .taken)
 
 returns-3 : tie.Need-returns-3
-returns-3 c = let a = c .before .before .before .args in good (a .answer) (a .short) (not-false (a .short) (c .before .before .if1 .left)) (c .enum-told .given .1)
+returns-3 c = let a = c .before .before .before .args in good (a .answer) (a .short) (not-false (a .short) (c .before .before .if1 .left))
+    (c .enum-told .given .1)
 
 returns-4 : tie.Need-returns-4
 returns-4 c =
     let d = c .before .before .before in
     let a = d .before .before .before .args in
-    refused (a .answer) (a .short) (d .answer .given .0 .0) (c .before .before-sixth .result) false (not-false (a .short) (d .before .before .if1 .left)) (d .answer .given .1)
+    refused (a .answer) (a .short) (d .answer .given .0 .0) (c .before .before-sixth .result) false
+    (not-false (a .short) (d .before .before .if1 .left)) (d .answer .given .1)
     (c .before .before-sixth .ensures) (c .if2 .left)
 
 pub with-sixth-spec : {M : Type 1} → statement M
 with-sixth-spec =
     tie.close
-    (tie.spec
-    returns
-    enum-told
-    enum-known-answer
-    before-sixth-requires
-    returns-2
-    returns-3
-    returns-4)
+    (tie.spec returns enum-told enum-known-answer before-sixth-requires returns-2 returns-3 returns-4)

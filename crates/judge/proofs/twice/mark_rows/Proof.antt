@@ -1,3 +1,5 @@
+-- Marks the variables of n rows, of `stride` words of which the first defines; whether one was marked already. The loop keeps `Loop table stride n
+-- marks₀ marks at i`; the measure is `n - i`. `turns` and `var-at` carry it from turn to turn, and `stops`, `var-at` and `ends` give the answer.
 use Prim.Native.Nat.{_+_, _-_, _<_, _≤_}
 use mathlib.Core.Path.{_≡_, sym, ap, _∙_}
 use native.Mathlib.Omega.{arith}
@@ -28,7 +30,8 @@ room c =
 
 -- the variable of this turn, which has a mark
 var-is : (c : tie.After-index Inv-loop μ-loop)
-    → let t = c .before .before .before .before .before in c .index .result ≡ headAt (t .before .before .before .args .table .now) (t .before .before .before .args .stride) (t .loop .i)
+    → let t = c .before .before .before .before .before in c .index .result
+    ≡ headAt (t .before .before .before .args .table .now) (t .before .before .before .args .stride) (t .loop .i)
 var-is c =
     var-at (c .before .before .before .before .before .loop .inv) (c .index .result)
     (c .index .ensures ∙ ap indexOf (c .before .var .ensures ∙ ap halved (c .before .before .at .ensures)))
@@ -69,7 +72,8 @@ returns : tie.Need-returns Inv-loop μ-loop
 returns c =
     let d = c .before .before .before in
     let w = d .before .before .before .before .before .loop in
-    stops (w .inv) (d .index .result) (var-is d) (d .before .before .before .before .loop-test .taken) (sym (c .before .is-on .ensures) ∙ c .if1 .taken) (w .marks)
+    stops (w .inv) (d .index .result) (var-is d) (d .before .before .before .before .loop-test .taken)
+    (sym (c .before .is-on .ensures) ∙ c .if1 .taken) (w .marks)
 
 raise-requires : tie.Need-raise-requires Inv-loop μ-loop
 raise-requires c κs = omega (arith, in-marks (c .before .before .before .before))
@@ -101,23 +105,6 @@ returns-2 c = ends (c .before .loop .inv) (omega arith)
 pub mark-rows-spec : {M : Type 1} → statement M
 mark-rows-spec =
     tie.close
-    (tie.spec
-    Inv-loop
-    μ-loop
-    loop-holds
-    mul-at
-    shared-slice-read-at
-    at-requires
-    var-requires
-    index-requires
-    cast-v
-    is-on-requires
-    same-length
-    returns
-    raise-requires
-    add-at
-    add-i
-    loop-less
-    loop-again
-    same-length-2
+    (tie.spec Inv-loop μ-loop loop-holds mul-at shared-slice-read-at at-requires var-requires index-requires
+    cast-v is-on-requires same-length returns raise-requires add-at add-i loop-less loop-again same-length-2
     returns-2)

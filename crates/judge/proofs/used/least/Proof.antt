@@ -1,3 +1,5 @@
+-- The same over n words of a table, from `start` on by `stride`. The loop keeps what `Inv-loop` says; the measure is `n - i`. `next-word` and
+-- `next-low` carry it from turn to turn.
 use Prim.Native.Nat.{ℕ, _+_, _*_, _-_, _≤_}
 use mathlib.Core.Path.{_≡_, ap, _∙_}
 use native.Mathlib.Omega.{arith}
@@ -69,15 +71,5 @@ returns c =
 pub least-spec : {M : Type 1} → statement M
 least-spec =
     tie.close
-    (tie.spec
-    Inv-loop
-    μ-loop
-    loop-holds
-    mul-lower
-    shared-slice-read-lower
-    lower-requires
-    add-at
-    add-i
-    loop-less
-    loop-again
-    returns)
+    (tie.spec Inv-loop μ-loop loop-holds mul-lower shared-slice-read-lower lower-requires add-at add-i
+    loop-less loop-again returns)

@@ -1,3 +1,4 @@
+-- The same over outputs, bad states and constraints, which are observed. Each answer is given by `observed-walked`.
 use native.Mathlib.Omega.{arith}
 use Rattle.judge.proofs.used.Walked.{word-in-marks, observed-walked}
 use Rattle.judge.proofs.used.least_observed.Statement.{statement}

@@ -1,3 +1,5 @@
+-- The same over both right sides of n gates. The loop keeps `(i ≤ n) × (low ≡ lowest marks before (rights (gatesAt gates i)))`; the measure is `n -
+-- i`. `next-right` carries it from turn to turn, and `gatesAt` gives the answer.
 use Prim.Native.Nat.{ℕ, _-_, _≤_}
 use mathlib.Core.Path.{_≡_, ap, _∙_}
 use native.Mathlib.Omega.{arith}
@@ -60,8 +62,11 @@ loop-again : tie.Need-loop-again Inv-loop μ-loop
 loop-again c =
     let t = c .before .before .before .before in
     let a = t .before .before .before .before .args in
-    let w = t .before .loop in
-    (omega arith, next-right (a .gates .now) (a .marks .now) (a .before) (w .low) (w .i) _ _ (w .inv .1) (c .before .before .lower .ensures) (c .lower2 .ensures))
+    let w = t .before .loop in (
+      omega arith,
+      next-right (a .gates .now) (a .marks .now) (a .before) (w .low) (w .i) _ _ (w .inv .1) (c .before .before .lower .ensures)
+          (c .lower2 .ensures),
+    )
 
 returns : tie.Need-returns Inv-loop μ-loop
 returns c =
@@ -73,21 +78,6 @@ returns c =
 pub least-right-spec : {M : Type 1} → statement M
 least-right-spec =
     tie.close
-    (tie.spec
-    Inv-loop
-    μ-loop
-    loop-holds
-    mul-lower
-    add-lower
-    mul-lower-2
-    shared-slice-read-lower
-    lower-requires
-    mul-lower-3
-    add-lower-2
-    mul-lower-4
-    shared-slice-read-lower-2
-    lower-requires-2
-    add-i
-    loop-less
-    loop-again
-    returns)
+    (tie.spec Inv-loop μ-loop loop-holds mul-lower add-lower mul-lower-2 shared-slice-read-lower
+    lower-requires mul-lower-3 add-lower-2 mul-lower-4 shared-slice-read-lower-2 lower-requires-2 add-i
+    loop-less loop-again returns)

@@ -1,3 +1,4 @@
+-- The least so far, or the variable of a used literal below it that has no mark. The answer is that of the call below it.
 use Prim.Native.Nat.{ℕ, min}
 use mathlib.Core.Path.{_≡_, refl, sym, _∙_}
 use mathlib.Core.Bool.{Bool, true, false, cond, _||_}

@@ -1,3 +1,5 @@
+-- The least variable of a next state, of what is observed or of a right side that is not defined, from marks of those that are. The answers are given
+-- by `nothing-missing` and `one-missing`.
 use borrow.Author.Needs.{needs}
 use native.Mathlib.Omega.{arith}
 use Rattle.judge.proofs.used.Walked.{nothing-missing, one-missing}
@@ -50,12 +52,5 @@ returns-2 c =
 pub undefined-spec : {M : Type 1} → statement M
 undefined-spec =
     tie.close
-    (tie.spec
-    cast-m
-    add-none
-    least-requires
-    least-observed-requires
-    least-right-requires
-    returns
-    cast-t14
+    (tie.spec cast-m add-none least-requires least-observed-requires least-right-requires returns cast-t14
     returns-2)

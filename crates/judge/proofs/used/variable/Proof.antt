@@ -1,3 +1,4 @@
+-- The variable of a table's word. The answer is that of the call below it.
 use borrow.Author.Needs.{needs}
 use mathlib.Core.Path.{ap, _∙_}
 use Rattle.plan.specs.Literals.{indexOf, halved}

@@ -72,15 +72,5 @@ returns-3 c =
 pub gate-at-spec : {M : Type 1} → statement M
 gate-at-spec =
     tie.close
-    (tie.spec
-    at-requires
-    lit-requires
-    taken-requires
-    enum-known-r
-    enum-known-rhs0
-    taken-requires-2
-    enum-known-r-2
-    enum-known-rhs1
-    returns
-    returns-2
-    returns-3)
+    (tie.spec at-requires lit-requires taken-requires enum-known-r enum-known-rhs0 taken-requires-2
+    enum-known-r-2 enum-known-rhs1 returns returns-2 returns-3)

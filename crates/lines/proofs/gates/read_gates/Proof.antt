@@ -65,20 +65,6 @@ returns-2 c =
 pub read-gates-spec : {M : Type 1} → statement M
 read-gates-spec =
     tie.close
-    (tie.spec
-    read-run-requires
-    enum-known-read
-    enum-told
-    same-length
-    returns
-    cast-read-run
-    add-read-run
-    sub-read-run
-    mul-read-run
-    mul-read-run-2
-    sub-read-run-2
-    part-read-run-start
-    part-read-run-end
-    read-run-requires-2
-    same-length-2
-    returns-2)
+    (tie.spec read-run-requires enum-known-read enum-told same-length returns cast-read-run add-read-run
+    sub-read-run mul-read-run mul-read-run-2 sub-read-run-2 part-read-run-start part-read-run-end
+    read-run-requires-2 same-length-2 returns-2)

@@ -112,31 +112,7 @@ returns-2 c =
 pub read-run-spec : {M : Type 1} → statement M
 read-run-spec =
     tie.close
-    (tie.spec
-    Inv-loop
-    μ-loop
-    loop-holds
-    cast-gate-at
-    add-gate-at
-    gate-at-requires
-    enum-known-r
-    same-length
-    returns
-    enum-known-lhs
-    mul-k
-    word-requires
-    mul-table
-    slice-write-table
-    word-requires-2
-    add-table
-    mul-table-2
-    slice-write-table-2
-    word-requires-3
-    add-table-2
-    mul-table-3
-    slice-write-table-3
-    add-i
-    loop-less
-    loop-again
-    same-length-2
-    returns-2)
+    (tie.spec Inv-loop μ-loop loop-holds cast-gate-at add-gate-at gate-at-requires enum-known-r same-length
+    returns enum-known-lhs mul-k word-requires mul-table slice-write-table word-requires-2 add-table
+    mul-table-2 slice-write-table-2 word-requires-3 add-table-2 mul-table-3 slice-write-table-3 add-i
+    loop-less loop-again same-length-2 returns-2)

@@ -66,19 +66,5 @@ returns c =
 pub run-on-spec : {M : Type 1} → statement M
 run-on-spec =
     tie.close
-    (tie.spec
-    Inv-loop
-    μ-loop
-    loop-holds
-    cast-at
-    add-at
-    at-requires
-    lit-requires
-    word-requires
-    mul-table
-    slice-write-table
-    add-i
-    loop-less
-    loop-again
-    same-length
-    returns)
+    (tie.spec Inv-loop μ-loop loop-holds cast-at add-at at-requires lit-requires word-requires mul-table
+    slice-write-table add-i loop-less loop-again same-length returns)

@@ -86,25 +86,6 @@ returns c =
 pub spread-spec : {M : Type 1} → statement M
 spread-spec =
     tie.close
-    (tie.spec
-    Inv-loop
-    μ-loop
-    loop-holds
-    sub-i
-    mul-k
-    mul-table
-    slice-read-table
-    add-table
-    mul-table-2
-    slice-write-table
-    cast-at
-    add-at
-    at-requires
-    lit-requires
-    word-requires
-    mul-table-3
-    slice-write-table-2
-    loop-less
-    loop-again
-    same-length
-    returns)
+    (tie.spec Inv-loop μ-loop loop-holds sub-i mul-k mul-table slice-read-table add-table mul-table-2
+    slice-write-table cast-at add-at at-requires lit-requires word-requires mul-table-3 slice-write-table-2
+    loop-less loop-again same-length returns)

@@ -75,15 +75,5 @@ returns-5 c =
 pub taken-spec : {M : Type 1} → statement M
 taken-spec =
     tie.close
-    (tie.spec
-    read-difference-requires
-    enum-known-place
-    enum-known-place-2
-    enum-known-d
-    returns
-    word-requires
-    returns-2
-    down-requires
-    returns-3
-    returns-4
-    returns-5)
+    (tie.spec read-difference-requires enum-known-place enum-known-place-2 enum-known-d returns word-requires
+    returns-2 down-requires returns-3 returns-4 returns-5)

@@ -1,3 +1,5 @@
+-- The first of nine counts, from one on, that is above a limit; 9 if none is. The loop keeps `(i ≤ 9) × (from ≤ i) × ((k : ℕ) → from ≤ k → k < i →
+-- getD words k 0 ≤ limit)`; the measure is `9 - i`. `more-passed` carries it from turn to turn.
 use Prim.Native.Nat.{ℕ, _-_, _≤_, _<_}
 use native.Mathlib.Omega.{arith}
 use borrow.Author.Needs.{needs}
@@ -44,14 +46,5 @@ returns-2 c =
 pub first-above-spec : {M : Type 1} → statement M
 first-above-spec =
     tie.close
-    (tie.spec
-    Inv-loop
-    μ-loop
-    loop-holds
-    mul-if1
-    element-copy-out-if1
-    returns
-    add-i
-    loop-less
-    loop-again
+    (tie.spec Inv-loop μ-loop loop-holds mul-if1 element-copy-out-if1 returns add-i loop-less loop-again
     returns-2)

@@ -1,3 +1,5 @@
+-- The counts by the reader of a line of numbers, those left off being 0: by 1, then 2, then 21 for J and F, then 3. The answers are given by `large`,
+-- `line-read` and `just`.
 use Prim.Native.Nat.{ℕ, _≤_}
 use mathlib.Core.Path.{sym, _∙_}
 use native.Mathlib.Omega.{arith}
@@ -13,16 +15,21 @@ use Rattle.lines.proofs.header.read_counts.Tie as tie
 
 line : (c : tie.After-known-told2) →
     let a = c .before .before .before .before .before .before .before .before .before .before .args in
-    Line (a .version) (a .file .now) (c .before .before .before .before .before .read-numbers .last .1 .1 .1 .1 .0) (c .before .before .before .before .before .read-numbers .last .1 .1 .1 .1 .1 .0) (c .before .next .given .0 .0)
+    Line (a .version) (a .file .now) (c .before .before .before .before .before .read-numbers .last .1 .1 .1 .1 .0)
+    (c .before .before .before .before .before .read-numbers .last .1 .1 .1 .1 .1 .0) (c .before .next .given .0 .0)
 line c =
     let a = c .before .before .before .before .before .before .before .before .before .before .args in
     let r = c .before .before .before .before .before .read-numbers in
-    line-read (a .version) (a .file .now) _ _ _ _ (c .before .before .before .before .before .before .before .before .more-counts .ensures) (sym (c .before .next .given .1) ∙ r .ensures .0) (r .ensures .1)
+    line-read (a .version) (a .file .now) _ _ _ _ (c .before .before .before .before .before .before .before .before .more-counts .ensures)
+    (sym (c .before .next .given .1) ∙ r .ensures .0) (r .ensures .1)
 
-small : (c : tie.Else2) (k : ℕ) → getD (c .before .before .before .before .before .before .before .before .before .before .before .read-numbers .last .1 .1 .1 .1 .0) k 0 ≤ most
+small : (c : tie.Else2) (k : ℕ) → getD (c .before .before .before .before .before .before .before .before .before .before .before .read-numbers .last
+    .1 .1 .1 .1 .0) k 0 ≤ most
 small c k =
     let a = c .before .before .before .before .before .before .before .before .before .before .before .before .before .before .before .before .args in
-    counts-small (a .version) (a .file .now) (line (c .before .before .before .before .before .before)) _ (c .before .before .before .before .first-above .ensures) (c .before .before .before .if1 .left) _ (c .before .first-above2 .ensures) (c .if2 .left) k
+    counts-small (a .version) (a .file .now) (line (c .before .before .before .before .before .before)) _
+    (c .before .before .before .before .first-above .ensures) (c .before .before .before .if1 .left) _ (c .before .first-above2 .ensures)
+    (c .if2 .left) k
 
 more-counts-requires : tie.Need-more-counts-requires
 more-counts-requires c κs = search needs
@@ -59,7 +66,8 @@ array-read-t28 c = search needs
 
 returns : tie.Need-returns
 returns c =
-    let a = c .before .before .before .before .before .before .before .before .before .before .before .before .before .args in large (a .version) (a .file .now) (line (c .before .before .before)) (formOf (a .binary)) _ (c .before .first-above .ensures) (c .if1 .taken)
+    let a = c .before .before .before .before .before .before .before .before .before .before .before .before .before .args in large (a .version)
+    (a .file .now) (line (c .before .before .before)) (formOf (a .binary)) _ (c .before .first-above .ensures) (c .if1 .taken)
 
 first-above-requires-2 : tie.Need-first-above-requires-2
 first-above-requires-2 c κs = search needs
@@ -73,7 +81,9 @@ array-read-t34 c = search needs
 returns-2 : tie.Need-returns-2
 returns-2 c =
     let a = c .before .before .before .before .before .before .before .before .before .before .before .before .before .before .before .before .args in
-    just (a .version) (a .file .now) (line (c .before .before .before .before .before .before)) _ (c .before .before .before .before .first-above .ensures) (c .before .before .before .if1 .left) (formOf (a .binary)) _ (c .before .first-above2 .ensures) (c .if2 .taken)
+    just (a .version) (a .file .now) (line (c .before .before .before .before .before .before)) _
+    (c .before .before .before .before .first-above .ensures) (c .before .before .before .if1 .left) (formOf (a .binary)) _
+    (c .before .first-above2 .ensures) (c .if2 .taken)
 
 array-read-m : tie.Need-array-read-m
 array-read-m c = search needs
@@ -110,8 +120,11 @@ adds-up-requires c κs = search needs
 
 returns-3 : tie.Need-returns-3
 returns-3 c =
-    let a = c .before .before .before .before .before .before .before .before .before .before .before .before .before .before .before .before .before .before .args in
-    sum-wrong (a .version) (a .file .now) (line (c .before .before .before .before .before .before .before .before)) _ (c .before .before .before .before .before .before .first-above .ensures) (c .before .before .before .before .before .if1 .left) _ (c .before .before .before .first-above2 .ensures) (c .before .before .if2 .left) (a .binary)
+    let a = c .before .before .before .before .before .before .before .before .before .before .before .before .before .before .before .before .before
+    .before .args in
+    sum-wrong (a .version) (a .file .now) (line (c .before .before .before .before .before .before .before .before)) _
+    (c .before .before .before .before .before .before .first-above .ensures) (c .before .before .before .before .before .if1 .left) _
+    (c .before .before .before .first-above2 .ensures) (c .before .before .if2 .left) (a .binary)
     (sym (c .before .adds-up .ensures) ∙ not-true _ (c .if3 .taken))
 
 array-read-t38 : tie.Need-array-read-t38
@@ -134,50 +147,24 @@ cast-t57 c = omega (arith, small (c .before .before) 6)
 
 returns-4 : tie.Need-returns-4
 returns-4 c =
-    let a = c .before .before .before .before .before .before .before .before .before .before .args in stops (a .version) (a .file .now) (formOf (a .binary)) _ _ (c .before .before .before .before .before .before .before .before .more-counts .ensures) (sym (c .before .r .given .1) ∙ c .before .before .before .before .before .read-numbers .ensures .0)
+    let a = c .before .before .before .before .before .before .before .before .before .before .args in stops (a .version) (a .file .now)
+    (formOf (a .binary)) _ _ (c .before .before .before .before .before .before .before .before .more-counts .ensures)
+    (sym (c .before .r .given .1) ∙ c .before .before .before .before .before .read-numbers .ensures .0)
 
 returns-5 : tie.Need-returns-5
 returns-5 c =
-    let a = c .before .before .before .before .before .before .before .before .before .before .before .before .before .before .before .before .before .before .args in
-    sum-right (a .version) (a .file .now) (line (c .before .before .before .before .before .before .before .before)) _ (c .before .before .before .before .before .before .first-above .ensures) (c .before .before .before .before .before .if1 .left) _ (c .before .before .before .first-above2 .ensures) (c .before .before .if2 .left) (a .binary)
+    let a = c .before .before .before .before .before .before .before .before .before .before .before .before .before .before .before .before .before
+    .before .args in
+    sum-right (a .version) (a .file .now) (line (c .before .before .before .before .before .before .before .before)) _
+    (c .before .before .before .before .before .before .first-above .ensures) (c .before .before .before .before .before .if1 .left) _
+    (c .before .before .before .first-above2 .ensures) (c .before .before .if2 .left) (a .binary)
     (sym (c .before .adds-up .ensures) ∙ not-false _ (c .if3 .left))
 
 pub read-counts-spec : {M : Type 1} → statement M
 read-counts-spec =
     tie.close
-    (tie.spec
-    more-counts-requires
-    add-read-numbers
-    slice-aggregate-read-numbers
-    slice-aggregate-read-numbers-2
-    read-numbers-requires
-    enum-known-r
-    enum-known-next
-    first-above-requires
-    mul-t25
-    array-read-t28
-    returns
-    first-above-requires-2
-    mul-t31
-    array-read-t34
-    returns-2
-    array-read-m
-    cast-m
-    array-read-i
-    cast-i
-    array-read-l
-    cast-l
-    array-read-a
-    cast-a
-    add-adds-up
-    add-adds-up-2
-    adds-up-requires
-    returns-3
-    array-read-t38
-    cast-t45
-    array-read-t53
-    cast-t46
-    array-read-t56
-    cast-t57
-    returns-4
-    returns-5)
+    (tie.spec more-counts-requires add-read-numbers slice-aggregate-read-numbers
+    slice-aggregate-read-numbers-2 read-numbers-requires enum-known-r enum-known-next first-above-requires
+    mul-t25 array-read-t28 returns first-above-requires-2 mul-t31 array-read-t34 returns-2 array-read-m cast-m
+    array-read-i cast-i array-read-l cast-l array-read-a cast-a add-adds-up add-adds-up-2 adds-up-requires
+    returns-3 array-read-t38 cast-t45 array-read-t53 cast-t46 array-read-t56 cast-t57 returns-4 returns-5)

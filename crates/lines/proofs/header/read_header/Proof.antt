@@ -43,13 +43,5 @@ returns-3 c =
 pub read-header-spec : {M : Type 1} → statement M
 read-header-spec =
     tie.close
-    (tie.spec
-    read-magic-requires
-    enum-known-place
-    enum-told
-    read-counts-requires
-    enum-told-2
-    read-counts-requires-2
-    returns
-    returns-2
-    returns-3)
+    (tie.spec read-magic-requires enum-known-place enum-told read-counts-requires enum-told-2
+    read-counts-requires-2 returns returns-2 returns-3)

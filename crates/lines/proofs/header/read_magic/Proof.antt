@@ -51,13 +51,5 @@ returns-4 c =
 pub read-magic-spec : {M : Type 1} → statement M
 read-magic-spec =
     tie.close
-    (tie.spec
-    stands-requires
-    returns
-    stands-requires-2
-    end-of-magic-requires
-    returns-2
-    stands-requires-3
-    end-of-magic-requires-2
-    returns-3
-    returns-4)
+    (tie.spec stands-requires returns stands-requires-2 end-of-magic-requires returns-2 stands-requires-3
+    end-of-magic-requires-2 returns-3 returns-4)

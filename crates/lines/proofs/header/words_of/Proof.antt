@@ -1,3 +1,5 @@
+-- How many words a table needs to read a file of a form, each count being at most the limit: 2 words to a latch, 3 to a gate. Each answer is given by
+-- `no-table`.
 use borrow.Author.Needs.{needs}
 use Rattle.plan.specs.Outcome.{formOf}
 use Rattle.lines.proofs.header.Sizes.{no-table}
@@ -47,16 +49,5 @@ returns-9 c =
 pub words-of-spec : {M : Type 1} → statement M
 words-of-spec =
     tie.close
-    (tie.spec
-    mul-result
-    mul-result-2
-    scratch-to-read-requires
-    returns
-    returns-2
-    returns-3
-    returns-4
-    returns-5
-    returns-6
-    returns-7
-    returns-8
-    returns-9)
+    (tie.spec mul-result mul-result-2 scratch-to-read-requires returns returns-2 returns-3 returns-4 returns-5
+    returns-6 returns-7 returns-8 returns-9)

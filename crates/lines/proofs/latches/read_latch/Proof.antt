@@ -1,3 +1,5 @@
+-- One line of a latch, by 1 over the whole line, then 5 from left to right: two words of the table and one of the resets. The answers are given by
+-- `line-refused`, `out-of-range` and `all-fine`.
 use mathlib.Core.Path.{sym, ap, _∙_}
 use native.Mathlib.Omega.{arith}
 use lib.ListN.{length-set}
@@ -75,7 +77,11 @@ mul-table-4 c = search needs
 
 slice-write-table-2 : tie.Need-slice-write-table-2
 slice-write-table-2 c =
-    simp length-set (omega (arith, c .before .before .before .before .before .before .before .before .before .before .before .before .before .before .pre .1 .1 .1 .1 .0))
+    simp length-set (omega (
+      arith,
+      c .before .before .before .before .before .before .before .before .before .before .before .before .before .before
+          .pre .1 .1 .1 .1 .0,
+    ))
 
 array-read-resets : tie.Need-array-read-resets
 array-read-resets c = search needs
@@ -89,7 +95,8 @@ slice-write-resets c = search needs
 returns : tie.Need-returns
 returns c =
     let a = c .before .before .before .before .before .before .before .before .before .before .before .args in
-    line-refused (a .file .now) (a .defines) (a .m) (a .more) (a .v) (a .at) (a .table .now) (a .resets .now) (a .i) _ _ _ (sym (c .before .r .given .1) ∙ c .before .before .before .before .before .read-frame .ensures .0)
+    line-refused (a .file .now) (a .defines) (a .m) (a .more) (a .v) (a .at) (a .table .now) (a .resets .now) (a .i) _ _ _
+    (sym (c .before .r .given .1) ∙ c .before .before .before .before .before .read-frame .ensures .0)
 
 returns-2 : tie.Need-returns-2
 returns-2 c =
@@ -97,7 +104,8 @@ returns-2 c =
     let pre = c .before .before .before .before .before .before .before .before .before .before .before .before .before .before .before .pre in
     let f = c .before .before .before .before .before .before .before .before .before .read-frame in
     out-of-range (a .file .now) (a .defines) (a .m) (a .more) (a .v) (a .at) (a .table .now) (a .resets .now) (a .i) _ _ _ (pre .0) (pre .1 .0) (pre .1 .1 .0)
-    (sym (c .before .before .before .before .before .next .given .1) ∙ f .ensures .0) (f .ensures .1) _ _ _ (sym (ap foundOf (c .before .place .given .1)) ∙ c .before .before .before .judge .ensures)
+    (sym (c .before .before .before .before .before .next .given .1) ∙ f .ensures .0) (f .ensures .1) _ _ _
+    (sym (ap foundOf (c .before .place .given .1)) ∙ c .before .before .before .judge .ensures)
 
 same-length : tie.Need-same-length
 same-length c = search needs
@@ -117,35 +125,8 @@ returns-3 c =
 pub read-latch-spec : {M : Type 1} → statement M
 read-latch-spec =
     tie.close
-    (tie.spec
-    slice-aggregate-read-frame
-    slice-aggregate-read-frame-2
-    read-frame-requires
-    enum-known-r
-    enum-known-next
-    array-read-judge
-    array-read-judge-2
-    array-read-judge-3
-    array-read-judge-4
-    array-read-judge-5
-    array-read-judge-6
-    judge-requires
-    enum-known-place
-    enum-told
-    array-read-table
-    mul-table
-    mul-table-2
-    slice-write-table
-    array-read-table-2
-    mul-table-3
-    add-table
-    mul-table-4
-    slice-write-table-2
-    array-read-resets
-    mul-resets
-    slice-write-resets
-    returns
-    returns-2
-    same-length
-    same-length-2
-    returns-3)
+    (tie.spec slice-aggregate-read-frame slice-aggregate-read-frame-2 read-frame-requires enum-known-r
+    enum-known-next array-read-judge array-read-judge-2 array-read-judge-3 array-read-judge-4
+    array-read-judge-5 array-read-judge-6 judge-requires enum-known-place enum-told array-read-table mul-table
+    mul-table-2 slice-write-table array-read-table-2 mul-table-3 add-table mul-table-4 slice-write-table-2
+    array-read-resets mul-resets slice-write-resets returns returns-2 same-length same-length-2 returns-3)

@@ -85,20 +85,6 @@ returns-3 c = ends (c .before .loop .inv) (c .loop-test .left)
 pub check-spec : {M : Type 1} → statement M
 check-spec =
     tie.close
-    (tie.spec
-    Inv-loop
-    μ-loop
-    loop-holds
-    starts-symbol-requires
-    comment-requires
-    same-length
-    returns
-    read-symbol-requires
-    enum-known-r
-    same-length-2
-    returns-2
-    enum-known-next
-    loop-less
-    loop-again
-    same-length-3
-    returns-3)
+    (tie.spec Inv-loop μ-loop loop-holds starts-symbol-requires comment-requires same-length returns
+    read-symbol-requires enum-known-r same-length-2 returns-2 enum-known-next loop-less loop-again
+    same-length-3 returns-3)

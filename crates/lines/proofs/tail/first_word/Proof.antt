@@ -1,3 +1,5 @@
+-- The first word of a letter's list: inputs, then latches, outputs, bad states and constraints. Each answer is rewritten with the tests that led to
+-- it.
 use native.Mathlib.Omega.{arith}
 use borrow.Author.Tests.{ne-eqb}
 use Rattle.lines.proofs.tail.first_word.Statement.{statement}
@@ -35,20 +37,17 @@ returns-4 c = rw (c .before .before .match .keys4)
 
 returns-5 : tie.Need-returns-5
 returns-5 c =
-    simp (ne-eqb (c .before .before .before .before .args .b) 105 (omega arith), ne-eqb (c .before .before .before .before .args .b) 108 (omega arith), ne-eqb (c .before .before .before .before .args .b) 111 (omega arith), ne-eqb (c .before .before .before .before .args .b) 98 (omega arith))
+    simp (
+      ne-eqb (c .before .before .before .before .args .b) 105 (omega arith),
+      ne-eqb (c .before .before .before .before .args .b) 108
+          (omega arith),
+      ne-eqb (c .before .before .before .before .args .b) 111 (omega arith),
+      ne-eqb (c .before .before .before .before .args .b) 98
+          (omega arith),
+    )
 
 pub first-word-spec : {M : Type 1} → statement M
 first-word-spec =
     tie.close
-    (tie.spec
-    add-result
-    add-result-2
-    add-result-3
-    add-result-4
-    add-result-5
-    add-result-6
-    returns
-    returns-2
-    returns-3
-    returns-4
-    returns-5)
+    (tie.spec add-result add-result-2 add-result-3 add-result-4 add-result-5 add-result-6 returns returns-2
+    returns-3 returns-4 returns-5)

@@ -1,3 +1,4 @@
+-- Whether a letter is one of a version's lists. The answers are given by `letter-i`, `letter-l` and `letter-o`.
 use mathlib.Core.Path.{_∙_}
 use native.Mathlib.Omega.{arith}
 use Rattle.lines.proofs.tail.Letters.{letter-i, letter-l, letter-o, letter-b, letter-c, no-letter}
@@ -38,12 +39,4 @@ returns-6 c =
 pub is-kind-spec : {M : Type 1} → statement M
 is-kind-spec =
     tie.close
-    (tie.spec
-    is-later-requires
-    is-later-requires-2
-    returns
-    returns-2
-    returns-3
-    returns-4
-    returns-5
-    returns-6)
+    (tie.spec is-later-requires is-later-requires-2 returns returns-2 returns-3 returns-4 returns-5 returns-6)

@@ -61,15 +61,5 @@ returns-2 c =
 pub name-end-spec : {M : Type 1} → statement M
 name-end-spec =
     tie.close
-    (tie.spec
-    Inv-loop
-    μ-loop
-    loop-holds
-    shared-slice-read-class-of
-    class-of-requires
-    in-name-requires
-    returns
-    add-i
-    loop-less
-    loop-again
-    returns-2)
+    (tie.spec Inv-loop μ-loop loop-holds shared-slice-read-class-of class-of-requires in-name-requires returns
+    add-i loop-less loop-again returns-2)

@@ -126,21 +126,6 @@ returns-4 c =
 pub read-symbol-spec : {M : Type 1} → statement M
 read-symbol-spec =
     tie.close
-    (tie.spec
-    shared-slice-read-kind
-    read-line-requires
-    enum-known-place
-    enum-known-entry
-    cast-e
-    count-of-requires
-    returns
-    first-word-requires
-    add-w
-    mul-if2
-    slice-read-if2
-    returns-2
-    mul-marks
-    slice-write-marks
-    returns-3
-    same-length
-    returns-4)
+    (tie.spec shared-slice-read-kind read-line-requires enum-known-place enum-known-entry cast-e
+    count-of-requires returns first-word-requires add-w mul-if2 slice-read-if2 returns-2 mul-marks
+    slice-write-marks returns-3 same-length returns-4)

@@ -1,3 +1,4 @@
+-- The literal that lies a difference below this one, 0 where the difference is larger. The answers are arithmetic over the tests that led to them.
 use borrow.Author.Needs.{needs}
 use mathlib.Core.Path.{ap}
 use native.Mathlib.Omega.{arith}

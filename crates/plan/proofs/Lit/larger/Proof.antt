@@ -1,3 +1,4 @@
+-- The larger right side of a gate stands first (AIGER report, section 11). The answers are arithmetic over the tests that led to them.
 use Prim.Native.Nat.{max}
 use mathlib.Core.Path.{_≡_, ap}
 use native.Mathlib.Omega.{arith}

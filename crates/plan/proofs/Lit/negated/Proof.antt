@@ -1,3 +1,4 @@
+-- Each answer is given by `toggled`.
 use mathlib.Core.Path.{ap}
 use Rattle.plan.specs.Literals.{litAt}
 use Rattle.plan.proofs.Bits.{toggled}

@@ -1,3 +1,4 @@
+-- This literal, negated if the other is. Each answer is given by `toggled-by`.
 use mathlib.Core.Path.{ap, _∙_}
 use Prim.Native.Nat.{ℕ, _%_}
 use native.Mathlib.Omega.{arith}

@@ -1,3 +1,4 @@
+-- The answers are arithmetic over the tests that led to them.
 use Prim.Native.Nat.{min}
 use mathlib.Core.Path.{_≡_, ap}
 use native.Mathlib.Omega.{arith}

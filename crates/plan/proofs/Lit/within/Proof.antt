@@ -1,3 +1,4 @@
+-- Whether the literal is in its range under M, where it defines a variable or does not. The answers are given by `defines`, `uses` and `odd`.
 use Prim.Native.Nat.{ℕ, _/_}
 use mathlib.Core.Path.{_≡_, sym, ap, _∙_}
 use borrow.Author.Needs.{needs}

@@ -1,3 +1,4 @@
+-- The doubling: the variable's literal without sign. The answers are arithmetic over the tests that led to them.
 use mathlib.Core.Path.{ap}
 use native.Mathlib.Omega.{arith}
 use Rattle.plan.specs.Literals.{litAt}

@@ -1,3 +1,4 @@
+-- What follows the header of a text file: the body, the tail, then 7 and 8. The answers are given by `stops`, `tail-told` and `read-as`.
 use Prim.Native.Nat.{_+_, _-_, _≤_, _<_}
 use mathlib.Core.Path.{_≡_, refl, sym, ap, _∙_}
 use native.Mathlib.Nat.{le-refl}
@@ -14,6 +15,109 @@ use Rattle.read.proofs.body.Parts.{zeros-mid, second, second-length, fi
 use Rattle.read.proofs.body.TextRead.{same-circuit, text-read}
 use Rattle.read.proofs.body.rest_of_text.Statement.{statement}
 use Rattle.read.proofs.body.rest_of_text.Tie as tie
+
+-- moments, each named by what happened there
+abbrev start-of : tie.After-read-text-arg8 → tie.Start
+start-of c = c .before .before .before .before .before .before .before .before .before .before .before .before .before .before .before .before
+    .before .before .before .before .before
+
+abbrev constraints-of : tie.After-slice-known16 → tie.After-constraints
+constraints-of c = c .before .before .before
+
+abbrev bads-of : tie.After-slice-known16 → tie.After-bads
+bads-of c = constraints-of c .before .before
+
+abbrev resets-of : tie.After-slice-known16 → tie.After-resets
+resets-of c = bads-of c .before .before
+
+abbrev gates-of : tie.After-slice-known16 → tie.After-gates
+gates-of c = resets-of c .before .before
+
+abbrev outputs-of : tie.After-slice-known16 → tie.After-outputs
+outputs-of c = gates-of c .before .before
+
+abbrev latches-of : tie.After-slice-known16 → tie.After-latches
+latches-of c = outputs-of c .before .before
+
+abbrev inputs-of : tie.After-slice-known16 → tie.After-inputs
+inputs-of c = latches-of c .before .before
+
+abbrev read-text-of : tie.After-slice-known16 → tie.After-read-text
+read-text-of c = inputs-of c .before
+
+abbrev after-read-text : tie.After-enum-told → tie.After-slice-known16
+after-read-text c = c .before .before
+
+abbrev before-read-text : tie.After-enum-told → tie.After-read-text-arg8
+before-read-text c = after-read-text c .before .before .before .before .before .before .before .before .before .before .before .before .before
+    .before .before .before .before
+
+abbrev after-read-text2 : tie.After-known-told → tie.After-slice-known16
+after-read-text2 c = c .before .before .before
+
+abbrev before-read-text2 : tie.After-known-told → tie.After-read-text-arg8
+before-read-text2 c = after-read-text2 c .before .before .before .before .before .before .before .before .before .before .before .before .before
+    .before .before .before .before
+
+abbrev after-read-text3 : tie.After-check-arg → tie.After-slice-known16
+after-read-text3 c = after-read-text2 (c .before)
+
+abbrev before-read-text3 : tie.After-check-arg → tie.After-read-text-arg8
+before-read-text3 c = before-read-text2 (c .before)
+
+abbrev check-of : tie.After-slice-known17 → tie.After-check
+check-of c = c .before .before
+
+abbrev read-of : tie.After-slice-known17 → tie.After-read
+read-of c = check-of c .before .before .before
+
+abbrev after-check2 : tie.After-known-told2 → tie.After-slice-known17
+after-check2 c = c .before .before .before
+
+abbrev after-read-text5 : tie.After-known-told2 → tie.After-slice-known16
+after-read-text5 c = after-read-text3 (c .before .before .before .before .before .before)
+
+abbrev before-read-text5 : tie.After-known-told2 → tie.After-read-text-arg8
+before-read-text5 c = before-read-text3 (c .before .before .before .before .before .before)
+
+abbrev after-check : tie.After-check-arg8 → tie.After-slice-known17
+after-check c = c .before .before .before .before .before .before .before .before .before
+
+abbrev after-read-text4 : tie.After-check-arg8 → tie.After-slice-known16
+after-read-text4 c = after-check c .before .before .before .before .before .before .before
+
+abbrev before-read-text4 : tie.After-check-arg8 → tie.After-read-text-arg8
+before-read-text4 c = before-read-text3 (c .before .before .before .before .before .before .before .before .before .before .before .before)
+
+abbrev after-check3 : tie.After-slice-known18 → tie.After-enum-told2
+after-check3 c = c .before .before .before .before .before .before .before .before .before .before
+
+abbrev after-check23 : tie.After-enum-told3 → tie.After-slice-known18
+after-check23 c = c .before .before
+
+abbrev after-check5 : tie.After-enum-told3 → tie.After-slice-known17
+after-check5 c = after-check (c .before .before .before .before .before)
+
+abbrev after-read-text7 : tie.After-enum-told3 → tie.After-slice-known16
+after-read-text7 c = after-read-text4 (c .before .before .before .before .before)
+
+abbrev before-read-text7 : tie.After-enum-told3 → tie.After-read-text-arg8
+before-read-text7 c = before-read-text4 (c .before .before .before .before .before)
+
+abbrev after-check22 : tie.After-known-told3 → tie.After-slice-known18
+after-check22 c = c .before .before .before
+
+abbrev check2-of : tie.After-known-told3 → tie.After-check2
+check2-of c = after-check22 c .before .before
+
+abbrev after-check4 : tie.After-known-told3 → tie.After-slice-known17
+after-check4 c = after-check (c .before .before .before .before .before .before)
+
+abbrev after-read-text6 : tie.After-known-told3 → tie.After-slice-known16
+after-read-text6 c = after-read-text4 (c .before .before .before .before .before .before)
+
+abbrev before-read-text6 : tie.After-known-told3 → tie.After-read-text-arg8
+before-read-text6 c = before-read-text4 (c .before .before .before .before .before .before)
 
 add-base : tie.Need-add-base
 add-base c = omega arith
@@ -41,7 +145,7 @@ part-read-text-end c = search needs
 
 read-text-requires : tie.Need-read-text-requires
 read-text-requires c κs =
-    let start = c .before .before .before .before .before .before .before .before .before .before .before .before .before .before .before .before .before .before .before .before .before in
+    let start = start-of c in
     let a = start .args in
     let room = start .pre .0 in
     let base = a .n .I + a .n .L + a .n .O + a .n .B + a .n .C in
@@ -87,38 +191,39 @@ enum-told c = search needs
 
 same-length : tie.Need-same-length
 same-length c =
-    c .before .before .before .before .before .before .before .before .before .before .before .before .before .before .before .before .before .inputs .given
+    inputs-of (after-read-text c) .inputs .given
 
 same-length-2 : tie.Need-same-length-2
 same-length-2 c =
-    c .before .before .before .before .before .before .before .before .before .before .before .before .before .before .before .latches .given
+    latches-of (after-read-text c) .latches .given
 
 same-length-3 : tie.Need-same-length-3
 same-length-3 c =
-    c .before .before .before .before .before .before .before .before .before .before .before .before .before .outputs .given
+    outputs-of (after-read-text c) .outputs .given
 
 same-length-4 : tie.Need-same-length-4
-same-length-4 c = c .before .before .before .before .before .before .before .before .before .before .before .gates .given
+same-length-4 c = gates-of (after-read-text c) .gates .given
 
 same-length-5 : tie.Need-same-length-5
-same-length-5 c = c .before .before .before .before .before .before .before .before .before .resets .given
+same-length-5 c = resets-of (after-read-text c) .resets .given
 
 same-length-6 : tie.Need-same-length-6
-same-length-6 c = c .before .before .before .before .before .before .before .bads .given
+same-length-6 c = bads-of (after-read-text c) .bads .given
 
 same-length-7 : tie.Need-same-length-7
-same-length-7 c = c .before .before .before .before .before .constraints .given
+same-length-7 c = constraints-of (after-read-text c) .constraints .given
 
 same-length-8 : tie.Need-same-length-8
 same-length-8 c = search needs
 
 returns : tie.Need-returns
 returns c =
-    let start = c .before .before .before .before .before .before .before .before .before .before .before .before .before .before .before .before .before .before .before .before .before .before .before .before .before .before .before .before .before .before .before .before .before .before .before .before .before .before .before .before in
-    let f = c .before .before .before .before .before .before .before .before .before .before .before .before .before .before .before .before .before .before .read-text in
+    let start = start-of (before-read-text c) in
+    let f = read-text-of (after-read-text c) .read-text in
     let a = start .args in
     let t : Tables = seven (a .inputs .now) (a .latches .now) (a .outputs .now) (a .gates .now) (a .resets .now) (a .bads .now) (a .constraints .now) in
-    let t′ : Tables = seven (f .last .1 .1 .1 .1 .0) (f .last .1 .1 .1 .1 .1 .0) (f .last .1 .1 .1 .1 .1 .1 .0) (f .last .1 .1 .1 .1 .1 .1 .1 .0) (f .last .1 .1 .1 .1 .1 .1 .1 .1 .0) (f .last .1 .1 .1 .1 .1 .1 .1 .1 .1 .0) (f .last .1 .1 .1 .1 .1 .1 .1 .1 .1 .1 .0) in
+    let t′ : Tables = seven (f .last .1 .1 .1 .1 .0) (f .last .1 .1 .1 .1 .1 .0) (f .last .1 .1 .1 .1 .1 .1 .0) (f .last .1 .1 .1 .1 .1 .1 .1 .0)
+    (f .last .1 .1 .1 .1 .1 .1 .1 .1 .0) (f .last .1 .1 .1 .1 .1 .1 .1 .1 .1 .0) (f .last .1 .1 .1 .1 .1 .1 .1 .1 .1 .1 .0) in
     let body = textBody (a .version) (a .file .now) (a .n) (a .at) in
     stops (a .version) (a .file .now) (a .n) body t t′ _ (f .ensures .body) _ (c .enum-told .given .1)
 
@@ -130,8 +235,8 @@ part-check-start c = search needs
 
 part-check-end : tie.Need-part-check-end
 part-check-end c =
-    let start = c .before .before .before .before .before .before .before .before .before .before .before .before .before .before .before .before .before .before .before .before .before .before .before .before .before .before .before .before .before .before .before .before .before .before .before .before .before .before .before .before .before in
-    let f = c .before .before .before .before .before .before .before .before .before .before .before .before .before .before .before .before .before .before .before .read-text in
+    let start = start-of (before-read-text2 c) in
+    let f = read-text-of (after-read-text2 c) .read-text in
     let a = start .args in
     let room = start .pre .0 in
     let base = a .n .I + a .n .L + a .n .O + a .n .B + a .n .C in
@@ -143,8 +248,8 @@ part-check-end c =
 
 check-requires : tie.Need-check-requires
 check-requires c κs =
-    let start = c .before .before .before .before .before .before .before .before .before .before .before .before .before .before .before .before .before .before .before .before .before .before .before .before .before .before .before .before .before .before .before .before .before .before .before .before .before .before .before .before .before .before in
-    let f = c .before .before .before .before .before .before .before .before .before .before .before .before .before .before .before .before .before .before .before .before .read-text in
+    let start = start-of (before-read-text3 c) in
+    let f = read-text-of (after-read-text3 c) .read-text in
     let a = start .args in
     let room = start .pre .0 in
     let base = a .n .I + a .n .L + a .n .O + a .n .B + a .n .C in
@@ -170,24 +275,28 @@ enum-told-2 c = search needs
 
 check-requires-2 : tie.Need-check-requires-2
 check-requires-2 c κs =
-    let start = c .before .before .before .before .before .before .before .before .before .before .before .before .before .before .before .before .before .before .before .before .before .before .before .before .before .before .before .before .before .before .before .before .before .before .before .before .before .before .before .before .before .before .before .before .before .before .before .before .before .before .before .before .before .before in
-    let f = c .before .before .before .before .before .before .before .before .before .before .before .before .before .before .before .before .before .before .before .before .before .before .before .before .before .before .before .before .before .before .before .before .read-text in
+    let start = start-of (before-read-text4 c) in
+    let f = read-text-of (after-read-text4 c) .read-text in
     let a = start .args in
     let t : Tables = seven (a .inputs .now) (a .latches .now) (a .outputs .now) (a .gates .now) (a .resets .now) (a .bads .now) (a .constraints .now) in
-    let t′ : Tables = seven (f .last .1 .1 .1 .1 .0) (f .last .1 .1 .1 .1 .1 .0) (f .last .1 .1 .1 .1 .1 .1 .0) (f .last .1 .1 .1 .1 .1 .1 .1 .0) (f .last .1 .1 .1 .1 .1 .1 .1 .1 .0) (f .last .1 .1 .1 .1 .1 .1 .1 .1 .1 .0) (f .last .1 .1 .1 .1 .1 .1 .1 .1 .1 .1 .0) in
+    let t′ : Tables = seven (f .last .1 .1 .1 .1 .0) (f .last .1 .1 .1 .1 .1 .0) (f .last .1 .1 .1 .1 .1 .1 .0) (f .last .1 .1 .1 .1 .1 .1 .1 .0)
+    (f .last .1 .1 .1 .1 .1 .1 .1 .1 .0) (f .last .1 .1 .1 .1 .1 .1 .1 .1 .1 .0) (f .last .1 .1 .1 .1 .1 .1 .1 .1 .1 .1 .0) in
     let body = textBody (a .version) (a .file .now) (a .n) (a .at) in
-    let p = read-as (a .version) (a .file .now) (a .n) body t t′ _ (f .ensures .body) _ (c .before .before .before .before .before .before .before .before .before .before .before .before .before .before .read .given .1) in
+    let p = read-as (a .version) (a .file .now) (a .n) body t t′ _ (f .ensures .body) _ (read-of (after-check c) .read .given .1) in
     let room = start .pre .0 in
     let base = a .n .I + a .n .L + a .n .O + a .n .B + a .n .C in
     let s = a .scratch .now in
     let ys = f .last .1 .1 .1 .1 .1 .1 .1 .1 .1 .1 .1 .0 in
     let fits : base ≤ length s = omega (arith, room .words, room .most-M, start .pre .1) in
-    let tail = c .before .before .before .before .before .before .before .before .before .before .before .check in
+    let tail = check-of (after-check c) .check in
     let zs = tail .last .1 .1 .1 .1 .0 in
     let ys-long : length ys ≡ length (midOf base (length s - base) s) = f .kept .1 .1 .1 .1 .1 .1 .1 .1 .1 .1 .1 .0 in
     let zs-long : length zs ≡ length (midOf 0 (base - 0) (second base s ys fits)) = tail .kept .1 .1 .1 .1 .0 in
-    text-read (a .version) (a .file .now) (a .n) (a .at) t t′ (p .0) _ (p .1) (p .2) s (putMid 0 (base - 0) (second base s ys fits) zs) ys base room (start .pre .1) refl
-    (c .before .before .before .before .before .before .before .before .before .before .before .before .before .before .before .before .before .before .before .before .before .before .before .before .before .before .before .before .before .before .before .inputs .given) (c .before .before .before .before .before .before .before .before .before .before .before .before .before .before .before .before .before .before .before .before .before .before .before .before .before .before .before .before .before .latches .given) (c .before .before .before .before .before .before .before .before .before .before .before .before .before .before .before .before .before .before .before .before .before .before .before .before .before .before .before .outputs .given) (c .before .before .before .before .before .before .before .before .before .before .before .before .before .before .before .before .before .before .before .before .before .before .before .before .before .gates .given) (c .before .before .before .before .before .before .before .before .before .before .before .before .before .before .before .before .before .before .before .before .before .bads .given) (c .before .before .before .before .before .before .before .before .before .before .before .before .before .before .before .before .before .before .before .constraints .given)
+    text-read (a .version) (a .file .now) (a .n) (a .at) t t′ (p .0) _ (p .1) (p .2) s (putMid 0 (base - 0) (second base s ys fits) zs) ys base room
+    (start .pre .1) refl
+    (inputs-of (after-read-text4 c) .inputs .given) (latches-of (after-read-text4 c) .latches .given) (outputs-of
+    (after-read-text4 c) .outputs .given) (gates-of (after-read-text4 c) .gates .given) (bads-of (after-read-text4 c) .bads .given) (constraints-of
+    (after-read-text4 c) .constraints .given)
     (same-len-mid 0 (base - 0) (second base s ys fits) zs zs-long ∙ second-length base s ys fits ys-long) (second-part base s ys fits zs ys-long zs-long)
     (f .ensures .marked (p .0) _ (p .1))
 
@@ -199,36 +308,36 @@ enum-told-3 c = search needs
 
 same-length-9 : tie.Need-same-length-9
 same-length-9 c =
-    c .before .before .before .before .before .before .before .before .before .before .before .before .before .before .before .before .before .before .before .before .before .before .before .before .before .inputs .given
+    inputs-of (after-read-text5 c) .inputs .given
 
 same-length-10 : tie.Need-same-length-10
 same-length-10 c =
-    c .before .before .before .before .before .before .before .before .before .before .before .before .before .before .before .before .before .before .before .before .before .before .before .latches .given
+    latches-of (after-read-text5 c) .latches .given
 
 same-length-11 : tie.Need-same-length-11
 same-length-11 c =
-    c .before .before .before .before .before .before .before .before .before .before .before .before .before .before .before .before .before .before .before .before .before .outputs .given
+    outputs-of (after-read-text5 c) .outputs .given
 
 same-length-12 : tie.Need-same-length-12
 same-length-12 c =
-    c .before .before .before .before .before .before .before .before .before .before .before .before .before .before .before .before .before .before .before .gates .given
+    gates-of (after-read-text5 c) .gates .given
 
 same-length-13 : tie.Need-same-length-13
 same-length-13 c =
-    c .before .before .before .before .before .before .before .before .before .before .before .before .before .before .before .before .before .resets .given
+    resets-of (after-read-text5 c) .resets .given
 
 same-length-14 : tie.Need-same-length-14
 same-length-14 c =
-    c .before .before .before .before .before .before .before .before .before .before .before .before .before .before .before .bads .given
+    bads-of (after-read-text5 c) .bads .given
 
 same-length-15 : tie.Need-same-length-15
 same-length-15 c =
-    c .before .before .before .before .before .before .before .before .before .before .before .before .before .constraints .given
+    constraints-of (after-read-text5 c) .constraints .given
 
 same-length-16 : tie.Need-same-length-16
 same-length-16 c =
-    let start = c .before .before .before .before .before .before .before .before .before .before .before .before .before .before .before .before .before .before .before .before .before .before .before .before .before .before .before .before .before .before .before .before .before .before .before .before .before .before .before .before .before .before .before .before .before .before .before .before in
-    let f = c .before .before .before .before .before .before .before .before .before .before .before .before .before .before .before .before .before .before .before .before .before .before .before .before .before .before .read-text in
+    let start = start-of (before-read-text5 c) in
+    let f = read-text-of (after-read-text5 c) .read-text in
     let a = start .args in
     let room = start .pre .0 in
     let base = a .n .I + a .n .L + a .n .O + a .n .B + a .n .C in
@@ -236,164 +345,123 @@ same-length-16 c =
     let ys = f .last .1 .1 .1 .1 .1 .1 .1 .1 .1 .1 .1 .0 in
     let fits : base ≤ length s = omega (arith, room .words, room .most-M, start .pre .1) in
     let ys-long : length ys ≡ length (midOf base (length s - base) s) = f .kept .1 .1 .1 .1 .1 .1 .1 .1 .1 .1 .1 .0 in
-    let tail = c .before .before .before .before .before .check in
+    let tail = check-of (after-check2 c) .check in
     let zs = tail .last .1 .1 .1 .1 .0 in
     let zs-long : length zs ≡ length (midOf 0 (base - 0) (second base s ys fits)) = tail .kept .1 .1 .1 .1 .0 in
     same-len-mid 0 (base - 0) (second base s ys fits) zs zs-long ∙ second-length base s ys fits ys-long
 
 returns-2 : tie.Need-returns-2
 returns-2 c =
-    let start = c .before .before .before .before .before .before .before .before .before .before .before .before .before .before .before .before .before .before .before .before .before .before .before .before .before .before .before .before .before .before .before .before .before .before .before .before .before .before .before .before .before .before .before .before .before .before .before .before in
-    let f = c .before .before .before .before .before .before .before .before .before .before .before .before .before .before .before .before .before .before .before .before .before .before .before .before .before .before .read-text in
+    let start = start-of (before-read-text5 c) in
+    let f = read-text-of (after-read-text5 c) .read-text in
     let a = start .args in
     let t : Tables = seven (a .inputs .now) (a .latches .now) (a .outputs .now) (a .gates .now) (a .resets .now) (a .bads .now) (a .constraints .now) in
-    let t′ : Tables = seven (f .last .1 .1 .1 .1 .0) (f .last .1 .1 .1 .1 .1 .0) (f .last .1 .1 .1 .1 .1 .1 .0) (f .last .1 .1 .1 .1 .1 .1 .1 .0) (f .last .1 .1 .1 .1 .1 .1 .1 .1 .0) (f .last .1 .1 .1 .1 .1 .1 .1 .1 .1 .0) (f .last .1 .1 .1 .1 .1 .1 .1 .1 .1 .1 .0) in
+    let t′ : Tables = seven (f .last .1 .1 .1 .1 .0) (f .last .1 .1 .1 .1 .1 .0) (f .last .1 .1 .1 .1 .1 .1 .0) (f .last .1 .1 .1 .1 .1 .1 .1 .0)
+    (f .last .1 .1 .1 .1 .1 .1 .1 .1 .0) (f .last .1 .1 .1 .1 .1 .1 .1 .1 .1 .0) (f .last .1 .1 .1 .1 .1 .1 .1 .1 .1 .1 .0) in
     let body = textBody (a .version) (a .file .now) (a .n) (a .at) in
-    tail-told (a .version) (a .file .now) (a .n) body t t′ _ (f .ensures .body) _ (c .before .before .before .before .before .before .before .before .read .given .1) _ (c .before .before .before .before .before .check .ensures) _ (c .before .r .given .1)
+    tail-told (a .version) (a .file .now) (a .n) body t t′ _ (f .ensures .body) _ (read-of (after-check2 c) .read .given .1) _ (check-of
+    (after-check2 c) .check .ensures) _ (c .before .r .given .1)
 
 same-length-17 : tie.Need-same-length-17
 same-length-17 c =
-    c .before .before .before .before .before .before .before .before .before .before .before .before .before .before .before .before .before .before .before .before .before .before .before .before .before .before .before .before .before .before .before .before .before .before .before .before .before .inputs .given
+    inputs-of (after-read-text6 c) .inputs .given
 
 same-length-18 : tie.Need-same-length-18
 same-length-18 c =
-    c .before .before .before .before .before .before .before .before .before .before .before .before .before .before .before .before .before .before .before .before .before .before .before .before .before .before .before .before .before .before .before .before .before .before .before .latches .given
+    latches-of (after-read-text6 c) .latches .given
 
 same-length-19 : tie.Need-same-length-19
 same-length-19 c =
-    c .before .before .before .before .before .before .before .before .before .before .before .before .before .before .before .before .before .before .before .before .before .before .before .before .before .before .before .before .before .before .before .before .before .outputs .given
+    outputs-of (after-read-text6 c) .outputs .given
 
 same-length-20 : tie.Need-same-length-20
 same-length-20 c =
-    c .before .before .before .before .before .before .before .before .before .before .before .before .before .before .before .before .before .before .before .before .before .before .before .before .before .before .before .before .before .before .before .gates .given
+    gates-of (after-read-text6 c) .gates .given
 
 same-length-21 : tie.Need-same-length-21
 same-length-21 c =
-    c .before .before .before .before .before .before .before .before .before .before .before .before .before .before .before .before .before .before .before .before .before .before .before .before .before .before .before .before .before .resets .given
+    resets-of (after-read-text6 c) .resets .given
 
 same-length-22 : tie.Need-same-length-22
 same-length-22 c =
-    c .before .before .before .before .before .before .before .before .before .before .before .before .before .before .before .before .before .before .before .before .before .before .before .before .before .before .before .bads .given
+    bads-of (after-read-text6 c) .bads .given
 
 same-length-23 : tie.Need-same-length-23
 same-length-23 c =
-    c .before .before .before .before .before .before .before .before .before .before .before .before .before .before .before .before .before .before .before .before .before .before .before .before .before .constraints .given
+    constraints-of (after-read-text6 c) .constraints .given
 
 same-length-24 : tie.Need-same-length-24
 same-length-24 c = search needs
 
 returns-3 : tie.Need-returns-3
 returns-3 c =
-    let start = c .before .before .before .before .before .before .before .before .before .before .before .before .before .before .before .before .before .before .before .before .before .before .before .before .before .before .before .before .before .before .before .before .before .before .before .before .before .before .before .before .before .before .before .before .before .before .before .before .before .before .before .before .before .before .before .before .before .before .before .before in
-    let f = c .before .before .before .before .before .before .before .before .before .before .before .before .before .before .before .before .before .before .before .before .before .before .before .before .before .before .before .before .before .before .before .before .before .before .before .before .before .before .read-text in
+    let start = start-of (before-read-text6 c) in
+    let f = read-text-of (after-read-text6 c) .read-text in
     let a = start .args in
     let t : Tables = seven (a .inputs .now) (a .latches .now) (a .outputs .now) (a .gates .now) (a .resets .now) (a .bads .now) (a .constraints .now) in
-    let t′ : Tables = seven (f .last .1 .1 .1 .1 .0) (f .last .1 .1 .1 .1 .1 .0) (f .last .1 .1 .1 .1 .1 .1 .0) (f .last .1 .1 .1 .1 .1 .1 .1 .0) (f .last .1 .1 .1 .1 .1 .1 .1 .1 .0) (f .last .1 .1 .1 .1 .1 .1 .1 .1 .1 .0) (f .last .1 .1 .1 .1 .1 .1 .1 .1 .1 .1 .0) in
+    let t′ : Tables = seven (f .last .1 .1 .1 .1 .0) (f .last .1 .1 .1 .1 .1 .0) (f .last .1 .1 .1 .1 .1 .1 .0) (f .last .1 .1 .1 .1 .1 .1 .1 .0)
+    (f .last .1 .1 .1 .1 .1 .1 .1 .1 .0) (f .last .1 .1 .1 .1 .1 .1 .1 .1 .1 .0) (f .last .1 .1 .1 .1 .1 .1 .1 .1 .1 .1 .0) in
     let body = textBody (a .version) (a .file .now) (a .n) (a .at) in
-    let p = read-as (a .version) (a .file .now) (a .n) body t t′ _ (f .ensures .body) _ (c .before .before .before .before .before .before .before .before .before .before .before .before .before .before .before .before .before .before .before .before .read .given .1) in
-    closing-told (a .version) (a .file .now) (a .n) body t t′ _ (f .ensures .body) _ (c .before .before .before .before .before .before .before .before .before .before .before .before .before .before .before .before .before .before .before .before .read .given .1) _ (c .before .before .before .before .before .before .before .before .before .before .before .before .before .before .before .before .before .check .ensures) (c .before .before .before .before .before .before .before .before .before .before .before .before .before .enum-told2 .given .1) _
-    (sym (c .before .r2 .given .1) ∙ (c .before .before .before .before .before .check2 .ensures .0 (t′ .resets) ∙ ap (λ (x : Circuit). checkedBy (closed x)) (same-circuit (a .version) (a .file .now) (a .n) (a .at) t t′ (p .0) _ (p .1) (p .2))))
+    let p = read-as (a .version) (a .file .now) (a .n) body t t′ _ (f .ensures .body) _ (read-of (after-check4 c) .read .given .1) in
+    closing-told (a .version) (a .file .now) (a .n) body t t′ _ (f .ensures .body) _ (read-of (after-check4 c) .read .given .1) _ (check-of
+    (after-check4 c) .check .ensures) (after-check3 (after-check22 c) .enum-told2 .given .1) _
+    (sym (c .before .r2 .given .1) ∙ (check2-of c .check2 .ensures .0 (t′ .resets) ∙ ap (λ (x : Circuit). checkedBy (closed x)) (same-circuit
+    (a .version) (a .file .now) (a .n) (a .at) t t′ (p .0) _ (p .1) (p .2))))
 
 same-length-25 : tie.Need-same-length-25
 same-length-25 c =
-    c .before .before .before .before .before .before .before .before .before .before .before .before .before .before .before .before .before .before .before .before .before .before .before .before .before .before .before .before .before .before .before .before .before .before .before .before .inputs .given
+    inputs-of (after-read-text7 c) .inputs .given
 
 same-length-26 : tie.Need-same-length-26
 same-length-26 c =
-    c .before .before .before .before .before .before .before .before .before .before .before .before .before .before .before .before .before .before .before .before .before .before .before .before .before .before .before .before .before .before .before .before .before .before .latches .given
+    latches-of (after-read-text7 c) .latches .given
 
 same-length-27 : tie.Need-same-length-27
 same-length-27 c =
-    c .before .before .before .before .before .before .before .before .before .before .before .before .before .before .before .before .before .before .before .before .before .before .before .before .before .before .before .before .before .before .before .before .outputs .given
+    outputs-of (after-read-text7 c) .outputs .given
 
 same-length-28 : tie.Need-same-length-28
 same-length-28 c =
-    c .before .before .before .before .before .before .before .before .before .before .before .before .before .before .before .before .before .before .before .before .before .before .before .before .before .before .before .before .before .before .gates .given
+    gates-of (after-read-text7 c) .gates .given
 
 same-length-29 : tie.Need-same-length-29
 same-length-29 c =
-    c .before .before .before .before .before .before .before .before .before .before .before .before .before .before .before .before .before .before .before .before .before .before .before .before .before .before .before .before .resets .given
+    resets-of (after-read-text7 c) .resets .given
 
 same-length-30 : tie.Need-same-length-30
 same-length-30 c =
-    c .before .before .before .before .before .before .before .before .before .before .before .before .before .before .before .before .before .before .before .before .before .before .before .before .before .before .bads .given
+    bads-of (after-read-text7 c) .bads .given
 
 same-length-31 : tie.Need-same-length-31
 same-length-31 c =
-    c .before .before .before .before .before .before .before .before .before .before .before .before .before .before .before .before .before .before .before .before .before .before .before .before .constraints .given
+    constraints-of (after-read-text7 c) .constraints .given
 
 same-length-32 : tie.Need-same-length-32
 same-length-32 c = search needs
 
 returns-4 : tie.Need-returns-4
 returns-4 c =
-    let start = c .before .before .before .before .before .before .before .before .before .before .before .before .before .before .before .before .before .before .before .before .before .before .before .before .before .before .before .before .before .before .before .before .before .before .before .before .before .before .before .before .before .before .before .before .before .before .before .before .before .before .before .before .before .before .before .before .before .before .before in
-    let f = c .before .before .before .before .before .before .before .before .before .before .before .before .before .before .before .before .before .before .before .before .before .before .before .before .before .before .before .before .before .before .before .before .before .before .before .before .before .read-text in
+    let start = start-of (before-read-text7 c) in
+    let f = read-text-of (after-read-text7 c) .read-text in
     let a = start .args in
     let t : Tables = seven (a .inputs .now) (a .latches .now) (a .outputs .now) (a .gates .now) (a .resets .now) (a .bads .now) (a .constraints .now) in
-    let t′ : Tables = seven (f .last .1 .1 .1 .1 .0) (f .last .1 .1 .1 .1 .1 .0) (f .last .1 .1 .1 .1 .1 .1 .0) (f .last .1 .1 .1 .1 .1 .1 .1 .0) (f .last .1 .1 .1 .1 .1 .1 .1 .1 .0) (f .last .1 .1 .1 .1 .1 .1 .1 .1 .1 .0) (f .last .1 .1 .1 .1 .1 .1 .1 .1 .1 .1 .0) in
+    let t′ : Tables = seven (f .last .1 .1 .1 .1 .0) (f .last .1 .1 .1 .1 .1 .0) (f .last .1 .1 .1 .1 .1 .1 .0) (f .last .1 .1 .1 .1 .1 .1 .1 .0)
+    (f .last .1 .1 .1 .1 .1 .1 .1 .1 .0) (f .last .1 .1 .1 .1 .1 .1 .1 .1 .1 .0) (f .last .1 .1 .1 .1 .1 .1 .1 .1 .1 .1 .0) in
     let body = textBody (a .version) (a .file .now) (a .n) (a .at) in
-    let p = read-as (a .version) (a .file .now) (a .n) body t t′ _ (f .ensures .body) _ (c .before .before .before .before .before .before .before .before .before .before .before .before .before .before .before .before .before .before .before .read .given .1) in
-    let shut = closing-good (p .0) (sym (c .enum-told3 .given .1) ∙ (c .before .before .before .before .check2 .ensures .0 (t′ .resets) ∙ ap (λ (x : Circuit). checkedBy (closed x)) (same-circuit (a .version) (a .file .now) (a .n) (a .at) t t′ (p .0) _ (p .1) (p .2)))) in
-    accepted-as (a .version) (a .file .now) (a .n) body t t′ _ (f .ensures .body) _ (c .before .before .before .before .before .before .before .before .before .before .before .before .before .before .before .before .before .before .before .read .given .1) _ (c .before .before .before .before .before .before .before .before .before .before .before .before .before .before .before .before .check .ensures) (c .before .before .before .before .before .before .before .before .before .before .before .before .enum-told2 .given .1) (shut .0) (shut .1)
+    let p = read-as (a .version) (a .file .now) (a .n) body t t′ _ (f .ensures .body) _ (read-of (after-check5 c) .read .given .1) in
+    let shut = closing-good (p .0) (sym (c .enum-told3 .given .1) ∙ (c .before .before .before .before .check2 .ensures .0 (t′ .resets) ∙ ap (λ
+    (x : Circuit). checkedBy (closed x)) (same-circuit (a .version) (a .file .now) (a .n) (a .at) t t′ (p .0) _ (p .1) (p .2)))) in
+    accepted-as (a .version) (a .file .now) (a .n) body t t′ _ (f .ensures .body) _ (read-of (after-check5 c) .read .given .1) _ (check-of
+    (after-check5 c) .check .ensures) (after-check3 (after-check23 c) .enum-told2 .given .1) (shut .0) (shut .1)
 
 pub rest-of-text-spec : {M : Type 1} → statement M
 rest-of-text-spec =
     tie.close
-    (tie.spec
-    add-base
-    add-base-2
-    add-base-3
-    add-base-4
-    mul-read-text
-    sub-read-text
-    part-read-text-start
-    part-read-text-end
-    read-text-requires
-    enum-known-read
-    enum-told
-    same-length
-    same-length-2
-    same-length-3
-    same-length-4
-    same-length-5
-    same-length-6
-    same-length-7
-    same-length-8
-    returns
-    sub-check
-    part-check-start
-    part-check-end
-    check-requires
-    enum-known-r
-    enum-told-2
-    check-requires-2
-    enum-known-r-2
-    enum-told-3
-    same-length-9
-    same-length-10
-    same-length-11
-    same-length-12
-    same-length-13
-    same-length-14
-    same-length-15
-    same-length-16
-    returns-2
-    same-length-17
-    same-length-18
-    same-length-19
-    same-length-20
-    same-length-21
-    same-length-22
-    same-length-23
-    same-length-24
-    returns-3
-    same-length-25
-    same-length-26
-    same-length-27
-    same-length-28
-    same-length-29
-    same-length-30
-    same-length-31
-    same-length-32
-    returns-4)
+    (tie.spec add-base add-base-2 add-base-3 add-base-4 mul-read-text sub-read-text part-read-text-start
+    part-read-text-end read-text-requires enum-known-read enum-told same-length same-length-2 same-length-3
+    same-length-4 same-length-5 same-length-6 same-length-7 same-length-8 returns sub-check part-check-start
+    part-check-end check-requires enum-known-r enum-told-2 check-requires-2 enum-known-r-2 enum-told-3
+    same-length-9 same-length-10 same-length-11 same-length-12 same-length-13 same-length-14 same-length-15
+    same-length-16 returns-2 same-length-17 same-length-18 same-length-19 same-length-20 same-length-21
+    same-length-22 same-length-23 same-length-24 returns-3 same-length-25 same-length-26 same-length-27
+    same-length-28 same-length-29 same-length-30 same-length-31 same-length-32 returns-4)

@@ -1,3 +1,4 @@
+-- What a literal became, where the table's words are what the variables became. The answer is that of the call below it.
 use Prim.Native.Nat.{ℕ}
 use mathlib.Core.Path.{_≡_, ap, _∙_}
 use native.Mathlib.Omega.{arith}
@@ -43,12 +44,5 @@ returns c =
 pub becomes-spec : {M : Type 1} → statement M
 becomes-spec =
     tie.close
-    (tie.spec
-    var-requires
-    index-requires
-    cast-v
-    mul-at
-    shared-slice-read-at
-    at-requires
-    signed-as-requires
+    (tie.spec var-requires index-requires cast-v mul-at shared-slice-read-at at-requires signed-as-requires
     returns)

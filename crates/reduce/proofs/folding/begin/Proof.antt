@@ -1,3 +1,5 @@
+-- Each variable below n became itself. The loop keeps what `Inv-loop` says; the measure is `n - v`. `whole` and `begin-more` carry it from turn to
+-- turn.
 use borrow.Author.Needs.{needs}
 use Prim.Native.Nat.{ℕ, _-_, _≤_}
 use mathlib.Core.Path.{_≡_, refl, ap, ap₂, _∙_}
@@ -68,18 +70,5 @@ returns c =
 pub begin-spec : {M : Type 1} → statement M
 begin-spec =
     tie.close
-    (tie.spec
-    Inv-loop
-    μ-loop
-    loop-holds
-    cast-at
-    at-requires
-    lit-requires
-    word-requires
-    mul-scratch
-    slice-write-scratch
-    add-v
-    loop-less
-    loop-again
-    same-length
-    returns)
+    (tie.spec Inv-loop μ-loop loop-holds cast-at at-requires lit-requires word-requires mul-scratch
+    slice-write-scratch add-v loop-less loop-again same-length returns)

@@ -1,3 +1,6 @@
+-- Folds a gates over the variables below base: the retained gates and their number, and, first in the scratch, what each variable became. The loop
+-- keeps `(w ≡ base + a) × Going gates to₀ scratch₀ to scratch base w a k n`; the measure is `a - k`. `going-more` carries it from turn to turn, and
+-- `going-end` gives the answer.
 use Prim.Native.Nat.{_+_, _-_, _<_}
 use mathlib.Core.Path.{_≡_, refl, _∙_}
 use native.Mathlib.Omega.{arith}
@@ -90,17 +93,5 @@ returns c =
 pub fold-gates-spec : {M : Type 1} → statement M
 fold-gates-spec =
     tie.close
-    (tie.spec
-    Inv-loop
-    μ-loop
-    begin-requires
-    add-w
-    loop-holds
-    fold-gate-requires
-    add-k
-    loop-less
-    loop-again
-    name-gates-requires
-    same-length
-    same-length-2
-    returns)
+    (tie.spec Inv-loop μ-loop begin-requires add-w loop-holds fold-gate-requires add-k loop-less loop-again
+    name-gates-requires same-length same-length-2 returns)

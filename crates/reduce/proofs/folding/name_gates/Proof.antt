@@ -1,3 +1,6 @@
+-- The left sides of n retained gates, which stand in their rows' first words once these are no links any more. The loop keeps `(i ≤ n) × (length to ≡
+-- length to₀) × (to ≡ rows base to₀ i ++ drop (3 * i) to₀)`; the measure is `n - i`. `name-more` carries it from turn to turn, and `rows` and
+-- `named-all` give the answer.
 use Prim.Native.Nat.{ℕ, _+_, _*_, _-_, _≤_}
 use mathlib.Core.Path.{_≡_, refl, ap, ap₂, _∙_}
 use mathlib.Core.List.{List, _++_}
@@ -63,17 +66,5 @@ returns c =
 pub name-gates-spec : {M : Type 1} → statement M
 name-gates-spec =
     tie.close
-    (tie.spec
-    Inv-loop
-    μ-loop
-    loop-holds
-    left-side-requires
-    word-requires
-    mul-to
-    mul-to-2
-    slice-write-to
-    add-i
-    loop-less
-    loop-again
-    same-length
-    returns)
+    (tie.spec Inv-loop μ-loop loop-holds left-side-requires word-requires mul-to mul-to-2 slice-write-to add-i
+    loop-less loop-again same-length returns)

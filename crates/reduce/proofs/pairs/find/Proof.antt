@@ -1,3 +1,5 @@
+-- The earliest of the n gates with the sides x and y, or where it is to hang. The loop keeps `Come gates scratch w n (wordOf x) (wordOf y) i key`;
+-- the measure is `n - i`. `way-next` carries it from turn to turn, and `way-start`, `way-out` and `word-scratch` give the answer.
 use Prim.Native.Nat.{ℕ, suc, _+_, _-_, _*_, _%_, _<_}
 use mathlib.Core.Path.{_≡_, refl, sym, ap, _∙_, subst}
 use mathlib.Core.List.{List}
@@ -184,25 +186,6 @@ loop-again c =
 pub find-spec : {M : Type 1} → statement M
 find-spec =
     tie.close
-    (tie.spec
-    Inv-loop
-    μ-loop
-    root-requires
-    add-at
-    mul-first
-    shared-slice-read-first
-    returns
-    sub-i
-    cast-i
-    word-requires
-    loop-holds
-    has-sides-requires
-    left-side-requires
-    word-requires-2
-    returns-2
-    leads-requires
-    returns-3
-    sub-i-2
-    cast-i-2
-    loop-less
-    loop-again)
+    (tie.spec Inv-loop μ-loop root-requires add-at mul-first shared-slice-read-first returns sub-i cast-i
+    word-requires loop-holds has-sides-requires left-side-requires word-requires-2 returns-2 leads-requires
+    returns-3 sub-i-2 cast-i-2 loop-less loop-again)

@@ -1,3 +1,4 @@
+-- Gate n, with the sides x and y, hangs at the slot where its pair belongs. The answer is that of the call below it.
 use native.Mathlib.Omega.{arith}
 use lib.ListN.{length-set}
 use borrow.Author.Needs.{needs}
@@ -55,18 +56,5 @@ returns c =
 pub hang-spec : {M : Type 1} → statement M
 hang-spec =
     tie.close
-    (tie.spec
-    set-slot-requires
-    word-requires
-    mul-gates
-    add-gates
-    mul-gates-2
-    slice-write-gates
-    word-requires-2
-    mul-gates-3
-    add-gates-2
-    mul-gates-4
-    slice-write-gates-2
-    same-length
-    same-length-2
-    returns)
+    (tie.spec set-slot-requires word-requires mul-gates add-gates mul-gates-2 slice-write-gates
+    word-requires-2 mul-gates-3 add-gates-2 mul-gates-4 slice-write-gates-2 same-length same-length-2 returns)

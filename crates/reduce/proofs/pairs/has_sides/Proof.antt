@@ -1,3 +1,4 @@
+-- Whether gate i has the sides x and y. Each answer is rewritten with the tests that led to it.
 use Prim.Native.Nat.{_+_, _*_}
 use mathlib.Core.Path.{sym, ap, _∙_}
 use borrow.Author.Tests.{eq-eqb, ne-eqb}
@@ -54,16 +55,5 @@ returns-2 c =
 pub has-sides-spec : {M : Type 1} → statement M
 has-sides-spec =
     tie.close
-    (tie.spec
-    mul-if1
-    add-if1
-    mul-if1-2
-    shared-slice-read-if1
-    word-requires
-    returns
-    mul-result
-    add-result
-    mul-result-2
-    shared-slice-read-result
-    word-requires-2
-    returns-2)
+    (tie.spec mul-if1 add-if1 mul-if1-2 shared-slice-read-if1 word-requires returns mul-result add-result
+    mul-result-2 shared-slice-read-result word-requires-2 returns-2)

@@ -1,3 +1,4 @@
+-- What stands at gate i's link for a bit: the next gate, counted from 1, or 0. Each answer is given by `word-link`.
 use mathlib.Core.Path.{refl}
 use borrow.Author.Needs.{needs}
 use Rattle.reduce.proofs.pairs.Words.{word-link}
@@ -41,13 +42,5 @@ returns-2 c =
 pub leads-spec : {M : Type 1} → statement M
 leads-spec =
     tie.close
-    (tie.spec
-    mul-result
-    mul-result-2
-    shared-slice-read-result
-    mul-result-3
-    add-result
-    mul-result-4
-    shared-slice-read-result-2
-    returns
-    returns-2)
+    (tie.spec mul-result mul-result-2 shared-slice-read-result mul-result-3 add-result mul-result-4
+    shared-slice-read-result-2 returns returns-2)

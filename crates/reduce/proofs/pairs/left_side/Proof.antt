@@ -1,3 +1,4 @@
+-- The left side of retained gate i: the variables of retained gates run on from base. Each answer is given by `whole`.
 use Prim.Native.Nat.{_+_}
 use mathlib.Core.Path.{ap, _∙_}
 use native.Mathlib.Omega.{arith}

@@ -1,3 +1,4 @@
+-- Which of the 2 × w roots is the pair's. The answers are given by `root-under` and `root-over`.
 use Prim.Native.Nat.{_+_}
 use mathlib.Core.Path.{_≡_, ap₂}
 use native.Mathlib.Omega.{arith}
@@ -51,13 +52,4 @@ returns-2 c =
 pub root-spec : {M : Type 1} → statement M
 root-spec =
     tie.close
-    (tie.spec
-    word-requires
-    cast-v
-    spread-requires
-    add-v
-    mul-if1
-    mul-result
-    sub-result
-    returns
-    returns-2)
+    (tie.spec word-requires cast-v spread-requires add-v mul-if1 mul-result sub-result returns returns-2)

@@ -1,3 +1,4 @@
+-- Gate i's link for a bit leads to gate n. The answers are given by `led-zero` and `led-one`.
 use native.Mathlib.Omega.{arith}
 use borrow.Author.Needs.{needs}
 use Rattle.reduce.proofs.pairs.Words.{led-zero, led-one}
@@ -57,19 +58,5 @@ returns-2 c =
 pub set-link-spec : {M : Type 1} → statement M
 set-link-spec =
     tie.close
-    (tie.spec
-    add-gates
-    cast-gates
-    mul-gates
-    mul-gates-2
-    slice-write-gates
-    same-length
-    returns
-    add-scratch
-    cast-scratch
-    mul-scratch
-    add-scratch-2
-    mul-scratch-2
-    slice-write-scratch
-    same-length-2
-    returns-2)
+    (tie.spec add-gates cast-gates mul-gates mul-gates-2 slice-write-gates same-length returns add-scratch
+    cast-scratch mul-scratch add-scratch-2 mul-scratch-2 slice-write-scratch same-length-2 returns-2)

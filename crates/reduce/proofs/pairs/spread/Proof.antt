@@ -1,3 +1,4 @@
+-- How far the smaller side moves the root: its hash, a part of 2^32, on a scale of all roots. Each answer is given by `spread-is`.
 use native.Mathlib.Omega.{arith}
 use borrow.Author.Needs.{needs}
 use Rattle.plan.specs.Literals.{wordOf}

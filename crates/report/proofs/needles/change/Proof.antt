@@ -1,3 +1,4 @@
+-- A needle's fourth word one step later. The answer is that of the call below it.
 use Prim.Native.Nat.{ℕ, _+_, _*_, _/_, _%_}
 use mathlib.Core.Path.{ap}
 use native.Mathlib.Omega.{arith}

@@ -1,3 +1,4 @@
+-- One step more of one needle, whose four words start at `at`. The answers are given by `fourth-stays` and `counted-put`.
 use Prim.Native.Nat.{ℕ, _+_, _-_, _*_, _/_, _%_, _<_}
 use mathlib.Core.Path.{ap, _∙_}
 use mathlib.Core.List.{List}
@@ -50,8 +51,15 @@ change-requires : tie.Need-change-requires
 change-requires c κs =
     let s = c .before .before .before in
     let a = s .args in
-    let p = s .pre in
-    (omega (arith, p .few 3 (omega arith), fourth-stays (a .six .now) (a .at) (p .inside) (a .value) (getD (a .six .now) (a .at + (a .value - 1)) 0 + 1) (p .some) (p .coded)), p .coded)
+    let p = s .pre in (
+      omega (
+        arith,
+        p .few 3 (omega arith),
+        fourth-stays (a .six .now) (a .at) (p .inside) (a .value)
+            (getD (a .six .now) (a .at + (a .value - 1)) 0 + 1) (p .some) (p .coded),
+      ),
+      p .coded,
+    )
 
 add-six-2 : tie.Need-add-six-2
 add-six-2 c = let p = c .before .before .before .before .pre in omega (arith, p .inside)
@@ -80,21 +88,5 @@ returns c =
 pub count-spec : {M : Type 1} → statement M
 count-spec =
     tie.close
-    (tie.spec
-    sub-slot
-    cast-slot
-    add-slot
-    mul-six
-    slice-read-six
-    add-six
-    mul-six-2
-    slice-write-six
-    add-last
-    mul-last
-    slice-read-last
-    change-requires
-    add-six-2
-    mul-six-3
-    slice-write-six-2
-    same-length
-    returns)
+    (tie.spec sub-slot cast-slot add-slot mul-six slice-read-six add-six mul-six-2 slice-write-six add-last
+    mul-last slice-read-last change-requires add-six-2 mul-six-3 slice-write-six-2 same-length returns)

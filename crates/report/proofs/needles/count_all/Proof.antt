@@ -1,3 +1,5 @@
+-- One step more of n needles, whose words start at `at`, by the values in words from `from` on. The loop keeps `Rowed`; the measure is `n - i`.
+-- `counts-more` carries it from turn to turn, and `rowed-all` gives the answer.
 use Prim.Native.Nat.{_+_, _-_, _≤_}
 use native.Mathlib.Omega.{arith}
 use lib.ListN.{getD}
@@ -63,17 +65,5 @@ returns c = let w = c .before .loop in rowed-all (w .inv .0) (c .loop-test .left
 pub count-all-spec : {M : Type 1} → statement M
 count-all-spec =
     tie.close
-    (tie.spec
-    Inv-loop
-    μ-loop
-    loop-holds
-    add-count
-    mul-count
-    shared-slice-read-count
-    count-requires
-    add-row
-    add-i
-    loop-less
-    loop-again
-    same-length
-    returns)
+    (tie.spec Inv-loop μ-loop loop-holds add-count mul-count shared-slice-read-count count-requires add-row
+    add-i loop-less loop-again same-length returns)

@@ -1,3 +1,4 @@
+-- 1 if a value's word differs from the last one's, else 0; 0 too where no value came before. Each answer is rewritten with the tests that led to it.
 use borrow.Author.Tests.{eq-eqb, ne-eqb}
 use Rattle.report.proofs.needles.differs.Statement.{statement}
 use Rattle.report.proofs.needles.differs.Tie as tie

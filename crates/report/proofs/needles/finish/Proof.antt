@@ -1,3 +1,5 @@
+-- After the last step the values of the step before go: of n needles the changes alone stay. The loop keeps `Rowed`; the measure is `n - i`.
+-- `finish-next` carries it from turn to turn, and `rowed-all` gives the answer.
 use Prim.Native.Nat.{_+_, _*_, _-_, _≤_}
 use mathlib.Core.Path.{_≡_, refl}
 use native.Mathlib.Omega.{arith}
@@ -71,17 +73,5 @@ returns c = let w = c .before .loop in rowed-all (w .inv .0) (c .loop-test .left
 pub finish-spec : {M : Type 1} → statement M
 finish-spec =
     tie.close
-    (tie.spec
-    Inv-loop
-    μ-loop
-    loop-holds
-    mul-six
-    slice-read-six
-    mul-six-2
-    slice-write-six
-    add-at
-    add-i
-    loop-less
-    loop-again
-    same-length
-    returns)
+    (tie.spec Inv-loop μ-loop loop-holds mul-six slice-read-six mul-six-2 slice-write-six add-at add-i
+    loop-less loop-again same-length returns)

@@ -1,3 +1,5 @@
+-- A row is added to a block: where its byte differs from a code, the bit `lit` of the column's byte is lit. The loop keeps `Written`; the measure is
+-- `w - j`. `written-more` carries it from turn to turn, and `written-all` gives the answer.
 use Prim.Native.Nat.{ℕ, _+_, _*_, _-_, _≤_, _<_}
 use mathlib.Core.Path.{_≡_, ap₂}
 use native.Mathlib.Omega.{arith}
@@ -101,21 +103,6 @@ returns c = written-all (c .before .loop .inv .1) (omega arith)
 pub add-row-spec : {M : Type 1} → statement M
 add-row-spec =
     tie.close
-    (tie.spec
-    Inv-loop
-    μ-loop
-    loop-holds
-    add-other-than
-    shared-slice-read-other-than
-    other-than-requires
-    add-block
-    slice-read-block
-    mul-block
-    add-block-2
-    add-block-3
-    slice-write-block
-    add-j
-    loop-less
-    loop-again
-    same-length
-    returns)
+    (tie.spec Inv-loop μ-loop loop-holds add-other-than shared-slice-read-other-than other-than-requires
+    add-block slice-read-block mul-block add-block-2 add-block-3 slice-write-block add-j loop-less loop-again
+    same-length returns)

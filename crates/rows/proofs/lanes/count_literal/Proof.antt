@@ -1,3 +1,4 @@
+-- The rows in which a literal is 0, 1 and x. The answers are given by `three-put` and `literal-counts`.
 use mathlib.Core.Path.{sym, ap, _∙_, subst}
 use native.Mathlib.Omega.{arith}
 use lib.ListN.{length-set}
@@ -72,20 +73,6 @@ returns c =
 pub count-literal-spec : {M : Type 1} → statement M
 count-literal-spec =
     tie.close
-    (tie.spec
-    plane-of-requires
-    negated-requires
-    plane-of-requires-2
-    rows-in-requires
-    mul-report
-    slice-write-report
-    rows-in-requires-2
-    add-report
-    mul-report-2
-    slice-write-report-2
-    rows-in-requires-3
-    add-report-2
-    mul-report-3
-    slice-write-report-3
-    same-length
-    returns)
+    (tie.spec plane-of-requires negated-requires plane-of-requires-2 rows-in-requires mul-report
+    slice-write-report rows-in-requires-2 add-report mul-report-2 slice-write-report-2 rows-in-requires-3
+    add-report-2 mul-report-3 slice-write-report-3 same-length returns)

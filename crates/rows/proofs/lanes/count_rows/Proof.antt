@@ -1,3 +1,4 @@
+-- Per output the rows at 0, at 1 and at x. The loop keeps what `Inv-loop` says; the measure is `n - j`. `rows-more` carries it from turn to turn.
 use Prim.Native.Nat.{ℕ, _*_, _-_, _≤_}
 use mathlib.Core.Path.{_≡_, refl, sym, ap, _∙_, subst}
 use native.Mathlib.Omega.{arith}
@@ -95,18 +96,5 @@ returns c =
 pub count-rows-spec : {M : Type 1} → statement M
 count-rows-spec =
     tie.close
-    (tie.spec
-    Inv-loop
-    μ-loop
-    mask-of-requires
-    loop-holds
-    mul-at
-    shared-slice-read-at
-    at-requires
-    count-literal-requires
-    add-at
-    add-j
-    loop-less
-    loop-again
-    same-length
-    returns)
+    (tie.spec Inv-loop μ-loop mask-of-requires loop-holds mul-at shared-slice-read-at at-requires
+    count-literal-requires add-at add-j loop-less loop-again same-length returns)

@@ -1,3 +1,4 @@
+-- A byte's bit in a lane, by a sum instead of a test: 127 and the bit, where it is lit, make 128 or more. Each answer is given by `lane-is`.
 use native.Mathlib.Omega.{arith}
 use Rattle.rows.proofs.lanes.Storing.{lane-fits, lane-is}
 use borrow.Author.Needs.{needs}

@@ -1,3 +1,5 @@
+-- Where w columns of rows of n bytes, from column `from` on, differ from a code: a block, which is zero at first. The loop keeps `Packed`; the
+-- measure is `rows - k`. `next-at` and `packed-more` carry it from turn to turn, and `loaded` gives the answer.
 use Prim.Native.Nat.{ℕ, _+_, _*_, _-_, _≤_, _<_}
 use mathlib.Core.Path.{_≡_, refl, _∙_, subst}
 use native.Mathlib.Nat.{mul-zero}
@@ -94,17 +96,5 @@ returns c =
 pub load-block-spec : {M : Type 1} → statement M
 load-block-spec =
     tie.close
-    (tie.spec
-    Inv-loop
-    μ-loop
-    loop-holds
-    cast-add-row
-    shl-add-row
-    mul-add-row
-    add-row-requires
-    add-at
-    add-k
-    loop-less
-    loop-again
-    same-length
-    returns)
+    (tie.spec Inv-loop μ-loop loop-holds cast-add-row shl-add-row mul-add-row add-row-requires add-at add-k
+    loop-less loop-again same-length returns)

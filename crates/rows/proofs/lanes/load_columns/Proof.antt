@@ -1,3 +1,5 @@
+-- The planes of w inputs, from their bytes: a byte but "0" may be 1, and a byte but "1" may be 0. The answers are given by `grows-same` and
+-- `block-plane`.
 use Prim.Native.Nat.{_+_}
 use native.Mathlib.Omega.{arith}
 use Rattle.rows.specs.Planes.Planes.{column}
@@ -51,14 +53,6 @@ returns c =
 pub load-columns-spec : {M : Type 1} → statement M
 load-columns-spec =
     tie.close
-    (tie.spec
-    slice-aggregate-load-block
-    load-block-requires
-    slice-aggregate-load-block-2
-    load-block-requires-2
-    slice-aggregate-put-columns
-    slice-aggregate-put-columns-2
-    add-put-columns
-    put-columns-requires
-    same-length
-    returns)
+    (tie.spec slice-aggregate-load-block load-block-requires slice-aggregate-load-block-2
+    load-block-requires-2 slice-aggregate-put-columns slice-aggregate-put-columns-2 add-put-columns
+    put-columns-requires same-length returns)

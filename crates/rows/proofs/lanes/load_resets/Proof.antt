@@ -1,3 +1,5 @@
+-- The latches' planes, by their resets, behind those of `before` variables: in every row the same. The loop keeps `Grows`; the measure is `n - j`.
+-- `grows-more` carries it from turn to turn, and `grows-all` gives the answer.
 use Prim.Native.Nat.{ℕ, _+_, _*_, _-_, _≤_}
 use mathlib.Core.Path.{_≡_, refl, _∙_}
 use mathlib.Core.List.{List}
@@ -86,19 +88,5 @@ returns c =
 pub load-resets-spec : {M : Type 1} → statement M
 load-resets-spec =
     tie.close
-    (tie.spec
-    Inv-loop
-    μ-loop
-    mul-to
-    loop-holds
-    mul-reset
-    shared-slice-read-reset
-    rows-but-requires
-    rows-but-requires-2
-    put-planes-requires
-    add-to
-    add-j
-    loop-less
-    loop-again
-    same-length
-    returns)
+    (tie.spec Inv-loop μ-loop mul-to loop-holds mul-reset shared-slice-read-reset rows-but-requires
+    rows-but-requires-2 put-planes-requires add-to add-j loop-less loop-again same-length returns)

@@ -1,3 +1,5 @@
+-- The inputs' planes, from the rows' bytes, behind the constant's. The loop keeps `Grows`; the measure is `n - j`. `grows-join` carries it from turn
+-- to turn, and `grows-all` gives the answer.
 use Prim.Native.Nat.{ℕ, _-_, _≤_}
 use mathlib.Core.Path.{_≡_, refl, _∙_}
 use mathlib.Core.List.{List}
@@ -85,15 +87,5 @@ returns c =
 pub load-rows-spec : {M : Type 1} → statement M
 load-rows-spec =
     tie.close
-    (tie.spec
-    Inv-loop
-    μ-loop
-    loop-holds
-    sub-width
-    width-requires
-    load-columns-requires
-    add-j
-    loop-less
-    loop-again
-    same-length
-    returns)
+    (tie.spec Inv-loop μ-loop loop-holds sub-width width-requires load-columns-requires add-j loop-less
+    loop-again same-length returns)

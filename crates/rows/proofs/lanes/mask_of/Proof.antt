@@ -1,3 +1,4 @@
+-- The lanes that have a row. Each answer is given by `one-shl`.
 use Prim.Native.Nat.{ℕ, _-_, _^_}
 use mathlib.Core.Path.{sym, ap}
 use native.Mathlib.Omega.{arith}

@@ -1,3 +1,5 @@
+-- 1 where a byte differs from a code, by a sum instead of a test: half of what is not 0, rounded up, and 127 make 128 or more. Each answer is given
+-- by `differs-is`.
 use Prim.Native.Nat.{_<_}
 use native.Mathlib.Omega.{arith}
 use lib.Bits.{bitXor}

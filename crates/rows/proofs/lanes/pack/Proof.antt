@@ -1,3 +1,5 @@
+-- The planes of w literals of a table, from the one of column `from` on, as blocks: where each may be 1, and where it may be both. The loop keeps
+-- `Packed`; the measure is `w - j`. `next-at` and `below-more` carry it from turn to turn.
 use Prim.Native.Nat.{ℕ, _+_, _*_, _-_, _≤_, _<_}
 use mathlib.Core.Path.{_≡_, refl, sym, ap, ap₂, _∙_, subst}
 use mathlib.Core.List.{List}
@@ -161,24 +163,6 @@ returns c =
 pub pack-spec : {M : Type 1} → statement M
 pack-spec =
     tie.close
-    (tie.spec
-    Inv-loop
-    μ-loop
-    mul-at
-    add-at
-    loop-holds
-    mul-at-2
-    shared-slice-read-at
-    at-requires
-    plane-of-requires
-    negated-requires
-    plane-of-requires-2
-    put-bytes-requires
-    put-bytes-requires-2
-    add-at-2
-    add-j
-    loop-less
-    loop-again
-    same-length
-    same-length-2
-    returns)
+    (tie.spec Inv-loop μ-loop mul-at add-at loop-holds mul-at-2 shared-slice-read-at at-requires
+    plane-of-requires negated-requires plane-of-requires-2 put-bytes-requires put-bytes-requires-2 add-at-2
+    add-j loop-less loop-again same-length same-length-2 returns)

@@ -1,3 +1,4 @@
+-- The rows in which a literal may be 1. The answer is that of the call below it.
 use mathlib.Core.Path.{ap, _∙_}
 use Rattle.rows.specs.lanes.Words.{planeAt}
 use borrow.Author.Needs.{needs}
@@ -39,14 +40,5 @@ returns c =
 pub plane-of-spec : {M : Type 1} → statement M
 plane-of-spec =
     tie.close
-    (tie.spec
-    word-requires
-    cast-at
-    mul-at
-    mul-joined
-    shared-slice-read-joined
-    add-joined
-    mul-joined-2
-    shared-slice-read-joined-2
-    joined-requires
-    returns)
+    (tie.spec word-requires cast-at mul-at mul-joined shared-slice-read-joined add-joined mul-joined-2
+    shared-slice-read-joined-2 joined-requires returns)

@@ -1,3 +1,5 @@
+-- The codes of a block in each row, which go to the columns from `from` on. The loop keeps `Blocked`; the measure is `rows - k`. `next-at` and
+-- `blocked-more` carry it from turn to turn, and `blocked-all` gives the answer.
 use Prim.Native.Nat.{ℕ, _+_, _*_, _-_, _/_, _%_, _≤_}
 use mathlib.Core.Path.{_≡_}
 use mathlib.Core.List.{List}
@@ -81,15 +83,5 @@ returns c = blocked-all (c .before .loop .inv .2) (omega arith)
 pub put-block-spec : {M : Type 1} → statement M
 put-block-spec =
     tie.close
-    (tie.spec
-    Inv-loop
-    μ-loop
-    loop-holds
-    mul-put-codes
-    put-codes-requires
-    add-to
-    add-k
-    loop-less
-    loop-again
-    same-length
-    returns)
+    (tie.spec Inv-loop μ-loop loop-holds mul-put-codes put-codes-requires add-to add-k loop-less loop-again
+    same-length returns)

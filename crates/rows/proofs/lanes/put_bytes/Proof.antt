@@ -1,3 +1,5 @@
+-- The bytes of a plane, as column j of a block. The loop keeps `Striped`; the measure is `8 - g`. `byte-more` and `striped-more` carry it from turn
+-- to turn, and `striped-all` gives the answer.
 use Prim.Native.Nat.{_+_, _*_, _-_, _/_, _%_, _^_, _≤_}
 use mathlib.Core.Path.{_≡_, ap}
 use native.Mathlib.Omega.{arith}
@@ -60,15 +62,5 @@ returns c = striped-all (c .before .loop .inv .3) (omega arith)
 pub put-bytes-spec : {M : Type 1} → statement M
 put-bytes-spec =
     tie.close
-    (tie.spec
-    Inv-loop
-    μ-loop
-    loop-holds
-    cast-block
-    slice-write-block
-    add-at
-    add-g
-    loop-less
-    loop-again
-    same-length
-    returns)
+    (tie.spec Inv-loop μ-loop loop-holds cast-block slice-write-block add-at add-g loop-less loop-again
+    same-length returns)

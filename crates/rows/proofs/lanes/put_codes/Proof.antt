@@ -1,3 +1,5 @@
+-- The codes of w columns in one row, whose bits are those in a lane of the bytes from `from` on. The loop keeps `Written`; the measure is `w - j`.
+-- `written-more` carries it from turn to turn, and `written-all` gives the answer.
 use Prim.Native.Nat.{ℕ, _+_, _*_, _-_, _≤_, _<_}
 use mathlib.Core.Path.{ap₂}
 use native.Mathlib.Omega.{arith}
@@ -99,23 +101,6 @@ returns c = written-all (c .before .loop .inv .1) (omega arith)
 pub put-codes-spec : {M : Type 1} → statement M
 put-codes-spec =
     tie.close
-    (tie.spec
-    Inv-loop
-    μ-loop
-    loop-holds
-    add-lane-of
-    shared-slice-read-lane-of
-    lane-of-requires
-    add-lane-of-2
-    shared-slice-read-lane-of-2
-    lane-of-requires-2
-    add-out
-    mul-out
-    add-out-2
-    add-out-3
-    slice-write-out
-    add-j
-    loop-less
-    loop-again
-    same-length
-    returns)
+    (tie.spec Inv-loop μ-loop loop-holds add-lane-of shared-slice-read-lane-of lane-of-requires add-lane-of-2
+    shared-slice-read-lane-of-2 lane-of-requires-2 add-out mul-out add-out-2 add-out-3 slice-write-out add-j
+    loop-less loop-again same-length returns)

@@ -1,3 +1,5 @@
+-- The planes of a block's columns, behind those of `before` variables. The loop keeps `Grows`; the measure is `w - j`. `grows-more` carries it from
+-- turn to turn, and `grows-all` gives the answer.
 use Prim.Native.Nat.{ℕ, _+_, _*_, _-_, _≤_, _<_}
 use mathlib.Core.Path.{_≡_, refl, ap₂, _∙_}
 use native.Mathlib.Omega.{arith}
@@ -101,23 +103,6 @@ returns c =
 pub put-columns-spec : {M : Type 1} → statement M
 put-columns-spec =
     tie.close
-    (tie.spec
-    Inv-loop
-    μ-loop
-    mul-to
-    loop-holds
-    word-of-requires
-    add-word-of
-    word-of-requires-2
-    joined-requires
-    word-of-requires-3
-    add-word-of-2
-    word-of-requires-4
-    joined-requires-2
-    put-planes-requires
-    add-to
-    add-j
-    loop-less
-    loop-again
-    same-length
-    returns)
+    (tie.spec Inv-loop μ-loop mul-to loop-holds word-of-requires add-word-of word-of-requires-2
+    joined-requires word-of-requires-3 add-word-of-2 word-of-requires-4 joined-requires-2 put-planes-requires
+    add-to add-j loop-less loop-again same-length returns)

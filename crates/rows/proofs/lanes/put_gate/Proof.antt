@@ -1,3 +1,4 @@
+-- A gate may be 1 where both sides may, and 0 where either may: the And of 64 rows, without a test on a value. Each answer is given by `gate-planes`.
 use Prim.Native.Nat.{ℕ}
 use mathlib.Core.Path.{sym, ap, _∙_, subst}
 use mathlib.Core.List.{List}
@@ -56,13 +57,5 @@ returns c =
 pub put-gate-spec : {M : Type 1} → statement M
 put-gate-spec =
     tie.close
-    (tie.spec
-    plane-of-requires
-    plane-of-requires-2
-    negated-requires
-    plane-of-requires-3
-    negated-requires-2
-    plane-of-requires-4
-    put-planes-requires
-    same-length
-    returns)
+    (tie.spec plane-of-requires plane-of-requires-2 negated-requires plane-of-requires-3 negated-requires-2
+    plane-of-requires-4 put-planes-requires same-length returns)

@@ -1,3 +1,4 @@
+-- A variable's planes: the rows in which it may be 1, and those in which it may be 0. Each answer is given by `four-put`.
 use Prim.Native.Nat.{ℕ, _/_, _%_}
 use mathlib.Core.Path.{ap₂, _∙_}
 use mathlib.Core.List.{[], _∷_}
@@ -69,21 +70,5 @@ returns c =
 pub put-planes-spec : {M : Type 1} → statement M
 put-planes-spec =
     tie.close
-    (tie.spec
-    low-requires
-    mul-t
-    slice-write-t
-    high-requires
-    add-t
-    mul-t-2
-    slice-write-t-2
-    low-requires-2
-    add-t-2
-    mul-t-3
-    slice-write-t-3
-    high-requires-2
-    add-t-3
-    mul-t-4
-    slice-write-t-4
-    same-length
-    returns)
+    (tie.spec low-requires mul-t slice-write-t high-requires add-t mul-t-2 slice-write-t-2 low-requires-2
+    add-t-2 mul-t-3 slice-write-t-3 high-requires-2 add-t-3 mul-t-4 slice-write-t-4 same-length returns)

@@ -1,3 +1,4 @@
+-- Every row where a reset differs from a code, else none. Each answer is rewritten with the tests that led to it.
 use borrow.Author.Tests.{eq-eqb, ne-eqb}
 use Rattle.rows.proofs.lanes.rows_but.Statement.{statement}
 use Rattle.rows.proofs.lanes.rows_but.Tie as tie

@@ -1,3 +1,4 @@
+-- The rows of a plane: each lane word's count of ones, added up, with spare lanes masked off. Each answer is given by `ones-words`.
 use Prim.Native.Nat.{ℕ, _+_}
 use mathlib.Core.Path.{_≡_, ap₂, _∙_}
 use native.Mathlib.Omega.{arith}

@@ -1,3 +1,4 @@
+-- One step of all rows from the resets. Each answer is given by `holds`.
 use mathlib.Core.Path.{_∙_}
 use native.Mathlib.Omega.{arith}
 use Rattle.rows.proofs.lanes.Stepping.{sweeps, holds}
@@ -22,12 +23,16 @@ add-sweep-lanes c = search needs
 
 add-sweep-lanes-2 : tie.Need-add-sweep-lanes-2
 add-sweep-lanes-2 c =
-    let p = c .before .before .before .before .before .before .before .before .before .before .before .before .before .before .before .before .before .before .before .pre in
+    let p = c .before .before .before .before .before .before .before .before .before .before .before .before .before .before .before .before .before
+    .before .before .pre in
     omega (arith, p .runs .fits .sum, p .runs .fits .most-M)
 
 sweep-lanes-requires : tie.Need-sweep-lanes-requires
 sweep-lanes-requires c κs =
-    sweeps (c .before .before .before .before .before .before .before .before .before .before .before .before .before .before .before .before .before .before .before .before .pre) _ (c .before .before .before .before .t3 .given ∙ (c .before .before .before .before .before .before .before .before .before .t2 .given ∙ c .before .before .before .before .before .before .before .before .before .before .before .before .before .t .given))
+    sweeps (c .before .before .before .before .before .before .before .before .before .before .before .before .before .before .before .before .before
+    .before .before .before .pre) _ (c .before .before .before .before .t3 .given
+    ∙ (c .before .before .before .before .before .before .before .before .before .t2 .given
+    ∙ c .before .before .before .before .before .before .before .before .before .before .before .before .before .t .given))
 
 same-length : tie.Need-same-length
 same-length c = search needs
@@ -44,13 +49,5 @@ returns c =
 pub step-lanes-spec : {M : Type 1} → statement M
 step-lanes-spec =
     tie.close
-    (tie.spec
-    put-planes-requires
-    load-rows-requires
-    add-load-resets
-    load-resets-requires
-    add-sweep-lanes
-    add-sweep-lanes-2
-    sweep-lanes-requires
-    same-length
-    returns)
+    (tie.spec put-planes-requires load-rows-requires add-load-resets load-resets-requires add-sweep-lanes
+    add-sweep-lanes-2 sweep-lanes-requires same-length returns)

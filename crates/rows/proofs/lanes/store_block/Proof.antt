@@ -1,3 +1,4 @@
+-- The codes of w literals of a table in each row. The answers are given by `blocked-same` and `packed-code`.
 use Prim.Native.Nat.{_+_}
 use native.Mathlib.Omega.{arith}
 use Rattle.rows.specs.lanes.Words.{planeAt, bothAt}
@@ -47,12 +48,5 @@ returns c =
 pub store-block-spec : {M : Type 1} → statement M
 store-block-spec =
     tie.close
-    (tie.spec
-    slice-aggregate-pack
-    slice-aggregate-pack-2
-    pack-requires
-    slice-aggregate-put-block
-    slice-aggregate-put-block-2
-    put-block-requires
-    same-length
-    returns)
+    (tie.spec slice-aggregate-pack slice-aggregate-pack-2 pack-requires slice-aggregate-put-block
+    slice-aggregate-put-block-2 put-block-requires same-length returns)

@@ -1,3 +1,5 @@
+-- The codes of n literals of a table in each row, n bytes a row. The loop keeps `Below`; the measure is `n - j`. `below-block` carries it from turn
+-- to turn, and `rows-are` gives the answer.
 use Prim.Native.Nat.{ℕ, _-_, _≤_}
 use mathlib.Core.Path.{_≡_, refl, _∙_, subst}
 use mathlib.Core.List.{List}
@@ -85,15 +87,5 @@ returns c =
 pub store-rows-spec : {M : Type 1} → statement M
 store-rows-spec =
     tie.close
-    (tie.spec
-    Inv-loop
-    μ-loop
-    loop-holds
-    sub-width
-    width-requires
-    store-block-requires
-    add-j
-    loop-less
-    loop-again
-    same-length
-    returns)
+    (tie.spec Inv-loop μ-loop loop-holds sub-width width-requires store-block-requires add-j loop-less
+    loop-again same-length returns)

@@ -1,3 +1,5 @@
+-- The planes of n gates, whose variables run on from `before`. The loop keeps `Swept`; the measure is `n - i`. `swept-more` carries it from turn to
+-- turn.
 use Prim.Native.Nat.{ℕ, _+_, _*_, _-_, _≤_}
 use mathlib.Core.Path.{_≡_, refl, sym, ap, ap₂, _∙_, subst}
 use native.Mathlib.Omega.{arith}
@@ -115,24 +117,6 @@ returns c =
 pub sweep-lanes-spec : {M : Type 1} → statement M
 sweep-lanes-spec =
     tie.close
-    (tie.spec
-    Inv-loop
-    μ-loop
-    mul-to
-    loop-holds
-    add-at
-    mul-at
-    shared-slice-read-at
-    at-requires
-    add-at-2
-    mul-at-2
-    shared-slice-read-at-2
-    at-requires-2
-    put-gate-requires
-    add-to
-    add-at-3
-    add-i
-    loop-less
-    loop-again
-    same-length
-    returns)
+    (tie.spec Inv-loop μ-loop mul-to loop-holds add-at mul-at shared-slice-read-at at-requires add-at-2
+    mul-at-2 shared-slice-read-at-2 at-requires-2 put-gate-requires add-to add-at-3 add-i loop-less loop-again
+    same-length returns)

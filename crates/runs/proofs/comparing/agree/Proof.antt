@@ -1,3 +1,5 @@
+-- Whether both engines answer the same, and leave the same state and the same lines. The answers are given by `first-fails`, `second-fails` and
+-- `same-is`.
 use mathlib.Core.Path.{sym, _∙_}
 use mathlib.Core.Bool.{Bool}
 use borrow.Author.Tests.{not-true, not-false}

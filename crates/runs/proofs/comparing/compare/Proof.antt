@@ -1,3 +1,5 @@
+-- A part of a run by both engines, the stepper into `state` and `out`, the plain engine into `twin` and `again`; and whether they leave the same.
+-- Each answer is given by `answered`.
 use mathlib.Core.Path.{_≡_, refl, sym, _∙_}
 use mathlib.Core.Bool.{true, false}
 use borrow.Author.Tests.{not-true, not-false}
@@ -33,7 +35,8 @@ abbrev traced : tie.After-trace-plain → tie.After-trace
 traced p = p .before .before .before .before .before .before .before .before .before .before
 
 abbrev start : tie.After-trace-plain → tie.Start
-start p = p .before .before .before .before .before .before .before .before .before .before .before .before .before .before .before .before .before .before .before .before .before .before .before .before .before .before .before
+start p = p .before .before .before .before .before .before .before .before .before .before .before .before .before .before .before .before .before
+    .before .before .before .before .before .before .before .before .before .before
 
 abbrev stepped : tie.After-trace-plain → TraceExit
 stepped p =
@@ -143,27 +146,7 @@ returns-3 c =
 pub compare-spec : {M : Type 1} → statement M
 compare-spec =
     tie.close
-    (tie.spec
-    trace-requires
-    trace-plain-requires
-    agree-requires
-    same-length
-    same-length-2
-    same-length-3
-    same-length-4
-    same-length-5
-    returns
-    enum-known-part
-    enum-known-part-2
-    same-length-6
-    same-length-7
-    same-length-8
-    same-length-9
-    same-length-10
-    returns-2
-    same-length-11
-    same-length-12
-    same-length-13
-    same-length-14
-    same-length-15
-    returns-3)
+    (tie.spec trace-requires trace-plain-requires agree-requires same-length same-length-2 same-length-3
+    same-length-4 same-length-5 returns enum-known-part enum-known-part-2 same-length-6 same-length-7
+    same-length-8 same-length-9 same-length-10 returns-2 same-length-11 same-length-12 same-length-13
+    same-length-14 same-length-15 returns-3)

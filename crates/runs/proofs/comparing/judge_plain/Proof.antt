@@ -1,3 +1,4 @@
+-- The lines of vectors, by 24 and then 12 (the paper, the plain engine). The answer is that of the call below it.
 use mathlib.Core.Path.{sym, ap, _∙_}
 use mathlib.Core.Bool.{Bool, cond, _&&_}
 use borrow.Author.Tests.{le-leb, lt-leb}

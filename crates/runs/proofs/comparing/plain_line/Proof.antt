@@ -1,3 +1,5 @@
+-- One line and its step: the state, the inputs, the outputs and the next state, which stands in the state's place then. The answers are given by
+-- `line-lined`, `part-last` and `outs-long`.
 use Prim.Native.Nat.{ℕ, _+_, _-_, _≤_, _<_}
 use mathlib.Core.Path.{_≡_, refl, _∙_}
 use native.Mathlib.Omega.{arith}
@@ -61,7 +63,8 @@ plain-vectors-requires c κs =
     )
 
 slice-write-out : tie.Need-slice-write-out
-slice-write-out c = omega (arith, inside (c .before .before .before .before .before .before .before .before .before .before .before .before), c .before .out3 .given)
+slice-write-out c =
+    omega (arith, inside (c .before .before .before .before .before .before .before .before .before .before .before .before), c .before .out3 .given)
 
 add-put-bytes : tie.Need-add-put-bytes
 add-put-bytes c =
@@ -71,7 +74,14 @@ add-put-bytes c =
 put-bytes-requires-3 : tie.Need-put-bytes-requires-3
 put-bytes-requires-3 c κs =
     let d = c .before .before .before .before .before .before .before .before .before .before .before .before .before .before in
-    simp length-set (omega (arith, room d, same d, c .before .before .before .out3 .given, c .before .before .before .before .before .state .given, start (first d) .pre .1 .0 .long))
+    simp length-set (omega (
+      arith,
+      room d,
+      same d,
+      c .before .before .before .out3 .given,
+      c .before .before .before .before .before .state .given,
+      start (first d) .pre .1 .0 .long,
+    ))
 
 same-length : tie.Need-same-length
 same-length c = search needs
@@ -97,7 +107,15 @@ returns c =
     let p = q .pre in
     let step = c .before .before .before .before .before .before .before .before .before .before .before .plain-vectors in
     let last = c .before .before .put-bytes3 .ensures in (
-      omega (arith, p .1 .0 .long, p .1 .1 .0 .long, d .before .put-bytes2 .ensures .0, f .before .put-bytes .ensures .0, last .0, c .before .before .before .before .before .before .before .before .state .given),
+      omega (
+        arith,
+        p .1 .0 .long,
+        p .1 .1 .0 .long,
+        d .before .put-bytes2 .ensures .0,
+        f .before .put-bytes .ensures .0,
+        last .0,
+        c .before .before .before .before .before .before .before .before .state .given,
+      ),
       λ x r.
           let l = step .ensures x r in
           line-lined r (p .1 .0) (p .1 .1 .0) l (q .args .out .now) (q .args .at) (p .1 .1 .1)
@@ -109,18 +127,6 @@ returns c =
 pub plain-line-spec : {M : Type 1} → statement M
 plain-line-spec =
     tie.close
-    (tie.spec
-    put-bytes-requires
-    put-bytes-requires-2
-    add-end
-    sub-plain-vectors
-    part-plain-vectors-start
-    part-plain-vectors-end
-    plain-vectors-requires
-    slice-write-out
-    add-put-bytes
-    put-bytes-requires-3
-    same-length
-    same-length-2
-    same-length-3
-    returns)
+    (tie.spec put-bytes-requires put-bytes-requires-2 add-end sub-plain-vectors part-plain-vectors-start
+    part-plain-vectors-end plain-vectors-requires slice-write-out add-put-bytes put-bytes-requires-3
+    same-length same-length-2 same-length-3 returns)

@@ -1,3 +1,5 @@
+-- The lines of the first `number` vectors, from the start of a buffer that has room for them. The loop keeps `Lining`; the measure is `number - k`.
+-- `lining-next`, `next-row` and `next-vector` carry it from turn to turn, and `all-left` gives the answer.
 use Prim.Native.Nat.{_+_, _*_, _-_, _≤_}
 use mathlib.Core.Path.{_≡_, refl, sym, _∙_}
 use mathlib.Core.List.{map}
@@ -131,20 +133,5 @@ returns c = λ x r.
 pub plain-lines-spec : {M : Type 1} → statement M
 plain-lines-spec =
     tie.close
-    (tie.spec
-    Inv-loop
-    μ-loop
-    loop-holds
-    add-end
-    sub-plain-line
-    part-plain-line-start
-    part-plain-line-end
-    plain-line-requires
-    add-at
-    add-k
-    loop-less
-    loop-again
-    same-length
-    same-length-2
-    same-length-3
-    returns)
+    (tie.spec Inv-loop μ-loop loop-holds add-end sub-plain-line part-plain-line-start part-plain-line-end
+    plain-line-requires add-at add-k loop-less loop-again same-length same-length-2 same-length-3 returns)

@@ -1,3 +1,4 @@
+-- Bytes, and the byte after them; the position past it. Each answer is given by `put-last`.
 use mathlib.Core.Path.{ap₂, _∙_}
 use mathlib.Core.List.{List}
 use Prim.Native.Nat.{ℕ}

@@ -1,3 +1,4 @@
+-- The answer is that of the call below it.
 use mathlib.Core.Path.{sym, ap, ap₂, _∙_}
 use mathlib.Core.Bool.{Bool, _&&_}
 use borrow.Author.Tests.{eq-eqb, ne-eqb}
@@ -39,10 +40,5 @@ returns-2 c =
 pub same-refusal-spec : {M : Type 1} → statement M
 same-refusal-spec =
     tie.close
-    (tie.spec
-    told-number-requires
-    told-number-requires-2
-    returns
-    told-place-requires
-    told-place-requires-2
+    (tie.spec told-number-requires told-number-requires-2 returns told-place-requires told-place-requires-2
     returns-2)

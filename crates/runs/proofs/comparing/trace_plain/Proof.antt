@@ -1,3 +1,5 @@
+-- A part of a run by the plain engine: as many whole lines as fit into `out`, from the state that is given; the state after them goes over it. The
+-- answers are given by `refused-lines`, `refused-tables` and `refused-plainly`.
 use Prim.Native.Nat.{ℕ}
 use mathlib.Core.Path.{_≡_, sym, ap, _∙_}
 use native.Mathlib.Omega.{arith}
@@ -144,23 +146,6 @@ returns-3 c =
 pub trace-plain-spec : {M : Type 1} → statement M
 trace-plain-spec =
     tie.close
-    (tie.spec
-    judge-in-order-requires
-    enum-known-refusal
-    enum-told
-    judge-plain-requires
-    enum-known-refusal-2
-    clear-requires
-    enum-known-lines
-    fitting-requires
-    plain-lines-requires
-    clear-requires-2
-    same-length
-    returns
-    same-length-2
-    same-length-3
-    returns-2
-    same-length-4
-    same-length-5
-    same-length-6
-    returns-3)
+    (tie.spec judge-in-order-requires enum-known-refusal enum-told judge-plain-requires enum-known-refusal-2
+    clear-requires enum-known-lines fitting-requires plain-lines-requires clear-requires-2 same-length returns
+    same-length-2 same-length-3 returns-2 same-length-4 same-length-5 same-length-6 returns-3)

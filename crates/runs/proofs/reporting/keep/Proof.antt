@@ -1,3 +1,4 @@
+-- A byte goes to a position, unless it ends a line; the position after it. The answers are given by `kept-end`, `kept-byte` and `put-one`.
 use Prim.Native.Nat.{ℕ, _+_}
 use mathlib.Core.Path.{ap, _∙_}
 use mathlib.Core.List.{List}
@@ -31,9 +32,4 @@ returns-2 c =
 pub keep-spec : {M : Type 1} → statement M
 keep-spec =
     tie.close
-    (tie.spec
-    returns
-    slice-write-out
-    add-result
-    same-length
-    returns-2)
+    (tie.spec returns slice-write-out add-result same-length returns-2)

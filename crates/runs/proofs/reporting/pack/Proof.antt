@@ -1,3 +1,6 @@
+-- Lines without their ends, one after the other, as a report takes vectors, of as many bytes as the buffer has; how many are left of them. The loop
+-- keeps `(i ≤ taken) × Packs lines out₀ i n out`; the measure is `taken - i`. `packs-more` carries it from turn to turn, and `packs-all` gives the
+-- answer.
 use Prim.Native.Nat.{_-_, _≤_, _<_}
 use native.Mathlib.Omega.{arith}
 use borrow.Author.Needs.{needs}
@@ -59,15 +62,5 @@ returns c =
 pub pack-spec : {M : Type 1} → statement M
 pack-spec =
     tie.close
-    (tie.spec
-    Inv-loop
-    μ-loop
-    lesser-requires
-    loop-holds
-    shared-slice-read-keep
-    keep-requires
-    add-i
-    loop-less
-    loop-again
-    same-length
-    returns)
+    (tie.spec Inv-loop μ-loop lesser-requires loop-holds shared-slice-read-keep keep-requires add-i loop-less
+    loop-again same-length returns)

@@ -1,3 +1,5 @@
+-- A needle's line from a position on: a letter with its number, and its four numbers. The answers are given by `line-parts`, `one-line` and
+-- `wrote-more`.
 use Prim.Native.Nat.{ℕ, _+_, _≤_}
 use mathlib.Core.Path.{ap, _∙_}
 use mathlib.Core.List.{List, [], _∷_, _++_}
@@ -86,7 +88,8 @@ written c =
     let line = one-line (s .args .row .now) (s .pre .0) in
     wrote-more (spaced d) (lineOf (s .args .row .now)) _ _
     (omega (arith, short d, few-digits s, s .pre .1, d .before .before .put-digits .ensures .0))
-    (w .ensures .1 ∙ ap (put (set (d .before .before .put-digits .last .0) (d .before .before .put-digits .result) 32) (d .before .before .put-digits .result + 1)) line)
+    (w .ensures .1 ∙ ap (put (set (d .before .before .put-digits .last .0) (d .before .before .put-digits .result) 32)
+    (d .before .before .put-digits .result + 1)) line)
     (w .ensures .0 ∙ ap (λ (l : List ℕ). d .before .before .put-digits .result + 1 + length l) line)
 
 same-length : tie.Need-same-length
@@ -100,7 +103,15 @@ returns c =
     let line = line-parts (a .letter) (a .number) (a .row .now) in (
       written c .place ∙ ap (λ (l : List ℕ). a .at + length l) line,
       (
-        omega (arith, c .before .before .write-lines .ensures .0, ap length (one-line (a .row .now) (s .pre .0)), short d, few-digits s, d .before .before .put-digits .ensures .0),
+        omega (
+          arith,
+          c .before .before .write-lines .ensures .0,
+          ap length
+              (one-line (a .row .now) (s .pre .0)),
+          short d,
+          few-digits s,
+          d .before .before .put-digits .ensures .0,
+        ),
         written c .filled ∙ ap (put (a .out .now) (a .at)) line,
       ),
     )
@@ -108,12 +119,5 @@ returns c =
 pub put-needle-spec : {M : Type 1} → statement M
 put-needle-spec =
     tie.close
-    (tie.spec
-    slice-write-out
-    add-put-digits
-    put-digits-requires
-    slice-write-out-2
-    add-write-lines
-    write-lines-requires
-    same-length
-    returns)
+    (tie.spec slice-write-out add-put-digits put-digits-requires slice-write-out-2 add-write-lines
+    write-lines-requires same-length returns)

@@ -1,3 +1,5 @@
+-- The lines of n needles, whose numbers start at `first` in table 6, from a position on. The loop keeps `Lined`; the measure is `n - i`. `lined-more`
+-- carries it from turn to turn, and `lined-all` gives the answer.
 use Prim.Native.Nat.{ℕ, _+_, _*_, _-_, _≤_}
 use mathlib.Core.Path.{_≡_, ap, _∙_}
 use mathlib.Core.List.{List}
@@ -95,19 +97,5 @@ returns c =
 pub put-needles-spec : {M : Type 1} → statement M
 put-needles-spec =
     tie.close
-    (tie.spec
-    Inv-loop
-    μ-loop
-    mul-row
-    loop-holds
-    add-end
-    mul-put-needle
-    sub-put-needle
-    part-put-needle-start
-    part-put-needle-end
-    put-needle-requires
-    add-i
-    loop-less
-    loop-again
-    same-length
-    returns)
+    (tie.spec Inv-loop μ-loop mul-row loop-holds add-end mul-put-needle sub-put-needle part-put-needle-start
+    part-put-needle-end put-needle-requires add-i loop-less loop-again same-length returns)

@@ -1,3 +1,5 @@
+-- The lines of a report, the outputs' and then the latches', from the start of a buffer, of as many needles as table 6 and the buffer have room for;
+-- how many bytes. The answers are given by `two-parts` and `same-turn`.
 use Prim.Native.Nat.{ℕ, _+_, _*_, _-_, _≤_, min}
 use mathlib.Core.Path.{_≡_, ap, ap₂, _∙_}
 use mathlib.Core.List.{List}
@@ -80,12 +82,5 @@ returns c =
 pub put-report-spec : {M : Type 1} → statement M
 put-report-spec =
     tie.close
-    (tie.spec
-    lesser-requires
-    lesser-requires-2
-    sub-lesser
-    lesser-requires-3
-    put-needles-requires
-    put-needles-requires-2
-    same-length
-    returns)
+    (tie.spec lesser-requires lesser-requires-2 sub-lesser lesser-requires-3 put-needles-requires
+    put-needles-requires-2 same-length returns)

@@ -1,3 +1,5 @@
+-- The lines of standard input, each a vector of `width` codes: how many, by 14, 13, 1 and 12. The answers are given by `not-read`, `too-many` and
+-- `counts-all`.
 use mathlib.Core.Path.{_∙_}
 use borrow.Author.Tests.{not-true, not-false}
 use Rattle.runs.proofs.stimulus.Counting.{not-read, too-many, counts-all}

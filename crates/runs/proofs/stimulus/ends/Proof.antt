@@ -1,3 +1,4 @@
+-- Whether the last line has its end. The answers hold by computing.
 use mathlib.Core.Path.{sym, ap}
 use mathlib.Core.Bool.{Bool, _||_}
 use borrow.Author.Tests.{eq-eqb, ne-eqb}

@@ -1,3 +1,6 @@
+-- The lines of `width` codes each, in one pass: past the width of a line only a new line can stand, and before it only a code. The loop keeps `Scans
+-- width bytes column number i`; the measure is `length bytes - i`. `scans-at`, `line-next` and `code-next` carry it from turn to turn, and
+-- `too-long`, `wrong-code` and `all-scanned` give the answer.
 use Prim.Native.Nat.{_-_}
 use mathlib.Core.Path.{refl, sym, _∙_}
 use mathlib.Core.Logic.{⊎-elim}
@@ -62,17 +65,5 @@ returns-3 c = all-scanned (c .before .loop .inv) (c .loop-test .left)
 pub scan-lines-spec : {M : Type 1} → statement M
 scan-lines-spec =
     tie.close
-    (tie.spec
-    Inv-loop
-    μ-loop
-    loop-holds
-    shared-slice-read-b
-    returns
-    add-number
-    is-code-requires
-    returns-2
-    add-column
-    add-i
-    loop-less
-    loop-again
-    returns-3)
+    (tie.spec Inv-loop μ-loop loop-holds shared-slice-read-b returns add-number is-code-requires returns-2
+    add-column add-i loop-less loop-again returns-3)

@@ -1,3 +1,5 @@
+-- The number of lines: 1 at the length where the last has no end, then 12 (the paper, programs and their output). The answers are given by
+-- `not-ended` and `scan-is`.
 use mathlib.Core.Path.{sym, _∙_}
 use borrow.Author.Tests.{not-true, not-false}
 use Rattle.runs.proofs.stimulus.Passing.{scan-is, not-ended}

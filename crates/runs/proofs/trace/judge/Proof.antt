@@ -1,3 +1,4 @@
+-- The lines of vectors, by 12: place 1 the state, 2 the vectors. The answers are given by `bad-state`, `good-lines` and `bad-lines`.
 use mathlib.Core.Path.{sym, _∙_}
 use borrow.Author.Tests.{not-true, not-false}
 use Rattle.runs.proofs.trace.Judging.{bad-state, good-lines, bad-lines}
@@ -39,11 +40,4 @@ returns-3 c =
 pub judge-spec : {M : Type 1} → statement M
 judge-spec =
     tie.close
-    (tie.spec
-    codes-in-requires
-    returns
-    whole-lines-requires
-    enum-known-lines
-    enum-told
-    returns-2
-    returns-3)
+    (tie.spec codes-in-requires returns whole-lines-requires enum-known-lines enum-told returns-2 returns-3)

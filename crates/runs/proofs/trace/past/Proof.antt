@@ -1,3 +1,6 @@
+-- The position past the next `count` lines, or the end of the bytes; it starts at their end where `from` is past it. The loop keeps `Passing bytes
+-- from count at left`; the measure is `length bytes - at`. `past-end` and `past-byte` carry it from turn to turn, and `past-lines` and `past-bytes`
+-- give the answer.
 use Prim.Native.Nat.{_-_}
 use mathlib.Core.Logic.{⊎-elim}
 use native.Mathlib.Omega.{arith}
@@ -51,15 +54,5 @@ returns-2 c = let w = c .before .loop .inv in (past-bytes w (c .loop-test .left)
 pub past-spec : {M : Type 1} → statement M
 past-spec =
     tie.close
-    (tie.spec
-    Inv-loop
-    μ-loop
-    lesser-requires
-    loop-holds
-    returns
-    shared-slice-read-if2
-    sub-left
-    add-at
-    loop-less
-    loop-again
-    returns-2)
+    (tie.spec Inv-loop μ-loop lesser-requires loop-holds returns shared-slice-read-if2 sub-left add-at
+    loop-less loop-again returns-2)

@@ -1,3 +1,4 @@
+-- The codes of `count` words from `first` on, and the byte after them; the position past it. Each answer is given by `part-put`.
 use mathlib.Core.Path.{refl}
 use Rattle.runs.proofs.trace.Parts.{part-lent, part-put}
 use borrow.Author.Needs.{needs}
@@ -42,13 +43,5 @@ returns c =
 pub put-part-spec : {M : Type 1} → statement M
 put-part-spec =
     tie.close
-    (tie.spec
-    add-end
-    sub-store
-    part-store-start
-    part-store-end
-    store-requires
-    slice-write-out
-    add-result
-    same-length
-    returns)
+    (tie.spec add-end sub-store part-store-start part-store-end store-requires slice-write-out add-result
+    same-length returns)

@@ -1,3 +1,5 @@
+-- A part of a run: as many whole lines as fit into `out`, from the state that is given; the state after them goes over it. The answers are given by
+-- `refused-trace`, `refused-by` and `refused-vectors`.
 use Prim.Native.Nat.{ℕ}
 use mathlib.Core.Path.{_≡_, ap, _∙_}
 use native.Mathlib.Omega.{arith}
@@ -142,23 +144,6 @@ returns-3 c =
 pub trace-spec : {M : Type 1} → statement M
 trace-spec =
     tie.close
-    (tie.spec
-    judge-in-order-requires
-    enum-known-refusal
-    enum-told
-    judge-requires
-    enum-known-refusal-2
-    clear-requires
-    enum-known-lines
-    fitting-requires
-    trace-from-requires
-    clear-requires-2
-    same-length
-    returns
-    same-length-2
-    same-length-3
-    returns-2
-    same-length-4
-    same-length-5
-    same-length-6
-    returns-3)
+    (tie.spec judge-in-order-requires enum-known-refusal enum-told judge-requires enum-known-refusal-2
+    clear-requires enum-known-lines fitting-requires trace-from-requires clear-requires-2 same-length returns
+    same-length-2 same-length-3 returns-2 same-length-4 same-length-5 same-length-6 returns-3)

@@ -1,3 +1,5 @@
+-- The same from the state that is given, over which the state after the last line goes. The answers are given by `state-left`, `state-long` and
+-- `state-rests`.
 use mathlib.Core.Path.{_≡_, _∙_}
 use native.Mathlib.Omega.{arith}
 use lib.ListN.{length, length-set}
@@ -81,14 +83,5 @@ returns c = λ others r.
 pub trace-from-spec : {M : Type 1} → statement M
 trace-from-spec =
     tie.close
-    (tie.spec
-    slice-write-scratch
-    add-load
-    load-requires
-    trace-lines-requires
-    add-store
-    store-requires
-    same-length
-    same-length-2
-    same-length-3
-    returns)
+    (tie.spec slice-write-scratch add-load load-requires trace-lines-requires add-store store-requires
+    same-length same-length-2 same-length-3 returns)

@@ -1,3 +1,5 @@
+-- The lines of the first `number` vectors, from the start of a buffer that has room for them. The loop keeps `Lining`; the measure is `number - k`.
+-- `lining-next`, `next-row` and `going-at` carry it from turn to turn, and `all-gone` gives the answer.
 use Prim.Native.Nat.{_+_, _*_, _-_, _≤_}
 use mathlib.Core.Path.{_≡_, refl, sym, _∙_}
 use mathlib.Core.List.{List}
@@ -121,19 +123,5 @@ returns c = λ others s r e rests.
 pub trace-lines-spec : {M : Type 1} → statement M
 trace-lines-spec =
     tie.close
-    (tie.spec
-    Inv-loop
-    μ-loop
-    loop-holds
-    add-end
-    sub-write-line
-    part-write-line-start
-    part-write-line-end
-    write-line-requires
-    add-at
-    add-k
-    loop-less
-    loop-again
-    same-length
-    same-length-2
-    returns)
+    (tie.spec Inv-loop μ-loop loop-holds add-end sub-write-line part-write-line-start part-write-line-end
+    write-line-requires add-at add-k loop-less loop-again same-length same-length-2 returns)

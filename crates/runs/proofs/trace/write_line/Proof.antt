@@ -1,3 +1,5 @@
+-- One line and its step: the state that scratch holds, the inputs, the outputs and the next state, which scratch holds then. The answers are given by
+-- `line-stands` and `line-wrote`.
 use mathlib.Core.Path.{_∙_}
 use native.Mathlib.Omega.{arith}
 use Rattle.runs.proofs.trace.Writing.{line-stands, line-ready, line-wrote}
@@ -120,16 +122,5 @@ returns c =
 pub write-line-spec : {M : Type 1} → statement M
 write-line-spec =
     tie.close
-    (tie.spec
-    add-put-part
-    put-part-requires
-    load-requires
-    put-part-requires-2
-    step-values-requires
-    add-put-part-2
-    put-part-requires-3
-    add-put-part-3
-    put-part-requires-4
-    same-length
-    same-length-2
-    returns)
+    (tie.spec add-put-part put-part-requires load-requires put-part-requires-2 step-values-requires
+    add-put-part-2 put-part-requires-3 add-put-part-3 put-part-requires-4 same-length same-length-2 returns)

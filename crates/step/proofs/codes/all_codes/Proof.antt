@@ -1,3 +1,5 @@
+-- The loop keeps `(i ≤ length bytes) × (allCodes bytes ≡ allCodes (drop i bytes))`; the measure is `length bytes - i`. `test-passes` and `codes-turn`
+-- carry it from turn to turn, and `test-fails`, `codes-turn` and `codes-end` give the answer.
 use Prim.Native.Nat.{_+_, _-_, _≤_}
 use mathlib.Core.Path.{_≡_}
 use mathlib.Core.Bool.{_&&_}
@@ -51,14 +53,5 @@ returns-2 c = codes-end (c .before .before .before .args .bytes .now) (c .before
 pub all-codes-spec : {M : Type 1} → statement M
 all-codes-spec =
     tie.close
-    (tie.spec
-    Inv-loop
-    μ-loop
-    loop-holds
-    shared-slice-read-is-code
-    is-code-requires
-    returns
-    add-i
-    loop-less
-    loop-again
-    returns-2)
+    (tie.spec Inv-loop μ-loop loop-holds shared-slice-read-is-code is-code-requires returns add-i loop-less
+    loop-again returns-2)

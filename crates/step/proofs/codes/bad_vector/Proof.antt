@@ -1,3 +1,5 @@
+-- The first vector that is refused: 1 the state, 2 the inputs, 3 the outputs, of which only the length is judged; or 0. The answers are given by
+-- `bad-state`, `codesIn` and `bad-inputs`.
 use lib.Dec.{eqb}
 use mathlib.Core.Path.{_≡_, sym, _∙_}
 use mathlib.Core.Bool.{true}

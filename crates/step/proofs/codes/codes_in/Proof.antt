@@ -1,3 +1,4 @@
+-- Whether n codes stand in a vector, and no other byte. Each answer is rewritten with the tests that led to it.
 use borrow.Author.Tests.{eq-eqb, ne-eqb}
 use borrow.Author.Needs.{needs}
 use Rattle.step.proofs.codes.codes_in.Statement.{statement}

@@ -1,3 +1,4 @@
+-- Each answer is rewritten with the tests that led to it.
 use borrow.Author.Tests.{eq-eqb, ne-eqb}
 use Rattle.step.proofs.codes.is_code.Statement.{statement}
 use Rattle.step.proofs.codes.is_code.Tie as tie

@@ -1,3 +1,4 @@
+-- Whether the bytes of a list are `number` times `each`, as a true product. The answers are given by `none-each`, `other-number` and `rest-decides`.
 use native.Mathlib.Omega.{arith}
 use Rattle.step.proofs.codes.Products.{none-each, other-number, rest-decides}
 use borrow.Author.Needs.{needs}

@@ -1,3 +1,4 @@
+-- Whether a list is `number` vectors of `each` codes. The answers are given by `test-fails` and `test-passes`.
 use mathlib.Core.Path.{refl, sym, _∙_}
 use Rattle.judge.proofs.binary_order.Steps.{test-fails, test-passes}
 use borrow.Author.Needs.{needs}

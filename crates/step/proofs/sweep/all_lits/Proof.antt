@@ -1,3 +1,5 @@
+-- Whether all of them are. The loop keeps `(i ≤ n) × (all1 (seenFrom table t n lits 0) ≡ all1 (seenFrom table t n lits i))`; the measure is `n - i`.
+-- `all-later` carries it from turn to turn, and `all-here` and `all-seen` give the answer.
 use Prim.Native.Nat.{_-_, _≤_}
 use mathlib.Core.Path.{_≡_, refl, sym, ap, _∙_, subst}
 use native.Mathlib.Omega.{arith}
@@ -89,16 +91,5 @@ returns-2 c =
 pub all-lits-spec : {M : Type 1} → statement M
 all-lits-spec =
     tie.close
-    (tie.spec
-    Inv-loop
-    μ-loop
-    loop-holds
-    mul-at
-    shared-slice-read-at
-    at-requires
-    value-of-requires
-    returns
-    add-i
-    loop-less
-    loop-again
-    returns-2)
+    (tie.spec Inv-loop μ-loop loop-holds mul-at shared-slice-read-at at-requires value-of-requires returns
+    add-i loop-less loop-again returns-2)

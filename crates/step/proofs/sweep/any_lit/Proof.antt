@@ -1,3 +1,5 @@
+-- Whether one of the first n literals of a table is 1 after a step. The loop keeps `(i ≤ n) × (any1 (seenFrom table t n lits 0) ≡ any1 (seenFrom
+-- table t n lits i))`; the measure is `n - i`. `any-later` carries it from turn to turn, and `any-here` and `any-none` give the answer.
 use Prim.Native.Nat.{_-_, _≤_}
 use mathlib.Core.Path.{_≡_, refl, sym, ap, _∙_, subst}
 use native.Mathlib.Omega.{arith}
@@ -89,16 +91,5 @@ returns-2 c =
 pub any-lit-spec : {M : Type 1} → statement M
 any-lit-spec =
     tie.close
-    (tie.spec
-    Inv-loop
-    μ-loop
-    loop-holds
-    mul-at
-    shared-slice-read-at
-    at-requires
-    value-of-requires
-    returns
-    add-i
-    loop-less
-    loop-again
-    returns-2)
+    (tie.spec Inv-loop μ-loop loop-holds mul-at shared-slice-read-at at-requires value-of-requires returns
+    add-i loop-less loop-again returns-2)

@@ -1,3 +1,5 @@
+-- The values of n literals of a table, from `start` on by `stride`, go into words from `first` on, which lie before the literals'. The loop keeps
+-- `Filled`; the measure is `n - i`. `next-at` and `next-looked` carry it from turn to turn, and `all-looked` gives the answer.
 use Prim.Native.Nat.{_+_, _*_, _-_, _≤_, _<_}
 use mathlib.Core.Path.{_≡_, sym, ap, _∙_, subst}
 use native.Mathlib.Nat.{mul-zero}
@@ -95,20 +97,5 @@ returns c =
 pub look-up-spec : {M : Type 1} → statement M
 look-up-spec =
     tie.close
-    (tie.spec
-    Inv-loop
-    μ-loop
-    loop-holds
-    mul-at
-    shared-slice-read-at
-    at-requires
-    value-of-requires
-    add-t
-    mul-t
-    slice-write-t
-    add-at
-    add-i
-    loop-less
-    loop-again
-    same-length
-    returns)
+    (tie.spec Inv-loop μ-loop loop-holds mul-at shared-slice-read-at at-requires value-of-requires add-t mul-t
+    slice-write-t add-at add-i loop-less loop-again same-length returns)

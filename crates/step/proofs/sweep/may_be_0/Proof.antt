@@ -1,3 +1,4 @@
+-- Whether it may be 0: its negation may be 1 then. The answer is that of the call below it.
 use Prim.Native.Nat.{_+_, _<_}
 use mathlib.Core.Path.{sym, ap, _∙_, subst}
 use lib.ListN.{length, getD}

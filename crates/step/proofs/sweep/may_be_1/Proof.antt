@@ -1,3 +1,4 @@
+-- Whether a literal may be 1: one read, whatever its sign, as each literal has a word of its own. The answer is that of the call below it.
 use Prim.Native.Nat.{ℕ, _+_}
 use mathlib.Core.Path.{ap}
 use lib.ListN.{getD}

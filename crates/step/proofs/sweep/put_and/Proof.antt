@@ -1,3 +1,4 @@
+-- The And of two literals: it may be 1 if both may, and 0 if either may. Each answer is given by `two-put`.
 use Prim.Native.Nat.{ℕ}
 use mathlib.Core.Path.{ap₂, _∙_}
 use mathlib.Core.List.{[], _∷_}
@@ -53,15 +54,5 @@ returns c =
 pub put-and-spec : {M : Type 1} → statement M
 put-and-spec =
     tie.close
-    (tie.spec
-    may-be-1-requires
-    may-be-1-requires-2
-    may-be-0-requires
-    may-be-0-requires-2
-    mul-t
-    slice-write-t
-    add-t
-    mul-t-2
-    slice-write-t-2
-    same-length
-    returns)
+    (tie.spec may-be-1-requires may-be-1-requires-2 may-be-0-requires may-be-0-requires-2 mul-t slice-write-t
+    add-t mul-t-2 slice-write-t-2 same-length returns)

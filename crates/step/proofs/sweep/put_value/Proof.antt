@@ -1,3 +1,5 @@
+-- A variable's value goes to its literal's word, whether it may be 1, and to that of the negated literal, whether it may be 0. The answers are given
+-- by `two-put`, `high-bit` and `low-bit`.
 use Prim.Native.Nat.{ℕ}
 use mathlib.Core.Path.{ap₂, _∙_}
 use mathlib.Core.List.{[], _∷_}
@@ -37,11 +39,4 @@ returns c =
 pub put-value-spec : {M : Type 1} → statement M
 put-value-spec =
     tie.close
-    (tie.spec
-    mul-t
-    slice-write-t
-    add-t
-    mul-t-2
-    slice-write-t-2
-    same-length
-    returns)
+    (tie.spec mul-t slice-write-t add-t mul-t-2 slice-write-t-2 same-length returns)

@@ -1,3 +1,5 @@
+-- The leaves' values, in the first n words, go to their literals' words, where gates and look ups read. The loop keeps `(v ≤ n) × (to ≡ lits + 2 * v)
+-- × Spread lits (valuesAt t₀ 0 v) t₀ t`; the measure is `n - v`. `leaves-more` carries it from turn to turn, and `leaves-all` gives the answer.
 use Prim.Native.Nat.{_+_, _*_, _-_, _≤_}
 use mathlib.Core.Path.{_≡_}
 use native.Mathlib.Omega.{arith}
@@ -63,16 +65,5 @@ returns c =
 pub spread-leaves-spec : {M : Type 1} → statement M
 spread-leaves-spec =
     tie.close
-    (tie.spec
-    Inv-loop
-    μ-loop
-    loop-holds
-    mul-value
-    slice-read-value
-    put-value-requires
-    add-to
-    add-v
-    loop-less
-    loop-again
-    same-length
-    returns)
+    (tie.spec Inv-loop μ-loop loop-holds mul-value slice-read-value put-value-requires add-to add-v loop-less
+    loop-again same-length returns)

@@ -1,3 +1,4 @@
+-- The constant and the state of the resets, from which a run starts. The answers are given by `rests-loaded` and `constant-set`.
 use mathlib.Core.Path.{_∙_}
 use mathlib.Core.List.{map}
 use native.Mathlib.Omega.{arith}

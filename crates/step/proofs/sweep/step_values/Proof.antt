@@ -1,3 +1,4 @@
+-- One step, from the state and the inputs that stand in the leaves' words. Each answer is given by `stepped`.
 use Rattle.step.proofs.sweep.Settling.{spreads, sweeps}
 use Rattle.step.proofs.sweep.Stepping.{looks-outputs, looks-nexts, stepped}
 use borrow.Author.Needs.{needs}
@@ -71,15 +72,5 @@ returns c = λ others s i r stands.
 pub step-values-spec : {M : Type 1} → statement M
 step-values-spec =
     tie.close
-    (tie.spec
-    add-state
-    add-out
-    add-lits
-    add-spread-leaves
-    spread-leaves-requires
-    add-sweep-gates
-    sweep-gates-requires
-    look-up-requires
-    look-up-requires-2
-    same-length
-    returns)
+    (tie.spec add-state add-out add-lits add-spread-leaves spread-leaves-requires add-sweep-gates
+    sweep-gates-requires look-up-requires look-up-requires-2 same-length returns)

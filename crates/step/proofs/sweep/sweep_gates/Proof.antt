@@ -1,3 +1,4 @@
+-- The same where the literals' words start at `lits`: that part is lent, so that no look adds it. Each answer is given by `swept-there`.
 use borrow.Author.Needs.{needs}
 use Rattle.step.proofs.sweep.Sweeping.{gated, swept-there}
 use Rattle.step.proofs.sweep.sweep_gates.Statement.{statement}
@@ -27,11 +28,5 @@ returns c = swept-there (c .before .before .before .before .before .before .pre)
 pub sweep-gates-spec : {M : Type 1} → statement M
 sweep-gates-spec =
     tie.close
-    (tie.spec
-    mul-settle-gates
-    sub-settle-gates
-    part-settle-gates-start
-    part-settle-gates-end
-    settle-gates-requires
-    same-length
-    returns)
+    (tie.spec mul-settle-gates sub-settle-gates part-settle-gates-start part-settle-gates-end
+    settle-gates-requires same-length returns)

@@ -1,3 +1,4 @@
+-- The value of a literal. The answer is that of the call below it.
 use Prim.Native.Nat.{ℕ, _*_, _%_}
 use mathlib.Core.Path.{ap₂}
 use lib.Bits.{bitOr}

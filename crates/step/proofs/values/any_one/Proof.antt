@@ -1,3 +1,5 @@
+-- Whether the value of one of n words from `first` on is 1. The loop keeps `(i ≤ n) × (any1 (valuesAt t first n) ≡ any1 (valuesAt t (first + i) (n -
+-- i)))`; the measure is `n - i`. `any-later` carries it from turn to turn, and `any-here` and `any-none` give the answer.
 use Prim.Native.Nat.{ℕ, _+_, _-_, _≤_}
 use mathlib.Core.Path.{_≡_, ap₂}
 use native.Mathlib.Omega.{arith}
@@ -61,15 +63,5 @@ returns-2 c =
 pub any-one-spec : {M : Type 1} → statement M
 any-one-spec =
     tie.close
-    (tie.spec
-    Inv-loop
-    μ-loop
-    loop-holds
-    add-if1
-    mul-if1
-    shared-slice-read-if1
-    returns
-    add-i
-    loop-less
-    loop-again
-    returns-2)
+    (tie.spec Inv-loop μ-loop loop-holds add-if1 mul-if1 shared-slice-read-if1 returns add-i loop-less
+    loop-again returns-2)

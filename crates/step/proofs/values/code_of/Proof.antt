@@ -1,3 +1,4 @@
+-- Each answer is given by `told-x`.
 use mathlib.Core.Path.{sym, ap}
 use Rattle.plan.specs.Step.{codeOf}
 use Rattle.step.proofs.values.Codes.{told-x}

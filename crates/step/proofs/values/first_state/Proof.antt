@@ -1,3 +1,5 @@
+-- The values of as many resets fill a state: the first one of a run. The loop keeps `Filled`; the measure is `length state₀ - i`. `filled-front` and
+-- `told-word` carry it from turn to turn, and `filled-all` and `state-filled` give the answer.
 use Prim.Native.Nat.{_-_, _≤_}
 use mathlib.Core.Path.{ap, _∙_}
 use native.Mathlib.Omega.{arith}
@@ -61,16 +63,5 @@ returns c =
 pub first-state-spec : {M : Type 1} → statement M
 first-state-spec =
     tie.close
-    (tie.spec
-    Inv-loop
-    μ-loop
-    loop-holds
-    reset-at-requires
-    word-of-reset-requires
-    code-of-requires
-    slice-write-state
-    add-i
-    loop-less
-    loop-again
-    same-length
-    returns)
+    (tie.spec Inv-loop μ-loop loop-holds reset-at-requires word-of-reset-requires code-of-requires
+    slice-write-state add-i loop-less loop-again same-length returns)

@@ -1,3 +1,5 @@
+-- A vector's values go into words from `first` on. The loop keeps `Filled`; the measure is `length codes - i`. `filled-more` carries it from turn to
+-- turn, and `filled-all` and `loaded` give the answer.
 use Prim.Native.Nat.{_-_, _≤_}
 use mathlib.Core.Path.{ap, _∙_}
 use native.Mathlib.Omega.{arith}
@@ -60,17 +62,5 @@ returns c =
 pub load-spec : {M : Type 1} → statement M
 load-spec =
     tie.close
-    (tie.spec
-    Inv-loop
-    μ-loop
-    loop-holds
-    shared-slice-read-word-of
-    word-of-requires
-    add-t
-    mul-t
-    slice-write-t
-    add-i
-    loop-less
-    loop-again
-    same-length
-    returns)
+    (tie.spec Inv-loop μ-loop loop-holds shared-slice-read-word-of word-of-requires add-t mul-t slice-write-t
+    add-i loop-less loop-again same-length returns)

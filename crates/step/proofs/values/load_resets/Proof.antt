@@ -1,3 +1,5 @@
+-- The values of n resets go into words from `first` on. The loop keeps `Filled`; the measure is `n - i`. `filled-more` carries it from turn to turn,
+-- and `filled-all` and `resets-loaded` give the answer.
 use Prim.Native.Nat.{_-_, _≤_}
 use mathlib.Core.Path.{ap, _∙_}
 use native.Mathlib.Omega.{arith}
@@ -64,18 +66,5 @@ returns c =
 pub load-resets-spec : {M : Type 1} → statement M
 load-resets-spec =
     tie.close
-    (tie.spec
-    Inv-loop
-    μ-loop
-    loop-holds
-    mul-word-of-reset
-    shared-slice-read-word-of-reset
-    word-of-reset-requires
-    add-t
-    mul-t
-    slice-write-t
-    add-i
-    loop-less
-    loop-again
-    same-length
-    returns)
+    (tie.spec Inv-loop μ-loop loop-holds mul-word-of-reset shared-slice-read-word-of-reset
+    word-of-reset-requires add-t mul-t slice-write-t add-i loop-less loop-again same-length returns)

@@ -1,3 +1,4 @@
+-- The reset of latch i, 0 past the end. The answers are arithmetic over the tests that led to them.
 use mathlib.Core.Path.{sym}
 use native.Mathlib.Omega.{arith}
 use lib.ListN.{List·getD-eq-default}

@@ -1,3 +1,5 @@
+-- The values of words from `first` on fill a vector. The loop keeps `Filled`; the measure is `length codes₀ - i`. `filled-front` carries it from turn
+-- to turn, and `filled-all` and `stored` give the answer.
 use Prim.Native.Nat.{_+_, _-_, _≤_}
 use mathlib.Core.Path.{refl, _∙_}
 use native.Mathlib.Omega.{arith}
@@ -58,17 +60,5 @@ returns c =
 pub store-spec : {M : Type 1} → statement M
 store-spec =
     tie.close
-    (tie.spec
-    Inv-loop
-    μ-loop
-    loop-holds
-    add-code-of
-    mul-code-of
-    shared-slice-read-code-of
-    code-of-requires
-    slice-write-codes
-    add-i
-    loop-less
-    loop-again
-    same-length
-    returns)
+    (tie.spec Inv-loop μ-loop loop-holds add-code-of mul-code-of shared-slice-read-code-of code-of-requires
+    slice-write-codes add-i loop-less loop-again same-length returns)

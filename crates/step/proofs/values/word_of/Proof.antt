@@ -1,3 +1,4 @@
+-- The word of a code's value. Each answer is rewritten with the tests that led to it.
 use borrow.Author.Tests.{eq-eqb, ne-eqb}
 use Rattle.step.proofs.values.word_of.Statement.{statement}
 use Rattle.step.proofs.values.word_of.Tie as tie

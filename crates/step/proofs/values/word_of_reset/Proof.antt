@@ -1,3 +1,4 @@
+-- The word of a latch's value at the start, by its reset: its own literal is x. Each answer is rewritten with the tests that led to it.
 use borrow.Author.Tests.{eq-eqb, ne-eqb}
 use Rattle.step.proofs.values.word_of_reset.Statement.{statement}
 use Rattle.step.proofs.values.word_of_reset.Tie as tie

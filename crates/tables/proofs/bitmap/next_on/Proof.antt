@@ -51,15 +51,5 @@ returns-2 c =
 pub next-on-spec : {M : Type 1} → statement M
 next-on-spec =
     tie.close
-    (tie.spec
-    add-w
-    mul-w
-    shared-slice-read-w
-    cast-w
-    shr-w
-    add-result
-    mul-result
-    returns
-    cast-result
-    add-result-2
-    returns-2)
+    (tie.spec add-w mul-w shared-slice-read-w cast-w shr-w add-result mul-result returns cast-result
+    add-result-2 returns-2)

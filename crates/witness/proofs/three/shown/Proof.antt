@@ -1,3 +1,4 @@
+-- Whether one of the outputs or of the bad states is 1 after a step. The answers are given by `or-first` and `or-second`.
 use Rattle.witness.proofs.three.Listing.{or-first, or-second}
 use borrow.Author.Needs.{needs}
 use Rattle.witness.proofs.three.shown.Statement.{statement}

@@ -1,3 +1,6 @@
+-- Whether a list, whose bytes are good, shows 1 on some output or bad state from the state that scratch holds, every constraint being 1 there and at
+-- all steps before. The loop keeps `List`; the measure is `number - k`. `next-row`, `going-on` and `vector-stands` carry it from turn to turn, and
+-- `none-counts`, `vector-stands` and `found-one` give the answer.
 use Prim.Native.Nat.{ℕ, _+_, _*_, _-_, _≤_}
 use mathlib.Core.Path.{_≡_, refl, sym, _∙_}
 use mathlib.Core.List.{List}
@@ -185,26 +188,6 @@ returns-3 c = λ inputs resets s r l z.
 pub shows-one-spec : {M : Type 1} → statement M
 shows-one-spec =
     tie.close
-    (tie.spec
-    Inv-loop
-    μ-loop
-    add-lits
-    add-lits-2
-    loop-holds
-    add-end
-    sub-load
-    part-load-start
-    part-load-end
-    load-requires
-    step-values-requires
-    all-lits-requires
-    same-length
-    returns
-    shown-requires
-    same-length-2
-    returns-2
-    add-k
-    loop-less
-    loop-again
-    same-length-3
-    returns-3)
+    (tie.spec Inv-loop μ-loop add-lits add-lits-2 loop-holds add-end sub-load part-load-start part-load-end
+    load-requires step-values-requires all-lits-requires same-length returns shown-requires same-length-2
+    returns-2 add-k loop-less loop-again same-length-3 returns-3)

@@ -1,3 +1,5 @@
+-- The witness question: whether stepping a list of `number` vectors from the resets gives 1 on some output or bad state at some step, every
+-- constraint being 1 there and at all steps before. The answers are given by `refused-list`, `past-check` and `yes-witness`.
 use Prim.Native.Nat.{ℕ, _*_}
 use mathlib.Core.Path.{_≡_, sym, ap, _∙_}
 use mathlib.Core.Bool.{true}
@@ -193,19 +195,6 @@ returns-4 c =
 pub witness3-spec : {M : Type 1} → statement M
 witness3-spec =
     tie.close
-    (tie.spec
-    check-in-order-requires
-    enum-known-refusal
-    enum-told
-    whole-list-requires
-    same-length
-    returns
-    start-values-requires
-    shows-one-requires
-    clear-requires
-    same-length-2
-    returns-2
-    same-length-3
-    returns-3
-    same-length-4
-    returns-4)
+    (tie.spec check-in-order-requires enum-known-refusal enum-told whole-list-requires same-length returns
+    start-values-requires shows-one-requires clear-requires same-length-2 returns-2 same-length-3 returns-3
+    same-length-4 returns-4)

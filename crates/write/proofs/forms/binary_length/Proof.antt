@@ -8,6 +8,10 @@ use borrow.Author.Needs.{needs}
 use Rattle.write.proofs.forms.binary_length.Statement.{statement}
 use Rattle.write.proofs.forms.binary_length.Tie as tie
 
+-- moments, each named by what happened there
+abbrev start-of : tie.After-gates-length → tie.Start
+start-of c = c .before .before .before .before .before .before .before .before .before .before
+
 header-length-requires : tie.Need-header-length-requires
 header-length-requires c κs = search needs
 
@@ -31,13 +35,14 @@ add-result-3 c = search needs
 
 returns : tie.Need-returns
 returns c =
-    let start = c .before .before .before .before .before .before .before .before .before .before in
+    let start = start-of c in
     let a = start .args in
     let n = a .n in
     let lats = linesOf (latchRows true (n .L) (a .latches .now) (a .resets .now)) in
     let obs = observedBytes n (a .outputs .now) (a .bads .now) (a .constraints .now) in
     four-parts (headBytes 97 n) lats obs (gateGroups n (a .gates .now))
-    (c .before .before .before .header-length .ensures .0) (c .before .before .latches-length .ensures .0) (c .before .observed-length .ensures .0) (c .gates-length .ensures .0)
+    (c .before .before .before .header-length .ensures .0) (c .before .before .latches-length .ensures .0) (c .before .observed-length .ensures .0)
+    (c .gates-length .ensures .0)
 
 pub binary-length-spec : {M : Type 1} → statement M
 binary-length-spec =

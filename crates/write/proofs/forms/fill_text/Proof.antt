@@ -8,9 +8,22 @@ use borrow.Author.Needs.{needs}
 use Rattle.write.proofs.forms.fill_text.Statement.{statement}
 use Rattle.write.proofs.forms.fill_text.Tie as tie
 
+-- moments, each named by what happened there
+abbrev start-of : tie.After-write-header-arg → tie.Start
+start-of c = c .before .before .before .before .before .before .before .before .before
+
+abbrev write-header-of : tie.After-write-lines → tie.After-write-header
+write-header-of c = c .before .before .before .before
+
+abbrev write-lines-of : tie.After-write-latches → tie.After-write-lines
+write-lines-of c = c .before .before .before .before
+
+abbrev write-latches-of : tie.After-write-observed → tie.After-write-latches
+write-latches-of c = c .before .before .before .before
+
 write-header-requires : tie.Need-write-header-requires
 write-header-requires c κs =
-    let start = c .before .before .before .before .before .before .before .before .before in
+    let start = start-of c in
     let a = start .args in
     let n = a .n in
     let ins = oneLines (n .I) (a .inputs .now) in
@@ -21,7 +34,7 @@ write-header-requires c κs =
 write-lines-requires : tie.Need-write-lines-requires
 write-lines-requires c κs =
     let w0 = c .before .before .before in
-    let start = w0 .before .before .before .before .before .before .before .before .before .before in
+    let start = start-of (w0 .before) in
     let a = start .args in
     let n = a .n in
     let ins = oneLines (n .I) (a .inputs .now) in
@@ -33,44 +46,47 @@ write-lines-requires c κs =
 write-latches-requires : tie.Need-write-latches-requires
 write-latches-requires c κs =
     let w1 = c .before .before .before in
-    let w0 = w1 .before .before .before .before in
-    let start = w0 .before .before .before .before .before .before .before .before .before .before in
+    let w0 = write-header-of w1 in
+    let start = start-of (w0 .before) in
     let a = start .args in
     let n = a .n in
     let ins = oneLines (n .I) (a .inputs .now) in
     let lats = linesOf (latchRows false (n .L) (a .latches .now) (a .resets .now)) in
     let obs = observedBytes n (a .outputs .now) (a .bads .now) (a .constraints .now) in
-    let fits = five-fits-2 (a .out .now) (headBytes 97 n) ins lats obs (gateLines n (a .gates .now)) (start .pre .1) (w0 .write-header .ensures) (w1 .write-lines .ensures) in
+    let fits = five-fits-2 (a .out .now) (headBytes 97 n) ins lats obs (gateLines n (a .gates .now)) (start .pre .1) (w0 .write-header .ensures)
+    (w1 .write-lines .ensures) in
     (search needs, (search needs, (search needs, fits)))
 
 write-observed-requires : tie.Need-write-observed-requires
 write-observed-requires c κs =
     let w2 = c .before .before .before in
-    let w1 = w2 .before .before .before .before in
-    let w0 = w1 .before .before .before .before in
-    let start = w0 .before .before .before .before .before .before .before .before .before .before in
+    let w1 = write-lines-of w2 in
+    let w0 = write-header-of w1 in
+    let start = start-of (w0 .before) in
     let a = start .args in
     let n = a .n in
     let ins = oneLines (n .I) (a .inputs .now) in
     let lats = linesOf (latchRows false (n .L) (a .latches .now) (a .resets .now)) in
     let obs = observedBytes n (a .outputs .now) (a .bads .now) (a .constraints .now) in
-    let fits = five-fits-3 (a .out .now) (headBytes 97 n) ins lats obs (gateLines n (a .gates .now)) (start .pre .1) (w0 .write-header .ensures) (w1 .write-lines .ensures)
+    let fits = five-fits-3 (a .out .now) (headBytes 97 n) ins lats obs (gateLines n (a .gates .now)) (start .pre .1) (w0 .write-header .ensures)
+    (w1 .write-lines .ensures)
     (w2 .write-latches .ensures) in
     (search needs, fits)
 
 write-lines-requires-2 : tie.Need-write-lines-requires-2
 write-lines-requires-2 c κs =
     let w3 = c .before .before .before in
-    let w2 = w3 .before .before .before .before in
-    let w1 = w2 .before .before .before .before in
-    let w0 = w1 .before .before .before .before in
-    let start = w0 .before .before .before .before .before .before .before .before .before .before in
+    let w2 = write-latches-of w3 in
+    let w1 = write-lines-of w2 in
+    let w0 = write-header-of w1 in
+    let start = start-of (w0 .before) in
     let a = start .args in
     let n = a .n in
     let ins = oneLines (n .I) (a .inputs .now) in
     let lats = linesOf (latchRows false (n .L) (a .latches .now) (a .resets .now)) in
     let obs = observedBytes n (a .outputs .now) (a .bads .now) (a .constraints .now) in
-    let fits = five-fits-4 (a .out .now) (headBytes 97 n) ins lats obs (gateLines n (a .gates .now)) (start .pre .1) (w0 .write-header .ensures) (w1 .write-lines .ensures)
+    let fits = five-fits-4 (a .out .now) (headBytes 97 n) ins lats obs (gateLines n (a .gates .now)) (start .pre .1) (w0 .write-header .ensures)
+    (w1 .write-lines .ensures)
     (w2 .write-latches .ensures) (w3 .write-observed .ensures) in
     (search needs, (search needs, (search needs, fits)))
 
@@ -81,10 +97,10 @@ returns : tie.Need-returns
 returns c =
     let w4 = c .before .before in
     let w3 = w4 .before .before .before .before in
-    let w2 = w3 .before .before .before .before in
-    let w1 = w2 .before .before .before .before in
-    let w0 = w1 .before .before .before .before in
-    let start = w0 .before .before .before .before .before .before .before .before .before .before in
+    let w2 = write-latches-of w3 in
+    let w1 = write-lines-of w2 in
+    let w0 = write-header-of w1 in
+    let start = start-of (w0 .before) in
     let a = start .args in
     let n = a .n in
     let ins = oneLines (n .I) (a .inputs .now) in

@@ -25,7 +25,8 @@ add-result c = search needs
 returns : tie.Need-returns
 returns c =
     let told = c .before .before .counts-told in
-    let line = ap length (line-of-counts _ (told .result) (c .before .before .before .before .args .n) (c .before .before .before .seven .ensures) (told .ensures .1)) in
+    let line = ap length (line-of-counts _ (told .result) (c .before .before .before .before .args .n) (c .before .before .before .seven .ensures)
+    (told .ensures .1)) in
     (omega (arith, line), search needs)
 
 pub header-length-spec : {M : Type 1} → statement M

@@ -8,6 +8,10 @@ use borrow.Author.Needs.{needs}
 use Rattle.write.proofs.forms.text_length.Statement.{statement}
 use Rattle.write.proofs.forms.text_length.Tie as tie
 
+-- moments, each named by what happened there
+abbrev start-of : tie.After-lines-length2 → tie.Start
+start-of c = c .before .before .before .before .before .before .before .before .before .before .before .before
+
 header-length-requires : tie.Need-header-length-requires
 header-length-requires c κs = search needs
 
@@ -37,14 +41,15 @@ add-result-4 c = search needs
 
 returns : tie.Need-returns
 returns c =
-    let start = c .before .before .before .before .before .before .before .before .before .before .before .before in
+    let start = start-of c in
     let a = start .args in
     let n = a .n in
     let ins = oneLines (n .I) (a .inputs .now) in
     let lats = linesOf (latchRows false (n .L) (a .latches .now) (a .resets .now)) in
     let obs = observedBytes n (a .outputs .now) (a .bads .now) (a .constraints .now) in
     five-parts (headBytes 97 n) ins lats obs (gateLines n (a .gates .now))
-    (c .before .before .before .before .header-length .ensures .0) (c .before .before .before .lines-length .ensures .0) (c .before .before .latches-length .ensures .0)
+    (c .before .before .before .before .header-length .ensures .0) (c .before .before .before .lines-length .ensures .0)
+    (c .before .before .latches-length .ensures .0)
     (c .before .observed-length .ensures .0) (c .lines-length2 .ensures .0)
 
 pub text-length-spec : {M : Type 1} → statement M

@@ -7,6 +7,19 @@ use borrow.Author.Needs.{needs}
 use Rattle.write.proofs.forms.write_header.Statement.{statement}
 use Rattle.write.proofs.forms.write_header.Tie as tie
 
+-- moments, each named by what happened there
+abbrev start-of : tie.After-words → tie.Start
+start-of c = c .before .before .before .before .before
+
+abbrev words-of : tie.After-slice-known2 → tie.After-words
+words-of c = c .before .before .before
+
+abbrev counts-told-of : tie.After-slice-known2 → tie.After-counts-told
+counts-told-of c = words-of c .before .before
+
+abbrev seven-of : tie.After-slice-known2 → tie.After-seven
+seven-of c = counts-told-of c .before
+
 slice-write-out : tie.Need-slice-write-out
 slice-write-out c = search needs
 
@@ -30,7 +43,7 @@ slice-aggregate-write-lines c = search needs
 
 write-lines-requires : tie.Need-write-lines-requires
 write-lines-requires c κs =
-    let start = c .before .before .before .before .before in
+    let start = start-of c in
     let a = start .args in
     let told = c .before .before .counts-told in
     let fits = line-fits (a .out .now) (a .letter) (a .n) (start .pre .1) _ (told .result) (c .before .before .before .seven .ensures) (told .ensures .1) in
@@ -41,11 +54,11 @@ same-length c = simp length-set at (c .before .out .given)
 
 returns : tie.Need-returns
 returns c =
-    let start = c .before .before .before .before .before .before .before .before in
+    let start = start-of (words-of c) in
     let a = start .args in
     let wrote = c .before .before .write-lines .ensures in
-    let told = c .before .before .before .before .before .counts-told in
-    let seven = c .before .before .before .before .before .before .seven .ensures in (
+    let told = counts-told-of c .counts-told in
+    let seven = seven-of c .seven .ensures in (
       wrote .0 ∙ header-ends (a .out .now) (a .letter) (a .n) (start .pre .1) _ (told .result) seven (told .ensures .1),
       wrote .1 ∙ header-put (a .out .now) (a .letter) (a .n) (start .pre .1) _ (told .result) seven (told .ensures .1),
     )

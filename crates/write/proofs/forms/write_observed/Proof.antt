@@ -5,9 +5,16 @@ use borrow.Author.Needs.{needs}
 use Rattle.write.proofs.forms.write_observed.Statement.{statement}
 use Rattle.write.proofs.forms.write_observed.Tie as tie
 
+-- moments, each named by what happened there
+abbrev start-of : tie.After-write-lines-arg → tie.Start
+start-of c = c .before .before .before .before .before
+
+abbrev write-lines-of : tie.After-write-lines2 → tie.After-write-lines
+write-lines-of c = c .before .before .before .before
+
 write-lines-requires : tie.Need-write-lines-requires
 write-lines-requires c κs =
-    let start = c .before .before .before .before .before in
+    let start = start-of c in
     let a = start .args in
     let n = a .n in
     let fits = fits-1 (a .out .now) (a .at) (oneLines (n .O) (a .outputs .now)) (oneLines (n .B) (a .bads .now))
@@ -17,7 +24,7 @@ write-lines-requires c κs =
 write-lines-requires-2 : tie.Need-write-lines-requires-2
 write-lines-requires-2 c κs =
     let w1 = c .before .before .before in
-    let start = w1 .before .before .before .before .before .before in
+    let start = start-of (w1 .before) in
     let a = start .args in
     let n = a .n in
     let fits = fits-2 (a .out .now) (a .at) (oneLines (n .O) (a .outputs .now)) (oneLines (n .B) (a .bads .now))
@@ -27,8 +34,8 @@ write-lines-requires-2 c κs =
 write-lines-requires-3 : tie.Need-write-lines-requires-3
 write-lines-requires-3 c κs =
     let w2 = c .before .before .before in
-    let w1 = w2 .before .before .before .before in
-    let start = w1 .before .before .before .before .before .before in
+    let w1 = write-lines-of w2 in
+    let start = start-of (w1 .before) in
     let a = start .args in
     let n = a .n in
     let fits = fits-3 (a .out .now) (a .at) (oneLines (n .O) (a .outputs .now)) (oneLines (n .B) (a .bads .now))
@@ -42,8 +49,8 @@ returns : tie.Need-returns
 returns c =
     let w3 = c .before .before in
     let w2 = w3 .before .before .before .before in
-    let w1 = w2 .before .before .before .before in
-    let start = w1 .before .before .before .before .before .before in
+    let w1 = write-lines-of w2 in
+    let start = start-of (w1 .before) in
     let a = start .args in
     let n = a .n in
     three-filled (a .out .now) (a .at) (oneLines (n .O) (a .outputs .now)) (oneLines (n .B) (a .bads .now))

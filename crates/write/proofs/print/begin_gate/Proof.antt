@@ -4,6 +4,13 @@ use Rattle.write.proofs.print.Begun.{first-begins, second-begins, begun
 use Rattle.write.proofs.print.begin_gate.Statement.{statement}
 use Rattle.write.proofs.print.begin_gate.Tie as tie
 
+-- moments, each named by what happened there
+abbrev start-of : tie.After-out → tie.Start
+start-of c = c .before .before .before .before .before
+
+abbrev out-of : tie.After-slice-known3 → tie.After-out
+out-of c = c .before .before .before .before .before .before
+
 above-requires : tie.Need-above-requires
 above-requires c κs = search needs
 
@@ -23,7 +30,7 @@ begin-difference-requires-2 c κs =
     let after = c .before .before .before in
     let wrote = after .before .begin-difference in
     let d = after .before .before .above in
-    let start = after .before .before .before .before .before in
+    let start = start-of after in
     let a = start .args in
     second-begins (a .out .now) (a .at) (a .lhs) (a .rhs0) (a .rhs1) (start .pre) (d .result) (e .result) (d .ensures) (e .ensures) (wrote .last .0)
     (wrote .result) (after .out .given) (wrote .ensures .0)
@@ -35,10 +42,10 @@ returns : tie.Need-returns
 returns c =
     let wrote₂ = c .before .before .begin-difference2 in
     let e = c .before .before .before .above2 in
-    let after = c .before .before .before .before .before .before in
+    let after = out-of c in
     let wrote = after .before .begin-difference in
     let d = after .before .before .above in
-    let start = after .before .before .before .before .before in
+    let start = start-of after in
     let a = start .args in (
       begun-end (a .out .now) (a .at) (a .lhs) (a .rhs0) (a .rhs1) (start .pre) (d .result) (e .result) (d .ensures) (e .ensures) (wrote .last .0)
           (wrote .result) (after .out .given) (wrote .ensures .0) (wrote₂ .last .0) (wrote₂ .result) (wrote₂ .ensures .0),

@@ -12,6 +12,10 @@ use borrow.Author.Needs.{needs}
 use Rattle.write.proofs.print.write_latch.Statement.{statement}
 use Rattle.write.proofs.print.write_latch.Tie as tie
 
+-- moments, each named by what happened there
+abbrev write-word-of : tie.After-slice-known4 → tie.After-write-word
+write-word-of c = c .before .before .before .before .before .before
+
 write-next-requires : tie.Need-write-next-requires
 write-next-requires c κs =
     let start = c .before .before .before in
@@ -55,7 +59,7 @@ same-length-2 c = search needs
 returns-2 : tie.Need-returns-2
 returns-2 c =
     let last = c .before .before .write-next2 .ensures in
-    let wrote = c .before .before .before .before .before .before in
+    let wrote = write-word-of c in
     let test = wrote .before .before in
     let start = test .before .before in
     let a = start .args in

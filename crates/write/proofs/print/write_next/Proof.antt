@@ -11,6 +11,10 @@ use borrow.Author.Needs.{needs}
 use Rattle.write.proofs.print.write_next.Statement.{statement}
 use Rattle.write.proofs.print.write_next.Tie as tie
 
+-- moments, each named by what happened there
+abbrev write-word2-of : tie.After-slice-known4 → tie.After-write-word2
+write-word2-of c = c .before .before .before .before .before .before
+
 write-word-requires : tie.Need-write-word-requires
 write-word-requires c κs =
     let start = c .before .before .before in
@@ -52,7 +56,7 @@ same-length-2 c = search needs
 returns-2 : tie.Need-returns-2
 returns-2 c =
     let last = c .before .before .write-word3 .ensures in
-    let wrote = c .before .before .before .before .before .before in
+    let wrote = write-word2-of c in
     let test = wrote .before .before in
     let start = test .before .before in
     let a = start .args in

@@ -5,6 +5,13 @@ use Rattle.write.proofs.print.Turns.{number-fits, word-ends, word-put}
 use Rattle.write.proofs.print.write_word.Statement.{statement}
 use Rattle.write.proofs.print.write_word.Tie as tie
 
+-- moments, each named by what happened there
+abbrev put-digits-of : tie.After-end-of → tie.After-put-digits
+put-digits-of c = c .before .before .before
+
+abbrev start-of : tie.After-end-of → tie.Start
+start-of c = put-digits-of c .before .before .before
+
 put-digits-requires : tie.Need-put-digits-requires
 put-digits-requires c κs =
     let start = c .before .before in
@@ -16,8 +23,8 @@ end-of-requires c κs = search needs
 
 slice-write-out : tie.Need-slice-write-out
 slice-write-out c =
-    let wrote = c .before .before .before .put-digits in
-    let start = c .before .before .before .before .before .before in
+    let wrote = put-digits-of c .put-digits in
+    let start = start-of c in
     let a = start .args in
     omega (
       arith,
@@ -28,8 +35,8 @@ slice-write-out c =
 
 add-result : tie.Need-add-result
 add-result c =
-    let wrote = c .before .before .before .put-digits in
-    let start = c .before .before .before .before .before .before in
+    let wrote = put-digits-of c .put-digits in
+    let start = start-of c in
     let a = start .args in
     omega (
       arith,
@@ -42,8 +49,8 @@ same-length c = search needs
 
 returns : tie.Need-returns
 returns c =
-    let wrote = c .before .before .before .put-digits in
-    let start = c .before .before .before .before .before .before in
+    let wrote = put-digits-of c .put-digits in
+    let start = start-of c in
     let a = start .args in (
       word-ends (a .out .now) (a .at) (a .left) (a .word) (start .pre) (wrote .last .0) (wrote .result) (wrote .ensures .1) (wrote .ensures .0),
       word-put (a .out .now) (a .at) (a .left) (a .word) (start .pre) (wrote .last .0) (wrote .result) (wrote .ensures .1) (wrote .ensures .0)

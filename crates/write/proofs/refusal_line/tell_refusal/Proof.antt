@@ -11,6 +11,34 @@ use Rattle.write.proofs.refusal_line.Line.{Told, nothing-told, more-tol
 use Rattle.write.proofs.refusal_line.tell_refusal.Statement.{statement}
 use Rattle.write.proofs.refusal_line.tell_refusal.Tie as tie
 
+-- moments, each named by what happened there
+abbrev start-of : tie.Then1 → tie.Start
+start-of c = c .before .before .before .before .before .before
+
+abbrev append2-of : tie.After-slice-known5 → tie.After-append2
+append2-of c = c .before .before .before .before .before .before
+
+abbrev put-digits-of : tie.After-slice-known5 → tie.After-put-digits
+put-digits-of c = append2-of c .before .before .before .before .before
+
+abbrev append-of : tie.After-slice-known5 → tie.After-append
+append-of c = put-digits-of c .before .before .before .before
+
+abbrev else1-of : tie.After-slice-known5 → tie.Else1
+else1-of c = append-of c .before .before .before
+
+abbrev digits-in2-of : tie.After-slice-known5 → tie.After-digits-in2
+digits-in2-of c = else1-of c .before
+
+abbrev digits-in-of : tie.After-slice-known5 → tie.After-digits-in
+digits-in-of c = digits-in2-of c .before
+
+abbrev told-place-of : tie.After-slice-known5 → tie.After-told-place
+told-place-of c = digits-in-of c .before
+
+abbrev told-number-of : tie.After-slice-known5 → tie.After-told-number
+told-number-of c = told-place-of c .before
+
 -- what stands in the buffer before the new line
 abbrev start : tie.After-slice-known5 → tie.Start
 start c = c .before .before .before .before .before .before .before .before .before .before .before .before .before .before .before
@@ -24,20 +52,15 @@ told : (c : tie.After-slice-known5) → let a = start c .args in
     (c .before .before .put-digits2 .last .0) (c .before .before .put-digits2 .result)
 told c =
     let out = start c .args .out .now in
-    let n = c .before .before .before .before .before .before .before .before .before .before .before .before .before .before .before
-    .before .before .before .before .before .before .before .told-number .result in
-    let p = c .before .before .before .before .before .before .before .before .before .before .before .before .before .before .before
-    .before .before .before .before .before .before .told-place .result in
-    let enough = c .before .before .before .before .before .before .before .before .before .before .before .before .before .before
-    .before .before .before .before .if1 .left in
-    let number = c .before .before .before .before .before .before .before .before .before .before .before .before .before .before
-    .before .before .before .before .before .before .digits-in .ensures in
-    let place = c .before .before .before .before .before .before .before .before .before .before .before .before .before .before .before
-    .before .before .before .before .digits-in2 .ensures in
-    let first = c .before .before .before .before .before .before .before .before .before .before .before .before .before .before .before
+    let n = told-number-of c .told-number .result in
+    let p = told-place-of c .told-place .result in
+    let enough = else1-of c .if1 .left in
+    let number = digits-in-of c .digits-in .ensures in
+    let place = digits-in2-of c .digits-in2 .ensures in
+    let first = append-of c
     .append in
-    let second = c .before .before .before .before .before .before .before .before .before .before .before .put-digits in
-    let third = c .before .before .before .before .before .before .append2 in
+    let second = put-digits-of c .put-digits in
+    let third = append2-of c .append2 in
     let fourth = c .before .before .put-digits2 in
     let t1 = more-told out [] out 0 (nothing-told out) (bytesOf "refused ") (first .last .0) (first .result)
     (omega (arith, enough)) (first .ensures .1) (first .ensures .0) in
@@ -76,7 +99,7 @@ add-line-2 c =
 
 returns : tie.Need-returns
 returns c =
-    let a = c .before .before .before .before .before .before .args in
+    let a = start-of c .args in
     let number = c .before .before .before .before .told-number in
     let place = c .before .before .before .told-place in
     no-room (a .out .now) (a .r) _ _ _ (number .ensures) (place .ensures)
@@ -106,19 +129,16 @@ slice-write-out c = search needs
 -- the new line has room
 room : (c : tie.After-slice-known5) → c .before .before .put-digits2 .result + 1 ≤ length (start c .args .out .now)
 room c =
-    let enough = c .before .before .before .before .before .before .before .before .before .before .before .before .before .before
-    .before .before .before .before .if1 .left in
+    let enough = else1-of c .if1 .left in
     omega (
       arith,
       enough,
-      c .before .before .before .before .before .before .before .before .before .before .before .before .before .before .before .before
-          .before .before .before .before .digits-in .ensures,
-      c .before .before .before .before .before .before .before .before .before .before .before .before .before .before .before .before
-          .before .before .before .digits-in2 .ensures,
-      c .before .before .before .before .before .before .before .before .before .before .before .before .before .before .before .append
+      digits-in-of c .digits-in .ensures,
+      digits-in2-of c .digits-in2 .ensures,
+      append-of c .append
           .ensures .0,
-      c .before .before .before .before .before .before .before .before .before .before .before .put-digits .ensures .0,
-      c .before .before .before .before .before .before .append2 .ensures .0,
+      put-digits-of c .put-digits .ensures .0,
+      append2-of c .append2 .ensures .0,
       c .before .before .put-digits2 .ensures .0,
     )
 
@@ -128,17 +148,11 @@ same-length c = byte-told _ _ _ _ 10 (told c) (omega (arith, room c)) .size
 returns-2 : tie.Need-returns-2
 returns-2 c =
     let a = start c .args in
-    let number = c .before .before .before .before .before .before .before .before .before .before .before .before .before .before
-    .before .before .before .before .before .before .digits-in in
-    let place = c .before .before .before .before .before .before .before .before .before .before .before .before .before .before .before
-    .before .before .before .before .digits-in2 in
-    all-told (a .out .now) (a .r) _ _ _ (c .before .before .before .before .before .before .before .before .before .before .before
-    .before .before .before .before .before .before .before .before .before .before .before .told-number .ensures) (c .before .before
-    .before .before .before .before .before .before .before .before .before .before .before .before .before .before .before .before
-    .before .before .before .told-place .ensures)
+    let number = digits-in-of c .digits-in in
+    let place = digits-in2-of c .digits-in2 in
+    all-told (a .out .now) (a .r) _ _ _ (told-number-of c .told-number .ensures) (told-place-of c .told-place .ensures)
     (omega (arith, number .ensures, place .ensures)) _ _ (byte-told _ _ _ _ 10 (told c) (omega (arith, room c)))
-    (c .before .before .before .before .before .before .before .before .before .before .before .before .before .before .before .before
-    .before .before .if1 .left)
+    (else1-of c .if1 .left)
 
 pub tell-refusal-spec : {M : Type 1} → statement M
 tell-refusal-spec =

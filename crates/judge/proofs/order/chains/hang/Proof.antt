@@ -82,23 +82,5 @@ returns-2 c = let f = c .before .before .before in
 pub hang-spec : {M : Type 1} → statement M
 hang-spec =
     tie.close
-    (tie.spec
-    watch-requires
-    mark-requires
-    same-length
-    returns
-    ix-requires
-    add-t
-    mul-t
-    slice-read-t
-    add-t-2
-    add-t-3
-    mul-t-2
-    slice-write-t
-    add-t-4
-    cast-t
-    add-t-5
-    mul-t-3
-    slice-write-t-2
-    same-length-2
-    returns-2)
+    (tie.spec watch-requires mark-requires same-length returns ix-requires add-t mul-t slice-read-t add-t-2
+    add-t-3 mul-t-2 slice-write-t add-t-4 cast-t add-t-5 mul-t-3 slice-write-t-2 same-length-2 returns-2)

@@ -60,13 +60,4 @@ returns c = let L = c .before .loop in
 pub hang-all-spec : {M : Type 1} → statement M
 hang-all-spec =
     tie.close
-    (tie.spec
-    Inv-loop
-    μ-loop
-    loop-holds
-    hang-requires
-    add-i
-    loop-less
-    loop-again
-    same-length
-    returns)
+    (tie.spec Inv-loop μ-loop loop-holds hang-requires add-i loop-less loop-again same-length returns)

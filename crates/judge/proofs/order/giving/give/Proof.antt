@@ -107,18 +107,5 @@ returns c = let d = c .before .before .before .before .before in
 pub give-spec : {M : Type 1} → statement M
 give-spec =
     tie.close
-    (tie.spec
-    mul-var-of
-    mul-var-of-2
-    shared-slice-read-var-of
-    var-of-requires
-    add-ix
-    mul-ix
-    slice-read-ix
-    ix-requires
-    mul-t
-    slice-write-t
-    unmark-requires
-    wake-requires
-    same-length
-    returns)
+    (tie.spec mul-var-of mul-var-of-2 shared-slice-read-var-of var-of-requires add-ix mul-ix slice-read-ix
+    ix-requires mul-t slice-write-t unmark-requires wake-requires same-length returns)

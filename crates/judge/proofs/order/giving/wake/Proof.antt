@@ -98,18 +98,5 @@ returns c = let L = c .before .loop in
 pub wake-spec : {M : Type 1} → statement M
 wake-spec =
     tie.close
-    (tie.spec
-    Inv-loop
-    μ-loop
-    loop-holds
-    sub-i
-    add-ix
-    add-ix-2
-    mul-ix
-    slice-read-ix
-    ix-requires
-    hang-requires
-    loop-less
-    loop-again
-    same-length
-    returns)
+    (tie.spec Inv-loop μ-loop loop-holds sub-i add-ix add-ix-2 mul-ix slice-read-ix ix-requires hang-requires
+    loop-less loop-again same-length returns)

@@ -77,20 +77,5 @@ returns c = let L = c .before .loop in
 pub name-all-spec : {M : Type 1} → statement M
 name-all-spec =
     tie.close
-    (tie.spec
-    Inv-loop
-    μ-loop
-    loop-holds
-    cast-t
-    add-t
-    mul-var-of
-    mul-var-of-2
-    shared-slice-read-var-of
-    var-of-requires
-    mul-t
-    slice-write-t
-    add-i
-    loop-less
-    loop-again
-    same-length
-    returns)
+    (tie.spec Inv-loop μ-loop loop-holds cast-t add-t mul-var-of mul-var-of-2 shared-slice-read-var-of
+    var-of-requires mul-t slice-write-t add-i loop-less loop-again same-length returns)

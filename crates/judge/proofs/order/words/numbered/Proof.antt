@@ -48,12 +48,5 @@ returns-3 c =
 pub numbered-spec : {M : Type 1} → statement M
 numbered-spec =
     tie.close
-    (tie.spec
-    var-of-requires
-    returns
-    mul-if2
-    shared-slice-read-if2
-    mul-result
-    shared-slice-read-result
-    returns-2
-    returns-3)
+    (tie.spec var-of-requires returns mul-if2 shared-slice-read-if2 mul-result shared-slice-read-result
+    returns-2 returns-3)

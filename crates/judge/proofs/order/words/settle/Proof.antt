@@ -49,13 +49,4 @@ returns c = λ v k. c .before .loop .inv .2 v (omega arith)
 pub settle-spec : {M : Type 1} → statement M
 settle-spec =
     tie.close
-    (tie.spec
-    Inv-loop
-    μ-loop
-    loop-holds
-    settle-one-requires
-    add-v
-    loop-less
-    loop-again
-    same-length
-    returns)
+    (tie.spec Inv-loop μ-loop loop-holds settle-one-requires add-v loop-less loop-again same-length returns)

@@ -67,20 +67,6 @@ returns-2 c = let f = c .before .before in
 pub watch-spec : {M : Type 1} → statement M
 watch-spec =
     tie.close
-    (tie.spec
-    mul-var-of
-    add-var-of
-    mul-var-of-2
-    shared-slice-read-var-of
-    var-of-requires
-    mul-w
-    shared-slice-read-w
-    mul-var-of-3
-    add-var-of-2
-    mul-var-of-4
-    shared-slice-read-var-of-2
-    var-of-requires-2
-    mul-result
-    shared-slice-read-result
-    returns
-    returns-2)
+    (tie.spec mul-var-of add-var-of mul-var-of-2 shared-slice-read-var-of var-of-requires mul-w
+    shared-slice-read-w mul-var-of-3 add-var-of-2 mul-var-of-4 shared-slice-read-var-of-2 var-of-requires-2
+    mul-result shared-slice-read-result returns returns-2)

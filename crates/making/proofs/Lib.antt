@@ -1,0 +1,3 @@
+-- What the proofs of whole files made of whole files use.
+pub mod Smaller
+pub mod Files

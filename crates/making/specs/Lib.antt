@@ -1,0 +1,3 @@
+-- What making whole files of whole files is stated with.
+pub mod Passes
+pub mod Wholes
