@@ -15,4 +15,10 @@ pub mod Ordered
 pub mod Products
 pub mod Remade
 pub mod Tabled
+pub mod Numbers
+pub mod Attempts
+pub mod Meeting
+pub mod Turning
+pub mod Looping
+pub mod Beginning
 pub mod Examples
