@@ -22,3 +22,5 @@ pub mod Turning
 pub mod Looping
 pub mod Beginning
 pub mod Examples
+pub mod Walking
+pub mod Watching

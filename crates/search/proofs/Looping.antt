@@ -81,6 +81,7 @@ module _ {split : ℕ} {n : Counts} {x : Tables} (r : Runs n x) (allowance tries
             ex .ways,
             f .2,
             omega (arith, ex .count),
+            omega (arith, ex .count, reached-few),
             ex .follows ∙ ap (λ (a : ℕ). searchFrom y a tries (ex .ways)) one-left
                 ∙ turn-shown y (allowance - (tries + 1)) tries (ex .ways) q (f .0) (f .1)
                 ∙ ap₂ (λ (i m : ℕ). happens (onward y (at (ex .ways) i) m) (tries + 1)) place-is move-is,

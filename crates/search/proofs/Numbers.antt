@@ -33,22 +33,23 @@ bit-fits k i = subst (λ (w : ℕ). 1 + w < 4294967296) (sym (and-mask (k / 2 ^ 
     small : (w : ℕ) → w < 2 → 1 + w < 4294967296
     small w h = omega arith
 
-bit-at : (n k j : ℕ) → j < n → getD (words (bits n k)) j 0 ≡ word (bitValue (k / 2 ^ j % 2))
-bit-at zero k j h = absurd (omega arith)
-bit-at (suc n) k zero h = ap (λ (m : ℕ). word (bitValue (m % 2))) (sym (ap (λ (d : ℕ). k / d) (pow-zero 2) ∙ div-one k))
-bit-at (suc n) k (suc j) h =
-    bit-at n (k / 2) j (omega arith)
-    ∙ ap (λ (m : ℕ). word (bitValue (m % 2))) (div-div-eq-div-mul k 2 (2 ^ j) ∙ ap (λ (d : ℕ). k / d) (sym (pow-succ' 2 j)))
+-- what is made of each bit of a number
+bit-at : (f : Value → ℕ) (n k j : ℕ) → j < n → getD (map f (bits n k)) j 0 ≡ f (bitValue (k / 2 ^ j % 2))
+bit-at f zero k j h = absurd (omega arith)
+bit-at f (suc n) k zero h = ap (λ (m : ℕ). f (bitValue (m % 2))) (sym (ap (λ (d : ℕ). k / d) (pow-zero 2) ∙ div-one k))
+bit-at f (suc n) k (suc j) h =
+    bit-at f n (k / 2) j (omega arith)
+    ∙ ap (λ (m : ℕ). f (bitValue (m % 2))) (div-div-eq-div-mul k 2 (2 ^ j) ∙ ap (λ (d : ℕ). k / d) (sym (pow-succ' 2 j)))
 
 firsts-same : (f g : ℕ → ℕ) (n : ℕ) → ((i : ℕ) → i < n → f i ≡ g i) → firsts f n ≡ firsts g n
 firsts-same f g zero h = refl
 firsts-same f g (suc n) h = ap₂ (λ (l : List ℕ) (x : ℕ). l ++ (x ∷ [])) (firsts-same f g n (λ i k. h i (omega arith))) (h n (omega arith))
 
-pub words-bits : (n k : ℕ) → firsts (λ j. word (bitValue (k / 2 ^ j % 2))) n ≡ words (bits n k)
-words-bits n k =
-    let long : length (words (bits n k)) ≡ n = length-map (bits n k) word ∙ bits-length n k in
-    firsts-same (λ j. word (bitValue (k / 2 ^ j % 2))) (λ j. getD (words (bits n k)) j 0) n (λ j h. sym (bit-at n k j h))
-    ∙ sym (words-take (words (bits n k)) n (omega arith)) ∙ take-all n (words (bits n k)) (omega arith)
+pub bits-firsts : (f : Value → ℕ) (n k : ℕ) → firsts (λ j. f (bitValue (k / 2 ^ j % 2))) n ≡ map f (bits n k)
+bits-firsts f n k =
+    let long : length (map f (bits n k)) ≡ n = length-map (bits n k) f ∙ bits-length n k in
+    firsts-same (λ j. f (bitValue (k / 2 ^ j % 2))) (λ j. getD (map f (bits n k)) j 0) n (λ j h. sym (bit-at f n k j h))
+    ∙ sym (words-take (map f (bits n k)) n (omega arith)) ∙ take-all n (map f (bits n k)) (omega arith)
 
 pub one-is : (w : ℕ) → w ≡ 2 → _≡_ {A = ℕ} 1 (cond (is1 (told w)) 1 0)
 one-is w e = sym (ap {B = ℕ} (λ (b : Bool). cond b 1 0) (is-one w e))

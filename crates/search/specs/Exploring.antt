@@ -95,12 +95,15 @@ pub record Exploring (split : ℕ) (n : Counts) (x : Tables) (allowance tries re
   pub follows : searchAll (systemOf split (circuitOf n x)) allowance ≡ searchFrom (systemOf split (circuitOf n x)) (allowance - tries) tries ways
 
 -- what is answered: where it is shown, the place of the state and the move, and the rows that lead there
+abbrev pub ExploredBy : System → ℕ → ℕ → Reach → List ℕ → Type 0
+ExploredBy y most allowance (reach.Never k t) met = searchAll y allowance ≡ never k t
+ExploredBy y most allowance (reach.Shown place m t) met =
+    (ways : List Way) × Rows y ways met × (place < length ways) × (length ways ≤ most)
+    × (searchAll y allowance ≡ happens (onward y (at ways place) m) t)
+ExploredBy y most allowance (reach.Undecided t) met = searchAll y allowance ≡ undecided t
+
 abbrev pub Explored : ℕ → Counts → Tables → ℕ → Reach → List ℕ → Type 0
-Explored split n x allowance (reach.Never k t) met = searchAll (systemOf split (circuitOf n x)) allowance ≡ never k t
-Explored split n x allowance (reach.Shown place m t) met =
-    (ways : List Way) × Rows (systemOf split (circuitOf n x)) ways met × (place < length ways)
-    × (searchAll (systemOf split (circuitOf n x)) allowance ≡ happens (onward (systemOf split (circuitOf n x)) (at ways place) m) t)
-Explored split n x allowance (reach.Undecided t) met = searchAll (systemOf split (circuitOf n x)) allowance ≡ undecided t
+Explored split n x = ExploredBy (systemOf split (circuitOf n x)) (2 ^ n .L)
 
 -- what one try promises, and the whole search, for whatever inputs, resets and split the tables run with
 abbrev pub Tried : Counts → List ℕ → List ℕ → List ℕ → List ℕ → List ℕ → ℕ → ℕ → Attempt → Type 0

@@ -12,18 +12,30 @@ ghost use Rattle.tables.specs.bitmap.Bitmap.{isOn};
 ghost use Rattle.witness.specs.Asked.{codesOf};
 ghost use Rattle.search.specs.Starting.{Numbers, Starts, Started, Searches, startOf};
 ghost use Rattle.search.specs.Trying.{Tries};
+ghost use Rattle.plan.specs.Lent.{Searches as SearchesBy};
+ghost use Rattle.plan.specs.Refusals.{firstOf};
+ghost use Rattle.plan.specs.Outcome.{checkedBy};
+ghost use Rattle.plan.specs.Search.{search as searching};
 ghost use Rattle.search.specs.Exploring.{Meets, MeetBy, Turns, Explores, Tried, TakesTurn, ExploresAll, SearchesAll};
+ghost use Rattle.search.specs.Asking.{fitStages, Watches, WatchesAll, Finds, FindsAll, Asks};
+use judge::check_in_order;
+use plan::Checked;
 use plan::Counts;
+use plan::Happening;
+use plan::Refusal;
 use step::sweep::all_lits;
 use step::sweep::step_values;
 use step::values::MAY0;
 use step::values::MAY1;
 use tables::bitmap::is_on;
 use tables::bitmap::raise;
+use tables::clear;
 use tables::lesser;
 use witness::count_resets;
 use witness::load_resets_filled;
 use witness::three::shown;
+
+mod back;
 
 // What a move does: it is barred, it shows what is looked for, or it leads to a state.
 pub enum Attempt {
@@ -319,6 +331,62 @@ fn search_states(
         met,
         marks,
         total,
+        allowance,
+    )
+}
+
+// The same of what is watched: the bad states, or one output, which are looked at as outputs.
+fn watch_states(
+    n: Counts,
+    latches: &[u32],
+    outputs: &[u32],
+    gates: &[u32],
+    resets: &[u32],
+    bads: &[u32],
+    constraints: &[u32],
+    scratch: &mut [u32],
+    split: usize,
+    watch: usize,
+    met: &mut [u32],
+    marks: &mut [u32],
+    allowance: usize,
+) -> Reach
+    requires { ⌜ Watches n (now latches) (now outputs) (now gates) (now resets) (now bads) (now constraints) (now scratch) watch (now met)
+        (now marks) ⌝ }
+    ensures { λ r. ⌜ WatchesAll split watch n (now (latches .entry)) (now (outputs .entry)) (now (gates .entry)) (now (resets .entry))
+        (now (bads .entry)) (now (constraints .entry)) allowance r (now (met .exit)) ⌝ }
+{
+    if watch == 0 {
+        let all = Counts { M: n.M, I: n.I, L: n.L, O: n.B, A: n.A, B: 0, C: n.C };
+        return search_states(
+            all,
+            latches,
+            bads,
+            gates,
+            resets,
+            bads,
+            constraints,
+            scratch,
+            split,
+            met,
+            marks,
+            allowance,
+        );
+    }
+    let k = watch - 1;
+    let one = Counts { M: n.M, I: n.I, L: n.L, O: 1, A: n.A, B: 0, C: n.C };
+    search_states(
+        one,
+        latches,
+        &outputs[k..],
+        gates,
+        resets,
+        bads,
+        constraints,
+        scratch,
+        split,
+        met,
+        marks,
         allowance,
     )
 }

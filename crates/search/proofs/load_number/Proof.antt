@@ -5,7 +5,7 @@ use Rattle.plan.specs.Outcome.{put}
 use Rattle.step.specs.values.Words.{word}
 use Rattle.step.proofs.values.Filling.{Filled, filled-none, filled-more, filled-all}
 use Rattle.plan.specs.Search.{bitValue}
-use Rattle.search.proofs.Numbers.{words-bits}
+use Rattle.search.proofs.Numbers.{bits-firsts}
 use borrow.Author.Needs.{needs}
 use Rattle.search.proofs.load_number.Statement.{statement}
 use Rattle.search.proofs.load_number.Tie as tie
@@ -66,7 +66,7 @@ returns c =
     let w = c .before in
     let s = w .before .before in
     filled-all _ _ _ (s .args .n) (w .loop .i) (w .loop .t) (w .loop .inv .1) (omega arith)
-    ∙ ap (put (s .args .t .now) (s .args .first)) (words-bits (s .args .n) (s .args .k))
+    ∙ ap (put (s .args .t .now) (s .args .first)) (bits-firsts word (s .args .n) (s .args .k))
 
 pub load-number-spec : {M : Type 1} → statement M
 load-number-spec =
