@@ -24,3 +24,4 @@ pub mod Beginning
 pub mod Examples
 pub mod Walking
 pub mod Watching
+pub mod Answering

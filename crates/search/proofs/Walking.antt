@@ -55,6 +55,17 @@ module _ (y : System) (ways : List Way) where
   from-start p zero m k h = k
   from-start p (suc q) m k h = absurd (omega arith)
 
+-- a way has no more moves than there are rows before its own
+pub list-low : (y : System) (ways : List Way) (met : List ℕ) → Rows y ways met → (k i : ℕ) → i < k → i < length ways → length (at ways i .list) ≤ i
+list-low y ways met rows zero i h q = absurd (omega arith)
+list-low y ways met rows (suc k) i h q =
+    go (getD met (3 * i + 1) 0) (getD met (3 * i + 2) 0) (rows .from i q) (λ p hp. list-low y ways met rows k p (omega arith) (omega arith))
+  where
+    go : (f m : ℕ) → From y ways i f m → ((p : ℕ) → p < i → length (at ways p .list) ≤ p) → length (at ways i .list) ≤ i
+    go zero m e again = omega (arith, ap (λ (w : Way). length (w .list)) e)
+    go (suc p) m e again =
+        omega (arith, ap (λ (w : Way). length (w .list)) (e .1), length-append (at ways p .list) (m ∷ []), again p (e .0), e .0)
+
 -- steps counted so far, and the row from which the row of the last one was met
 pub record Counting (y : System) (ways : List Way) (met : List ℕ) (place steps from : ℕ) : Type 0 where
   pub p : ℕ

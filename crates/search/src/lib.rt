@@ -18,6 +18,7 @@ ghost use Rattle.plan.specs.Outcome.{checkedBy};
 ghost use Rattle.plan.specs.Search.{search as searching};
 ghost use Rattle.search.specs.Exploring.{Meets, MeetBy, Turns, Explores, Tried, TakesTurn, ExploresAll, SearchesAll};
 ghost use Rattle.search.specs.Asking.{fitStages, Watches, WatchesAll, Finds, FindsAll, Asks};
+use crate::back::tell;
 use judge::check_in_order;
 use plan::Checked;
 use plan::Counts;
@@ -389,4 +390,72 @@ fn watch_states(
         marks,
         allowance,
     )
+}
+
+// 25, 26, 4 for tables 10 and 11, which are lent so many words, and 17.
+fn fit(n: Counts, watch: usize, met: usize, marks: usize) -> Checked
+    ensures { λ r. ⌜ r ≡ checkedBy (firstOf (fitStages n watch met marks)) ⌝ }
+{
+    if 20 < n.L {
+        return Checked::Refused(Refusal::ManyLatches(n.L));
+    }
+    if 20 < n.I {
+        return Checked::Refused(Refusal::ManyInputs(n.I));
+    }
+    let states = power(n.L);
+    if met < 3 * states {
+        return Checked::Refused(Refusal::ShortTable(10));
+    }
+    if marks < (states + 31) / 32 {
+        return Checked::Refused(Refusal::ShortTable(11));
+    }
+    if n.O < watch {
+        return Checked::Refused(Refusal::NotExplained(1));
+    }
+    Checked::Good
+}
+
+// The answer for a circuit that nothing is wrong with: `marks` are cleared first.
+fn find(
+    n: Counts,
+    latches: &[u32],
+    outputs: &[u32],
+    gates: &[u32],
+    resets: &[u32],
+    bads: &[u32],
+    constraints: &[u32],
+    scratch: &mut [u32],
+    split: usize,
+    watch: usize,
+    allowance: usize,
+    met: &mut [u32],
+    marks: &mut [u32],
+    out: &mut [u8],
+) -> Happening
+    requires { ⌜ Finds n (now latches) (now outputs) (now gates) (now resets) (now bads) (now constraints) (now scratch) watch (now met)
+        (now marks) ⌝ }
+    ensures { λ r. ⌜ FindsAll split watch n (now (latches .entry)) (now (outputs .entry)) (now (gates .entry)) (now (resets .entry))
+        (now (bads .entry)) (now (constraints .entry)) allowance (now (out .entry)) r (now (out .exit)) ⌝ }
+{
+    clear(marks);
+    let reach = watch_states(
+        n,
+        latches,
+        outputs,
+        gates,
+        resets,
+        bads,
+        constraints,
+        scratch,
+        split,
+        watch,
+        met,
+        marks,
+        allowance,
+    );
+    match reach {
+        Reach::Never(states, tries) => Happening::Never(states, tries),
+        Reach::Shown(place, m, tries) => tell(n, met, place, m, tries, out),
+        Reach::Undecided(tries) => Happening::Undecided(tries),
+    }
 }

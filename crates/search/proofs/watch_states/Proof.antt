@@ -31,7 +31,7 @@ returns : tie.Need-returns
 returns c =
     let a = c .before .before .before .before .before .before .before .before .before .before .before .before .before .before .before .before .before .before .before .before .args in
     all-watched (a .n) (a .latches .now) (a .outputs .now) (a .gates .now) (a .resets .now) (a .bads .now) (a .constraints .now) (a .watch)
-    (a .split) (a .allowance) _ _ (c .before .before .before .before .before .before .before .before .before .before .if1 .taken) (c .before .before .before .before .before .before .search-states .ensures)
+    (a .split) (a .allowance) (c .before .before .before .before .before .before .search-states .result) (c .before .before .before .before .before .before .search-states .last .1 .1 .1 .1 .1 .1 .1 .1 .1 .0) (c .before .before .before .before .before .before .before .before .before .before .if1 .taken) (c .before .before .before .before .before .before .search-states .ensures)
 
 sub-k : tie.Need-sub-k
 sub-k c = search needs
@@ -69,7 +69,7 @@ returns-2 c =
     let x = c .before .before .before .before .before .before .before .before .before .before .before .before .before .before .before .before .before .before .before .before .before in
     let a = x .args in
     one-watched (a .n) (a .latches .now) (a .outputs .now) (a .gates .now) (a .resets .now) (a .bads .now) (a .constraints .now) (a .watch)
-    (a .split) (a .allowance) _ _ (a .watch - 1) (before (a .watch) (c .before .before .before .before .before .before .before .before .before .before .before .if1 .left)) (x .pre .finds .there) _ (part-rest (a .watch - 1) (a .outputs .now))
+    (a .split) (a .allowance) (c .before .before .before .before .before .before .search-states2 .result) (c .before .before .before .before .before .before .search-states2 .last .1 .1 .1 .1 .1 .1 .1 .1 .1 .0) (a .watch - 1) (before (a .watch) (c .before .before .before .before .before .before .before .before .before .before .before .if1 .left)) (x .pre .finds .there) _ (part-rest (a .watch - 1) (a .outputs .now))
     (c .before .before .before .before .before .before .search-states2 .ensures)
 
 pub watch-states-spec : {M : Type 1} → statement M
