@@ -7,20 +7,25 @@ use mathlib.Core.List.{List, [], _∷_, _++_, map}
 use native.Mathlib.Nat.{zero-add, pow-le-pow-right}
 use native.Mathlib.Decide.{decLe}
 use native.Mathlib.Omega.{arith}
-use borrow.Author.Tests.{le-leb, lt-leb}
+use borrow.Author.Tests.{le-leb, lt-leb, leb-true}
 use lib.Dec.{leb}
 use lib.ListN.{length, getD, replicate, length-append}
 use Rattle.plan.specs.declared.Counts.{Counts}
 use Rattle.plan.specs.declared.Refusal.the-variants.{ShortTable, NotExplained, ShortBuffer, ManyLatches, ManyInputs}
+use Rattle.plan.specs.declared.Refusal.{Refusal}
+use Rattle.plan.specs.declared.Checked.{Checked}
 use Rattle.plan.specs.declared.Checked.the-variants as checked
 use Rattle.plan.specs.declared.Happening.{Happening}
 use Rattle.plan.specs.declared.Happening.the-variants.{Can, Refused}
 use Rattle.plan.specs.declared.Happening.the-variants as happening
 use Rattle.plan.specs.Refusals.{stage, firstOf}
-use Rattle.plan.specs.Circuit.{Circuit, Tables, circuitOf, orLess}
-use Rattle.plan.specs.Given.{failingAt, room}
+use Rattle.plan.specs.Circuit.{Circuit, Tables, circuitOf, orLess, cleared}
+use Rattle.plan.specs.Given.{failingAt, room, roomStage, inOrderThen}
 use Rattle.plan.specs.Outcome.{put, checkedBy}
-use Rattle.plan.specs.Search.{System, Way, Found, never, happens, undecided, onward, bits, watched, systemOf, canHappen, wayBytes, happeningOf}
+use Rattle.plan.specs.Search.{System, Way, Found, never, happens, undecided, onward, bits, watched, systemOf, canHappen, wayBytes, happeningOf, SearchEntry, SearchExit, searched, found, searchStages, searchedBy, search}
+use Rattle.laws.proofs.Writing.Nothing.{some-first, both-first}
+use Rattle.judge.proofs.Sound.{good-none, refused-some}
+use Rattle.step.proofs.Beyond.{answer}
 use Rattle.laws.proofs.Put.{put-none}
 use Rattle.tables.specs.bitmap.Bitmap.{isOn}
 use Rattle.tables.proofs.bitmap.Telling.{blank-off}
@@ -30,7 +35,7 @@ use Rattle.search.specs.declared.Reach.the-variants as reach
 use Rattle.search.specs.Rows.{at, From, Rows}
 use Rattle.search.specs.Walking.{Walks, wayCodes, Tells}
 use Rattle.search.specs.Exploring.{ExploredBy}
-use Rattle.search.specs.Asking.{fitStages, answerBy, outBy, Answered}
+use Rattle.search.specs.Asking.{fitStages, answerBy, outBy, Answered, Asks}
 use Rattle.search.proofs.Walking.{way-long, few-bytes, list-low}
 
 -- 25, 26, 4 and 17
@@ -77,6 +82,81 @@ module _ (n : Counts) (watch met marks : ℕ) where
 
           pub fit-good : watch ≤ n .O → checked.Good ≡ checkedBy (firstOf (fitStages n watch met marks))
           fit-good h = by-tests true true true true true (le-leb (n .L) 20 hl) (le-leb (n .I) 20 hi) met-fits marks-fit (le-leb watch (n .O) h)
+
+-- nothing of it is refused
+module _ (n : Counts) (watch met marks : ℕ) where
+  pub record Fitting : Type 0 where
+    pub few-latches : n .L ≤ 20
+    pub few-inputs : n .I ≤ 20
+    pub met-long : 3 * 2 ^ n .L ≤ met
+    pub marks-long : 2 ^ n .L ≤ 32 * marks
+    pub there : watch ≤ n .O
+
+  all-true : (a b c d e : Bool) → checked.Good ≡ judged n watch met marks a b c d e
+      → (a ≡ true) × (b ≡ true) × (c ≡ true) × (d ≡ true) × (e ≡ true)
+  all-true true true true true true q = (refl, refl, refl, refl, refl)
+  all-true true true true true false q = let z : _≡_ {A = ℕ} 0 1 = cc in absurd (omega arith)
+  all-true true true true false e q = let z : _≡_ {A = ℕ} 0 1 = cc in absurd (omega arith)
+  all-true true true false true e q = let z : _≡_ {A = ℕ} 0 1 = cc in absurd (omega arith)
+  all-true true true false false e q = let z : _≡_ {A = ℕ} 0 1 = cc in absurd (omega arith)
+  all-true true false c d e q = let z : _≡_ {A = ℕ} 0 1 = cc in absurd (omega arith)
+  all-true false b c d e q = let z : _≡_ {A = ℕ} 0 1 = cc in absurd (omega arith)
+
+  pub fitting : checked.Good ≡ checkedBy (firstOf (fitStages n watch met marks)) → Fitting
+  fitting q =
+      let t = all-true (leb (n .L) 20) (leb (n .I) 20) (leb (3 * 2 ^ n .L) met) (leb ((2 ^ n .L + 31) / 32) marks) (leb watch (n .O)) q in
+      record {
+        few-latches = leb-true (n .L) 20 (t .0);
+        few-inputs = leb-true (n .I) 20 (t .1);
+        met-long = leb-true (3 * 2 ^ n .L) met (t .2);
+        marks-long = thirty-two (2 ^ n .L) (leb-true ((2 ^ n .L + 31) / 32) marks (t .3));
+        there = leb-true watch (n .O) (t .4);
+      }
+    where
+      thirty-two : (k : ℕ) → (k + 31) / 32 ≤ marks → k ≤ 32 * marks
+      thirty-two k h = omega arith
+
+-- the outcome of the call, from what was told on the way
+module _ (e : SearchEntry) where
+  pub asks-refused : (r : Refusal) → answer (e .circuit) (searchStages e) ≡ some r → Asks e (Refused r) (e .out)
+  asks-refused r q = (sym (ap (λ (o : Option Refusal). searchedBy o e .answer) q), sym (ap (λ (o : Option Refusal). searchedBy o e .out) q))
+
+  abbrev early : List (Option Refusal)
+  early = fitStages (e .circuit .counts) (e .watch) (length (e .met)) (length (e .marks))
+
+  module _ (past : answer (e .circuit) (searchStages e) ≡ firstOf (searchStages e)) (a : Checked)
+      (told : a ≡ checkedBy (firstOf (fitStages (e .circuit .counts) (e .watch) (length (e .met)) (length (e .marks))))) where
+    pub asks-early : (r : Refusal) → a ≡ checked.Refused r → Asks e (Refused r) (e .out)
+    asks-early r q =
+        asks-refused r (past ∙ some-first r early (roomStage (e .out) (wayBytes (searched e) (found e)) ∷ []) (refused-some r (firstOf early) (sym q ∙ told)))
+
+    pub asks-found : a ≡ checked.Good → (h : Happening) (out′ : List ℕ) → Answered (searched e) (found e) (e .out) h out′ → Asks e h out′
+    asks-found q h out′ w = (
+      w .0 ∙ sym (ap (λ (o : Option Refusal). searchedBy o e .answer) whole ∙ by-answer (room (e .out) 0 (wayBytes (searched e) (found e)))),
+      w .1 ∙ sym (ap (λ (o : Option Refusal). searchedBy o e .out) whole ∙ by-out (room (e .out) 0 (wayBytes (searched e) (found e)))),
+    )
+      where
+        whole : answer (e .circuit) (searchStages e) ≡ firstOf (stage ShortBuffer (room (e .out) 0 (wayBytes (searched e) (found e))) ∷ [])
+        whole = past ∙ both-first early (roomStage (e .out) (wayBytes (searched e) (found e)) ∷ []) (good-none (firstOf early) (sym q ∙ told))
+
+        by-answer : (o : Option ℕ) → searchedBy (firstOf (stage ShortBuffer o ∷ [])) e .answer ≡ answerBy o (found e)
+        by-answer none = refl
+        by-answer (some place) = refl
+
+        by-out : (o : Option ℕ) → searchedBy (firstOf (stage ShortBuffer o ∷ [])) e .out ≡ outBy o (e .out) (wayBytes (searched e) (found e))
+        by-out none = refl
+        by-out (some place) = refl
+
+-- all else is cleared
+pub searched-clear : (e : SearchEntry) (h : Happening) (out′ scratch met marks : List ℕ) → Asks e h out′ → scratch ≡ cleared (e .circuit .scratch)
+    → met ≡ cleared (e .met) → marks ≡ cleared (e .marks)
+    → _≡_ {A = SearchExit} (record { answer = h; scratch = scratch; met = met; marks = marks; out = out′ }) (search e)
+searched-clear e h out′ scratch met marks a es em ek = go (firstOf (inOrderThen (e .circuit) (searchStages e))) (a .0) (a .1)
+  where
+    go : (o : Option Refusal) → h ≡ searchedBy o e .answer → out′ ≡ searchedBy o e .out
+        → _≡_ {A = SearchExit} (record { answer = h; scratch = scratch; met = met; marks = marks; out = out′ }) (searchedBy o e)
+    go none p q = λ j. record { answer = p j; scratch = es j; met = em j; marks = ek j; out = q j }
+    go (some r) p q = λ j. record { answer = p j; scratch = es j; met = em j; marks = ek j; out = q j }
 
 -- marks that are cleared are blank
 zeros-at : (n i : ℕ) → _≡_ {A = ℕ} (getD (replicate n 0) i 0) 0

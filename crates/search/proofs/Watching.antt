@@ -20,7 +20,7 @@ use Rattle.tables.specs.Held.{Scratch}
 use Rattle.step.specs.sweep.Running.{Runs}
 use Rattle.search.specs.declared.Reach.{Reach}
 use Rattle.search.specs.Exploring.{ExploredBy, SearchesAll}
-use Rattle.search.specs.Starting.{Searches}
+use Rattle.search.specs.Starting.{Seeks}
 use Rattle.search.specs.Asking.{Watches, WatchesAll}
 
 -- a circuit that is accepted in binary order stays so, whatever of its literals are its outputs
@@ -120,7 +120,7 @@ module _ {n : Counts} {x : Tables} (r : Runs n x) where
 -- the search of all bad states, and of one output, as it is asked and answered
 module _ (n : Counts) (latches outputs gates resets bads constraints : List ℕ) (watch : ℕ) where
   module _ (scratch met marks : List ℕ) (w : Watches n latches outputs gates resets bads constraints scratch watch met marks) where
-    pub all-searches : Searches (allCounts n) latches bads gates resets bads constraints scratch met marks
+    pub all-searches : Seeks (allCounts n) latches bads gates resets bads constraints scratch met marks
     all-searches =
         let f = w .finds in
         record {
@@ -135,7 +135,7 @@ module _ (n : Counts) (latches outputs gates resets bads constraints : List ℕ)
         }
 
     pub one-searches : (k : ℕ) → k + 1 ≡ watch → (rest : List ℕ) → rest ≡ drop k outputs
-        → Searches (oneCount n) latches rest gates resets bads constraints scratch met marks
+        → Seeks (oneCount n) latches rest gates resets bads constraints scratch met marks
     one-searches k e rest er =
         let f = w .finds in
         record {

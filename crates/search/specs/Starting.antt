@@ -36,7 +36,7 @@ pub record Started (split : ℕ) (n : Counts) (resets : List ℕ) (total : ℕ) 
   pub marked : (s : ℕ) → s < 2 ^ n .L → isOn marks 0 s ≡ has s (upTo (startOf split n resets) 0 total)
 
 -- tables that hold an accepted circuit in binary order, of few latches and inputs; room, and no mark
-pub record Searches (n : Counts) (latches outputs gates resets bads constraints scratch met marks : List ℕ) : Type 0 where
+pub record Seeks (n : Counts) (latches outputs gates resets bads constraints scratch met marks : List ℕ) : Type 0 where
   pub inputs : List ℕ
   pub runs : Runs n (seven inputs latches outputs gates resets bads constraints)
   pub scratch-long : Scratch n scratch

@@ -10,12 +10,12 @@ ghost use Rattle.plan.specs.Search.{fillBoth, xBoth, bitValue, bits, asNumber};
 ghost use Rattle.step.specs.values.Words.{word, words, told, valuesAt};
 ghost use Rattle.tables.specs.bitmap.Bitmap.{isOn};
 ghost use Rattle.witness.specs.Asked.{codesOf};
-ghost use Rattle.search.specs.Starting.{Numbers, Starts, Started, Searches, startOf};
+ghost use Rattle.search.specs.Starting.{Numbers, Starts, Started, Seeks, startOf};
 ghost use Rattle.search.specs.Trying.{Tries};
-ghost use Rattle.plan.specs.Lent.{Searches as SearchesBy};
+ghost use Rattle.plan.specs.Lent.{toSearch, Searches};
 ghost use Rattle.plan.specs.Refusals.{firstOf};
 ghost use Rattle.plan.specs.Outcome.{checkedBy};
-ghost use Rattle.plan.specs.Search.{search as searching};
+ghost use Rattle.plan.specs.Search.{search};
 ghost use Rattle.search.specs.Exploring.{Meets, MeetBy, Turns, Explores, Tried, TakesTurn, ExploresAll, SearchesAll};
 ghost use Rattle.search.specs.Asking.{fitStages, Watches, WatchesAll, Finds, FindsAll, Asks};
 use crate::back::tell;
@@ -313,7 +313,7 @@ fn search_states(
     marks: &mut [u32],
     allowance: usize,
 ) -> Reach
-    requires { ⌜ Searches n (now latches) (now outputs) (now gates) (now resets) (now bads) (now constraints) (now scratch) (now met)
+    requires { ⌜ Seeks n (now latches) (now outputs) (now gates) (now resets) (now bads) (now constraints) (now scratch) (now met)
         (now marks) ⌝ }
     ensures { λ r. ⌜ SearchesAll split n (now (latches .entry)) (now (outputs .entry)) (now (gates .entry)) (now (resets .entry))
         (now (bads .entry)) (now (constraints .entry)) allowance r (now (met .exit)) ⌝ }
@@ -458,4 +458,107 @@ fn find(
         Reach::Shown(place, m, tries) => tell(n, met, place, m, tries, out),
         Reach::Undecided(tries) => Happening::Undecided(tries),
     }
+}
+
+// The answer, and the bytes of the start and the list: the refusals in their order, then the search.
+fn ask(
+    n: Counts,
+    inputs: &[u32],
+    latches: &[u32],
+    outputs: &[u32],
+    gates: &[u32],
+    resets: &[u32],
+    bads: &[u32],
+    constraints: &[u32],
+    scratch: &mut [u32],
+    split: usize,
+    watch: usize,
+    allowance: usize,
+    met: &mut [u32],
+    marks: &mut [u32],
+    out: &mut [u8],
+) -> Happening
+    ensures { λ r. ⌜ Asks (toSearch n inputs latches outputs gates resets bads constraints scratch split watch allowance met marks out) r
+        (now (out .exit)) ⌝ }
+{
+    match check_in_order(
+        n,
+        inputs,
+        latches,
+        outputs,
+        gates,
+        resets,
+        bads,
+        constraints,
+        scratch,
+    ) {
+        Checked::Refused(refusal) => Happening::Refused(refusal),
+        Checked::Good => {
+            let fits = fit(n, watch, met.len(), marks.len());
+            match fits {
+                Checked::Refused(refusal) => Happening::Refused(refusal),
+                Checked::Good => find(
+                    n,
+                    latches,
+                    outputs,
+                    gates,
+                    resets,
+                    bads,
+                    constraints,
+                    scratch,
+                    split,
+                    watch,
+                    allowance,
+                    met,
+                    marks,
+                    out,
+                ),
+            }
+        }
+    }
+}
+
+// Whether what is watched can ever happen: 0 the bad states, k + 1 output k. The latches before `split` are one plan's and those from there on
+// another's, whose starts are filled by one number. At most `allowance` moves are tried. The start and a shortest list go into `out`; scratch and
+// tables 10 and 11 are zero afterwards.
+pub fn search(
+    n: Counts,
+    inputs: &[u32],
+    latches: &[u32],
+    outputs: &[u32],
+    gates: &[u32],
+    resets: &[u32],
+    bads: &[u32],
+    constraints: &[u32],
+    scratch: &mut [u32],
+    split: usize,
+    watch: usize,
+    allowance: usize,
+    met: &mut [u32],
+    marks: &mut [u32],
+    out: &mut [u8],
+) -> Happening
+    ensures { λ r. ⌜ Searches search n inputs latches outputs gates resets bads constraints scratch split watch allowance met marks out r ⌝ }
+{
+    let answer = ask(
+        n,
+        inputs,
+        latches,
+        outputs,
+        gates,
+        resets,
+        bads,
+        constraints,
+        scratch,
+        split,
+        watch,
+        allowance,
+        met,
+        marks,
+        out,
+    );
+    clear(scratch);
+    clear(met);
+    clear(marks);
+    answer
 }
