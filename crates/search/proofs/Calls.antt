@@ -23,9 +23,11 @@ use Rattle.laws.proofs.Writing.Fine.{Fine, nothing-fine, counts-given}
 use Rattle.laws.proofs.Running.Accepted.{Accepted, accepted}
 use Rattle.laws.proofs.Running.Resets.{first-length}
 use Rattle.plan.specs.Search.{Best, Way, Found, never, happens, undecided, watching, watched, startBytes, listBytes, canHappen, systemOf}
-use Rattle.plan.specs.declared.Happening.the-variants.{Never, Can}
+use Rattle.plan.specs.declared.Happening.{Happening}
+use Rattle.plan.specs.declared.Happening.the-variants.{Never, Can, Refused}
+use Rattle.search.specs.Asking.{fitStages}
 use Rattle.plan.specs.Search.{SearchEntry, SearchExit, startAt, searched, found, wayBytes, happeningOf, lentToSearch, searchStages, searchedBy, search}
-use Rattle.search.proofs.Answers.{Decided}
+use Rattle.search.proofs.Answers.{Decided, all-stays}
 use Rattle.search.proofs.Circuits.{NoneShows, never-none, happens-best, larger}
 use Rattle.search.proofs.Circuits as circuits
 use Rattle.search.proofs.Witnesses.{watched-accepted, found-fills, found-shows}
@@ -37,6 +39,15 @@ first-watched (suc k) c = refl
 latches-watched : (k : ℕ) (c : Circuit) → length (watched k c .latches) ≡ length (c .latches)
 latches-watched zero c = refl
 latches-watched (suc k) c = refl
+
+-- the answer and the buffer, by what is refused and what is found
+abbrev answerWith : Option Refusal → Found → Happening
+answerWith none f = happeningOf f
+answerWith (some r) f = Refused r
+
+abbrev outWith : Option Refusal → List ℕ → List ℕ → List ℕ
+outWith none out bytes = put out 0 bytes
+outWith (some r) out bytes = out
 
 module _ (e : SearchEntry) where
   abbrev refusal : Option Refusal
@@ -129,3 +140,38 @@ module _ (e : SearchEntry) where
         written = ap (λ (o : Option Refusal). searchedBy o e .out) (r .0)
             ∙ ap (λ (x : Found). put (e .out) 0 (wayBytes (searched e) x)) (r .1 .1);
       }
+
+  -- a larger allowance changes nothing of an answer but undecided
+  abbrev pub allowing : ℕ → SearchEntry
+  allowing b = record {
+    circuit = e .circuit;
+    split = e .split;
+    watch = e .watch;
+    allowance = b;
+    met = e .met;
+    marks = e .marks;
+    out = e .out;
+  }
+
+  abbrev refusedWith : Found → Option Refusal
+  refusedWith f =
+      firstOf (inOrderThen (e .circuit) (fitStages (e .circuit .counts) (e .watch) (length (e .met)) (length (e .marks))
+      ++ (roomStage (e .out) (wayBytes (searched e) f) ∷ [])))
+
+  answer-by : (a : ℕ) (o : Option Refusal) → searchedBy o (allowing a) .answer ≡ answerWith o (found (allowing a))
+  answer-by a none = refl
+  answer-by a (some r) = refl
+
+  out-by : (a : ℕ) (o : Option Refusal) → searchedBy o (allowing a) .out ≡ outWith o (e .out) (wayBytes (searched e) (found (allowing a)))
+  out-by a none = refl
+  out-by a (some r) = refl
+
+  pub call-larger : (b : ℕ) → e .allowance ≤ b → Decided (systemOf (e .split) (searched e)) (found e)
+      → (search (allowing b) .answer ≡ search e .answer) × (search (allowing b) .out ≡ search e .out)
+  call-larger b h d =
+      let same : found (allowing b) ≡ found e = all-stays (systemOf (e .split) (searched e)) (e .allowance) b h d in (
+        answer-by b (refusedWith (found (allowing b)))
+            ∙ ap (λ (f : Found). answerWith (refusedWith f) f) same ∙ sym (answer-by (e .allowance) (refusedWith (found e))),
+        out-by b (refusedWith (found (allowing b)))
+            ∙ ap (λ (f : Found). outWith (refusedWith f) (e .out) (wayBytes (searched e) f)) same ∙ sym (out-by (e .allowance) (refusedWith (found e))),
+      )

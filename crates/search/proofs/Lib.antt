@@ -21,7 +21,6 @@ pub mod Meeting
 pub mod Turning
 pub mod Looping
 pub mod Beginning
-pub mod Examples
 pub mod Walking
 pub mod Watching
 pub mod Answering
