@@ -45,7 +45,8 @@ module _ (n : Counts) (watch met marks : ℕ) where
       checkedBy (firstOf (stage ManyLatches (failingAt (n .L) a) ∷ stage ManyInputs (failingAt (n .I) b)
       ∷ stage ShortTable (cond c (cond d none (orLess 11 none)) (orLess 10 (cond d none (orLess 11 none)))) ∷ stage NotExplained (failingAt 1 e) ∷ []))
 
-  by-tests : (a b c d e : Bool) → leb (n .L) 20 ≡ a → leb (n .I) 20 ≡ b → leb (3 * 2 ^ n .L) met ≡ c → leb ((2 ^ n .L + 31) / 32) marks ≡ d → leb watch (n .O) ≡ e
+  by-tests : (a b c d e : Bool) → leb (n .L) 20 ≡ a → leb (n .I) 20 ≡ b → leb (3 * 2 ^ n .L) met ≡ c → leb ((2 ^ n .L + 31) / 32) marks ≡ d → leb
+      watch (n .O) ≡ e
       → judged a b c d e ≡ checkedBy (firstOf (fitStages n watch met marks))
   by-tests a b c d e pa pb pc pd pe = λ j. judged (sym pa j) (sym pb j) (sym pc j) (sym pd j) (sym pe j)
 
@@ -228,7 +229,8 @@ sizes (suc k) c = (refl, refl)
 pub way-bytes : {n : Counts} {x : Tables} → Runs n x → (watch : ℕ) (w : Way) (tries : ℕ)
     → wayBytes (watched watch (circuitOf n x)) (happens w tries) ≡ wayCodes n w
 way-bytes {n} {x} r watch w tries =
-    ap₂ (λ (l i : ℕ). map Rattle.plan.specs.Step.codeOf (bits l (w .start)) ++ Rattle.plan.specs.Circuit.flat (map (map Rattle.plan.specs.Step.codeOf) (map (bits i) (w .list))))
+    ap₂ (λ (l i : ℕ). map Rattle.plan.specs.Step.codeOf (bits l (w .start)) ++ Rattle.plan.specs.Circuit.flat (map (map
+    Rattle.plan.specs.Step.codeOf) (map (bits i) (w .list))))
     (sizes watch (circuitOf n x) .0 ∙ ap (λ (k : Counts). k .L) (r .counts)) (sizes watch (circuitOf n x) .1 ∙ ap (λ (k : Counts). k .I) (r .counts))
 
 -- they are few
@@ -252,7 +254,8 @@ module _ (split : ℕ) (c : Circuit) (most allowance : ℕ) (met out : List ℕ)
       subst (λ (f : Found). Answered c f out (happening.Undecided t) out) (sym s) (answered-nothing c (undecided t) out refl)
 
 pub told-shown : {n : Counts} {x : Tables} → Runs n x → (split watch allowance : ℕ) (met out : List ℕ) (q : Reach)
-    → ExploredBy (systemOf split (watched watch (circuitOf n x))) (2 ^ n .L) allowance q met → (place m t : ℕ) → q ≡ reach.Shown place m t → n .L ≤ 20 → n .I ≤ 20
+    → ExploredBy (systemOf split (watched watch (circuitOf n x))) (2 ^ n .L) allowance q met → (place m t : ℕ) → q ≡ reach.Shown place m t → n .L ≤
+    20 → n .I ≤ 20
     → (r : Happening) (out′ : List ℕ) → Tells n met place m t out r out′
     → Answered (watched watch (circuitOf n x)) (canHappen split (watched watch (circuitOf n x)) allowance) out r out′
 told-shown {n} {x} runs split watch allowance met out q ex place m t e hl hi r out′ tells =

@@ -72,7 +72,8 @@ module _ (y : System) where
       none-near [] s d k h a = refl
       none-near (m ∷ list) s d k h a =
           ap (λ (u : ℕ). showsBy y u (m ∷ list)) (sym (k .is-it))
-          ∙ go (y .allows (at met (k .place) .state) m) refl (λ r. none-near list (y .next (at met (k .place) .state) m) (suc (depth met (k .place))) r (omega (arith, k .near)) (a .1))
+          ∙ go (y .allows (at met (k .place) .state) m) refl (λ r. none-near list (y .next (at met (k .place) .state) m) (suc (depth met (k .place)))
+          r (omega (arith, k .near)) (a .1))
         where
           t : k .place * y .moves + m < p
           t = tried (k .place) m (k .within) (omega (arith, k .near)) (a .0)

@@ -142,7 +142,8 @@ started-searched {split} {n} {x} r met marks st = record {
           up-length (startOf split n (x .resets)) 0 (2 ^ xBoth split (codesOf (x .resets) (n .L))),
         )
 
-    state : (i : ℕ) → i < length (map begin (systemOf split (circuitOf n x) .starts)) → getD met (3 * i) 0 ≡ at (map begin (systemOf split (circuitOf n x) .starts)) i .state
+    state : (i : ℕ) → i < length (map begin (systemOf split (circuitOf n x) .starts)) → getD met (3 * i) 0 ≡ at (map begin (systemOf split (circuitOf
+        n x) .starts)) i .state
     state i h =
         st .state i (within i h) ∙ ap (startOf split n (x .resets)) (sym (zero-add i))
         ∙ sym (up-at (startOf split n (x .resets)) (2 ^ xBoth split (codesOf (x .resets) (n .L))) 0 i (within i h))

@@ -242,19 +242,22 @@ module _ (y : System) where
         go : (depth met i ≡ 0) ⊎ Came p met i → Before (key (at met i)) (key (onward y (at met (p / y .moves)) (p % y .moves)))
         go (inl z) = absurd (omega arith)
         go (inr c) =
-            subst (λ (v : Way). Before (key v) (key (onward y (at met (p / y .moves)) (p % y .moves)))) (sym (c .is-it)) (by (decLe (suc (c .place)) (p / y .moves)))
+            subst (λ (v : Way). Before (key v) (key (onward y (at met (p / y .moves)) (p % y .moves)))) (sym (c .is-it)) (by (decLe (suc (c .place))
+            (p / y .moves)))
           where
             same-depth : depth met (c .place) ≡ depth met (p / y .moves)
             same-depth =
                 omega (arith, ap (λ (v : Way). length (v .list)) (c .is-it), length-append (at met (c .place) .list) (c .move ∷ []), q)
 
-            by : Dec (suc (c .place) ≤ p / y .moves) → Before (key (onward y (at met (c .place)) (c .move))) (key (onward y (at met (p / y .moves)) (p % y .moves)))
+            by : Dec (suc (c .place) ≤ p / y .moves) → Before (key (onward y (at met (c .place)) (c .move))) (key (onward y (at met (p / y .moves))
+                (p % y .moves)))
             by (yes r) =
                 before-snoc (key (at met (c .place))) (key (at met (p / y .moves))) (c .move) (p % y .moves) (ap suc same-depth)
                 (fst .sorted (c .place) (p / y .moves) r h same-depth)
             by (no r) = same (decLe (suc (p / y .moves)) (c .place))
               where
-                same : Dec (suc (p / y .moves) ≤ c .place) → Before (key (onward y (at met (c .place)) (c .move))) (key (onward y (at met (p / y .moves)) (p % y .moves)))
+                same : Dec (suc (p / y .moves) ≤ c .place) → Before (key (onward y (at met (c .place)) (c .move))) (key (onward y (at met (p / y
+                    .moves)) (p % y .moves)))
                 same (yes k) =
                     absurd (omega (
                       arith,
@@ -386,7 +389,8 @@ module _ (y : System) where
         again h false q = first-more pos p met inv fst h q
 
         seeing : p / y .moves < length met → (t : Bool)
-            → FirstKeeps p (cond t (shown (onward y (at met (p / y .moves)) (p % y .moves))) (left (meet met (onward y (at met (p / y .moves)) (p % y .moves)))))
+            → FirstKeeps p (cond t (shown (onward y (at met (p / y .moves)) (p % y .moves))) (left (meet met (onward y (at met (p / y .moves)) (p % y
+            .moves)))))
         seeing h true = tt
         seeing h false = again h (has (y .next (at met (p / y .moves) .state) (p % y .moves)) (map stateOf met)) refl
 

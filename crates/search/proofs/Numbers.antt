@@ -81,7 +81,12 @@ pub number-low : (t : List ℕ) (first n j : ℕ) → n ≤ 20 → numberFrom t 
 number-low t first n j h =
     let few : length (valuesAt t (first + j) (n - j)) ≤ 20 =
     omega (arith, length-map (take (n - j) (drop (first + j) t)) told, length-take (n - j) (drop (first + j) t)) in
-    omega (arith, number-small (valuesAt t (first + j) (n - j)), pow-le-pow-right {n = 2} (omega arith) {i = length (valuesAt t (first + j) (n - j))} {j = 20} few)
+    omega (
+      arith,
+      number-small (valuesAt t (first + j) (n - j)),
+      pow-le-pow-right {n = 2} (omega arith) {i = length (valuesAt t (first + j) (n - j))}
+          {j = 20} few,
+    )
 
 pub number-all : (t : List ℕ) (first n j s : ℕ) → j ≡ 0 → s ≡ numberFrom t first n j → s ≡ asNumber (valuesAt t first n)
 number-all t first n j s e q =

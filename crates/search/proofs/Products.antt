@@ -524,8 +524,8 @@ module _ (a b : Circuit) (oa : BinaryOrder a) (ob : BinaryOrder b) (wa : WellFor
   alike-exactly allowance h = (
     (λ r. never-alike allowance (r .0) (r .1) (r .2)),
     (λ alike. never-exactly (length (a .latches)) (product a b) product-accepted product-sized allowance h .1
-    (λ can. let p = as-parting can in
-    false≢true (sym (alike (p .filled) (p .number) (p .bytes) (p .sized) (p .codes) (p .without-x)) ∙ p .parts))),
+        (λ can. let p = as-parting can in
+        false≢true (sym (alike (p .filled) (p .number) (p .bytes) (p .sized) (p .codes) (p .without-x)) ∙ p .parts))),
   )
 
   -- within the limits it is well formed, so that it can be given as tables

@@ -109,7 +109,8 @@ module _ (c d : Circuit) (same-steps : SameSteps c d) where
     now : (m : ℕ) → length (bits (length (c .inputs)) m) ≡ length (c .inputs)
     now m = bits-length (length (c .inputs)) m
 
-    one : (s m : ℕ) → stepOf d (bits (length (c .latches)) s) (bits (length (c .inputs)) m) ≡ stepOf c (bits (length (c .latches)) s) (bits (length (c .inputs)) m)
+    one : (s m : ℕ) → stepOf d (bits (length (c .latches)) s) (bits (length (c .inputs)) m) ≡ stepOf c (bits (length (c .latches)) s) (bits (length
+        (c .inputs)) m)
     one s m =
         same-steps .steps (bits (length (c .latches)) s) (bits (length (c .inputs)) m) (here s) (now m) (bits-nox (length (c .latches)) s)
         (bits-nox (length (c .inputs)) m)
@@ -165,7 +166,8 @@ module _ (c d : Circuit) (same-steps : SameSteps c d) where
         let next : nextOf d s i ≡ nextOf c s i = ap (λ (x : Step). x .next) one in
         let rest : run d (nextOf d s i) is ≡ run c (nextOf c s i) is
         = ap (λ (x : List Value). run d x is) next
-        ∙ run-same is (z .1) (x .1) (nextOf c s i) (next-length c s i) (lits-nox c ok s i h (z .0) n (x .0) (Rattle.plan.specs.Circuit.nexts (c .latches)) (ok .used-next)) in
+        ∙ run-same is (z .1) (x .1) (nextOf c s i) (next-length c s i) (lits-nox c ok s i h (z .0) n (x .0) (Rattle.plan.specs.Circuit.nexts (c
+        .latches)) (ok .used-next)) in
         ap₂ (λ (x : Step) (y : List Step). x ∷ y) one rest
 
 same-self : (xs : List Value) → sameAll xs xs ≡ true

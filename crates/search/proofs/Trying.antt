@@ -140,7 +140,8 @@ module _ (y : System) (pos : 0 < y .moves) (p : ℕ) where
           let u : Way = onward y (here met) move in
           let v = here met in
           let m : ℕ = length met in
-          let old : at (met ++ (onward y (here met) move ∷ [])) (p / y .moves) ≡ at met (p / y .moves) = at-old met (onward y (here met) move) (p / y .moves) h in
+          let old : at (met ++ (onward y (here met) move ∷ [])) (p / y .moves) ≡ at met (p / y .moves) = at-old met (onward y (here met) move) (p / y
+          .moves) h in
           same-met (met ++ (onward y (here met) move ∷ []))
           (one-more met (onward y (here met) move) inv h
           (record {

@@ -358,7 +358,15 @@ fn watch_states(
         (now (bads .entry)) (now (constraints .entry)) allowance r (now (met .exit)) ⌝ }
 {
     if watch == 0 {
-        let all = Counts { M: n.M, I: n.I, L: n.L, O: n.B, A: n.A, B: 0, C: n.C };
+        let all = Counts {
+            M: n.M,
+            I: n.I,
+            L: n.L,
+            O: n.B,
+            A: n.A,
+            B: 0,
+            C: n.C,
+        };
         return search_states(
             all,
             latches,
@@ -375,7 +383,15 @@ fn watch_states(
         );
     }
     let k = watch - 1;
-    let one = Counts { M: n.M, I: n.I, L: n.L, O: 1, A: n.A, B: 0, C: n.C };
+    let one = Counts {
+        M: n.M,
+        I: n.I,
+        L: n.L,
+        O: 1,
+        A: n.A,
+        B: 0,
+        C: n.C,
+    };
     search_states(
         one,
         latches,

@@ -51,7 +51,8 @@ holds d = runs (entry (start d) .circuit) none (says d) (told d)
 
 long : (d : tie.After-enum-told) → Scratch (start d .args .n) (checked d .check-in-order .last .1 .1 .1 .1 .1 .1 .1 .1 .0)
 long d =
-    room (entry (start d) .circuit) none (says d) (told d) (checked d .check-in-order .last .1 .1 .1 .1 .1 .1 .1 .1 .0) (d .before .before .before .scratch .given) .scratch-long
+    room (entry (start d) .circuit) none (says d) (told d) (checked d .check-in-order .last .1 .1 .1 .1 .1 .1 .1 .1 .0) (d .before .before .before
+    .scratch .given) .scratch-long
 
 check-in-order-requires : tie.Need-check-in-order-requires
 check-in-order-requires c κs = search needs
@@ -75,7 +76,8 @@ find-requires : tie.Need-find-requires
 find-requires c κs =
     let d = c .before .before .before .before .before .before .before in
     let e = entry (start d) in
-    let f = fitting (e .circuit .counts) (e .watch) (length (e .met)) (length (e .marks)) (sym (c .before .before .before .before .enum-told2 .given .1) ∙ c .before .before .before .before .before .before .fit .ensures) in
+    let f = fitting (e .circuit .counts) (e .watch) (length (e .met)) (length (e .marks)) (sym (c .before .before .before .before .enum-told2 .given
+    .1) ∙ c .before .before .before .before .before .before .fit .ensures) in
     record {
       inputs = e .circuit .tables .inputs;
       runs = holds d;
@@ -92,9 +94,11 @@ same-length c = search needs
 
 returns : tie.Need-returns
 returns c =
-    let e = entry (c .before .before .before .before .before .before .before .before .before .before .before .before .before .before .before .before .before .before) in
+    let e = entry (c .before .before .before .before .before .before .before .before .before .before .before .before .before .before .before .before
+    .before .before) in
     asks-refused e _
-    (refused-by (e .circuit) (searchStages e) (ap (λ (q : CheckExit). q .answer) (c .before .before .before .before .before .check-in-order .ensures)) _ (c .before .refusal .given .1))
+    (refused-by (e .circuit) (searchStages e) (ap (λ (q : CheckExit). q .answer) (c .before .before .before .before .before .check-in-order
+    .ensures)) _ (c .before .refusal .given .1))
 
 same-length-2 : tie.Need-same-length-2
 same-length-2 c = search needs
@@ -121,7 +125,9 @@ returns-3 : tie.Need-returns-3
 returns-3 c =
     let d = c .before .before .before .before .before .before .before .before .before .before .before .before .before .before .before .before in
     let e = entry (start d) in
-    asks-found e (past-check (e .circuit) (searchStages e) (says d) (told d)) _ (c .before .before .before .before .before .before .before .before .before .before .before .before .before .before .before .fit .ensures) (c .before .before .before .before .before .before .before .before .before .before .before .before .before .enum-told2 .given .1) _ _
+    asks-found e (past-check (e .circuit) (searchStages e) (says d) (told d)) _ (c .before .before .before .before .before .before .before .before
+    .before .before .before .before .before .before .before .fit .ensures) (c .before .before .before .before .before .before .before .before
+    .before .before .before .before .before .enum-told2 .given .1) _ _
     (c .before .before .before .before .before .before .before .before .find .ensures (e .circuit .tables .inputs) (holds d))
 
 pub ask-spec : {M : Type 1} → statement M

@@ -19,20 +19,33 @@ few : (x : tie.Start Inv-loop μ-loop) → x .args .total ≤ 1048576
 few x = total-few (x .args .n .L) (x .args .total) (x .pre .few) (x .pre .numbers .few-latches)
 
 -- there is room for the row
-room : (c : tie.After-slice-known5 Inv-loop μ-loop) → 3 * c .before .before .before .before .before .before .before .before .before .loop .k + 3 ≤ length (c .before .before .before .before .before .before .before .before .before .loop .met)
-room c = omega (arith, c .before .before .before .before .before .before .before .before .loop-test .taken, c .before .before .before .before .before .before .before .before .before .before .before .before .before .before .pre .few, c .before .before .before .before .before .before .before .before .before .before .before .before .before .before .pre .met-long, c .before .before .before .before .before .before .before .before .before .loop .inv .2)
+room : (c : tie.After-slice-known5 Inv-loop μ-loop) → 3 * c .before .before .before .before .before .before .before .before .before .loop .k + 3 ≤
+    length (c .before .before .before .before .before .before .before .before .before .loop .met)
+room c = omega (
+  arith,
+  c .before .before .before .before .before .before .before .before .loop-test .taken,
+  c .before .before .before .before .before
+      .before .before .before .before .before .before .before .before .before .pre .few,
+  c .before .before .before .before .before .before .before
+      .before .before .before .before .before .before .before .pre .met-long,
+  c .before .before .before .before .before .before .before .before .before
+      .loop .inv .2,
+)
 
--- src/lib.rt:263:5
 loop-holds : tie.Need-loop-holds Inv-loop μ-loop
 loop-holds c =
-    let a = c .before .before .before .before .args in
-    (omega arith, refl, refl, refl, started-none (a .split) (a .n) (a .resets .now) 0 0 (a .met .now) (a .marks .now) (c .before .before .before .before .pre .blank))
+    let a = c .before .before .before .before .args in (
+      omega arith,
+      refl,
+      refl,
+      refl,
+      started-none (a .split) (a .n) (a .resets .now) 0 0 (a .met .now) (a .marks .now) (c .before .before .before
+          .before .pre .blank),
+    )
 
--- src/lib.rt:264:41
 cast-start-number : tie.Need-cast-start-number Inv-loop μ-loop
 cast-start-number c = omega (arith, few (c .before .before .before .before .before .before), c .loop-test .taken)
 
--- src/lib.rt:264:13
 start-number-requires : tie.Need-start-number-requires Inv-loop μ-loop
 start-number-requires c κs =
     let p = c .before .before .before .before .before .before .before .pre .numbers in
@@ -43,66 +56,85 @@ start-number-requires c κs =
       room = omega (arith, p .room, c .before .before .loop .inv .1);
     }
 
--- src/lib.rt:265:25
 cast-raise : tie.Need-cast-raise Inv-loop μ-loop
 cast-raise c = search needs
 
--- src/lib.rt:265:9
 raise-requires : tie.Need-raise-requires Inv-loop μ-loop
 raise-requires c κs =
     let x = c .before .before .before .before .before .before .before .before .before .before .before in
     let w = c .before .before .before .before .before .before .loop in
     omega (
       arith,
-      start-marked (x .args .split) (x .args .n) (x .args .resets .now) (x .pre .numbers .resets-long) (w .k) _ (w .marks) (c .before .before .before .start-number .ensures)
+      start-marked (x .args .split) (x .args .n) (x .args .resets .now) (x .pre .numbers .resets-long) (w .k) _ (w .marks) (c .before .before .before
+          .start-number .ensures)
           (omega (arith, x .pre .marks-long, w .inv .3)),
     )
 
--- src/lib.rt:266:19
 mul-row : tie.Need-mul-row Inv-loop μ-loop
-mul-row c = omega (arith, few (c .before .before .before .before .before .before .before .before .before .before .before .before .before .before), c .before .before .before .before .before .before .before .before .loop-test .taken)
+mul-row c = omega (
+  arith,
+  few (c .before .before .before .before .before .before .before .before .before .before .before .before .before .before),
+  c
+      .before .before .before .before .before .before .before .before .loop-test .taken,
+)
 
--- src/lib.rt:267:9
 mul-met : tie.Need-mul-met Inv-loop μ-loop
-mul-met c = omega (arith, few (c .before .before .before .before .before .before .before .before .before .before .before .before .before .before), c .before .before .before .before .before .before .before .before .loop-test .taken)
+mul-met c = omega (
+  arith,
+  few (c .before .before .before .before .before .before .before .before .before .before .before .before .before .before),
+  c
+      .before .before .before .before .before .before .before .before .loop-test .taken,
+)
 
--- src/lib.rt:267:9
 slice-write-met : tie.Need-slice-write-met Inv-loop μ-loop
 slice-write-met c = omega (arith, room c)
 
--- src/lib.rt:268:13
 add-met : tie.Need-add-met Inv-loop μ-loop
-add-met c = omega (arith, few (c .before .before .before .before .before .before .before .before .before .before .before .before .before .before), c .before .before .before .before .before .before .before .before .loop-test .taken)
+add-met c = omega (
+  arith,
+  few (c .before .before .before .before .before .before .before .before .before .before .before .before .before .before),
+  c
+      .before .before .before .before .before .before .before .before .loop-test .taken,
+)
 
--- src/lib.rt:268:9
 mul-met-2 : tie.Need-mul-met-2 Inv-loop μ-loop
-mul-met-2 c = omega (arith, few (c .before .before .before .before .before .before .before .before .before .before .before .before .before .before), c .before .before .before .before .before .before .before .before .loop-test .taken)
+mul-met-2 c = omega (
+  arith,
+  few (c .before .before .before .before .before .before .before .before .before .before .before .before .before .before),
+  c .before .before .before .before .before .before .before .before .loop-test .taken,
+)
 
--- src/lib.rt:268:9
 slice-write-met-2 : tie.Need-slice-write-met-2 Inv-loop μ-loop
 slice-write-met-2 c = simp length-set (omega (arith, room c))
 
--- src/lib.rt:269:13
 add-met-2 : tie.Need-add-met-2 Inv-loop μ-loop
-add-met-2 c = omega (arith, few (c .before .before .before .before .before .before .before .before .before .before .before .before .before .before), c .before .before .before .before .before .before .before .before .loop-test .taken)
+add-met-2 c = omega (
+  arith,
+  few (c .before .before .before .before .before .before .before .before .before .before .before .before .before .before),
+  c .before .before .before .before .before .before .before .before .loop-test .taken,
+)
 
--- src/lib.rt:269:9
 mul-met-3 : tie.Need-mul-met-3 Inv-loop μ-loop
-mul-met-3 c = omega (arith, few (c .before .before .before .before .before .before .before .before .before .before .before .before .before .before), c .before .before .before .before .before .before .before .before .loop-test .taken)
+mul-met-3 c = omega (
+  arith,
+  few (c .before .before .before .before .before .before .before .before .before .before .before .before .before .before),
+  c .before .before .before .before .before .before .before .before .loop-test .taken,
+)
 
--- src/lib.rt:269:9
 slice-write-met-3 : tie.Need-slice-write-met-3 Inv-loop μ-loop
 slice-write-met-3 c = simp length-set (omega (arith, room c))
 
--- src/lib.rt:270:9
 add-k : tie.Need-add-k Inv-loop μ-loop
-add-k c = omega (arith, few (c .before .before .before .before .before .before .before .before .before .before .before .before .before .before), c .before .before .before .before .before .before .before .before .loop-test .taken)
+add-k c = omega (
+  arith,
+  few (c .before .before .before .before .before .before .before .before .before .before .before .before .before .before),
+  c
+      .before .before .before .before .before .before .before .before .loop-test .taken,
+)
 
--- src/lib.rt:263:5
 loop-less : tie.Need-loop-less Inv-loop μ-loop
 loop-less c = omega (arith, c .before .before .before .before .before .before .before .before .loop-test .taken)
 
--- src/lib.rt:263:5
 loop-again : tie.Need-loop-again Inv-loop μ-loop
 loop-again c =
     let x = c .before .before .before .before .before .before .before .before .before .before .before .before .before .before in
@@ -111,30 +143,29 @@ loop-again c =
       c .before .before .before .before .before .scratch .given ∙ w .inv .1,
       simp length-set (w .inv .2),
       c .before .marks .given ∙ w .inv .3,
-      started-more (x .args .split) (x .args .n) (x .args .resets .now) (w .k) _ (w .met) (w .marks) (w .inv .4) (c .before .before .before .before .before .before .start-number .ensures) (room c) _
+      started-more (x .args .split) (x .args .n) (x .args .resets .now) (w .k) _ (w .met) (w .marks) (w .inv .4) (c .before .before .before .before
+          .before .before .start-number .ensures) (room c) _
           (c .before .before .raise .ensures)
-          (start-marked (x .args .split) (x .args .n) (x .args .resets .now) (x .pre .numbers .resets-long) (w .k) _ (w .marks) (c .before .before .before .before .before .before .start-number .ensures)
+          (start-marked (x .args .split) (x .args .n) (x .args .resets .now) (x .pre .numbers .resets-long) (w .k) _ (w .marks) (c .before .before
+          .before .before .before .before .start-number .ensures)
           (omega (arith, x .pre .marks-long, w .inv .3))),
     )
 
--- src/lib.rt:258:1
 same-length : tie.Need-same-length Inv-loop μ-loop
 same-length c = c .before .loop .inv .1
 
--- src/lib.rt:258:1
 same-length-2 : tie.Need-same-length-2 Inv-loop μ-loop
 same-length-2 c = c .before .loop .inv .2
 
--- src/lib.rt:258:1
 same-length-3 : tie.Need-same-length-3 Inv-loop μ-loop
 same-length-3 c = c .before .loop .inv .3
 
--- src/lib.rt:258:1
 returns : tie.Need-returns Inv-loop μ-loop
 returns c =
     let w = c .before .loop in
     let e : w .k ≡ c .before .before .before .before .before .before .args .total = omega (arith, w .inv .0, c .loop-test .left) in
-    subst (λ (k : ℕ). Started (c .before .before .before .before .before .before .args .split) (c .before .before .before .before .before .before .args .n) (c .before .before .before .before .before .before .args .resets .now) k (w .met) (w .marks)) e (w .inv .4)
+    subst (λ (k : ℕ). Started (c .before .before .before .before .before .before .args .split) (c .before .before .before .before .before .before
+    .args .n) (c .before .before .before .before .before .before .args .resets .now) k (w .met) (w .marks)) e (w .inv .4)
 
 pub begin-rows-spec : {M : Type 1} → statement M
 begin-rows-spec =

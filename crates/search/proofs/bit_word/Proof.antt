@@ -3,19 +3,15 @@ use borrow.Author.Needs.{needs}
 use Rattle.search.proofs.bit_word.Statement.{statement}
 use Rattle.search.proofs.bit_word.Tie as tie
 
--- src/lib.rt:33:19
 cast-result : tie.Need-cast-result
 cast-result c = search needs
 
--- src/lib.rt:33:14
 shr-result : tie.Need-shr-result
 shr-result c = search needs
 
--- src/lib.rt:33:5
 add-result : tie.Need-add-result
 add-result c = record { fits = bit-fits (c .args .k) (c .args .i) }
 
--- src/lib.rt:29:1
 returns : tie.Need-returns
 returns c = bit-word-is (c .args .k) (c .args .i)
 

@@ -30,51 +30,47 @@ startIn q = q .before .before .before .before .before .before .before .before .b
 
 -- what is left to search, by the tables that were promised
 left : (q : tie.In-loop Inv-loop μ-loop) → let x = startIn q in let a = x .args in let w = q .before .loop in
-    Exploring (x .pre .split) (a .n) (seven (x .pre .inputs) (a .latches .now) (a .outputs .now) (a .gates .now) (x .pre .resets) (a .bads .now) (a .constraints .now))
+    Exploring (x .pre .split) (a .n) (seven (x .pre .inputs) (a .latches .now) (a .outputs .now) (a .gates .now) (x .pre .resets) (a .bads .now) (a
+    .constraints .now))
     (a .allowance) (w .tries) (w .reached) (w .met) (w .marks)
 left q = let p = startIn q .pre in q .before .loop .inv .4 (p .split) (p .inputs) (p .resets) (p .runs) (p .begun) (p .count)
 
--- src/lib.rt:209:9
 power-requires : tie.Need-power-requires Inv-loop μ-loop
 power-requires c κs = c .before .before .before .before .before .before .before .before .pre .few-inputs
 
--- src/lib.rt:212:5
 loop-holds : tie.Need-loop-holds Inv-loop μ-loop
 loop-holds c =
     let a = c .before .before .before .before .before .before .before .before .before .args in
     (omega arith, refl, refl, refl, λ split inputs resets r sd e. exploring-first (a .allowance) (a .starts) (a .met .now) (a .marks .now) sd e)
 
--- src/lib.rt:213:21
 div-place : tie.Need-div-place Inv-loop μ-loop
 div-place c = omega (arith, some-moves _ _ (c .before .before .power .ensures))
 
--- src/lib.rt:215:13
 same-length : tie.Need-same-length Inv-loop μ-loop
 same-length c = c .before .before .loop .inv .1
 
--- src/lib.rt:215:13
 same-length-2 : tie.Need-same-length-2 Inv-loop μ-loop
 same-length-2 c = c .before .before .loop .inv .2
 
--- src/lib.rt:215:13
 same-length-3 : tie.Need-same-length-3 Inv-loop μ-loop
 same-length-3 c = c .before .before .loop .inv .3
 
--- src/lib.rt:215:13
 returns : tie.Need-returns Inv-loop μ-loop
 returns c = λ split inputs resets r sd e.
     let w = c .before .before .loop in
-    never-here r _ (w .tries) (w .reached) _ (w .met) (w .marks) (w .inv .4 split inputs resets r sd e) (c .before .before .before .power .ensures) (c .if1 .taken)
+    never-here r _ (w .tries) (w .reached) _ (w .met) (w .marks) (w .inv .4 split inputs resets r sd e) (c .before .before .before .power .ensures)
+    (c .if1 .taken)
 
--- src/lib.rt:217:18
 rem-m : tie.Need-rem-m Inv-loop μ-loop
 rem-m c = omega (arith, some-moves _ _ (c .before .before .before .power .ensures))
 
--- src/lib.rt:217:17
 cast-m : tie.Need-cast-m Inv-loop μ-loop
-cast-m c = omega (arith, move-small _ (c .before .before .loop .tries) _ (c .before .before .before .before .before .before .before .before .before .before .before .before .pre .few-inputs) (c .before .before .before .power .ensures))
+cast-m c = omega (
+  arith,
+  move-small _ (c .before .before .loop .tries) _ (c .before .before .before .before .before .before .before .before .before
+      .before .before .before .pre .few-inputs) (c .before .before .before .power .ensures),
+)
 
--- src/lib.rt:218:29
 take-turn-requires : tie.Need-take-turn-requires Inv-loop μ-loop
 take-turn-requires c κs =
     let q = c .before .before .before .before in
@@ -105,50 +101,57 @@ take-turn-requires c κs =
       rows-long = omega (arith, p .met-long, w .inv .2, reached-few (p .runs) _ (w .tries) (w .reached) _ (w .met) (w .marks) ex em);
     }
 
--- src/lib.rt:218:24
 enum-known-k : tie.Need-enum-known-k Inv-loop μ-loop
 enum-known-k c = search needs
 
--- src/lib.rt:232:43
 enum-told : tie.Need-enum-told Inv-loop μ-loop
 enum-told c = search needs
 
--- src/lib.rt:232:43
 add-t27 : tie.Need-add-t27 Inv-loop μ-loop
-add-t27 c = omega (arith, c .before .before .before .before .before .before .before .before .before .before .before .before .before .loop-test .taken, c .before .before .before .before .before .before .before .before .before .before .before .before .before .before .before .before .before .before .before .before .before .before .before .before .good)
+add-t27 c = omega (
+  arith,
+  c .before .before .before .before .before .before .before .before .before .before .before .before .before .loop-test
+      .taken,
+  c .before .before .before .before .before .before .before .before .before .before .before .before .before .before .before .before .before
+      .before .before .before .before .before .before .before .good,
+)
 
--- src/lib.rt:232:13
 same-length-4 : tie.Need-same-length-4 Inv-loop μ-loop
-same-length-4 c = c .before .before .before .before .before .before .before .scratch .given ∙ c .before .before .before .before .before .before .before .before .before .before .before .before .before .before .loop .inv .1
+same-length-4 c = c .before .before .before .before .before .before .before .scratch .given ∙ c .before .before .before .before .before .before
+    .before .before .before .before .before .before .before .before .loop .inv .1
 
--- src/lib.rt:232:13
 same-length-5 : tie.Need-same-length-5 Inv-loop μ-loop
-same-length-5 c = c .before .before .before .before .before .met .given ∙ c .before .before .before .before .before .before .before .before .before .before .before .before .before .before .loop .inv .2
+same-length-5 c = c .before .before .before .before .before .met .given ∙ c .before .before .before .before .before .before .before .before .before
+    .before .before .before .before .before .loop .inv .2
 
--- src/lib.rt:232:13
 same-length-6 : tie.Need-same-length-6 Inv-loop μ-loop
-same-length-6 c = c .before .before .before .marks .given ∙ c .before .before .before .before .before .before .before .before .before .before .before .before .before .before .loop .inv .3
+same-length-6 c = c .before .before .before .marks .given ∙ c .before .before .before .before .before .before .before .before .before .before .before
+    .before .before .before .loop .inv .3
 
--- src/lib.rt:232:13
 returns-2 : tie.Need-returns-2 Inv-loop μ-loop
 returns-2 c = λ split inputs resets r sd e.
     let w = c .before .before .before .before .before .before .before .before .before .before .before .before .before .before .loop in
     let ex = w .inv .4 split inputs resets r sd e in
     let em = c .before .before .before .before .before .before .before .before .before .before .before .before .before .before .before .power .ensures in
-    found-here r _ (w .tries) (w .reached) _ (w .met) (w .marks) ex em (c .before .before .before .before .before .before .before .before .before .before .before .before .before .loop-test .taken) _ _ _
-    (c .before .before .before .before .before .before .before .before .take-turn .ensures split inputs resets (w .tries) (ex .ways) r (ex .searched) (ex .count)
+    found-here r _ (w .tries) (w .reached) _ (w .met) (w .marks) ex em (c .before .before .before .before .before .before .before .before .before
+    .before .before .before .before .loop-test .taken) _ _ _
+    (c .before .before .before .before .before .before .before .before .take-turn .ensures split inputs resets (w .tries) (ex .ways) r (ex .searched)
+    (ex .count)
     (place-is r _ (w .tries) (w .reached) _ (w .met) (w .marks) ex em) (move-is r _ (w .tries) (w .reached) _ (w .met) (w .marks) ex em))
     (c .enum-told .given .1) (omega (arith, c .before .before .before .before .before .before .before .before .before .before .before .before .if1 .left))
 
--- src/lib.rt:235:9
 add-tries : tie.Need-add-tries Inv-loop μ-loop
-add-tries c = omega (arith, c .before .before .before .before .before .before .before .before .before .before .before .before .before .before .loop-test .taken, c .before .before .before .before .before .before .before .before .before .before .before .before .before .before .before .before .before .before .before .before .before .before .before .before .before .good)
+add-tries c = omega (
+  arith,
+  c .before .before .before .before .before .before .before .before .before .before .before .before .before .before
+      .loop-test .taken,
+  c .before .before .before .before .before .before .before .before .before .before .before .before .before .before .before
+      .before .before .before .before .before .before .before .before .before .before .good,
+)
 
--- src/lib.rt:212:5
 loop-less : tie.Need-loop-less Inv-loop μ-loop
 loop-less c = omega (arith, c .before .before .before .before .before .before .before .before .before .before .before .before .before .before .loop-test .taken)
 
--- src/lib.rt:212:5
 loop-again : tie.Need-loop-again Inv-loop μ-loop
 loop-again c =
     let w = c .before .before .before .before .before .before .before .before .before .before .before .before .before .before .before .loop in (
@@ -158,48 +161,43 @@ loop-again c =
       c .before .before .before .before .marks .given ∙ w .inv .3,
       λ split inputs resets r sd e.
           let ex = w .inv .4 split inputs resets r sd e in
-          let em = c .before .before .before .before .before .before .before .before .before .before .before .before .before .before .before .before .power .ensures in
-          left-here r _ (w .tries) (w .reached) _ (w .met) (w .marks) ex em (c .before .before .before .before .before .before .before .before .before .before .before .before .before .before .loop-test .taken) _ _ _
-          (c .before .before .before .before .before .before .before .before .before .take-turn .ensures split inputs resets (w .tries) (ex .ways) r (ex .searched) (ex .count)
+          let em = c .before .before .before .before .before .before .before .before .before .before .before .before .before .before .before .before
+          .power .ensures in
+          left-here r _ (w .tries) (w .reached) _ (w .met) (w .marks) ex em (c .before .before .before .before .before .before .before .before
+          .before .before .before .before .before .before .loop-test .taken) _ _ _
+          (c .before .before .before .before .before .before .before .before .before .take-turn .ensures split inputs resets (w .tries) (ex .ways) r
+          (ex .searched) (ex .count)
           (place-is r _ (w .tries) (w .reached) _ (w .met) (w .marks) ex em) (move-is r _ (w .tries) (w .reached) _ (w .met) (w .marks) ex em))
           _ (c .before .k .given .1),
     )
 
--- src/lib.rt:237:19
 div-if2 : tie.Need-div-if2 Inv-loop μ-loop
 div-if2 c = omega (arith, some-moves _ _ (c .before .before .power .ensures))
 
--- src/lib.rt:238:9
 same-length-7 : tie.Need-same-length-7 Inv-loop μ-loop
 same-length-7 c = c .before .before .loop .inv .1
 
--- src/lib.rt:238:9
 same-length-8 : tie.Need-same-length-8 Inv-loop μ-loop
 same-length-8 c = c .before .before .loop .inv .2
 
--- src/lib.rt:238:9
 same-length-9 : tie.Need-same-length-9 Inv-loop μ-loop
 same-length-9 c = c .before .before .loop .inv .3
 
--- src/lib.rt:238:9
 returns-3 : tie.Need-returns-3 Inv-loop μ-loop
 returns-3 c = λ split inputs resets r sd e.
     let w = c .before .before .loop in
-    never-here r _ (w .tries) (w .reached) _ (w .met) (w .marks) (w .inv .4 split inputs resets r sd e) (c .before .before .before .power .ensures) (c .if2 .taken)
+    never-here r _ (w .tries) (w .reached) _ (w .met) (w .marks) (w .inv .4 split inputs resets r sd e) (c .before .before .before .power .ensures)
+    (c .if2 .taken)
 
--- src/lib.rt:185:1
 same-length-10 : tie.Need-same-length-10 Inv-loop μ-loop
 same-length-10 c = c .before .before .loop .inv .1
 
--- src/lib.rt:185:1
 same-length-11 : tie.Need-same-length-11 Inv-loop μ-loop
 same-length-11 c = c .before .before .loop .inv .2
 
--- src/lib.rt:185:1
 same-length-12 : tie.Need-same-length-12 Inv-loop μ-loop
 same-length-12 c = c .before .before .loop .inv .3
 
--- src/lib.rt:185:1
 returns-4 : tie.Need-returns-4 Inv-loop μ-loop
 returns-4 c = λ split inputs resets r sd e.
     let w = c .before .before .loop in

@@ -37,13 +37,21 @@ enum-known-reach-2 c = search needs
 
 tell-requires : tie.Need-tell-requires
 tell-requires c κs =
-    let x = c .before .before .before .before .before .before .before .before .before .before .before .before .before .before .before .before .before .before .before .before .before .before .before .before .before .before .before .before .before in
+    let x = c .before .before .before .before .before .before .before .before .before .before .before .before .before .before .before .before .before
+    .before .before .before .before .before .before .before .before .before .before .before .before in
     let p = x .pre in
     let w = c .before .before .before .before .before .before .before .before .before .before .before .watch-states in (
       p .few-latches,
       p .few-inputs,
-      shown-walks (systemOf (x .args .split) (watched (x .args .watch) (circuitOf (x .args .n) (seven (p .inputs) (x .args .latches .now) (x .args .outputs .now) (x .args .gates .now) (x .args .resets .now) (x .args .bads .now) (x .args .constraints .now))))) (x .args .n .L) (x .args .allowance) _ _ _ (w .last .1 .1 .1 .1 .1 .1 .1 .1 .1 .1 .0)
-          (w .result) (c .before .before .before .reach2 .given .1) (p .few-latches) (omega (arith, p .met-long, c .before .before .before .before .before .before .before .before .met .given)) (w .ensures (p .inputs) (p .runs)),
+      shown-walks (systemOf (x .args .split) (watched (x .args .watch) (circuitOf (x .args .n) (seven (p .inputs) (x .args .latches .now) (x .args
+          .outputs .now) (x .args .gates .now) (x .args .resets .now) (x .args .bads .now) (x .args .constraints .now))))) (x .args .n .L) (x .args
+          .allowance) _ _ _ (w .last .1 .1 .1 .1 .1 .1 .1 .1 .1 .1 .0)
+          (w .result) (c .before .before .before .reach2 .given .1) (p .few-latches) (omega (
+            arith,
+            p .met-long,
+            c .before .before .before .before
+                .before .before .before .before .met .given,
+          )) (w .ensures (p .inputs) (p .runs)),
     )
 
 enum-known-reach-3 : tie.Need-enum-known-reach-3
@@ -60,10 +68,13 @@ same-length-3 c = search needs
 
 returns : tie.Need-returns
 returns c = λ inputs r.
-    let a = c .before .before .before .before .before .before .before .before .before .before .before .before .before .before .before .before .before .before .before .before .before .before .before .before .before .before .before .args in
+    let a = c .before .before .before .before .before .before .before .before .before .before .before .before .before .before .before .before .before
+    .before .before .before .before .before .before .before .before .before .before .args in
     let w = c .before .before .before .before .before .before .before .before .before .watch-states in
-    told-never (a .split) (watched (a .watch) (circuitOf (a .n) (seven inputs (a .latches .now) (a .outputs .now) (a .gates .now) (a .resets .now) (a .bads .now)
-    (a .constraints .now)))) (2 ^ a .n .L) (a .allowance) (w .last .1 .1 .1 .1 .1 .1 .1 .1 .1 .1 .0) (a .out .now) (w .result) (w .ensures inputs r) _ _ (c .before .reach .given .1)
+    told-never (a .split) (watched (a .watch) (circuitOf (a .n) (seven inputs (a .latches .now) (a .outputs .now) (a .gates .now) (a .resets .now) (a
+    .bads .now)
+    (a .constraints .now)))) (2 ^ a .n .L) (a .allowance) (w .last .1 .1 .1 .1 .1 .1 .1 .1 .1 .1 .0) (a .out .now) (w .result) (w .ensures inputs r)
+    _ _ (c .before .reach .given .1)
 
 same-length-4 : tie.Need-same-length-4
 same-length-4 c = search needs
@@ -79,10 +90,12 @@ same-length-7 c = search needs
 
 returns-2 : tie.Need-returns-2
 returns-2 c = λ inputs r.
-    let x = c .before .before .before .before .before .before .before .before .before .before .before .before .before .before .before .before .before .before .before .before .before .before .before .before .before .before .before .before .before .before .before .before in
+    let x = c .before .before .before .before .before .before .before .before .before .before .before .before .before .before .before .before .before
+    .before .before .before .before .before .before .before .before .before .before .before .before .before .before .before in
     let a = x .args in
     let w = c .before .before .before .before .before .before .before .before .before .before .before .before .before .before .watch-states in
-    told-shown r (a .split) (a .watch) (a .allowance) (w .last .1 .1 .1 .1 .1 .1 .1 .1 .1 .1 .0) (a .out .now) (w .result) (w .ensures inputs r) _ _ _ (c .before .before .before .before .before .before .reach2 .given .1)
+    told-shown r (a .split) (a .watch) (a .allowance) (w .last .1 .1 .1 .1 .1 .1 .1 .1 .1 .1 .0) (a .out .now) (w .result) (w .ensures inputs r) _ _
+    _ (c .before .before .before .before .before .before .reach2 .given .1)
     (x .pre .few-latches) (x .pre .few-inputs) _ _ (c .before .before .tell .ensures)
 
 same-length-8 : tie.Need-same-length-8
@@ -96,10 +109,13 @@ same-length-10 c = search needs
 
 returns-3 : tie.Need-returns-3
 returns-3 c = λ inputs r.
-    let a = c .before .before .before .before .before .before .before .before .before .before .before .before .before .before .before .before .before .before .before .before .before .before .before .before .before .before .before .args in
+    let a = c .before .before .before .before .before .before .before .before .before .before .before .before .before .before .before .before .before
+    .before .before .before .before .before .before .before .before .before .before .args in
     let w = c .before .before .before .before .before .before .before .before .before .watch-states in
-    told-undecided (a .split) (watched (a .watch) (circuitOf (a .n) (seven inputs (a .latches .now) (a .outputs .now) (a .gates .now) (a .resets .now) (a .bads .now)
-    (a .constraints .now)))) (2 ^ a .n .L) (a .allowance) (w .last .1 .1 .1 .1 .1 .1 .1 .1 .1 .1 .0) (a .out .now) (w .result) (w .ensures inputs r) _ (c .before .reach3 .given .1)
+    told-undecided (a .split) (watched (a .watch) (circuitOf (a .n) (seven inputs (a .latches .now) (a .outputs .now) (a .gates .now) (a .resets
+    .now) (a .bads .now)
+    (a .constraints .now)))) (2 ^ a .n .L) (a .allowance) (w .last .1 .1 .1 .1 .1 .1 .1 .1 .1 .1 .0) (a .out .now) (w .result) (w .ensures inputs r)
+    _ (c .before .reach3 .given .1)
 
 pub find-spec : {M : Type 1} → statement M
 find-spec =

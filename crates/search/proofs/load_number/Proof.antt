@@ -16,37 +16,29 @@ Inv-loop k n first t₀ i₀ t i = (i ≤ n) × Filled t₀ first (λ j. word (b
 abbrev μ-loop : tie.MeasureT-loop
 μ-loop k n first t₀ i₀ t i = n - i
 
--- src/lib.rt:42:5
 loop-holds : tie.Need-loop-holds Inv-loop μ-loop
 loop-holds c = (omega arith, filled-none _ _ _)
 
--- src/lib.rt:43:24
 bit-word-requires : tie.Need-bit-word-requires Inv-loop μ-loop
 bit-word-requires c κs = omega (arith, c .before .before .before .pre .0, c .loop-test .taken)
 
--- src/lib.rt:43:11
 add-t : tie.Need-add-t Inv-loop μ-loop
 add-t c = omega (arith, c .before .before .before .before .pre .1, c .before .loop-test .taken)
 
--- src/lib.rt:43:9
 mul-t : tie.Need-mul-t Inv-loop μ-loop
 mul-t c = search needs
 
--- src/lib.rt:43:9
 slice-write-t : tie.Need-slice-write-t Inv-loop μ-loop
 slice-write-t c =
     let w = c .before .before in
     omega (arith, w .before .before .pre .1, c .before .loop-test .taken, w .loop .inv .1 .same)
 
--- src/lib.rt:44:9
 add-i : tie.Need-add-i Inv-loop μ-loop
 add-i c = search needs
 
--- src/lib.rt:42:5
 loop-less : tie.Need-loop-less Inv-loop μ-loop
 loop-less c = search needs
 
--- src/lib.rt:42:5
 loop-again : tie.Need-loop-again Inv-loop μ-loop
 loop-again c =
     let w = c .before .before in
@@ -56,11 +48,9 @@ loop-again c =
       filled-more _ _ _ (w .loop .i) (w .loop .t) _ (w .loop .inv .1) (omega (arith, s .pre .1, more)) (c .bit-word .ensures),
     )
 
--- src/lib.rt:37:1
 same-length : tie.Need-same-length Inv-loop μ-loop
 same-length c = c .before .loop .inv .1 .same
 
--- src/lib.rt:37:1
 returns : tie.Need-returns Inv-loop μ-loop
 returns c =
     let w = c .before in

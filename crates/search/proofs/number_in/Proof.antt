@@ -13,60 +13,56 @@ Inv-loop t first n s₀ j₀ s j = (j ≤ n) × (s ≡ numberFrom t first n j)
 abbrev μ-loop : tie.MeasureT-loop
 μ-loop t first n s₀ j₀ s j = j
 
--- src/lib.rt:65:5
 loop-holds : tie.Need-loop-holds Inv-loop μ-loop
 loop-holds c =
     let s = c .before in
     (omega arith, number-none (s .args .t .now) (s .args .first) (s .args .n))
 
--- src/lib.rt:66:9
 sub-j : tie.Need-sub-j Inv-loop μ-loop
 sub-j c = search needs
 
--- src/lib.rt:67:13
 mul-s : tie.Need-mul-s Inv-loop μ-loop
 mul-s c =
     let s = c .before .before .before in
     omega (arith, c .before .loop .inv .1, number-low (s .args .t .now) (s .args .first) (s .args .n) (c .before .loop .j) (s .pre .0))
 
--- src/lib.rt:67:30
 add-one-of : tie.Need-add-one-of Inv-loop μ-loop
 add-one-of c = omega (arith, c .before .before .before .pre .1)
 
--- src/lib.rt:67:28
 mul-one-of : tie.Need-mul-one-of Inv-loop μ-loop
 mul-one-of c = search needs
 
--- src/lib.rt:67:28
 shared-slice-read-one-of : tie.Need-shared-slice-read-one-of Inv-loop μ-loop
 shared-slice-read-one-of c = omega (arith, c .before .before .before .before .pre .1)
 
--- src/lib.rt:67:21
 one-of-requires : tie.Need-one-of-requires Inv-loop μ-loop
 one-of-requires c κs = search needs
 
--- src/lib.rt:67:13
 add-s : tie.Need-add-s Inv-loop μ-loop
 add-s c =
     let w = c .before .before .before in
     let s = w .before .before in
-    omega (arith, w .loop .inv .1, number-low (s .args .t .now) (s .args .first) (s .args .n) (w .loop .j) (s .pre .0), one-small (getD (s .args .t .now) (s .args .first + (w .loop .j - 1)) 0) _ (c .one-of .ensures))
+    omega (
+      arith,
+      w .loop .inv .1,
+      number-low (s .args .t .now) (s .args .first) (s .args .n) (w .loop .j) (s .pre .0),
+      one-small (getD (s .args .t
+          .now) (s .args .first + (w .loop .j - 1)) 0) _ (c .one-of .ensures),
+    )
 
--- src/lib.rt:65:5
 loop-less : tie.Need-loop-less Inv-loop μ-loop
 loop-less c = search needs
 
--- src/lib.rt:65:5
 loop-again : tie.Need-loop-again Inv-loop μ-loop
 loop-again c =
     let w = c .before .before .before in
     let s = w .before .before in (
       omega arith,
-      number-more (s .args .t .now) (s .args .first) (s .args .n) (w .loop .j) (w .loop .s) _ (c .before .before .loop-test .taken) (w .loop .inv .0) (s .pre .1)
+      number-more (s .args .t .now) (s .args .first) (s .args .n) (w .loop .j) (w .loop .s) _ (c .before .before .loop-test .taken) (w .loop .inv .0)
+          (s .pre .1)
           (w .loop .inv .1) (c .one-of .ensures),
     )
 
--- src/lib.rt:59:1
 returns : tie.Need-returns Inv-loop μ-loop
 returns c =
     let w = c .before in

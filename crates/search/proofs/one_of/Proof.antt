@@ -2,11 +2,9 @@ use Rattle.search.proofs.Numbers.{one-is, one-not}
 use Rattle.search.proofs.one_of.Statement.{statement}
 use Rattle.search.proofs.one_of.Tie as tie
 
--- src/lib.rt:53:9
 returns : tie.Need-returns
 returns c = one-is (c .before .args .w) (c .if1 .taken)
 
--- src/lib.rt:49:1
 returns-2 : tie.Need-returns-2
 returns-2 c = one-not (c .before .args .w) (c .if1 .left)
 

@@ -3,11 +3,9 @@ use borrow.Author.Needs.{needs}
 use Rattle.search.proofs.power.Statement.{statement}
 use Rattle.search.proofs.power.Tie as tie
 
--- src/lib.rt:181:5
 shl-result : tie.Need-shl-result
 shl-result c = search needs
 
--- src/lib.rt:177:1
 returns : tie.Need-returns
 returns c = power-is (c .args .n) (c .pre)
 

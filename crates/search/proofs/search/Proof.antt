@@ -52,8 +52,16 @@ same-length-4 c = search needs
 
 returns : tie.Need-returns
 returns c =
-    searched-clear (entry (c .before .before .before .before .before .before .before .before .before .before .before .before .before .before .before .before .before .before .before .before .before .before .before .before .before .before .before .before .before .before .before .before .before .before .before .before)) _ _ _ _ _ (c .before .before .before .before .before .before .before .before .before .before .before .before .before .before .before .before .before .before .before .before .ask .ensures) (c .before .before .before .before .before .before .before .before .before .before .clear .ensures ∙ ap (λ (k : ℕ). replicate k 0) (c .before .before .before .before .before .before .before .before .before .before .before .before .before .before .before .before .before .before .before .scratch .given))
-    (c .before .before .before .before .before .before .clear2 .ensures ∙ ap (λ (k : ℕ). replicate k 0) (c .before .before .before .before .before .before .before .before .before .before .before .before .before .before .before .before .before .met .given)) (c .before .before .clear3 .ensures ∙ ap (λ (k : ℕ). replicate k 0) (c .before .before .before .before .before .before .before .before .before .before .before .before .before .before .before .marks .given))
+    searched-clear (entry (c .before .before .before .before .before .before .before .before .before .before .before .before .before .before .before
+    .before .before .before .before .before .before .before .before .before .before .before .before .before .before .before .before .before
+    .before .before .before .before)) _ _ _ _ _ (c .before .before .before .before .before .before .before .before .before .before .before
+    .before .before .before .before .before .before .before .before .before .ask .ensures) (c .before .before .before .before .before .before
+    .before .before .before .before .clear .ensures ∙ ap (λ (k : ℕ). replicate k 0) (c .before .before .before .before .before .before .before
+    .before .before .before .before .before .before .before .before .before .before .before .before .scratch .given))
+    (c .before .before .before .before .before .before .clear2 .ensures ∙ ap (λ (k : ℕ). replicate k 0) (c .before .before .before .before .before
+    .before .before .before .before .before .before .before .before .before .before .before .before .met .given)) (c .before .before .clear3
+    .ensures ∙ ap (λ (k : ℕ). replicate k 0) (c .before .before .before .before .before .before .before .before .before .before .before .before
+    .before .before .before .marks .given))
 
 pub search-spec : {M : Type 1} → statement M
 search-spec =

@@ -13,26 +13,23 @@ use Rattle.search.proofs.start_number.Tie as tie
 load-start-requires : tie.Need-load-start-requires
 load-start-requires c κs = search needs
 
--- src/lib.rt:254:24
 add-number-in : tie.Need-add-number-in
 add-number-in c = search needs
 
--- src/lib.rt:254:5
 number-in-requires : tie.Need-number-in-requires
 number-in-requires c κs = search needs
 
--- src/lib.rt:249:1
 same-length : tie.Need-same-length
 same-length c = search needs
 
--- src/lib.rt:249:1
 returns : tie.Need-returns
 returns c =
     let x = c .before .before .before .before .before .before .before .before .before in
     let a = x .args in
     c .number-in .ensures
     ∙ number-filled (a .scratch .now) _ (1 + a .n .I) (a .n .L) (map valueOf (fillBoth (a .split) (a .k) (codesOf (a .resets .now) (a .n .L))))
-    (filled-length (a .split) (a .n) (a .resets .now) (x .pre .resets-long) (a .k)) (omega (arith, x .pre .room)) (c .before .before .before .before .before .load-start .ensures)
+    (filled-length (a .split) (a .n) (a .resets .now) (x .pre .resets-long) (a .k)) (omega (arith, x .pre .room)) (c .before .before .before .before
+    .before .load-start .ensures)
 
 pub start-number-spec : {M : Type 1} → statement M
 start-number-spec =

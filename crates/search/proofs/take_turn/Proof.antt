@@ -17,35 +17,42 @@ tablesOf x inputs resets =
     let a = x .args in
     seven inputs (a .latches .now) (a .outputs .now) (a .gates .now) resets (a .bads .now) (a .constraints .now)
 
--- src/lib.rt:160:17
 mul-s : tie.Need-mul-s
-mul-s c = omega (arith, c .before .before .before .before .before .before .before .before .pre .few, c .before .before .before .before .before .before .before .before .pre .there)
+mul-s c = omega (
+  arith,
+  c .before .before .before .before .before .before .before .before .pre .few,
+  c .before .before .before .before .before
+      .before .before .before .pre .there,
+)
 
--- src/lib.rt:160:13
 mul-s-2 : tie.Need-mul-s-2
-mul-s-2 c = omega (arith, c .before .before .before .before .before .before .before .before .pre .few, c .before .before .before .before .before .before .before .before .pre .there)
+mul-s-2 c = omega (
+  arith,
+  c .before .before .before .before .before .before .before .before .pre .few,
+  c .before .before .before .before .before
+      .before .before .before .pre .there,
+)
 
--- src/lib.rt:160:13
 slice-read-s : tie.Need-slice-read-s
-slice-read-s c = omega (arith, c .before .before .before .before .before .before .before .before .before .pre .rows-long, c .before .before .before .before .before .before .before .before .before .pre .there)
+slice-read-s c = omega (
+  arith,
+  c .before .before .before .before .before .before .before .before .before .pre .rows-long,
+  c .before .before .before
+      .before .before .before .before .before .before .pre .there,
+)
 
--- src/lib.rt:161:9
 try-move-requires : tie.Need-try-move-requires
 try-move-requires c κs = search needs
 
--- src/lib.rt:163:28
 enum-told : tie.Need-enum-told
 enum-told c = search needs
 
--- src/lib.rt:164:26
 enum-told-2 : tie.Need-enum-told-2
 enum-told-2 c = search needs
 
--- src/lib.rt:165:21
 enum-known-found : tie.Need-enum-known-found
 enum-known-found c = search needs
 
--- src/lib.rt:165:38
 meet-requires : tie.Need-meet-requires
 meet-requires c κs =
     let x = c .before .before .before .before .before .before .before .before .before .before .before .before .before .before .before .before .before .before in
@@ -53,14 +60,13 @@ meet-requires c κs =
     let q = x .pre in
     meets-to (q .runs) (q .tries) (q .ways) (a .met .now) (a .marks .now) (q .searched) (omega (arith, q .here, q .count, q .there)) _
     (tells (q .runs) (q .tries) (q .ways) (a .met .now) (a .marks .now) (q .searched) (a .reached) (a .place) (a .m) (q .count) (q .here) (q .move) (q .there) _
-    (sym (c .before .before .before .found .given .1) ∙ c .before .before .before .before .before .before .before .try-move .ensures (q .inputs) (q .resets) (q .runs)))
+    (sym (c .before .before .before .found .given .1) ∙ c .before .before .before .before .before .before .before .try-move .ensures (q .inputs) (q
+    .resets) (q .runs)))
     (a .reached) (a .place) (q .count) (q .here) (q .few-latches) (q .met-long) (q .marks-long) (a .m)
 
--- src/lib.rt:133:1
 same-length : tie.Need-same-length
 same-length c = search needs
 
--- src/lib.rt:133:1
 returns : tie.Need-returns
 returns c = λ split inputs resets p ways r sd er ep em.
     let x = c .before .before .before .before .before .before .before .before .before .before .before .before .before .before .before in
@@ -71,11 +77,9 @@ returns c = λ split inputs resets p ways r sd er ep em.
     (tells r p ways (a .met .now) (a .marks .now) sd (a .reached) (a .place) (a .m) er ep em (q .there) Barred
     (sym (c .enum-told .given .1) ∙ c .before .before .before .before .try-move .ensures inputs resets r)))
 
--- src/lib.rt:133:1
 same-length-2 : tie.Need-same-length-2
 same-length-2 c = search needs
 
--- src/lib.rt:133:1
 returns-2 : tie.Need-returns-2
 returns-2 c = λ split inputs resets p ways r sd er ep em.
     let x = c .before .before .before .before .before .before .before .before .before .before .before .before .before .before .before in
@@ -85,27 +89,25 @@ returns-2 c = λ split inputs resets p ways r sd er ep em.
     (tells r p ways (a .met .now) (a .marks .now) sd (a .reached) (a .place) (a .m) er ep em (q .there) Seen
     (sym (c .enum-told2 .given .1) ∙ c .before .before .before .before .try-move .ensures inputs resets r))
 
--- src/lib.rt:133:1
 same-length-3 : tie.Need-same-length-3
 same-length-3 c = search needs
 
--- src/lib.rt:133:1
 same-length-4 : tie.Need-same-length-4
 same-length-4 c = search needs
 
--- src/lib.rt:133:1
 same-length-5 : tie.Need-same-length-5
 same-length-5 c = search needs
 
--- src/lib.rt:133:1
 returns-3 : tie.Need-returns-3
 returns-3 c = λ split inputs resets p ways r sd er ep em.
-    let x = c .before .before .before .before .before .before .before .before .before .before .before .before .before .before .before .before .before .before .before .before .before .before .before in
+    let x = c .before .before .before .before .before .before .before .before .before .before .before .before .before .before .before .before .before
+    .before .before .before .before .before .before in
     let a = x .args in
     let q = x .pre in
     left-to r p ways (a .met .now) (a .marks .now) sd (omega (arith, ep, er, q .there)) _
     (tells r p ways (a .met .now) (a .marks .now) sd (a .reached) (a .place) (a .m) er ep em (q .there) _
-    (sym (c .before .before .before .before .before .before .before .before .found .given .1) ∙ c .before .before .before .before .before .before .before .before .before .before .before .before .try-move .ensures inputs resets r))
+    (sym (c .before .before .before .before .before .before .before .before .found .given .1) ∙ c .before .before .before .before .before .before
+    .before .before .before .before .before .before .try-move .ensures inputs resets r))
     (a .reached) (a .place) (a .m) _ _ _ er ep em (q .met-long) (q .marks-long) _ refl (c .before .before .before .before .meet .ensures)
 
 pub take-turn-spec : {M : Type 1} → statement M

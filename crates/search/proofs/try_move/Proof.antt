@@ -17,7 +17,8 @@ use Rattle.search.proofs.try_move.Tie as tie
 
 -- back from after the step to the start
 abbrev start : tie.After-slice-known4 → tie.Start
-start z = z .before .before .before .before .before .before .before .before .before .before .before .before .before .before .before .before .before .before .before
+start z = z .before .before .before .before .before .before .before .before .before .before .before .before .before .before .before .before .before
+    .before .before
 
 abbrev tablesOf : tie.Start → List ℕ → List ℕ → Tables
 tablesOf x inputs resets =
@@ -33,7 +34,8 @@ abbrev after : tie.After-slice-known4 → List ℕ
 after z = z .before .before .step-values .last .1 .1 .1 .1 .0
 
 same : (z : tie.After-slice-known4) → length (after z) ≡ length (start z .args .scratch .now)
-same z = z .before .scratch3 .given ∙ z .before .before .before .before .before .scratch2 .given ∙ z .before .before .before .before .before .before .before .before .before .scratch .given ∙ length-set (start z .args .scratch .now) 0 1
+same z = z .before .scratch3 .given ∙ z .before .before .before .before .before .scratch2 .given ∙ z .before .before .before .before .before .before
+    .before .before .before .scratch .given ∙ length-set (start z .args .scratch .now) 0 1
 
 room-after : (z : tie.After-slice-known4) → Scratch (start z .args .n) (after z)
 room-after z = omega (arith, start z .pre .scratch-long, same z)
@@ -45,7 +47,8 @@ stepped : (z : tie.After-slice-known4) (inputs resets : List ℕ) → Runs (star
 stepped z inputs resets r =
     let a = start z .args in
     z .before .before .step-values .ensures (tablesOf (start z) inputs resets) _ _ r
-    (try-stands (a .n) (a .s) (a .m) (a .scratch .now) _ _ (leaves-room (start z)) (z .before .before .before .before .before .before .before .before .before .before .load-number .ensures) (z .before .before .before .before .before .before .load-number2 .ensures))
+    (try-stands (a .n) (a .s) (a .m) (a .scratch .now) _ _ (leaves-room (start z)) (z .before .before .before .before .before .before .before .before
+    .before .before .load-number .ensures) (z .before .before .before .before .before .before .load-number2 .ensures))
 
 slice-write-scratch : tie.Need-slice-write-scratch
 slice-write-scratch c = omega (arith, leaves-room (c .before .before .before .before .before .before))
@@ -73,8 +76,16 @@ step-values-requires c κs =
       state = bits (a .n .L) (a .s);
       ins = bits (a .n .I) (a .m);
       runs = record { fits = r .fits; counts = r .counts; formed = r .formed; order = r .order };
-      scratch = omega (arith, x .pre .scratch-long, length-set (a .scratch .now) 0 1, c .before .before .before .before .before .before .scratch .given, c .before .before .scratch2 .given);
-      stands = try-stands (a .n) (a .s) (a .m) (a .scratch .now) _ _ (leaves-room x) (c .before .before .before .before .before .before .before .load-number .ensures) (c .before .before .before .load-number2 .ensures);
+      scratch = omega (
+        arith,
+        x .pre .scratch-long,
+        length-set (a .scratch .now) 0 1,
+        c .before .before .before .before .before .before .scratch
+            .given,
+        c .before .before .scratch2 .given,
+      );
+      stands = try-stands (a .n) (a .s) (a .m) (a .scratch .now) _ _ (leaves-room x) (c .before .before .before .before .before .before .before
+          .load-number .ensures) (c .before .before .before .load-number2 .ensures);
     }
 
 add-all-lits : tie.Need-add-all-lits
@@ -109,7 +120,8 @@ same-length-2 c = same (c .before .before .before .before .before .before .befor
 returns-2 : tie.Need-returns-2
 returns-2 c = λ inputs resets r.
     let z = c .before .before .before .before .before .before .before .before in
-    is-seen r (start z .args .s) (start z .args .m) (stepped z inputs resets r) _ (c .before .before .before .before .all-lits .ensures) (not-false _ (c .before .before .before .if1 .left)) _
+    is-seen r (start z .args .s) (start z .args .m) (stepped z inputs resets r) _ (c .before .before .before .before .all-lits .ensures) (not-false _
+    (c .before .before .before .if1 .left)) _
     (c .before .shown .ensures) (c .if2 .taken)
 
 add-number-in : tie.Need-add-number-in
@@ -126,7 +138,8 @@ same-length-3 c = same (c .before .before .before .before .before .before .befor
 returns-3 : tie.Need-returns-3
 returns-3 c = λ inputs resets r.
     let z = c .before .before .before .before .before .before .before .before .before .before .before in
-    is-to r (start z .args .s) (start z .args .m) (stepped z inputs resets r) _ (c .before .before .before .before .before .before .before .all-lits .ensures) (not-false _ (c .before .before .before .before .before .before .if1 .left)) _
+    is-to r (start z .args .s) (start z .args .m) (stepped z inputs resets r) _ (c .before .before .before .before .before .before .before .all-lits
+    .ensures) (not-false _ (c .before .before .before .before .before .before .if1 .left)) _
     (c .before .before .before .before .shown .ensures) (c .before .before .before .if2 .left) _ (c .number-in .ensures)
 
 pub try-move-spec : {M : Type 1} → statement M

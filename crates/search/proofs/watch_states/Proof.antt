@@ -29,9 +29,12 @@ same-length-3 c = search needs
 
 returns : tie.Need-returns
 returns c =
-    let a = c .before .before .before .before .before .before .before .before .before .before .before .before .before .before .before .before .before .before .before .before .args in
+    let a = c .before .before .before .before .before .before .before .before .before .before .before .before .before .before .before .before .before
+    .before .before .before .args in
     all-watched (a .n) (a .latches .now) (a .outputs .now) (a .gates .now) (a .resets .now) (a .bads .now) (a .constraints .now) (a .watch)
-    (a .split) (a .allowance) (c .before .before .before .before .before .before .search-states .result) (c .before .before .before .before .before .before .search-states .last .1 .1 .1 .1 .1 .1 .1 .1 .1 .0) (c .before .before .before .before .before .before .before .before .before .before .if1 .taken) (c .before .before .before .before .before .before .search-states .ensures)
+    (a .split) (a .allowance) (c .before .before .before .before .before .before .search-states .result) (c .before .before .before .before .before
+    .before .search-states .last .1 .1 .1 .1 .1 .1 .1 .1 .1 .0) (c .before .before .before .before .before .before .before .before .before
+    .before .if1 .taken) (c .before .before .before .before .before .before .search-states .ensures)
 
 sub-k : tie.Need-sub-k
 sub-k c = search needs
@@ -53,7 +56,8 @@ search-states-requires-2 c κs =
     let x = c .before .before .before .before .before .before .before .before .before .before .before .before .before .before in
     let a = x .args in
     one-searches (a .n) (a .latches .now) (a .outputs .now) (a .gates .now) (a .resets .now) (a .bads .now) (a .constraints .now) (a .watch)
-    (a .scratch .now) (a .met .now) (a .marks .now) (x .pre) (a .watch - 1) (before (a .watch) (c .before .before .before .before .if1 .left)) _ (part-rest (a .watch - 1) (a .outputs .now))
+    (a .scratch .now) (a .met .now) (a .marks .now) (x .pre) (a .watch - 1) (before (a .watch) (c .before .before .before .before .if1 .left)) _
+    (part-rest (a .watch - 1) (a .outputs .now))
 
 same-length-4 : tie.Need-same-length-4
 same-length-4 c = search needs
@@ -66,10 +70,13 @@ same-length-6 c = search needs
 
 returns-2 : tie.Need-returns-2
 returns-2 c =
-    let x = c .before .before .before .before .before .before .before .before .before .before .before .before .before .before .before .before .before .before .before .before .before in
+    let x = c .before .before .before .before .before .before .before .before .before .before .before .before .before .before .before .before .before
+    .before .before .before .before in
     let a = x .args in
     one-watched (a .n) (a .latches .now) (a .outputs .now) (a .gates .now) (a .resets .now) (a .bads .now) (a .constraints .now) (a .watch)
-    (a .split) (a .allowance) (c .before .before .before .before .before .before .search-states2 .result) (c .before .before .before .before .before .before .search-states2 .last .1 .1 .1 .1 .1 .1 .1 .1 .1 .0) (a .watch - 1) (before (a .watch) (c .before .before .before .before .before .before .before .before .before .before .before .if1 .left)) (x .pre .finds .there) _ (part-rest (a .watch - 1) (a .outputs .now))
+    (a .split) (a .allowance) (c .before .before .before .before .before .before .search-states2 .result) (c .before .before .before .before .before
+    .before .search-states2 .last .1 .1 .1 .1 .1 .1 .1 .1 .1 .0) (a .watch - 1) (before (a .watch) (c .before .before .before .before .before
+    .before .before .before .before .before .before .if1 .left)) (x .pre .finds .there) _ (part-rest (a .watch - 1) (a .outputs .now))
     (c .before .before .before .before .before .before .search-states2 .ensures)
 
 pub watch-states-spec : {M : Type 1} → statement M

@@ -9,19 +9,15 @@ use Rattle.search.proofs.back.bit_code.Tie as tie
 use Rattle.search.proofs.back.bit_code.Reads as reads
 use Rattle.search.proofs.back.bit_code.Lts as lts
 
--- src/back.rt:19:21
 cast-bit : tie.Need-cast-bit
 cast-bit c = search needs
 
--- src/back.rt:19:16
 shr-bit : tie.Need-shr-bit
 shr-bit c = search needs
 
--- src/back.rt:21:9
 returns : tie.Need-returns
 returns c = let a = c .before .args in code-one (a .k / 2 ^ a .i % 2) (sym (and-mask (a .k / 2 ^ a .i) 1) ∙ c .if1 .taken)
 
--- src/back.rt:15:1
 returns-2 : tie.Need-returns-2
 returns-2 c =
     let a = c .before .args in

@@ -69,7 +69,7 @@ ix-requires-2 : tie.Need-ix-requires-2 Inv-loop μ-loop
 ix-requires-2 c κs = search needs
 
 loop-less : tie.Need-loop-less Inv-loop μ-loop
-loop-less c = 
+loop-less c =
     let q = c .before .before in
     let w = startIn q .pre in
     counting-less (w .rows) (startIn q .args .place) (q .before .loop .steps) (q .before .loop .from) (counted q) (q .loop-test .taken) _ (c .ix2 .ensures)

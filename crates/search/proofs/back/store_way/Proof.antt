@@ -42,7 +42,8 @@ storing-in q y ways r h =
     let a = x .args in
     let e = x .pre .many y ways r h .0 in
     q .before .loop .inv .1 y ways r (a .out .now) e (x .pre .room)
-    (storing-first r (a .n) (a .place) (a .m) (a .steps) (a .out .now) e (x .pre .room) h _ (i .ix .ensures) _ _ refl (i .before .before .before .before .store-number .ensures))
+    (storing-first r (a .n) (a .place) (a .m) (a .steps) (a .out .now) e (x .pre .room) h _ (i .ix .ensures) _ _ refl (i .before .before .before
+    .before .store-number .ensures))
 
 storing-past : (q : tie.After-loop Inv-loop μ-loop) (y : System) (ways : List Way) → Rows y ways (startPast q .args .met .now)
     → startPast q .args .place < length ways → let a = startPast q .args in let l = q .before .loop in
@@ -53,7 +54,8 @@ storing-past q y ways r h =
     let a = x .args in
     let e = x .pre .many y ways r h .0 in
     q .before .loop .inv .1 y ways r (a .out .now) e (x .pre .room)
-    (storing-first r (a .n) (a .place) (a .m) (a .steps) (a .out .now) e (x .pre .room) h _ (i .ix .ensures) _ _ refl (i .before .before .before .before .store-number .ensures))
+    (storing-first r (a .n) (a .place) (a .m) (a .steps) (a .out .now) e (x .pre .room) h _ (i .ix .ensures) _ _ refl (i .before .before .before
+    .before .store-number .ensures))
 
 -- by the rows that were promised: the place that is stored next is within the buffer, and the rows are there
 promised : (q : tie.In-loop Inv-loop μ-loop) → let x = startIn q in let a = x .args in let w = x .pre .walks in let l = q .before .loop in
@@ -96,7 +98,15 @@ add-at : tie.Need-add-at Inv-loop μ-loop
 add-at c = let x = c .before .before .before .before in omega (arith, one-less (x .args .n) (x .args .steps) (some-step x), x .pre .room, x .good)
 
 store-number-requires : tie.Need-store-number-requires Inv-loop μ-loop
-store-number-requires c κs = let x = c .before .before .before .before .before in (x .pre .few-inputs, omega (arith, one-less (x .args .n) (x .args .steps) (some-step x), x .pre .room))
+store-number-requires c κs = let x = c .before .before .before .before .before in (
+  x .pre .few-inputs,
+  omega (
+    arith,
+    one-less (x .args .n) (x .args
+        .steps) (some-step x),
+    x .pre .room,
+  ),
+)
 
 mul-ix : tie.Need-mul-ix Inv-loop μ-loop
 mul-ix c = let w = c .before .before .before .before .before .before .before .before .pre .walks in omega (arith, w .there, w .long, w .few)
@@ -108,7 +118,13 @@ mul-ix-2 : tie.Need-mul-ix-2 Inv-loop μ-loop
 mul-ix-2 c = let w = c .before .before .before .before .before .before .before .before .pre .walks in omega (arith, w .there, w .long, w .few)
 
 shared-slice-read-ix : tie.Need-shared-slice-read-ix Inv-loop μ-loop
-shared-slice-read-ix c = let w = c .before .before .before .before .before .before .before .before .before .pre .walks in omega (arith, w .there, w .long, w .few)
+shared-slice-read-ix c = let w = c .before .before .before .before .before .before .before .before .before .pre .walks in omega (
+  arith,
+  w .there,
+  w
+      .long,
+  w .few,
+)
 
 ix-requires : tie.Need-ix-requires Inv-loop μ-loop
 ix-requires c κs = search needs
@@ -132,7 +148,7 @@ shared-slice-read-store-number : tie.Need-shared-slice-read-store-number Inv-loo
 shared-slice-read-store-number c = let w = startIn (c .before .before) .pre .walks in omega (arith, promised (c .before .before) .there, w .long, w .few)
 
 store-number-requires-2 : tie.Need-store-number-requires-2 Inv-loop μ-loop
-store-number-requires-2 c κs = 
+store-number-requires-2 c κs =
     let q = c .before .before .before in
     let x = startIn q in
     (x .pre .few-inputs, omega (arith, back-room q, here-room q, q .before .loop .inv .0, q .before .before .before .before .before .out .given))
@@ -141,22 +157,51 @@ sub-p : tie.Need-sub-p Inv-loop μ-loop
 sub-p c = omega (arith, c .before .before .before .before .before .before .loop-test .taken)
 
 mul-ix-3 : tie.Need-mul-ix-3 Inv-loop μ-loop
-mul-ix-3 c = let w = startIn (c .before .before .before .before .before .before) .pre .walks in omega (arith, row-back (c .before .before .before .before .before .before), w .long, w .few, c .before .before .before .before .before .before .loop-test .taken)
+mul-ix-3 c = let w = startIn (c .before .before .before .before .before .before) .pre .walks in omega (
+  arith,
+  row-back (c .before .before .before
+      .before .before .before),
+  w .long,
+  w .few,
+  c .before .before .before .before .before .before .loop-test .taken,
+)
 
 add-ix-2 : tie.Need-add-ix-2 Inv-loop μ-loop
-add-ix-2 c = let w = startIn (c .before .before .before .before .before .before) .pre .walks in omega (arith, row-back (c .before .before .before .before .before .before), w .long, w .few, c .before .before .before .before .before .before .loop-test .taken)
+add-ix-2 c = let w = startIn (c .before .before .before .before .before .before) .pre .walks in omega (
+  arith,
+  row-back (c .before .before .before
+      .before .before .before),
+  w .long,
+  w .few,
+  c .before .before .before .before .before .before .loop-test .taken,
+)
 
 mul-ix-4 : tie.Need-mul-ix-4 Inv-loop μ-loop
-mul-ix-4 c = let w = startIn (c .before .before .before .before .before .before) .pre .walks in omega (arith, row-back (c .before .before .before .before .before .before), w .long, w .few, c .before .before .before .before .before .before .loop-test .taken)
+mul-ix-4 c = let w = startIn (c .before .before .before .before .before .before) .pre .walks in omega (
+  arith,
+  row-back (c .before .before .before
+      .before .before .before),
+  w .long,
+  w .few,
+  c .before .before .before .before .before .before .loop-test .taken,
+)
 
 shared-slice-read-ix-2 : tie.Need-shared-slice-read-ix-2 Inv-loop μ-loop
-shared-slice-read-ix-2 c = let w = startIn (c .before .before .before .before .before .before .before) .pre .walks in omega (arith, row-back (c .before .before .before .before .before .before .before), w .long, w .few, c .before .before .before .before .before .before .before .loop-test .taken)
+shared-slice-read-ix-2 c = let w = startIn (c .before .before .before .before .before .before .before) .pre .walks in omega (
+  arith,
+  row-back (c
+      .before .before .before .before .before .before .before),
+  w .long,
+  w .few,
+  c .before .before .before .before .before .before .before .loop-test
+      .taken,
+)
 
 ix-requires-2 : tie.Need-ix-requires-2 Inv-loop μ-loop
 ix-requires-2 c κs = search needs
 
 loop-less : tie.Need-loop-less Inv-loop μ-loop
-loop-less c = 
+loop-less c =
     let q = c .before .before .before .before .before .before .before .before in
     let x = startIn q in
     let a = x .args in
@@ -165,7 +210,7 @@ loop-less c =
     (q .loop-test .taken)
 
 loop-again : tie.Need-loop-again Inv-loop μ-loop
-loop-again c = 
+loop-again c =
     let q = c .before .before .before .before .before .before .before .before in
     let a = startIn q .args in
     let l = q .before .loop in (
@@ -176,22 +221,39 @@ loop-again c =
     )
 
 mul-store-number-3 : tie.Need-mul-store-number-3 Inv-loop μ-loop
-mul-store-number-3 c = let x = startPast (c) in let w = x .pre .walks in omega (arith, storing-past (c) (w .y) (w .ways) (w .rows) (w .there) .there, w .long, w .few)
+mul-store-number-3 c = let x = startPast (c) in let w = x .pre .walks in omega (
+  arith,
+  storing-past (c) (w .y) (w .ways) (w .rows) (w .there) .there,
+  w .long,
+  w .few,
+)
 
 mul-store-number-4 : tie.Need-mul-store-number-4 Inv-loop μ-loop
-mul-store-number-4 c = let x = startPast (c) in let w = x .pre .walks in omega (arith, storing-past (c) (w .y) (w .ways) (w .rows) (w .there) .there, w .long, w .few)
+mul-store-number-4 c = let x = startPast (c) in let w = x .pre .walks in omega (
+  arith,
+  storing-past (c) (w .y) (w .ways) (w .rows) (w .there) .there,
+  w .long,
+  w .few,
+)
 
 shared-slice-read-store-number-2 : tie.Need-shared-slice-read-store-number-2 Inv-loop μ-loop
-shared-slice-read-store-number-2 c = let x = startPast (c .before) in let w = x .pre .walks in omega (arith, storing-past (c .before) (w .y) (w .ways) (w .rows) (w .there) .there, w .long, w .few)
+shared-slice-read-store-number-2 c = let x = startPast (c .before) in let w = x .pre .walks in omega (
+  arith,
+  storing-past (c .before) (w .y) (w
+      .ways) (w .rows) (w .there) .there,
+  w .long,
+  w .few,
+)
 
 store-number-requires-3 : tie.Need-store-number-requires-3 Inv-loop μ-loop
-store-number-requires-3 c κs = 
+store-number-requires-3 c κs =
     let q = c .before .before in
     let x = startPast q in
     (x .pre .few-latches, omega (arith, x .pre .room, q .before .loop .inv .0, q .before .before .before .before .before .out .given))
 
 same-length : tie.Need-same-length Inv-loop μ-loop
-same-length c = c .before .out3 .given ∙ (c .before .before .before .before .before .before .loop .inv .0 ∙ c .before .before .before .before .before .before .before .before .before .before .out .given)
+same-length c = c .before .out3 .given ∙ (c .before .before .before .before .before .before .loop .inv .0 ∙ c .before .before .before .before .before
+    .before .before .before .before .before .out .given)
 
 returns : tie.Need-returns Inv-loop μ-loop
 returns c = λ y ways r h.

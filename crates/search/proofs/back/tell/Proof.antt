@@ -37,7 +37,8 @@ same-length c = search needs
 returns-2 : tie.Need-returns-2
 returns-2 c =
     let a = c .before .before .before .before .before .before .before .before .before .before .args in
-    told-long (a .n) (a .met .now) (a .place) (a .m) (a .tries) _ _ (a .out .now) (c .before .before .before .before .before .before .before .steps-to .ensures) refl (omega (arith, c .before .before .before .before .if1 .left)) _
+    told-long (a .n) (a .met .now) (a .place) (a .m) (a .tries) _ _ (a .out .now) (c .before .before .before .before .before .before .before
+    .steps-to .ensures) refl (omega (arith, c .before .before .before .before .if1 .left)) _
     (c .before .before .store-way .ensures)
 
 pub tell-spec : {M : Type 1} → statement M
