@@ -63,7 +63,10 @@ enum golvanzo_refusal {
     GOLVANZO_JUSTICE = 21,
     GOLVANZO_NO_GATE = 22,
     GOLVANZO_WRONG_VALUE = 23,
-    GOLVANZO_MANY_GATES = 24
+    GOLVANZO_MANY_GATES = 24,
+    GOLVANZO_MANY_LATCHES = 25,
+    GOLVANZO_MANY_INPUTS = 26,
+    GOLVANZO_NOT_ALIKE = 27
 };
 
 /* The tables, by the paper's numbers: the question of sizes and the place of refusal 4. */

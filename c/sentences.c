@@ -86,6 +86,16 @@ static const struct saying sayings[] = {
     [GOLVANZO_MANY_GATES] =
         {"The plan has more gates than the plain engine takes: it is for teaching, and asks again and again for the same values.",
          "how many gates it has", "Use plan trace, which takes any number of gates."},
+    [GOLVANZO_MANY_LATCHES] = {"The search visits every state of a plan, and this one has more than 20 latches.",
+                               "how many latches it has",
+                               "Search a part of the plan with fewer latches, or try chosen vectors by plan trace."},
+    [GOLVANZO_MANY_INPUTS] =
+        {"The search tries every vector at each state, and the plan has more than 20 inputs.", "how many inputs it has",
+         "Hold some inputs at a value, so that fewer are left, or try chosen vectors by plan trace."},
+    [GOLVANZO_NOT_ALIKE] =
+        {"Two plans can't be compared: they have different numbers of inputs, or of outputs.",
+         "1 for inputs, 3 for outputs",
+         "Compare plans of the same board: both need the same inputs and outputs, in the same order."},
 };
 
 _Static_assert(sizeof sayings / sizeof sayings[0] == GOLVANZO_MANY_GATES + 1, "every refusal has its words");

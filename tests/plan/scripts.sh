@@ -122,9 +122,9 @@ meanings() {
     local number
     sed -n 's/^| \([0-9]*\) | \([^|]*\) | [^|]* | [^|]* | [^|]* |$/\1 \2/p' docs/REFUSALS.md | tr -d '`' >"$room/means"
     sed -n '/^## What to do/,/^## As/s/^| \([0-9]*\) | \([^|]*\) |$/\1 \2/p' docs/REFUSALS.md | tr -d '`' >"$room/do"
-    holds "24 refusals" [ "$(wc -l <"$room/means") $(wc -l <"$room/do")" = "24 24" ]
+    holds "27 refusals" [ "$(wc -l <"$room/means") $(wc -l <"$room/do")" = "27 27" ]
     : >"$room/all"
-    for number in {1..24}; do
+    for number in {1..27}; do
         echo "refusal $number: $(sed -n "s/^$number //p" "$room/means")" >"$room/said"
         echo "What to do: $(sed -n "s/^$number //p" "$room/do")" >>"$room/said"
         accepts "$room/said" help "$number"

@@ -32,6 +32,9 @@ pub fn told_number(refusal: Refusal) -> u64
         Refusal::NoGate(_) => 22,
         Refusal::WrongValue(_) => 23,
         Refusal::ManyGates(_) => 24,
+        Refusal::ManyLatches(_) => 25,
+        Refusal::ManyInputs(_) => 26,
+        Refusal::NotAlike(_) => 27,
     }
 }
 
@@ -64,5 +67,8 @@ pub fn told_place(refusal: Refusal) -> usize
         Refusal::NoGate(place) => place,
         Refusal::WrongValue(place) => place,
         Refusal::ManyGates(place) => place,
+        Refusal::ManyLatches(place) => place,
+        Refusal::ManyInputs(place) => place,
+        Refusal::NotAlike(place) => place,
     }
 }

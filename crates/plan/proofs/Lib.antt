@@ -3,3 +3,4 @@ pub mod Examples
 pub mod Ranges
 pub mod Rewiring
 pub mod Carding
+pub mod Searching

@@ -12,6 +12,7 @@ use Rattle.plan.specs.Fillings.{FilledEntry}
 use Rattle.plan.specs.Report.{ReportEntry}
 use Rattle.plan.specs.Rows.{RowsEntry, RowReportEntry}
 use Rattle.plan.specs.Rewire.{RewireEntry}
+use Rattle.plan.specs.Search.{SearchEntry}
 use Rattle.plan.specs.declared.Loaded.{Loaded}
 use Rattle.plan.specs.declared.Checked.{Checked}
 use Rattle.plan.specs.declared.Written.{Written}
@@ -19,12 +20,14 @@ use Rattle.plan.specs.declared.Made.{Made}
 use Rattle.plan.specs.declared.Stepped.{Stepped}
 use Rattle.plan.specs.declared.Verdict.{Verdict}
 use Rattle.plan.specs.declared.Finding.{Finding}
+use Rattle.plan.specs.declared.Happening.{Happening}
 use Rattle.plan.specs.Outcome.{Says, LoadExit, CheckExit, FileExit, MakeExit, StepExit, WitnessExit}
 use Rattle.plan.specs.Explain.{ExplainExit}
 use Rattle.plan.specs.Fillings.{FilledExit}
 use Rattle.plan.specs.Report.{ReportExit}
 use Rattle.plan.specs.Rows.{RowsExit, RowReportExit}
 use Rattle.plan.specs.Rewire.{RewireExit}
+use Rattle.plan.specs.Search.{SearchExit}
 
 -- a slice or an array that is lent, at entry and at exit
 abbrev pub Slice : Type 0
@@ -89,6 +92,17 @@ abbrev pub toRewire : Counts → Seven (Slice → ℕ → ℕ → ℕ → Slice 
 toRewire n i l o a r b c s gate rhs0 rhs1 values =
     record { circuit = toCheck n i l o a r b c s; gate = gate; rhs0 = rhs0; rhs1 = rhs1; values = now (values .entry) }
 
+abbrev pub toSearch : Counts → Seven (Slice → ℕ → ℕ → ℕ → Slice → Slice → Slice → SearchEntry)
+toSearch n i l o a r b c s split watch allowance met marks out = record {
+  circuit = toCheck n i l o a r b c s;
+  split = split;
+  watch = watch;
+  allowance = allowance;
+  met = now (met .entry);
+  marks = now (marks .entry);
+  out = now (out .entry);
+}
+
 -- cards read
 abbrev pub Loads : (ReadEntry → LoadExit) → Slice → Seven (Slice → Loaded → Type 0)
 Loads f file i l o a r b c s answer =
@@ -148,3 +162,9 @@ ReportsRows f n i l o a r b c s rows ins report answer =
 abbrev pub Rewires : (RewireEntry → RewireExit) → Counts → Seven (Slice → ℕ → ℕ → ℕ → Slice → Stepped → Type 0)
 Rewires f n i l o a r b c s gate rhs0 rhs1 values answer =
     Says f (toRewire n i l o a r b c s gate rhs0 rhs1 values) (record { answer = answer; gates = now (a .exit); scratch = now (s .exit); values = now (values .exit) })
+
+-- the search
+abbrev pub Searches : (SearchEntry → SearchExit) → Counts → Seven (Slice → ℕ → ℕ → ℕ → Slice → Slice → Slice → Happening → Type 0)
+Searches f n i l o a r b c s split watch allowance met marks out answer =
+    Says f (toSearch n i l o a r b c s split watch allowance met marks out)
+    (record { answer = answer; scratch = now (s .exit); met = now (met .exit); marks = now (marks .exit); out = now (out .exit) })

@@ -28,4 +28,6 @@ pub mod Explain
 pub mod Plain
 pub mod Rewire
 pub mod Cards
+pub mod Search
+pub mod Product
 pub mod Lent

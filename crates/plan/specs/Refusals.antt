@@ -3,7 +3,7 @@ use Prim.Native.Nat.{ℕ}
 use mathlib.Core.Option.{Option, none, some}
 use mathlib.Core.List.{List, [], _∷_}
 use Rattle.plan.specs.declared.Refusal.{Refusal}
-use Rattle.plan.specs.declared.Refusal.the-variants.{WrongByte, LargeCount, WrongSum, ShortTable, OutOfRange, DefinedTwice, NotDefined, Cyclic, BadDifference, BadSymbol, ShortBuffer, BadVector, LongInput, Unreadable, NotInOrder, LongDifference, NotExplained, WrongMark, NotOnCards, ManyX, Justice, NoGate, WrongValue, ManyGates}
+use Rattle.plan.specs.declared.Refusal.the-variants.{WrongByte, LargeCount, WrongSum, ShortTable, OutOfRange, DefinedTwice, NotDefined, Cyclic, BadDifference, BadSymbol, ShortBuffer, BadVector, LongInput, Unreadable, NotInOrder, LongDifference, NotExplained, WrongMark, NotOnCards, ManyX, Justice, NoGate, WrongValue, ManyGates, ManyLatches, ManyInputs, NotAlike}
 
 -- the number and the place
 abbrev pub told : Refusal → ℕ × ℕ
@@ -31,6 +31,9 @@ told (Justice place) = (21, place)
 told (NoGate place) = (22, place)
 told (WrongValue place) = (23, place)
 told (ManyGates place) = (24, place)
+told (ManyLatches place) = (25, place)
+told (ManyInputs place) = (26, place)
+told (NotAlike place) = (27, place)
 
 abbrev pub numberOf : Refusal → ℕ
 numberOf r = told r .0

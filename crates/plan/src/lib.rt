@@ -184,7 +184,7 @@ pub enum Class {
     Rest,
 }
 
-// One case for each refusal number from 1 to 24, in their order, each with its place.
+// One case for each refusal number from 1 to 27, in their order, each with its place.
 pub enum Refusal {
     WrongByte(usize),
     LargeCount(usize),
@@ -210,6 +210,9 @@ pub enum Refusal {
     NoGate(usize),
     WrongValue(usize),
     ManyGates(usize),
+    ManyLatches(usize),
+    ManyInputs(usize),
+    NotAlike(usize),
 }
 
 // A number at a position of a file.
@@ -283,6 +286,15 @@ pub enum Verdict {
 pub enum Finding {
     Yes(usize),
     No(usize),
+    Undecided(usize),
+    Refused(Refusal),
+}
+
+// What the search answers: it never happens, and how many states are reached; it can, by a list of so many steps; or the allowance is used up.
+// Each with the tries made.
+pub enum Happening {
+    Never(usize, usize),
+    Can(usize, usize),
     Undecided(usize),
     Refused(Refusal),
 }

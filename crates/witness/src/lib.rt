@@ -87,7 +87,7 @@ fn code_of_reset(reset: u32) -> u8
 }
 
 // How many of n resets are x.
-fn count_resets(resets: &[u32], n: usize) -> usize
+pub fn count_resets(resets: &[u32], n: usize) -> usize
     requires { ⌜ n ≤ length (now resets) ⌝ }
     ensures { λ r. ⌜ r ≡ xCount (codesOf (now (resets .entry)) n) ⌝ }
 {
@@ -118,7 +118,7 @@ fn load_filled(codes: &[u8], k: u32, x: usize, first: usize, t: &mut [u32]) -> u
 }
 
 // The same of n resets, whose x are numbered from 0.
-fn load_resets_filled(resets: &[u32], n: usize, k: u32, first: usize, t: &mut [u32]) -> usize
+pub fn load_resets_filled(resets: &[u32], n: usize, k: u32, first: usize, t: &mut [u32]) -> usize
     requires { ⌜ n ≤ length (now resets) ⌝ }
     requires { ⌜ Loads (codesOf (now resets) n) 0 first (now t) ⌝ }
     ensures { λ _. ⌜ now (t .exit) ≡ put (now (t .entry)) first (words (map valueOf (filling k (codesOf (now (resets .entry)) n)))) ⌝ }

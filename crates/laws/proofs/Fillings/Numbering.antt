@@ -75,11 +75,11 @@ fill-fills k i [] = tt
 fill-fills k i (b ∷ l) = (fills-here (isX b) k i b, fill-fills k (i + xOf b) l)
 
 -- the bits of half a number
-bit-half : (k i : ℕ) → bitOf k (suc i) ≡ bitOf (k / 2) i
+pub bit-half : (k i : ℕ) → bitOf k (suc i) ≡ bitOf (k / 2) i
 bit-half k i =
     ap (λ (n : ℕ). 48 + n % 2) (ap (λ (d : ℕ). k / d) (pow-succ' 2 i) ∙ sym (div-div-eq-div-mul k 2 (2 ^ i)))
 
-fill-half : (k i : ℕ) (l : List ℕ) → fillFrom k (suc i) l ≡ fillFrom (k / 2) i l
+pub fill-half : (k i : ℕ) (l : List ℕ) → fillFrom k (suc i) l ≡ fillFrom (k / 2) i l
 fill-half k i [] = refl
 fill-half k i (b ∷ l) =
     ap₂ (λ (d : ℕ) (r : List ℕ). cond (isX b) d b ∷ r) (bit-half k i)
@@ -150,7 +150,7 @@ same-head x y l m e = cc
 same-tail : (x y : ℕ) (l m : List ℕ) → x ∷ l ≡ y ∷ m → l ≡ m
 same-tail x y l m e = cc
 
-bit-first : (k : ℕ) → bitOf k 0 ≡ 48 + k % 2
+pub bit-first : (k : ℕ) → bitOf k 0 ≡ 48 + k % 2
 bit-first k = ap (λ (n : ℕ). 48 + n % 2) (ap (λ (d : ℕ). k / d) (pow-zero 2) ∙ div-one k)
 
 pub fill-once : (l : List ℕ) (k j : ℕ) → k < 2 ^ xCount l → j < 2 ^ xCount l → filling k l ≡ filling j l → k ≡ j

@@ -85,6 +85,9 @@ refusal-number (refusal.Justice place) e = omega (arith, e)
 refusal-number (refusal.NoGate place) e = omega (arith, e)
 refusal-number (refusal.WrongValue place) e = omega (arith, e)
 refusal-number (refusal.ManyGates place) e = omega (arith, e)
+refusal-number (refusal.ManyLatches place) e = omega (arith, e)
+refusal-number (refusal.ManyInputs place) e = omega (arith, e)
+refusal-number (refusal.NotAlike place) e = omega (arith, e)
 
 -- what a read leaves of a circuit and a tail
 abbrev pub readAnswer : ReadEntry → Circuit → List ℕ → ReadExit

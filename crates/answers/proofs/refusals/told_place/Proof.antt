@@ -76,6 +76,15 @@ enum-known-refusal-23 c = search needs
 enum-known-refusal-24 : tie.Need-enum-known-refusal-24
 enum-known-refusal-24 c = search needs
 
+enum-known-refusal-25 : tie.Need-enum-known-refusal-25
+enum-known-refusal-25 c = search needs
+
+enum-known-refusal-26 : tie.Need-enum-known-refusal-26
+enum-known-refusal-26 c = search needs
+
+enum-known-refusal-27 : tie.Need-enum-known-refusal-27
+enum-known-refusal-27 c = search needs
+
 returns : tie.Need-returns
 returns c = sym (ap placeOf (c .before .refusal .given .1))
 
@@ -148,6 +157,15 @@ returns-23 c = sym (ap placeOf (c .before .refusal23 .given .1))
 returns-24 : tie.Need-returns-24
 returns-24 c = sym (ap placeOf (c .before .refusal24 .given .1))
 
+returns-25 : tie.Need-returns-25
+returns-25 c = sym (ap placeOf (c .before .refusal25 .given .1))
+
+returns-26 : tie.Need-returns-26
+returns-26 c = sym (ap placeOf (c .before .refusal26 .given .1))
+
+returns-27 : tie.Need-returns-27
+returns-27 c = sym (ap placeOf (c .before .refusal27 .given .1))
+
 pub told-place-spec : {M : Type 1} → statement M
 told-place-spec =
     tie.close
@@ -176,6 +194,9 @@ told-place-spec =
     enum-known-refusal-22
     enum-known-refusal-23
     enum-known-refusal-24
+    enum-known-refusal-25
+    enum-known-refusal-26
+    enum-known-refusal-27
     returns
     returns-2
     returns-3
@@ -199,4 +220,7 @@ told-place-spec =
     returns-21
     returns-22
     returns-23
-    returns-24)
+    returns-24
+    returns-25
+    returns-26
+    returns-27)
