@@ -98,7 +98,7 @@ static const struct saying sayings[] = {
          "Compare plans of the same board: both need the same inputs and outputs, in the same order."},
 };
 
-_Static_assert(sizeof sayings / sizeof sayings[0] == GOLVANZO_MANY_GATES + 1, "every refusal has its words");
+_Static_assert(sizeof sayings / sizeof sayings[0] == GOLVANZO_NOT_ALIKE + 1, "every refusal has its words");
 
 static const struct saying memory = {"The system has no memory left for this.", "",
                                      "Close something, or use a smaller plan."};
