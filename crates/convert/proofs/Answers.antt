@@ -13,7 +13,7 @@ use Rattle.plan.specs.declared.Made.the-variants as made
 use Rattle.plan.specs.Literals.{most}
 use Rattle.plan.specs.Refusals.{firstOf}
 use Rattle.plan.specs.Circuit.{Circuit, Tables, countsOf, cleared, allCleared}
-use Rattle.plan.specs.Given.{Given, given, lentWith}
+use Rattle.plan.specs.Given.{Given, givenCircuit, lentWith}
 use Rattle.plan.specs.Convert.{convert}
 use Rattle.plan.specs.Outcome.{MakeEntry, MakeExit, madeBy, conversion, checkedBy}
 use Rattle.laws.proofs.Held.{Holds, holds-filled}
@@ -70,7 +70,7 @@ module _ (e : MakeEntry) where
       → _≡_ {A = MakeExit} (record { answer = made.Refused r; written = w′; scratch = scratch′ }) (conversion e)
   refused r w′ scratch′ p q h =
       (λ i. record { answer = made.Refused r; written = p i; scratch = q i })
-      ∙ ap (λ (o : Option Refusal). madeBy o e (convert (given g))) (sym (refused-some r found h))
+      ∙ ap (λ (o : Option Refusal). madeBy o e (convert (givenCircuit g))) (sym (refused-some r found h))
 
   -- nothing is found
   module _ (h : checked.Good ≡ checkedBy found) where
@@ -113,12 +113,12 @@ module _ (e : MakeEntry) where
     few = let f = passed .0 .fits in omega (arith, f .sum, f .most-M)
 
     -- the counts of the converted circuit
-    counts-are : record { M = n .I + n .L + n .A; I = n .I; L = n .L; O = n .O; A = n .A; B = n .B; C = n .C } ≡ countsOf (convert (given g))
+    counts-are : record { M = n .I + n .L + n .A; I = n .I; L = n .L; O = n .O; A = n .A; B = n .B; C = n .C } ≡ countsOf (convert (givenCircuit g))
     counts-are =
         ap (λ (m : Counts). record { M = m .I + m .L + m .A; I = m .I; L = m .L; O = m .O; A = m .A; B = m .B; C = m .C }) (sym (passed .0 .counts))
-        ∙ sym (counts-convert (given g) (passed .0 .formed))
+        ∙ sym (counts-convert (givenCircuit g) (passed .0 .formed))
 
-    pub accepted : (w w′ : Tables) (scratch′ : List ℕ) → w ≡ allCleared (e .written) → Holds w (convert (given g)) w′
+    pub accepted : (w w′ : Tables) (scratch′ : List ℕ) → w ≡ allCleared (e .written) → Holds w (convert (givenCircuit g)) w′
         → scratch′ ≡ cleared (g .scratch)
         → _≡_ {A = MakeExit} (record {
           answer = made.Accepted (record { M = n .I + n .L + n .A; I = n .I; L = n .L; O = n .O; A = n .A; B = n .B; C = n .C });
@@ -126,6 +126,6 @@ module _ (e : MakeEntry) where
           scratch = scratch′;
         }) (conversion e)
     accepted w w′ scratch′ p held q =
-        let filled = holds-filled (e .written) w′ (convert (given g)) (subst (λ (t : Tables). Holds t (convert (given g)) w′) p held) in
+        let filled = holds-filled (e .written) w′ (convert (givenCircuit g)) (subst (λ (t : Tables). Holds t (convert (givenCircuit g)) w′) p held) in
         (λ i. record { answer = made.Accepted (counts-are i); written = filled i; scratch = q i })
-        ∙ ap (λ (o : Option Refusal). madeBy o e (convert (given g))) (sym (good-none found h))
+        ∙ ap (λ (o : Option Refusal). madeBy o e (convert (givenCircuit g))) (sym (good-none found h))

@@ -10,8 +10,8 @@ use lib.Dec.{eqb}
 use lib.ListN.{length}
 use lib.Seq.{append-snoc}
 use Rattle.plan.specs.Literals.{varOf}
-use Rattle.plan.specs.Circuit.{Gate, Circuit, lefts, has}
-use Rattle.plan.specs.Convert.{leaves, ready, numbered}
+use Rattle.plan.specs.Circuit.{Gate, Circuit, leftVars, has, leaves}
+use Rattle.plan.specs.Convert.{ready, numbered}
 use Rattle.laws.proofs.Reading.Common.{and-left}
 use Rattle.laws.proofs.Reading.Members.{has-cases, distinct}
 use Rattle.laws.proofs.Running.Lists.{has-rest, absent, distinct-cons, distinct-head, distinct-tail, distinct-left}
@@ -44,19 +44,19 @@ scan-new o (x ∷ gs) g e = go (not (has (varOf (x .lhs)) o) && ready o x) refl 
         (not-true (has (varOf (x .lhs)) o) (and-left (not (has (varOf (x .lhs)) o)) (ready o x) q))
     go false q p f = f p
 
-scanned-distinct : (all : List Gate) (k : ℕ) (o : List ℕ) → distinct o ≡ true → distinct (o ++ lefts (scanned all k o)) ≡ true
+scanned-distinct : (all : List Gate) (k : ℕ) (o : List ℕ) → distinct o ≡ true → distinct (o ++ leftVars (scanned all k o)) ≡ true
 scanned-distinct all zero o d = rw (append-nil o) d
 scanned-distinct all (suc k) o d = go (scan o all) refl (λ o′ d′. scanned-distinct all k o′ d′)
   where
-    go : (r : Option Gate) → scan o all ≡ r → ((o′ : List ℕ) → distinct o′ ≡ true → distinct (o′ ++ lefts (scanned all k o′)) ≡ true)
-        → distinct (o ++ lefts (scanGo (λ o′. scanned all k o′) o r)) ≡ true
+    go : (r : Option Gate) → scan o all ≡ r → ((o′ : List ℕ) → distinct o′ ≡ true → distinct (o′ ++ leftVars (scanned all k o′)) ≡ true)
+        → distinct (o ++ leftVars (scanGo (λ o′. scanned all k o′) o r)) ≡ true
     go none e ih = rw (append-nil o) d
     go (some g) e ih =
         let v = varOf (g .lhs) in
-        rw (← append-snoc o v (lefts (scanned all k (o ++ (v ∷ [])))))
+        rw (← append-snoc o v (leftVars (scanned all k (o ++ (v ∷ [])))))
         (ih (o ++ (v ∷ [])) (distinct-snoc o v d (scan-new o all g e)))
 
 pub numbered-distinct : (c : Circuit) → Accepted c → distinct (numbered c) ≡ true
 numbered-distinct c ok =
-    ap (λ (gs : List Gate). distinct (leaves c ++ lefts gs)) (sorted-scanned c (ok .once))
-    ∙ scanned-distinct (c .gates) (length (c .gates)) (leaves c) (distinct-left (leaves c) (lefts (c .gates)) (ok .once))
+    ap (λ (gs : List Gate). distinct (leaves c ++ leftVars gs)) (sorted-scanned c (ok .once))
+    ∙ scanned-distinct (c .gates) (length (c .gates)) (leaves c) (distinct-left (leaves c) (leftVars (c .gates)) (ok .once))

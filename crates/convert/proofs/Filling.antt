@@ -8,9 +8,9 @@ use lib.ListN.{length, getD, take}
 use lib.Seq.{length-take-le, getD-take}
 use Rattle.plan.specs.declared.Counts.{Counts}
 use Rattle.plan.specs.Literals.{varOf}
-use Rattle.plan.specs.Circuit.{Circuit, Tables, circuitOf, latchLine, gateLine, flat, vars, currents, lefts, nexts}
+use Rattle.plan.specs.Circuit.{Circuit, Tables, circuitOf, latchLine, gateLine, flat, vars, currentVars, leftVars, nexts, leaves}
 use Rattle.plan.specs.Binary.{litsFrom, latchesFrom}
-use Rattle.plan.specs.Convert.{leaves, numbered, renumber, convert}
+use Rattle.plan.specs.Convert.{numbered, renumber, convert}
 use Rattle.plan.specs.Outcome.{put}
 use Rattle.laws.proofs.Ranges.{second-var, inside-at}
 use Rattle.laws.proofs.Tables.{firsts, length-firsts, gateAt, gates-rows, latchAt, latches-rows}
@@ -129,7 +129,7 @@ module _ {n : Counts} {x : Tables} {t : List ℕ} (p : Ready n x t) where
       (nexts-bounded (n .M) (suc (n .M)) (c .latches) (omega arith) (p .good .latches)) (ok .used-next)
 
   column-is : (table : List ℕ) (k : ℕ) → k ≤ length table → Bounded (suc (n .M)) (take k table)
-      → allIn (take k table) (leaves c ++ lefts (c .gates)) ≡ true
+      → allIn (take k table) (leaves c ++ leftVars (c .gates)) ≡ true
       → firsts (columnBy t table 1 0) k ≡ map (renumber (numbered c)) (take k table)
   column-is table k room b used = outputs-column t table k room ∙ literals-by c ok (n .M) few t long tab (take k table) b used
 
@@ -155,12 +155,12 @@ module _ {n : Counts} {x : Tables} {t : List ℕ} (p : Ready n x t) where
     }
 
   -- a reset's variable is that of the constants or of a latch
-  resets-used : allIn (c .resets) (leaves c ++ lefts (c .gates)) ≡ true
+  resets-used : allIn (c .resets) (leaves c ++ leftVars (c .gates)) ≡ true
   resets-used =
-      resets-in (leaves c ++ lefts (c .gates)) (has-self zero ((vars (c .inputs) ++ currents (c .latches)) ++ lefts (c .gates)))
+      resets-in (leaves c ++ leftVars (c .gates)) (has-self zero ((vars (c .inputs) ++ currentVars (c .latches)) ++ leftVars (c .gates)))
       (c .latches) (c .resets)
-      (λ v k. has-left v (leaves c) (lefts (c .gates))
-      (has-later v zero (vars (c .inputs) ++ currents (c .latches)) (has-right v (vars (c .inputs)) (currents (c .latches)) k)))
+      (λ v k. has-left v (leaves c) (leftVars (c .gates))
+      (has-later v zero (vars (c .inputs) ++ currentVars (c .latches)) (has-right v (vars (c .inputs)) (currentVars (c .latches)) k)))
       (p .good .resets)
 
   -- tables 7 to 9

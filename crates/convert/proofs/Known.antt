@@ -7,8 +7,8 @@ use native.Mathlib.Omega.{arith}
 use lib.ListN.{length, getD, take, length-take, length-append}
 use lib.Seq.{getD-take}
 use Rattle.plan.specs.Literals.{litOf, varOf, signOf}
-use Rattle.plan.specs.Circuit.{Circuit, lefts, has}
-use Rattle.plan.specs.Convert.{leaves, sorted, numbered, index, renumber}
+use Rattle.plan.specs.Circuit.{Circuit, leftVars, has, leaves, index}
+use Rattle.plan.specs.Convert.{sorted, numbered, renumber}
 use Rattle.laws.proofs.Reading.Cycles.{length-lefts}
 use Rattle.laws.proofs.Running.Lists.{allIn, in-head, in-tail}
 use Rattle.laws.proofs.Running.Accepted.{Accepted}
@@ -24,14 +24,14 @@ module _ (c : Circuit) (ok : Accepted c) (m : ℕ) (few : inner c + length (c .g
     (tab : NumTable (numbered c) (take (m + 1) t)) where
   -- what is defined
   abbrev defined : List ℕ
-  defined = leaves c ++ lefts (c .gates)
+  defined = leaves c ++ leftVars (c .gates)
 
   small : Fresh t (m + 1)
   small =
       small-words (numbered c) t (m + 1) (omega arith)
       (omega (
         arith,
-        length-append (leaves c) (lefts (sorted c)),
+        length-append (leaves c) (leftVars (sorted c)),
         length-lefts (sorted c),
         every-gate c ok,
         length-leaves c,

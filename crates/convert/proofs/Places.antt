@@ -9,9 +9,9 @@ use borrow.Author.Tests.{eqb-true}
 use lib.Dec.{eqb}
 use lib.ListN.{length, getD}
 use Rattle.plan.specs.Literals.{varOf}
-use Rattle.plan.specs.Circuit.{Gate, Circuit, gateLine, lefts, has}
+use Rattle.plan.specs.Circuit.{Gate, Circuit, gateLine, leftVars, has, leaves, index}
 use Rattle.plan.specs.Depends.{find}
-use Rattle.plan.specs.Convert.{leaves, sorted, numbered, index}
+use Rattle.plan.specs.Convert.{sorted, numbered}
 use Rattle.laws.proofs.Tables.{firsts, length-firsts, heads-firsts}
 use Rattle.laws.proofs.Reading.Cycles.{length-lefts}
 use Rattle.laws.proofs.Reading.Members.{has-self, has-later, has-cases}
@@ -36,15 +36,15 @@ index-past v (x ∷ xs) ys h = go (eqb x v) (index-past v xs ys) h
     go false f p = omega (arith, f p)
 
 -- the gate at the place of its variable
-gate-found : (P : Gate → Type 0) (gs : List Gate) (v : ℕ) (d : Gate) → has v (lefts gs) ≡ true → AllG P gs
-    → (varOf (getD gs (index v (lefts gs)) d .lhs) ≡ v) × P (getD gs (index v (lefts gs)) d)
+gate-found : (P : Gate → Type 0) (gs : List Gate) (v : ℕ) (d : Gate) → has v (leftVars gs) ≡ true → AllG P gs
+    → (varOf (getD gs (index v (leftVars gs)) d .lhs) ≡ v) × P (getD gs (index v (leftVars gs)) d)
 gate-found P [] v d h a = absurd (false≢true h)
 gate-found P (g ∷ gs) v d h a = go (eqb (varOf (g .lhs)) v) refl h (gate-found P gs v d)
   where
-    go : (t : Bool) → eqb (varOf (g .lhs)) v ≡ t → (t || has v (lefts gs)) ≡ true
-        → (has v (lefts gs) ≡ true → AllG P gs → (varOf (getD gs (index v (lefts gs)) d .lhs) ≡ v) × P (getD gs (index v (lefts gs)) d))
-        → (varOf (getD (g ∷ gs) (cond t zero (suc (index v (lefts gs)))) d .lhs) ≡ v)
-        × P (getD (g ∷ gs) (cond t zero (suc (index v (lefts gs)))) d)
+    go : (t : Bool) → eqb (varOf (g .lhs)) v ≡ t → (t || has v (leftVars gs)) ≡ true
+        → (has v (leftVars gs) ≡ true → AllG P gs → (varOf (getD gs (index v (leftVars gs)) d .lhs) ≡ v) × P (getD gs (index v (leftVars gs)) d))
+        → (varOf (getD (g ∷ gs) (cond t zero (suc (index v (leftVars gs)))) d .lhs) ≡ v)
+        × P (getD (g ∷ gs) (cond t zero (suc (index v (leftVars gs)))) d)
     go true e p f = (eqb-true (varOf (g .lhs)) v e, a .0)
     go false e p f = f p (a .1)
 
@@ -53,26 +53,26 @@ has-place : (at : ℕ → ℕ) (n v : ℕ) → has v (firsts at n) ≡ true → 
 has-place at n v h = of-places (λ (u : ℕ). (i : ℕ) × (i < n) × (at i ≡ u)) at n v (λ i k. (i, k, refl)) h
 
 -- every gate's left variable is among them; variables of gates that are
-own-left : (gs : List Gate) → AllG (λ g. has (varOf (g .lhs)) (lefts gs) ≡ true) gs
+own-left : (gs : List Gate) → AllG (λ g. has (varOf (g .lhs)) (leftVars gs) ≡ true) gs
 own-left [] = tt
 own-left (g ∷ gs) = (
-  has-self (varOf (g .lhs)) (lefts gs),
-  all-map (λ j. has (varOf (j .lhs)) (lefts gs) ≡ true) (λ j. has (varOf (j .lhs)) (lefts (g ∷ gs)) ≡ true)
-      (λ j h. has-later (varOf (j .lhs)) (varOf (g .lhs)) (lefts gs) h) gs (own-left gs),
+  has-self (varOf (g .lhs)) (leftVars gs),
+  all-map (λ j. has (varOf (j .lhs)) (leftVars gs) ≡ true) (λ j. has (varOf (j .lhs)) (leftVars (g ∷ gs)) ≡ true)
+      (λ j h. has-later (varOf (j .lhs)) (varOf (g .lhs)) (leftVars gs) h) gs (own-left gs),
 )
 
-has-lefts : (gs hs : List Gate) → AllG (λ g. has (varOf (g .lhs)) (lefts gs) ≡ true) hs → (v : ℕ) → has v (lefts hs) ≡ true
-    → has v (lefts gs) ≡ true
+has-lefts : (gs hs : List Gate) → AllG (λ g. has (varOf (g .lhs)) (leftVars gs) ≡ true) hs → (v : ℕ) → has v (leftVars hs) ≡ true
+    → has v (leftVars gs) ≡ true
 has-lefts gs [] a v h = absurd (false≢true h)
 has-lefts gs (g ∷ hs) a v h =
-    has-cases (has v (lefts gs) ≡ true) (varOf (g .lhs)) v (lefts hs) h
-    (λ e. subst (λ (u : ℕ). has u (lefts gs) ≡ true) e (a .0)) (has-lefts gs hs (a .1) v)
+    has-cases (has v (leftVars gs) ≡ true) (varOf (g .lhs)) v (leftVars hs) h
+    (λ e. subst (λ (u : ℕ). has u (leftVars gs) ≡ true) e (a .0)) (has-lefts gs hs (a .1) v)
 
 -- gates that stand at their places in a well-formed circuit
 module _ (c : Circuit) (ok : Accepted c) (at : ℕ → Gate) (a : ℕ) (its : c .gates ≡ firsts at a) where
   -- the place of gate i in the order of new numbers
   abbrev pub placeAt : ℕ → ℕ
-  placeAt i = index (varOf (at i .lhs)) (lefts (sorted c))
+  placeAt i = index (varOf (at i .lhs)) (leftVars (sorted c))
 
   gates-count : length (c .gates) ≡ a
   gates-count = ap length its ∙ length-firsts at a
@@ -84,27 +84,27 @@ module _ (c : Circuit) (ok : Accepted c) (at : ℕ → Gate) (a : ℕ) (its : c 
   at-each P all = all-places P at a (subst (AllG P) its all)
 
   own : AllG (λ g. find (varOf (g .lhs)) (c .gates) ≡ some g) (c .gates)
-  own = found-own (c .gates) (distinct-right (leaves c) (lefts (c .gates)) (ok .once))
+  own = found-own (c .gates) (distinct-right (leaves c) (leftVars (c .gates)) (ok .once))
 
-  pub left-has : (i : ℕ) → i < a → has (varOf (at i .lhs)) (lefts (c .gates)) ≡ true
-  left-has = at-each (λ g. has (varOf (g .lhs)) (lefts (c .gates)) ≡ true) (own-left (c .gates))
+  pub left-has : (i : ℕ) → i < a → has (varOf (at i .lhs)) (leftVars (c .gates)) ≡ true
+  left-has = at-each (λ g. has (varOf (g .lhs)) (leftVars (c .gates)) ≡ true) (own-left (c .gates))
 
   left-new : (i : ℕ) → i < a → has (varOf (at i .lhs)) (leaves c) ≡ false
-  left-new i h = apart (leaves c) (lefts (c .gates)) (ok .once) (varOf (at i .lhs)) (left-has i h)
+  left-new i h = apart (leaves c) (leftVars (c .gates)) (ok .once) (varOf (at i .lhs)) (left-has i h)
 
-  left-sorted : (i : ℕ) → i < a → has (varOf (at i .lhs)) (lefts (sorted c)) ≡ true
+  left-sorted : (i : ℕ) → i < a → has (varOf (at i .lhs)) (leftVars (sorted c)) ≡ true
   left-sorted i h =
-      has-rest (varOf (at i .lhs)) (leaves c) (lefts (sorted c))
-      (gets-number c ok (varOf (at i .lhs)) (has-right (varOf (at i .lhs)) (leaves c) (lefts (c .gates)) (left-has i h))) (left-new i h)
+      has-rest (varOf (at i .lhs)) (leaves c) (leftVars (sorted c))
+      (gets-number c ok (varOf (at i .lhs)) (has-right (varOf (at i .lhs)) (leaves c) (leftVars (c .gates)) (left-has i h))) (left-new i h)
 
   pub number-is : (i : ℕ) → i < a → index (varOf (at i .lhs)) (numbered c) ≡ length (leaves c) + placeAt i
-  number-is i h = index-past (varOf (at i .lhs)) (leaves c) (lefts (sorted c)) (left-new i h)
+  number-is i h = index-past (varOf (at i .lhs)) (leaves c) (leftVars (sorted c)) (left-new i h)
 
   pub place-below : (i : ℕ) → i < a → placeAt i < a
   place-below i h =
       let v = varOf (at i .lhs) in
-      let front = index-front v (lefts (sorted c)) [] (left-sorted i h) in
-      let same : index v (lefts (sorted c) ++ []) ≡ placeAt i = ap (index v) (append-nil (lefts (sorted c))) in
+      let front = index-front v (leftVars (sorted c)) [] (left-sorted i h) in
+      let same : index v (leftVars (sorted c) ++ []) ≡ placeAt i = ap (index v) (append-nil (leftVars (sorted c))) in
       omega (arith, front, same, length-lefts (sorted c), sorted-count)
 
   -- gate i stands there
@@ -121,13 +121,13 @@ module _ (c : Circuit) (ok : Accepted c) (at : ℕ → Gate) (a : ℕ) (its : c 
   -- every place has its gate
   pub every-place : (j : ℕ) → j < a → (i : ℕ) × (i < a) × (placeAt i ≡ j)
   every-place j h =
-      let ls = lefts (sorted c) in
+      let ls = leftVars (sorted c) in
       let v = getD ls j 0 in
       let long : j < length ls = omega (arith, length-lefts (sorted c), sorted-count) in
-      let listed : has v (lefts (c .gates)) ≡ true = has-lefts (c .gates) (sorted c)
-      (order-all (λ g. has (varOf (g .lhs)) (lefts (c .gates)) ≡ true) (length (c .gates)) (leaves c) (c .gates) (own-left (c .gates)))
+      let listed : has v (leftVars (c .gates)) ≡ true = has-lefts (c .gates) (sorted c)
+      (order-all (λ g. has (varOf (g .lhs)) (leftVars (c .gates)) ≡ true) (length (c .gates)) (leaves c) (c .gates) (own-left (c .gates)))
       v (has-at ls j long) in
-      let p = has-place (λ i. varOf (at i .lhs)) a v (ap (has v) (sym (ap lefts its ∙ heads-firsts gateLine at a)) ∙ listed) in (
+      let p = has-place (λ i. varOf (at i .lhs)) a v (ap (has v) (sym (ap leftVars its ∙ heads-firsts gateLine at a)) ∙ listed) in (
         p .0,
         p .1,
         ap (λ (u : ℕ). index u ls) (p .2) ∙ index-at ls (distinct-right (leaves c) ls (numbered-distinct c ok)) j long,

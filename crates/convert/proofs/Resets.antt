@@ -5,7 +5,7 @@ use mathlib.Core.Bool.{true, false≢true}
 use mathlib.Core.List.{List, [], _∷_, map}
 use native.Mathlib.Omega.{arith}
 use Rattle.plan.specs.Literals.{varOf, isReset}
-use Rattle.plan.specs.Circuit.{Latch, latchLine, currents, has, inside, allInside, resetsOk}
+use Rattle.plan.specs.Circuit.{Latch, latchLine, currentVars, has, inside, allInside, resetsOk}
 use Rattle.laws.proofs.Ranges.{first-var}
 use Rattle.laws.proofs.Reading.Common.{and-left, and-right, and-intro}
 use Rattle.laws.proofs.Reading.Members.{has-self, has-later}
@@ -24,7 +24,7 @@ resets-up m (l ∷ ls) (r ∷ rs) i h =
       resets-up m ls rs (and-right (inside true m (latchLine l)) _ i) (and-right (isReset (l .current) r) _ h),
     )
 
-pub resets-in : (ds : List ℕ) → has 0 ds ≡ true → (ls : List Latch) (rs : List ℕ) → ((v : ℕ) → has v (currents ls) ≡ true → has v ds ≡ true)
+pub resets-in : (ds : List ℕ) → has 0 ds ≡ true → (ls : List Latch) (rs : List ℕ) → ((v : ℕ) → has v (currentVars ls) ≡ true → has v ds ≡ true)
     → resetsOk ls rs ≡ true → allIn rs ds ≡ true
 resets-in ds z [] [] f h = refl
 resets-in ds z [] (r ∷ rs) f h = absurd (false≢true h)
@@ -32,5 +32,5 @@ resets-in ds z (l ∷ ls) [] f h = absurd (false≢true h)
 resets-in ds z (l ∷ ls) (r ∷ rs) f h =
     and-intro (has (varOf r) ds) (allIn rs ds)
     (by-reset (l .current) r (λ (y : ℕ). has (varOf y) ds ≡ true) (and-left (isReset (l .current) r) _ h) z z
-    (f (varOf (l .current)) (has-self (varOf (l .current)) (currents ls))))
-    (resets-in ds z ls rs (λ v k. f v (has-later v (varOf (l .current)) (currents ls) k)) (and-right (isReset (l .current) r) _ h))
+    (f (varOf (l .current)) (has-self (varOf (l .current)) (currentVars ls))))
+    (resets-in ds z ls rs (λ v k. f v (has-later v (varOf (l .current)) (currentVars ls) k)) (and-right (isReset (l .current) r) _ h))

@@ -5,8 +5,8 @@ use mathlib.Core.List.{List, _++_, map}
 use native.Mathlib.Omega.{arith}
 use lib.ListN.{length, getD, take, drop}
 use Rattle.plan.specs.Literals.{varOf}
-use Rattle.plan.specs.Circuit.{Gate, Circuit, gateLine, flat, lefts}
-use Rattle.plan.specs.Convert.{leaves, sorted, numbered, renumber, gateFor, convert}
+use Rattle.plan.specs.Circuit.{Gate, Circuit, gateLine, flat, leftVars, leaves}
+use Rattle.plan.specs.Convert.{sorted, numbered, renumber, gateFor, convert}
 use Rattle.plan.specs.Outcome.{put}
 use Rattle.laws.proofs.Put.{put-length}
 use Rattle.laws.proofs.Tables.{gateAt, gatesAt}
@@ -34,7 +34,7 @@ module _ (c : Circuit) (ok : Accepted c) (m : ℕ) (few : inner c + length (c .g
   number-at i h =
       let v = varOf (gateAt gates i .lhs) in
       number-by c ok m few t long tab v (omega (arith, range i h .0))
-      (has-right v (leaves c) (lefts (c .gates)) (left-has c ok (gateAt gates) a its i h))
+      (has-right v (leaves c) (leftVars (c .gates)) (left-has c ok (gateAt gates) a its i h))
       ∙ (number-is c ok (gateAt gates) a its i h ∙ ap (λ (k : ℕ). k + place i) (length-leaves c))
 
   row-at : (i : ℕ) → i < a → rowOf t (inner c) (gateAt gates i) ≡ place i
@@ -61,8 +61,8 @@ module _ (c : Circuit) (ok : Accepted c) (m : ℕ) (few : inner c + length (c .g
   gate-by i h d =
       let g = gateAt gates i in
       let within = range i h in
-      let sides = at-each c ok (gateAt gates) a its (Sides (leaves c ++ lefts (c .gates)))
-      (sides-in (leaves c ++ lefts (c .gates)) (c .gates) (ok .used-gate)) i h in
+      let sides = at-each c ok (gateAt gates) a its (Sides (leaves c ++ leftVars (c .gates)))
+      (sides-in (leaves c ++ leftVars (c .gates)) (c .gates) (ok .used-gate)) i h in
       let there = gate-there c ok (gateAt gates) a its i h d in
       let first = literal-by c ok m few t long tab (g .rhs0) (omega (arith, within .1)) (sides .0) in
       let second = literal-by c ok m few t long tab (g .rhs1) (omega (arith, within .2)) (sides .1) in

@@ -8,11 +8,10 @@ use lib.ListN.{length, getD, take}
 use lib.Seq.{getD-take, length-take-le}
 use Rattle.plan.specs.declared.Counts.{Counts}
 use Rattle.plan.specs.Literals.{litOf, varOf, signOf, signed}
-use Rattle.plan.specs.Circuit.{Gate, Latch, Circuit, Tables, gateLine, flat, nexts, observed, vars, has}
+use Rattle.plan.specs.Circuit.{Gate, Latch, Circuit, Tables, gateLine, flat, nexts, observed, vars, has, leaves}
 use Rattle.plan.specs.Reading.{WellFormed}
 use Rattle.plan.specs.Binary.{litsFrom, binaryOrder}
-use Rattle.plan.specs.Convert.{leaves}
-use Rattle.plan.specs.Given.{Given, given}
+use Rattle.plan.specs.Given.{Given, givenCircuit}
 use Rattle.plan.specs.Reduce.{Reduced, becomes}
 use Rattle.plan.specs.Outcome.{put}
 use Rattle.plan.specs.Walk.{walk}
@@ -86,7 +85,7 @@ module _ (g : Given) (to : Tables) (ready : Ready g to) where
   n = g .counts
 
   abbrev c : Circuit
-  c = given g
+  c = givenCircuit g
 
   w : WellFormed c
   w = ready .good .formed

@@ -8,10 +8,10 @@ use native.Mathlib.Omega.{arith}
 use lib.ListN.{length, getD, length-append, List·getD-append}
 use lib.Seq.{append-snoc, getD-append-seam}
 use Rattle.plan.specs.Literals.{litOf, varOf, signOf, signed}
-use Rattle.plan.specs.Circuit.{Gate, Latch, Circuit, lefts, nexts, has}
+use Rattle.plan.specs.Circuit.{Gate, Latch, Circuit, leftVars, nexts, has, leaves, index}
 use Rattle.plan.specs.Reading.{WellFormed}
 use Rattle.plan.specs.Binary.{litsFrom, binaryOrder}
-use Rattle.plan.specs.Convert.{leaves, index, renumber, gateFor, renumberGates}
+use Rattle.plan.specs.Convert.{renumber, gateFor, renumberGates}
 use Rattle.plan.specs.Reduce.{Reduced, becomes, retain, latchBecomes}
 use Rattle.laws.proofs.Reading.Common.{and-left, and-right}
 use Rattle.laws.proofs.Reading.Members.{has-cases, distinct}
@@ -87,7 +87,7 @@ module _ (o p : List ℕ) (n : ℕ) (r : Reduced) (g : Gate) (lhs : varOf (g .lh
 
 -- all gates
 numbers-all : (vs o p : List ℕ) (n : ℕ) (r : Reduced) (gs : List Gate) → Binary n gs → Readied p (gatesOf vs gs)
-    → distinct (p ++ lefts (gatesOf vs gs)) ≡ true → o ≡ p ++ lefts (gatesOf vs gs) → Numbers o p n r
+    → distinct (p ++ leftVars (gatesOf vs gs)) ≡ true → o ≡ p ++ leftVars (gatesOf vs gs) → Numbers o p n r
     → Numbered o p r (retainGates vs r gs) (gatesOf vs gs)
 numbers-all vs o p n r [] b y d e k = record {
   retained = sym (append-nil (r .retained));
@@ -103,17 +103,17 @@ numbers-all vs o p n r (g ∷ gs) b y d e k =
     next t = retain r (becomes (r .became) (g .rhs0)) (becomes (r .became) (g .rhs1)) (dropped t)
 
     go : (t : Bool) → has (varOf (g .lhs)) vs ≡ t → Readied p (cond t (g ∷ gatesOf vs gs) (gatesOf vs gs))
-        → distinct (p ++ lefts (cond t (g ∷ gatesOf vs gs) (gatesOf vs gs))) ≡ true
-        → o ≡ p ++ lefts (cond t (g ∷ gatesOf vs gs) (gatesOf vs gs))
-        → ((q : List ℕ) (r′ : Reduced) → Readied q (gatesOf vs gs) → distinct (q ++ lefts (gatesOf vs gs)) ≡ true
-        → o ≡ q ++ lefts (gatesOf vs gs) → Numbers o q (suc n) r′ → Numbered o q r′ (retainGates vs r′ gs) (gatesOf vs gs))
+        → distinct (p ++ leftVars (cond t (g ∷ gatesOf vs gs) (gatesOf vs gs))) ≡ true
+        → o ≡ p ++ leftVars (cond t (g ∷ gatesOf vs gs) (gatesOf vs gs))
+        → ((q : List ℕ) (r′ : Reduced) → Readied q (gatesOf vs gs) → distinct (q ++ leftVars (gatesOf vs gs)) ≡ true
+        → o ≡ q ++ leftVars (gatesOf vs gs) → Numbers o q (suc n) r′ → Numbered o q r′ (retainGates vs r′ gs) (gatesOf vs gs))
         → Numbered o p r (retainGates vs (next t) gs) (cond t (g ∷ gatesOf vs gs) (gatesOf vs gs))
     go false t y d e ih =
         let rest = ih p (next false) y d e (drop-one o p n r g lhs k (becomes (r .became) (g .rhs0)) (becomes (r .became) (g .rhs1))) in
         record { retained = rest .retained; all-known = rest .all-known }
     go true t y d e ih =
         let x = varOf (g .lhs) in
-        let snoc = append-snoc p x (lefts (gatesOf vs gs)) in
+        let snoc = append-snoc p x (leftVars (gatesOf vs gs)) in
         let at : index n o ≡ length p = ap (λ (u : ℕ). index u o) (sym lhs) ∙ here-first o p g (gatesOf vs gs) d e in
         let a = becomes-number o (r .became) (g .rhs0) (k .known (varOf (g .rhs0))
         (and-left (has (varOf (g .rhs0)) p) (has (varOf (g .rhs1)) p) (y .0))) in

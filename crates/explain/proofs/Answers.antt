@@ -18,7 +18,7 @@ use Rattle.plan.specs.Refusals.{stage, firstOf}
 use Rattle.plan.specs.Circuit.{cleared}
 use Rattle.plan.specs.Given.{orElse, failingAt, roomStage}
 use Rattle.plan.specs.Step.{Value, v0, v1, vx, same}
-use Rattle.plan.specs.Outcome.{put, allCodes, vector, checkInOrder}
+use Rattle.plan.specs.Outcome.{put, allCodes, checkInOrder}
 use Rattle.laws.proofs.Reading.Common.{and-left}
 use Rattle.laws.proofs.Writing.Nothing.{some-none}
 use Rattle.step.proofs.codes.Places.{codesIn, firstBad}
@@ -81,19 +81,19 @@ module _ (e : ExplainEntry) where
           (only-room true (le-leb (0 + length (marksAsked e)) (length (e .marks)) (omega arith))))
 
 -- 12, judged with outputs of the right length
-two-of : (s i o : Bool) → o ≡ true → firstBad s i o ≡ orElse (vector 1 s) (vector 2 i)
-two-of true true o q = ap (vector 3) q
+two-of : (s i o : Bool) → o ≡ true → firstBad s i o ≡ orElse (failingAt 1 s) (failingAt 2 i)
+two-of true true o q = ap (failingAt 3) q
 two-of true false o q = refl
 two-of false i o q = refl
 
-both-good : (s i : Bool) → orElse (vector 1 s) (vector 2 i) ≡ none → (s ≡ true) × (i ≡ true)
+both-good : (s i : Bool) → orElse (failingAt 1 s) (failingAt 2 i) ≡ none → (s ≡ true) × (i ≡ true)
 both-good true true e = (refl, refl)
 both-good true false e = some-none 2 e
 both-good false i e = some-none 1 e
 
 module _ (e : ExplainEntry) where
   abbrev pub bad : Option ℕ
-  bad = let n = e .circuit .counts in orElse (vector 1 (codesIn (e .state) (n .L))) (vector 2 (codesIn (e .inputs) (n .I)))
+  bad = let n = e .circuit .counts in orElse (failingAt 1 (codesIn (e .state) (n .L))) (failingAt 2 (codesIn (e .inputs) (n .I)))
 
   pub bad-is : let n = e .circuit .counts in
       firstBad (codesIn (e .state) (n .L)) (codesIn (e .inputs) (n .I)) (eqb (n .O) (n .O)) ≡ bad

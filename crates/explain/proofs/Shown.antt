@@ -8,7 +8,7 @@ use lib.ListN.{length, getD, take}
 use lib.Seq.{drop-cons}
 use Rattle.plan.specs.declared.Counts.{Counts}
 use Rattle.plan.specs.Literals.{varOf}
-use Rattle.plan.specs.Circuit.{Gate, Circuit, Tables, circuitOf, vars, currents, nexts, has}
+use Rattle.plan.specs.Circuit.{Gate, Circuit, Tables, circuitOf, vars, currentVars, nexts, has}
 use Rattle.plan.specs.Step.{Value, codeOf, valuesOf}
 use Rattle.laws.proofs.Reading.Runs.{upFrom, vars-lits, currents-latches, length-nexts, BinaryOrder}
 use Rattle.laws.proofs.Tables.{gatesAt, gates-rows}
@@ -33,9 +33,9 @@ part-shown vs t m n long marks (suc k) first at e h =
     (part-shown vs t m n long marks k (suc first) (suc at) (omega arith) (omega arith))
 
 module _ (c : Circuit) (b : BinaryOrder c) where
-  latches-up : currents (c .latches) ≡ upFrom (1 + length (c .inputs)) (length (c .latches))
+  latches-up : currentVars (c .latches) ≡ upFrom (1 + length (c .inputs)) (length (c .latches))
   latches-up =
-      ap currents (b .latches) ∙ currents-latches (1 + length (c .inputs)) (nexts (c .latches))
+      ap currentVars (b .latches) ∙ currents-latches (1 + length (c .inputs)) (nexts (c .latches))
       ∙ ap (upFrom (1 + length (c .inputs))) (length-nexts (c .latches))
 
   inputs-up : vars (c .inputs) ≡ upFrom 1 (length (c .inputs))
@@ -52,7 +52,7 @@ module _ (c : Circuit) (b : BinaryOrder c) where
       (part-shown vs t m n (room .long) (k .marks) (length (c .latches)) (1 + length (c .inputs)) (m + (1 + length (c .inputs))) refl (omega arith)
       ∙ ap (map (mark vs)) (sym latches-up))
       (part-shown vs t m n (room .long) (k .marks) (length (c .inputs)) 1 (m + 1) refl (omega arith) ∙ ap (map (mark vs)) (sym inputs-up))
-      ∙ sym (map-append (mark vs) (currents (c .latches)) (vars (c .inputs)))
+      ∙ sym (map-append (mark vs) (currentVars (c .latches)) (vars (c .inputs)))
 
 -- of the circuit in tables
 pub blamed-is : (n : Counts) (x : Tables) (s i : List Value) (l : ℕ)

@@ -13,7 +13,7 @@ use Rattle.plan.specs.declared.Checked.the-variants as checked
 use Rattle.plan.specs.declared.Refusal.the-variants.{LargeCount, WrongSum, ShortTable, OutOfRange, DefinedTwice, NotDefined, Cyclic}
 use Rattle.plan.specs.Refusals.{stage, firstOf}
 use Rattle.plan.specs.Literals.{most}
-use Rattle.plan.specs.Circuit.{Tables, Lent, circuitOf, definedIn, short, cleared}
+use Rattle.plan.specs.Circuit.{Tables, Lent, circuitOf, definedIn, leastShort, cleared}
 use Rattle.plan.specs.Header.{text, listOf, over, adds}
 use Rattle.plan.specs.Depends.{undefinedIn, cyclicIn}
 use Rattle.plan.specs.Binary.{binaryOrder}
@@ -169,7 +169,7 @@ module _ (n : Counts) (t : Tables) (scratch : List ℕ) (to : Sizes)
   adding = failing-none (adds text n) (stage-none WrongSum (failing (adds text n)) (first-all (lentStages n lengths) e .1 .0))
 
   long : AllLong lent
-  long = short-none lent .0 (stage-none ShortTable (short lent) (first-all (lentStages n lengths) e .1 .1 .0))
+  long = short-none lent .0 (stage-none ShortTable (leastShort lent) (first-all (lentStages n lengths) e .1 .1 .0))
 
   pub fits : Fits n (t .inputs) (t .latches) (t .outputs) (t .gates) (t .resets) (t .bads) (t .constraints)
   fits = record {

@@ -6,7 +6,7 @@ use mathlib.Core.List.{List, [], _∷_, _++_}
 use native.Mathlib.Omega.{arith}
 use native.Mathlib.Decide.{decLe}
 use lib.ListN.{length}
-use Rattle.plan.specs.Circuit.{Tables, Lent, against, short, wordsToWork, lengthsOf}
+use Rattle.plan.specs.Circuit.{Tables, Lent, against, leastShort, wordsToWork, lengthsOf}
 use Rattle.plan.specs.Given.{Given, lentAlone, lentWith}
 use Rattle.laws.proofs.Reading.Short.{ShortIn, same-short}
 use Rattle.tables.specs.declared.Sizes.{Sizes}
@@ -72,7 +72,7 @@ module _ (k : ℕ) where
   second-lesser t (n ∷ needs) (x ∷ a) (y ∷ b) l (inr h) = inr (second-lesser (t + 1) needs a b (omega (arith, l)) h)
 
 short-both : (t : ℕ) (needs a b : List ℕ) → length a ≡ length b
-    → short (against t needs (lesserOf a b)) ≡ short (against t needs a ++ against t needs b)
+    → leastShort (against t needs (lesserOf a b)) ≡ leastShort (against t needs a ++ against t needs b)
 short-both t needs a b l =
     same-short (against t needs (lesserOf a b)) (against t needs a ++ against t needs b)
     (λ k h. ⊎-elim (in-left k (against t needs a) (against t needs b)) (in-right k (against t needs a) (against t needs b))
@@ -81,12 +81,12 @@ short-both t needs a b l =
     (in-either k (against t needs a) (against t needs b) h))
 
 -- with written tables of these sizes
-pub short-with : (g : Given) (to : Sizes) (t : Tables) → to ≡ sizesOf t → short (lentShorter g to) ≡ short (lentWith g t)
+pub short-with : (g : Given) (to : Sizes) (t : Tables) → to ≡ sizesOf t → leastShort (lentShorter g to) ≡ leastShort (lentWith g t)
 short-with g to t e =
     let own = g .tables in
     let once : length (g .scratch) ≡ min (length (g .scratch)) (length (g .scratch)) = omega arith in
-    ap (λ (x : Sizes). short (lentShorter g x)) e
-    ∙ (ap (λ (n : ℕ). short (against 1 (wordsToWork (g .counts))
+    ap (λ (x : Sizes). leastShort (lentShorter g x)) e
+    ∙ (ap (λ (n : ℕ). leastShort (against 1 (wordsToWork (g .counts))
     (min (length (own .inputs)) (length (t .inputs)) ∷ min (length (own .latches)) (length (t .latches))
     ∷ min (length (own .outputs)) (length (t .outputs)) ∷ min (length (own .gates)) (length (t .gates)) ∷ n ∷ 0
     ∷ min (length (own .resets)) (length (t .resets)) ∷ min (length (own .bads)) (length (t .bads))
@@ -94,7 +94,7 @@ short-with g to t e =
     ∙ short-both 1 (wordsToWork (g .counts)) (lengthsOf own (g .scratch)) (lengthsOf t (g .scratch)) (omega arith))
 
 -- given tables alone
-pub short-alone : (g : Given) → short (lentWith g (g .tables)) ≡ short (lentAlone g)
+pub short-alone : (g : Given) → leastShort (lentWith g (g .tables)) ≡ leastShort (lentAlone g)
 short-alone g =
     same-short (lentWith g (g .tables)) (lentAlone g)
     (λ k h. ⊎-elim (λ q. q) (λ q. q) (in-either k (lentAlone g) (lentAlone g) h))

@@ -15,7 +15,7 @@ use Rattle.plan.specs.Refusals.{firstOf}
 use Rattle.plan.specs.Circuit.{Tables, Lent, countsOf, circuitOf, lengthsOf, wordsToWork, against}
 use Rattle.plan.specs.Binary.{binaryOrder}
 use Rattle.plan.specs.Reading.{WellFormed}
-use Rattle.plan.specs.Given.{Given, given, failing, lentAlone, lentWith, stages, orderStage}
+use Rattle.plan.specs.Given.{Given, givenCircuit, failing, lentAlone, lentWith, stages, orderStage}
 use Rattle.plan.specs.Outcome.{checkedBy}
 use Rattle.laws.proofs.Reading.Short.{AllLong, first-long, last-long, short-none}
 use Rattle.laws.proofs.Writing.Nothing.{stage-none, failing-none, first-all, first-both}
@@ -48,13 +48,13 @@ pub record Good (ordered : Bool) (g : Given) : Type 0 where
   pub fits : let t = g .tables in
       Fits (g .counts) (t .inputs) (t .latches) (t .outputs) (t .gates) (t .resets) (t .bads) (t .constraints)
   pub scratch : Scratch (g .counts) (g .scratch)
-  pub counts : countsOf (given g) ≡ g .counts
-  pub formed : WellFormed (given g)
-  pub order : ordered ≡ true → binaryOrder (given g) ≡ true
+  pub counts : countsOf (givenCircuit g) ≡ g .counts
+  pub formed : WellFormed (givenCircuit g)
+  pub order : ordered ≡ true → binaryOrder (givenCircuit g) ≡ true
 
-order-stage : (ordered : Bool) (g : Given) → firstOf (thenOrder ordered g) ≡ none → ordered ≡ true → binaryOrder (given g) ≡ true
+order-stage : (ordered : Bool) (g : Given) → firstOf (thenOrder ordered g) ≡ none → ordered ≡ true → binaryOrder (givenCircuit g) ≡ true
 order-stage true g e o =
-    failing-none (binaryOrder (given g)) (stage-none NotInOrder (failing (binaryOrder (given g))) (first-all (orderStage g ∷ []) e .0))
+    failing-none (binaryOrder (givenCircuit g)) (stage-none NotInOrder (failing (binaryOrder (givenCircuit g))) (first-all (orderStage g ∷ []) e .0))
 order-stage false g e o = let z : _≡_ {A = ℕ} 0 1 = cc in absurd (omega arith)
 
 module _ (ordered : Bool) (g : Given) (lent : List Lent) (e : firstOf (allStages ordered g lent) ≡ none) where

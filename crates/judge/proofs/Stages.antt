@@ -8,7 +8,7 @@ use Rattle.plan.specs.declared.Counts.{Counts}
 use Rattle.plan.specs.declared.Refusal.{Refusal}
 use Rattle.plan.specs.declared.Refusal.the-variants.{LargeCount, WrongSum, ShortTable}
 use Rattle.plan.specs.Refusals.{stage, firstOf}
-use Rattle.plan.specs.Circuit.{Tables, Lent, against, short, wordsToWork, cleared}
+use Rattle.plan.specs.Circuit.{Tables, Lent, against, leastShort, wordsToWork, cleared}
 use Rattle.plan.specs.Header.{text, listOf, over, adds}
 use Rattle.plan.specs.Given.{Given, counted, failing, lentAlone, lentWith}
 use Rattle.plan.specs.Outcome.{checkedBy, checkBy}
@@ -27,10 +27,10 @@ module _ (n : Counts) (lengths : List ℕ) where
     at-three e = rw (e2, e)
 
     module _ (e3 : adds text n ≡ true) where
-      pub at-four : (k : ℕ) → short (against 1 (wordsToWork n) lengths) ≡ some k → firstOf (lentStages n lengths) ≡ some (ShortTable k)
+      pub at-four : (k : ℕ) → leastShort (against 1 (wordsToWork n) lengths) ≡ some k → firstOf (lentStages n lengths) ≡ some (ShortTable k)
       at-four k e = rw (e2, e3, e)
 
-      pub past-four : short (against 1 (wordsToWork n) lengths) ≡ none → firstOf (lentStages n lengths) ≡ none
+      pub past-four : leastShort (against 1 (wordsToWork n) lengths) ≡ none → firstOf (lentStages n lengths) ≡ none
       past-four e = rw (e2, e3, e)
 
 -- then the circuit
@@ -51,10 +51,10 @@ module _ (ordered : Bool) (n : Counts) (t : Tables) (scratch lengths : List ℕ)
     where
       go : (ordered : Bool) → firstOf (allStages ordered (givenAt n t scratch) lent) ≡ firstOf (o ∷ circuitStages ordered n t)
       go true =
-          after (stage LargeCount (over (counted 1 (listOf n)))) (stage WrongSum (failing (adds text n))) (stage ShortTable (short lent))
+          after (stage LargeCount (over (counted 1 (listOf n)))) (stage WrongSum (failing (adds text n))) (stage ShortTable (leastShort lent))
           (circuitStages true n t) o e
       go false =
-          after (stage LargeCount (over (counted 1 (listOf n)))) (stage WrongSum (failing (adds text n))) (stage ShortTable (short lent))
+          after (stage LargeCount (over (counted 1 (listOf n)))) (stage WrongSum (failing (adds text n))) (stage ShortTable (leastShort lent))
           (circuitStages false n t) o e
 
   pub lent-refuses : (r : Refusal) → firstOf (lentStages n lengths) ≡ some r → firstOf (allStages ordered (givenAt n t scratch) lent) ≡ some r
@@ -66,7 +66,7 @@ module _ (ordered : Bool) (n : Counts) (t : Tables) (scratch lengths : List ℕ)
 
 module _ (ordered : Bool) (g : Given) (lent : List Lent) where
   -- of the lent tables the stages know the least short one alone
-  pub by-short : (lent′ : List Lent) → short lent ≡ short lent′ → firstOf (allStages ordered g lent) ≡ firstOf (allStages ordered g lent′)
+  pub by-short : (lent′ : List Lent) → leastShort lent ≡ leastShort lent′ → firstOf (allStages ordered g lent) ≡ firstOf (allStages ordered g lent′)
   by-short lent′ e = rw e
 
 -- of written tables the stages know the sizes alone

@@ -11,7 +11,7 @@ use Rattle.plan.specs.declared.Checked.the-variants.{Good, Refused}
 use Rattle.plan.specs.declared.Refusal.{Refusal}
 use Rattle.plan.specs.declared.Refusal.the-variants.{LargeCount, WrongSum, ShortTable, NotInOrder}
 use Rattle.plan.specs.Refusals.{stage}
-use Rattle.plan.specs.Circuit.{Tables, Lent, against, short, wordsToWork}
+use Rattle.plan.specs.Circuit.{Tables, Lent, against, leastShort, wordsToWork}
 use Rattle.plan.specs.Header.{text, listOf, over, adds}
 use Rattle.plan.specs.Given.{Given, counted, failing, stages, orderStage}
 use Rattle.tables.specs.declared.Sizes.{Sizes}
@@ -26,7 +26,7 @@ abbrev pub lentStages : Counts → List ℕ → List (Option Refusal)
 lentStages n lengths =
     stage LargeCount (over (counted 1 (listOf n)))
     ∷ stage WrongSum (failing (adds text n))
-    ∷ stage ShortTable (short (against 1 (wordsToWork n) lengths))
+    ∷ stage ShortTable (leastShort (against 1 (wordsToWork n) lengths))
     ∷ []
 
 -- 15 for the callers that ask it

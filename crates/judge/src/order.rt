@@ -9,9 +9,8 @@ ghost use Prim.Native.Nat.{ℕ, _+_, _*_, _<_, _≤_};
 ghost use lib.ListN.{length, getD, take};
 ghost use Rattle.plan.specs.declared.Refusal.the-variants.{Cyclic};
 ghost use Rattle.plan.specs.Refusals.{stage};
-ghost use Rattle.plan.specs.Circuit.{Circuit, gateOf, rowsOf, lefts, rights};
+ghost use Rattle.plan.specs.Circuit.{Circuit, gateOf, rowsOf, leftVars, rights, leaves};
 ghost use Rattle.plan.specs.Depends.{cyclicIn};
-ghost use Rattle.plan.specs.Convert.{leaves};
 ghost use Rattle.plan.specs.Outcome.{checkedBy};
 ghost use Rattle.laws.proofs.Reading.Members.{distinct};
 ghost use Rattle.laws.proofs.Running.Lists.{allIn};
@@ -33,7 +32,7 @@ fn number(gates: &[u32], t: &mut [u32], first: u32, n: usize, a: usize) -> usize
         × Blank (now t) n × Known (now gates) (now t) n a ⌝ }
     ensures { λ r. ⌜ r ≡ counted (now (gates .entry)) (now (t .exit)) a ⌝ }
     ensures { λ r. ⌜ ((lv : List ℕ) → NumTable lv (take n (now (t .entry))) → getD lv 0 1 ≡ 0 → length lv ≡ first
-        → NumTable (lv ++ lefts (scanned (map gateOf (rowsOf 3 a (now (gates .entry)))) a lv))
+        → NumTable (lv ++ leftVars (scanned (map gateOf (rowsOf 3 a (now (gates .entry)))) a lv))
         (take n (now (t .exit)))) ⌝ }
 {
     words::name_all(gates, t, n, a);
@@ -64,11 +63,11 @@ pub fn cycle(gates: &[u32], t: &mut [u32], first: u32, n: usize, a: usize) -> Ch
     requires { ⌜ Room (now gates) (now t) n a × (0 < first) × (first + a < 2147483648) × Fresh (now t) n
         × Blank (now t) n × Known (now gates) (now t) n a ⌝ }
     ensures { λ r. ⌜ ((c : Circuit) → c .gates ≡ map gateOf (rowsOf 3 a (now (gates .entry)))
-        → distinct (leaves c ++ lefts (c .gates)) ≡ true → allIn (rights (c .gates)) (leaves c ++ lefts (c .gates))
+        → distinct (leaves c ++ leftVars (c .gates)) ≡ true → allIn (rights (c .gates)) (leaves c ++ leftVars (c .gates))
         ≡ true → NumTable (leaves c) (take n (now (t .entry))) → length (leaves c) ≡ first → r
         ≡ checkedBy (stage Cyclic (cyclicIn c))) ⌝ }
     ensures { λ r. ⌜ ((lv : List ℕ) → NumTable lv (take n (now (t .entry))) → getD lv 0 1 ≡ 0 → length lv ≡ first
-        → NumTable (lv ++ lefts (scanned (map gateOf (rowsOf 3 a (now (gates .entry)))) a lv))
+        → NumTable (lv ++ leftVars (scanned (map gateOf (rowsOf 3 a (now (gates .entry)))) a lv))
         (take n (now (t .exit)))) ⌝ }
 {
     if number(gates, t, first, n, a) == a {

@@ -13,7 +13,7 @@ use Rattle.plan.specs.Binary.{binaryOf}
 use Rattle.plan.specs.Reading.{readFile}
 use Rattle.plan.specs.Convert.{convert}
 use Rattle.plan.specs.Reduce.{reduce}
-use Rattle.plan.specs.Step.{codeOf, valueOf, outputsOf, first}
+use Rattle.plan.specs.Step.{codeOf, valueOf, outputsOf, firstState}
 use Rattle.plan.specs.Programs.{bytesOf, lentWords, printed, tracer}
 
 -- what is asked of some bytes: the number of a difference; whether a file is accepted; its conversion; its reduction; the outputs
@@ -26,7 +26,7 @@ abbrev circuit : Version → List ℕ → (Circuit → List ℕ) → List ℕ
 circuit v file f = printed (readFile v file lentWords then λ c start. got (f c) start)
 
 abbrev outputs : List ℕ → Circuit → List ℕ
-outputs ins c = map codeOf (outputsOf c (first c) (map valueOf ins))
+outputs ins c = map codeOf (outputsOf c (firstState c) (map valueOf ins))
 
 -- the answer, in bytes, by a version of the report; a refusal is the programs' line
 abbrev pub answer : Version → Asked → List ℕ → List ℕ

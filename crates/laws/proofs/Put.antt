@@ -11,7 +11,7 @@ use lib.ListN.{length, getD, take, drop, set, length-append, length-drop, take-a
 use lib.Seq.{length-take-le, take-suc, take-at, append-snoc, set-at, set-split, drop-at, drop-append-add, drop-drop}
 use Rattle.plan.specs.declared.Refusal.the-variants.{ShortBuffer}
 use Rattle.plan.specs.declared.Written.the-variants.{Bytes, Refused}
-use Rattle.plan.specs.Given.{room}
+use Rattle.plan.specs.Given.{lackingRoom}
 use Rattle.plan.specs.Outcome.{WriteExit, put, putBy, putBytes}
 
 pub put-none : (l : List ℕ) (at : ℕ) → put l at [] ≡ l
@@ -86,11 +86,11 @@ module _ (l : List ℕ) (at : ℕ) (w : List ℕ) where
   pub with-room : (k : ℕ) (x : List ℕ) → at + length w ≤ length l → k ≡ length w → x ≡ put l at w
       → _≡_ {A = WriteExit} (record { answer = Bytes k; out = x }) (putBytes l at w)
   with-room k x h e p =
-      let enough : none ≡ room l at w = sym (rw (le-leb (at + length w) (length l) h)) in
+      let enough : none ≡ lackingRoom l at w = sym (rw (le-leb (at + length w) (length l) h)) in
       ap₂ (λ (k : ℕ) (x : List ℕ). record { answer = Bytes k; out = x }) e p ∙ ap (λ (o : Option ℕ). putBy o l at w) enough
 
   pub without-room : (k : ℕ) → length l < at + length w → k ≡ min (at + length w) (2 ^ 64 - 1)
       → _≡_ {A = WriteExit} (record { answer = Refused (ShortBuffer k); out = l }) (putBytes l at w)
   without-room k h e =
-      let short : some k ≡ room l at w = ap some e ∙ sym (rw (lt-leb (at + length w) (length l) h)) in
+      let short : some k ≡ lackingRoom l at w = ap some e ∙ sym (rw (lt-leb (at + length w) (length l) h)) in
       ap (λ (o : Option ℕ). putBy o l at w) short

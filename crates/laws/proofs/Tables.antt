@@ -8,7 +8,7 @@ use native.Mathlib.Omega.{arith}
 use lib.ListN.{length, getD, take, drop, length-append, length-drop}
 use lib.Seq.{getD-take, getD-drop, drop-drop, take-suc, length-take-le}
 use Rattle.plan.specs.Literals.{varOf}
-use Rattle.plan.specs.Circuit.{Gate, Latch, oneLine, latchLine, gateLine, literalOf, latchOf, gateOf, rowsOf, flat, heads, vars, currents, lefts}
+use Rattle.plan.specs.Circuit.{Gate, Latch, oneLine, latchLine, gateLine, literalOf, latchOf, gateOf, rowsOf, flat, heads, vars, currentVars, leftVars}
 use Rattle.laws.proofs.Reading.Rows.{Long, one-back, latch-back, gate-back}
 
 -- row i of k words
@@ -127,11 +127,11 @@ inputs-heads t n h =
     one-row : (i : ℕ) → varOf (getD t i 0) ≡ headAt t 1 i
     one-row i = let at : i ≡ 1 * i = omega arith in ap (λ (k : ℕ). varOf (getD t k 0)) at
 
-pub latches-heads : (t : List ℕ) (n : ℕ) → currents (map latchOf (rowsOf 2 n t)) ≡ headsAt t 2 n
-latches-heads t n = ap currents (latches-rows t n) ∙ heads-firsts latchLine (latchAt t) n
+pub latches-heads : (t : List ℕ) (n : ℕ) → currentVars (map latchOf (rowsOf 2 n t)) ≡ headsAt t 2 n
+latches-heads t n = ap currentVars (latches-rows t n) ∙ heads-firsts latchLine (latchAt t) n
 
-pub gates-heads : (t : List ℕ) (n : ℕ) → lefts (map gateOf (rowsOf 3 n t)) ≡ headsAt t 3 n
-gates-heads t n = ap lefts (gates-rows t n) ∙ heads-firsts gateLine (gateAt t) n
+pub gates-heads : (t : List ℕ) (n : ℕ) → leftVars (map gateOf (rowsOf 3 n t)) ≡ headsAt t 3 n
+gates-heads t n = ap leftVars (gates-rows t n) ∙ heads-firsts gateLine (gateAt t) n
 
 -- row i of those that the table has room for ends in it, and the next row starts there
 pub row-ends : (stride n i : ℕ) (table : List ℕ) → stride * n ≤ length table → i < n → stride * i + stride ≤ length table

@@ -12,7 +12,7 @@ use Rattle.plan.specs.declared.Written.the-variants as written
 use Rattle.plan.specs.declared.Made.the-variants as made
 use Rattle.plan.specs.declared.Stepped.the-variants as stepped
 use Rattle.plan.specs.Circuit.{Circuit, Tables, countsOf, holding, allCleared, cleared}
-use Rattle.plan.specs.Given.{Given, given}
+use Rattle.plan.specs.Given.{Given, givenCircuit}
 use Rattle.plan.specs.Text.{textOf}
 use Rattle.plan.specs.Outcome.{Says, ReadEntry, LoadExit, load, MakeEntry, MakeExit, conversion, reduction, StepEntry, StepExit, step, FileEntry}
 use Rattle.plan.specs.Outcome.{FileExit, writeText, put}
@@ -64,7 +64,7 @@ pub always-empty-is-wrong : ¬ Says conversion making (made-of nothing making)
 always-empty-is-wrong e = let p = ap (λ (x : MakeExit). x .written .outputs) e in let z : _≡_ {A = ℕ} 0 5 = cc in omega arith
 
 -- a reducer that copies
-pub copying-is-wrong : ¬ Says reduction making (made-of (given halves) making)
+pub copying-is-wrong : ¬ Says reduction making (made-of (givenCircuit halves) making)
 copying-is-wrong e = let p = ap (λ (x : MakeExit). x .written .outputs) e in let z : _≡_ {A = ℕ} 5 1 = cc in omega arith
 
 -- a stepper that works once and then repeats itself: what it gave for the first state it gives for the next
@@ -92,7 +92,7 @@ writing = record { circuit = halves; tail = []; out = words 40 }
 
 abbrev invents : ℕ → FileEntry → FileExit
 invents more e =
-    let bytes = textOf (given (e .circuit)) ++ e .tail in
+    let bytes = textOf (givenCircuit (e .circuit)) ++ e .tail in
     record { answer = written.Bytes (length bytes + more); scratch = cleared (e .circuit .scratch); out = put (e .out) 0 bytes }
 
 bytes-same : (m n : ℕ) → _≡_ {A = Written} (written.Bytes m) (written.Bytes n) → m ≡ n

@@ -8,7 +8,7 @@ ghost use Rattle.plan.specs.Literals.{most, litOf};
 ghost use Rattle.plan.specs.Refusals.{got};
 ghost use Rattle.plan.specs.Circuit.{latchLine};
 ghost use Rattle.plan.specs.Header.{moreResets};
-ghost use Rattle.plan.specs.Bytes.{Placed, numbers, values, latchLines, resetAfter};
+ghost use Rattle.plan.specs.Bytes.{Placed, numbers, values, latchLines, resetAfter, latchForm};
 ghost use Rattle.plan.specs.Outcome.{passedBy, put};
 ghost use Rattle.laws.proofs.Marks.{Agrees};
 ghost use Rattle.laws.proofs.Reading.Cut.{cut};
@@ -158,7 +158,7 @@ pub fn read_latches(
     requires { ⌜ MarksFor defines m (now marks) ⌝ }
     ensures { λ r. ⌜ ((seen : List ℕ) → Agrees m seen (now (marks .entry))
         → LatchesSay defines m first seen (now (table .entry)) (now (resets .entry))
-        (latchLines (now (file .entry)) (literals defines) defines m more n first seen at)
+        (latchLines (now (file .entry)) (latchForm (literals defines) defines more) m n first seen at)
         r (now (table .exit)) (now (resets .exit)) (now (marks .exit))) ⌝ }
 {
     let mut pos = at;

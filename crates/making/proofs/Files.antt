@@ -16,7 +16,7 @@ use Rattle.plan.specs.Refusals.{Parse, got, refused, _then_, unless}
 use Rattle.plan.specs.Circuit.{Circuit, Tables, lengthsOf, allCleared, cleared}
 use Rattle.plan.specs.Header.{Form, text, binary, Head, header}
 use Rattle.plan.specs.Binary.{binaryOf}
-use Rattle.plan.specs.Given.{Given, room}
+use Rattle.plan.specs.Given.{Given, lackingRoom}
 use Rattle.plan.specs.Convert.{convert}
 use Rattle.plan.specs.Programs.{input, otherForm}
 use Rattle.plan.specs.Outcome.{WriteExit, putBy, putBytes, isBinary, headedBy}
@@ -34,7 +34,7 @@ use Rattle.making.specs.Wholes.{madeFile}
 
 -- the bytes, or 11
 pub told-fitting : (out bytes : List ℕ) → putBytes out 0 bytes ≡ toldBy out (fittingIn out bytes)
-told-fitting out bytes = go (room out 0 bytes)
+told-fitting out bytes = go (lackingRoom out 0 bytes)
   where
     go : (o : Option ℕ) → putBy o out 0 bytes ≡ toldBy out (unless o ShortBuffer (got bytes (length bytes)))
     go none = refl

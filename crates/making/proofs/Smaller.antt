@@ -11,7 +11,7 @@ use Rattle.plan.specs.declared.Made.the-variants as made
 use Rattle.plan.specs.Refusals.{firstOf}
 use Rattle.plan.specs.Circuit.{Tables}
 use Rattle.plan.specs.Binary.{binaryOrder}
-use Rattle.plan.specs.Given.{Given, given, lentWith, stages, orderStage}
+use Rattle.plan.specs.Given.{Given, givenCircuit, lentWith, stages, orderStage}
 use Rattle.plan.specs.Reduce.{reduce}
 use Rattle.plan.specs.Drop.{dropUnused, dropping}
 use Rattle.plan.specs.Outcome.{MakeEntry, MakeExit, reduction}
@@ -25,15 +25,15 @@ use Rattle.whole.specs.Opening.{Ready}
 use Rattle.whole.proofs.Writes.{Passed, after, made-counts, made-ready, smaller, fine-is, counts-are, left-here, tail-here, long-here, smaller-long}
 use Rattle.whole.proofs.Writes.{scratch-kept}
 
-module _ (g : Given) (t : Tables) (tail : List ℕ) (ready : Ready g tail (sizesOf t)) (order : binaryOrder (given g) ≡ true) where
+module _ (g : Given) (t : Tables) (tail : List ℕ) (ready : Ready g tail (sizesOf t)) (order : binaryOrder (givenCircuit g) ≡ true) where
   abbrev e : MakeEntry
   e = record { circuit = g; written = t }
 
-  pub reduces : Passed (reduction (record { circuit = g; written = t })) (reduce (given g)) tail
+  pub reduces : Passed (reduction (record { circuit = g; written = t })) (reduce (givenCircuit g)) tail
   reduces = record {
-    took = reduction-accepted g (given g) (left-here g tail (sizesOf t) ready) t (long-here g tail (sizesOf t) ready) order;
+    took = reduction-accepted g (givenCircuit g) (left-here g tail (sizesOf t) ready) t (long-here g tail (sizesOf t) ready) order;
     lefts = reduction-left e;
-    tail-ok = tail-reduce V19 (given g) tail (tail-here g tail (sizesOf t) ready);
+    tail-ok = tail-reduce V19 (givenCircuit g) tail (tail-here g tail (sizesOf t) ready);
   }
 
   -- it stands ready to be freed of unused gates, back in the tables that the circuit stood in
@@ -41,20 +41,20 @@ module _ (g : Given) (t : Tables) (tail : List ℕ) (ready : Ready g tail (sizes
       → Ready (after n x) tail (sizesOf (g .tables))
   reduced-ready x said n a =
       let here = counts-are g tail (sizesOf t) ready in
-      let counts : n ≡ smaller (g .counts) (length (reduce (given g) .gates))
+      let counts : n ≡ smaller (g .counts) (length (reduce (givenCircuit g) .gates))
       = made-counts _ _ tail reduces x said n a
-      ∙ (counts-reduce (given g) ∙ ap (λ (m : Counts). smaller m (length (reduce (given g) .gates))) here) in
-      let few : length (reduce (given g) .gates) ≤ g .counts .A
-      = omega (arith, reduce-fewer (given g) (fine-is g tail (sizesOf t) ready .formed) order, ap (λ (m : Counts). m .A) here) in
+      ∙ (counts-reduce (givenCircuit g) ∙ ap (λ (m : Counts). smaller m (length (reduce (givenCircuit g) .gates))) here) in
+      let few : length (reduce (givenCircuit g) .gates) ≤ g .counts .A
+      = omega (arith, reduce-fewer (givenCircuit g) (fine-is g tail (sizesOf t) ready .formed) order, ap (λ (m : Counts). m .A) here) in
       let kept : length (x .scratch) ≡ length (g .scratch)
       = ap (λ (y : MakeExit). length (y .scratch)) said
-      ∙ scratch-kept (firstOf (stages g (lentWith g t) ++ (orderStage g ∷ []))) e (reduce (given g)) in
+      ∙ scratch-kept (firstOf (stages g (lentWith g t) ++ (orderStage g ∷ []))) e (reduce (givenCircuit g)) in
       made-ready _ _ tail reduces x said n a (sizesOf (g .tables))
-      (smaller-long g tail (sizesOf t) ready n (length (reduce (given g) .gates)) counts few (x .scratch) kept)
+      (smaller-long g tail (sizesOf t) ready n (length (reduce (givenCircuit g) .gates)) counts few (x .scratch) kept)
 
-  pub drops : Passed (dropping (record { circuit = g; written = t })) (dropUnused (given g)) tail
+  pub drops : Passed (dropping (record { circuit = g; written = t })) (dropUnused (givenCircuit g)) tail
   drops = record {
-    took = dropping-accepted g (given g) (left-here g tail (sizesOf t) ready) t (long-here g tail (sizesOf t) ready) order;
+    took = dropping-accepted g (givenCircuit g) (left-here g tail (sizesOf t) ready) t (long-here g tail (sizesOf t) ready) order;
     lefts = dropping-left e;
-    tail-ok = tail-drop V19 (given g) tail (tail-here g tail (sizesOf t) ready);
+    tail-ok = tail-drop V19 (givenCircuit g) tail (tail-here g tail (sizesOf t) ready);
   }

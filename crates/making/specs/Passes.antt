@@ -11,7 +11,7 @@ use Rattle.plan.specs.declared.Written.{Written}
 use Rattle.plan.specs.Circuit.{Circuit, seven}
 use Rattle.plan.specs.Text.{textOf}
 use Rattle.plan.specs.Binary.{binaryOf, binaryOrder}
-use Rattle.plan.specs.Given.{given}
+use Rattle.plan.specs.Given.{givenCircuit}
 use Rattle.plan.specs.Convert.{convert}
 use Rattle.plan.specs.Reduce.{reduce}
 use Rattle.plan.specs.Drop.{dropUnused}
@@ -53,13 +53,13 @@ StandsReady n i l o a r b c i′ l′ o′ a′ r′ b′ c′ s tail =
 
 abbrev pub InOrder : Counts → Parts (Part → Type 0)
 InOrder n i l o a r b c s =
-    binaryOrder (given (givenIn n (now i) (now l) (now o) (now a) (now r) (now b) (now c) (now s))) ≡ true
+    binaryOrder (givenCircuit (givenIn n (now i) (now l) (now o) (now a) (now r) (now b) (now c) (now s))) ≡ true
 
 -- the bytes of the circuit and then the tail are put into the buffer, or 11
 abbrev pub Puts : (Circuit → List ℕ) → Counts → Seven (Slice → Slice → Slice → Written → Type 0)
 Puts bytes n i l o a r b c s tail out answer =
     record { answer = answer; out = now (out .exit) }
-    ≡ putBytes (now (out .entry)) 0 (bytes (given (toCheck n i l o a r b c s)) ++ now (tail .entry))
+    ≡ putBytes (now (out .entry)) 0 (bytes (givenCircuit (toCheck n i l o a r b c s)) ++ now (tail .entry))
 
 abbrev pub PutsBinary : (Circuit → Circuit) → Counts → Seven (Slice → Slice → Slice → Written → Type 0)
 PutsBinary made n i l o a r b c s tail out answer = Puts (λ d. binaryOf (made d)) n i l o a r b c s tail out answer

@@ -8,7 +8,7 @@ use Rattle.plan.specs.declared.Version.{Version}
 use Rattle.plan.specs.Literals.{litOf}
 use Rattle.plan.specs.Refusals.{Parse, got, _then_}
 use Rattle.plan.specs.Circuit.{Gate, Latch, Circuit, countsOf, oneLine, latchLine, gateLine, literalOf, nexts}
-use Rattle.plan.specs.Bytes.{lines, latchLines, resetAfter, linesOf, withResets, shortest}
+use Rattle.plan.specs.Bytes.{lines, latchLines, resetAfter, linesOf, withResets, withoutZeros, latchForm}
 use Rattle.plan.specs.Header.{moreResets, binary, shortCounts, headerOf, adds}
 use Rattle.plan.specs.Difference.{difference, groupsOf}
 
@@ -39,7 +39,7 @@ latchesFrom v (l ∷ ls) = record { current = litOf v; next = l } ∷ latchesFro
 -- L lines of a next state and possibly a reset, O, B and C of one literal, A gates
 abbrev pub binaryBody : Version → List ℕ → Counts → ℕ → Parse Circuit
 binaryBody v file n at =
-    latchLines file 1 false (n .M) (moreResets v) (n .L) (1 + n .I) [] at then λ lats at.
+    latchLines file (latchForm 1 false (moreResets v)) (n .M) (n .L) (1 + n .I) [] at then λ lats at.
     lines file 1 false (n .M) (n .O) [] at then λ outs at.
     lines file 1 false (n .M) (n .B) [] at then λ bads at.
     lines file 1 false (n .M) (n .C) [] at then λ cons at.
@@ -70,7 +70,7 @@ abbrev pub binaryLatches : Circuit → List (List ℕ)
 binaryLatches c = withResets (map oneLine (nexts (c .latches))) (c .resets)
 
 abbrev pub binaryOf : Circuit → List ℕ
-binaryOf c = headerOf binary (shortCounts (countsOf c)) ++ binaryLines (map (shortest 1) (binaryLatches c)) c
+binaryOf c = headerOf binary (shortCounts (countsOf c)) ++ binaryLines (map (withoutZeros 1) (binaryLatches c)) c
 
 -- binary order: M = I + L + A, the defining literals run from 2 on, and every gate keeps lhs > rhs0 ≥ rhs1
 abbrev pub runs : ℕ → List (List ℕ) → Bool

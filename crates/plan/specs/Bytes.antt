@@ -120,7 +120,7 @@ line file k d m seen at =
     numbers file k k at then λ xs next.
     unless (outside d m xs) OutOfRange (unless (twice d seen xs) DefinedTwice (got (values xs) next))
 
--- n such lines; `seen` holds the variables defined before
+-- n such lines; `seen` holds the variables defined before. Lines that define nothing don't look at it (`twice`), whatever it holds
 abbrev pub lines : List ℕ → ℕ → Bool → ℕ → ℕ → List ℕ → ℕ → Parse (List (List ℕ))
 lines file k d m zero seen at = got [] at
 lines file k d m (suc n) seen at =
@@ -138,27 +138,38 @@ abbrev pub ownOf : Bool → ℕ → List ℕ → ℕ
 ownOf true v row = literalOf row
 ownOf false v row = litOf v
 
--- a latch's line: k literals, of which the first defines or not, and then a reset, if `more` is 1 and one stands there
-abbrev pub latchLineAt : List ℕ → ℕ → Bool → ℕ → ℕ → ℕ → List ℕ → ℕ → Parse (List ℕ)
-latchLineAt file k d m more v seen at =
-    numbers file k (k + more) at then λ xs next.
+-- what a latch's line has: so many literals, of which the first defines or not, and then as many resets at most
+pub record LatchForm : Type 0 where
+  pub literals : ℕ
+  pub defines : Bool
+  pub more : ℕ
+
+abbrev pub latchForm : ℕ → Bool → ℕ → LatchForm
+latchForm k d more = record { literals = k; defines = d; more = more }
+
+-- a latch's line, of literals up to 2 m + 1; v is the latch's variable where the line defines none
+abbrev pub latchLineAt : List ℕ → LatchForm → ℕ → ℕ → List ℕ → ℕ → Parse (List ℕ)
+latchLineAt file form m v seen at =
+    let k = form .literals in
+    let d = form .defines in
+    numbers file k (k + form .more) at then λ xs next.
     unless (outside d m (take k xs)) OutOfRange
     (unless (wrongReset (ownOf d v (values xs)) (drop k xs)) OutOfRange
     (unless (twice d seen xs) DefinedTwice (got (values xs) next)))
 
 -- n such lines, of variables v, v + 1 .. where they define none
-abbrev pub latchLines : List ℕ → ℕ → Bool → ℕ → ℕ → ℕ → ℕ → List ℕ → ℕ → Parse (List (List ℕ))
-latchLines file k d m more zero v seen at = got [] at
-latchLines file k d m more (suc n) v seen at =
-    latchLineAt file k d m more v seen at then λ row next.
-    latchLines file k d m more n (suc v) (seen ++ (varOf (literalOf row) ∷ [])) next then λ rows last.
+abbrev pub latchLines : List ℕ → LatchForm → ℕ → ℕ → ℕ → List ℕ → ℕ → Parse (List (List ℕ))
+latchLines file form m zero v seen at = got [] at
+latchLines file form m (suc n) v seen at =
+    latchLineAt file form m v seen at then λ row next.
+    latchLines file form m n (suc v) (seen ++ (varOf (literalOf row) ∷ [])) next then λ rows last.
     got (row ∷ rows) last
 
 -- a reset after k literals, 0 if none stands there
 abbrev pub resetAfter : ℕ → List ℕ → ℕ
 resetAfter k row = getD row k 0
 
--- the same, written: a number's digits, of which n has at most k + 1; a line; lines
+-- the same, written: a number's digits; a line; lines. n has at most n + 1 digits, so that the bound k of `spell` is no rule
 abbrev pub spell : ℕ → ℕ → List ℕ
 spell zero n = (48 + n) ∷ []
 spell (suc k) n = elim (ltb n 10) [ true ↦ (48 + n) ∷ [] | false ↦ spell k (n / 10) ++ ((48 + n % 10) ∷ []) ]
@@ -202,7 +213,7 @@ unlessZero zero [] = []
 unlessZero zero (x ∷ l) = zero ∷ x ∷ l
 unlessZero (suc n) l = suc n ∷ l
 
-abbrev pub shortest : ℕ → List ℕ → List ℕ
-shortest k [] = []
-shortest zero (n ∷ l) = unlessZero n (shortest zero l)
-shortest (suc k) (n ∷ l) = n ∷ shortest k l
+abbrev pub withoutZeros : ℕ → List ℕ → List ℕ
+withoutZeros k [] = []
+withoutZeros zero (n ∷ l) = unlessZero n (withoutZeros zero l)
+withoutZeros (suc k) (n ∷ l) = n ∷ withoutZeros k l

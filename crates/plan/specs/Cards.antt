@@ -15,13 +15,13 @@ use Rattle.plan.specs.declared.Written.{Written}
 use Rattle.plan.specs.declared.Written.the-variants as written
 use Rattle.plan.specs.Literals.{litOf}
 use Rattle.plan.specs.Refusals.{Parse, got, refused, _then_, unless, stage, firstOf}
-use Rattle.plan.specs.Circuit.{Gate, Circuit, Tables, countsOf, lengthsOf, wordsToWork, against, short, nexts}
+use Rattle.plan.specs.Circuit.{Gate, Circuit, Tables, countsOf, lengthsOf, wordsToWork, against, leastShort, nexts}
 use Rattle.plan.specs.Circuit.{cleared, allCleared}
 use Rattle.plan.specs.Bytes.{Placed}
 use Rattle.plan.specs.Header.{binary, over, adds}
 use Rattle.plan.specs.Binary.{litsFrom, latchesFrom, binaryOf, binaryOrder}
 use Rattle.plan.specs.Reading.{WellFormed, readToWork}
-use Rattle.plan.specs.Given.{Given, given, orElse, failing, outsideIn, tailStage, roomStage, inOrderThen}
+use Rattle.plan.specs.Given.{Given, givenCircuit, orElse, failing, outsideIn, tailStage, roomStage, inOrderThen}
 use Rattle.plan.specs.Outcome.{ReadEntry, LoadExit, loadBy, FileEntry, FileExit, writtenBy, put}
 use Rattle.plan.specs.Programs.{lentWords, input, fitting, printed}
 use Rattle.plan.specs.Whole.{fittingIn}
@@ -179,7 +179,7 @@ cardHead file =
 abbrev pub readCards : List ℕ → List ℕ → Parse Circuit
 readCards file lengths =
     cardHead file then λ n _.
-    past (short (against 1 (wordsToWork n) lengths)) ShortTable then λ _ _.
+    past (leastShort (against 1 (wordsToWork n) lengths)) ShortTable then λ _ _.
     past (outsideIn (carded file n)) OutOfRange then λ _ _.
     past (failing (binaryOrder (carded file n))) NotInOrder then λ _ _.
     got (carded file n) (length file)
@@ -190,13 +190,13 @@ loadCards e = loadBy e (readCards (e .file) (lengthsOf (e .tables) (e .scratch))
 
 -- 19: a tail, a reset but 0, a bad state or a constraint
 abbrev pub cardStage : Given → List ℕ → Option Refusal
-cardStage g tail = stage NotOnCards (failing (onCards (given g) tail))
+cardStage g tail = stage NotOnCards (failing (onCards (givenCircuit g) tail))
 
 -- the writer of cards: given tables, 15, the tail by 1 and 10, then 19, then 11
 abbrev pub writeCards : FileEntry → FileExit
 writeCards e =
     let g = e .circuit in
-    let bytes = cardsOf (given g) in
+    let bytes = cardsOf (givenCircuit g) in
     writtenBy (firstOf (inOrderThen g
     (tailStage g (e .tail) ∷ cardStage g (e .tail) ∷ roomStage (e .out) bytes ∷ []))) e bytes
 

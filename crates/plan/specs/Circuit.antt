@@ -85,9 +85,9 @@ orLess v none = some v
 orLess v (some u) = some (min u v)
 
 -- the least table that is too short
-abbrev pub short : List Lent → Option ℕ
-short [] = none
-short (x ∷ xs) = cond (leb (x .needed) (x .words)) (short xs) (orLess (x .table) (short xs))
+abbrev pub leastShort : List Lent → Option ℕ
+leastShort [] = none
+leastShort (x ∷ xs) = cond (leb (x .needed) (x .words)) (leastShort xs) (orLess (x .table) (leastShort xs))
 
 -- the lines of a table: n of k words; and the table of lines
 abbrev pub rowsOf : ℕ → ℕ → List ℕ → List (List ℕ)
@@ -158,7 +158,7 @@ allCleared t = record {
   constraints = cleared (t .constraints);
 }
 
--- the variables that lines define: of inputs, of latches, of gates
+-- the variables that lines define: of inputs, of latches (current states), of gates (left sides)
 abbrev pub heads : List (List ℕ) → List ℕ
 heads [] = []
 heads (row ∷ rows) = varOf (literalOf row) ∷ heads rows
@@ -166,14 +166,14 @@ heads (row ∷ rows) = varOf (literalOf row) ∷ heads rows
 abbrev pub vars : List ℕ → List ℕ
 vars ls = heads (map oneLine ls)
 
-abbrev pub currents : List Latch → List ℕ
-currents ls = heads (map latchLine ls)
+abbrev pub currentVars : List Latch → List ℕ
+currentVars ls = heads (map latchLine ls)
 
-abbrev pub lefts : List Gate → List ℕ
-lefts gs = heads (map gateLine gs)
+abbrev pub leftVars : List Gate → List ℕ
+leftVars gs = heads (map gateLine gs)
 
 abbrev pub definedIn : Circuit → List ℕ
-definedIn c = vars (c .inputs) ++ (currents (c .latches) ++ lefts (c .gates))
+definedIn c = vars (c .inputs) ++ (currentVars (c .latches) ++ leftVars (c .gates))
 
 -- the literals that are used: next states; outputs, bad states and constraints, which are observed; right sides
 abbrev pub nexts : List Latch → List ℕ
@@ -196,6 +196,15 @@ usedIn c = vars (roots c ++ rights (c .gates))
 abbrev pub has : ℕ → List ℕ → Bool
 has v [] = false
 has v (u ∷ us) = eqb u v || has v us
+
+-- what is no gate's: the constants' variable, those of inputs, those of latches, in this order
+abbrev pub leaves : Circuit → List ℕ
+leaves c = zero ∷ (vars (c .inputs) ++ currentVars (c .latches))
+
+-- the place of a variable in a list, the list's length if it is not there
+abbrev pub index : ℕ → List ℕ → ℕ
+index v [] = zero
+index v (u ∷ us) = cond (eqb u v) zero (suc (index v us))
 
 -- none of a list stands among `seen` or earlier in the list
 abbrev pub allNew : List ℕ → List ℕ → Bool

@@ -3,17 +3,12 @@ use Prim.Native.Nat.{ℕ, zero, suc, _+_, max, min}
 use mathlib.Core.Bool.{Bool, cond, _&&_}
 use mathlib.Core.Option.{Option, none, some}
 use mathlib.Core.List.{List, [], _∷_, _++_, map}
-use lib.Dec.{eqb}
 use lib.ListN.{length}
 use Rattle.plan.specs.Literals.{litOf, varOf, signOf}
-use Rattle.plan.specs.Circuit.{Gate, Circuit, vars, currents, lefts, nexts, has}
+use Rattle.plan.specs.Circuit.{Gate, Circuit, leftVars, nexts, has, leaves, index}
 use Rattle.plan.specs.Binary.{litsFrom, latchesFrom}
 
--- constants, inputs and latches count as numbered, in this order
-abbrev pub leaves : Circuit → List ℕ
-leaves c = zero ∷ (vars (c .inputs) ++ currents (c .latches))
-
--- both right sides are numbered
+-- both right sides are numbered; constants, inputs and latches, the leaves, count as numbered
 abbrev pub ready : List ℕ → Gate → Bool
 ready numbered g = has (varOf (g .rhs0)) numbered && has (varOf (g .rhs1)) numbered
 
@@ -30,7 +25,8 @@ abbrev pub pick : List ℕ → List Gate → Option Picked
 pick numbered [] = none
 pick numbered (g ∷ gs) = cond (ready numbered g) (some (record { gate = g; rest = gs })) (past g (pick numbered gs))
 
--- the gates in the order of their numbers, of which k are given
+-- the gates in the order of their numbers, of which k are given; with k the number of gates every one of an accepted circuit gets its
+-- number (laws, Running.Scan: every-gate)
 abbrev pub orderBy : (List ℕ → List Gate → List Gate) → List ℕ → Option Picked → List Gate
 orderBy f numbered none = []
 orderBy f numbered (some p) = p .gate ∷ f (numbered ++ (varOf (p .gate .lhs) ∷ [])) (p .rest)
@@ -44,11 +40,7 @@ sorted c = order (length (c .gates)) (leaves c) (c .gates)
 
 -- the variables in the order of their new numbers
 abbrev pub numbered : Circuit → List ℕ
-numbered c = leaves c ++ lefts (sorted c)
-
-abbrev pub index : ℕ → List ℕ → ℕ
-index v [] = zero
-index v (u ∷ us) = cond (eqb u v) zero (suc (index v us))
+numbered c = leaves c ++ leftVars (sorted c)
 
 -- a literal under its new number
 abbrev pub renumber : List ℕ → ℕ → ℕ

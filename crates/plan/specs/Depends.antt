@@ -48,8 +48,8 @@ abbrev pub settled : List Gate → ℕ → ℕ → Bool
 settled gs zero v = isNone (find v gs)
 settled gs (suc k) v = both (λ u. settled gs k u) (find v gs)
 
--- 8: the first gate in file order that is not settled in as many rounds as there are gates, so that it depends on
--- itself or on one that does
+-- 8: the first gate in file order that is not settled in as many rounds as there are gates, so that it depends on itself or on
+-- one that does; the number of rounds is no rule of its own (laws, Reading.Cycles: no-cycle)
 abbrev pub firstStuck : List Gate → List Gate → Option ℕ
 firstStuck all [] = none
 firstStuck all (g ∷ gs) = cond (settled all (length all) (varOf (g .lhs))) (firstStuck all gs) (some (varOf (g .lhs)))

@@ -5,10 +5,10 @@ use mathlib.Core.Bool.{cond}
 use mathlib.Core.List.{List, [], _∷_, _++_, map}
 use lib.ListN.{length}
 use Rattle.plan.specs.Literals.{varOf}
-use Rattle.plan.specs.Circuit.{Gate, Latch, Circuit, vars, lefts, roots, has}
+use Rattle.plan.specs.Circuit.{Gate, Latch, Circuit, vars, leftVars, roots, has, leaves}
 use Rattle.plan.specs.Refusals.{firstOf}
-use Rattle.plan.specs.Given.{given, lentWith, stages, orderStage}
-use Rattle.plan.specs.Convert.{leaves, renumber, renumberGates}
+use Rattle.plan.specs.Given.{givenCircuit, lentWith, stages, orderStage}
+use Rattle.plan.specs.Convert.{renumber, renumberGates}
 use Rattle.plan.specs.Outcome.{MakeEntry, MakeExit, madeBy}
 use Rattle.plan.specs.Walk.{Walked, walk}
 
@@ -42,7 +42,7 @@ used c = record {
 
 -- the variables that are left, in order: each gets its place as its number
 abbrev pub left : Circuit → List ℕ
-left c = leaves c ++ lefts (c .gates)
+left c = leaves c ++ leftVars (c .gates)
 
 abbrev pub latchRenumbered : List ℕ → Latch → Latch
 latchRenumbered os l = record { current = l .current; next = renumber os (l .next) }
@@ -67,4 +67,4 @@ dropUnused c = closeGaps (used c)
 abbrev pub dropping : MakeEntry → MakeExit
 dropping e =
     let g = e .circuit in
-    madeBy (firstOf (stages g (lentWith g (e .written)) ++ (orderStage g ∷ []))) e (dropUnused (given g))
+    madeBy (firstOf (stages g (lentWith g (e .written)) ++ (orderStage g ∷ []))) e (dropUnused (givenCircuit g))

@@ -11,8 +11,8 @@ use Rattle.plan.specs.declared.Stepped.{Stepped}
 use Rattle.plan.specs.declared.Stepped.the-variants.{Done, Refused}
 use Rattle.plan.specs.Literals.{varOf}
 use Rattle.plan.specs.Refusals.{stage, firstOf}
-use Rattle.plan.specs.Circuit.{Gate, Circuit, cleared, vars, currents, has}
-use Rattle.plan.specs.Given.{Given, given, orElse, failingAt, roomStage, inOrderThen}
+use Rattle.plan.specs.Circuit.{Gate, Circuit, cleared, vars, currentVars, has}
+use Rattle.plan.specs.Given.{Given, givenCircuit, orElse, failingAt, roomStage, inOrderThen}
 use Rattle.plan.specs.Step.{Value, v0, v1, vx, valueOf, same, lit, valuesOf}
 use Rattle.plan.specs.Outcome.{put, vectorOf}
 use Rattle.plan.specs.Walk.{Walked, walk}
@@ -45,7 +45,7 @@ mark vs v = cond (has v vs) 49 48
 
 -- the variables that have a place, state first
 abbrev pub places : Circuit → List ℕ
-places c = currents (c .latches) ++ vars (c .inputs)
+places c = currentVars (c .latches) ++ vars (c .inputs)
 
 abbrev pub marksFor : Circuit → List Value → List Value → ℕ → List ℕ
 marksFor c state ins l = map (mark (blamed c state ins l)) (places c)
@@ -83,13 +83,13 @@ inputsOf e = map valueOf (e .inputs)
 
 -- the literal of the output that is asked for, its value, and the marks
 abbrev pub asked : ExplainEntry → ℕ
-asked e = getD (given (e .circuit) .outputs) (e .output) 0
+asked e = getD (givenCircuit (e .circuit) .outputs) (e .output) 0
 
 abbrev pub valueAsked : ExplainEntry → Value
-valueAsked e = lit (valuesOf (given (e .circuit)) (stateOf e) (inputsOf e)) (asked e)
+valueAsked e = lit (valuesOf (givenCircuit (e .circuit)) (stateOf e) (inputsOf e)) (asked e)
 
 abbrev pub marksAsked : ExplainEntry → List ℕ
-marksAsked e = marksFor (given (e .circuit)) (stateOf e) (inputsOf e) (asked e)
+marksAsked e = marksFor (givenCircuit (e .circuit)) (stateOf e) (inputsOf e) (asked e)
 
 -- 12 as in a step, of the state and of the inputs
 abbrev pub vectorsStage : ExplainEntry → Option Refusal

@@ -12,8 +12,8 @@ use Rattle.plan.specs.declared.Finding.{Finding}
 use Rattle.plan.specs.declared.Finding.the-variants.{Yes, No, Undecided, Refused}
 use Rattle.plan.specs.Refusals.{stage, firstOf}
 use Rattle.plan.specs.Circuit.{Circuit, cleared}
-use Rattle.plan.specs.Given.{given, failingAt, inOrderThen}
-use Rattle.plan.specs.Step.{codeOf, valueOf, first, run, vectorsOf, shows1}
+use Rattle.plan.specs.Given.{givenCircuit, failingAt, inOrderThen}
+use Rattle.plan.specs.Step.{codeOf, valueOf, firstState, run, vectorsOf, shows1}
 use Rattle.plan.specs.Outcome.{WitnessEntry, listStage}
 
 -- a place is x, "x"; how many are
@@ -52,7 +52,7 @@ filling k l = fillFrom k 0 l
 
 -- the start is the first state's codes; its x are numbered before those of the list
 abbrev pub startOf : Circuit → List ℕ
-startOf c = map codeOf (first c)
+startOf c = map codeOf (firstState c)
 
 abbrev pub asked : Circuit → List ℕ → List ℕ
 asked c bytes = startOf c ++ bytes
@@ -103,7 +103,7 @@ abbrev pub overX : ℕ → Option ℕ
 overX n = failingAt n (leb n 20)
 
 abbrev pub xStage : WitnessEntry → Option Refusal
-xStage w = stage ManyX (overX (xCount (asked (given (w .circuit)) (w .bytes))))
+xStage w = stage ManyX (overX (xCount (asked (givenCircuit (w .circuit)) (w .bytes))))
 
 abbrev pub findingBy : Option Refusal → Finding → Finding
 findingBy none found = found
@@ -115,6 +115,6 @@ witness e =
     let g = w .circuit in
     record {
       answer = findingBy (firstOf (inOrderThen g (listStage w ∷ xStage w ∷ [])))
-          (question (given g) (w .number) (w .bytes) (e .allowance));
+          (question (givenCircuit g) (w .number) (w .bytes) (e .allowance));
       scratch = cleared (g .scratch);
     }

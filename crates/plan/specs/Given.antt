@@ -12,8 +12,8 @@ use Rattle.plan.specs.declared.Refusal.the-variants.{LargeCount, WrongSu
 use Rattle.plan.specs.declared.Refusal.the-variants.{NotDefined, Cyclic, ShortBuffer, NotInOrder}
 use Rattle.plan.specs.Literals.{varOf}
 use Rattle.plan.specs.Refusals.{Parse, got, refused, stage}
-use Rattle.plan.specs.Circuit.{Circuit, Tables, Lent, circuitOf, lengthsOf, wordsToWork, against, short}
-use Rattle.plan.specs.Circuit.{oneLine, latchLine, gateLine, literalOf, vars, currents, resetsOk}
+use Rattle.plan.specs.Circuit.{Circuit, Tables, Lent, circuitOf, lengthsOf, wordsToWork, against, leastShort}
+use Rattle.plan.specs.Circuit.{oneLine, latchLine, gateLine, literalOf, vars, currentVars, resetsOk}
 use Rattle.plan.specs.Bytes.{Placed, outside, twice}
 use Rattle.plan.specs.Header.{text, listOf, over, adds}
 use Rattle.plan.specs.Depends.{undefinedIn, cyclicIn}
@@ -26,8 +26,8 @@ pub record Given : Type 0 where
   pub tables : Tables
   pub scratch : List ℕ
 
-abbrev pub given : Given → Circuit
-given g = circuitOf (g .counts) (g .tables)
+abbrev pub givenCircuit : Given → Circuit
+givenCircuit g = circuitOf (g .counts) (g .tables)
 
 -- what is lent: the given tables and scratch; with written tables, which bear the same numbers
 abbrev pub lentAlone : Given → List Lent
@@ -82,23 +82,23 @@ abbrev pub twiceIn : Circuit → Option ℕ
 twiceIn c =
     orElse (twiceOf 1 [] (map oneLine (c .inputs)))
     (orElse (twiceOf 2 (vars (c .inputs)) (map latchLine (c .latches)))
-    (twiceOf 4 (vars (c .inputs) ++ currents (c .latches)) (map gateLine (c .gates))))
+    (twiceOf 4 (vars (c .inputs) ++ currentVars (c .latches)) (map gateLine (c .gates))))
 
 -- 2, 3, 4, 5, 6, 7, 8 over the whole circuit
 abbrev pub stages : Given → List Lent → List (Option Refusal)
 stages g lent =
     stage LargeCount (over (counted 1 (listOf (g .counts))))
     ∷ stage WrongSum (failing (adds text (g .counts)))
-    ∷ stage ShortTable (short lent)
-    ∷ stage OutOfRange (outsideIn (given g))
-    ∷ stage DefinedTwice (twiceIn (given g))
-    ∷ stage NotDefined (undefinedIn (given g))
-    ∷ stage Cyclic (cyclicIn (given g))
+    ∷ stage ShortTable (leastShort lent)
+    ∷ stage OutOfRange (outsideIn (givenCircuit g))
+    ∷ stage DefinedTwice (twiceIn (givenCircuit g))
+    ∷ stage NotDefined (undefinedIn (givenCircuit g))
+    ∷ stage Cyclic (cyclicIn (givenCircuit g))
     ∷ []
 
 -- then 15
 abbrev pub orderStage : Given → Option Refusal
-orderStage g = stage NotInOrder (failing (binaryOrder (given g)))
+orderStage g = stage NotInOrder (failing (binaryOrder (givenCircuit g)))
 
 -- the stages of a call that asks for binary order: those of its tables, 15, and its own
 abbrev pub inOrderThen : Given → List (Option Refusal) → List (Option Refusal)
@@ -114,8 +114,8 @@ tailStage g tail = refusalOf (tailAt V19 tail (g .counts) 0)
 
 -- 11: the length needed to hold bytes from a position on, cut at the largest number of 64 bits, where a buffer is
 -- shorter
-abbrev pub room : List ℕ → ℕ → List ℕ → Option ℕ
-room out at bytes = cond (leb (at + length bytes) (length out)) none (some (min (at + length bytes) (2 ^ 64 - 1)))
+abbrev pub lackingRoom : List ℕ → ℕ → List ℕ → Option ℕ
+lackingRoom out at bytes = cond (leb (at + length bytes) (length out)) none (some (min (at + length bytes) (2 ^ 64 - 1)))
 
 abbrev pub roomStage : List ℕ → List ℕ → Option Refusal
-roomStage out bytes = stage ShortBuffer (room out 0 bytes)
+roomStage out bytes = stage ShortBuffer (lackingRoom out 0 bytes)

@@ -12,7 +12,7 @@ use Rattle.plan.specs.declared.Version.the-variants.{V2007, V19}
 use Rattle.plan.specs.Literals.{most}
 use Rattle.plan.specs.Refusals.{Parse, got, refused, _then_, unless}
 use Rattle.plan.specs.Circuit.{wordsWith, scratchToWork}
-use Rattle.plan.specs.Bytes.{expect, Placed, numbers, values, lineOf, shortest}
+use Rattle.plan.specs.Bytes.{expect, Placed, numbers, values, lineOf, withoutZeros}
 
 pub data Form : Type 0 where
   text binary : Form
@@ -88,7 +88,7 @@ abbrev pub allCounts : Counts → List ℕ
 allCounts n = listOf n ++ (zero ∷ zero ∷ [])
 
 abbrev pub shortCounts : Counts → List ℕ
-shortCounts n = shortest 5 (allCounts n)
+shortCounts n = withoutZeros 5 (allCounts n)
 
 abbrev pub headerOf : Form → List ℕ → List ℕ
 headerOf form row = 97 ∷ letterOf form ∷ 103 ∷ 32 ∷ lineOf row

@@ -42,8 +42,8 @@ use Rattle.plan.specs.Text.{textOf}
 use Rattle.plan.specs.Difference.{groupsOf}
 use Rattle.plan.specs.Binary.{binaryOf}
 use Rattle.plan.specs.Reading.{readFile}
-use Rattle.plan.specs.Given.{Given, given, lentAlone, lentWith, orElse, failingAt, stages, orderStage}
-use Rattle.plan.specs.Given.{tailStage, room, roomStage, inOrderThen}
+use Rattle.plan.specs.Given.{Given, givenCircuit, lentAlone, lentWith, orElse, failingAt, stages, orderStage}
+use Rattle.plan.specs.Given.{tailStage, lackingRoom, roomStage, inOrderThen}
 use Rattle.plan.specs.Convert.{convert}
 use Rattle.plan.specs.Reduce.{reduce}
 use Rattle.plan.specs.Step.{codeOf, valueOf, isCode, outputsOf, nextOf, witnessed}
@@ -151,7 +151,7 @@ putBy none out at bytes = record { answer = written.Bytes (length bytes); out = 
 putBy (some place) out at bytes = record { answer = written.Refused (ShortBuffer place); out = out }
 
 abbrev pub putBytes : List ℕ → ℕ → List ℕ → WriteExit
-putBytes out at bytes = putBy (room out at bytes) out at bytes
+putBytes out at bytes = putBy (lackingRoom out at bytes) out at bytes
 
 abbrev pub writeNumber : WriteEntry → WriteExit
 writeNumber e = putBytes (e .out) (e .at) (digits (e .value))
@@ -256,13 +256,13 @@ writtenBy (some r) e bytes =
 abbrev pub writeText : FileEntry → FileExit
 writeText e =
     let g = e .circuit in
-    let bytes = textOf (given g) ++ e .tail in
+    let bytes = textOf (givenCircuit g) ++ e .tail in
     writtenBy (firstOf (stages g (lentAlone g) ++ (tailStage g (e .tail) ∷ roomStage (e .out) bytes ∷ []))) e bytes
 
 abbrev pub writeBinary : FileEntry → FileExit
 writeBinary e =
     let g = e .circuit in
-    let bytes = binaryOf (given g) ++ e .tail in
+    let bytes = binaryOf (givenCircuit g) ++ e .tail in
     writtenBy (firstOf (inOrderThen g (tailStage g (e .tail) ∷ roomStage (e .out) bytes ∷ []))) e bytes
 
 -- conversion and reduction: given tables, and tables lent for writing
@@ -287,23 +287,20 @@ madeBy (some r) e c =
 abbrev pub conversion : MakeEntry → MakeExit
 conversion e =
     let g = e .circuit in
-    madeBy (firstOf (stages g (lentWith g (e .written)))) e (convert (given g))
+    madeBy (firstOf (stages g (lentWith g (e .written)))) e (convert (givenCircuit g))
 
 abbrev pub reduction : MakeEntry → MakeExit
 reduction e =
     let g = e .circuit in
-    madeBy (firstOf (stages g (lentWith g (e .written)) ++ (orderStage g ∷ []))) e (reduce (given g))
+    madeBy (firstOf (stages g (lentWith g (e .written)) ++ (orderStage g ∷ []))) e (reduce (givenCircuit g))
 
 -- 12: place 1 the state, 2 the input, 3 the output; wrong length, or a byte but "0", "1", "x"
 abbrev pub allCodes : List ℕ → Bool
 allCodes [] = true
 allCodes (b ∷ l) = isCode b && allCodes l
 
-abbrev pub vector : ℕ → Bool → Option ℕ
-vector place t = failingAt place t
-
 abbrev pub vectorOf : ℕ → ℕ → List ℕ → Option ℕ
-vectorOf place n bytes = vector place (eqb (length bytes) n && allCodes bytes)
+vectorOf place n bytes = failingAt place (eqb (length bytes) n && allCodes bytes)
 
 -- the stepper: given tables, the state, which the next state is written over, the inputs and a buffer for the outputs
 pub record StepEntry : Type 0 where
@@ -324,14 +321,14 @@ stepStage e =
     stage BadVector
     (orElse (vectorOf 1 (n .L) (e .state))
     (orElse (vectorOf 2 (n .I) (e .inputs))
-    (vector 3 (eqb (length (e .outputs)) (n .O)))))
+    (failingAt 3 (eqb (length (e .outputs)) (n .O)))))
 
 abbrev pub steppedBy : Option Refusal → StepEntry → StepExit
 steppedBy none e = record {
   answer = stepped.Done;
   scratch = cleared (e .circuit .scratch);
-  state = map codeOf (nextOf (given (e .circuit)) (map valueOf (e .state)) (map valueOf (e .inputs)));
-  outputs = map codeOf (outputsOf (given (e .circuit)) (map valueOf (e .state)) (map valueOf (e .inputs)));
+  state = map codeOf (nextOf (givenCircuit (e .circuit)) (map valueOf (e .state)) (map valueOf (e .inputs)));
+  outputs = map codeOf (outputsOf (givenCircuit (e .circuit)) (map valueOf (e .state)) (map valueOf (e .inputs)));
 }
 steppedBy (some r) e = record {
   answer = stepped.Refused r;
@@ -367,6 +364,6 @@ abbrev pub witness3 : WitnessEntry → WitnessExit
 witness3 e =
     let g = e .circuit in
     record {
-      answer = verdictBy (firstOf (inOrderThen g (listStage e ∷ []))) (witnessed (given g) (e .number) (e .bytes));
+      answer = verdictBy (firstOf (inOrderThen g (listStage e ∷ []))) (witnessed (givenCircuit g) (e .number) (e .bytes));
       scratch = cleared (g .scratch);
     }

@@ -10,7 +10,7 @@ use Rattle.plan.specs.Refusals.{got, _then_, unless, stage, firstOf}
 use Rattle.plan.specs.Reading.{readToWork}
 use Rattle.plan.specs.Given.{Given, failingAt, inOrderThen}
 use Rattle.plan.specs.Convert.{convert}
-use Rattle.plan.specs.Step.{valueOf, run, first}
+use Rattle.plan.specs.Step.{valueOf, run, firstState}
 use Rattle.plan.specs.Outcome.{StepEntry, StepExit, stepStage, steppedBy}
 use Rattle.plan.specs.Programs.{lentWords, printed, input, stimulus, stepLines}
 use Rattle.plan.specs.Whole.{TraceEntry, TraceExit, traceStage, tracedBy}
@@ -43,4 +43,4 @@ comparer planIn standardIn =
     unless (manyGates (length (c .gates))) ManyGates
     (input standardIn λ bytes.
     stimulus (length (c .inputs)) bytes then λ list end.
-    got (stepLines (run (convert c) (first (convert c)) (map (map valueOf) list))) end))
+    got (stepLines (run (convert c) (firstState (convert c)) (map (map valueOf) list))) end))

@@ -12,10 +12,10 @@ use Rattle.plan.specs.declared.Refusal.the-variants.{LargeCount, ShortTa
 use Rattle.plan.specs.declared.Made.the-variants as made
 use Rattle.plan.specs.Literals.{litOf, varOf, signOf, negOf}
 use Rattle.plan.specs.Refusals.{stage, firstOf}
-use Rattle.plan.specs.Circuit.{Gate, Circuit, Tables, countsOf, nexts, wordsWith, against, short, lengthsOf, holding, allCleared, cleared}
+use Rattle.plan.specs.Circuit.{Gate, Circuit, Tables, countsOf, nexts, wordsWith, against, leastShort, lengthsOf, holding, allCleared, cleared}
 use Rattle.plan.specs.Header.{listOf, over}
 use Rattle.plan.specs.Binary.{litsFrom, latchesFrom}
-use Rattle.plan.specs.Given.{Given, given, counted, orElse, failingAt, inOrderThen}
+use Rattle.plan.specs.Given.{Given, givenCircuit, counted, orElse, failingAt, inOrderThen}
 use Rattle.plan.specs.Convert.{gateFor}
 use Rattle.plan.specs.Step.{Value, valueOf, same, Step, run, vectorsOf, all1}
 use Rattle.plan.specs.Outcome.{allCodes, MakeExit}
@@ -103,7 +103,7 @@ pub record ProductEntry : Type 0 where
   pub written : Tables
 
 abbrev pub productOf : ProductEntry → Circuit
-productOf e = product (given (e .first)) (given (e .second))
+productOf e = product (givenCircuit (e .first)) (givenCircuit (e .second))
 
 -- all refusals of the first, then of the second; 27, at 1 for different numbers of inputs and at 3 of outputs; 2 for the product's counts; 4 for
 -- the written tables, where table 5 is not needed
@@ -115,7 +115,7 @@ productStages e =
     inOrderThen (e .first) (inOrderThen (e .second)
     (stage NotAlike (orElse (failingAt 1 (eqb (n .I) (m .I))) (failingAt 3 (eqb (n .O) (m .O))))
     ∷ stage LargeCount (over (counted 1 (listOf made)))
-    ∷ stage ShortTable (short (against 1 (wordsWith 0 made) (lengthsOf (e .written) (e .first .scratch))))
+    ∷ stage ShortTable (leastShort (against 1 (wordsWith 0 made) (lengthsOf (e .written) (e .first .scratch))))
     ∷ []))
 
 abbrev pub pairedBy : Option Refusal → ProductEntry → MakeExit

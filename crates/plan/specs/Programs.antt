@@ -20,7 +20,7 @@ use Rattle.plan.specs.Tail.{endsLine}
 use Rattle.plan.specs.Reading.{readToWork}
 use Rattle.plan.specs.Convert.{convert}
 use Rattle.plan.specs.Reduce.{reduce}
-use Rattle.plan.specs.Step.{codeOf, valueOf, Step, run, first}
+use Rattle.plan.specs.Step.{codeOf, valueOf, Step, run, firstState}
 use Rattle.plan.specs.Outcome.{allCodes}
 
 abbrev pub bytesOf : String → List ℕ
@@ -106,4 +106,4 @@ tracer planIn standardIn =
     readToWork file lentWords lentWords then λ c _.
     input standardIn λ bytes.
     stimulus (length (c .inputs)) bytes then λ list end.
-    got (stepLines (run (convert c) (first (convert c)) (map (map valueOf) list))) end)
+    got (stepLines (run (convert c) (firstState (convert c)) (map (map valueOf) list))) end)

@@ -11,7 +11,7 @@ use Rattle.plan.specs.declared.Version.the-variants.{V19}
 use Rattle.plan.specs.declared.Refusal.the-variants.{ShortTable, NotDefined, Cyclic}
 use Rattle.plan.specs.Literals.{most}
 use Rattle.plan.specs.Refusals.{Parse, got, _then_, unless}
-use Rattle.plan.specs.Circuit.{Circuit, countsOf, wordsToWork, against, short, oneLine, latchLine, gateLine}
+use Rattle.plan.specs.Circuit.{Circuit, countsOf, wordsToWork, against, leastShort, oneLine, latchLine, gateLine}
 use Rattle.plan.specs.Circuit.{allInside, has, allNew, definedIn, usedIn, resetsOk}
 use Rattle.plan.specs.Bytes.{Spells, AllSpell}
 use Rattle.plan.specs.Depends.{undefinedIn, cyclicIn, Depends}
@@ -30,7 +30,7 @@ body v file binary n at = binaryBody v file n at
 abbrev pub readFile : Version → List ℕ → List ℕ → Parse Circuit
 readFile v file lengths =
     header v file 0 then λ h at.
-    unless (short (against 1 (wordsToRead (h .form) (h .counts)) lengths)) ShortTable
+    unless (leastShort (against 1 (wordsToRead (h .form) (h .counts)) lengths)) ShortTable
     (body v file (h .form) (h .counts) at then λ c at.
     tailAt v file (h .counts) at then λ _ _.
     unless (undefinedIn c) NotDefined (unless (cyclicIn c) Cyclic (got c at)))
@@ -40,7 +40,7 @@ readFile v file lengths =
 abbrev pub readToWork : List ℕ → List ℕ → List ℕ → Parse Circuit
 readToWork file lengths later =
     readFile V19 file lengths then λ c at.
-    unless (short (against 1 (wordsToWork (countsOf c)) later)) ShortTable (got c at)
+    unless (leastShort (against 1 (wordsToWork (countsOf c)) later)) ShortTable (got c at)
 
 -- well formed within the limits
 pub record WellFormed (c : Circuit) : Type 0 where
@@ -85,8 +85,8 @@ pub data Shortest (file : List ℕ) (c : Circuit) (tail : List ℕ) : Type 0 whe
   shortBinary : file ≡ binaryOf c ++ tail → Shortest file c tail
 
 -- the tables are long enough: for every call; to read the circuit from a file
-abbrev pub Room : Circuit → List ℕ → Type 0
-Room c lengths = short (against 1 (wordsToWork (countsOf c)) lengths) ≡ none
+abbrev pub LongEnough : Circuit → List ℕ → Type 0
+LongEnough c lengths = leastShort (against 1 (wordsToWork (countsOf c)) lengths) ≡ none
 
-abbrev pub RoomToRead : List ℕ → Circuit → List ℕ → Type 0
-RoomToRead file c lengths = short (against 1 (wordsToRead (formIn file) (countsOf c)) lengths) ≡ none
+abbrev pub LongEnoughToRead : List ℕ → Circuit → List ℕ → Type 0
+LongEnoughToRead file c lengths = leastShort (against 1 (wordsToRead (formIn file) (countsOf c)) lengths) ≡ none

@@ -12,8 +12,8 @@ use Rattle.plan.specs.declared.Stepped.{Stepped}
 use Rattle.plan.specs.declared.Stepped.the-variants.{Done, Refused}
 use Rattle.plan.specs.Refusals.{stage, firstOf}
 use Rattle.plan.specs.Circuit.{Circuit, filled, cleared}
-use Rattle.plan.specs.Given.{Given, given, failingAt}
-use Rattle.plan.specs.Step.{Value, v0, v1, vx, same, Step, run, first, vectorsOf}
+use Rattle.plan.specs.Given.{Given, givenCircuit, failingAt}
+use Rattle.plan.specs.Step.{Value, v0, v1, vx, same, Step, run, firstState, vectorsOf}
 use Rattle.plan.specs.Outcome.{listStage}
 use Rattle.plan.specs.Sixth.{sixthStages}
 
@@ -57,7 +57,7 @@ needles c steps =
     ++ inTurn (λ i. numbersOf (latchAlong steps i)) (length (c .latches))
 
 abbrev pub reportOf : Circuit → ℕ → List ℕ → List ℕ
-reportOf c number bytes = needles c (run c (first c) (vectorsOf c number bytes))
+reportOf c number bytes = needles c (run c (firstState c) (vectorsOf c number bytes))
 
 -- the call: given tables, a number of vectors and their bytes, and table 6, lent for writing
 pub record ReportEntry : Type 0 where
@@ -82,7 +82,7 @@ abbrev pub reportedBy : Option Refusal → ReportEntry → ReportExit
 reportedBy none e = record {
   answer = Done;
   scratch = cleared (e .circuit .scratch);
-  six = filled (e .six) (reportOf (given (e .circuit)) (e .number) (e .bytes));
+  six = filled (e .six) (reportOf (givenCircuit (e .circuit)) (e .number) (e .bytes));
 }
 reportedBy (some r) e = record { answer = Refused r; scratch = cleared (e .circuit .scratch); six = cleared (e .six) }
 

@@ -10,7 +10,7 @@ use Rattle.plan.specs.Bytes.{digits, lineOf}
 use Rattle.plan.specs.Reading.{readToWork}
 use Rattle.plan.specs.Given.{failingAt}
 use Rattle.plan.specs.Convert.{convert}
-use Rattle.plan.specs.Step.{valueOf, run, first}
+use Rattle.plan.specs.Step.{valueOf, run, firstState}
 use Rattle.plan.specs.Programs.{lentWords, printed, input, stimulus}
 use Rattle.plan.specs.Report.{inTurn, needles}
 
@@ -39,4 +39,4 @@ reporter planIn standardIn =
     stimulus (length (c .inputs)) bytes then λ list end.
     let d = convert c in
     got (needleLines (length (d .outputs)) (length (d .latches))
-    (needles d (run d (first d) (map (map valueOf) list)))) end))
+    (needles d (run d (firstState d) (map (map valueOf) list)))) end))

@@ -15,9 +15,9 @@ use Rattle.plan.specs.Refusals.{stage, firstOf}
 use Rattle.plan.specs.Circuit.{Gate, Circuit, cleared}
 use Rattle.plan.specs.Depends.{find}
 use Rattle.plan.specs.Binary.{litsFrom}
-use Rattle.plan.specs.Given.{Given, given, failingAt, failing, inOrderThen}
+use Rattle.plan.specs.Given.{Given, givenCircuit, failingAt, failing, inOrderThen}
 use Rattle.plan.specs.Step.{Value, v0, codeOf, valueOf, lit, gateValue, valuesOf}
-use Rattle.plan.specs.Outcome.{put, vector}
+use Rattle.plan.specs.Outcome.{put}
 
 -- gate number k, counted from 0, gets these right sides, larger first
 abbrev pub rewiredGates : ℕ → ℕ → ℕ → List Gate → List Gate
@@ -79,7 +79,7 @@ editStages n k a b len =
     stage NoGate (failingAt k (ltb k (n .A)))
     ∷ stage OutOfRange (failingAt 4 (inRange false (n .M) a && inRange false (n .M) b))
     ∷ stage NotInOrder (failing (ltb a (leftAt n k) && ltb b (leftAt n k)))
-    ∷ stage BadVector (vector 4 (eqb len (n .M + 1)))
+    ∷ stage BadVector (failingAt 4 (eqb len (n .M + 1)))
     ∷ []
 
 -- the call: given tables, of which the gates' is lent for writing, the gate's number, its right sides, and the
@@ -103,7 +103,7 @@ rewiredBy none e = record {
   answer = stepped.Done;
   gates = put (e .circuit .tables .gates) (3 * e .gate + 1) (max (e .rhs0) (e .rhs1) ∷ min (e .rhs0) (e .rhs1) ∷ []);
   scratch = cleared (e .circuit .scratch);
-  values = rewiredScreen (given (e .circuit)) (e .gate) (e .rhs0) (e .rhs1) (e .values);
+  values = rewiredScreen (givenCircuit (e .circuit)) (e .gate) (e .rhs0) (e .rhs1) (e .values);
 }
 rewiredBy (some r) e = record {
   answer = stepped.Refused r;
@@ -117,4 +117,4 @@ rewiring e =
     let g = e .circuit in
     rewiredBy (firstOf (inOrderThen g
     (editStages (g .counts) (e .gate) (e .rhs0) (e .rhs1) (length (e .values))
-    ++ (stage WrongValue (wrongOn (given g) (e .values)) ∷ [])))) e
+    ++ (stage WrongValue (wrongOn (givenCircuit g) (e .values)) ∷ [])))) e

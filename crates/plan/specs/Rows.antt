@@ -11,9 +11,9 @@ use Rattle.plan.specs.declared.Stepped.{Stepped}
 use Rattle.plan.specs.declared.Stepped.the-variants as stepped
 use Rattle.plan.specs.Refusals.{stage, firstOf}
 use Rattle.plan.specs.Circuit.{Circuit, flat, filled, cleared}
-use Rattle.plan.specs.Given.{Given, given, orElse, failingAt, inOrderThen}
-use Rattle.plan.specs.Step.{codeOf, Step, stepOf, first, vectorsOf}
-use Rattle.plan.specs.Outcome.{vector, vectorOf}
+use Rattle.plan.specs.Given.{Given, givenCircuit, orElse, failingAt, inOrderThen}
+use Rattle.plan.specs.Step.{codeOf, Step, stepOf, firstState, vectorsOf}
+use Rattle.plan.specs.Outcome.{vectorOf}
 use Rattle.plan.specs.Sixth.{sixthStages}
 use Rattle.plan.specs.Report.{timesOf, outputAlong, inTurn}
 
@@ -23,7 +23,7 @@ lanes = 64
 
 -- the plain stepper, row by row
 abbrev pub rowSteps : Circuit → ℕ → List ℕ → List Step
-rowSteps c rows bytes = map (stepOf c (first c)) (vectorsOf c rows bytes)
+rowSteps c rows bytes = map (stepOf c (firstState c)) (vectorsOf c rows bytes)
 
 -- outputs and next states as bytes, O and L a row
 abbrev pub outputsOfRow : Step → List ℕ
@@ -64,9 +64,9 @@ pub record RowsExit : Type 0 where
 abbrev pub rowVectors : RowsEntry → Option ℕ
 rowVectors e =
     let n = e .circuit .counts in
-    orElse (vector 1 (eqb (length (e .nexts)) (e .rows * n .L)))
+    orElse (failingAt 1 (eqb (length (e .nexts)) (e .rows * n .L)))
     (orElse (vectorOf 2 (e .rows * n .I) (e .inputs))
-    (vector 3 (eqb (length (e .outputs)) (e .rows * n .O))))
+    (failingAt 3 (eqb (length (e .outputs)) (e .rows * n .O))))
 
 abbrev pub rowStage : RowsEntry → Option Refusal
 rowStage e = firstOf (manyRows (e .rows) ∷ stage BadVector (rowVectors e) ∷ [])
@@ -75,8 +75,8 @@ abbrev pub steppedRows : Option Refusal → RowsEntry → RowsExit
 steppedRows none e = record {
   answer = stepped.Done;
   scratch = cleared (e .circuit .scratch);
-  nexts = nextBytes (rowSteps (given (e .circuit)) (e .rows) (e .inputs));
-  outputs = outputBytes (rowSteps (given (e .circuit)) (e .rows) (e .inputs));
+  nexts = nextBytes (rowSteps (givenCircuit (e .circuit)) (e .rows) (e .inputs));
+  outputs = outputBytes (rowSteps (givenCircuit (e .circuit)) (e .rows) (e .inputs));
 }
 steppedRows (some r) e = record {
   answer = stepped.Refused r;
@@ -110,7 +110,7 @@ abbrev pub reportedRows : Option Refusal → RowReportEntry → RowReportExit
 reportedRows none e = record {
   answer = stepped.Done;
   scratch = cleared (e .circuit .scratch);
-  report = filled (e .report) (rowReport (given (e .circuit)) (rowSteps (given (e .circuit)) (e .rows) (e .inputs)));
+  report = filled (e .report) (rowReport (givenCircuit (e .circuit)) (rowSteps (givenCircuit (e .circuit)) (e .rows) (e .inputs)));
 }
 reportedRows (some r) e =
     record { answer = stepped.Refused r; scratch = cleared (e .circuit .scratch); report = cleared (e .report) }

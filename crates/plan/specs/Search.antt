@@ -12,9 +12,8 @@ use Rattle.plan.specs.declared.Refusal.the-variants.{ShortTable, NotExpl
 use Rattle.plan.specs.declared.Happening.{Happening}
 use Rattle.plan.specs.declared.Happening.the-variants as happening
 use Rattle.plan.specs.Refusals.{stage, firstOf}
-use Rattle.plan.specs.Circuit.{Circuit, Lent, short, cleared, has, flat}
-use Rattle.plan.specs.Given.{Given, given, failingAt, roomStage, inOrderThen}
-use Rattle.plan.specs.Convert.{index}
+use Rattle.plan.specs.Circuit.{Circuit, Lent, leastShort, cleared, has, flat, index}
+use Rattle.plan.specs.Given.{Given, givenCircuit, failingAt, roomStage, inOrderThen}
 use Rattle.plan.specs.Step.{Value, v0, v1, codeOf, valueOf, outputsOf, badsOf, constraintsOf, nextOf, is1, any1, all1}
 use Rattle.plan.specs.Outcome.{put, allCodes, refusalValues}
 use Rattle.plan.specs.Fillings.{xCount, filling, startOf, showsAt}
@@ -242,7 +241,7 @@ happeningOf (happens w tries) = happening.Can (length (w .list)) tries
 happeningOf (undecided tries) = happening.Undecided tries
 
 abbrev pub searched : SearchEntry → Circuit
-searched e = watched (e .watch) (given (e .circuit))
+searched e = watched (e .watch) (givenCircuit (e .circuit))
 
 abbrev pub found : SearchEntry → Found
 found e = canHappen (e .split) (searched e) (e .allowance)
@@ -260,7 +259,7 @@ searchStages e =
     let n = e .circuit .counts in
     stage ManyLatches (failingAt (n .L) (leb (n .L) 20))
     ∷ stage ManyInputs (failingAt (n .I) (leb (n .I) 20))
-    ∷ stage ShortTable (short (lentToSearch e))
+    ∷ stage ShortTable (leastShort (lentToSearch e))
     ∷ stage NotExplained (failingAt 1 (leb (e .watch) (n .O)))
     ∷ roomStage (e .out) (wayBytes (searched e) (found e))
     ∷ []

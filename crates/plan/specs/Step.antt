@@ -6,9 +6,8 @@ use mathlib.Core.List.{List, [], _∷_, _++_, map}
 use lib.Dec.{eqb}
 use lib.ListN.{length, getD}
 use Rattle.plan.specs.Literals.{varOf, signOf}
-use Rattle.plan.specs.Circuit.{Gate, Circuit, nexts, rowsOf}
+use Rattle.plan.specs.Circuit.{Gate, Circuit, nexts, rowsOf, leaves, index}
 use Rattle.plan.specs.Depends.{find}
-use Rattle.plan.specs.Convert.{leaves, index}
 
 pub data Value : Type 0 where
   v0 v1 vx : Value
@@ -60,7 +59,8 @@ abbrev pub gateValue : (ℕ → Value) → Value → Option Gate → Value
 gateValue w a none = a
 gateValue w a (some g) = and (lit w (g .rhs0)) (lit w (g .rhs1))
 
--- the value of variable v, looking k gates deep
+-- the value of variable v, looking k gates deep; as many as there are gates is no limit, since no gate depends on itself: the values are
+-- those of the gates' own right sides, and there are no others (laws, Running.Values: value-solves, unique)
 abbrev pub valueIn : List Gate → (ℕ → Value) → ℕ → ℕ → Value
 valueIn gs e zero v = e v
 valueIn gs e (suc k) v = gateValue (λ u. valueIn gs e k u) (e v) (find v gs)
@@ -112,8 +112,8 @@ run c state (ins ∷ list) = stepOf c state ins ∷ run c (nextOf c state ins) l
 abbrev pub resetValue : ℕ → Value
 resetValue r = cond (eqb r 0) v0 (cond (eqb r 1) v1 vx)
 
-abbrev pub first : Circuit → List Value
-first c = map resetValue (c .resets)
+abbrev pub firstState : Circuit → List Value
+firstState c = map resetValue (c .resets)
 
 -- a list is given as a number of vectors and its bytes, I for each
 abbrev pub vectorsOf : Circuit → ℕ → List ℕ → List (List Value)
@@ -139,4 +139,4 @@ shows1 [] = false
 shows1 (s ∷ steps) = all1 (s .constraints) && (any1 (s .outputs) || (any1 (s .bads) || shows1 steps))
 
 abbrev pub witnessed : Circuit → ℕ → List ℕ → Bool
-witnessed c number bytes = shows1 (run c (first c) (vectorsOf c number bytes))
+witnessed c number bytes = shows1 (run c (firstState c) (vectorsOf c number bytes))

@@ -63,7 +63,8 @@ comment file at =
 abbrev pub startsSymbol : Version → List ℕ → ℕ → Bool
 startsSymbol v file at = isKind v (getD file at 0) && not (eqb (getD file at 0) 99 && eqb (getD file (at + 1) 0) 10)
 
--- symbol lines, in number at most k; then the end of the file or a comment
+-- symbol lines, in number at most k; then the end of the file or a comment. The number is no rule: a file has more bytes than symbol
+-- lines (tailAt)
 abbrev pub tailFrom : Version → List ℕ → Counts → ℕ → List Symbol → ℕ → Parse (List Symbol)
 tailFrom v file n zero seen at = refused (WrongByte at)
 tailFrom v file n (suc k) seen at =

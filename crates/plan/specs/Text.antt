@@ -6,14 +6,14 @@ use Rattle.plan.specs.declared.Counts.{Counts}
 use Rattle.plan.specs.declared.Version.{Version}
 use Rattle.plan.specs.Refusals.{Parse, got, _then_}
 use Rattle.plan.specs.Circuit.{Circuit, countsOf, heads, oneLine, latchLine, gateLine, literalOf, latchOf, gateOf}
-use Rattle.plan.specs.Bytes.{lines, latchLines, resetAfter, linesOf, withResets, shortest}
+use Rattle.plan.specs.Bytes.{lines, latchLines, resetAfter, linesOf, withResets, withoutZeros, latchForm}
 use Rattle.plan.specs.Header.{moreResets, text, shortCounts, headerOf}
 
 -- I lines of one literal, L of two and possibly a reset, O, B and C of one, A of three
 abbrev pub textBody : Version → List ℕ → Counts → ℕ → Parse Circuit
 textBody v file n at =
     lines file 1 true (n .M) (n .I) [] at then λ ins at.
-    latchLines file 2 true (n .M) (moreResets v) (n .L) zero (heads ins) at then λ lats at.
+    latchLines file (latchForm 2 true (moreResets v)) (n .M) (n .L) zero (heads ins) at then λ lats at.
     lines file 1 false (n .M) (n .O) [] at then λ outs at.
     lines file 1 false (n .M) (n .B) [] at then λ bads at.
     lines file 1 false (n .M) (n .C) [] at then λ cons at.
@@ -41,4 +41,4 @@ abbrev pub textLatches : Circuit → List (List ℕ)
 textLatches c = withResets (map latchLine (c .latches)) (c .resets)
 
 abbrev pub textOf : Circuit → List ℕ
-textOf c = headerOf text (shortCounts (countsOf c)) ++ textLines (map (shortest 2) (textLatches c)) c
+textOf c = headerOf text (shortCounts (countsOf c)) ++ textLines (map (withoutZeros 2) (textLatches c)) c

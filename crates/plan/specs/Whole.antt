@@ -21,12 +21,12 @@ use Rattle.plan.specs.Header.{header}
 use Rattle.plan.specs.Binary.{binaryOf}
 use Rattle.plan.specs.Tail.{endsLine}
 use Rattle.plan.specs.Reading.{readToWork}
-use Rattle.plan.specs.Given.{Given, given, orElse, room, inOrderThen}
+use Rattle.plan.specs.Given.{Given, givenCircuit, orElse, lackingRoom, inOrderThen, failingAt}
 use Rattle.plan.specs.Convert.{convert}
 use Rattle.plan.specs.Reduce.{reduce}
 use Rattle.plan.specs.Drop.{dropUnused}
 use Rattle.plan.specs.Step.{Value, codeOf, valueOf, nextOf, run}
-use Rattle.plan.specs.Outcome.{WriteExit, putBytes, put, vector, vectorOf}
+use Rattle.plan.specs.Outcome.{WriteExit, putBytes, put, vectorOf}
 use Rattle.plan.specs.Programs.{refusalLine, input, otherForm, linesIn, allVectors, stimulus, stepLines}
 
 -- the line of a refusal, put into a buffer
@@ -55,12 +55,12 @@ pub record WholeExit : Type 0 where
 
 -- the circuit of the file, by all that a reader checks; then 4 for the tables to make a circuit in and for scratch,
 -- of which a binary file may need less to be read. The position is the tail's
-abbrev pub loaded : WholeEntry → List ℕ → Parse Circuit
-loaded e file = readToWork file (lengthsOf (e .read) (e .scratch)) (lengthsOf (e .made) (e .scratch))
+abbrev pub fileCircuit : WholeEntry → List ℕ → Parse Circuit
+fileCircuit e file = readToWork file (lengthsOf (e .read) (e .scratch)) (lengthsOf (e .made) (e .scratch))
 
 -- the bytes to write, or 11
 abbrev pub fittingIn : List ℕ → List ℕ → Parse (List ℕ)
-fittingIn out bytes = unless (room out 0 bytes) ShortBuffer (got bytes (length bytes))
+fittingIn out bytes = unless (lackingRoom out 0 bytes) ShortBuffer (got bytes (length bytes))
 
 -- all tables are zero afterwards
 abbrev pub wholeBy : WholeEntry → Parse (List ℕ) → WholeExit
@@ -83,7 +83,7 @@ wholeBy e (refused r) = record {
 abbrev pub convertedFile : WholeEntry → Parse (List ℕ)
 convertedFile e =
     input (e .plan) λ file.
-    loaded e file then λ c start.
+    fileCircuit e file then λ c start.
     header V19 file 0 then λ h _.
     fittingIn (e .out) (otherForm (h .form) c ++ drop start file)
 
@@ -94,7 +94,7 @@ convertWhole e = wholeBy e (convertedFile e)
 abbrev pub reducedFile : WholeEntry → Parse (List ℕ)
 reducedFile e =
     input (e .plan) λ file.
-    loaded e file then λ c start.
+    fileCircuit e file then λ c start.
     fittingIn (e .out) (binaryOf (reduce (convert c)) ++ drop start file)
 
 abbrev pub reduceWhole : WholeEntry → WholeExit
@@ -104,7 +104,7 @@ reduceWhole e = wholeBy e (reducedFile e)
 abbrev pub droppedFile : WholeEntry → Parse (List ℕ)
 droppedFile e =
     input (e .plan) λ file.
-    loaded e file then λ c start.
+    fileCircuit e file then λ c start.
     fittingIn (e .out) (binaryOf (dropUnused (reduce (convert c))) ++ drop start file)
 
 abbrev pub dropWhole : WholeEntry → WholeExit
@@ -132,7 +132,7 @@ openBy e (refused r) = record {
 }
 
 abbrev pub openWhole : WholeEntry → OpenExit
-openWhole e = openBy e (input (e .plan) (loaded e))
+openWhole e = openBy e (input (e .plan) (fileCircuit e))
 
 -- the lines of standard input: how many, by 14, 13, 1 and 12
 abbrev pub countedBy : Parse (List (List ℕ)) → Traced
@@ -161,7 +161,7 @@ traceStage e =
     let n = e .circuit .counts in
     stage BadVector
     (orElse (vectorOf 1 (n .L) (e .state))
-    (vector 2 ((eqb (length (e .vectors)) 0 || endsLine (e .vectors)) && allVectors (n .I) (linesIn (e .vectors)))))
+    (failingAt 2 ((eqb (length (e .vectors)) 0 || endsLine (e .vectors)) && allVectors (n .I) (linesIn (e .vectors)))))
 
 -- the bytes of a line; and of the lines as many as fit whole
 abbrev pub lineWidth : Counts → ℕ
@@ -179,7 +179,7 @@ stateAfter c state (ins ∷ list) = stateAfter c (nextOf c state ins) list
 
 abbrev pub tracedBy : Option Refusal → TraceEntry → TraceExit
 tracedBy none e =
-    let c = given (e .circuit) in
+    let c = givenCircuit (e .circuit) in
     let state = map valueOf (e .state) in
     record {
       answer = traced.Lines (length (nextLines e));

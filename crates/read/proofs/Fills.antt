@@ -14,7 +14,7 @@ use Rattle.plan.specs.declared.Passed.{Passed}
 use Rattle.plan.specs.declared.Passed.the-variants as passed
 use Rattle.plan.specs.declared.Loaded.the-variants.{Accepted, Refused}
 use Rattle.plan.specs.Refusals.{Parse, got, refused}
-use Rattle.plan.specs.Circuit.{Circuit, Tables, countsOf, lengthsOf, against, short}
+use Rattle.plan.specs.Circuit.{Circuit, Tables, countsOf, lengthsOf, against, leastShort}
 use Rattle.plan.specs.Header.{Form, text, binary, header, adds, listOf, wordsToRead}
 use Rattle.plan.specs.Depends.{undefinedIn, cyclicIn}
 use Rattle.plan.specs.Tail.{tailAt}
@@ -53,11 +53,11 @@ module _ (v : Version) (file : List ℕ) (t t′ : Tables) (scratch : List ℕ) 
   header-told k e = loaded-refused t t′ (readFile v file (lengthsOf t scratch)) k (rw e)
 
   module _ (f : Form) (n : Counts) (at : ℕ) (e : header v file 0 ≡ got (record { form = f; counts = n }) at) where
-    pub short-told : (k : ℕ) → short (against 1 (wordsToRead f n) (lengthsOf t scratch)) ≡ some k
+    pub short-told : (k : ℕ) → leastShort (against 1 (wordsToRead f n) (lengthsOf t scratch)) ≡ some k
         → LoadedSays t (readFile v file (lengthsOf t scratch)) (Refused (ShortTable k)) t′
     short-told k s = loaded-refused t t′ (readFile v file (lengthsOf t scratch)) (ShortTable k) (rw (e, s))
 
-    module _ (s : short (against 1 (wordsToRead f n) (lengthsOf t scratch)) ≡ none) where
+    module _ (s : leastShort (against 1 (wordsToRead f n) (lengthsOf t scratch)) ≡ none) where
       whole : readFile v file (lengthsOf t scratch) ≡ rest v file f n at
       whole = rw (e, s)
 
@@ -93,7 +93,7 @@ pub text-sum : (n : Counts) (b : Bool) → b ≡ false → adds (formOf b) n ≡
 text-sum n b e h = leb-true _ _ (subst (λ (x : Bool). adds (formOf x) n ≡ true) e h)
 
 pub room-for : (f : Form) (n : Counts) (t : Tables) (scratch : List ℕ) → AllMost (listOf n)
-    → short (against 1 (wordsToRead f n) (lengthsOf t scratch)) ≡ none
+    → leastShort (against 1 (wordsToRead f n) (lengthsOf t scratch)) ≡ none
     → ((i : ℕ) → getD scratch i 0 ≡ 0) → Room f n t scratch
 room-for f n t scratch small s blank =
     let l = short-none (against 1 (wordsToRead f n) (lengthsOf t scratch)) .0 s in

@@ -14,7 +14,7 @@ use Rattle.plan.specs.declared.Made.the-variants as made
 use Rattle.plan.specs.Literals.{most}
 use Rattle.plan.specs.Refusals.{firstOf}
 use Rattle.plan.specs.Circuit.{Circuit, Tables, countsOf, cleared, allCleared, holding}
-use Rattle.plan.specs.Given.{Given, given, lentWith}
+use Rattle.plan.specs.Given.{Given, givenCircuit, lentWith}
 use Rattle.plan.specs.Outcome.{CheckExit, MakeExit, checkedBy, checkBy, madeBy}
 use Rattle.laws.proofs.Held.{Holds, holds-filled}
 use Rattle.laws.proofs.Marks.{zeros}
@@ -105,11 +105,11 @@ module _ (g : Given) (t : Tables) where
       }
 
       -- of a circuit with the same I, L, O, B and C, and no more gates
-      module _ (d : Circuit) (fewer : length (d .gates) ≤ length (given g .gates)) where
+      module _ (d : Circuit) (fewer : length (d .gates) ≤ length (givenCircuit g .gates)) where
         pub few : (k : ℕ) → k ≡ length (d .gates) → g .counts .I + g .counts .L + k ≤ most
         few k count = omega (arith, count, fewer, passed .fits .sum, passed .fits .most-M, ap (λ (m : Counts). m .A) (passed .counts))
 
-        module _ (same : countsOf d ≡ countsWith (countsOf (given g)) (length (d .gates))) (to₀ to : Tables) (k : ℕ) (cleared-is : to₀ ≡ allCleared t)
+        module _ (same : countsOf d ≡ countsWith (countsOf (givenCircuit g)) (length (d .gates))) (to₀ to : Tables) (k : ℕ) (cleared-is : to₀ ≡ allCleared t)
             (written : Written d to₀ to k) where
           counts-are : countsWith (g .counts) k ≡ countsOf d
           counts-are = ap₂ countsWith (sym (passed .counts)) (written .count) ∙ sym same

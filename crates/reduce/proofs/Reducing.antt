@@ -9,7 +9,7 @@ use Rattle.plan.specs.declared.Counts.{Counts}
 use Rattle.plan.specs.Literals.{litOf}
 use Rattle.plan.specs.Circuit.{Gate, Latch, Circuit, Tables, latchLine, gateLine, flat, nexts, resetsOk}
 use Rattle.plan.specs.Binary.{litsFrom, latchesFrom}
-use Rattle.plan.specs.Given.{Given, given}
+use Rattle.plan.specs.Given.{Given, givenCircuit}
 use Rattle.plan.specs.Reduce.{Reduced, becomes, reduceGates, reduced, latchBecomes, reduce}
 use Rattle.plan.specs.Outcome.{put}
 use Rattle.laws.proofs.Held.{Holds}
@@ -56,7 +56,7 @@ module _ (g : Given) (to : Tables) (ready : Ready g to) where
   n = g .counts
 
   abbrev c : Circuit
-  c = given g
+  c = givenCircuit g
 
   -- the first variable after the leaves', and the first after the gates'
   abbrev pub base : ℕ

@@ -13,7 +13,7 @@ use Rattle.plan.specs.declared.Refusal.{Refusal}
 use Rattle.plan.specs.declared.Refusal.the-variants.{LongInput, BadVector}
 use Rattle.plan.specs.Refusals.{stage, firstOf}
 use Rattle.plan.specs.Given.{Given, failingAt}
-use Rattle.plan.specs.Outcome.{WitnessEntry, allCodes, vector, listStage, checkedBy, checkInOrder}
+use Rattle.plan.specs.Outcome.{WitnessEntry, allCodes, listStage, checkedBy, checkInOrder}
 use Rattle.laws.proofs.Reading.Common.{and-left}
 use Rattle.laws.proofs.Writing.Nothing.{stage-none, at-none, first-all, first-both, both-first, some-first}
 use Rattle.judge.proofs.Sound.{good-none, refused-some}
@@ -60,9 +60,9 @@ module _ (e : ReportEntry) where
           (lt-leb (e .number) mostSteps h)))
 
       module _ (h : e .number ≤ mostSteps) where
-        by-list : (t : Bool) → whole ≡ t → firstOf (reportStages e) ≡ firstOf (none ∷ stage BadVector (vector 2 t) ∷ [])
+        by-list : (t : Bool) → whole ≡ t → firstOf (reportStages e) ≡ firstOf (none ∷ stage BadVector (failingAt 2 t) ∷ [])
         by-list t w =
-            past ∙ ap₂ (λ (s t : Bool). firstOf (stage LongInput (failingAt mostSteps s) ∷ stage BadVector (vector 2 t) ∷ []))
+            past ∙ ap₂ (λ (s t : Bool). firstOf (stage LongInput (failingAt mostSteps s) ∷ stage BadVector (failingAt 2 t) ∷ []))
             (le-leb (e .number) mostSteps h) w
 
         pub refused-list : whole ≡ false → checked.Refused (BadVector 2) ≡ checkedBy (firstOf (reportStages e))
@@ -95,4 +95,4 @@ module _ (e : ReportEntry) where
     pub list-whole : length (e .bytes) ≡ e .number * g .counts .I
     list-whole =
         eqb-true _ _ (and-left (eqb (length (e .bytes)) (e .number * g .counts .I)) (allCodes (e .bytes))
-        (at-none 2 whole (stage-none BadVector (vector 2 whole) (first-all later (parts .1) .1 .0))))
+        (at-none 2 whole (stage-none BadVector (failingAt 2 whole) (first-all later (parts .1) .1 .0))))

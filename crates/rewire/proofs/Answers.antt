@@ -16,7 +16,7 @@ use Rattle.plan.specs.declared.Checked.the-variants as checked
 use Rattle.plan.specs.declared.Stepped.the-variants as stepped
 use Rattle.plan.specs.Refusals.{stage, firstOf}
 use Rattle.plan.specs.Circuit.{Gate, Circuit, cleared}
-use Rattle.plan.specs.Given.{Given, given, lentAlone, failingAt}
+use Rattle.plan.specs.Given.{Given, givenCircuit, lentAlone, failingAt}
 use Rattle.plan.specs.Step.{Value}
 use Rattle.plan.specs.Outcome.{put, CheckExit, checkedBy, checkInOrder}
 use Rattle.laws.proofs.Reading.Runs.{order-exactly}
@@ -42,7 +42,7 @@ module _ (e : RewireEntry) where
   n = g .counts
 
   abbrev c : Circuit
-  c = given g
+  c = givenCircuit g
 
   abbrev base : ℕ
   base = 1 + n .I + n .L

@@ -12,7 +12,7 @@ use Rattle.plan.specs.declared.Checked.the-variants.{Good, Refused}
 use Rattle.plan.specs.Literals.{litOf, inRange}
 use Rattle.plan.specs.Refusals.{stage, firstOf}
 use Rattle.plan.specs.Given.{failingAt, failing}
-use Rattle.plan.specs.Outcome.{vector, checkedBy}
+use Rattle.plan.specs.Outcome.{checkedBy}
 use Rattle.plan.specs.Rewire.{leftAt, editStages}
 use Rattle.rewire.specs.Shown.{Counted}
 
@@ -20,7 +20,7 @@ use Rattle.rewire.specs.Shown.{Counted}
 abbrev answerBy : ℕ → Bool → Bool → Bool → Bool → Bool → Bool → Checked
 answerBy k t u v x y z =
     checkedBy (firstOf (stage NoGate (failingAt k t) ∷ stage OutOfRange (failingAt 4 (u && v)) ∷ stage NotInOrder (failing (x && y))
-    ∷ stage BadVector (vector 4 z) ∷ []))
+    ∷ stage BadVector (failingAt 4 z) ∷ []))
 
 -- the left side as the code has it
 pub left-word : (n : Counts) (k : ℕ) → Counted n → k < n .A → litOf (1 + n .I + n .L + k) % 2 ^ 32 ≡ leftAt n k

@@ -18,7 +18,7 @@ use Rattle.plan.specs.declared.Refusal.the-variants.{BadVector, LongInput}
 use Rattle.plan.specs.declared.Stepped.the-variants.{Done, Refused}
 use Rattle.plan.specs.Refusals.{firstOf}
 use Rattle.plan.specs.Circuit.{cleared}
-use Rattle.plan.specs.Given.{given}
+use Rattle.plan.specs.Given.{givenCircuit}
 use Rattle.plan.specs.Step.{isCode}
 use Rattle.plan.specs.Outcome.{allCodes}
 use Rattle.laws.proofs.Reading.Common.{and-left}
@@ -151,7 +151,7 @@ module _ (e : RowsEntry) where
           → _≡_ {A = RowsExit} (record { answer = Refused r; scratch = t; nexts = e .nexts; outputs = e .outputs }) (stepRows e)
       refused-late r q = refused-rows r (past ∙ ap (λ (o : Option Refusal). firstOf (o ∷ [])) q)
 
-      pub done-rows : rowStage e ≡ none → (nexts′ outs′ : List ℕ) → Leaves (given (e .circuit)) (e .rows) (e .inputs) nexts′ outs′
+      pub done-rows : rowStage e ≡ none → (nexts′ outs′ : List ℕ) → Leaves (givenCircuit (e .circuit)) (e .rows) (e .inputs) nexts′ outs′
           → _≡_ {A = RowsExit} (record { answer = Done; scratch = t; nexts = nexts′; outputs = outs′ }) (stepRows e)
       done-rows q nexts′ outs′ l =
           (λ j. record { answer = Done; scratch = blank j; nexts = l .next j; outputs = l .outputs j })

@@ -19,7 +19,7 @@ use Rattle.plan.specs.declared.Stepped.{Stepped}
 use Rattle.plan.specs.declared.Stepped.the-variants.{Done, Refused}
 use Rattle.plan.specs.Refusals.{firstOf}
 use Rattle.plan.specs.Circuit.{filled, cleared}
-use Rattle.plan.specs.Given.{given}
+use Rattle.plan.specs.Given.{givenCircuit}
 use Rattle.plan.specs.Outcome.{put, allCodes, checkedBy, checkInOrder}
 use Rattle.laws.proofs.Reading.Common.{and-left}
 use Rattle.laws.proofs.Writing.Nothing.{some-first, both-first}
@@ -143,7 +143,7 @@ module _ (e : RowReportEntry) where
         ∙ sym (ap (λ (o : Option Refusal). reportedRows o e) h)
 
     pub done-report : (w : List ℕ)
-        → w ≡ filled (e .report) (rowReport (given (e .circuit)) (rowSteps (given (e .circuit)) (e .rows) (e .inputs)))
+        → w ≡ filled (e .report) (rowReport (givenCircuit (e .circuit)) (rowSteps (givenCircuit (e .circuit)) (e .rows) (e .inputs)))
         → reply ≡ none
         → _≡_ {A = RowReportExit} (record { answer = Done; scratch = t; report = w }) (reportRows e)
     done-report w ew h =

@@ -7,8 +7,8 @@ use lib.Dec.{eqb}
 use lib.ListN.{length}
 use Rattle.plan.specs.declared.Counts.{Counts}
 use Rattle.plan.specs.Circuit.{Circuit, Tables}
-use Rattle.plan.specs.Given.{orElse}
-use Rattle.plan.specs.Outcome.{vector, vectorOf}
+use Rattle.plan.specs.Given.{orElse, failingAt}
+use Rattle.plan.specs.Outcome.{vectorOf}
 use Rattle.tables.specs.Held.{Scratch}
 use Rattle.step.specs.sweep.Running.{Runs}
 use Rattle.plan.specs.Rows.{rowSteps, outputBytes, nextBytes}
@@ -23,8 +23,8 @@ pub record Room (n : Counts) (latches outputs gates resets scratch : List ℕ) :
 -- 12 by the lengths of the buffers
 abbrev pub badRows : Counts → ℕ → ℕ → List ℕ → ℕ → Option ℕ
 badRows n rows nexts ins outs =
-    orElse (vector 1 (eqb nexts (rows * n .L))) (orElse (vectorOf 2 (rows * n .I) ins)
-    (vector 3 (eqb outs (rows * n .O))))
+    orElse (failingAt 1 (eqb nexts (rows * n .L))) (orElse (vectorOf 2 (rows * n .I) ins)
+    (failingAt 3 (eqb outs (rows * n .O))))
 
 -- rows that have lanes, their inputs and buffers
 pub record Lists (n : Counts) (rows : ℕ) (nexts ins outs : List ℕ) : Type 0 where

@@ -5,9 +5,9 @@ use mathlib.Core.Path.{_≡_, refl, sym, ap, _∙_, subst}
 use mathlib.Core.Bool.{true, false≢true}
 use mathlib.Core.List.{List, [], _∷_, _++_, map}
 use Rattle.plan.specs.Literals.{varOf, isReset}
-use Rattle.plan.specs.Circuit.{Gate, Latch, Circuit, vars, currents, lefts, nexts, rights, has, resetsOk}
+use Rattle.plan.specs.Circuit.{Gate, Latch, Circuit, vars, currentVars, leftVars, nexts, rights, has, resetsOk, leaves}
 use Rattle.plan.specs.Reading.{WellFormed}
-use Rattle.plan.specs.Convert.{leaves, convert}
+use Rattle.plan.specs.Convert.{convert}
 use Rattle.laws.proofs.Reading.Common.{and-left, and-right}
 use Rattle.laws.proofs.Reading.Members.{has-self, has-later, has-cases, distinct}
 use Rattle.laws.proofs.Running.Lists.{has-left, has-right, distinct-head, distinct-tail, allIn, in-head, in-tail}
@@ -55,48 +55,48 @@ module _ (ds : List ℕ) where
   inputs-in [] f = tt
   inputs-in (l ∷ ls) f = (f (varOf l) (has-self (varOf l) (vars ls)), inputs-in ls (λ v h. f v (has-later v (varOf l) (vars ls) h)))
 
-  latches-in : (ls : List Latch) → ((v : ℕ) → has v (currents ls) ≡ true → In v) → allIn (nexts ls) ds ≡ true → All (KnownLatch In) ls
+  latches-in : (ls : List Latch) → ((v : ℕ) → has v (currentVars ls) ≡ true → In v) → allIn (nexts ls) ds ≡ true → All (KnownLatch In) ls
   latches-in [] f h = tt
   latches-in (l ∷ ls) f h = (
-    (f (varOf (l .current)) (has-self (varOf (l .current)) (currents ls)), in-head (l .next) (nexts ls) ds h),
-    latches-in ls (λ v k. f v (has-later v (varOf (l .current)) (currents ls) k)) (in-tail (l .next) (nexts ls) ds h),
+    (f (varOf (l .current)) (has-self (varOf (l .current)) (currentVars ls)), in-head (l .next) (nexts ls) ds h),
+    latches-in ls (λ v k. f v (has-later v (varOf (l .current)) (currentVars ls) k)) (in-tail (l .next) (nexts ls) ds h),
   )
 
   -- a reset is a constant or the literal of its latch
-  resets-in : (ls : List Latch) (rs : List ℕ) → resetsOk ls rs ≡ true → In 0 → ((v : ℕ) → has v (currents ls) ≡ true → In v) → All (KnownLiteral In) rs
+  resets-in : (ls : List Latch) (rs : List ℕ) → resetsOk ls rs ≡ true → In 0 → ((v : ℕ) → has v (currentVars ls) ≡ true → In v) → All (KnownLiteral In) rs
   resets-in [] [] h z f = tt
   resets-in [] (r ∷ rs) h z f = absurd (false≢true h)
   resets-in (l ∷ ls) [] h z f = absurd (false≢true h)
   resets-in (l ∷ ls) (r ∷ rs) h z f = (
     by-reset (l .current) r (KnownLiteral In) (and-left (isReset (l .current) r) (resetsOk ls rs) h) z z
-        (f (varOf (l .current)) (has-self (varOf (l .current)) (currents ls))),
-    resets-in ls rs (and-right (isReset (l .current) r) (resetsOk ls rs) h) z (λ v k. f v (has-later v (varOf (l .current)) (currents ls) k)),
+        (f (varOf (l .current)) (has-self (varOf (l .current)) (currentVars ls))),
+    resets-in ls rs (and-right (isReset (l .current) r) (resetsOk ls rs) h) z (λ v k. f v (has-later v (varOf (l .current)) (currentVars ls) k)),
   )
 
-  gates-in : (gs : List Gate) → ((v : ℕ) → has v (lefts gs) ≡ true → In v) → allIn (rights gs) ds ≡ true → All (KnownGate In) gs
+  gates-in : (gs : List Gate) → ((v : ℕ) → has v (leftVars gs) ≡ true → In v) → allIn (rights gs) ds ≡ true → All (KnownGate In) gs
   gates-in [] f h = tt
   gates-in (g ∷ gs) f h =
       let later = in-tail (g .rhs0) (g .rhs1 ∷ rights gs) ds h in (
         (
-          f (varOf (g .lhs)) (has-self (varOf (g .lhs)) (lefts gs)),
+          f (varOf (g .lhs)) (has-self (varOf (g .lhs)) (leftVars gs)),
           in-head (g .rhs0) (g .rhs1 ∷ rights gs) ds h,
           in-head (g .rhs1) (rights gs) ds later,
         ),
-        gates-in gs (λ v k. f v (has-later v (varOf (g .lhs)) (lefts gs) k)) (in-tail (g .rhs1) (rights gs) ds later),
+        gates-in gs (λ v k. f v (has-later v (varOf (g .lhs)) (leftVars gs) k)) (in-tail (g .rhs1) (rights gs) ds later),
       )
 
 -- the constants' variable, and all that is defined
 abbrev pub definedAll : Circuit → List ℕ
-definedAll c = leaves c ++ lefts (c .gates)
+definedAll c = leaves c ++ leftVars (c .gates)
 
 known-defined : (c : Circuit) → WellFormed c → Known (In (definedAll c)) c
 known-defined c w =
     let a = accepted c w in
     let ins = vars (c .inputs) in
-    let lats = currents (c .latches) in
+    let lats = currentVars (c .latches) in
     let ds = definedAll c in
     let front : (v : ℕ) → has v (ins ++ lats) ≡ true → has v ds ≡ true
-    = λ v h. has-left v (leaves c) (lefts (c .gates)) (has-later v zero (ins ++ lats) h) in
+    = λ v h. has-left v (leaves c) (leftVars (c .gates)) (has-later v zero (ins ++ lats) h) in
     record {
       constants = refl;
       inputs = inputs-in ds (c .inputs) (λ v h. front v (has-left v ins lats h));
@@ -105,7 +105,7 @@ known-defined c w =
       outputs = lits-in ds (c .outputs) (a .used-output);
       bads = lits-in ds (c .bads) (a .used-bad);
       constraints = lits-in ds (c .constraints) (a .used-constraint);
-      gates = gates-in ds (c .gates) (λ v h. has-right v (leaves c) (lefts (c .gates)) h) (a .used-gate);
+      gates = gates-in ds (c .gates) (λ v h. has-right v (leaves c) (leftVars (c .gates)) h) (a .used-gate);
     }
 
 module _ (rename : ℕ → ℕ) (fixed : rename 0 ≡ 0) (c d : Circuit) (agree : Agree rename c d) (wc : WellFormed c) (wd : WellFormed d) where

@@ -4,9 +4,9 @@ use mathlib.Core.Path.{_≡_, sym, ap, ap₂, _∙_, subst}
 use mathlib.Core.Bool.{true}
 use mathlib.Core.List.{List, _++_, map, map-append}
 use lib.ListN.{length}
-use Rattle.plan.specs.Circuit.{Gate, Circuit, gateLine, lefts}
+use Rattle.plan.specs.Circuit.{Gate, Circuit, gateLine, leftVars, leaves}
 use Rattle.plan.specs.Binary.{litsFrom, latchesFrom}
-use Rattle.plan.specs.Convert.{leaves, order, sorted, numbered, renumber, renumberGates, convert}
+use Rattle.plan.specs.Convert.{order, sorted, numbered, renumber, renumberGates, convert}
 use Rattle.same.specs.Agreement.{sameLiteral, sameLatch, sameGate, entryByEntry, Agree}
 use Rattle.same.proofs.Entries.{All, Each, all-append, as-many, each-map, each-heads, each-known}
 use Rattle.same.proofs.Named.{KnownLiteral, Known, Named, NamedLatch, NamedGate, named-nexts, literals-named, latches-named, gates-named}
@@ -36,12 +36,12 @@ module _ (rename : ℕ → ℕ) (P : ℕ → Type 0) (apart : (u v : ℕ) → P 
 
   numbered-renamed : map rename (numbered c) ≡ numbered d
   numbered-renamed =
-      map-append rename (leaves c) (lefts (sorted c))
+      map-append rename (leaves c) (leftVars (sorted c))
       ∙ ap₂ (λ (vs us : List ℕ). vs ++ us) renamed (sym (each-heads rename gateLine (λ g h n. n .left .var) sorted-named))
 
   numbered-known : All P (numbered c)
   numbered-known =
-      all-append P (leaves c) (lefts (sorted c)) all-known (each-known P gateLine (λ g h n. n .left .known) sorted-named)
+      all-append P (leaves c) (leftVars (sorted c)) all-known (each-known P gateLine (λ g h n. n .left .known) sorted-named)
 
   -- nexts, resets, outputs, bad states, constraints, and any list of literals that agrees; the gates
   named-converted : {ls ks : List ℕ} → Each (Named rename P) ls ks → map (renumber (numbered c)) ls ≡ map (renumber (numbered d)) ks

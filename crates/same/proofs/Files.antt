@@ -9,12 +9,12 @@ use Rattle.plan.specs.declared.Counts.{Counts}
 use Rattle.plan.specs.declared.Version.the-variants.{V2007, V19}
 use Rattle.plan.specs.declared.Refusal.the-variants.{ShortTable, NotDefined, Cyclic}
 use Rattle.plan.specs.Refusals.{Parse, got, _then_, unless}
-use Rattle.plan.specs.Circuit.{Circuit, countsOf, wordsToWork, against, short}
+use Rattle.plan.specs.Circuit.{Circuit, countsOf, wordsToWork, against, leastShort}
 use Rattle.plan.specs.Depends.{undefinedIn, cyclicIn}
 use Rattle.plan.specs.Header.{Form, text, binary, letterOf, Head, header}
 use Rattle.plan.specs.Text.{textBody, textOf}
 use Rattle.plan.specs.Tail.{tailAt}
-use Rattle.plan.specs.Reading.{readFile, WellFormed, States, Room}
+use Rattle.plan.specs.Reading.{readFile, WellFormed, States, LongEnough}
 use Rattle.laws.proofs.Reading.Common.{then-got, unless-got, got-value}
 use Rattle.laws.proofs.Reading.Differences.{Bytes}
 use Rattle.laws.proofs.Reading.Headers.{header-took}
@@ -56,16 +56,16 @@ counted file n at c start q =
     ap countsOf (sym (got-value (t .0) c (t .1) start (w .1))) ∙ text-took file V19 n at (t .0) (t .1) (t .2) .counts
 
 -- there was room for its circuit
-pub text-room : {file lengths tail : List ℕ} {c : Circuit} → AcceptedText file lengths c tail → Room c lengths
+pub text-room : {file lengths tail : List ℕ} {c : Circuit} → AcceptedText file lengths c tail → LongEnough c lengths
 text-room {file} {lengths} {c = c} t =
     let h = text-header t in
     let n = h .0 in
-    let read : unless (short (against 1 (wordsToWork n) lengths)) ShortTable (lined file n (h .1)) ≡ got c (t .start) = rw (h .2) at (t .accepted) in
-    let u = unless-got (short (against 1 (wordsToWork n) lengths)) ShortTable (lined file n (h .1)) c (t .start) read in
-    ap (λ (x : Counts). short (against 1 (wordsToWork x) lengths)) (counted file n (h .1) c (t .start) (u .1)) ∙ u .0
+    let read : unless (leastShort (against 1 (wordsToWork n) lengths)) ShortTable (lined file n (h .1)) ≡ got c (t .start) = rw (h .2) at (t .accepted) in
+    let u = unless-got (leastShort (against 1 (wordsToWork n) lengths)) ShortTable (lined file n (h .1)) c (t .start) read in
+    ap (λ (x : Counts). leastShort (against 1 (wordsToWork x) lengths)) (counted file n (h .1) c (t .start) (u .1)) ∙ u .0
 
 -- with room: exactly if it states them
-pub text-exactly : (file lengths : List ℕ) → Bytes file → (c : Circuit) (tail : List ℕ) → Room c lengths
+pub text-exactly : (file lengths : List ℕ) → Bytes file → (c : Circuit) (tail : List ℕ) → LongEnough c lengths
     → AcceptedText file lengths c tail ↔ (States V19 file c tail × (getD file 1 0 ≡ letterOf text))
 text-exactly file lengths bytes c tail room = (forth, back)
   where
@@ -91,8 +91,8 @@ old-text file lengths bytes c start form q =
 
 -- two files that state circuits that agree, and one tail, are of one plan wherever there is room for both circuits
 pub stated-plan : (rename : ℕ → ℕ) → OneToOne rename → (c d : Circuit) → Agree rename c d → (file other tail lengths : List ℕ)
-    → getD file 1 0 ≡ letterOf text → States V19 file c tail → Room c lengths
-    → getD other 1 0 ≡ letterOf text → States V19 other d tail → Room d lengths
+    → getD file 1 0 ≡ letterOf text → States V19 file c tail → LongEnough c lengths
+    → getD other 1 0 ≡ letterOf text → States V19 other d tail → LongEnough d lengths
     → SamePlan lengths file other
 stated-plan rename o c d agree file other tail lengths e s r f t q = record {
   rename = rename;
@@ -105,15 +105,15 @@ stated-plan rename o c d agree file other tail lengths e s r f t q = record {
   second = stated other d f t q;
 }
   where
-    stated : (x : List ℕ) (b : Circuit) → getD x 1 0 ≡ letterOf text → States V19 x b tail → Room b lengths → AcceptedText x lengths b tail
+    stated : (x : List ℕ) (b : Circuit) → getD x 1 0 ≡ letterOf text → States V19 x b tail → LongEnough b lengths → AcceptedText x lengths b tail
     stated x b e s room =
         let a = complete V19 x lengths b tail s (room-to-read x b lengths (formed V19 x b tail s) room) in
         record { form = e; start = a .0; accepted = a .1; rest = a .2 }
 
 -- above all in the shortest form
 pub shortest-plan : (rename : ℕ → ℕ) → OneToOne rename → (c d : Circuit) → Agree rename c d → (file other tail lengths : List ℕ)
-    → file ≡ textOf c ++ tail → States V19 file c tail → Room c lengths
-    → other ≡ textOf d ++ tail → States V19 other d tail → Room d lengths
+    → file ≡ textOf c ++ tail → States V19 file c tail → LongEnough c lengths
+    → other ≡ textOf d ++ tail → States V19 other d tail → LongEnough d lengths
     → SamePlan lengths file other
 shortest-plan rename o c d agree file other tail lengths e s r f t q =
     stated-plan rename o c d agree file other tail lengths (ap (λ (l : List ℕ). getD l 1 0) e) s r (ap (λ (l : List ℕ). getD l 1 0) f) t q

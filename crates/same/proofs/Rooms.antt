@@ -7,8 +7,8 @@ use native.Mathlib.Omega.{arith}
 use borrow.Author.Tests.{le-leb}
 use lib.ListN.{length, getD, drop}
 use Rattle.plan.specs.declared.Counts.{Counts}
-use Rattle.plan.specs.Circuit.{Circuit, countsOf, wordsToWork, against, short}
-use Rattle.plan.specs.Reading.{Room}
+use Rattle.plan.specs.Circuit.{Circuit, countsOf, wordsToWork, against, leastShort}
+use Rattle.plan.specs.Reading.{LongEnough}
 use Rattle.laws.proofs.Reading.Short.{short-none}
 use Rattle.same.specs.Agreement.{sameLiteral, sameLatch, sameGate, Agree}
 use Rattle.same.proofs.Entries.{as-many}
@@ -24,12 +24,12 @@ abbrev pub working : ℕ → Counts → List ℕ
 working words n = n .I ∷ 2 * n .L ∷ n .O ∷ 3 * n .A ∷ words ∷ 0 ∷ n .L ∷ n .B ∷ n .C ∷ []
 
 enough-scratch : (n : Counts) (lengths : List ℕ) → scratchOf n ≤ fifth lengths
-    → short (against 1 (wordsToWork n) lengths) ≡ short (against 1 (working 0 n) lengths)
+    → leastShort (against 1 (wordsToWork n) lengths) ≡ leastShort (against 1 (working 0 n) lengths)
 enough-scratch n lengths h =
     let least : 0 ≤ fifth lengths = omega arith in
     rw (le-leb (scratchOf n) (fifth lengths) h, le-leb 0 (fifth lengths) least)
 
-pub room-scratch : (c : Circuit) (lengths : List ℕ) → Room c lengths → scratchOf (countsOf c) ≤ fifth lengths
+pub room-scratch : (c : Circuit) (lengths : List ℕ) → LongEnough c lengths → scratchOf (countsOf c) ≤ fifth lengths
 room-scratch c lengths room = short-none (against 1 (wordsToWork (countsOf c)) lengths) .0 room .1 .1 .1 .1 .0
 
 module _ (rename : ℕ → ℕ) (c d : Circuit) (agree : Agree rename c d) where
@@ -57,12 +57,12 @@ module _ (rename : ℕ → ℕ) (c d : Circuit) (agree : Agree rename c d) where
 
   -- so 4 is the same for both where there is scratch for both
   pub short-alike : (lengths : List ℕ) → scratchOf (countsOf c) ≤ fifth lengths → scratchOf (countsOf d) ≤ fifth lengths
-      → short (against 1 (wordsToWork (countsOf c)) lengths) ≡ short (against 1 (wordsToWork (countsOf d)) lengths)
+      → leastShort (against 1 (wordsToWork (countsOf c)) lengths) ≡ leastShort (against 1 (wordsToWork (countsOf d)) lengths)
   short-alike lengths h g =
       enough-scratch (countsOf c) lengths h
-      ∙ (ap (λ (needs : List ℕ). short (against 1 needs lengths)) (needs-alike 0) ∙ sym (enough-scratch (countsOf d) lengths g))
+      ∙ (ap (λ (needs : List ℕ). leastShort (against 1 needs lengths)) (needs-alike 0) ∙ sym (enough-scratch (countsOf d) lengths g))
 
-  pub room-for-both : d .M ≤ c .M → (lengths : List ℕ) → Room c lengths → Room d lengths
+  pub room-for-both : d .M ≤ c .M → (lengths : List ℕ) → LongEnough c lengths → LongEnough d lengths
   room-for-both m lengths room =
       let r = short-none (against 1 (wordsToWork (countsOf c)) lengths) .0 room in
       let r5 = r .1 .1 .1 .1 in

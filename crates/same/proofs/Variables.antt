@@ -8,8 +8,8 @@ use native.Mathlib.Nat.{max-comm, min-comm}
 use borrow.Author.Tests.{eqb-true, eqb-false, eq-eqb, ne-eqb}
 use lib.Dec.{eqb}
 use Rattle.plan.specs.Literals.{litOf, varOf}
-use Rattle.plan.specs.Circuit.{Gate, has}
-use Rattle.plan.specs.Convert.{ready, index, renumber, gateFor, renumberGates}
+use Rattle.plan.specs.Circuit.{Gate, has, index}
+use Rattle.plan.specs.Convert.{ready, renumber, gateFor, renumberGates}
 use Rattle.same.proofs.Entries.{All, Each, none, more}
 use Rattle.same.proofs.Named.{Named, NamedGate, NamedSides}
 

@@ -8,10 +8,10 @@ use lib.ListN.{length, drop}
 use Rattle.plan.specs.declared.Version.the-variants.{V19}
 use Rattle.plan.specs.declared.Refusal.the-variants.{ShortTable}
 use Rattle.plan.specs.Refusals.{Parse, got, refused, _then_, unless}
-use Rattle.plan.specs.Circuit.{Circuit, countsOf, lengthsOf, wordsToWork, against, short}
+use Rattle.plan.specs.Circuit.{Circuit, countsOf, lengthsOf, wordsToWork, against, leastShort}
 use Rattle.plan.specs.Header.{header}
 use Rattle.plan.specs.Binary.{binaryOf}
-use Rattle.plan.specs.Reading.{Room}
+use Rattle.plan.specs.Reading.{LongEnough}
 use Rattle.plan.specs.Convert.{convert}
 use Rattle.plan.specs.Reduce.{reduce}
 use Rattle.plan.specs.Programs.{otherForm}
@@ -32,7 +32,7 @@ lengthsRead e = lengthsOf (e .read) (e .scratch)
 module _ (e : WholeEntry) where
   -- 4 for the tables to make a circuit in, then 11
   abbrev wrote : Circuit → List ℕ → Parse (List ℕ)
-  wrote c bytes = unless (short (against 1 (wordsToWork (countsOf c)) (lengthsOf (e .made) (e .scratch)))) ShortTable (fittingIn (e .out) bytes)
+  wrote c bytes = unless (leastShort (against 1 (wordsToWork (countsOf c)) (lengthsOf (e .made) (e .scratch)))) ShortTable (fittingIn (e .out) bytes)
 
   -- what is left does not depend on the file but through what is written
   left-alike : (file other : List ℕ) (p : Parse (List ℕ)) → wholeBy (handed e file) p ≡ wholeBy (handed e other) p
@@ -43,7 +43,7 @@ module _ (e : WholeEntry) where
     convert-on-text : convertWhole (handed e file) ≡ wholeBy (handed e file) (wrote c (binaryOf (convert c) ++ tail))
     convert-on-text =
         rw (le-leb (length file) 65536 small, t .accepted)
-        (ap (wholeBy (handed e file)) (go (short (against 1 (wordsToWork (countsOf c)) (lengthsOf (e .made) (e .scratch))))))
+        (ap (wholeBy (handed e file)) (go (leastShort (against 1 (wordsToWork (countsOf c)) (lengthsOf (e .made) (e .scratch))))))
       where
         go : (o : Option ℕ) → (unless o ShortTable (got c (t .start)) then λ c start.
             header V19 file 0 then λ h _.
@@ -55,7 +55,7 @@ module _ (e : WholeEntry) where
     reduce-on-text : reduceWhole (handed e file) ≡ wholeBy (handed e file) (wrote c (binaryOf (reduce (convert c)) ++ tail))
     reduce-on-text =
         rw (le-leb (length file) 65536 small, t .accepted)
-        (ap (wholeBy (handed e file)) (go (short (against 1 (wordsToWork (countsOf c)) (lengthsOf (e .made) (e .scratch))))))
+        (ap (wholeBy (handed e file)) (go (leastShort (against 1 (wordsToWork (countsOf c)) (lengthsOf (e .made) (e .scratch))))))
       where
         go : (o : Option ℕ) → (unless o ShortTable (got c (t .start)) then λ c start.
             fittingIn (e .out) (binaryOf (reduce (convert c)) ++ drop start file))
@@ -64,7 +64,7 @@ module _ (e : WholeEntry) where
         go (some place) = refl
 
   -- scratch, for which M counts, is long enough for both, since both were read
-  wrote-alike : (rename : ℕ → ℕ) (c d : Circuit) → Agree rename c d → Room c (lengthsRead e) → Room d (lengthsRead e)
+  wrote-alike : (rename : ℕ → ℕ) (c d : Circuit) → Agree rename c d → LongEnough c (lengthsRead e) → LongEnough d (lengthsRead e)
       → (bytes other : List ℕ) → bytes ≡ other → wrote c bytes ≡ wrote d other
   wrote-alike rename c d agree room room′ bytes other same =
       ap₂ (λ (o : Option ℕ) (x : List ℕ). unless o ShortTable (fittingIn (e .out) x))

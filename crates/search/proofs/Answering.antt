@@ -20,7 +20,7 @@ use Rattle.plan.specs.declared.Happening.the-variants.{Can, Refused}
 use Rattle.plan.specs.declared.Happening.the-variants as happening
 use Rattle.plan.specs.Refusals.{stage, firstOf}
 use Rattle.plan.specs.Circuit.{Circuit, Tables, circuitOf, orLess, cleared}
-use Rattle.plan.specs.Given.{failingAt, room, roomStage, inOrderThen}
+use Rattle.plan.specs.Given.{failingAt, lackingRoom, roomStage, inOrderThen}
 use Rattle.plan.specs.Outcome.{put, checkedBy}
 use Rattle.plan.specs.Search.{System, Way, Found, never, happens, undecided, onward, bits, watched, systemOf, canHappen, wayBytes, happeningOf, SearchEntry, SearchExit, searched, found, searchStages, searchedBy, search}
 use Rattle.laws.proofs.Writing.Nothing.{some-first, both-first}
@@ -133,11 +133,11 @@ module _ (e : SearchEntry) where
 
     pub asks-found : a ≡ checked.Good → (h : Happening) (out′ : List ℕ) → Answered (searched e) (found e) (e .out) h out′ → Asks e h out′
     asks-found q h out′ w = (
-      w .0 ∙ sym (ap (λ (o : Option Refusal). searchedBy o e .answer) whole ∙ by-answer (room (e .out) 0 (wayBytes (searched e) (found e)))),
-      w .1 ∙ sym (ap (λ (o : Option Refusal). searchedBy o e .out) whole ∙ by-out (room (e .out) 0 (wayBytes (searched e) (found e)))),
+      w .0 ∙ sym (ap (λ (o : Option Refusal). searchedBy o e .answer) whole ∙ by-answer (lackingRoom (e .out) 0 (wayBytes (searched e) (found e)))),
+      w .1 ∙ sym (ap (λ (o : Option Refusal). searchedBy o e .out) whole ∙ by-out (lackingRoom (e .out) 0 (wayBytes (searched e) (found e)))),
     )
       where
-        whole : answer (e .circuit) (searchStages e) ≡ firstOf (stage ShortBuffer (room (e .out) 0 (wayBytes (searched e) (found e))) ∷ [])
+        whole : answer (e .circuit) (searchStages e) ≡ firstOf (stage ShortBuffer (lackingRoom (e .out) 0 (wayBytes (searched e) (found e))) ∷ [])
         whole = past ∙ both-first early (roomStage (e .out) (wayBytes (searched e) (found e)) ∷ []) (good-none (firstOf early) (sym q ∙ told))
 
         by-answer : (o : Option ℕ) → searchedBy (firstOf (stage ShortBuffer o ∷ [])) e .answer ≡ answerBy o (found e)
@@ -186,8 +186,8 @@ shown-walks y l allowance place m tries met q e h long ex =
 -- nothing to write
 pub answered-nothing : (c : Circuit) (f : Found) (out : List ℕ) → wayBytes c f ≡ [] → Answered c f out (happeningOf f) out
 answered-nothing c f out e =
-    let r : room out 0 (wayBytes c f) ≡ none =
-    ap (room out 0) e ∙ ap (λ (b : Bool). cond b none (some (min (0 + 0) (2 ^ 64 - 1)))) (le-leb (0 + 0) (length out) (omega arith)) in (
+    let r : lackingRoom out 0 (wayBytes c f) ≡ none =
+    ap (lackingRoom out 0) e ∙ ap (λ (b : Bool). cond b none (some (min (0 + 0) (2 ^ 64 - 1)))) (le-leb (0 + 0) (length out) (omega arith)) in (
       sym (ap (λ (o : Option ℕ). answerBy o f) r),
       sym (put-none out 0) ∙ sym (ap₂ (λ (o : Option ℕ) (b : List ℕ). outBy o out b) r e),
     )
@@ -199,11 +199,11 @@ pub answered-told : (c : Circuit) (w : Way) (tries : ℕ) (out codes : List ℕ)
     → out′ ≡ cond (leb (length codes) (length out)) (put out 0 codes) out → Answered c (happens w tries) out r out′
 answered-told c w tries out codes r out′ e few er eo = go (leb (length codes) (length out)) refl
   where
-    big : (b : Bool) → leb (length codes) (length out) ≡ b → room out 0 (wayBytes c (happens w tries)) ≡ cond b none (some (length codes))
+    big : (b : Bool) → leb (length codes) (length out) ≡ b → lackingRoom out 0 (wayBytes c (happens w tries)) ≡ cond b none (some (length codes))
     big b q =
         let none-more : 0 + length codes ≡ length codes = zero-add (length codes) in
         let cut : min (length codes) (2 ^ 64 - 1) ≡ length codes = omega arith in
-        ap (room out 0) e
+        ap (lackingRoom out 0) e
         ∙ ap (λ (k : ℕ). cond (leb k (length out)) none (some (min k (2 ^ 64 - 1)))) none-more
         ∙ ap₂ (λ (t : Bool) (k : ℕ). cond t none (some k)) q cut
 

@@ -15,7 +15,7 @@ use Rattle.tables.specs.bitmap.Bitmap.{isOn, raised}
 use Rattle.tables.proofs.bitmap.Telling.{raised-on, raised-others}
 use Rattle.plan.specs.declared.Counts.{Counts}
 use Rattle.plan.specs.Circuit.{Tables, circuitOf, has}
-use Rattle.plan.specs.Step.{Value, codeOf, valueOf, resetValue, first}
+use Rattle.plan.specs.Step.{Value, codeOf, valueOf, resetValue, firstState}
 use Rattle.plan.specs.Fillings.{xCount, filling}
 use Rattle.laws.proofs.Put.{put-put}
 use Rattle.laws.proofs.Fillings.Numbering.{fill-length}

@@ -12,10 +12,10 @@ use Rattle.plan.specs.declared.Counts.{Counts}
 use Rattle.plan.specs.declared.Refusal.{Refusal}
 use Rattle.plan.specs.declared.Refusal.the-variants.{ShortTable, NotExplained, ManyLatches, ManyInputs}
 use Rattle.plan.specs.Refusals.{stage, firstOf}
-use Rattle.plan.specs.Circuit.{Circuit, countsOf, short}
+use Rattle.plan.specs.Circuit.{Circuit, countsOf, leastShort}
 use Rattle.plan.specs.Reading.{WellFormed}
-use Rattle.plan.specs.Given.{Given, given, lentAlone, failingAt, roomStage, stages, orderStage, inOrderThen}
-use Rattle.plan.specs.Step.{first}
+use Rattle.plan.specs.Given.{Given, givenCircuit, lentAlone, failingAt, roomStage, stages, orderStage, inOrderThen}
+use Rattle.plan.specs.Step.{firstState}
 use Rattle.plan.specs.Fillings.{Fills, startOf, showsAt}
 use Rattle.plan.specs.Outcome.{put}
 use Rattle.laws.proofs.Writing.Nothing.{stage-none, at-none, first-all, first-both}
@@ -32,7 +32,7 @@ use Rattle.search.proofs.Circuits.{NoneShows, never-none, happens-best,
 use Rattle.search.proofs.Circuits as circuits
 use Rattle.search.proofs.Witnesses.{watched-accepted, found-fills, found-shows}
 
-first-watched : (k : ℕ) (c : Circuit) → first (watched k c) ≡ first c
+first-watched : (k : ℕ) (c : Circuit) → firstState (watched k c) ≡ firstState c
 first-watched zero c = refl
 first-watched (suc k) c = refl
 
@@ -55,10 +55,10 @@ module _ (e : SearchEntry) where
 
   -- a call that is refused for nothing
   pub record NotRefused : Type 0 where
-    pub formed : WellFormed (given (e .circuit))
+    pub formed : WellFormed (givenCircuit (e .circuit))
     pub few-latches : e .circuit .counts .L ≤ 20
     pub few-inputs : e .circuit .counts .I ≤ 20
-    pub there : e .watch ≤ length (given (e .circuit) .outputs)
+    pub there : e .watch ≤ length (givenCircuit (e .circuit) .outputs)
 
   pub not-refused : firstOf (inOrderThen (e .circuit) (searchStages e)) ≡ none → NotRefused
   not-refused q =
@@ -80,12 +80,12 @@ module _ (e : SearchEntry) where
 
   module _ (s : NotRefused) where
     pub ok : Accepted (searched e)
-    ok = watched-accepted (given (e .circuit)) (accepted (given (e .circuit)) (s .formed)) (e .watch) (s .there)
+    ok = watched-accepted (givenCircuit (e .circuit)) (accepted (givenCircuit (e .circuit)) (s .formed)) (e .watch) (s .there)
 
-    pub sized : length (first (searched e)) ≡ length (searched e .latches)
+    pub sized : length (firstState (searched e)) ≡ length (searched e .latches)
     sized =
-        ap length (first-watched (e .watch) (given (e .circuit))) ∙ first-length (given (e .circuit)) (s .formed)
-        ∙ sym (latches-watched (e .watch) (given (e .circuit)))
+        ap length (first-watched (e .watch) (givenCircuit (e .circuit))) ∙ first-length (givenCircuit (e .circuit)) (s .formed)
+        ∙ sym (latches-watched (e .watch) (givenCircuit (e .circuit)))
 
   -- never: no start and no list, with x or without, shows it
   never-only : (o : Option Refusal) (n t : ℕ) → searchedBy o e .answer ≡ Never n t → (o ≡ none) × (found e ≡ never n t)

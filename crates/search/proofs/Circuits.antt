@@ -7,10 +7,9 @@ use mathlib.Core.List.{List, [], _∷_, map}
 use native.Mathlib.Nat.{one-le-pow, zero-add}
 use native.Mathlib.Omega.{arith}
 use lib.ListN.{length, getD, length-map}
-use Rattle.plan.specs.Circuit.{Circuit, nexts, has}
-use Rattle.plan.specs.Convert.{index}
+use Rattle.plan.specs.Circuit.{Circuit, nexts, has, index}
 use Rattle.plan.specs.Reading.{WellFormed}
-use Rattle.plan.specs.Step.{Value, codeOf, valueOf, outputsOf, badsOf, constraintsOf, nextOf, Step, run, first, any1, all1, shows1}
+use Rattle.plan.specs.Step.{Value, codeOf, valueOf, outputsOf, badsOf, constraintsOf, nextOf, Step, run, firstState, any1, all1, shows1}
 use Rattle.plan.specs.Fillings.{Fills, startOf}
 use Rattle.laws.proofs.Reading.Members.{distinct}
 use Rattle.laws.proofs.Running.Refinement.{Les}
@@ -37,7 +36,7 @@ all-small n [] z y e = tt
 all-small n (i ∷ is) z y e =
     (subst (λ (k : ℕ). asNumber i < k) (ap (λ (m : ℕ). 2 ^ m) (z .0) ∙ sym e) (number-small i), all-small n is (z .1) y e)
 
-module _ (split : ℕ) (c : Circuit) (ok : Accepted c) (sized : length (first c) ≡ length (c .latches)) where
+module _ (split : ℕ) (c : Circuit) (ok : Accepted c) (sized : length (firstState c) ≡ length (c .latches)) where
   abbrev y : System
   y = systemOf split c
 
@@ -70,10 +69,10 @@ module _ (split : ℕ) (c : Circuit) (ok : Accepted c) (sized : length (first c)
 
   -- starts are the fillings of the resets
   start-length : (k : ℕ) → length (map valueOf (startAt split c k)) ≡ length (c .latches)
-  start-length k = length-map (startAt split c k) valueOf ∙ both-length split k (startOf c) ∙ length-map (first c) codeOf ∙ sized
+  start-length k = length-map (startAt split c k) valueOf ∙ both-length split k (startOf c) ∙ length-map (firstState c) codeOf ∙ sized
 
   pub start-nox : (k : ℕ) → NoX (map valueOf (startAt split c k))
-  start-nox k = fills-two-valued (startOf c) (startAt split c k) (all-codes (first c)) (both-fills split k (startOf c))
+  start-nox k = fills-two-valued (startOf c) (startAt split c k) (all-codes (firstState c)) (both-fills split k (startOf c))
 
   pub start-filled : (k : ℕ) → bits (length (c .latches)) (startNumber split c k) ≡ map valueOf (startAt split c k)
   start-filled k =
@@ -125,7 +124,7 @@ module _ (split : ℕ) (c : Circuit) (ok : Accepted c) (sized : length (first c)
 
   pub start-codes : (k : ℕ) → map codeOf (bits (length (c .latches)) (startNumber split c k)) ≡ startAt split c k
   start-codes k =
-      ap (map codeOf) (start-filled k) ∙ codes-of (startOf c) (startAt split c k) (both-fills split k (startOf c)) (all-codes (first c))
+      ap (map codeOf) (start-filled k) ∙ codes-of (startOf c) (startAt split c k) (both-fills split k (startOf c)) (all-codes (firstState c))
 
   pub starts-once : distinct (systemOf split c .starts) ≡ true
   starts-once = up-distinct (startNumber split c) (2 ^ xBoth split (startOf c)) 0 once
@@ -201,10 +200,10 @@ module _ (split : ℕ) (c : Circuit) (ok : Accepted c) (sized : length (first c)
 
   -- one plan alone: from no state that replaces x of the resets in any way
   pub never-whole : (a n t : ℕ) → canHappen split c a ≡ never n t → length (c .latches) ≤ split
-      → (s : List Value) (is : List (List Value)) → Les (first c) s → Sized (length (c .inputs)) is → shows1 (run c s is) ≡ false
+      → (s : List Value) (is : List (List Value)) → Les (firstState c) s → Sized (length (c .inputs)) is → shows1 (run c s is) ≡ false
   never-whole a n t e q s is h z =
-      let f = les-fills (first c) (map zeroed s) (les-trans (first c) s (map zeroed s) h (zeroed-les s)) (zeroed-nox s) in
-      let r = whole-number split (startOf c) (map codeOf (map zeroed s)) (omega (arith, length-map (first c) codeOf, sized)) f in
+      let f = les-fills (firstState c) (map zeroed s) (les-trans (firstState c) s (map zeroed s) h (zeroed-les s)) (zeroed-nox s) in
+      let r = whole-number split (startOf c) (map codeOf (map zeroed s)) (omega (arith, length-map (firstState c) codeOf, sized)) f in
       never-none a n t e (r .0) s is
       (subst (Les s) (sym (ap (map valueOf) (r .1) ∙ codes-values (map zeroed s))) (zeroed-les s)) z
 

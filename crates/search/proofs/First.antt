@@ -10,8 +10,7 @@ use native.Mathlib.Omega.{arith}
 use borrow.Author.Tests.{ltb-true, ltb-false, eqb-true}
 use lib.Dec.{eqb, ltb}
 use lib.ListN.{length, getD, length-append}
-use Rattle.plan.specs.Circuit.{has}
-use Rattle.plan.specs.Convert.{index}
+use Rattle.plan.specs.Circuit.{has, index}
 use Rattle.laws.proofs.Reading.Members.{distinct}
 use Rattle.laws.proofs.Running.Lists.{index-at, absent}
 use Rattle.plan.specs.Search.{System, showsBy, Leads, AllMoves, Before, ranked, Best, Way, begin, stateOf, onward, meet, Tried, past, shown, left, tryMove, tryAt, Found, never, happens, undecided, atEnd, goOn, searchFrom, searchAll}

@@ -8,7 +8,7 @@ use native.Mathlib.Nat.{suc-mul}
 use native.Mathlib.Omega.{arith}
 use lib.ListN.{length, drop, length-append, length-map}
 use Rattle.plan.specs.Circuit.{Circuit, rowsOf, flat}
-use Rattle.plan.specs.Step.{Value, codeOf, valueOf, first, vectorsOf}
+use Rattle.plan.specs.Step.{Value, codeOf, valueOf, firstState, vectorsOf}
 use Rattle.plan.specs.Outcome.{allCodes}
 use Rattle.plan.specs.Fillings.{xCount, showsAt}
 use Rattle.laws.proofs.Writing.Stepping.{all-codes}
@@ -32,7 +32,7 @@ rows-many : (k n : ℕ) (t : List ℕ) → length (map (map valueOf) (rowsOf k n
 rows-many k zero t = refl
 rows-many k (suc n) t = ap suc (rows-many k n (drop k t))
 
-module _ (split : ℕ) (c : Circuit) (ok : Accepted c) (sized : length (first c) ≡ length (c .latches)) where
+module _ (split : ℕ) (c : Circuit) (ok : Accepted c) (sized : length (firstState c) ≡ length (c .latches)) where
   pub never-cannot : (a n t : ℕ) → canHappen split c a ≡ never n t → CanHappen split c → ⊥
   never-cannot a n t e h =
       false≢true

@@ -9,9 +9,8 @@ use borrow.Author.Tests.{ltb-true, ltb-false, lt-ltb, le-ltb, leb-true, leb-fals
 use lib.Dec.{ltb, leb}
 use lib.ListN.{length, getD, length-append, List·getD-eq-default}
 use Rattle.plan.specs.Literals.{litOf, varOf, signOf}
-use Rattle.plan.specs.Circuit.{Gate, Circuit, nexts}
+use Rattle.plan.specs.Circuit.{Gate, Circuit, nexts, leaves}
 use Rattle.plan.specs.Depends.{find}
-use Rattle.plan.specs.Convert.{leaves}
 use Rattle.plan.specs.Step.{Value, v0, vx, and, signedValue, lit, gateValue, leafValue, valuesOf}
 use Rattle.laws.proofs.Reading.Order.{InOrder}
 use Rattle.laws.proofs.Reading.Runs.{upFrom, BinaryOrder}

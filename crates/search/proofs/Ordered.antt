@@ -7,8 +7,7 @@ use native.Mathlib.Omega.{arith}
 use borrow.Author.Tests.{ne-eqb}
 use lib.ListN.{length}
 use Rattle.plan.specs.Literals.{varOf}
-use Rattle.plan.specs.Circuit.{Gate, Circuit, lefts, nexts, rights, has}
-use Rattle.plan.specs.Convert.{leaves}
+use Rattle.plan.specs.Circuit.{Gate, Circuit, leftVars, nexts, rights, has, leaves}
 use Rattle.laws.proofs.Reading.Common.{and-intro}
 use Rattle.laws.proofs.Reading.Members.{distinct}
 use Rattle.laws.proofs.Reading.Order.{InOrder}
@@ -38,13 +37,13 @@ sides-bounded m n (g ∷ gs) o h =
     (omega (arith, o .0, o .1), (omega (arith, o .0, o .1, o .2), sides-bounded m (suc n) gs (o .3) (omega arith)))
 
 module _ (c : Circuit) (b : BinaryOrder c) (o : Ordered c) where
-  all-up : leaves c ++ lefts (c .gates) ≡ upFrom 0 (inner c + length (c .gates))
+  all-up : leaves c ++ leftVars (c .gates) ≡ upFrom 0 (inner c + length (c .gates))
   all-up =
       let p : inner c ≡ 0 + inner c = omega arith in
       ap₂ (λ (s t : List ℕ). s ++ t) (leaves-order c b) (lefts-gates (inner c) (c .gates) (b .gates))
       ∙ ap (λ (k : ℕ). upFrom 0 (inner c) ++ upFrom k (length (c .gates))) p ∙ sym (up-append 0 (inner c) (length (c .gates)))
 
-  inside : (ls : List ℕ) → Bounded (inner c + length (c .gates)) ls → allIn ls (leaves c ++ lefts (c .gates)) ≡ true
+  inside : (ls : List ℕ) → Bounded (inner c + length (c .gates)) ls → allIn ls (leaves c ++ leftVars (c .gates)) ≡ true
   inside ls h = ap (allIn ls) all-up ∙ bounded-in (inner c + length (c .gates)) ls h
 
   pub ordered-accepted : Accepted c

@@ -13,7 +13,7 @@ use Rattle.plan.specs.Literals.{most, litOf, varOf, signOf, negOf, isReset}
 use Rattle.plan.specs.Circuit.{Gate, Latch, Circuit, nexts, rowsOf, resetsOk}
 use Rattle.plan.specs.Reading.{WellFormed}
 use Rattle.plan.specs.Binary.{litsFrom, latchesFrom}
-use Rattle.plan.specs.Step.{Value, v0, v1, vx, codeOf, valueOf, isCode, vectorsOf, lit, valuesOf, outputsOf, badsOf, constraintsOf, nextOf, Step, run, resetValue, first, is1, any1, all1, shows1}
+use Rattle.plan.specs.Step.{Value, v0, v1, vx, codeOf, valueOf, isCode, vectorsOf, lit, valuesOf, outputsOf, badsOf, constraintsOf, nextOf, Step, run, resetValue, firstState, is1, any1, all1, shows1}
 use Rattle.laws.proofs.Reading.Common.{and-left, and-right, and-intro}
 use Rattle.laws.proofs.Reading.Order.{InOrder}
 use Rattle.laws.proofs.Reading.Runs.{length-lits, length-latches, length-nexts, nexts-latches, BinaryOrder}
@@ -294,15 +294,15 @@ module _ (a b : Circuit) (oa : BinaryOrder a) (ob : BinaryOrder b) (wa : WellFor
   product-accepted = ordered-accepted (product a b) product-order product-ordered
 
   -- it starts as both
-  pub product-first : first (product a b) ≡ first a ++ first b
+  pub product-first : firstState (product a b) ≡ firstState a ++ firstState b
   product-first =
       map-append resetValue (map (asFirst a b) (a .resets)) (map (asSecond a b) (b .resets))
       ∙ ap₂ (λ (s t : List Value). s ++ t) (resets-moved I La 0 Lb (omega arith) (a .resets))
       (resets-moved (length (b .inputs)) Lb La (La + Aa) (omega arith) (b .resets))
 
-  pub product-sized : length (first (product a b)) ≡ length (product a b .latches)
+  pub product-sized : length (firstState (product a b)) ≡ length (product a b .latches)
   product-sized =
-      ap length product-first ∙ length-append (first a) (first b)
+      ap length product-first ∙ length-append (firstState a) (firstState b)
       ∙ ap₂ (λ (m n : ℕ). m + n) (first-length a wa) (first-length b wb) ∙ sym latches-product
 
   -- a step
@@ -435,10 +435,10 @@ module _ (a b : Circuit) (oa : BinaryOrder a) (ob : BinaryOrder b) (wa : WellFor
 
   -- it starts as both, filled by the same number
   codes-product : startOf (product a b) ≡ startOf a ++ startOf b
-  codes-product = ap (map codeOf) product-first ∙ map-append codeOf (first a) (first b)
+  codes-product = ap (map codeOf) product-first ∙ map-append codeOf (firstState a) (firstState b)
 
   length-start : length (startOf a) ≡ length (a .latches)
-  length-start = length-map (first a) codeOf ∙ first-length a wa
+  length-start = length-map (firstState a) codeOf ∙ first-length a wa
 
   pub product-start : (k : ℕ) → startAt (length (a .latches)) (product a b) k ≡ filling k (startOf a) ++ filling k (startOf b)
   product-start k =
@@ -458,9 +458,9 @@ module _ (a b : Circuit) (oa : BinaryOrder a) (ob : BinaryOrder b) (wa : WellFor
       ∙ ap (λ (s : List Value). shows1 (run (product a b) s is)) (map-append valueOf (filling k (startOf a)) (filling k (startOf b)))
       ∙ product-run is sa sb
       (length-map (filling k (startOf a)) valueOf ∙ fill-length k 0 (startOf a) ∙ length-start)
-      (length-map (filling k (startOf b)) valueOf ∙ fill-length k 0 (startOf b) ∙ length-map (first b) codeOf ∙ first-length b wb)
-      (fills-two-valued (startOf a) (filling k (startOf a)) (all-codes (first a)) (fill-fills k 0 (startOf a)))
-      (fills-two-valued (startOf b) (filling k (startOf b)) (all-codes (first b)) (fill-fills k 0 (startOf b)))
+      (length-map (filling k (startOf b)) valueOf ∙ fill-length k 0 (startOf b) ∙ length-map (firstState b) codeOf ∙ first-length b wb)
+      (fills-two-valued (startOf a) (filling k (startOf a)) (all-codes (firstState a)) (fill-fills k 0 (startOf a)))
+      (fills-two-valued (startOf b) (filling k (startOf b)) (all-codes (firstState b)) (fill-fills k 0 (startOf b)))
       (rows-sized (length (a .inputs)) number bytes z) (rows-nox (length (a .inputs)) number bytes (codes-nox bytes q x))
       ∙ ap (λ (n : ℕ). differ (run a sa is) (run b sb (map (map valueOf) (rowsOf n number bytes)))) (sym inputs-same)
 

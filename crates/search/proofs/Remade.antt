@@ -13,7 +13,7 @@ use Rattle.plan.specs.Binary.{binaryOrder}
 use Rattle.plan.specs.Convert.{convert}
 use Rattle.plan.specs.Reduce.{reduced, latchBecomes, reduce}
 use Rattle.plan.specs.Drop.{latchRenumbered, left, used, dropUnused}
-use Rattle.plan.specs.Step.{Value, codeOf, valueOf, same, lit, valuesOf, outputsOf, badsOf, constraintsOf, nextOf, Step, stepOf, run, vectorsOf, first, any1, all1}
+use Rattle.plan.specs.Step.{Value, codeOf, valueOf, same, lit, valuesOf, outputsOf, badsOf, constraintsOf, nextOf, Step, stepOf, run, vectorsOf, firstState, any1, all1}
 use Rattle.plan.specs.Outcome.{allCodes}
 use Rattle.plan.specs.Fillings.{xCount, filling, startOf}
 use Rattle.plan.specs.Search.{bits, asNumber, System, fillBoth, xBoth, upTo, systemOf, searchAll, watching, watched, canHappen}
@@ -192,8 +192,8 @@ same-alike c d w e k number bytes z q x =
     ap₂ (λ (l : List ℕ) (n : ℕ). differ (run c s is) (run d (map valueOf (filling k l)) (map (map valueOf) (rowsOf n number bytes)))) (e .start) (e .inputs)
     ∙ ap (differ (run c s is))
     (run-same c d e (accepted c w) is (rows-sized (length (c .inputs)) number bytes z) (rows-nox (length (c .inputs)) number bytes (codes-nox bytes q x)) s
-    (length-map (filling k (startOf c)) valueOf ∙ fill-length k 0 (startOf c) ∙ length-map (first c) codeOf ∙ first-length c w)
-    (fills-two-valued (startOf c) (filling k (startOf c)) (all-codes (first c)) (fill-fills k 0 (startOf c))))
+    (length-map (filling k (startOf c)) valueOf ∙ fill-length k 0 (startOf c) ∙ length-map (firstState c) codeOf ∙ first-length c w)
+    (fills-two-valued (startOf c) (filling k (startOf c)) (all-codes (firstState c)) (fill-fills k 0 (startOf c))))
     ∙ differ-self (run c s is)
 
 -- with itself, and with what it converts, reduces and drops to

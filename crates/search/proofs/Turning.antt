@@ -10,7 +10,7 @@ use lib.ListN.{length, getD}
 use Rattle.tables.specs.bitmap.Bitmap.{isOn, raised}
 use Rattle.plan.specs.declared.Counts.{Counts}
 use Rattle.plan.specs.Circuit.{Circuit, Tables, circuitOf, has}
-use Rattle.plan.specs.Step.{first}
+use Rattle.plan.specs.Step.{firstState}
 use Rattle.laws.proofs.Reading.Members.{distinct}
 use Rattle.laws.proofs.Running.Accepted.{Accepted, accepted}
 use Rattle.laws.proofs.Running.Resets.{first-length}
@@ -62,7 +62,7 @@ module _ {split : ℕ} {n : Counts} {x : Tables} (r : Runs n x) (p : ℕ) (ways 
   ok : Accepted (circuitOf n x)
   ok = accepted (circuitOf n x) (r .formed)
 
-  sized : length (first (circuitOf n x)) ≡ length (circuitOf n x .latches)
+  sized : length (firstState (circuitOf n x)) ≡ length (circuitOf n x .latches)
   sized = first-length (circuitOf n x) (r .formed)
 
   pos : 0 < systemOf split (circuitOf n x) .moves

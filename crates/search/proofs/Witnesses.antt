@@ -16,12 +16,11 @@ use Rattle.plan.specs.declared.Refusal.the-variants.{BadVector}
 use Rattle.plan.specs.declared.Verdict.the-variants as verdict
 use Rattle.plan.specs.declared.Finding.the-variants.{Yes}
 use Rattle.plan.specs.Refusals.{firstOf}
-use Rattle.plan.specs.Given.{Given, given, lentAlone, stages, orderStage, inOrderThen}
+use Rattle.plan.specs.Given.{Given, givenCircuit, lentAlone, stages, orderStage, inOrderThen}
 use Rattle.plan.specs.Outcome.{allCodes, vectorOf, WitnessEntry, verdictBy, listStage, witness3}
-use Rattle.plan.specs.Circuit.{Circuit, rowsOf, flat, lefts, has}
+use Rattle.plan.specs.Circuit.{Circuit, rowsOf, flat, leftVars, has, leaves}
 use Rattle.plan.specs.Literals.{varOf}
-use Rattle.plan.specs.Step.{Value, v0, v1, vx, codeOf, valueOf, resetValue, first, run, nextOf, vectorsOf, shows1, witnessed, is1}
-use Rattle.plan.specs.Convert.{leaves}
+use Rattle.plan.specs.Step.{Value, v0, v1, vx, codeOf, valueOf, resetValue, firstState, run, nextOf, vectorsOf, shows1, witnessed, is1}
 use Rattle.plan.specs.Fillings.{isX, xCount, FillsAt, Fills, fillFrom, filling, startOf, asked, showsAt, totalOf, question}
 use Rattle.laws.proofs.Running.Refinement.{Les, les-refl}
 use Rattle.laws.proofs.Running.WithoutX.{NotX, NoX, NoXs}
@@ -120,13 +119,13 @@ run-started c state s [] = refl
 run-started c state s (i ∷ is) =
     ap (λ (t : List Rattle.plan.specs.Step.Step). Rattle.plan.specs.Step.stepOf c s i ∷ t) (run-started c state (nextOf c s i) is)
 
-module _ (split : ℕ) (c : Circuit) (ok : Accepted c) (sized : length (first c) ≡ length (c .latches)) where
+module _ (split : ℕ) (c : Circuit) (ok : Accepted c) (sized : length (firstState c) ≡ length (c .latches)) where
   -- never: the question in three values says no, of every list
   pub never-witnessed : (a n t : ℕ) → canHappen split c a ≡ never n t → (number : ℕ) (bytes : List ℕ) → length bytes ≡ number * length (c .inputs)
       → witnessed c number bytes ≡ false
   never-witnessed a n t e number bytes h =
-      never-none split c ok sized a n t e 0 (first c) (vectorsOf c number bytes)
-      (fills-les (first c) (startAt split c 0) (both-fills split 0 (startOf c))) (rows-sized (length (c .inputs)) number bytes h)
+      never-none split c ok sized a n t e 0 (firstState c) (vectorsOf c number bytes)
+      (fills-les (firstState c) (startAt split c 0) (both-fills split 0 (startOf c))) (rows-sized (length (c .inputs)) number bytes h)
 
   -- nor is any list a witness by fillings
   pub never-question : (a n t : ℕ) → canHappen split c a ≡ never n t → (number : ℕ) (bytes : List ℕ) → length bytes ≡ number * length (c .inputs)
@@ -165,7 +164,7 @@ module _ (split : ℕ) (c : Circuit) (ok : Accepted c) (sized : length (first c)
     abbrev d : Circuit
     d = startedAt (bits (length (c .latches)) (w .start)) c
 
-    begins : first (startedAt (bits (length (c .latches)) (w .start)) c) ≡ bits (length (c .latches)) (w .start)
+    begins : firstState (startedAt (bits (length (c .latches)) (w .start)) c) ≡ bits (length (c .latches)) (w .start)
     begins = digits-back (bits (length (c .latches)) (w .start)) (bits-nox (length (c .latches)) (w .start))
 
     all-show : EveryShows d (length (w .list)) (listBytes c w)
@@ -196,7 +195,7 @@ one-in [] ds h k p = absurd (omega arith)
 one-in (l ∷ ls) ds h zero p = ap (λ (b : Bool). b && true) (in-head l ls ds h)
 one-in (l ∷ ls) ds h (suc k) p = one-in ls ds (in-tail l ls ds h) k (omega arith)
 
-watching-accepted : (c : Circuit) → Accepted c → (ws : List ℕ) → allIn ws (leaves c ++ lefts (c .gates)) ≡ true → Accepted (watching ws c)
+watching-accepted : (c : Circuit) → Accepted c → (ws : List ℕ) → allIn ws (leaves c ++ leftVars (c .gates)) ≡ true → Accepted (watching ws c)
 watching-accepted c ok ws h = record {
   once = ok .once;
   used-next = ok .used-next;
@@ -210,7 +209,7 @@ watching-accepted c ok ws h = record {
 pub watched-accepted : (c : Circuit) → Accepted c → (k : ℕ) → k ≤ length (c .outputs) → Accepted (watched k c)
 watched-accepted c ok zero h = watching-accepted c ok (c .bads) (ok .used-bad)
 watched-accepted c ok (suc k) h =
-    watching-accepted c ok (getD (c .outputs) k 0 ∷ []) (one-in (c .outputs) (leaves c ++ lefts (c .gates)) (ok .used-output) k h)
+    watching-accepted c ok (getD (c .outputs) k 0 ∷ []) (one-in (c .outputs) (leaves c ++ leftVars (c .gates)) (ok .used-output) k h)
 
 -- over a whole call of the question in three values: never, and it does not say yes
 yes-only : (o : Option Refusal) (b : Bool) → verdictBy o b ≡ verdict.Yes → (o ≡ none) × (b ≡ true)
@@ -218,10 +217,10 @@ yes-only none true e = (refl, refl)
 yes-only none false e = let z : _≡_ {A = ℕ} 0 1 = cc in absurd (omega arith)
 yes-only (some r) b e = let z : _≡_ {A = ℕ} 0 1 = cc in absurd (omega arith)
 
-pub never-three : (split : ℕ) (w : WitnessEntry) (a n t : ℕ) → canHappen split (given (w .circuit)) a ≡ never n t → witness3 w .answer ≡ verdict.Yes → ⊥
+pub never-three : (split : ℕ) (w : WitnessEntry) (a n t : ℕ) → canHappen split (givenCircuit (w .circuit)) a ≡ never n t → witness3 w .answer ≡ verdict.Yes → ⊥
 never-three split w a n t e q =
     let g = w .circuit in
-    let r = yes-only (firstOf (inOrderThen g (listStage w ∷ []))) (witnessed (given g) (w .number) (w .bytes)) q in
+    let r = yes-only (firstOf (inOrderThen g (listStage w ∷ []))) (witnessed (givenCircuit g) (w .number) (w .bytes)) q in
     let both = first-both (stages g (lentAlone g)) (orderStage g ∷ listStage w ∷ []) (r .0) in
     let fine = nothing-fine g (lentAlone g) (both .0) in
     let own = first-all (orderStage g ∷ listStage w ∷ []) (both .1) in
@@ -232,6 +231,6 @@ never-three split w a n t e q =
     eqb-true _ _ (and-left (eqb (length (w .bytes)) (w .number * g .counts .I)) (allCodes (w .bytes)) good) in
     let counts = counts-given g (fine .room) in
     false≢true
-    (sym (never-witnessed split (given g) (accepted (given g) (fine .formed)) (first-length (given g) (fine .formed)) a n t e (w .number) (w .bytes)
+    (sym (never-witnessed split (givenCircuit g) (accepted (givenCircuit g) (fine .formed)) (first-length (givenCircuit g) (fine .formed)) a n t e (w .number) (w .bytes)
     (long ∙ ap (λ (m : Counts). w .number * m .I) (sym counts)))
     ∙ r .1)

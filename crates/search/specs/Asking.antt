@@ -12,8 +12,8 @@ use Rattle.plan.specs.declared.Refusal.the-variants.{ShortTable, NotExplained, 
 use Rattle.plan.specs.declared.Happening.{Happening}
 use Rattle.plan.specs.declared.Happening.the-variants.{Refused}
 use Rattle.plan.specs.Refusals.{stage}
-use Rattle.plan.specs.Circuit.{Circuit, Tables, circuitOf, seven, short}
-use Rattle.plan.specs.Given.{failingAt, room}
+use Rattle.plan.specs.Circuit.{Circuit, Tables, circuitOf, seven, leastShort}
+use Rattle.plan.specs.Given.{failingAt, lackingRoom}
 use Rattle.plan.specs.Outcome.{put}
 use Rattle.plan.specs.Search.{Found, systemOf, searchAll, watched, wayBytes, happeningOf, canHappen, SearchEntry, search}
 use Rattle.tables.specs.bitmap.Bitmap.{isOn}
@@ -27,7 +27,7 @@ abbrev pub fitStages : Counts → ℕ → ℕ → ℕ → List (Option Refusal)
 fitStages n watch met marks =
     stage ManyLatches (failingAt (n .L) (leb (n .L) 20))
     ∷ stage ManyInputs (failingAt (n .I) (leb (n .I) 20))
-    ∷ stage ShortTable (short (record { table = 10; needed = 3 * 2 ^ n .L; words = met }
+    ∷ stage ShortTable (leastShort (record { table = 10; needed = 3 * 2 ^ n .L; words = met }
     ∷ record { table = 11; needed = (2 ^ n .L + 31) / 32; words = marks } ∷ []))
     ∷ stage NotExplained (failingAt 1 (leb watch (n .O)))
     ∷ []
@@ -64,7 +64,7 @@ outBy (some place) out bytes = out
 
 abbrev pub Answered : Circuit → Found → List ℕ → Happening → List ℕ → Type 0
 Answered c f out r out′ =
-    (r ≡ answerBy (room out 0 (wayBytes c f)) f) × (out′ ≡ outBy (room out 0 (wayBytes c f)) out (wayBytes c f))
+    (r ≡ answerBy (lackingRoom out 0 (wayBytes c f)) f) × (out′ ≡ outBy (lackingRoom out 0 (wayBytes c f)) out (wayBytes c f))
 
 abbrev pub FindsAll : ℕ → ℕ → Counts → List ℕ → List ℕ → List ℕ → List ℕ → List ℕ → List ℕ → ℕ → List ℕ → Happening → List ℕ → Type 0
 FindsAll split watch n latches outputs gates resets bads constraints allowance out r out′ =

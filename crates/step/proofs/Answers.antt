@@ -13,7 +13,7 @@ use Rattle.plan.specs.declared.Refusal.the-variants.{BadVector}
 use Rattle.plan.specs.declared.Stepped.the-variants.{Done, Refused}
 use Rattle.plan.specs.Refusals.{stage, firstOf}
 use Rattle.plan.specs.Circuit.{cleared}
-use Rattle.plan.specs.Given.{given}
+use Rattle.plan.specs.Given.{givenCircuit}
 use Rattle.plan.specs.Outcome.{StepEntry, StepExit, allCodes, stepStage, steppedBy, step}
 use Rattle.laws.proofs.Reading.Common.{and-left}
 use Rattle.step.proofs.codes.Places.{codesIn, firstBad}
@@ -56,7 +56,7 @@ module _ (e : StepEntry) where
           → _≡_ {A = StepExit} (record { answer = Refused (BadVector k); scratch = t; state = e .state; outputs = e .outputs }) (step e)
       refused-vector k q = refused-step (BadVector k) (past ∙ ap (λ (o : Option ℕ). firstOf (stage BadVector o ∷ [])) q)
 
-      pub done-step : bad ≡ none → (state′ outs′ : List ℕ) → Leaves (given (e .circuit)) (e .state) (e .inputs) state′ outs′
+      pub done-step : bad ≡ none → (state′ outs′ : List ℕ) → Leaves (givenCircuit (e .circuit)) (e .state) (e .inputs) state′ outs′
           → _≡_ {A = StepExit} (record { answer = Done; scratch = t; state = state′; outputs = outs′ }) (step e)
       done-step q state′ outs′ l =
           (λ j. record { answer = Done; scratch = blank j; state = l .next j; outputs = l .outputs j })

@@ -1,13 +1,13 @@
-// Refusal 12: a vector of wrong length, or a byte of a state or of inputs but "0", "1", "x" (the paper, refusal
+// Refusal 12: a failingAt of wrong length, or a byte of a state or of inputs but "0", "1", "x" (the paper, refusal
 // numbers).
 ghost use mathlib.Core.Path.{_≡_};
 ghost use mathlib.Core.Bool.{_&&_};
 ghost use Prim.Native.Nat.{_*_};
 ghost use lib.Dec.{eqb};
 ghost use lib.ListN.{length};
-ghost use Rattle.plan.specs.Given.{orElse};
+ghost use Rattle.plan.specs.Given.{orElse, failingAt};
 ghost use Rattle.plan.specs.Step.{isCode};
-ghost use Rattle.plan.specs.Outcome.{allCodes, vector};
+ghost use Rattle.plan.specs.Outcome.{allCodes};
 ghost use Rattle.tables.specs.Lengths.{tableOf};
 use plan::Counts;
 
@@ -36,7 +36,7 @@ fn all_codes(bytes: &[u8]) -> bool
     true
 }
 
-// Whether n codes stand in a vector, and no other byte.
+// Whether n codes stand in a failingAt, and no other byte.
 pub fn codes_in(bytes: &[u8], n: usize) -> bool
     ensures { λ r. ⌜ r ≡ (eqb (length (now (bytes .entry))) n && allCodes (now (bytes .entry))) ⌝ }
 {
@@ -46,12 +46,12 @@ pub fn codes_in(bytes: &[u8], n: usize) -> bool
     all_codes(bytes)
 }
 
-// The first vector that is refused: 1 the state, 2 the inputs, 3 the outputs, of which only the length is judged; or 0.
+// The first failingAt that is refused: 1 the state, 2 the inputs, 3 the outputs, of which only the length is judged; or 0.
 pub fn bad_vector(n: Counts, state: &[u8], ins: &[u8], outs: usize) -> usize
-    ensures { λ r. ⌜ tableOf r ≡ orElse (vector 1
+    ensures { λ r. ⌜ tableOf r ≡ orElse (failingAt 1
         (eqb (length (now (state .entry))) (n .L) && allCodes (now (state .entry))))
-        (orElse (vector 2 (eqb (length (now (ins .entry))) (n .I) && allCodes (now (ins .entry))))
-        (vector 3 (eqb outs (n .O)))) ⌝ }
+        (orElse (failingAt 2 (eqb (length (now (ins .entry))) (n .I) && allCodes (now (ins .entry))))
+        (failingAt 3 (eqb outs (n .O)))) ⌝ }
 {
     if !codes_in(state, n.L) {
         return 1;

@@ -2,7 +2,7 @@
 ghost use mathlib.Core.Path.{_≡_};
 ghost use Prim.Native.Nat.{_≤_, min};
 ghost use Rattle.plan.specs.Literals.{most};
-ghost use Rattle.plan.specs.Circuit.{seven, cleared, allCleared, wordsWith, scratchToWork, against, short};
+ghost use Rattle.plan.specs.Circuit.{seven, cleared, allCleared, wordsWith, scratchToWork, against, leastShort};
 ghost use Rattle.plan.specs.Header.{scratchToRead};
 ghost use Rattle.plan.specs.Outcome.{formOf};
 ghost use Rattle.tables.specs.Lengths.{lengthsIn, sizesOf, shorterOf, tableOf};
@@ -104,7 +104,7 @@ pub fn scratch_to_read(binary: bool, n: Counts) -> usize
 // `needed`, or 0. Tables are looked at in the order of their numbers.
 pub fn too_short(n: Counts, to: Sizes, needed: usize, scratch: usize) -> usize
     requires { ⌜ (n .L ≤ most) × (n .A ≤ most) ⌝ }
-    ensures { λ r. ⌜ tableOf r ≡ short (against 1 (wordsWith needed n) (lengthsIn to scratch)) ⌝ }
+    ensures { λ r. ⌜ tableOf r ≡ leastShort (against 1 (wordsWith needed n) (lengthsIn to scratch)) ⌝ }
 {
     if to.inputs < n.I {
         return 1;

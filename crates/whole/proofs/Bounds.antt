@@ -9,7 +9,7 @@ use lib.Dec.{eqb, leb}
 use lib.ListN.{length, length-append}
 use Rattle.plan.specs.Literals.{most, signOf, inRange, isReset}
 use Rattle.plan.specs.Circuit.{Circuit, Latch, Gate, countsOf, oneLine, latchLine, gateLine, nexts, inside, allInside, resetsOk}
-use Rattle.plan.specs.Bytes.{digits, endOf, lineOf, linesOf, withResets, unlessZero, shortest}
+use Rattle.plan.specs.Bytes.{digits, endOf, lineOf, linesOf, withResets, unlessZero, withoutZeros}
 use Rattle.plan.specs.Difference.{groupsOf}
 use Rattle.plan.specs.Header.{Form, text, binary, headerOf, shortCounts}
 use Rattle.plan.specs.Text.{textOf, textLines, textLatches}
@@ -74,8 +74,8 @@ module _ (m : ℕ) (small : m ≤ most) where
       omega (arith, digits-ten current g, next-most next r h k)
 
   latches-most : (ls : List Latch) (rs : List ℕ) → allInside true m (map latchLine ls) ≡ true → resetsOk ls rs ≡ true
-      → (length (linesOf (map (shortest 2) (withResets (map latchLine ls) rs))) ≤ 33 * length ls)
-      × (length (linesOf (map (shortest 1) (withResets (map oneLine (nexts ls)) rs))) ≤ 22 * length ls)
+      → (length (linesOf (map (withoutZeros 2) (withResets (map latchLine ls) rs))) ≤ 33 * length ls)
+      × (length (linesOf (map (withoutZeros 1) (withResets (map oneLine (nexts ls)) rs))) ≤ 22 * length ls)
   latches-most [] rs h k = (omega arith, omega arith)
   latches-most (l ∷ ls) [] h k = let z : _≡_ {A = ℕ} 0 1 = cc in absurd (omega arith)
   latches-most (l ∷ ls) (r ∷ rs) h k =
@@ -84,8 +84,8 @@ module _ (m : ℕ) (small : m ≤ most) where
       let w = words true (latchLine l) first in
       let q = reset-word (l .current) r (w .0) (and-left (isReset (l .current) r) (resetsOk ls rs) k) in
       let ih = latches-most ls rs rest (and-right (isReset (l .current) r) (resetsOk ls rs) k) in
-      let e = length-append (lineOf (l .current ∷ l .next ∷ unlessZero r [])) (linesOf (map (shortest 2) (withResets (map latchLine ls) rs))) in
-      let f = length-append (lineOf (l .next ∷ unlessZero r [])) (linesOf (map (shortest 1) (withResets (map oneLine (nexts ls)) rs))) in (
+      let e = length-append (lineOf (l .current ∷ l .next ∷ unlessZero r [])) (linesOf (map (withoutZeros 2) (withResets (map latchLine ls) rs))) in
+      let f = length-append (lineOf (l .next ∷ unlessZero r [])) (linesOf (map (withoutZeros 1) (withResets (map oneLine (nexts ls)) rs))) in (
         omega (arith, e, current-most (l .current) (l .next) r (w .0) (w .1 .0) q, ih .0),
         omega (arith, f, next-most (l .next) r (w .1 .0) q, ih .1),
       )
@@ -139,7 +139,7 @@ module _ (c : Circuit) (w : WellFormed c) where
   text-most =
       let lats = latches-most m (w .most-M) (c .latches) (c .resets) (w .latches) (w .resets) in
       let gs = gates-most m (w .most-M) (c .gates) (w .gates) in
-      let rows = map (shortest 2) (textLatches c) in
+      let rows = map (withoutZeros 2) (textLatches c) in
       let head = headerOf text (shortCounts (countsOf c)) in
       let l1 = linesOf (map oneLine (c .inputs)) in
       let l2 = linesOf rows in
@@ -174,7 +174,7 @@ module _ (c : Circuit) (w : WellFormed c) where
   binary-most =
       let lats = latches-most m (w .most-M) (c .latches) (c .resets) (w .latches) (w .resets) in
       let gs = gates-most m (w .most-M) (c .gates) (w .gates) in
-      let rows = map (shortest 1) (binaryLatches c) in
+      let rows = map (withoutZeros 1) (binaryLatches c) in
       let head = headerOf binary (shortCounts (countsOf c)) in
       let l1 = linesOf rows in
       let l2 = linesOf (map oneLine (c .outputs)) in

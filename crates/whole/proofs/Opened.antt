@@ -13,11 +13,11 @@ use Rattle.plan.specs.declared.Refusal.{Refusal}
 use Rattle.plan.specs.declared.Refusal.the-variants.{ShortTable, LongInput, Unreadable}
 use Rattle.plan.specs.declared.Loaded.the-variants as loaded
 use Rattle.plan.specs.Refusals.{Parse, got, refused, _then_, unless}
-use Rattle.plan.specs.Circuit.{Circuit, countsOf, circuitOf, lengthsOf, wordsWith, scratchToWork, wordsToWork, against, short}
+use Rattle.plan.specs.Circuit.{Circuit, countsOf, circuitOf, lengthsOf, wordsWith, scratchToWork, wordsToWork, against, leastShort}
 use Rattle.plan.specs.Header.{listOf}
 use Rattle.plan.specs.Tail.{TailOk}
 use Rattle.plan.specs.Reading.{readFile, States, asText, asBinary}
-use Rattle.plan.specs.Given.{Given, given}
+use Rattle.plan.specs.Given.{Given, givenCircuit}
 use Rattle.plan.specs.Programs.{input}
 use Rattle.plan.specs.Outcome.{ReadEntry, LoadExit, load, loadBy}
 use Rattle.plan.specs.Whole.{inputOf}
@@ -76,7 +76,7 @@ module _ (e : OpenEntry) where
           g = record { counts = n; tables = x .tables; scratch = x .scratch }
 
           -- the circuit that the file states
-          read-is : (c : Circuit) × (parse ≡ got c start) × (n ≡ countsOf c) × (given g ≡ c)
+          read-is : (c : Circuit) × (parse ≡ got c start) × (n ≡ countsOf c) × (givenCircuit g ≡ c)
               × (scratchToWork n ≤ length (e .scratch) → Left g c)
           read-is =
               let l = load-left V19 (reading e) bytes n start (ap (λ (y : LoadExit). y .answer) (sym said) ∙ a) in (
@@ -96,7 +96,7 @@ module _ (e : OpenEntry) where
               subst (λ (m : Counts). AllMost (listOf m)) (sym (read-is .2))
               (all-most (read-is .0) (formed V19 (e .file) (read-is .0) (drop start (e .file)) states))
 
-          opens-to : opened e ≡ unless (shortIn n (e .made) (e .scratch)) ShortTable (got (given g) start)
+          opens-to : opened e ≡ unless (shortIn n (e .made) (e .scratch)) ShortTable (got (givenCircuit g) start)
           opens-to =
               here ∙ (ap (λ (q : Parse Circuit). q then λ c start.
               unless (shortIn (countsOf c) (e .made) (e .scratch)) ShortTable (got c start)) (read-is .1)
@@ -105,16 +105,16 @@ module _ (e : OpenEntry) where
 
           -- the answer on tables of these sizes, and scratch as it is now
           module _ (needed : ℕ) (needed-is : needed ≡ scratchToWork n) (k : ℕ)
-              (answer : tableOf k ≡ short (against 1 (wordsWith needed n) (lengthsIn (e .made) (length (x .scratch))))) where
+              (answer : tableOf k ≡ leastShort (against 1 (wordsWith needed n) (lengthsIn (e .made) (length (x .scratch))))) where
             told : tableOf k ≡ shortIn n (e .made) (x .scratch)
-            told = answer ∙ ap (λ (s : ℕ). short (against 1 (wordsWith s n) (lengthsIn (e .made) (length (x .scratch))))) needed-is
+            told = answer ∙ ap (λ (s : ℕ). leastShort (against 1 (wordsWith s n) (lengthsIn (e .made) (length (x .scratch))))) needed-is
 
             told-before : tableOf k ≡ shortIn n (e .made) (e .scratch)
-            told-before = told ∙ ap (λ (m : ℕ). short (against 1 (wordsToWork n) (lengthsIn (e .made) m))) scratch-kept
+            told-before = told ∙ ap (λ (m : ℕ). leastShort (against 1 (wordsToWork n) (lengthsIn (e .made) m))) scratch-kept
 
             pub made-short : (k ≡ 0 → ⊥) → opened e ≡ refused (ShortTable k)
             made-short h =
-                opens-to ∙ ap (λ (s : Option ℕ). unless s ShortTable (got (given g) start))
+                opens-to ∙ ap (λ (s : Option ℕ). unless s ShortTable (got (givenCircuit g) start))
                 (some-table k (shortIn n (e .made) (e .scratch)) h told-before)
 
             stated-tail : (c : Circuit) (tail : List ℕ) → States V19 (e .file) c tail → TailOk V19 (countsOf c) tail
@@ -125,7 +125,7 @@ module _ (e : OpenEntry) where
             made-long h =
                 let long = no-table k (shortIn n (e .made) (e .scratch)) h told-before in
                 let five = short-none (against 1 (wordsToWork n) (lengthsIn (e .made) (length (e .scratch)))) .0 long .1 .1 .1 .1 .0 in (
-                  opens-to ∙ ap (λ (s : Option ℕ). unless s ShortTable (got (given g) start)) long,
+                  opens-to ∙ ap (λ (s : Option ℕ). unless s ShortTable (got (givenCircuit g) start)) long,
                   start-within (e .file) V19 (lengthsOf (e .tables) (e .scratch)) (read-is .0) start (read-is .1),
                   record {
                     fine = read-is .4 five .fine;

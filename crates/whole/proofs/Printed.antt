@@ -21,7 +21,7 @@ use Rattle.plan.specs.Reading.{readToWork, WellFormed}
 use Rattle.plan.specs.Convert.{convert}
 use Rattle.plan.specs.Reduce.{reduce}
 use Rattle.plan.specs.Programs.{lentWords, lentBytes, refusalLine, printed, input, fitting, otherForm, converter, reducer}
-use Rattle.plan.specs.Whole.{WholeEntry, loaded, fittingIn, wholeBy, convertWhole, reduceWhole, convertedFile, reducedFile}
+use Rattle.plan.specs.Whole.{WholeEntry, fileCircuit, fittingIn, wholeBy, convertWhole, reduceWhole, convertedFile, reducedFile}
 use Rattle.laws.proofs.Put.{put-first}
 use Rattle.laws.proofs.Reading.Differences.{Bytes}
 use Rattle.laws.proofs.Reading.Exactly.{sound, formed, work-read}
@@ -72,7 +72,7 @@ module _ (e : WholeEntry) (lends : Lends e) where
   module _ (file : List ℕ) (k : Circuit → ℕ → Parse (List ℕ)) (l : Circuit → ℕ → Parse (List ℕ)) (small : length file ≤ 65536)
       (bytes : Bytes file)
       (same : (c : Circuit) (start : ℕ) → readToWork file lentWords lentWords ≡ got c start → k c start ≡ l c start) where
-    loaded-alike : (loaded e file then k) ≡ readToWork file lentWords lentWords then l
+    loaded-alike : (fileCircuit e file then k) ≡ readToWork file lentWords lentWords then l
     loaded-alike =
         ap₂ (λ (words later : List ℕ). readToWork file words later then k) (lends .words) (lends .made)
         ∙ go (readToWork file lentWords lentWords) refl

@@ -12,12 +12,12 @@ use Rattle.plan.specs.declared.Refusal.{Refusal}
 use Rattle.plan.specs.declared.Refusal.the-variants.{ShortBuffer}
 use Rattle.plan.specs.declared.Made.the-variants as made
 use Rattle.plan.specs.Refusals.{stage, firstOf}
-use Rattle.plan.specs.Circuit.{Circuit, Tables, countsOf, lengthsOf, wordsToWork, against, short}
+use Rattle.plan.specs.Circuit.{Circuit, Tables, countsOf, lengthsOf, wordsToWork, against, leastShort}
 use Rattle.plan.specs.Text.{textOf}
 use Rattle.plan.specs.Binary.{binaryOf, binaryOrder}
 use Rattle.plan.specs.Tail.{TailOk}
 use Rattle.plan.specs.Reading.{WellFormed}
-use Rattle.plan.specs.Given.{Given, given, lentAlone, lentWith, stages, orderStage, refusalOf, tailStage, room, roomStage}
+use Rattle.plan.specs.Given.{Given, givenCircuit, lentAlone, lentWith, stages, orderStage, refusalOf, tailStage, lackingRoom, roomStage}
 use Rattle.plan.specs.Convert.{convert}
 use Rattle.plan.specs.Outcome.{WriteExit, putBy, putBytes, FileEntry, FileExit, writtenBy, writeText, writeBinary, MakeEntry, MakeExit, madeBy, conversion}
 use Rattle.laws.proofs.Reading.Short.{short-none}
@@ -51,27 +51,27 @@ module _ (g : Given) (tail out : List ℕ) (fine : firstOf (stages g (lentAlone 
   tail-passes : tailStage g tail ≡ none
   tail-passes = let r = tail-exactly V19 tail (g .counts) 0 .1 t in ap refusalOf (r .2)
 
-  pub text-put : (x : FileExit) → x ≡ writeText entry → shown x ≡ putBytes out 0 (textOf (given g) ++ tail)
+  pub text-put : (x : FileExit) → x ≡ writeText entry → shown x ≡ putBytes out 0 (textOf (givenCircuit g) ++ tail)
   text-put x said =
-      let bytes = textOf (given g) ++ tail in
+      let bytes = textOf (givenCircuit g) ++ tail in
       let rest : firstOf (tailStage g tail ∷ roomStage out bytes ∷ []) ≡ roomStage out bytes
       = ap (λ (o : Option Refusal). firstOf (o ∷ roomStage out bytes ∷ [])) tail-passes ∙ last (roomStage out bytes) in
       ap shown said
       ∙ (ap (λ (o : Option Refusal). shown (writtenBy o entry bytes))
       (both-first (stages g (lentAlone g)) (tailStage g tail ∷ roomStage out bytes ∷ []) fine ∙ rest)
-      ∙ put-is entry bytes (room out 0 bytes))
+      ∙ put-is entry bytes (lackingRoom out 0 bytes))
 
-  pub binary-put : binaryOrder (given g) ≡ true → (x : FileExit) → x ≡ writeBinary entry
-      → shown x ≡ putBytes out 0 (binaryOf (given g) ++ tail)
+  pub binary-put : binaryOrder (givenCircuit g) ≡ true → (x : FileExit) → x ≡ writeBinary entry
+      → shown x ≡ putBytes out 0 (binaryOf (givenCircuit g) ++ tail)
   binary-put order x said =
-      let bytes = binaryOf (given g) ++ tail in
+      let bytes = binaryOf (givenCircuit g) ++ tail in
       let ordered : orderStage g ≡ none = rw order in
       let rest : firstOf (orderStage g ∷ tailStage g tail ∷ roomStage out bytes ∷ []) ≡ roomStage out bytes
       = ap₂ (λ (p o : Option Refusal). firstOf (p ∷ o ∷ roomStage out bytes ∷ [])) ordered tail-passes ∙ last (roomStage out bytes) in
       ap shown said
       ∙ (ap (λ (o : Option Refusal). shown (writtenBy o entry bytes))
       (both-first (stages g (lentAlone g)) (orderStage g ∷ tailStage g tail ∷ roomStage out bytes ∷ []) fine ∙ rest)
-      ∙ put-is entry bytes (room out 0 bytes))
+      ∙ put-is entry bytes (lackingRoom out 0 bytes))
 
 -- what a making leaves
 abbrev pub after : Counts → MakeExit → Given
@@ -98,10 +98,10 @@ module _ (y : MakeExit) (d : Circuit) (tail : List ℕ) (p : Passed y d tail) (x
     pub made-counts : n ≡ countsOf d
     made-counts = left-is .0 .counts
 
-    pub made-is : given (after n x) ≡ d
+    pub made-is : givenCircuit (after n x) ≡ d
     made-is = left-is .0 .holds
 
-    pub made-in-order : binaryOrder (given (after n x)) ≡ true
+    pub made-in-order : binaryOrder (givenCircuit (after n x)) ≡ true
     made-in-order = ap binaryOrder made-is ∙ left-is .1
 
     tail-is : TailOk V19 n tail
@@ -127,16 +127,16 @@ module _ (g : Given) (tail : List ℕ) (made : Sizes) (ready : Ready g tail made
   pub fine-is : Fine g (lentAlone g)
   fine-is = nothing-fine g (lentAlone g) (ready .fine)
 
-  pub counts-are : countsOf (given g) ≡ g .counts
+  pub counts-are : countsOf (givenCircuit g) ≡ g .counts
   counts-are = counts-given g (fine-is .room)
 
-  pub left-here : Left g (given g)
+  pub left-here : Left g (givenCircuit g)
   left-here = record { holds = refl; counts = sym counts-are; fine = ready .fine }
 
-  pub tail-here : TailOk V19 (countsOf (given g)) tail
+  pub tail-here : TailOk V19 (countsOf (givenCircuit g)) tail
   tail-here = subst (λ (m : Counts). TailOk V19 m tail) (sym counts-are) (ready .tail-ok)
 
-  pub long-here : shortIn (countsOf (given g)) made (g .scratch) ≡ none
+  pub long-here : shortIn (countsOf (givenCircuit g)) made (g .scratch) ≡ none
   long-here = ap (λ (m : Counts). shortIn m made (g .scratch)) counts-are ∙ ready .long
 
   -- no more gates ask for no more of the tables they came from
@@ -148,7 +148,7 @@ module _ (g : Given) (tail : List ℕ) (made : Sizes) (ready : Ready g tail made
       let h4 : 3 * k ≤ length (g .tables .gates) = omega (arith, l .1 .1 .1 .0) in
       let h5 : 4 * (g .counts .I + g .counts .L + k + 1) + g .counts .O + g .counts .B + g .counts .C ≤ length (g .scratch)
       = omega (arith, l .1 .1 .1 .1 .0) in
-      ap₂ (λ (m : Counts) (j : ℕ). short (against 1 (wordsToWork m) (lengthsIn (sizesOf (g .tables)) j))) same kept
+      ap₂ (λ (m : Counts) (j : ℕ). leastShort (against 1 (wordsToWork m) (lengthsIn (sizesOf (g .tables)) j))) same kept
       ∙ short-none (against 1 (wordsToWork (smaller (g .counts) k)) (lengthsOf (g .tables) (g .scratch))) .1
       (l .0, (l .1 .0, (l .1 .1 .0, (h4, (h5, l .1 .1 .1 .1 .1)))))
 
@@ -162,22 +162,22 @@ module _ (g : Given) (t : Tables) (tail : List ℕ) (ready : Ready g tail (sizes
   abbrev e : MakeEntry
   e = record { circuit = g; written = t }
 
-  pub converts : Passed (conversion (record { circuit = g; written = t })) (convert (given g)) tail
+  pub converts : Passed (conversion (record { circuit = g; written = t })) (convert (givenCircuit g)) tail
   converts = record {
-    took = conversion-accepted g (given g) (left-here g tail (sizesOf t) ready) t (long-here g tail (sizesOf t) ready);
+    took = conversion-accepted g (givenCircuit g) (left-here g tail (sizesOf t) ready) t (long-here g tail (sizesOf t) ready);
     lefts = conversion-left e;
-    tail-ok = tail-convert V19 (given g) tail (tail-here g tail (sizesOf t) ready);
+    tail-ok = tail-convert V19 (givenCircuit g) tail (tail-here g tail (sizesOf t) ready);
   }
 
   -- it stands ready for the next making, back into the tables it was read into
   pub converted-ready : (x : MakeExit) → x ≡ conversion (record { circuit = g; written = t }) → (n : Counts) → x .answer ≡ made.Accepted n
       → Ready (after n x) tail (sizesOf (g .tables))
   converted-ready x said n a =
-      let w : WellFormed (given g) = fine-is g tail (sizesOf t) ready .formed in
+      let w : WellFormed (givenCircuit g) = fine-is g tail (sizesOf t) ready .formed in
       let counts : n ≡ smaller (g .counts) (g .counts .A)
       = made-counts _ _ tail converts x said n a
-      ∙ (counts-convert (given g) w ∙ ap (λ (m : Counts). smaller m (m .A)) (counts-are g tail (sizesOf t) ready)) in
+      ∙ (counts-convert (givenCircuit g) w ∙ ap (λ (m : Counts). smaller m (m .A)) (counts-are g tail (sizesOf t) ready)) in
       let kept : length (x .scratch) ≡ length (g .scratch)
-      = ap (λ (y : MakeExit). length (y .scratch)) said ∙ scratch-kept (firstOf (stages g (lentWith g t))) e (convert (given g)) in
+      = ap (λ (y : MakeExit). length (y .scratch)) said ∙ scratch-kept (firstOf (stages g (lentWith g t))) e (convert (givenCircuit g)) in
       made-ready _ _ tail converts x said n a (sizesOf (g .tables))
       (smaller-long g tail (sizesOf t) ready n (g .counts .A) counts (omega arith) (x .scratch) kept)

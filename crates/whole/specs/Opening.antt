@@ -10,10 +10,10 @@ use Rattle.plan.specs.declared.Version.the-variants.{V19}
 use Rattle.plan.specs.declared.Loaded.{Loaded}
 use Rattle.plan.specs.declared.Loaded.the-variants as loaded
 use Rattle.plan.specs.Refusals.{Parse, got, refused, firstOf}
-use Rattle.plan.specs.Circuit.{Circuit, Tables, lengthsOf, wordsToWork, against, short}
+use Rattle.plan.specs.Circuit.{Circuit, Tables, lengthsOf, wordsToWork, against, leastShort}
 use Rattle.plan.specs.Tail.{TailOk}
 use Rattle.plan.specs.Reading.{readToWork}
-use Rattle.plan.specs.Given.{Given, given, lentAlone, stages}
+use Rattle.plan.specs.Given.{Given, givenCircuit, lentAlone, stages}
 use Rattle.plan.specs.Programs.{input}
 use Rattle.plan.specs.Whole.{inputOf}
 use Rattle.tables.specs.declared.Sizes.{Sizes}
@@ -29,7 +29,7 @@ pub record OpenEntry : Type 0 where
 
 -- the least of the tables to make a circuit of these counts in, and of scratch, that is too short
 abbrev pub shortIn : Counts → Sizes → List ℕ → Option ℕ
-shortIn n made scratch = short (against 1 (wordsToWork n) (lengthsIn made (length scratch)))
+shortIn n made scratch = leastShort (against 1 (wordsToWork n) (lengthsIn made (length scratch)))
 
 abbrev pub opening : OpenEntry → List ℕ → Parse Circuit
 opening e file = readToWork file (lengthsOf (e .tables) (e .scratch)) (lengthsIn (e .made) (length (e .scratch)))
@@ -47,5 +47,5 @@ pub record Ready (g : Given) (tail : List ℕ) (made : Sizes) : Type 0 where
 abbrev pub Opens : OpenEntry → Loaded → Tables → List ℕ → Type 0
 Opens e (loaded.Accepted n start) t scratch =
     let g : Given = record { counts = n; tables = t; scratch = scratch } in
-    (opened e ≡ got (given g) start) × (start ≤ length (e .file)) × Ready g (drop start (e .file)) (e .made)
+    (opened e ≡ got (givenCircuit g) start) × (start ≤ length (e .file)) × Ready g (drop start (e .file)) (e .made)
 Opens e (loaded.Refused r) t scratch = opened e ≡ refused r

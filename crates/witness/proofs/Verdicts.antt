@@ -11,8 +11,8 @@ use Rattle.plan.specs.declared.Finding.{Finding}
 use Rattle.plan.specs.declared.Finding.the-variants.{Refused}
 use Rattle.plan.specs.Refusals.{stage, firstOf}
 use Rattle.plan.specs.Circuit.{cleared}
-use Rattle.plan.specs.Given.{given}
-use Rattle.plan.specs.Outcome.{WitnessEntry, vector, listStage}
+use Rattle.plan.specs.Given.{givenCircuit, failingAt}
+use Rattle.plan.specs.Outcome.{WitnessEntry, listStage}
 use Rattle.step.proofs.codes.Places.{codesIn}
 use Rattle.plan.specs.Fillings.{xCount, asked, question, FilledEntry, FilledExit, xStage, findingBy, witness}
 use Rattle.laws.proofs.Fillings.Calls.{x-few, x-many}
@@ -29,10 +29,10 @@ module _ (e : FilledEntry) where
   whole = codesIn (w .bytes) (w .number * w .circuit .counts .I)
 
   abbrev count : ℕ
-  count = xCount (asked (given (w .circuit)) (w .bytes))
+  count = xCount (asked (givenCircuit (w .circuit)) (w .bytes))
 
   abbrev found : Finding
-  found = question (given (w .circuit)) (w .number) (w .bytes) (e .allowance)
+  found = question (givenCircuit (w .circuit)) (w .number) (w .bytes) (e .allowance)
 
   module _ (t : List ℕ) (blank : t ≡ cleared (w .circuit .scratch)) where
     decided : (f : Finding) → f ≡ findingBy (answer (w .circuit) more) found
@@ -46,8 +46,8 @@ module _ (e : FilledEntry) where
     -- the tables are good
     module _ (past : answer (w .circuit) more ≡ firstOf more) where
       judged : (b : Bool) (o : Option Refusal) → whole ≡ b → xStage w ≡ o
-          → answer (w .circuit) more ≡ firstOf (stage BadVector (vector 2 b) ∷ o ∷ [])
-      judged b o q p = past ∙ ap₂ (λ (x : Bool) (y : Option Refusal). firstOf (stage BadVector (vector 2 x) ∷ y ∷ [])) q p
+          → answer (w .circuit) more ≡ firstOf (stage BadVector (failingAt 2 b) ∷ o ∷ [])
+      judged b o q p = past ∙ ap₂ (λ (x : Bool) (y : Option Refusal). firstOf (stage BadVector (failingAt 2 x) ∷ y ∷ [])) q p
 
       pub refused-list : whole ≡ false → _≡_ {A = FilledExit} (record { answer = Refused (BadVector 2); scratch = t }) (witness e)
       refused-list q = refused-filled (BadVector 2) (judged false (xStage w) q refl)

@@ -9,7 +9,7 @@ use Rattle.plan.specs.declared.Written.{Written}
 use Rattle.plan.specs.declared.Written.the-variants.{Refused}
 use Rattle.plan.specs.Refusals.{stage}
 use Rattle.plan.specs.Circuit.{cleared}
-use Rattle.plan.specs.Given.{room, roomStage}
+use Rattle.plan.specs.Given.{lackingRoom, roomStage}
 use Rattle.plan.specs.Outcome.{WriteExit, FileEntry, FileExit, putBy, putBytes, writtenBy}
 
 module _ (e : FileEntry) (bytes : List ℕ) (o : Option Refusal) {scratch : List ℕ} (blank : scratch ≡ cleared (e .circuit .scratch)) where
@@ -22,7 +22,7 @@ module _ (e : FileEntry) (bytes : List ℕ) (o : Option Refusal) {scratch : List
   pub written-file : {answer : Written} {out : List ℕ} → o ≡ roomStage (e .out) bytes
       → _≡_ {A = WriteExit} (record { answer = answer; out = out }) (putBytes (e .out) 0 bytes)
       → _≡_ {A = FileExit} (record { answer = answer; scratch = scratch; out = out }) (writtenBy o e bytes)
-  written-file {answer} {out} q w = go (room (e .out) 0 bytes) w ∙ ap (λ (p : Option Refusal). writtenBy p e bytes) (sym q)
+  written-file {answer} {out} q w = go (lackingRoom (e .out) 0 bytes) w ∙ ap (λ (p : Option Refusal). writtenBy p e bytes) (sym q)
     where
       go : (p : Option ℕ) → _≡_ {A = WriteExit} (record { answer = answer; out = out }) (putBy p (e .out) 0 bytes)
           → _≡_ {A = FileExit} (record { answer = answer; scratch = scratch; out = out }) (writtenBy (stage ShortBuffer p) e bytes)

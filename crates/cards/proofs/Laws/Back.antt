@@ -15,8 +15,8 @@ use Rattle.plan.specs.Circuit.{Circuit, countsOf}
 use Rattle.plan.specs.Header.{Head, binary, header}
 use Rattle.plan.specs.Binary.{binaryOf, binaryOrder}
 use Rattle.plan.specs.Tail.{TailOk, empty}
-use Rattle.plan.specs.Reading.{readFile, readToWork, WellFormed, States, Shortest, Room}
-use Rattle.plan.specs.Given.{failing, room}
+use Rattle.plan.specs.Reading.{readFile, readToWork, WellFormed, States, Shortest, LongEnough}
+use Rattle.plan.specs.Given.{failing, lackingRoom}
 use Rattle.plan.specs.Cards.{cardsOf, holdable, past, readCards, readToCard}
 use Rattle.laws.proofs.Reading.Common.{then-got, got-value, got-next, and-left, and-right, and-intro}
 use Rattle.laws.proofs.Reading.Differences.{Bytes}
@@ -32,7 +32,7 @@ no-tail c = record { symbols = []; rest = []; parts = refl; good = refl; remark 
 
 -- what an AIGER file for cards says
 module _ (file lengths : List ℕ) (c : Circuit) (start : ℕ) (q : readToCard file lengths ≡ got c start) where
-  pub card-parts : (readFile V19 file lengths ≡ got c start) × Room c lengths × (binaryOrder c ≡ true) × (drop start file ≡ []) × (holdable c ≡ true)
+  pub card-parts : (readFile V19 file lengths ≡ got c start) × LongEnough c lengths × (binaryOrder c ≡ true) × (drop start file ≡ []) × (holdable c ≡ true)
   card-parts =
       let t = then-got (readToWork file lengths lengths) _ c start q in
       let d = t .0 in
@@ -43,19 +43,19 @@ module _ (file lengths : List ℕ) (c : Circuit) (start : ℕ) (q : readToCard f
       let both = failing-none (eqb (length (drop (t .1) file)) 0 && holdable d) (p19 .0) in
       let r = work-read file lengths lengths d (t .1) (t .2) in (
         r .0 ∙ ap₂ got c-is s-is,
-        subst (λ (x : Circuit). Room x lengths) c-is (r .1),
+        subst (λ (x : Circuit). LongEnough x lengths) c-is (r .1),
         ap binaryOrder (sym c-is) ∙ failing-none (binaryOrder d) (p15 .0),
         ap (λ (k : ℕ). drop k file) (sym s-is) ∙ empty-list (drop (t .1) file) (eqb-true _ _ (and-left (eqb (length (drop (t .1) file)) 0) _ both)),
         ap holdable (sym c-is) ∙ and-right (eqb (length (drop (t .1) file)) 0) _ both,
       )
 
 -- a circuit in binary order that cards can hold, read from a file that states it without a tail
-pub stated-to-card : (file : List ℕ) (c : Circuit) (lengths : List ℕ) → States V19 file c [] → binaryOrder c ≡ true → holdable c ≡ true → Room c lengths
+pub stated-to-card : (file : List ℕ) (c : Circuit) (lengths : List ℕ) → States V19 file c [] → binaryOrder c ≡ true → holdable c ≡ true → LongEnough c lengths
     → (start : ℕ) × (readToCard file lengths ≡ got c start)
-stated-to-card file c lengths s o k room =
-    let a = complete V19 file lengths c [] s (room-to-read file c lengths (formed V19 file c [] s) room) in
+stated-to-card file c lengths s o k lackingRoom =
+    let a = complete V19 file lengths c [] s (room-to-read file c lengths (formed V19 file c [] s) lackingRoom) in
     let start : ℕ = a .0 in
-    let work : readToWork file lengths lengths ≡ got c start = rw (a .1, room) in
+    let work : readToWork file lengths lengths ≡ got c start = rw (a .1, lackingRoom) in
     let held : (eqb (length (drop start file)) 0 && holdable c) ≡ true
     = and-intro (eqb (length (drop start file)) 0) (holdable c) (eq-eqb _ _ (ap length (a .2))) k in (
       start,
@@ -71,13 +71,13 @@ stated-to-card file c lengths s o k room =
         got d start
 
 -- from its binary file: its length is the start of the tail that is not there
-pub binary-to-card : (c : Circuit) (lengths : List ℕ) → WellFormed c → binaryOrder c ≡ true → holdable c ≡ true → Room c lengths
+pub binary-to-card : (c : Circuit) (lengths : List ℕ) → WellFormed c → binaryOrder c ≡ true → holdable c ≡ true → LongEnough c lengths
     → readToCard (binaryOf c) lengths ≡ got c (length (binaryOf c))
-binary-to-card c lengths w o k room =
+binary-to-card c lengths w o k lackingRoom =
     let file : List ℕ = binaryOf c in
     let accepted : readFile V19 file lengths ≡ got c (length file)
-    = ap (λ (x : List ℕ). readFile V19 x lengths) (sym (append-nil file)) ∙ binary-back c [] lengths w (no-tail c) room o in
-    let work : readToWork file lengths lengths ≡ got c (length file) = rw (accepted, room) in
+    = ap (λ (x : List ℕ). readFile V19 x lengths) (sym (append-nil file)) ∙ binary-back c [] lengths w (no-tail c) lackingRoom o in
+    let work : readToWork file lengths lengths ≡ got c (length file) = rw (accepted, lackingRoom) in
     let held : (eqb (length (drop (length file) file)) 0 && holdable c) ≡ true
     = and-intro (eqb (length (drop (length file) file)) 0) (holdable c) (eq-eqb _ _ (ap length (drop-length file))) k in
     ap (λ (p : Parse Circuit). p then λ d start. later d start) work

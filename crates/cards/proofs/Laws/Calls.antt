@@ -19,7 +19,7 @@ use Rattle.plan.specs.Circuit.{Circuit, countsOf, circuitOf, lengthsOf, holding
 use Rattle.plan.specs.Header.{Head, binary, header, formIn}
 use Rattle.plan.specs.Binary.{binaryOf, binaryOrder}
 use Rattle.plan.specs.Reading.{States, Shortest}
-use Rattle.plan.specs.Given.{Given, given, lentAlone, failing, stages, orderStage, tailStage, roomStage}
+use Rattle.plan.specs.Given.{Given, givenCircuit, lentAlone, failing, stages, orderStage, tailStage, roomStage}
 use Rattle.plan.specs.Outcome.{ReadEntry, loadBy, loadAs, writeBinary}
 use Rattle.plan.specs.Cards.{cardsOf, holdable, CardStates, readCards, loadCards, cardStage, writeCards}
 use Rattle.laws.proofs.Reading.Common.{and-left, and-right}
@@ -88,22 +88,22 @@ module _ (w : WriteCall writeCards) where
   g = w .entry .circuit
 
   abbrev last : List (Option Refusal)
-  last = orderStage g ∷ tailStage g (w .entry .tail) ∷ cardStage g (w .entry .tail) ∷ roomStage (w .entry .out) (cardsOf (given g)) ∷ []
+  last = orderStage g ∷ tailStage g (w .entry .tail) ∷ cardStage g (w .entry .tail) ∷ roomStage (w .entry .out) (cardsOf (givenCircuit g)) ∷ []
 
-  pub cards-written : CardStates (fileOf writeCards w) (given (w .entry .circuit)) × (w .entry .tail ≡ [])
+  pub cards-written : CardStates (fileOf writeCards w) (givenCircuit (w .entry .circuit)) × (w .entry .tail ≡ [])
   cards-written =
-      let x = wrote (w .entry) (cardsOf (given g)) (w .size) (firstOf (stages g (lentAlone g) ++ last)) (w .accepted) in
+      let x = wrote (w .entry) (cardsOf (givenCircuit g)) (w .size) (firstOf (stages g (lentAlone g) ++ last)) (w .accepted) in
       let s = first-both (stages g (lentAlone g)) last (x .0) in
       let all = first-all last (s .1) in
-      let on-cards = eqb (length (w .entry .tail)) 0 && holdable (given g) in
+      let on-cards = eqb (length (w .entry .tail)) 0 && holdable (givenCircuit g) in
       let held = failing-none on-cards (stage-none NotOnCards (failing on-cards) (all .1 .1 .0)) in (
         record {
           cards = x .2;
           formed = nothing-fine g (lentAlone g) (s .0) .formed;
-          order = failing-none (binaryOrder (given g)) (stage-none NotInOrder (failing (binaryOrder (given g))) (all .0));
-          held = and-right (eqb (length (w .entry .tail)) 0) (holdable (given g)) held;
+          order = failing-none (binaryOrder (givenCircuit g)) (stage-none NotInOrder (failing (binaryOrder (givenCircuit g))) (all .0));
+          held = and-right (eqb (length (w .entry .tail)) 0) (holdable (givenCircuit g)) held;
         },
-        empty-list (w .entry .tail) (eqb-true _ _ (and-left (eqb (length (w .entry .tail)) 0) (holdable (given g)) held)),
+        empty-list (w .entry .tail) (eqb-true _ _ (and-left (eqb (length (w .entry .tail)) 0) (holdable (givenCircuit g)) held)),
       )
 
 -- cards, read, written as binary with any tail, read and written as cards: the same bytes
@@ -114,8 +114,8 @@ pub cards-through-binary : (k : CardCall)
     → fileOf writeCards w ≡ k .entry .file
 cards-through-binary k b b-given r r-file w w-given =
     let again = subst (λ (x : List ℕ). States V19 x (readCircuit r) (readTail r)) r-file (read-states r) in
-    let same : readCircuit r ≡ given (b .entry .circuit)
-    = unique V19 (fileOf writeBinary b) (readCircuit r) (given (b .entry .circuit)) (readTail r) (b .entry .tail) again
+    let same : readCircuit r ≡ givenCircuit (b .entry .circuit)
+    = unique V19 (fileOf writeBinary b) (readCircuit r) (givenCircuit (b .entry .circuit)) (readTail r) (b .entry .tail) again
     (binary-states (b .entry) (b .size) (b .accepted)) .0 in
     cards-written w .0 .cards ∙ (ap cardsOf (w-given .1 ∙ (same ∙ b-given .1)) ∙ sym (card-states k .cards))
 
@@ -128,8 +128,8 @@ through-cards : (r : ReadCall) → r .entry .file ≡ binaryOf (readCircuit r) +
     → fileOf writeBinary b ≡ r .entry .file
 through-cards r file-is w w-given w-tail k k-file b b-given b-tail =
     let there = cards-written w in
-    let same : cardCircuit k ≡ given (w .entry .circuit)
-    = cards-unique (fileOf writeCards w) (cardCircuit k) (given (w .entry .circuit))
+    let same : cardCircuit k ≡ givenCircuit (w .entry .circuit)
+    = cards-unique (fileOf writeCards w) (cardCircuit k) (givenCircuit (w .entry .circuit))
     (subst (λ (x : List ℕ). CardStates x (cardCircuit k)) k-file (card-states k)) (there .0) in
     binary-bytes (b .entry) (b .size) (b .accepted)
     ∙ (ap₂ (λ (c : Circuit) (t : List ℕ). binaryOf c ++ t) (b-given .1 ∙ (same ∙ w-given .1)) (b-tail ∙ (sym (there .1) ∙ w-tail)) ∙ sym file-is)

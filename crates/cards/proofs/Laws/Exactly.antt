@@ -13,11 +13,11 @@ use lib.Seq.{drop-drop, drop-at}
 use Rattle.plan.specs.declared.Counts.{Counts}
 use Rattle.plan.specs.declared.Refusal.the-variants.{WrongByte, LargeCount, WrongSum, ShortTable, OutOfRange, NotInOrder, WrongMark}
 use Rattle.plan.specs.Refusals.{got}
-use Rattle.plan.specs.Circuit.{Circuit, countsOf, wordsToWork, against, short, nexts}
+use Rattle.plan.specs.Circuit.{Circuit, countsOf, wordsToWork, against, leastShort, nexts}
 use Rattle.plan.specs.Bytes.{values}
 use Rattle.plan.specs.Header.{binary, over, adds}
 use Rattle.plan.specs.Binary.{latchesFrom, binaryOrder}
-use Rattle.plan.specs.Reading.{WellFormed, Room}
+use Rattle.plan.specs.Reading.{WellFormed, LongEnough}
 use Rattle.plan.specs.Given.{orElse, failing, outsideIn}
 use Rattle.plan.specs.Cards.{wordAt, wordBytes, markBytes, marked, headCard, wordCards, gateCards, cardsOf, allZero, holdable, CardStates, countsAt}
 use Rattle.plan.specs.Cards.{countsPlaced, cardBytes, wrongLength, badLength, latchesAt, outputsAt, gatesAt, wrongIn, wrongMarks, wordsIn, gatesIn}
@@ -192,7 +192,7 @@ module _ (c : Circuit) (w : WellFormed c) (o : binaryOrder c ≡ true) (k : hold
       (ap (λ (x : Counts). failing (adds binary x)) counts-read ∙ ap failing (eq-eqb _ _ (in-order .sum)))
       ∙ ap (λ (x : Counts). got x 22) counts-read)))
 
-  pub cards-read : (lengths : List ℕ) → Room c lengths → readCards file lengths ≡ got c (length file)
+  pub cards-read : (lengths : List ℕ) → LongEnough c lengths → readCards file lengths ≡ got c (length file)
   cards-read lengths room =
       let inside : outsideIn c ≡ none
       = inside-none c (record {
@@ -205,7 +205,7 @@ module _ (c : Circuit) (w : WellFormed c) (o : binaryOrder c ≡ true) (k : hold
         constraints = w .constraints;
       }) in
       rw head-read
-      (past-none ShortTable _ (short (against 1 (wordsToWork n) lengths)) room
+      (past-none ShortTable _ (leastShort (against 1 (wordsToWork n) lengths)) room
       ∙ (past-none OutOfRange _ (outsideIn (carded file n)) (ap outsideIn carded-is ∙ inside)
       ∙ (past-none NotInOrder _ (failing (binaryOrder (carded file n))) (ap (λ (x : Circuit). failing (binaryOrder x)) carded-is ∙ ap failing o)
       ∙ ap (λ (x : Circuit). got x (length file)) carded-is)))
@@ -294,7 +294,7 @@ pub record Accepted (file lengths : List ℕ) : Type 0 where
   pub marks : wrongMarks file (countsAt file) ≡ none
   pub small : AllMost (values (countsPlaced (countsAt file)))
   pub sum : adds binary (countsAt file) ≡ true
-  pub room : short (against 1 (wordsToWork (countsAt file)) lengths) ≡ none
+  pub room : leastShort (against 1 (wordsToWork (countsAt file)) lengths) ≡ none
   pub inside : outsideIn (carded file (countsAt file)) ≡ none
   pub order : binaryOrder (carded file (countsAt file)) ≡ true
 
@@ -319,7 +319,7 @@ module _ (file lengths : List ℕ) (c : Circuit) (start : ℕ) (q : readCards fi
       let t = then-got (cardHead file) _ c start q in
       let h = head-accepted file (t .0) (t .1) (t .2) in
       let n-is : t .0 ≡ countsAt file = h .4 in
-      let b1 = past-got ShortTable _ (short (against 1 (wordsToWork (t .0)) lengths)) c start (t .3) in
+      let b1 = past-got ShortTable _ (leastShort (against 1 (wordsToWork (t .0)) lengths)) c start (t .3) in
       let b2 = past-got OutOfRange _ (outsideIn (carded file (t .0))) c start (b1 .1) in
       let b3 = past-got NotInOrder _ (failing (binaryOrder (carded file (t .0)))) c start (b2 .1) in (
         record {
@@ -327,7 +327,7 @@ module _ (file lengths : List ℕ) (c : Circuit) (start : ℕ) (q : readCards fi
           marks = h .1;
           small = h .2;
           sum = h .3;
-          room = ap (λ (x : Counts). short (against 1 (wordsToWork x) lengths)) (sym n-is) ∙ b1 .0;
+          room = ap (λ (x : Counts). leastShort (against 1 (wordsToWork x) lengths)) (sym n-is) ∙ b1 .0;
           inside = ap (λ (x : Counts). outsideIn (carded file x)) (sym n-is) ∙ b2 .0;
           order = ap (λ (x : Counts). binaryOrder (carded file x)) (sym n-is) ∙ failing-none _ (b3 .0);
         },
@@ -363,13 +363,13 @@ module _ (file lengths : List ℕ) (c : Circuit) (start : ℕ) (q : readCards fi
     held = ap holdable (sym (parts .1)) ∙ made-held file;
   }
 
-  pub cards-room : Room c lengths
+  pub cards-room : LongEnough c lengths
   cards-room =
-      subst (λ (d : Circuit). Room d lengths) (parts .1)
-      (ap (λ (x : Counts). short (against 1 (wordsToWork x) lengths)) (made-counts file) ∙ parts .0 .room)
+      subst (λ (d : Circuit). LongEnough d lengths) (parts .1)
+      (ap (λ (x : Counts). leastShort (against 1 (wordsToWork x) lengths)) (made-counts file) ∙ parts .0 .room)
 
 -- with room, exactly if
-pub cards-exactly : (file lengths : List ℕ) → Bytes file → (c : Circuit) → Room c lengths
+pub cards-exactly : (file lengths : List ℕ) → Bytes file → (c : Circuit) → LongEnough c lengths
     → (readCards file lengths ≡ got c (length file)) ↔ CardStates file c
 cards-exactly file lengths bytes c room = (λ q. cards-state file lengths c (length file) q bytes, reads)
   where

@@ -9,7 +9,7 @@ use Rattle.plan.specs.declared.Counts.{Counts}
 use Rattle.plan.specs.declared.Refusal.{Refusal}
 use Rattle.plan.specs.declared.Refusal.the-variants.{WrongByte, LargeCount, WrongSum, ShortTable, OutOfRange, NotInOrder, WrongMark}
 use Rattle.plan.specs.Refusals.{Parse, got, refused, _then_, numberOf}
-use Rattle.plan.specs.Circuit.{Circuit, wordsToWork, against, short}
+use Rattle.plan.specs.Circuit.{Circuit, wordsToWork, against, leastShort}
 use Rattle.plan.specs.Binary.{binaryOrder}
 use Rattle.plan.specs.Depends.{undefinedIn, cyclicIn}
 use Rattle.plan.specs.Header.{binary, over, adds}
@@ -57,11 +57,11 @@ head-spared file =
 pub cards-apart : (file lengths : List ℕ) (r : Refusal) → readCards file lengths ≡ refused r → Apart r
 cards-apart file lengths r q = subst Spared q whole
   where
-    rest : (n : Counts) (at : ℕ) → Spared (past (short (against 1 (wordsToWork n) lengths)) ShortTable then λ _ _.
+    rest : (n : Counts) (at : ℕ) → Spared (past (leastShort (against 1 (wordsToWork n) lengths)) ShortTable then λ _ _.
         past (outsideIn (carded file n)) OutOfRange then λ _ _. past (failing (binaryOrder (carded file n))) NotInOrder then λ _ _.
         got (carded file n) at)
     rest n at =
-        spared-past (short (against 1 (wordsToWork n) lengths)) ShortTable _ 4 (λ x. refl) (λ h. omega arith)
+        spared-past (leastShort (against 1 (wordsToWork n) lengths)) ShortTable _ 4 (λ x. refl) (λ h. omega arith)
         (spared-past (outsideIn (carded file n)) OutOfRange _ 5 (λ x. refl) (λ h. omega arith)
         (spared-past (failing (binaryOrder (carded file n))) NotInOrder _ 15 (λ x. refl) (λ h. omega arith) tt))
 

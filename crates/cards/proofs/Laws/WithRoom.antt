@@ -17,11 +17,11 @@ use Rattle.plan.specs.declared.Refusal.{Refusal}
 use Rattle.plan.specs.declared.Loaded.the-variants as loaded
 use Rattle.plan.specs.declared.Written.the-variants as written
 use Rattle.plan.specs.Refusals.{got, firstOf}
-use Rattle.plan.specs.Circuit.{Circuit, Tables, countsOf, circuitOf, lengthsOf, wordsToWork, against, short}
+use Rattle.plan.specs.Circuit.{Circuit, Tables, countsOf, circuitOf, lengthsOf, wordsToWork, against, leastShort}
 use Rattle.plan.specs.Header.{Head, binary, header, formIn}
 use Rattle.plan.specs.Binary.{binaryOf, binaryOrder}
-use Rattle.plan.specs.Reading.{WellFormed, States, Shortest, Room, RoomToRead}
-use Rattle.plan.specs.Given.{Given, given, lentAlone, stages, orderStage, tailStage, roomStage}
+use Rattle.plan.specs.Reading.{WellFormed, States, Shortest, LongEnough, LongEnoughToRead}
+use Rattle.plan.specs.Given.{Given, givenCircuit, lentAlone, stages, orderStage, tailStage, roomStage}
 use Rattle.plan.specs.Outcome.{ReadEntry, LoadExit, loadBy, loadAs, load, FileEntry, FileExit, writtenBy, writeBinary}
 use Rattle.plan.specs.Cards.{cardsOf, holdable, readCards, loadCards, cardStage, writeCards}
 use Rattle.laws.proofs.Put.{put-first}
@@ -44,7 +44,7 @@ use Rattle.cards.proofs.Laws.Calls.{CardCall, cardCircuit, read-cards, 
 pub record Roomy (e : FileEntry) (n : Counts) (t : Tables) (bytes : List ℕ) : Type 0 where
   pub handed : Handed (e .circuit) n t
   pub tail : e .tail ≡ []
-  pub words : short (against 1 (wordsToWork n) (lengthsOf (e .circuit .tables) (e .circuit .scratch))) ≡ none
+  pub words : leastShort (against 1 (wordsToWork n) (lengthsOf (e .circuit .tables) (e .circuit .scratch))) ≡ none
   pub space : length bytes ≤ length (e .out)
 
 -- no stage of such a writer refuses a well-formed circuit in binary order
@@ -54,11 +54,11 @@ module _ (c : Circuit) (w : WellFormed c) (o : binaryOrder c ≡ true) (n : Coun
   g = e .circuit
 
   module _ (file : List ℕ) (x : Roomy e n t file) where
-    holds : given g ≡ c
+    holds : givenCircuit g ≡ c
     holds = x .handed .1 ∙ left
 
     order : orderStage g ≡ none
-    order = let in-order : binaryOrder (given g) ≡ true = ap binaryOrder holds ∙ o in rw in-order
+    order = let in-order : binaryOrder (givenCircuit g) ≡ true = ap binaryOrder holds ∙ o in rw in-order
 
     tails : tailStage g (e .tail) ≡ none
     tails = ap (tailStage g) (x .tail)
@@ -71,16 +71,16 @@ module _ (c : Circuit) (w : WellFormed c) (o : binaryOrder c ≡ true) (n : Coun
     done : (last : List (Option Refusal)) (bytes : List ℕ) → bytes ≡ file → firstOf last ≡ none
         → writtenBy (firstOf (stages g (lentAlone g) ++ last)) e bytes ≡ writtenBy none e file
     done last bytes same passed =
-        let words : short (lentAlone g) ≡ none
-        = ap (λ (m : Counts). short (against 1 (wordsToWork m) (lengthsOf (g .tables) (g .scratch)))) (x .handed .0) ∙ x .words in
+        let words : leastShort (lentAlone g) ≡ none
+        = ap (λ (m : Counts). leastShort (against 1 (wordsToWork m) (lengthsOf (g .tables) (g .scratch)))) (x .handed .0) ∙ x .words in
         let fine = fine-nothing g (lentAlone g) (formed-fine g (lentAlone g) c holds (x .handed .0 ∙ counts) w words) in
         ap₂ (λ (r : Option Refusal) (l : List ℕ). writtenBy r e l) (both-first (stages g (lentAlone g)) last fine ∙ passed) same
 
   binary-done : Roomy e n t (binaryOf c) → writeBinary e ≡ writtenBy none e (binaryOf c)
   binary-done x =
       let file = binaryOf c in
-      let bytes = binaryOf (given g) ++ e .tail in
-      let same : binaryOf (given g) ++ e .tail ≡ binaryOf c
+      let bytes = binaryOf (givenCircuit g) ++ e .tail in
+      let same : binaryOf (givenCircuit g) ++ e .tail ≡ binaryOf c
       = ap₂ (λ (d : Circuit) (l : List ℕ). binaryOf d ++ l) (holds file x) (x .tail) ∙ append-nil file in
       done file x (orderStage g ∷ tailStage g (e .tail) ∷ roomStage (e .out) bytes ∷ []) bytes same
       (rw (order file x, tails file x, room file x bytes same))
@@ -88,10 +88,10 @@ module _ (c : Circuit) (w : WellFormed c) (o : binaryOrder c ≡ true) (n : Coun
   cards-done : holdable c ≡ true → Roomy e n t (cardsOf c) → writeCards e ≡ writtenBy none e (cardsOf c)
   cards-done k x =
       let file = cardsOf c in
-      let bytes = cardsOf (given g) in
-      let same : cardsOf (given g) ≡ cardsOf c = ap cardsOf (holds file x) in
-      let held : (eqb (length (e .tail)) 0 && holdable (given g)) ≡ true
-      = and-intro (eqb (length (e .tail)) 0) (holdable (given g)) (eq-eqb _ _ (ap length (x .tail))) (ap holdable (holds file x) ∙ k) in
+      let bytes = cardsOf (givenCircuit g) in
+      let same : cardsOf (givenCircuit g) ≡ cardsOf c = ap cardsOf (holds file x) in
+      let held : (eqb (length (e .tail)) 0 && holdable (givenCircuit g)) ≡ true
+      = and-intro (eqb (length (e .tail)) 0) (holdable (givenCircuit g)) (eq-eqb _ _ (ap length (x .tail))) (ap holdable (holds file x) ∙ k) in
       let carded : cardStage g (e .tail) ≡ none = rw held in
       done file x (orderStage g ∷ tailStage g (e .tail) ∷ cardStage g (e .tail) ∷ roomStage (e .out) bytes ∷ []) bytes same
       (rw (order file x, tails file x, carded, room file x bytes same))
@@ -111,14 +111,14 @@ done-file e bytes x d = ap (λ (y : FileExit). take (length bytes) (y .out)) d �
 
 -- a reader with room: of AIGER, and of cards, that a writer wrote
 module _ (c : Circuit) (w : WellFormed c) (o : binaryOrder c ≡ true) where
-  binary-loaded : (r : ReadEntry) → r .file ≡ binaryOf c → RoomToRead (r .file) c (lengthsOf (r .tables) (r .scratch))
+  binary-loaded : (r : ReadEntry) → r .file ≡ binaryOf c → LongEnoughToRead (r .file) c (lengthsOf (r .tables) (r .scratch))
       → (s : ℕ) × (load r ≡ loadBy r (got c s)) × (drop s (r .file) ≡ [])
   binary-loaded r e room =
       let stated = states-binary (r .file) c [] w (no-tail c) (e ∙ sym (append-nil (binaryOf c))) o in
       let a = complete V19 (r .file) (lengthsOf (r .tables) (r .scratch)) c [] stated room in
       (a .0, ap (loadBy r) (a .1), a .2)
 
-  cards-loaded : holdable c ≡ true → (r : ReadEntry) → r .file ≡ cardsOf c → Room c (lengthsOf (r .tables) (r .scratch))
+  cards-loaded : holdable c ≡ true → (r : ReadEntry) → r .file ≡ cardsOf c → LongEnough c (lengthsOf (r .tables) (r .scratch))
       → loadCards r ≡ loadBy r (got c (length (r .file)))
   cards-loaded k r e room =
       ap (loadBy r) (ap (λ (l : List ℕ). readCards l (lengthsOf (r .tables) (r .scratch))) e
@@ -131,7 +131,7 @@ module _ (c : Circuit) (w : WellFormed c) (o : binaryOrder c ≡ true) where
 pub cards-there-and-back : (k : CardCall)
     → (b : FileEntry) → Roomy b (k .counts) (loadCards (k .entry) .tables) (binaryOf (cardCircuit k))
     → (n : ℕ) × (writeBinary b .answer ≡ written.Bytes n)
-    × ((r : ReadEntry) → r .file ≡ take n (writeBinary b .out) → RoomToRead (r .file) (cardCircuit k) (lengthsOf (r .tables) (r .scratch))
+    × ((r : ReadEntry) → r .file ≡ take n (writeBinary b .out) → LongEnoughToRead (r .file) (cardCircuit k) (lengthsOf (r .tables) (r .scratch))
     → (m : Counts) × (s : ℕ) × (load r .answer ≡ loaded.Accepted m s) × (drop s (r .file) ≡ [])
     × ((w : FileEntry) → Roomy w m (load r .tables) (k .entry .file) → writeCards w ≡ writtenBy none w (k .entry .file)))
 cards-there-and-back k b room =
@@ -158,7 +158,7 @@ abbrev pub CardsAndBack : ReadCall → Type 0
 CardsAndBack r =
     (w : FileEntry) → Roomy w (r .counts) (loadAs (r .version) (r .entry) .tables) (cardsOf (readCircuit r))
     → (n : ℕ) × (writeCards w .answer ≡ written.Bytes n)
-    × ((e : ReadEntry) → e .file ≡ take n (writeCards w .out) → Room (readCircuit r) (lengthsOf (e .tables) (e .scratch))
+    × ((e : ReadEntry) → e .file ≡ take n (writeCards w .out) → LongEnough (readCircuit r) (lengthsOf (e .tables) (e .scratch))
     → (m : Counts) × (s : ℕ) × (loadCards e .answer ≡ loaded.Accepted m s) × (drop s (e .file) ≡ [])
     × ((b : FileEntry) → Roomy b m (loadCards e .tables) (r .entry .file) → writeBinary b ≡ writtenBy none b (r .entry .file)))
 
@@ -193,9 +193,9 @@ binary-there-and-back r h at head form shortest =
 -- said of the read alone
 pub same-bytes-with-room : (r : ReadCall) → InShortestForm r → formIn (r .entry .file) ≡ binary → readTail r ≡ [] → holdable (readCircuit r) ≡ true
     → CardsAndBack r
-same-bytes-with-room r short form no-tail-left =
+same-bytes-with-room r leastShort form no-tail-left =
     let c = readCircuit r in
-    let f = binary-file (r .entry .file) c (readTail r) form (shortest-read r short) (read-states r) in
+    let f = binary-file (r .entry .file) c (readTail r) form (shortest-read r leastShort) (read-states r) in
     and-back r (f .1) (sym (f .0 ∙ (ap (λ (t : List ℕ). binaryOf c ++ t) no-tail-left ∙ append-nil (binaryOf c))))
 
 -- of every binary file that the reader of 2007 accepts, where there is no symbol or comment part: cards can hold it

@@ -16,7 +16,7 @@ use Rattle.plan.specs.declared.Headed.the-variants as headed
 use Rattle.plan.specs.declared.Loaded.the-variants.{Accepted, Refused}
 use Rattle.plan.specs.Literals.{most}
 use Rattle.plan.specs.Refusals.{Parse, got, refused, _then_, stage, firstOf}
-use Rattle.plan.specs.Circuit.{Circuit, Tables, seven, countsOf, circuitOf, wordsToWork, against, short, cleared}
+use Rattle.plan.specs.Circuit.{Circuit, Tables, seven, countsOf, circuitOf, wordsToWork, against, leastShort, cleared}
 use Rattle.plan.specs.Binary.{binaryOrder}
 use Rattle.plan.specs.Given.{failing, outsideIn}
 use Rattle.plan.specs.Outcome.{put, checkedBy}
@@ -97,11 +97,11 @@ module _ (file : List ℕ) (t : Tables) (words : ℕ) where
         (sym n-is)
         (h .2 .0, h .2 .1 .1 .0, h .2 .1 .1 .1 .0, h .2 .1 .1 .1 .1 .0, eqb-true _ _ (h .3), h .0, refl, refl)
 
-    pub take-short : (t′ : Tables) (k : ℕ) → short (against 1 (wordsToWork n) (lengthsIn (sizesOf t) words)) ≡ some k
+    pub take-short : (t′ : Tables) (k : ℕ) → leastShort (against 1 (wordsToWork n) (lengthsIn (sizesOf t) words)) ≡ some k
         → LoadedSays t (readCards file (lengthsIn (sizesOf t) words)) (Refused (ShortTable k)) t′
-    take-short t′ k s = told t′ (ShortTable k) (rw head (past-some ShortTable _ (short (against 1 (wordsToWork n) lens)) k s))
+    take-short t′ k s = told t′ (ShortTable k) (rw head (past-some ShortTable _ (leastShort (against 1 (wordsToWork n) lens)) k s))
 
-    module _ (s : short (against 1 (wordsToWork n) (lengthsIn (sizesOf t) words)) ≡ none) where
+    module _ (s : leastShort (against 1 (wordsToWork n) (lengthsIn (sizesOf t) words)) ≡ none) where
       pub ready : Ready file n (t .inputs) (t .latches) (t .outputs) (t .gates)
       ready =
           let l = short-none (against 1 (wordsToWork n) lens) .0 s in
@@ -166,7 +166,7 @@ module _ (file : List ℕ) (t : Tables) (words : ℕ) where
             → (past (outsideIn (carded file n)) OutOfRange then λ _ _. past (failing (binaryOrder (carded file n))) NotInOrder then λ _ _.
             got (carded file n) (length file)) ≡ r
             → readCards file (lengthsIn (sizesOf t) words) ≡ r
-        past-four r e = rw head (past-none ShortTable _ (short (against 1 (wordsToWork n) lens)) s ∙ e)
+        past-four r e = rw head (past-none ShortTable _ (leastShort (against 1 (wordsToWork n) lens)) s ∙ e)
 
         pub take-judged : (r : Refusal)
             → checked.Refused r ≡ checkedBy (firstOf (judgedBy (circuitOf n (seven inputs latches outputs gates (t .resets) (t .bads) (t .constraints)))))

@@ -16,7 +16,7 @@ use Rattle.plan.specs.declared.Refusal.the-variants.{NotOnCards, ShortBuffer}
 use Rattle.plan.specs.declared.Written.the-variants.{Bytes, Refused}
 use Rattle.plan.specs.Refusals.{firstOf, stage}
 use Rattle.plan.specs.Circuit.{countsOf}
-use Rattle.plan.specs.Given.{Given, given, failing, lentAlone, stages, orderStage, tailStage, roomStage}
+use Rattle.plan.specs.Given.{Given, givenCircuit, failing, lentAlone, stages, orderStage, tailStage, roomStage}
 use Rattle.plan.specs.Outcome.{WriteExit, put, putBytes}
 use Rattle.laws.proofs.Put.{with-room, without-room}
 use Rattle.laws.proofs.Writing.Nothing.{both-first, some-first, one-stage}
@@ -83,15 +83,15 @@ module _ (n : Counts) (resets tail : List ℕ) where
 -- given tables that are long enough hold as many bad states and constraints as the counts say
 module _ (g : Given) (f : Fits (g .counts) (g .tables .inputs) (g .tables .latches) (g .tables .outputs) (g .tables .gates) (g .tables .resets)
     (g .tables .bads) (g .tables .constraints)) where
-  pub held-counts : countsOf (given g) ≡ g .counts
+  pub held-counts : countsOf (givenCircuit g) ≡ g .counts
   held-counts = counts-held g (f .inputs-long) (f .outputs-long) (f .bads-long) (f .constraints-long)
 
-  pub held-same : (tail : List ℕ) → (eqb (length tail) 0 && holdable (given g)) ≡ holdableIn (g .counts) (g .tables .resets) tail
+  pub held-same : (tail : List ℕ) → (eqb (length tail) 0 && holdable (givenCircuit g)) ≡ holdableIn (g .counts) (g .tables .resets) tail
   held-same tail =
       ap₂ (λ (b k : ℕ). eqb (length tail) 0 && (allZero (take (g .counts .L) (g .tables .resets)) && (eqb b 0 && eqb k 0)))
       (ap (λ (m : Counts). m .B) held-counts) (ap (λ (m : Counts). m .C) held-counts)
 
-  pub cards-same : tableCards (g .counts) (g .tables .latches) (g .tables .outputs) (g .tables .gates) ≡ cardsOf (given g)
+  pub cards-same : tableCards (g .counts) (g .tables .latches) (g .tables .outputs) (g .tables .gates) ≡ cardsOf (givenCircuit g)
   cards-same =
       let n = g .counts in
       let t = g .tables in
@@ -122,11 +122,11 @@ module _ (g : Given) (tail out bytes : List ℕ) where
       → firstOf (stages g (lentAlone g) ++ (orderStage g ∷ tailStage g tail ∷ cardStage g tail ∷ roomStage out bytes ∷ [])) ≡ some r
   refused-first r e = some-first r before last e
 
-  pub at-nineteen : firstOf (writerStages true g tail) ≡ none → (eqb (length tail) 0 && holdable (given g)) ≡ false
+  pub at-nineteen : firstOf (writerStages true g tail) ≡ none → (eqb (length tail) 0 && holdable (givenCircuit g)) ≡ false
       → firstOf (stages g (lentAlone g) ++ (orderStage g ∷ tailStage g tail ∷ cardStage g tail ∷ roomStage out bytes ∷ [])) ≡ some (NotOnCards 0)
   at-nineteen e h = both-first before last e ∙ ap (λ (b : Bool). firstOf (stage NotOnCards (failing b) ∷ roomStage out bytes ∷ [])) h
 
-  pub past-nineteen : firstOf (writerStages true g tail) ≡ none → (eqb (length tail) 0 && holdable (given g)) ≡ true
+  pub past-nineteen : firstOf (writerStages true g tail) ≡ none → (eqb (length tail) 0 && holdable (givenCircuit g)) ≡ true
       → firstOf (stages g (lentAlone g) ++ (orderStage g ∷ tailStage g tail ∷ cardStage g tail ∷ roomStage out bytes ∷ [])) ≡ roomStage out bytes
   past-nineteen e h =
       both-first before last e

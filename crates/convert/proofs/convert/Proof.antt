@@ -8,7 +8,7 @@ use lib.ListN.{replicate}
 use Rattle.plan.specs.declared.Checked.the-variants.{Good}
 use Rattle.plan.specs.Refusals.{firstOf}
 use Rattle.plan.specs.Circuit.{Tables, seven, allCleared}
-use Rattle.plan.specs.Given.{given, lentWith}
+use Rattle.plan.specs.Given.{givenCircuit, lentWith}
 use Rattle.plan.specs.Convert.{convert}
 use Rattle.plan.specs.Outcome.{MakeEntry, checkedBy}
 use Rattle.judge.specs.Judged.{allStages}
@@ -275,7 +275,7 @@ returns-2 c =
     let k = back d in
     let t = entry k .circuit .tables in
     accepted (entry k) (passed d) (wiped k) _ _ (all-wiped k)
-    (all-hold (convert (given (entry k .circuit))) (wiped k) _ (f .fill .ensures t (numbered d)) (l .fill-last .ensures t (numbered d)))
+    (all-hold (convert (givenCircuit (entry k .circuit))) (wiped k) _ (f .fill .ensures t (numbered d)) (l .fill-last .ensures t (numbered d)))
     (c .before .before .before .before .clear .ensures ∙ ap (λ (n : ℕ). replicate n 0) (scratch-of d .scratch .given))
 
 pub convert-spec : {M : Type 1} → statement M

@@ -14,9 +14,8 @@ use Rattle.plan.specs.declared.Checked.{Checked}
 use Rattle.plan.specs.declared.Checked.the-variants.{Refused, Good}
 use Rattle.plan.specs.Literals.{varOf}
 use Rattle.plan.specs.Refusals.{stage, firstOf}
-use Rattle.plan.specs.Circuit.{Circuit, oneLine, latchLine, lefts, rights, definedIn, usedIn, allInside}
+use Rattle.plan.specs.Circuit.{Circuit, oneLine, latchLine, leftVars, rights, definedIn, usedIn, allInside, leaves}
 use Rattle.plan.specs.Depends.{undefinedIn, cyclicIn}
-use Rattle.plan.specs.Convert.{leaves}
 use Rattle.plan.specs.Outcome.{checkedBy}
 use Rattle.laws.proofs.Marks.{Agrees, agrees-same}
 use Rattle.laws.proofs.Ranges.{first-var, second-var, inside-at}
@@ -94,10 +93,10 @@ module _ {n : Counts} {inputs latches outputs gates bads constraints scratch : L
       (λ v h. getD-take (length scratch - base) (drop base scratch) v 0 (omega (arith, p .marks-long))) (p .marked)
 
   -- 8: leaves and gates are all different, and what gates use is among them
-  pub once : distinct (leaves c ++ lefts (c .gates)) ≡ true
+  pub once : distinct (leaves c ++ leftVars (c .gates)) ≡ true
   once = all-once c (p .inputs-inside) (p .latches-inside) (p .gates-inside) (p .different)
 
-  pub used : none ≡ undefinedIn c → allIn (rights (c .gates)) (leaves c ++ lefts (c .gates)) ≡ true
+  pub used : none ≡ undefinedIn c → allIn (rights (c .gates)) (leaves c ++ leftVars (c .gates)) ≡ true
   used e = rights-in c (all-defined (zero ∷ definedIn c) (usedIn c) (sym e))
 
   pub leaves-ask : (t : List ℕ) → length t ≡ length scratch → ((v : ℕ) → getD t v 0 ≡ 0) → Leaves n inputs latches t
@@ -109,7 +108,7 @@ module _ {n : Counts} {inputs latches outputs gates bads constraints scratch : L
     table-long = omega (arith, p .scratch-long, same);
     inputs-inside = p .inputs-inside;
     latches-inside = p .latches-inside;
-    different = distinct-left (leaves c) (lefts (c .gates)) once;
+    different = distinct-left (leaves c) (leftVars (c .gates)) once;
     blank = λ v h. blank v;
   }
 

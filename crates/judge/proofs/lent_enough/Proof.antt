@@ -4,7 +4,7 @@ use borrow.Author.Needs.{needs}
 use Prim.Native.Nat.{ℕ}
 use mathlib.Core.Path.{_≡_, sym, ap, _∙_}
 use borrow.Author.Tests.{not-true, not-false}
-use Rattle.plan.specs.Circuit.{wordsWith, wordsToWork, against, short}
+use Rattle.plan.specs.Circuit.{wordsWith, wordsToWork, against, leastShort}
 use Rattle.plan.specs.Outcome.{checkedBy}
 use Rattle.tables.specs.Lengths.{lengthsIn, tableOf}
 use Rattle.tables.proofs.Told.{some-table, no-table}
@@ -47,11 +47,11 @@ abbrev start : tie.After-too-short → tie.Start
 start c = c .before .before .before .before .before .before
 
 judged : (c : tie.After-too-short)
-    → tableOf (c .too-short .result) ≡ short (against 1 (wordsToWork (start c .args .n)) (lengthsIn (start c .args .to) (start c .args .scratch)))
+    → tableOf (c .too-short .result) ≡ leastShort (against 1 (wordsToWork (start c .args .n)) (lengthsIn (start c .args .to) (start c .args .scratch)))
 judged c =
     let a = start c .args in
     c .too-short .ensures
-    ∙ ap (λ (k : ℕ). short (against 1 (wordsWith k (a .n)) (lengthsIn (a .to) (a .scratch)))) (c .before .scratch-to-work .ensures)
+    ∙ ap (λ (k : ℕ). leastShort (against 1 (wordsWith k (a .n)) (lengthsIn (a .to) (a .scratch)))) (c .before .scratch-to-work .ensures)
 
 returns-3 : tie.Need-returns-3
 returns-3 c =

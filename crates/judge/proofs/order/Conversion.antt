@@ -4,8 +4,8 @@ use mathlib.Core.Path.{_≡_, sym, ap, _∙_, subst}
 use mathlib.Core.Bool.{true}
 use mathlib.Core.List.{List, _++_, map}
 use lib.ListN.{length}
-use Rattle.plan.specs.Circuit.{Gate, Circuit, gateOf, rowsOf, lefts}
-use Rattle.plan.specs.Convert.{leaves, numbered}
+use Rattle.plan.specs.Circuit.{Gate, Circuit, gateOf, rowsOf, leftVars, leaves}
+use Rattle.plan.specs.Convert.{numbered}
 use Rattle.laws.proofs.Reading.Members.{distinct}
 use Rattle.laws.proofs.Running.Scan.{scanned, sorted-scanned}
 use Rattle.laws.proofs.Tables.{gateAt, gates-rows, length-firsts}
@@ -16,13 +16,13 @@ module _ (gates : List ℕ) (a : ℕ) (c : Circuit) (its : c .gates ≡ map gate
   gates-count = ap length (its ∙ gates-rows gates a) ∙ length-firsts (gateAt gates) a
 
   -- what `number` leaves, if it was lent the numbers of the leaves
-  pub numbered-rows : distinct (leaves c ++ lefts (c .gates)) ≡ true
-      → numbered c ≡ leaves c ++ lefts (scanned (map gateOf (rowsOf 3 a gates)) a (leaves c))
+  pub numbered-rows : distinct (leaves c ++ leftVars (c .gates)) ≡ true
+      → numbered c ≡ leaves c ++ leftVars (scanned (map gateOf (rowsOf 3 a gates)) a (leaves c))
   numbered-rows once =
-      ap (λ (gs : List Gate). leaves c ++ lefts gs) (sorted-scanned c once)
-      ∙ (ap (λ (k : ℕ). leaves c ++ lefts (scanned (c .gates) k (leaves c))) gates-count
-      ∙ ap (λ (gs : List Gate). leaves c ++ lefts (scanned gs a (leaves c))) its)
+      ap (λ (gs : List Gate). leaves c ++ leftVars gs) (sorted-scanned c once)
+      ∙ (ap (λ (k : ℕ). leaves c ++ leftVars (scanned (c .gates) k (leaves c))) gates-count
+      ∙ ap (λ (gs : List Gate). leaves c ++ leftVars (scanned gs a (leaves c))) its)
 
-  pub numbers-of : (num : List ℕ) → distinct (leaves c ++ lefts (c .gates)) ≡ true
-      → NumTable (leaves c ++ lefts (scanned (map gateOf (rowsOf 3 a gates)) a (leaves c))) num → NumTable (numbered c) num
+  pub numbers-of : (num : List ℕ) → distinct (leaves c ++ leftVars (c .gates)) ≡ true
+      → NumTable (leaves c ++ leftVars (scanned (map gateOf (rowsOf 3 a gates)) a (leaves c))) num → NumTable (numbered c) num
   numbers-of num once h = subst (λ (o : List ℕ). NumTable o num) (sym (numbered-rows once)) h

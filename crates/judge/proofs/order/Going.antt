@@ -11,7 +11,7 @@ use lib.Dec.{eqb}
 use lib.ListN.{length, set, length-append}
 use lib.Seq.{append-snoc}
 use Rattle.plan.specs.Literals.{varOf}
-use Rattle.plan.specs.Circuit.{Gate, lefts, has}
+use Rattle.plan.specs.Circuit.{Gate, leftVars, has}
 use Rattle.plan.specs.Convert.{ready}
 use Rattle.laws.proofs.Reading.Common.{and-left}
 use Rattle.laws.proofs.Running.Scan.{scan, scanGo, scanned}
@@ -68,16 +68,16 @@ pub record Going (gates lv num : List ℕ) (a next k : ℕ) : Type 0 where
   pub table : NumTable o num
   pub long : length o ≡ next
   pub starts : Starts o
-  pub rest : o ++ lefts (scanned (gatesAt gates a) (a - k) o) ≡ lv ++ lefts (scanned (gatesAt gates a) a lv)
+  pub rest : o ++ leftVars (scanned (gatesAt gates a) (a - k) o) ≡ lv ++ leftVars (scanned (gatesAt gates a) a lv)
 
 abbrev pub Final : List ℕ → List ℕ → List ℕ → ℕ → Type 0
-Final gates lv num a = NumTable (lv ++ lefts (scanned (gatesAt gates a) a lv)) num
+Final gates lv num a = NumTable (lv ++ leftVars (scanned (gatesAt gates a) a lv)) num
 
 pub going-end : (gates lv num : List ℕ) (a next k : ℕ) → a ≤ k → Going gates lv num a next k → Final gates lv num a
 going-end gates lv num a next k h r =
     let z : a - k ≡ 0 = omega arith in
     subst (λ (p : List ℕ). NumTable p num)
-    (sym (append-nil (r .o)) ∙ ap (λ (m : ℕ). r .o ++ lefts (scanned (gatesAt gates a) m (r .o))) (sym z) ∙ r .rest) (r .table)
+    (sym (append-nil (r .o)) ∙ ap (λ (m : ℕ). r .o ++ leftVars (scanned (gatesAt gates a) m (r .o))) (sym z) ∙ r .rest) (r .table)
 
 scanned-none : (all : List Gate) (m : ℕ) (o : List ℕ) → scan o all ≡ none → scanned all m o ≡ []
 scanned-none all zero o h = refl
@@ -97,7 +97,7 @@ pub going-break : (gates lv num : List ℕ) (a next k : ℕ) → InRange (length
 going-break gates lv num a next k r n g =
     subst (λ (p : List ℕ). NumTable p num)
     (sym (append-nil (g .o))
-    ∙ ap (λ (q : List Gate). g .o ++ lefts q)
+    ∙ ap (λ (q : List Gate). g .o ++ leftVars q)
     (sym (scanned-none (gatesAt gates a) (a - k) (g .o)
     (scan-none (g .o) gates a (not-test gates lv num (g .o) a a (omega arith) (g .starts) (g .table) r n))))
     ∙ g .rest)
@@ -112,8 +112,8 @@ going-more gates lv num a next k j hk hj r n y g = record {
   table = subst (λ (m : ℕ). NumTable (g .o ++ (v ∷ [])) (set num v m)) (g .long) (numtable-more (g .o) num v (g .table) fresh (r j hj .0));
   long = length-append (g .o) (v ∷ []) ∙ ap (λ (m : ℕ). m + 1) (g .long);
   starts = starts-append (g .o) (v ∷ []) (g .starts);
-  rest = append-snoc (g .o) v (lefts (scanned (gatesAt gates a) (a - (k + 1)) (g .o ++ (v ∷ []))))
-      ∙ ap (λ (q : List Gate). g .o ++ lefts q)
+  rest = append-snoc (g .o) v (leftVars (scanned (gatesAt gates a) (a - (k + 1)) (g .o ++ (v ∷ []))))
+      ∙ ap (λ (q : List Gate). g .o ++ leftVars q)
       (sym (ap (λ (m : ℕ). scanned (gatesAt gates a) m (g .o)) less ∙ ap
       (scanGo (λ p. scanned (gatesAt gates a) (a - (k + 1)) p) (g .o)) found)) ∙ g .rest;
 }
@@ -136,4 +136,4 @@ going-more gates lv num a next k j hk hj r n y g = record {
 pub going-start : (gates lv num : List ℕ) (a first : ℕ) → NumTable lv num → Starts lv → length lv ≡ first → Going gates lv num a first 0
 going-start gates lv num a first t s l =
     let z : a - 0 ≡ a = omega arith in
-    record { o = lv; table = t; long = l; starts = s; rest = ap (λ (m : ℕ). lv ++ lefts (scanned (gatesAt gates a) m lv)) z }
+    record { o = lv; table = t; long = l; starts = s; rest = ap (λ (m : ℕ). lv ++ leftVars (scanned (gatesAt gates a) m lv)) z }

@@ -9,7 +9,7 @@ use borrow.Author.Tests.{eqb-true, eqb-false, ltb-true, le-ltb}
 use lib.Dec.{eqb, ltb}
 use lib.ListN.{length, getD, take, length-set, length-take}
 use lib.Seq.{getD-set-same, getD-set-other}
-use Rattle.plan.specs.Circuit.{gateOf, rowsOf, lefts, has}
+use Rattle.plan.specs.Circuit.{gateOf, rowsOf, leftVars, has}
 use Rattle.tables.specs.bitmap.Bitmap.{isOn}
 use Rattle.tables.proofs.bitmap.Telling.{blank-off}
 use Rattle.laws.proofs.Reading.Members.{distinct}
@@ -33,7 +33,7 @@ pub record Naming (gates t₀ t : List ℕ) (n k : ℕ) : Type 0 where
   pub rest : (p : ℕ) → n ≤ p → getD t p 0 ≡ getD t₀ p 0
 
 module _ (gates t : List ℕ) (n a : ℕ) (long : n ≤ length t) (range : InRange n gates a) (fresh : Fresh t n) (known : Known gates t n a) where
-  heads : lefts (map gateOf (rowsOf 3 a gates)) ≡ firsts (lhsOf gates) a
+  heads : leftVars (map gateOf (rowsOf 3 a gates)) ≡ firsts (lhsOf gates) a
   heads = gates-heads gates a
 
   has-numbered : (v : ℕ) → v < n → numberedV t v ≡ has v (known .lv)
@@ -45,12 +45,12 @@ module _ (gates t : List ℕ) (n a : ℕ) (long : n ≤ length t) (range : InRan
   pub lefts-open : (i : ℕ) → i < a → numberedV t (lhsOf gates i) ≡ false
   lefts-open i h =
       has-numbered (lhsOf gates i) (range i h .0)
-      ∙ apart (known .lv) (lefts (map gateOf (rowsOf 3 a gates))) (known .once) (lhsOf gates i)
+      ∙ apart (known .lv) (leftVars (map gateOf (rowsOf 3 a gates))) (known .once) (lhsOf gates i)
       (subst (λ (l : List ℕ). has (lhsOf gates i) l ≡ true) (sym heads) (has-first (lhsOf gates) a i h))
 
   differ : (i j : ℕ) → i < a → j < a → (i ≡ j → ⊥) → lhsOf gates i ≡ lhsOf gates j → ⊥
   differ i j =
-      one-place (lhsOf gates) a i j (ap distinct (sym heads) ∙ distinct-right (known .lv) (lefts (map gateOf (rowsOf 3 a gates))) (known .once))
+      one-place (lhsOf gates) a i j (ap distinct (sym heads) ∙ distinct-right (known .lv) (leftVars (map gateOf (rowsOf 3 a gates))) (known .once))
 
   one-more : (k : ℕ) → k < a → Naming gates t (withNames gates k t) n k → Naming gates t (withNames gates (suc k) t) n (suc k)
   one-more k h m = record {
@@ -110,7 +110,7 @@ module _ (gates t : List ℕ) (n a : ℕ) (long : n ≤ length t) (range : InRan
     still v h = numbered-by t u v (named-all .keep v h)
 
     -- a variable that is a leaf or defined, and names no gate, has a number
-    low-known : (v : ℕ) → v < n → has v (known .lv ++ lefts (map gateOf (rowsOf 3 a gates))) ≡ true → getD u v 0 < 2147483648
+    low-known : (v : ℕ) → v < n → has v (known .lv ++ leftVars (map gateOf (rowsOf 3 a gates))) ≡ true → getD u v 0 < 2147483648
         → numberedV u v ≡ true
     low-known v h q low = still v h ∙ go (numberedV t v) refl
       where
@@ -120,11 +120,11 @@ module _ (gates t : List ℕ) (n a : ℕ) (long : n ≤ length t) (range : InRan
             of-places (λ (x : ℕ). getD u x 0 < 2147483648 → numberedV t v ≡ true) (lhsOf gates) a v
             (λ i k l. absurd (omega (arith, named-all .own i k, l)))
             (subst (λ (l : List ℕ). has v l ≡ true) heads
-            (has-rest v (known .lv) (lefts (map gateOf (rowsOf 3 a gates))) q (sym (has-numbered v h) ∙ z))) low
+            (has-rest v (known .lv) (leftVars (map gateOf (rowsOf 3 a gates))) q (sym (has-numbered v h) ∙ z))) low
 
-    sides : (i : ℕ) → i < a → Sides (known .lv ++ lefts (map gateOf (rowsOf 3 a gates))) (gateAt gates i)
+    sides : (i : ℕ) → i < a → Sides (known .lv ++ leftVars (map gateOf (rowsOf 3 a gates))) (gateAt gates i)
     sides =
-        let ds = known .lv ++ lefts (map gateOf (rowsOf 3 a gates)) in
+        let ds = known .lv ++ leftVars (map gateOf (rowsOf 3 a gates)) in
         all-places (Sides ds) (gateAt gates) a
         (subst (AllG (Sides ds)) (gates-rows gates a) (sides-in ds (map gateOf (rowsOf 3 a gates)) (known .used)))
 

@@ -9,8 +9,8 @@ use lib.Dec.{eqb}
 use lib.ListN.{length, getD, set, length-set}
 use lib.Seq.{getD-set-same, getD-set-other}
 use Rattle.plan.specs.Literals.{varOf}
-use Rattle.plan.specs.Circuit.{Gate, has}
-use Rattle.plan.specs.Convert.{ready, index}
+use Rattle.plan.specs.Circuit.{Gate, has, index}
+use Rattle.plan.specs.Convert.{ready}
 use Rattle.laws.proofs.Running.Lists.{has-seam}
 use Rattle.laws.proofs.Running.Scan.{has-snoc}
 use Rattle.judge.specs.order.Numbers.{numberedT, readyT, NumTable, InTable}

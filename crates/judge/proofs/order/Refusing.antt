@@ -10,9 +10,8 @@ use borrow.Author.Tests.{eqb-true, eqb-false}
 use lib.Dec.{eqb}
 use lib.ListN.{length, take, length-take, length-append}
 use Rattle.plan.specs.Literals.{varOf}
-use Rattle.plan.specs.Circuit.{Gate, Circuit, gateOf, rowsOf, lefts, rights, has}
+use Rattle.plan.specs.Circuit.{Gate, Circuit, gateOf, rowsOf, leftVars, rights, has, leaves}
 use Rattle.plan.specs.Depends.{cyclicIn}
-use Rattle.plan.specs.Convert.{leaves}
 use Rattle.laws.proofs.Reading.Members.{distinct}
 use Rattle.laws.proofs.Reading.Cycles.{length-lefts}
 use Rattle.laws.proofs.Running.Lists.{allIn}
@@ -67,16 +66,16 @@ module _ (gates t o : List ℕ) (n a r : ℕ) (long : n ≤ length t) (range : I
 
 -- of a circuit
 module _ (gates t : List ℕ) (n a first : ℕ) (c : Circuit) (its : c .gates ≡ map gateOf (rowsOf 3 a gates))
-    (once : distinct (leaves c ++ lefts (c .gates)) ≡ true)
-    (used : allIn (rights (c .gates)) (leaves c ++ lefts (c .gates)) ≡ true) (count : length (leaves c) ≡ first)
+    (once : distinct (leaves c ++ leftVars (c .gates)) ≡ true)
+    (used : allIn (rights (c .gates)) (leaves c ++ leftVars (c .gates)) ≡ true) (count : length (leaves c) ≡ first)
     (long : n ≤ length t) (range : InRange n gates a) (few : first + a < 2147483648)
-    (tab : NumTable (leaves c ++ lefts (scanned (map gateOf (rowsOf 3 a gates)) a (leaves c))) (take n t)) (r : ℕ)
+    (tab : NumTable (leaves c ++ leftVars (scanned (map gateOf (rowsOf 3 a gates)) a (leaves c))) (take n t)) (r : ℕ)
     (f : FirstAt gates t a r) where
   rows : c .gates ≡ gatesAt gates a
   rows = its ∙ gates-rows gates a
 
   o : List ℕ
-  o = leaves c ++ lefts (scanned (map gateOf (rowsOf 3 a gates)) a (leaves c))
+  o = leaves c ++ leftVars (scanned (map gateOf (rowsOf 3 a gates)) a (leaves c))
 
   short : length o < 2147483648
   unfolding o
@@ -84,7 +83,7 @@ module _ (gates t : List ℕ) (n a first : ℕ) (c : Circuit) (its : c .gates �
       let gs = map gateOf (rowsOf 3 a gates) in
       omega (
         arith,
-        length-append (leaves c) (lefts (scanned gs a (leaves c))),
+        length-append (leaves c) (leftVars (scanned gs a (leaves c))),
         length-lefts (scanned gs a (leaves c)),
         scanned-length gs a (leaves c),
       )
@@ -93,9 +92,9 @@ module _ (gates t : List ℕ) (n a first : ℕ) (c : Circuit) (its : c .gates �
   unfolding o
   place =
       cyclic-out c once used
-      ∙ (ap (λ (k : ℕ). firstOut (leaves c ++ lefts (scanned (c .gates) k (leaves c))) (c .gates)) (gates-count gates a c its)
-      ∙ (ap (λ (gs : List Gate). firstOut (leaves c ++ lefts (scanned gs a (leaves c))) (c .gates)) its
-      ∙ ap (firstOut (leaves c ++ lefts (scanned (map gateOf (rowsOf 3 a gates)) a (leaves c)))) rows))
+      ∙ (ap (λ (k : ℕ). firstOut (leaves c ++ leftVars (scanned (c .gates) k (leaves c))) (c .gates)) (gates-count gates a c its)
+      ∙ (ap (λ (gs : List Gate). firstOut (leaves c ++ leftVars (scanned gs a (leaves c))) (c .gates)) its
+      ∙ ap (firstOut (leaves c ++ leftVars (scanned (map gateOf (rowsOf 3 a gates)) a (leaves c)))) rows))
 
   pub cycle-good : r ≡ a → cyclicIn c ≡ none
   unfolding o

@@ -8,8 +8,7 @@ use borrow.Author.Tests.{eqb-true, eqb-false, ltb-true, ltb-false}
 use lib.Dec.{eqb, ltb}
 use lib.ListN.{length, getD, set, take, length-take}
 use lib.Seq.{getD-set-same, getD-set-other, getD-take}
-use Rattle.plan.specs.Circuit.{Gate, gateOf, rowsOf, lefts, has}
-use Rattle.plan.specs.Convert.{index}
+use Rattle.plan.specs.Circuit.{Gate, gateOf, rowsOf, leftVars, has, index}
 use Rattle.laws.proofs.Running.Lists.{index-front}
 use Rattle.laws.proofs.Running.Scan.{scanned}
 use Rattle.laws.proofs.Tables.{gatesAt, gates-rows}
@@ -69,10 +68,10 @@ settled-count gates t u n a range same =
 pub all-parts : (gates t x y z w : List ℕ) (n a first : ℕ) → n ≤ length t → n ≤ length y → n ≤ length z → n ≤ length w → Fresh t n
     → ((v : ℕ) → v < n → shown (getD x v 0) ≡ shown (getD t v 0)) → Agree n x y → Done gates y z n a first
     → ((v : ℕ) → v < n → getD w v 0 ≡ shown (getD z v 0)) → (lv : List ℕ) → NumTable lv (take n t) → Starts lv → length lv ≡ first
-    → NumTable (lv ++ lefts (scanned (map gateOf (rowsOf 3 a gates)) a lv)) (take n w)
+    → NumTable (lv ++ leftVars (scanned (map gateOf (rowsOf 3 a gates)) a lv)) (take n w)
 all-parts gates t x y z w n a first lt ly lz lw fresh named hung given settled lv tab st len =
-    subst (λ (gs : List Gate). NumTable (lv ++ lefts (scanned gs a lv)) (take n w)) (sym (gates-rows gates a))
-    (table-out (lv ++ lefts (scanned (gatesAt gates a) a lv)) z w n lz lw settled
+    subst (λ (gs : List Gate). NumTable (lv ++ leftVars (scanned gs a lv)) (take n w)) (sym (gates-rows gates a))
+    (table-out (lv ++ leftVars (scanned (gatesAt gates a) a lv)) z w n lz lw settled
     (given lv (table-in lv t y n lt ly fresh (λ v k. ap shown (hung v k) ∙ named v k) tab) st len))
 
 -- words from v on still to be settled

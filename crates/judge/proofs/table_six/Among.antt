@@ -14,11 +14,11 @@ use Rattle.plan.specs.declared.Checked.the-variants.{Good, Refused}
 use Rattle.plan.specs.declared.Refusal.{Refusal}
 use Rattle.plan.specs.declared.Refusal.the-variants.{LargeCount, WrongSum, ShortTable, OutOfRange, DefinedTwice, NotDefined, Cyclic, NotInOrder}
 use Rattle.plan.specs.Refusals.{stage, firstOf}
-use Rattle.plan.specs.Circuit.{Lent, short, orLess}
+use Rattle.plan.specs.Circuit.{Lent, leastShort, orLess}
 use Rattle.plan.specs.Header.{text, listOf, over, adds}
 use Rattle.plan.specs.Depends.{undefinedIn, cyclicIn}
 use Rattle.plan.specs.Binary.{binaryOrder}
-use Rattle.plan.specs.Given.{Given, given, counted, failing, lentAlone, outsideIn, twiceIn}
+use Rattle.plan.specs.Given.{Given, givenCircuit, counted, failing, lentAlone, outsideIn, twiceIn}
 use Rattle.plan.specs.Outcome.{checkedBy, checkInOrder}
 use Rattle.plan.specs.Sixth.{sixthStages}
 use Rattle.judge.specs.table_six.Judged.{beforeSixth, withSixth}
@@ -29,7 +29,7 @@ lessOf none t = some t
 lessOf (some u) t = some (min u t)
 
 -- one lent table more that is long enough, or not
-more-long : (x : Lent) → leb (x .needed) (x .words) ≡ true → (xs : List Lent) → short (xs ++ (x ∷ [])) ≡ short xs
+more-long : (x : Lent) → leb (x .needed) (x .words) ≡ true → (xs : List Lent) → leastShort (xs ++ (x ∷ [])) ≡ leastShort xs
 more-long x e [] = ap (λ (b : Bool). cond b none (orLess (x .table) none)) e
 more-long x e (y ∷ xs) = ap (λ (r : Option ℕ). cond (leb (y .needed) (y .words)) r (orLess (y .table) r)) (more-long x e xs)
 
@@ -37,15 +37,15 @@ or-less : (v t : ℕ) (o : Option ℕ) → orLess v (lessOf o t) ≡ lessOf (orL
 or-less v t none = let e : min t v ≡ min v t = omega arith in ap some e
 or-less v t (some u) = let e : min (min u t) v ≡ min (min u v) t = omega arith in ap some e
 
-more-short : (x : Lent) → leb (x .needed) (x .words) ≡ false → (xs : List Lent) → short (xs ++ (x ∷ [])) ≡ lessOf (short xs) (x .table)
+more-short : (x : Lent) → leb (x .needed) (x .words) ≡ false → (xs : List Lent) → leastShort (xs ++ (x ∷ [])) ≡ lessOf (leastShort xs) (x .table)
 more-short x e [] = ap (λ (b : Bool). cond b none (orLess (x .table) none)) e
 more-short x e (y ∷ xs) =
     ap (λ (r : Option ℕ). cond (leb (y .needed) (y .words)) r (orLess (y .table) r)) (more-short x e xs) ∙ go (leb (y .needed) (y .words))
   where
-    go : (b : Bool) → cond b (lessOf (short xs) (x .table)) (orLess (y .table) (lessOf (short xs) (x .table)))
-        ≡ lessOf (cond b (short xs) (orLess (y .table) (short xs))) (x .table)
+    go : (b : Bool) → cond b (lessOf (leastShort xs) (x .table)) (orLess (y .table) (lessOf (leastShort xs) (x .table)))
+        ≡ lessOf (cond b (leastShort xs) (orLess (y .table) (leastShort xs))) (x .table)
     go true = refl
-    go false = or-less (y .table) (x .table) (short xs)
+    go false = or-less (y .table) (x .table) (leastShort xs)
 
 -- the stages, of which the third is 4
 abbrev refusals : Option ℕ → Option ℕ → Option ℕ → Option ℕ → Option ℕ → Option ℕ → Option ℕ → Option ℕ → List (Option Refusal)
@@ -84,8 +84,8 @@ module _ (g : Given) (needed : ℕ) (six : List ℕ) where
 
   abbrev all : Option ℕ → List (Option Refusal)
   all o =
-      refusals (over (counted 1 (listOf (g .counts)))) (failing (adds text (g .counts))) o (outsideIn (given g)) (twiceIn (given g))
-      (undefinedIn (given g)) (cyclicIn (given g)) (failing (binaryOrder (given g)))
+      refusals (over (counted 1 (listOf (g .counts)))) (failing (adds text (g .counts))) o (outsideIn (givenCircuit g)) (twiceIn (givenCircuit g))
+      (undefinedIn (givenCircuit g)) (cyclicIn (givenCircuit g)) (failing (binaryOrder (givenCircuit g)))
 
   pub with-sixth : (b : Bool) → b ≡ ltb (length six) needed
       → withSixth (checkInOrder g .answer) b ≡ checkedBy (firstOf (sixthStages g needed six))
@@ -94,8 +94,8 @@ module _ (g : Given) (needed : ℕ) (six : List ℕ) where
       sym (ap (λ (o : Option ℕ). checkedBy (firstOf (all o))) (more-long table (le-leb needed (length six) l) (lentAlone g)))
   with-sixth true e =
       let l : length six < needed = ltb-true (length six) needed (sym e) in
-      short-then (over (counted 1 (listOf (g .counts)))) (failing (adds text (g .counts))) (short (lentAlone g)) (outsideIn (given g)) (twiceIn (given g))
-      (undefinedIn (given g)) (cyclicIn (given g)) (failing (binaryOrder (given g)))
+      short-then (over (counted 1 (listOf (g .counts)))) (failing (adds text (g .counts))) (leastShort (lentAlone g)) (outsideIn (givenCircuit g)) (twiceIn (givenCircuit g))
+      (undefinedIn (givenCircuit g)) (cyclicIn (givenCircuit g)) (failing (binaryOrder (givenCircuit g)))
       ∙ sym (ap (λ (o : Option ℕ). checkedBy (firstOf (all o))) (more-short table (lt-leb needed (length six) l) (lentAlone g)))
 
 -- nothing is refused: the checks without table 6 refuse nothing, and it is long enough

@@ -5,7 +5,7 @@ use mathlib.Core.Bool.{Bool, true, false, not, cond, _&&_}
 use mathlib.Core.Option.{Option, none, some}
 use mathlib.Core.List.{List, [], _∷_, _++_, map}
 use Rattle.plan.specs.Literals.{varOf}
-use Rattle.plan.specs.Circuit.{Circuit, oneLine, latchLine, gateLine, literalOf, heads, vars, currents, lefts, has, allNew}
+use Rattle.plan.specs.Circuit.{Circuit, oneLine, latchLine, gateLine, literalOf, heads, vars, currentVars, leftVars, has, allNew}
 use Rattle.plan.specs.Bytes.{twice}
 use Rattle.plan.specs.Given.{placed, orElse, twiceOf, twiceIn}
 
@@ -32,23 +32,23 @@ firstTable a b g = orElse (cond a none (some 1)) (orElse (cond b none (some 2)) 
 
 module _ (c : Circuit) where
   twice-tables : twiceIn c
-      ≡ firstTable (allNew [] (vars (c .inputs))) (allNew (vars (c .inputs)) (currents (c .latches)))
-      (allNew (vars (c .inputs) ++ currents (c .latches)) (lefts (c .gates)))
+      ≡ firstTable (allNew [] (vars (c .inputs))) (allNew (vars (c .inputs)) (currentVars (c .latches)))
+      (allNew (vars (c .inputs) ++ currentVars (c .latches)) (leftVars (c .gates)))
   twice-tables =
       ap₂ orElse (twice-new oneLine 1 (λ seen a. refl) [] (c .inputs))
       (ap₂ orElse (twice-new latchLine 2 (λ seen a. refl) (vars (c .inputs)) (c .latches))
-      (twice-new gateLine 4 (λ seen a. refl) (vars (c .inputs) ++ currents (c .latches)) (c .gates)))
+      (twice-new gateLine 4 (λ seen a. refl) (vars (c .inputs) ++ currentVars (c .latches)) (c .gates)))
 
   pub in-inputs : allNew [] (vars (c .inputs)) ≡ false → some 1 ≡ twiceIn c
   in-inputs a = sym (twice-tables ∙ rw a)
 
-  pub in-latches : allNew [] (vars (c .inputs)) ≡ true → allNew (vars (c .inputs)) (currents (c .latches)) ≡ false → some 2 ≡ twiceIn c
+  pub in-latches : allNew [] (vars (c .inputs)) ≡ true → allNew (vars (c .inputs)) (currentVars (c .latches)) ≡ false → some 2 ≡ twiceIn c
   in-latches a b = sym (twice-tables ∙ rw (a, b))
 
-  pub in-gates : allNew [] (vars (c .inputs)) ≡ true → allNew (vars (c .inputs)) (currents (c .latches)) ≡ true
-      → allNew (vars (c .inputs) ++ currents (c .latches)) (lefts (c .gates)) ≡ false → some 4 ≡ twiceIn c
+  pub in-gates : allNew [] (vars (c .inputs)) ≡ true → allNew (vars (c .inputs)) (currentVars (c .latches)) ≡ true
+      → allNew (vars (c .inputs) ++ currentVars (c .latches)) (leftVars (c .gates)) ≡ false → some 4 ≡ twiceIn c
   in-gates a b g = sym (twice-tables ∙ rw (a, b, g))
 
-  pub nowhere : allNew [] (vars (c .inputs)) ≡ true → allNew (vars (c .inputs)) (currents (c .latches)) ≡ true
-      → allNew (vars (c .inputs) ++ currents (c .latches)) (lefts (c .gates)) ≡ true → none ≡ twiceIn c
+  pub nowhere : allNew [] (vars (c .inputs)) ≡ true → allNew (vars (c .inputs)) (currentVars (c .latches)) ≡ true
+      → allNew (vars (c .inputs) ++ currentVars (c .latches)) (leftVars (c .gates)) ≡ true → none ≡ twiceIn c
   nowhere a b g = sym (twice-tables ∙ rw (a, b, g))

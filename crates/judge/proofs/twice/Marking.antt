@@ -8,7 +8,7 @@ use native.Mathlib.Omega.{arith}
 use borrow.Author.Tests.{not-true, not-false}
 use lib.ListN.{take}
 use Rattle.plan.specs.declared.Counts.{Counts}
-use Rattle.plan.specs.Circuit.{latchOf, gateOf, rowsOf, vars, currents, lefts, allNew}
+use Rattle.plan.specs.Circuit.{latchOf, gateOf, rowsOf, vars, currentVars, leftVars, allNew}
 use Rattle.plan.specs.Given.{twiceIn}
 use Rattle.laws.proofs.Marks.{Agrees, agrees-none}
 use Rattle.laws.proofs.Ranges.{input-in, latch-in, gate-in}
@@ -34,10 +34,10 @@ module _ {n : Counts} {inputs latches gates marks : List ℕ} (p : Ranged n inpu
   xs = vars (take (n .I) inputs)
 
   abbrev ys : List ℕ
-  ys = currents (map latchOf (rowsOf 2 (n .L) latches))
+  ys = currentVars (map latchOf (rowsOf 2 (n .L) latches))
 
   abbrev zs : List ℕ
-  zs = lefts (map gateOf (rowsOf 3 (n .A) gates))
+  zs = leftVars (map gateOf (rowsOf 3 (n .A) gates))
 
   -- a table of 6 is named, so nothing is said of the marks
   found : (t : ℕ) (u : List ℕ)

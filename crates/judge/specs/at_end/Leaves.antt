@@ -6,7 +6,7 @@ use mathlib.Core.List.{List, _∷_, _++_, map}
 use lib.ListN.{length, getD, set, take}
 use Rattle.plan.specs.declared.Counts.{Counts}
 use Rattle.plan.specs.Literals.{most}
-use Rattle.plan.specs.Circuit.{Latch, latchOf, gateOf, rowsOf, oneLine, latchLine, vars, currents, lefts, allInside}
+use Rattle.plan.specs.Circuit.{Latch, latchOf, gateOf, rowsOf, oneLine, latchLine, vars, currentVars, leftVars, allInside}
 use Rattle.laws.proofs.Reading.Members.{distinct}
 use Rattle.laws.proofs.Running.Scan.{scanned}
 use Rattle.laws.proofs.Tables.{headAt}
@@ -26,7 +26,7 @@ latchesOf n latches = map latchOf (rowsOf 2 (n .L) latches)
 
 -- `leaves` of the circuit that they are of
 abbrev pub leavesOf : Counts → List ℕ → List ℕ → List ℕ
-leavesOf n inputs latches = zero ∷ (vars (inputsOf n inputs) ++ currents (latchesOf n latches))
+leavesOf n inputs latches = zero ∷ (vars (inputsOf n inputs) ++ currentVars (latchesOf n latches))
 
 -- what `number_leaves` asks: literals in range, no variable twice, and a table whose words of variables up to M are
 -- blank
@@ -50,4 +50,4 @@ pub record Numbered (n : Counts) (inputs latches t t′ : List ℕ) : Type 0 whe
 abbrev pub AllNumbered : Counts → List ℕ → List ℕ → List ℕ → List ℕ → Type 0
 AllNumbered n inputs latches gates t =
     let lv = leavesOf n inputs latches in
-    NumTable (lv ++ lefts (scanned (map gateOf (rowsOf 3 (n .A) gates)) (n .A) lv)) (take (n .M + 1) t)
+    NumTable (lv ++ leftVars (scanned (map gateOf (rowsOf 3 (n .A) gates)) (n .A) lv)) (take (n .M + 1) t)

@@ -7,8 +7,7 @@ use mathlib.Core.List.{List}
 use lib.Dec.{eqb}
 use lib.ListN.{length, getD}
 use Rattle.plan.specs.Literals.{varOf}
-use Rattle.plan.specs.Circuit.{Gate, has}
-use Rattle.plan.specs.Convert.{index}
+use Rattle.plan.specs.Circuit.{Gate, has, index}
 use Rattle.laws.proofs.Tables.{gateAt}
 
 -- each variable's place in o, and 0 for those that are not in it

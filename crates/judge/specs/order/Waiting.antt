@@ -8,7 +8,7 @@ use mathlib.Core.List.{List, [], _∷_, _++_, map}
 use lib.Dec.{eqb, ltb}
 use lib.ListN.{length, getD, set, take}
 use Rattle.plan.specs.Literals.{varOf}
-use Rattle.plan.specs.Circuit.{Gate, gateOf, rowsOf, lefts, rights, has}
+use Rattle.plan.specs.Circuit.{Gate, gateOf, rowsOf, leftVars, rights, has}
 use Rattle.laws.proofs.Reading.Members.{distinct}
 use Rattle.laws.proofs.Running.Found.{AllG}
 use Rattle.laws.proofs.Running.Lists.{allIn}
@@ -129,8 +129,8 @@ pub record Known (gates t : List ℕ) (n a : ℕ) : Type 0 where
   pub lv : List ℕ
   pub numbers : NumTable lv (take n t)
   pub starts : getD lv 0 1 ≡ 0
-  pub once : distinct (lv ++ lefts (map gateOf (rowsOf 3 a gates))) ≡ true
-  pub used : allIn (rights (map gateOf (rowsOf 3 a gates))) (lv ++ lefts (map gateOf (rowsOf 3 a gates))) ≡ true
+  pub once : distinct (lv ++ leftVars (map gateOf (rowsOf 3 a gates))) ≡ true
+  pub used : allIn (rights (map gateOf (rowsOf 3 a gates))) (lv ++ leftVars (map gateOf (rowsOf 3 a gates))) ≡ true
 
 -- no word of the n variables names a gate; nothing waits and nothing is marked
 abbrev pub Fresh : List ℕ → ℕ → Type 0

@@ -3,7 +3,7 @@ ghost use mathlib.Core.Path.{_≡_};
 ghost use mathlib.Core.List.{List, _++_};
 ghost use Prim.Native.Nat.{ℕ, _+_, _<_};
 ghost use lib.ListN.{length, getD};
-ghost use Rattle.plan.specs.Circuit.{lefts};
+ghost use Rattle.plan.specs.Circuit.{leftVars};
 ghost use Rattle.laws.proofs.Tables.{gatesAt};
 ghost use Rattle.laws.proofs.Running.Scan.{scanned};
 ghost use Rattle.judge.specs.order.Numbers.{NumTable};
@@ -46,7 +46,7 @@ pub fn assign(gates: &[u32], t: &mut [u32], first: u32, n: usize, a: usize) -> u
         × (counted (now gates) (now t) a ≡ 0) ⌝ }
     ensures { λ r. ⌜ r ≡ counted (now (gates .entry)) (now (t .exit)) a ⌝ }
     ensures { λ r. ⌜ ((lv : List ℕ) → NumTable lv (clean n (now (t .entry))) → getD lv 0 1 ≡ 0 → length lv ≡ first
-        → NumTable (lv ++ lefts (scanned (gatesAt (now (gates .entry)) a) a lv)) (clean n (now (t .exit)))) ⌝ }
+        → NumTable (lv ++ leftVars (scanned (gatesAt (now (gates .entry)) a) a lv)) (clean n (now (t .exit)))) ⌝ }
 {
     let mut next = first;
     let mut k: usize = 0;

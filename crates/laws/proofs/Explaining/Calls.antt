@@ -18,7 +18,7 @@ use Rattle.plan.specs.declared.Stepped.the-variants.{Done}
 use Rattle.plan.specs.Refusals.{firstOf}
 use Rattle.plan.specs.Circuit.{Circuit, countsOf}
 use Rattle.plan.specs.Binary.{binaryOrder}
-use Rattle.plan.specs.Given.{given, lentAlone, failing, failingAt, stages, orderStage, roomStage}
+use Rattle.plan.specs.Given.{givenCircuit, lentAlone, failing, failingAt, stages, orderStage, roomStage}
 use Rattle.plan.specs.Step.{Value, v0, v1, vx, valueOf, lit, valuesOf, outputsOf, same}
 use Rattle.plan.specs.Outcome.{allCodes}
 use Rattle.laws.proofs.Reading.Common.{and-left}
@@ -32,12 +32,12 @@ use Rattle.laws.proofs.Explaining.Marked.{length-places, marks-exactly,
 -- 0 or 1; with every unmarked place turned to x the output keeps its value; and no other byte changes
 pub record Meant (e : ExplainEntry) : Type 0 where
   pub exactly : (k : ℕ) → k < e .circuit .counts .L + e .circuit .counts .I
-      → (getD (explain e .marks) k 48 ≡ 49) ↔ Blamed (given (e .circuit)) (stateOf e) (inputsOf e) (asked e) (getD (places (given (e .circuit))) k 0)
+      → (getD (explain e .marks) k 48 ≡ 49) ↔ Blamed (givenCircuit (e .circuit)) (stateOf e) (inputsOf e) (asked e) (getD (places (givenCircuit (e .circuit))) k 0)
   pub zero-else : (k : ℕ) → k < e .circuit .counts .L + e .circuit .counts .I
-      → (getD (explain e .marks) k 0 ≡ 48) ↔ ¬ Blamed (given (e .circuit)) (stateOf e) (inputsOf e) (asked e) (getD (places (given (e .circuit))) k 0)
+      → (getD (explain e .marks) k 0 ≡ 48) ↔ ¬ Blamed (givenCircuit (e .circuit)) (stateOf e) (inputsOf e) (asked e) (getD (places (givenCircuit (e .circuit))) k 0)
   pub known : (k : ℕ) → k < e .circuit .counts .L + e .circuit .counts .I → getD (explain e .marks) k 48 ≡ 49
       → getD (stateOf e ++ inputsOf e) k vx ≡ vx → ⊥
-  pub keeps : let c = given (e .circuit) in
+  pub keeps : let c = givenCircuit (e .circuit) in
       let marks = take (e .circuit .counts .L + e .circuit .counts .I) (explain e .marks) in
       lit (valuesOf c (onlyState c marks (stateOf e)) (onlyInputs c marks (inputsOf e))) (asked e) ≡ valueAsked e
   pub others : let n = e .circuit .counts in drop (n .L + n .I) (explain e .marks) ≡ drop (n .L + n .I) (e .marks)
@@ -48,9 +48,9 @@ value-at f (l ∷ ls) zero h = refl
 value-at f (l ∷ ls) (suc k) h = value-at f ls k (omega arith)
 
 -- what is explained is the value that a step shows at that place
-pub asked-shown : (e : ExplainEntry) → e .output < length (given (e .circuit) .outputs)
-    → valueAsked e ≡ getD (outputsOf (given (e .circuit)) (stateOf e) (inputsOf e)) (e .output) vx
-asked-shown e = value-at (lit (valuesOf (given (e .circuit)) (stateOf e) (inputsOf e))) (given (e .circuit) .outputs) (e .output)
+pub asked-shown : (e : ExplainEntry) → e .output < length (givenCircuit (e .circuit) .outputs)
+    → valueAsked e ≡ getD (outputsOf (givenCircuit (e .circuit)) (stateOf e) (inputsOf e)) (e .output) vx
+asked-shown e = value-at (lit (valuesOf (givenCircuit (e .circuit)) (stateOf e) (inputsOf e))) (givenCircuit (e .circuit) .outputs) (e .output)
 
 x-not : (a : Value) → not (same a vx) ≡ true → a ≡ vx → ⊥
 x-not v0 h q = let z : _≡_ {A = ℕ} 0 1 = cc in omega arith
@@ -59,7 +59,7 @@ x-not vx h q = false≢true h
 
 module _ (e : ExplainEntry) (done : explain e .answer ≡ Done) where
   abbrev c : Circuit
-  c = given (e .circuit)
+  c = givenCircuit (e .circuit)
 
   abbrev n : Counts
   n = e .circuit .counts

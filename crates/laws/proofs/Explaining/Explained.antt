@@ -11,11 +11,10 @@ use lib.Dec.{eqb}
 use lib.ListN.{length, getD, take, drop, length-append, length-map}
 use lib.Seq.{take-at, drop-at}
 use Rattle.plan.specs.Literals.{varOf, signOf}
-use Rattle.plan.specs.Circuit.{Gate, Circuit, Latch, vars, currents, has}
+use Rattle.plan.specs.Circuit.{Gate, Circuit, Latch, vars, currentVars, has, index}
 use Rattle.plan.specs.Depends.{find, both, settled, isNone}
 use Rattle.plan.specs.Reading.{WellFormed}
 use Rattle.plan.specs.Binary.{binaryOrder}
-use Rattle.plan.specs.Convert.{index}
 use Rattle.plan.specs.Step.{Value, v0, v1, vx, and, signedValue, lit, gateValue, leafValue, valuesOf, same}
 use Rattle.laws.proofs.Reading.Common.{and-left, and-right}
 use Rattle.laws.proofs.Reading.Members.{has-self, has-later, has-cases}
@@ -109,7 +108,7 @@ blames-sides w g v h = go (w (varOf (g .lhs))) h
     go vx k = absurd (false≢true k)
 
 -- one variable for each latch and input
-pub length-currents : (ls : List Latch) → length (currents ls) ≡ length ls
+pub length-currents : (ls : List Latch) → length (currentVars ls) ≡ length ls
 length-currents [] = refl
 length-currents (x ∷ ls) = ap suc (length-currents ls)
 
@@ -218,36 +217,36 @@ module _ (c : Circuit) (w : WellFormed c) (t : binaryOrder c ≡ true) (s i : Li
   after : ℕ → Value
   after = valuesOf c s′ i′
 
-  state-only : s′ ≡ only (map (mark (blamed c s i l)) (currents (c .latches))) s
+  state-only : s′ ≡ only (map (mark (blamed c s i l)) (currentVars (c .latches))) s
   unfolding s′ marks
   state-only =
-      ap (λ (m : List ℕ). only m s) (take-marks (mark (blamed c s i l)) (currents (c .latches)) (vars (c .inputs)) (length (c .latches))
+      ap (λ (m : List ℕ). only m s) (take-marks (mark (blamed c s i l)) (currentVars (c .latches)) (vars (c .inputs)) (length (c .latches))
       (length-currents (c .latches)))
 
   inputs-only : i′ ≡ only (map (mark (blamed c s i l)) (vars (c .inputs))) i
   unfolding i′ marks
   inputs-only =
-      ap (λ (m : List ℕ). only m i) (drop-marks (mark (blamed c s i l)) (currents (c .latches)) (vars (c .inputs)) (length (c .latches))
+      ap (λ (m : List ℕ). only m i) (drop-marks (mark (blamed c s i l)) (currentVars (c .latches)) (vars (c .inputs)) (length (c .latches))
       (length-currents (c .latches)))
 
-  both-only : i′ ++ s′ ≡ only (map (mark (blamed c s i l)) (vars (c .inputs) ++ currents (c .latches))) (i ++ s)
+  both-only : i′ ++ s′ ≡ only (map (mark (blamed c s i l)) (vars (c .inputs) ++ currentVars (c .latches))) (i ++ s)
   both-only =
       ap₂ (λ (x y : List Value). x ++ y) inputs-only state-only
-      ∙ only-append (map (mark (blamed c s i l)) (vars (c .inputs))) (map (mark (blamed c s i l)) (currents (c .latches))) i s
+      ∙ only-append (map (mark (blamed c s i l)) (vars (c .inputs))) (map (mark (blamed c s i l)) (currentVars (c .latches))) i s
       (length-map (vars (c .inputs)) (mark (blamed c s i l)) ∙ length-vars (c .inputs) ∙ sym li)
-      ∙ ap (λ (m : List ℕ). only m (i ++ s)) (sym (map-append (mark (blamed c s i l)) (vars (c .inputs)) (currents (c .latches))))
+      ∙ ap (λ (m : List ℕ). only m (i ++ s)) (sym (map-append (mark (blamed c s i l)) (vars (c .inputs)) (currentVars (c .latches))))
 
   leaf-kept : (v : ℕ) → has v (blamed c s i l) ≡ true → leafValue c s′ i′ v ≡ leafValue c s i v
   leaf-kept v h = go (eqb 0 v)
     where
       us : List ℕ
-      us = vars (c .inputs) ++ currents (c .latches)
+      us = vars (c .inputs) ++ currentVars (c .latches)
 
       sizes : length us ≡ length (i ++ s)
       sizes =
           omega (
             arith,
-            length-append (vars (c .inputs)) (currents (c .latches)),
+            length-append (vars (c .inputs)) (currentVars (c .latches)),
             length-append i s,
             length-vars (c .inputs),
             length-currents (c .latches),

@@ -9,10 +9,9 @@ use native.Mathlib.Nat.{not-suc-le-zero}
 use native.Mathlib.Decide.{decLt}
 use lib.ListN.{length, getD, length-append, List·getD-append}
 use lib.Seq.{getD-append-add}
-use Rattle.plan.specs.Circuit.{Circuit, vars, currents, lefts, has}
+use Rattle.plan.specs.Circuit.{Circuit, vars, currentVars, leftVars, has, leaves}
 use Rattle.plan.specs.Reading.{WellFormed}
 use Rattle.plan.specs.Binary.{binaryOrder}
-use Rattle.plan.specs.Convert.{leaves}
 use Rattle.plan.specs.Step.{Value, v0, vx, lit, valuesOf}
 use Rattle.laws.proofs.Running.Lists.{distinct-left, has-at, index-at}
 use Rattle.laws.proofs.Running.Accepted.{accepted}
@@ -22,7 +21,7 @@ use Rattle.laws.proofs.Explaining.Explained.{length-currents, length-va
 
 pub length-places : (c : Circuit) → length (places c) ≡ length (c .latches) + length (c .inputs)
 length-places c =
-    omega (arith, length-append (currents (c .latches)) (vars (c .inputs)), length-vars (c .inputs), length-currents (c .latches))
+    omega (arith, length-append (currentVars (c .latches)) (vars (c .inputs)), length-vars (c .inputs), length-currents (c .latches))
 
 marked-at : (vs us : List ℕ) (k d : ℕ) → k < length us → getD (map (mark vs) us) k d ≡ mark vs (getD us k 0)
 marked-at vs [] k d h = absurd (not-suc-le-zero h)
@@ -48,11 +47,11 @@ module _ (c : Circuit) (w : WellFormed c) (s i : List Value) (ls : length s ≡ 
   leaf-at-place : (n : ℕ) → n < length (leaves c) → valuesOf c s i (getD (leaves c) n 0) ≡ getD (v0 ∷ (i ++ s)) n vx
   leaf-at-place n h =
       leaf-value c w s i (getD (leaves c) n 0) (has-at (leaves c) n h)
-      ∙ ap (λ (k : ℕ). getD (v0 ∷ (i ++ s)) k vx) (index-at (leaves c) (distinct-left (leaves c) (lefts (c .gates)) (accepted c w .once)) n h)
+      ∙ ap (λ (k : ℕ). getD (v0 ∷ (i ++ s)) k vx) (index-at (leaves c) (distinct-left (leaves c) (leftVars (c .gates)) (accepted c w .once)) n h)
 
-  all-leaves : length (vars (c .inputs) ++ currents (c .latches)) ≡ length (c .inputs) + length (c .latches)
+  all-leaves : length (vars (c .inputs) ++ currentVars (c .latches)) ≡ length (c .inputs) + length (c .latches)
   all-leaves =
-      omega (arith, length-append (vars (c .inputs)) (currents (c .latches)), length-vars (c .inputs), length-currents (c .latches))
+      omega (arith, length-append (vars (c .inputs)) (currentVars (c .latches)), length-vars (c .inputs), length-currents (c .latches))
 
   pub place-value : (k : ℕ) → k < length (places c) → valuesOf c s i (getD (places c) k 0) ≡ getD (s ++ i) k vx
   place-value k h = go (decLt k (length (c .latches)))
@@ -60,18 +59,18 @@ module _ (c : Circuit) (w : WellFormed c) (s i : List Value) (ls : length s ≡ 
       go : Dec (k < length (c .latches)) → valuesOf c s i (getD (places c) k 0) ≡ getD (s ++ i) k vx
       go (yes q) =
           let at : length (vars (c .inputs)) + k ≡ length i + k = omega (arith, length-vars (c .inputs)) in
-          ap (valuesOf c s i) (List·getD-append (currents (c .latches)) (vars (c .inputs)) 0 k (omega (arith, length-currents (c .latches)))
-          ∙ sym (getD-append-add (vars (c .inputs)) (currents (c .latches)) k 0))
+          ap (valuesOf c s i) (List·getD-append (currentVars (c .latches)) (vars (c .inputs)) 0 k (omega (arith, length-currents (c .latches)))
+          ∙ sym (getD-append-add (vars (c .inputs)) (currentVars (c .latches)) k 0))
           ∙ leaf-at-place (suc (length (vars (c .inputs)) + k)) (omega (arith, all-leaves, length-vars (c .inputs)))
           ∙ ap (λ (n : ℕ). getD (i ++ s) n vx) at ∙ getD-append-add i s k vx ∙ sym (List·getD-append s i vx k (omega arith))
       go (no q) =
           let j = k - length (c .latches) in
-          let a : k ≡ length (currents (c .latches)) + j = omega (arith, length-currents (c .latches)) in
+          let a : k ≡ length (currentVars (c .latches)) + j = omega (arith, length-currents (c .latches)) in
           let d : length s + j ≡ k = omega arith in
           let jl : j < length (c .inputs) = omega (arith, length-places c) in
           ap (λ (n : ℕ). valuesOf c s i (getD (places c) n 0)) a
-          ∙ ap (valuesOf c s i) (getD-append-add (currents (c .latches)) (vars (c .inputs)) j 0
-          ∙ sym (List·getD-append (vars (c .inputs)) (currents (c .latches)) 0 j (omega (arith, length-vars (c .inputs)))))
+          ∙ ap (valuesOf c s i) (getD-append-add (currentVars (c .latches)) (vars (c .inputs)) j 0
+          ∙ sym (List·getD-append (vars (c .inputs)) (currentVars (c .latches)) 0 j (omega (arith, length-vars (c .inputs)))))
           ∙ leaf-at-place (suc j) (omega (arith, all-leaves))
           ∙ List·getD-append i s vx j (omega arith)
           ∙ sym (getD-append-add s i j vx) ∙ ap (λ (n : ℕ). getD (s ++ i) n vx) d

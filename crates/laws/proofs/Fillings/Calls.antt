@@ -16,8 +16,8 @@ use Rattle.plan.specs.declared.Finding.{Finding}
 use Rattle.plan.specs.declared.Finding.the-variants.{Yes, No, Refused}
 use Rattle.plan.specs.Refusals.{stage, firstOf}
 use Rattle.plan.specs.Circuit.{Circuit}
-use Rattle.plan.specs.Given.{given, lentAlone, failingAt, stages, orderStage}
-use Rattle.plan.specs.Step.{valueOf, codeOf, first, run, vectorsOf, witnessed}
+use Rattle.plan.specs.Given.{givenCircuit, lentAlone, failingAt, stages, orderStage}
+use Rattle.plan.specs.Step.{valueOf, codeOf, firstState, run, vectorsOf, witnessed}
 use Rattle.plan.specs.Outcome.{allCodes, WitnessEntry, listStage, verdictBy, witness3}
 use Rattle.plan.specs.Fillings.{xCount, Fills, startOf, asked, totalOf, question, FilledEntry, xStage, findingBy, witness}
 use Rattle.laws.proofs.Reading.Common.{and-left, and-right}
@@ -58,10 +58,10 @@ last-none (some r ∷ os) o l = refl
 
 module _ (w : WitnessEntry) where
   abbrev c : Circuit
-  c = given (w .circuit)
+  c = givenCircuit (w .circuit)
 
   abbrev count : ℕ
-  count = xCount (asked (given (w .circuit)) (w .bytes))
+  count = xCount (asked (givenCircuit (w .circuit)) (w .bytes))
 
   -- 20 is given exactly where there are more x
   pub x-few : count ≤ 20 → xStage w ≡ none
@@ -116,8 +116,8 @@ module _ (w : WitnessEntry) where
         = fills-length (w .bytes) list g ∙ (list-good .0 ∙ ap (λ (n : Counts). w .number * n .I) (sym counts)) in
         run-nox c (fine .formed) (vectorsOf c (w .number) list) (sized-rows i (w .number) list long)
         (no-x-rows i (w .number) list (fills-two-valued (w .bytes) list (list-good .1) g)) (map valueOf start)
-        (length-map start valueOf ∙ (fills-length (startOf c) start f ∙ (length-map (first c) codeOf ∙ first-length c (fine .formed))))
-        (fills-two-valued (startOf c) start (all-codes (first c)) f)
+        (length-map start valueOf ∙ (fills-length (startOf c) start f ∙ (length-map (firstState c) codeOf ∙ first-length c (fine .formed))))
+        (fills-two-valued (startOf c) start (all-codes (firstState c)) f)
 
   -- a larger allowance changes neither a yes nor a no
   pub more-allowed-yes : (a b t : ℕ) → a ≤ b → witness (allowing a) .answer ≡ Yes t → witness (allowing b) .answer ≡ Yes t

@@ -10,7 +10,7 @@ use lib.ListN.{length, take, drop}
 use lib.Seq.{take-at, drop-at}
 use Rattle.plan.specs.declared.Finding.the-variants.{Yes, No}
 use Rattle.plan.specs.Circuit.{Circuit, rowsOf}
-use Rattle.plan.specs.Step.{Value, valueOf, isCode, first, vectorsOf, witnessed}
+use Rattle.plan.specs.Step.{Value, valueOf, isCode, firstState, vectorsOf, witnessed}
 use Rattle.plan.specs.Outcome.{allCodes}
 use Rattle.laws.proofs.Reading.Common.{and-left, and-right}
 use Rattle.laws.proofs.Running.Refinement.{Le, le-refl, Les}
@@ -140,8 +140,8 @@ module _ (c : Circuit) (number : ℕ) (bytes : List ℕ) where
   pub shown-filled : witnessed c number bytes ≡ true → EveryShows
   shown-filled e start list f g =
       shows-replaced c (vectorsOf c number bytes) (vectorsOf c number list) (vectors-replaced (length (c .inputs)) number bytes list g)
-      (first c) (map valueOf start)
-      (subst (λ (s : List Value). Les s (map valueOf start)) (codes-values (first c)) (fills-les begins start f)) e
+      (firstState c) (map valueOf start)
+      (subst (λ (s : List Value). Les s (map valueOf start)) (codes-values (firstState c)) (fills-les begins start f)) e
 
   pub old-yes : (allowance : ℕ) → totalOf c bytes ≤ allowance → witnessed c number bytes ≡ true
       → question c number bytes allowance ≡ Yes (totalOf c bytes)

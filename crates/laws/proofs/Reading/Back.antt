@@ -16,7 +16,7 @@ use Rattle.plan.specs.declared.Written.the-variants.{Bytes, Refused}
 use Rattle.plan.specs.Literals.{beyond}
 use Rattle.plan.specs.Refusals.{Parse, got, refused}
 use Rattle.plan.specs.Bytes.{classOf, digitClass, number, digits}
-use Rattle.plan.specs.Given.{room}
+use Rattle.plan.specs.Given.{lackingRoom}
 use Rattle.plan.specs.Outcome.{cutNumber, numberAt, put, putBy, WriteExit, writeNumber}
 use Rattle.laws.proofs.Put.{put-there, put-same}
 use Rattle.laws.proofs.Reading.Number.{number-took, number-next, number-digits, digits-some}
@@ -82,6 +82,6 @@ module _ (file : List ℕ) (at v next : ℕ) where
       → writeNumber (record { out = file; at = at; value = v }) ≡ record { answer = Bytes (length (digits v)); out = file }
   writes-what-was-read small e =
       let n = uncut (number file at) v next small e in
-      let enough : room file at (digits v) ≡ none = rw (le-leb (at + length (digits v)) (length file) (fits n)) in
+      let enough : lackingRoom file at (digits v) ≡ none = rw (le-leb (at + length (digits v)) (length file) (fits n)) in
       ap (λ (o : Option ℕ). putBy o file at (digits v)) enough
       ∙ ap (λ (x : List ℕ). record { answer = Bytes (length (digits v)); out = x }) (read-is-written n .0)

@@ -10,7 +10,7 @@ use Rattle.plan.specs.declared.Counts.{Counts}
 use Rattle.plan.specs.declared.Version.{Version}
 use Rattle.plan.specs.Literals.{inRange}
 use Rattle.plan.specs.Circuit.{Gate, Latch, Circuit, countsOf, oneLine, latchLine, literalOf, nexts, allNew, inside, allInside, resetsOk}
-use Rattle.plan.specs.Bytes.{lines, latchLines, resetAfter, linesOf, withResets, AllSpell}
+use Rattle.plan.specs.Bytes.{lines, latchLines, resetAfter, linesOf, withResets, AllSpell, latchForm}
 use Rattle.plan.specs.Header.{moreResets}
 use Rattle.plan.specs.Binary.{gatesFrom, litsFrom, latchesFrom, binaryBody, gateBytes, binaryLines, binaryLatches}
 use Rattle.plan.specs.Reading.{WellFormed}
@@ -115,7 +115,7 @@ module _ (file : List ℕ) where
       → binaryBody v file n at ≡ got c e
       → BinaryOk v file n at c e × BinaryOrder c
   binary-took bytes v n at c e sum q =
-      let t1 = then-got (latchLines file 1 false (n .M) (moreResets v) (n .L) (1 + n .I) [] at) _ c e q in
+      let t1 = then-got (latchLines file (latchForm 1 false (moreResets v)) (n .M) (n .L) (1 + n .I) [] at) _ c e q in
       let t2 = then-got (lines file 1 false (n .M) (n .O) [] (t1 .1)) _ c e (t1 .3) in
       let t3 = then-got (lines file 1 false (n .M) (n .B) [] (t2 .1)) _ c e (t2 .3) in
       let t4 = then-got (lines file 1 false (n .M) (n .C) [] (t3 .1)) _ c e (t3 .3) in
@@ -164,8 +164,8 @@ module _ (file : List ℕ) where
       latches-reads file 1 false (c .M) (moreResets v) (omega arith) lats u [] at _ (z .0)
       (e ∙ assoc5 (linesOf lats) (linesOf (map oneLine (c .outputs))) (linesOf (map oneLine (c .bads))) (linesOf (map oneLine (c .constraints)))
       (gateBytes (c .gates)) s) in
-      let r1′ : latchLines file 1 false (c .M) (moreResets v) (length (c .latches)) u [] at ≡ got lats (r1 .0)
-      = ap (λ (x : ℕ). latchLines file 1 false (c .M) (moreResets v) x u [] at) (sym n1) ∙ r1 .1 in
+      let r1′ : latchLines file (latchForm 1 false (moreResets v)) (c .M) (length (c .latches)) u [] at ≡ got lats (r1 .0)
+      = ap (λ (x : ℕ). latchLines file (latchForm 1 false (moreResets v)) (c .M) x u [] at) (sym n1) ∙ r1 .1 in
       let r2 = using-reads file (c .M) (c .outputs) (r1 .0) _ (w .outputs) (r1 .2) in
       let r3 = using-reads file (c .M) (c .bads) (r2 .0) _ (w .bads) (r2 .2) in
       let r4 = using-reads file (c .M) (c .constraints) (r3 .0) _ (w .constraints) (r3 .2) in

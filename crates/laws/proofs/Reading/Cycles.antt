@@ -10,7 +10,7 @@ use native.Mathlib.Omega.{arith}
 use native.Mathlib.Nat.{not-suc-le-zero}
 use lib.Dec.{eqb}
 use lib.ListN.{length}
-use Rattle.plan.specs.Circuit.{Gate, lefts, has}
+use Rattle.plan.specs.Circuit.{Gate, leftVars, has}
 use Rattle.plan.specs.Depends.{find, isNone, both, settled, firstStuck, side, Uses, Depends, one, more}
 use Rattle.laws.proofs.Reading.Common.{and-left, and-right, and-intro}
 use Rattle.laws.proofs.Reading.Members.{has-cases, distinct, pigeon}
@@ -19,11 +19,11 @@ use Rattle.laws.proofs.Reading.Members.{has-cases, distinct, pigeon}
 abbrev pub Stuck : List Gate → ℕ → Type 0
 Stuck gs u = Depends gs u u ⊎ ((w : ℕ) × Depends gs u w × Depends gs w w)
 
-pub none-of : (v : ℕ) (gs : List Gate) → has v (lefts gs) ≡ false → find v gs ≡ none
+pub none-of : (v : ℕ) (gs : List Gate) → has v (leftVars gs) ≡ false → find v gs ≡ none
 none-of v [] h = refl
 none-of v (g ∷ gs) h = go (eqb (g .lhs / 2) v) (none-of v gs) h
   where
-    go : (t : Bool) → (has v (lefts gs) ≡ false → find v gs ≡ none) → (t || has v (lefts gs)) ≡ false → cond t (some g) (find v gs) ≡ none
+    go : (t : Bool) → (has v (leftVars gs) ≡ false → find v gs ≡ none) → (t || has v (leftVars gs)) ≡ false → cond t (some g) (find v gs) ≡ none
     go true f p = absurd (false≢true (sym p))
     go false f p = f p
 
@@ -71,14 +71,14 @@ unsettled-side f (some g) p = go (f (g .rhs0 / 2)) refl p
     go true e q = (g, false, refl, q)
     go false e q = (g, true, refl, e)
 
-pub length-lefts : (gs : List Gate) → length (lefts gs) ≡ length gs
+pub length-lefts : (gs : List Gate) → length (leftVars gs) ≡ length gs
 length-lefts [] = refl
 length-lefts (g ∷ gs) = ap suc (length-lefts gs)
 
-gate-in : (v : ℕ) (gs : List Gate) → isNone (find v gs) ≡ false → has v (lefts gs) ≡ true
-gate-in v gs p = go (has v (lefts gs)) refl
+gate-in : (v : ℕ) (gs : List Gate) → isNone (find v gs) ≡ false → has v (leftVars gs) ≡ true
+gate-in v gs p = go (has v (leftVars gs)) refl
   where
-    go : (t : Bool) → has v (lefts gs) ≡ t → t ≡ true
+    go : (t : Bool) → has v (leftVars gs) ≡ t → t ≡ true
     go true e = refl
     go false e = absurd (false≢true (sym p ∙ ap isNone (none-of v gs e)))
 
@@ -100,13 +100,13 @@ ends-more gs v u x t = go (t .1)
 record Seen (gs : List Gate) (k : ℕ) (seen : List ℕ) (v : ℕ) : Type 0 where
   open-yet : settled gs k v ≡ false
   different : distinct seen ≡ true
-  gates-all : (u : ℕ) → has u seen ≡ true → has u (lefts gs) ≡ true
+  gates-all : (u : ℕ) → has u seen ≡ true → has u (leftVars gs) ≡ true
   came : (u : ℕ) → has u seen ≡ true → Depends gs u v
   count : length seen + k ≡ length gs
 
-seen-in : (gs : List Gate) (k : ℕ) (seen : List ℕ) (v : ℕ) → Seen gs k seen v → (u : ℕ) → has u (v ∷ seen) ≡ true → has u (lefts gs) ≡ true
+seen-in : (gs : List Gate) (k : ℕ) (seen : List ℕ) (v : ℕ) → Seen gs k seen v → (u : ℕ) → has u (v ∷ seen) ≡ true → has u (leftVars gs) ≡ true
 seen-in gs k seen v s u h =
-    has-cases (has u (lefts gs) ≡ true) v u seen h (λ q. subst (λ (x : ℕ). has x (lefts gs) ≡ true) q
+    has-cases (has u (leftVars gs) ≡ true) v u seen h (λ q. subst (λ (x : ℕ). has x (leftVars gs) ≡ true) q
     (gate-in v gs (none-unsettled gs k v (s .open-yet)))) (s .gates-all u)
 
 seen-new : (gs : List Gate) (k : ℕ) (seen : List ℕ) (v : ℕ) → Seen gs k seen v → has v seen ≡ false → distinct (v ∷ seen) ≡ true
@@ -122,7 +122,7 @@ climb gs zero seen v s = go (has v seen) refl
           arith,
           s .count,
           length-lefts gs,
-          pigeon (v ∷ seen) (lefts gs) (seen-new gs zero seen v s e) (seen-in gs zero seen v s),
+          pigeon (v ∷ seen) (leftVars gs) (seen-new gs zero seen v s e) (seen-in gs zero seen v s),
         ))
 climb gs (suc k) seen v s =
     let t = unsettled-side (λ u. settled gs k u) (find v gs) (s .open-yet) in
@@ -208,12 +208,12 @@ first-named all gs v = (λ e. subst (PlaceSays all gs) e (place-says all gs), na
 none-stuck : (all gs : List Gate) → firstStuck all gs ≡ none → NoneStuck all gs
 none-stuck all gs e = subst (PlaceSays all gs) e (place-says all gs)
 
-in-stuck : (all gs : List Gate) (v : ℕ) → NoneStuck all gs → has v (lefts gs) ≡ true → ¬ Stuck all v
+in-stuck : (all gs : List Gate) (v : ℕ) → NoneStuck all gs → has v (leftVars gs) ≡ true → ¬ Stuck all v
 in-stuck all [] v h k = absurd (false≢true k)
 in-stuck all (g ∷ gs) v h k =
-    has-cases (¬ Stuck all v) (g .lhs / 2) v (lefts gs) k (λ q. subst (λ (x : ℕ). ¬ Stuck all x) q (h .0)) (in-stuck all gs v (h .1))
+    has-cases (¬ Stuck all v) (g .lhs / 2) v (leftVars gs) k (λ q. subst (λ (x : ℕ). ¬ Stuck all x) q (h .0)) (in-stuck all gs v (h .1))
 
-depends-left : (gs : List Gate) {u v : ℕ} → Depends gs u v → has u (lefts gs) ≡ true
+depends-left : (gs : List Gate) {u v : ℕ} → Depends gs u v → has u (leftVars gs) ≡ true
 depends-left gs (one {u = u} x) = gate-in u gs (ap isNone (x .2))
 depends-left gs (more {u = u} x d) = gate-in u gs (ap isNone (x .2))
 

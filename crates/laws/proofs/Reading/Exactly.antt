@@ -12,14 +12,14 @@ use Rattle.plan.specs.Refusals.{got}
 use Rattle.plan.specs.declared.Counts.{Counts}
 use Rattle.plan.specs.declared.Version.{Version}
 use Rattle.plan.specs.declared.Version.the-variants.{V19}
-use Rattle.plan.specs.Circuit.{Circuit, countsOf, against, short, scratchToWork, wordsToWork, definedIn, usedIn}
+use Rattle.plan.specs.Circuit.{Circuit, countsOf, against, leastShort, scratchToWork, wordsToWork, definedIn, usedIn}
 use Rattle.plan.specs.Depends.{undefinedIn, cyclicIn}
 use Rattle.plan.specs.Header.{moreCounts, moreResets, Form, text, binary, header, headerOf, listOf, allCounts, adds, scratchToRead, wordsToRead, formIn}
 use Rattle.plan.specs.Bytes.{Spells}
 use Rattle.plan.specs.Text.{textLines, textLatches}
 use Rattle.plan.specs.Binary.{binaryLines, binaryLatches}
 use Rattle.plan.specs.Tail.{tailAt, TailOk}
-use Rattle.plan.specs.Reading.{body, readFile, readToWork, WellFormed, Spelled, States, asText, asBinary, Room, RoomToRead}
+use Rattle.plan.specs.Reading.{body, readFile, readToWork, WellFormed, Spelled, States, asText, asBinary, LongEnough, LongEnoughToRead}
 use Rattle.laws.proofs.Reading.Common.{got-value, got-next, then-got, unless-got}
 use Rattle.laws.proofs.Reading.Headers.{AllMost, header-took, header-reads}
 use Rattle.laws.proofs.Reading.Short.{lentFive, short-with, read-less}
@@ -112,23 +112,23 @@ form-in file f row rest e = ap formIn e ∙ go f
     go binary = refl
 
 -- tables that are long enough for every call are long enough to read; those that are long enough to read, with table 5 for every call
-pub room-to-read : (file : List ℕ) (c : Circuit) (lengths : List ℕ) → WellFormed c → Room c lengths → RoomToRead file c lengths
+pub room-to-read : (file : List ℕ) (c : Circuit) (lengths : List ℕ) → WellFormed c → LongEnough c lengths → LongEnoughToRead file c lengths
 room-to-read file c lengths w room =
     let n = countsOf c in
     short-with _ _ n lengths (λ (five : scratchToWork n ≤ lentFive lengths). omega (arith, read-less (formIn file) n (w .sum))) room
 
-pub room-to-work : (file : List ℕ) (c : Circuit) (lengths : List ℕ) → scratchToWork (countsOf c) ≤ lentFive lengths → RoomToRead file c lengths
-    → Room c lengths
+pub room-to-work : (file : List ℕ) (c : Circuit) (lengths : List ℕ) → scratchToWork (countsOf c) ≤ lentFive lengths → LongEnoughToRead file c lengths
+    → LongEnough c lengths
 room-to-work file c lengths five room = short-with (scratchToRead (formIn file) (countsOf c)) _ (countsOf c) lengths (λ _. five) room
 
 module _ (v : Version) (file lengths : List ℕ) where
   -- what is accepted is stated
   pub sound : Bytes file → (c : Circuit) (start : ℕ) → readFile v file lengths ≡ got c start
-      → States v file c (drop start file) × RoomToRead file c lengths
+      → States v file c (drop start file) × LongEnoughToRead file c lengths
   sound bytes c start q =
       let t1 = then-got (header v file 0) _ c start q in
       let n = t1 .0 .counts in
-      let u = unless-got (short (against 1 (wordsToRead (t1 .0 .form) n) lengths)) _ _ c start (t1 .3) in
+      let u = unless-got (leastShort (against 1 (wordsToRead (t1 .0 .form) n) lengths)) _ _ c start (t1 .3) in
       let t2 = then-got (body v file (t1 .0 .form) n (t1 .1)) _ c start (u .1) in
       let t3 = then-got (tailAt v file n (t2 .1)) _ c start (t2 .3) in
       let w1 = unless-got (undefinedIn (t2 .0)) _ _ c start (t3 .3) in
@@ -139,12 +139,12 @@ module _ (v : Version) (file lengths : List ℕ) where
       let r = tail-exactly v file n (t2 .1) .0 (t3 .0, t3 .1, t3 .2) in
       let b = by-form v file (t2 .0) bytes (t1 .0 .form) n (t1 .1) (t2 .1) (h .0) (h .1) (h .2) (h .3) (h .4) (t2 .2) r (w1 .0) (w2 .0) in (
         subst₂ (λ (x : Circuit) (y : ℕ). States v file x (drop y file)) c-is s-is (b .0),
-        ap₂ (λ (f : Form) (x : Counts). short (against 1 (wordsToRead f x) lengths)) (form-in file (t1 .0 .form) (h .0) _ (h .1))
+        ap₂ (λ (f : Form) (x : Counts). leastShort (against 1 (wordsToRead f x) lengths)) (form-in file (t1 .0 .form) (h .0) _ (h .1))
             (ap countsOf (sym c-is) ∙ b .1) ∙ u .0,
       )
 
   finish : (f : Form) (c : Circuit) (at start : ℕ) (tail : List ℕ) → WellFormed c → TailOk v (countsOf c) tail
-      → short (against 1 (wordsToRead f (countsOf c)) lengths) ≡ none
+      → leastShort (against 1 (wordsToRead f (countsOf c)) lengths) ≡ none
       → header v file 0 ≡ got (record { form = f; counts = countsOf c }) at → body v file f (countsOf c) at ≡ got c start
       → drop start file ≡ tail
       → Accepts v file lengths c tail
@@ -164,9 +164,9 @@ module _ (v : Version) (file lengths : List ℕ) where
 
   -- what is stated is accepted
   abbrev asked : Circuit → Form → Option ℕ
-  asked c f = short (against 1 (wordsToRead f (countsOf c)) lengths)
+  asked c f = leastShort (against 1 (wordsToRead f (countsOf c)) lengths)
 
-  pub complete : (c : Circuit) (tail : List ℕ) → States v file c tail → RoomToRead file c lengths → Accepts v file lengths c tail
+  pub complete : (c : Circuit) (tail : List ℕ) → States v file c tail → LongEnoughToRead file c lengths → Accepts v file lengths c tail
   complete c tail (asText s e w t) room =
       let r1 = header-reads file v 0 text (countsOf c) (s .counts) (textLines (s .latches) c ++ tail) (s .all-counts) (all-most c w)
       (le-leb _ _ (w .sum)) (e ∙ append-assoc (headerOf text (s .counts)) (textLines (s .latches) c) tail) in
@@ -181,15 +181,15 @@ module _ (v : Version) (file lengths : List ℕ) where
 
 -- a file that is read for calls that follow is read, and their tables are long enough
 pub work-read : (file lengths later : List ℕ) (c : Circuit) (start : ℕ) → readToWork file lengths later ≡ got c start
-    → (readFile V19 file lengths ≡ got c start) × Room c later
+    → (readFile V19 file lengths ≡ got c start) × LongEnough c later
 work-read file lengths later c start q =
     let t = then-got (readFile V19 file lengths) _ c start q in
-    let u = unless-got (short (against 1 (wordsToWork (countsOf (t .0))) later)) _ _ c start (t .3) in
+    let u = unless-got (leastShort (against 1 (wordsToWork (countsOf (t .0))) later)) _ _ c start (t .3) in
     let c-is : t .0 ≡ c = got-value (t .0) c (t .1) start (u .1) in
-    (t .2 ∙ u .1, subst (λ (d : Circuit). Room d later) c-is (u .0))
+    (t .2 ∙ u .1, subst (λ (d : Circuit). LongEnough d later) c-is (u .0))
 
 -- with room: exactly if
-pub exactly : (v : Version) (file lengths : List ℕ) → Bytes file → (c : Circuit) (tail : List ℕ) → RoomToRead file c lengths
+pub exactly : (v : Version) (file lengths : List ℕ) → Bytes file → (c : Circuit) (tail : List ℕ) → LongEnoughToRead file c lengths
     → Accepts v file lengths c tail ↔ States v file c tail
 exactly v file lengths bytes c tail room =
     (λ a. subst (States v file c) (a .2) (sound v file lengths bytes c (a .0) (a .1) .0), λ s. complete v file lengths c tail s room)
@@ -202,7 +202,7 @@ pub formed : (v : Version) (file : List ℕ) (c : Circuit) (tail : List ℕ) →
 formed v file c tail (asText s e w t) = w
 formed v file c tail (asBinary s e o w t) = w
 
-room-huge : (c : Circuit) → WellFormed c → Room c huge
+room-huge : (c : Circuit) → WellFormed c → LongEnough c huge
 room-huge c w =
     let n = countsOf c in
     let h1 : n .I ≤ 8000000 = omega (arith, w .most-I) in

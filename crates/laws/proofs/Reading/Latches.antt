@@ -11,7 +11,7 @@ use lib.Seq.{take-all, take-suc, drop-cons, take-at, drop-at, getD-append-add}
 use Rattle.plan.specs.Refusals.{got}
 use Rattle.plan.specs.Literals.{litOf, varOf, isReset}
 use Rattle.plan.specs.Circuit.{Latch, oneLine, latchLine, literalOf, latchOf, inside, heads, resetsOk}
-use Rattle.plan.specs.Bytes.{Placed, numbers, values, outside, twice, wrongReset, ownOf, latchLineAt, latchLines, resetAfter, lineOf, linesOf}
+use Rattle.plan.specs.Bytes.{Placed, numbers, values, outside, twice, wrongReset, ownOf, latchLineAt, latchLines, resetAfter, lineOf, linesOf, latchForm}
 use Rattle.plan.specs.Bytes.{withResets, Spells, AllSpell}
 use Rattle.plan.specs.Binary.{latchesFrom}
 use Rattle.laws.proofs.Reading.Common.{got-value, got-next, then-got, unless-got, Reads, and-left, and-right, and-intro}
@@ -56,7 +56,7 @@ LatchesOk k d m more v seen [] = Unit {0}
 LatchesOk k d m more v seen (row ∷ rows) = LatchOk k d m more v seen row × LatchesOk k d m more (suc v) (seen ++ (varOf (literalOf row) ∷ [])) rows
 
 module _ (file : List ℕ) (k : ℕ) (d : Bool) (m more : ℕ) where
-  pub latch-took : (v : ℕ) (seen : List ℕ) (at : ℕ) (row : List ℕ) (n : ℕ) → latchLineAt file k d m more v seen at ≡ got row n
+  pub latch-took : (v : ℕ) (seen : List ℕ) (at : ℕ) (row : List ℕ) (n : ℕ) → latchLineAt file (latchForm k d more) m v seen at ≡ got row n
       → (drop at file ≡ lineOf row ++ drop n file) × LatchOk k d m more v seen row
   latch-took v seen at row n e =
       let t = then-got (numbers file k (k + more) at) _ row n e in
@@ -79,11 +79,11 @@ module _ (file : List ℕ) (k : ℕ) (d : Bool) (m more : ℕ) where
 
   latch-is : (v : ℕ) (seen : List ℕ) (at : ℕ) (xs : List Placed) (n : ℕ) → numbers file k (k + more) at ≡ got xs n
       → outside d m (take k xs) ≡ none → wrongReset (ownOf d v (values xs)) (drop k xs) ≡ none → twice d seen xs ≡ none
-      → latchLineAt file k d m more v seen at ≡ got (values xs) n
+      → latchLineAt file (latchForm k d more) m v seen at ≡ got (values xs) n
   latch-is v seen at xs n a b c e = rw (a, b, c, e)
 
   pub latch-reads : 0 < k → (v : ℕ) (seen : List ℕ) (at : ℕ) (row s : List ℕ) → LatchOk k d m more v seen row → drop at file ≡ lineOf row ++ s
-      → Reads file (latchLineAt file k d m more v seen at) row s
+      → Reads file (latchLineAt file (latchForm k d more) m v seen at) row s
   latch-reads p v seen at row s ok e =
       let r = numbers-reads file row k (k + more) at s (ok .low) (ok .high) (λ _. omega (arith, ok .low)) e in
       let xs = r .0 in
@@ -95,15 +95,15 @@ module _ (file : List ℕ) (k : ℕ) (d : Bool) (m more : ℕ) where
       let new : twice d seen xs ≡ none = new-none d seen xs (subst (New d seen) (sym (r .1)) (ok .new)) in
       (r .2 .0, latch-is v seen at xs (r .2 .0) (r .2 .1) inn res new ∙ ap (λ (x : List ℕ). got x (r .2 .0)) (r .1), r .2 .2)
 
-  pub latches-took : (n v : ℕ) (seen : List ℕ) (at : ℕ) (rows : List (List ℕ)) (e : ℕ) → latchLines file k d m more n v seen at ≡ got rows e
+  pub latches-took : (n v : ℕ) (seen : List ℕ) (at : ℕ) (rows : List (List ℕ)) (e : ℕ) → latchLines file (latchForm k d more) m n v seen at ≡ got rows e
       → (drop at file ≡ linesOf rows ++ drop e file) × (length rows ≡ n) × LatchesOk k d m more v seen rows
   latches-took zero v seen at rows e q =
       let r-is : [] ≡ rows = got-value [] rows at e q in
       let n-is : at ≡ e = got-next [] rows at e q in
       (ap₂ (λ (x : List (List ℕ)) (y : ℕ). linesOf x ++ drop y file) r-is n-is, ap length (sym r-is), subst (LatchesOk k d m more v seen) r-is tt)
   latches-took (suc n) v seen at rows e q =
-      let t = then-got (latchLineAt file k d m more v seen at) _ rows e q in
-      let u = then-got (latchLines file k d m more n (suc v) (seen ++ (varOf (literalOf (t .0)) ∷ [])) (t .1)) _ rows e (t .3) in
+      let t = then-got (latchLineAt file (latchForm k d more) m v seen at) _ rows e q in
+      let u = then-got (latchLines file (latchForm k d more) m n (suc v) (seen ++ (varOf (literalOf (t .0)) ∷ [])) (t .1)) _ rows e (t .3) in
       let one = latch-took v seen at (t .0) (t .1) (t .2) in
       let ih = latches-took n (suc v) (seen ++ (varOf (literalOf (t .0)) ∷ [])) (t .1) (u .0) (u .1) (u .2) in
       let r-is : t .0 ∷ u .0 ≡ rows = got-value _ rows (u .1) e (u .3) in
@@ -116,7 +116,7 @@ module _ (file : List ℕ) (k : ℕ) (d : Bool) (m more : ℕ) where
 
   pub latches-reads : 0 < k → (rows : List (List ℕ)) (v : ℕ) (seen : List ℕ) (at : ℕ) (s : List ℕ) → LatchesOk k d m more v seen rows
       → drop at file ≡ linesOf rows ++ s
-      → Reads file (latchLines file k d m more (length rows) v seen at) rows s
+      → Reads file (latchLines file (latchForm k d more) m (length rows) v seen at) rows s
   latches-reads p [] v seen at s ok e = (at, refl, e)
   latches-reads p (row ∷ rows) v seen at s ok e =
       let r1 = latch-reads p v seen at row (linesOf rows ++ s) (ok .0) (e ∙ append-assoc (lineOf row) (linesOf rows) s) in

@@ -13,7 +13,7 @@ use lib.ListN.{length, getD, drop, replicate, length-append, length-replicate}
 use Rattle.plan.specs.declared.Version.{Version}
 use Rattle.plan.specs.declared.Version.the-variants.{V2007, V19}
 use Rattle.plan.specs.Circuit.{Circuit, countsOf, oneLine, gateLine}
-use Rattle.plan.specs.Bytes.{digits, endOf, lineOf, linesOf, Spells, AllSpell, unlessZero, shortest}
+use Rattle.plan.specs.Bytes.{digits, endOf, lineOf, linesOf, Spells, AllSpell, unlessZero, withoutZeros}
 use Rattle.plan.specs.Header.{Form, text, binary, headerOf, allCounts, shortCounts, formIn}
 use Rattle.plan.specs.Text.{textLines, textLatches, textOf}
 use Rattle.plan.specs.Binary.{gateBytes, binaryLines, binaryLatches, binaryOf}
@@ -47,20 +47,20 @@ alone-stays : (x : ℕ) → eqb x 0 ≡ false → unlessZero x [] ≡ x ∷ []
 alone-stays zero h = absurd (false≢true (sym h))
 alone-stays (suc x) h = refl
 
-trimmed-first : (j : ℕ) (row : List ℕ) → endsInZero row ≡ false → shortest zero (row ++ replicate j 0) ≡ row
+trimmed-first : (j : ℕ) (row : List ℕ) → endsInZero row ≡ false → withoutZeros zero (row ++ replicate j 0) ≡ row
 trimmed-first j [] h = zeros-short j
 trimmed-first j (x ∷ []) h = ap (unlessZero x) (zeros-short j) ∙ alone-stays x h
 trimmed-first j (x ∷ y ∷ l) h = ap (unlessZero x) (trimmed-first j (y ∷ l) h) ∙ stays x y l
 
-trimmed-is : (k j : ℕ) (row : List ℕ) → k ≤ length row → NoTrailingZero k row → shortest k (row ++ replicate j 0) ≡ row
+trimmed-is : (k j : ℕ) (row : List ℕ) → k ≤ length row → NoTrailingZero k row → withoutZeros k (row ++ replicate j 0) ≡ row
 trimmed-is zero j row h t = trimmed-first j row t
 trimmed-is (suc k) j [] h t = absurd (omega arith)
 trimmed-is (suc k) j (x ∷ row) h t = ap (λ (l : List ℕ). x ∷ l) (trimmed-is k j row (omega arith) t)
 
-pub trimmed-shortest : (k n : ℕ) (full row : List ℕ) → Spells k n full row → NoTrailingZero k row → row ≡ shortest k full
-trimmed-shortest k n full row s t = sym (ap (shortest k) (sym (s .2)) ∙ trimmed-is k (length full - length row) row (s .0) t)
+pub trimmed-shortest : (k n : ℕ) (full row : List ℕ) → Spells k n full row → NoTrailingZero k row → row ≡ withoutZeros k full
+trimmed-shortest k n full row s t = sym (ap (withoutZeros k) (sym (s .2)) ∙ trimmed-is k (length full - length row) row (s .0) t)
 
-pub all-trimmed-shortest : (k n : ℕ) (fulls rows : List (List ℕ)) → AllSpell k n fulls rows → NoTrailingZeros k rows → rows ≡ map (shortest k) fulls
+pub all-trimmed-shortest : (k n : ℕ) (fulls rows : List (List ℕ)) → AllSpell k n fulls rows → NoTrailingZeros k rows → rows ≡ map (withoutZeros k) fulls
 all-trimmed-shortest k n [] [] s t = refl
 all-trimmed-shortest k n [] (row ∷ rows) s t = absurd s
 all-trimmed-shortest k n (full ∷ fulls) [] s t = absurd s
@@ -74,13 +74,13 @@ unless-trimmed zero (x ∷ l) h = h
 unless-trimmed (suc n) [] h = ne-eqb (suc n) 0 (λ e. omega (arith, e))
 unless-trimmed (suc n) (x ∷ l) h = h
 
-pub shortest-trimmed : (k : ℕ) (full : List ℕ) → NoTrailingZero k (shortest k full)
+pub shortest-trimmed : (k : ℕ) (full : List ℕ) → NoTrailingZero k (withoutZeros k full)
 shortest-trimmed zero [] = refl
-shortest-trimmed zero (n ∷ l) = unless-trimmed n (shortest zero l) (shortest-trimmed zero l)
+shortest-trimmed zero (n ∷ l) = unless-trimmed n (withoutZeros zero l) (shortest-trimmed zero l)
 shortest-trimmed (suc k) [] = refl
 shortest-trimmed (suc k) (n ∷ l) = shortest-trimmed k l
 
-all-shortest-trimmed : (k : ℕ) (fulls : List (List ℕ)) → NoTrailingZeros k (map (shortest k) fulls)
+all-shortest-trimmed : (k : ℕ) (fulls : List (List ℕ)) → NoTrailingZeros k (map (withoutZeros k) fulls)
 all-shortest-trimmed k [] = tt
 all-shortest-trimmed k (full ∷ fulls) = (shortest-trimmed k full, all-shortest-trimmed k fulls)
 
@@ -146,11 +146,11 @@ with-zeros (x ∷ l) (y ∷ m) a b e h =
 
 -- a line that spells the numbers has as many bytes as the shortest only if it is the shortest
 pub line-least : (k n : ℕ) (full row : List ℕ) → Spells k n full row
-    → (length (lineOf (shortest k full)) ≤ length (lineOf row)) × (length (lineOf row) ≤ length (lineOf (shortest k full)) → row ≡ shortest k full)
+    → (length (lineOf (withoutZeros k full)) ≤ length (lineOf row)) × (length (lineOf row) ≤ length (lineOf (withoutZeros k full)) → row ≡ withoutZeros k full)
 line-least k n full row s =
     let sizes : length row + (length full - length row) ≡ length full
     = omega (arith, ap length (s .2), length-append row (replicate (length full - length row) 0), length-replicate {A = ℕ} (length full - length row) 0) in
-    let short = shortest k full in
+    let short = withoutZeros k full in
     let f = shortest-spells k (length full) full (omega (arith, s .0)) refl in
     let least = shortest-is-least k n full row s in
     let more : row ≡ short ++ replicate (length row - length short) 0
@@ -164,8 +164,8 @@ line-least k n full row s =
     none-more l j e = ap (λ (i : ℕ). l ++ replicate i 0) e ∙ append-nil l
 
 pub lines-least : (k n : ℕ) (fulls rows : List (List ℕ)) → AllSpell k n fulls rows
-    → (length (linesOf (map (shortest k) fulls)) ≤ length (linesOf rows))
-    × (length (linesOf rows) ≤ length (linesOf (map (shortest k) fulls)) → rows ≡ map (shortest k) fulls)
+    → (length (linesOf (map (withoutZeros k) fulls)) ≤ length (linesOf rows))
+    × (length (linesOf rows) ≤ length (linesOf (map (withoutZeros k) fulls)) → rows ≡ map (withoutZeros k) fulls)
 lines-least k n [] [] s = (omega arith, λ h. refl)
 lines-least k n [] (row ∷ rows) s = absurd s
 lines-least k n (full ∷ fulls) [] s = absurd s
@@ -173,7 +173,7 @@ lines-least k n (full ∷ fulls) (row ∷ rows) s =
     let one = line-least k n full row (s .0) in
     let more = lines-least k n fulls rows (s .1) in
     let here = length-append (lineOf row) (linesOf rows) in
-    let there = length-append (lineOf (shortest k full)) (linesOf (map (shortest k) fulls)) in (
+    let there = length-append (lineOf (withoutZeros k full)) (linesOf (map (withoutZeros k) fulls)) in (
       omega (arith, one .0, more .0, here, there),
       λ h. ap₂ (λ (x : List ℕ) (y : List (List ℕ)). x ∷ y)
           (one .1 (omega (arith, more .0, here, there, h))) (more .1 (omega (arith, one .0, here, there, h))),
@@ -196,14 +196,14 @@ module _ (f : Form) (p q tail : List ℕ) where
       )
 
   file-least : (k n : ℕ) (c : Circuit) (full lats : List (List ℕ)) (row : List ℕ) → Spells 5 9 (allCounts (countsOf c)) row → AllSpell k n full lats
-      → (length (fileWith (shortCounts (countsOf c)) (map (shortest k) full)) ≤ length (fileWith row lats))
-      × (length (fileWith row lats) ≤ length (fileWith (shortCounts (countsOf c)) (map (shortest k) full))
-      → (row ≡ shortCounts (countsOf c)) × (lats ≡ map (shortest k) full))
+      → (length (fileWith (shortCounts (countsOf c)) (map (withoutZeros k) full)) ≤ length (fileWith row lats))
+      × (length (fileWith row lats) ≤ length (fileWith (shortCounts (countsOf c)) (map (withoutZeros k) full))
+      → (row ≡ shortCounts (countsOf c)) × (lats ≡ map (withoutZeros k) full))
   file-least k n c full lats row s t =
       let one = line-least 5 9 (allCounts (countsOf c)) row s in
       let more = lines-least k n full lats t in
       let here = file-bytes row lats in
-      let there = file-bytes (shortCounts (countsOf c)) (map (shortest k) full) in (
+      let there = file-bytes (shortCounts (countsOf c)) (map (withoutZeros k) full) in (
         omega (arith, one .0, more .0, here, there),
         λ h. (one .1 (omega (arith, more .0, here, there, h)), more .1 (omega (arith, one .0, here, there, h))),
       )
@@ -212,7 +212,7 @@ module _ (f : Form) (p q tail : List ℕ) where
 module _ (file : List ℕ) (c : Circuit) (tail : List ℕ) where
   as-text : (s : Spelled V19 c 2 (textLatches c)) → file ≡ (headerOf text (s .counts) ++ textLines (s .latches) c) ++ tail
       → (length (textOf c ++ tail) ≤ length file)
-      × (length file ≤ length (textOf c ++ tail) → (s .counts ≡ shortCounts (countsOf c)) × (s .latches ≡ map (shortest 2) (textLatches c)))
+      × (length file ≤ length (textOf c ++ tail) → (s .counts ≡ shortCounts (countsOf c)) × (s .latches ≡ map (withoutZeros 2) (textLatches c)))
   as-text s e =
       let p = linesOf (map oneLine (c .inputs)) in
       let last = linesOf (map oneLine (c .constraints)) ++ linesOf (map gateLine (c .gates)) in
@@ -224,7 +224,7 @@ module _ (file : List ℕ) (c : Circuit) (tail : List ℕ) where
 
   as-binary : (s : Spelled V19 c 1 (binaryLatches c)) → file ≡ (headerOf binary (s .counts) ++ binaryLines (s .latches) c) ++ tail
       → (length (binaryOf c ++ tail) ≤ length file)
-      × (length file ≤ length (binaryOf c ++ tail) → (s .counts ≡ shortCounts (countsOf c)) × (s .latches ≡ map (shortest 1) (binaryLatches c)))
+      × (length file ≤ length (binaryOf c ++ tail) → (s .counts ≡ shortCounts (countsOf c)) × (s .latches ≡ map (withoutZeros 1) (binaryLatches c)))
   as-binary s e =
       let q = linesOf (map oneLine (c .outputs)) ++ (linesOf (map oneLine (c .bads)) ++ (linesOf (map oneLine (c .constraints)) ++ gateBytes (c .gates))) in
       let r = file-least binary [] q tail 1 2 c (binaryLatches c) (s .latches) (s .counts) (s .all-counts) (s .all-latches) in (
@@ -232,7 +232,7 @@ module _ (file : List ℕ) (c : Circuit) (tail : List ℕ) where
         λ h. r .1 (subst (λ (x : List ℕ). length x ≤ length (binaryOf c ++ tail)) e h),
       )
 
-  trimmed-by : (k : ℕ) (full lats : List (List ℕ)) (row : List ℕ) → (row ≡ shortCounts (countsOf c)) × (lats ≡ map (shortest k) full)
+  trimmed-by : (k : ℕ) (full lats : List (List ℕ)) (row : List ℕ) → (row ≡ shortCounts (countsOf c)) × (lats ≡ map (withoutZeros k) full)
       → NoTrailingZero 5 row × NoTrailingZeros k lats
   trimmed-by k full lats row h = (
     subst (NoTrailingZero 5) (sym (h .0)) (shortest-trimmed 5 (allCounts (countsOf c))),

@@ -19,9 +19,9 @@ use Rattle.plan.specs.declared.Refusal.{Refusal}
 use Rattle.plan.specs.declared.Refusal.the-variants.{WrongByte, ShortTable, OutOfRange, NotDefined, Cyclic, BadDifference, BadSymbol, LongDifference}
 use Rattle.plan.specs.Literals.{varOf, litOf}
 use Rattle.plan.specs.Refusals.{numberOf, Parse, got, refused, _then_, unless}
-use Rattle.plan.specs.Circuit.{Circuit, literalOf, definedIn, usedIn, allNew, against, short}
+use Rattle.plan.specs.Circuit.{Circuit, literalOf, definedIn, usedIn, allNew, against, leastShort}
 use Rattle.plan.specs.Bytes.{classOf, nameClass, span, numberBy, number, expect, goesOn, less, Placed, numbers, values, outside, wrongReset, ownOf}
-use Rattle.plan.specs.Bytes.{line, lines, latchLineAt, latchLines}
+use Rattle.plan.specs.Bytes.{line, lines, latchLineAt, latchLines, latchForm}
 use Rattle.plan.specs.Depends.{undefinedIn, cyclicIn}
 use Rattle.plan.specs.Header.{moreResets, Form, binary, Head, header, adds, wordsToRead}
 use Rattle.plan.specs.Difference.{differenceAt, differenceSays, difference}
@@ -135,14 +135,14 @@ module _ (file : List ℕ) where
       (λ xs e. spared-unless (outside false m xs) OutOfRange (got (values xs) e) by-5 tt))
       (λ row e. spared-then (lines file k false m n (seen ++ (varOf (literalOf row) ∷ [])) e) _ (lines-spared k m n _ e) (λ rows l. tt))
 
-  latches-spared : (k m more n v : ℕ) (seen : List ℕ) (at : ℕ) → Spared (latchLines file k false m more n v seen at)
+  latches-spared : (k m more n v : ℕ) (seen : List ℕ) (at : ℕ) → Spared (latchLines file (latchForm k false more) m n v seen at)
   latches-spared k m more zero v seen at = tt
   latches-spared k m more (suc n) v seen at =
-      spared-then (latchLineAt file k false m more v seen at) _
+      spared-then (latchLineAt file (latchForm k false more) m v seen at) _
       (spared-then (numbers file k (k + more) at) _ (numbers-spared k (k + more) at) (λ xs e.
       spared-unless (outside false m (take k xs)) OutOfRange _ by-5
       (spared-unless (wrongReset (ownOf false v (values xs)) (drop k xs)) OutOfRange (got (values xs) e) by-5 tt)))
-      (λ row e. spared-then (latchLines file k false m more n (suc v) (seen ++ (varOf (literalOf row) ∷ [])) e) _
+      (λ row e. spared-then (latchLines file (latchForm k false more) m n (suc v) (seen ++ (varOf (literalOf row) ∷ [])) e) _
       (latches-spared k m more n (suc v) _ e) (λ rows l. tt))
 
   says-spared : (d : Difference) → Spared (differenceSays d)
@@ -188,7 +188,7 @@ module _ (file : List ℕ) where
   -- the lines and the differences of a binary body are refused by none of the three
   pub body-spared : (v : Version) (n : Counts) (at : ℕ) → Spared (binaryBody v file n at)
   body-spared v n at =
-      spared-then (latchLines file 1 false (n .M) (moreResets v) (n .L) (1 + n .I) [] at) _
+      spared-then (latchLines file (latchForm 1 false (moreResets v)) (n .M) (n .L) (1 + n .I) [] at) _
       (latches-spared 1 (n .M) (moreResets v) (n .L) (1 + n .I) [] at) (λ r1 a.
       spared-then (lines file 1 false (n .M) (n .O) [] a) _ (lines-spared 1 (n .M) (n .O) [] a) (λ r2 b.
       spared-then (lines file 1 false (n .M) (n .B) [] b) _ (lines-spared 1 (n .M) (n .B) [] b) (λ r3 c.
@@ -222,7 +222,7 @@ module _ (v : Version) (file lengths : List ℕ) (bytes : Bytes file) where
 
       after : Form → Parse Circuit
       after f =
-          unless (short (against 1 (wordsToRead f n) lengths)) ShortTable
+          unless (leastShort (against 1 (wordsToRead f n) lengths)) ShortTable
           (body v file f n at then λ c at. tailAt v file n at then λ _ _. unless (undefinedIn c) NotDefined (unless (cyclicIn c) Cyclic (got c at)))
 
       whole : readFile v file lengths ≡ after binary
@@ -232,4 +232,4 @@ module _ (v : Version) (file lengths : List ℕ) (bytes : Bytes file) where
       spared =
           let sum : n .I + n .L + n .A ≡ n .M
           = eqb-true _ _ (ap (λ (f : Form). adds f n) (sym form) ∙ header-took file v 0 h at head .4) in
-          spared-unless (short (against 1 (wordsToRead binary n) lengths)) ShortTable _ by-4 (rest-spared n at sum)
+          spared-unless (leastShort (against 1 (wordsToRead binary n) lengths)) ShortTable _ by-4 (rest-spared n at sum)

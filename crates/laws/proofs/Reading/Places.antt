@@ -20,10 +20,10 @@ use Rattle.plan.specs.declared.Version.{Version}
 use Rattle.plan.specs.declared.Difference.{Difference}
 use Rattle.plan.specs.declared.Difference.the-variants.{Value, Ends, Bad}
 use Rattle.plan.specs.Literals.{varOf}
-use Rattle.plan.specs.Circuit.{Circuit, literalOf, heads, against, short}
+use Rattle.plan.specs.Circuit.{Circuit, literalOf, heads, against, leastShort}
 use Rattle.plan.specs.Depends.{undefinedIn, cyclicIn}
 use Rattle.plan.specs.Bytes.{classOf, digitClass, nameClass, span, numberBy, number, expect, goesOn, less, Placed, numbers, values, outside, twice}
-use Rattle.plan.specs.Bytes.{wrongReset, ownOf, line, lines, latchLineAt, latchLines}
+use Rattle.plan.specs.Bytes.{wrongReset, ownOf, line, lines, latchLineAt, latchLines, latchForm}
 use Rattle.plan.specs.Header.{moreCounts, moreResets, Form, text, binary, letter, over, above0, adds, countsFrom, header, wordsToRead}
 use Rattle.plan.specs.Difference.{lowThen, groups, differenceAt, differenceSays, difference}
 use Rattle.plan.specs.Binary.{gate, gatesFrom}
@@ -112,15 +112,15 @@ module _ (file : List ℕ) where
       stays-then (lines file k d m n (seen ++ (varOf (literalOf row) ∷ [])) e) _ (lines-stays k d m n _ e h1) (λ rows l h2. on h2))
 
   latches-stays : (k : ℕ) (d : Bool) (m more n v : ℕ) (seen : List ℕ) (at : ℕ) → at ≤ length file
-      → Stays (latchLines file k d m more n v seen at)
+      → Stays (latchLines file (latchForm k d more) m n v seen at)
   latches-stays k d m more zero v seen at h = on h
   latches-stays k d m more (suc n) v seen at h =
-      stays-then (latchLineAt file k d m more v seen at) _
+      stays-then (latchLineAt file (latchForm k d more) m v seen at) _
       (stays-then (numbers file k (k + more) at) _ (numbers-stays k (k + more) at h) (λ xs e h1.
       stays-unless (outside d m (take k xs)) OutOfRange _ (λ x e. absurd (omega arith))
       (stays-unless (wrongReset (ownOf d v (values xs)) (drop k xs)) OutOfRange _ (λ x e. absurd (omega arith))
       (stays-unless (twice d seen xs) DefinedTwice (got (values xs) e) (λ x e. absurd (omega arith)) (on h1)))))
-      (λ row e h1. stays-then (latchLines file k d m more n (suc v) (seen ++ (varOf (literalOf row) ∷ [])) e) _
+      (λ row e h1. stays-then (latchLines file (latchForm k d more) m n (suc v) (seen ++ (varOf (literalOf row) ∷ [])) e) _
       (latches-stays k d m more n (suc v) _ e h1) (λ rows l h2. on h2))
 
   letter-stays : (at : ℕ) → at ≤ length file → Stays (letter file at)
@@ -185,7 +185,7 @@ module _ (file : List ℕ) where
   body-stays : (v : Version) (f : Form) (n : Counts) (at : ℕ) → at ≤ length file → Stays (body v file f n at)
   body-stays v text n at h =
       stays-then (lines file 1 true (n .M) (n .I) [] at) _ (lines-stays 1 true (n .M) (n .I) [] at h) (λ r1 a h1.
-      stays-then (latchLines file 2 true (n .M) (moreResets v) (n .L) zero (heads r1) a) _ (latches-stays 2 true (n .M) (moreResets v) (n .L) zero _ a h1)
+      stays-then (latchLines file (latchForm 2 true (moreResets v)) (n .M) (n .L) zero (heads r1) a) _ (latches-stays 2 true (n .M) (moreResets v) (n .L) zero _ a h1)
       (λ r2 b h2.
       stays-then (lines file 1 false (n .M) (n .O) [] b) _ (lines-stays 1 false (n .M) (n .O) [] b h2) (λ r3 c h3.
       stays-then (lines file 1 false (n .M) (n .B) [] c) _ (lines-stays 1 false (n .M) (n .B) [] c h3) (λ r4 d h4.
@@ -193,7 +193,7 @@ module _ (file : List ℕ) where
       stays-then (lines file 3 true (n .M) (n .A) (heads r1 ++ heads r2) e) _ (lines-stays 3 true (n .M) (n .A) _ e h5)
       (λ r6 f h6. on h6))))))
   body-stays v binary n at h =
-      stays-then (latchLines file 1 false (n .M) (moreResets v) (n .L) (1 + n .I) [] at) _
+      stays-then (latchLines file (latchForm 1 false (moreResets v)) (n .M) (n .L) (1 + n .I) [] at) _
       (latches-stays 1 false (n .M) (moreResets v) (n .L) (1 + n .I) [] at h) (λ r1 a h1.
       stays-then (lines file 1 false (n .M) (n .O) [] a) _ (lines-stays 1 false (n .M) (n .O) [] a h1) (λ r2 b h2.
       stays-then (lines file 1 false (n .M) (n .B) [] b) _ (lines-stays 1 false (n .M) (n .B) [] b h2) (λ r3 c h3.
@@ -227,7 +227,7 @@ module _ (file : List ℕ) where
   pub read-stays : (v : Version) (lengths : List ℕ) → Stays (readFile v file lengths)
   read-stays v lengths =
       stays-then (header v file 0) _ (header-stays v 0 (omega arith)) (λ h a h1.
-      stays-unless (short (against 1 (wordsToRead (h .form) (h .counts)) lengths)) ShortTable _ (λ x e. absurd (omega arith))
+      stays-unless (leastShort (against 1 (wordsToRead (h .form) (h .counts)) lengths)) ShortTable _ (λ x e. absurd (omega arith))
       (stays-then (body v file (h .form) (h .counts) a) _ (body-stays v (h .form) (h .counts) a h1) (λ c b h2.
       stays-then (tailAt v file (h .counts) b) _ (tail-stays v (h .counts) (suc (length file)) [] b h2) (λ _ _ h3.
       stays-unless (undefinedIn c) NotDefined _ (λ x e. absurd (omega arith))

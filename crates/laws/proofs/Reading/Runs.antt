@@ -9,7 +9,7 @@ use borrow.Author.Tests.{eqb-true, eq-eqb, le-leb}
 use lib.Dec.{eqb, leb}
 use lib.ListN.{length, length-map}
 use Rattle.plan.specs.Literals.{varOf, inRange}
-use Rattle.plan.specs.Circuit.{Gate, Latch, Circuit, countsOf, oneLine, latchLine, gateLine, literalOf, vars, currents, lefts, nexts, has, allNew}
+use Rattle.plan.specs.Circuit.{Gate, Latch, Circuit, countsOf, oneLine, latchLine, gateLine, literalOf, vars, currentVars, leftVars, nexts, has, allNew}
 use Rattle.plan.specs.Circuit.{inside, allInside}
 use Rattle.plan.specs.Header.{binary, adds}
 use Rattle.plan.specs.Binary.{litsFrom, latchesFrom, runs, falls, binaryOrder}
@@ -68,11 +68,11 @@ pub vars-lits : (v n : ℕ) → vars (litsFrom v n) ≡ upFrom v n
 vars-lits v zero = refl
 vars-lits v (suc n) = ap₂ (λ (x : ℕ) (l : List ℕ). x ∷ l) (half v) (vars-lits (suc v) n)
 
-pub currents-latches : (v : ℕ) (ls : List ℕ) → currents (latchesFrom v ls) ≡ upFrom v (length ls)
+pub currents-latches : (v : ℕ) (ls : List ℕ) → currentVars (latchesFrom v ls) ≡ upFrom v (length ls)
 currents-latches v [] = refl
 currents-latches v (l ∷ ls) = ap₂ (λ (x : ℕ) (l : List ℕ). x ∷ l) (half v) (currents-latches (suc v) ls)
 
-pub lefts-gates : (v : ℕ) (gs : List Gate) → InOrder v gs → lefts gs ≡ upFrom v (length gs)
+pub lefts-gates : (v : ℕ) (gs : List Gate) → InOrder v gs → leftVars gs ≡ upFrom v (length gs)
 lefts-gates v [] o = refl
 lefts-gates v (g ∷ gs) o = ap₂ (λ (x : ℕ) (l : List ℕ). x ∷ l) (ap varOf (o .0) ∙ half v) (lefts-gates (suc v) gs (o .3))
 

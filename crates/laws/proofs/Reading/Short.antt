@@ -14,7 +14,7 @@ use lib.ListN.{getD, drop}
 use Rattle.plan.specs.declared.Counts.{Counts}
 use Rattle.plan.specs.declared.Version.the-variants.{V19}
 use Rattle.plan.specs.Refusals.{got}
-use Rattle.plan.specs.Circuit.{Lent, orLess, short, against, wordsWith, scratchToWork}
+use Rattle.plan.specs.Circuit.{Lent, orLess, leastShort, against, wordsWith, scratchToWork}
 use Rattle.plan.specs.Header.{Form, text, binary, Head, header, scratchToRead, wordsToRead, wordsFor}
 
 abbrev pub AllLong : List Lent → Type 0
@@ -48,9 +48,9 @@ none-short [] h u k = k
 none-short (x ∷ xs) h u (inl k) = omega (arith, h .0, k .1)
 none-short (x ∷ xs) h u (inr k) = none-short xs (h .1) u k
 
-pub short-says : (xs : List Lent) → ShortSays xs (short xs)
+pub short-says : (xs : List Lent) → ShortSays xs (leastShort xs)
 short-says [] = tt
-short-says (x ∷ xs) = go (leb (x .needed) (x .words)) refl (short xs) (short-says xs)
+short-says (x ∷ xs) = go (leb (x .needed) (x .words)) refl (leastShort xs) (short-says xs)
   where
     go : (b : Bool) → leb (x .needed) (x .words) ≡ b → (r : Option ℕ) → ShortSays xs r → ShortSays (x ∷ xs) (cond b r (orLess (x .table) r))
     go true e none h = (leb-true _ _ e, h)
@@ -74,23 +74,23 @@ short-says (x ∷ xs) = go (leb (x .needed) (x .words)) refl (short xs) (short-s
         least u (inl k) = omega (arith, k .0)
         least u (inr k) = omega (arith, h .1 u k)
 
-pub short-none : (xs : List Lent) → (short xs ≡ none) ↔ AllLong xs
-short-none xs = (λ e. subst (ShortSays xs) e (short-says xs), λ h. go h (short xs) (short-says xs))
+pub short-none : (xs : List Lent) → (leastShort xs ≡ none) ↔ AllLong xs
+short-none xs = (λ e. subst (ShortSays xs) e (short-says xs), λ h. go h (leastShort xs) (short-says xs))
   where
     go : AllLong xs → (r : Option ℕ) → ShortSays xs r → r ≡ none
     go h none k = refl
     go h (some t) k = absurd (none-short xs h t (k .0))
 
-pub short-named : (xs : List Lent) (t : ℕ) → (short xs ≡ some t) ↔ ShortSays xs (some t)
-short-named xs t = (λ e. subst (ShortSays xs) e (short-says xs), λ h. go h (short xs) (short-says xs))
+pub short-named : (xs : List Lent) (t : ℕ) → (leastShort xs ≡ some t) ↔ ShortSays xs (some t)
+short-named xs t = (λ e. subst (ShortSays xs) e (short-says xs), λ h. go h (leastShort xs) (short-says xs))
   where
     go : ShortSays xs (some t) → (r : Option ℕ) → ShortSays xs r → r ≡ some t
     go h none k = absurd (none-short xs k t (h .0))
     go h (some u) k = let e : u ≡ t = omega (arith, h .1 u (k .0), k .1 t (h .0)) in ap some e
 
 -- tables of which the same numbers are too short
-pub same-short : (xs ys : List Lent) → ((t : ℕ) → ShortIn t xs → ShortIn t ys) → ((t : ℕ) → ShortIn t ys → ShortIn t xs) → short xs ≡ short ys
-same-short xs ys f g = go (short xs) (short-says xs) (short ys) (short-says ys)
+pub same-short : (xs ys : List Lent) → ((t : ℕ) → ShortIn t xs → ShortIn t ys) → ((t : ℕ) → ShortIn t ys → ShortIn t xs) → leastShort xs ≡ leastShort ys
+same-short xs ys f g = go (leastShort xs) (short-says xs) (leastShort ys) (short-says ys)
   where
     go : (r : Option ℕ) → ShortSays xs r → (s : Option ℕ) → ShortSays ys s → r ≡ s
     go none h none k = refl
@@ -104,7 +104,7 @@ lentFive lengths = getD (drop 1 (drop 1 (drop 1 (drop 1 lengths)))) 0 0
 
 -- tables that are long enough, with other needs of table 5
 pub short-with : (s s′ : ℕ) (n : Counts) (lengths : List ℕ) → (s ≤ lentFive lengths → s′ ≤ lentFive lengths)
-    → short (against 1 (wordsWith s n) lengths) ≡ none → short (against 1 (wordsWith s′ n) lengths) ≡ none
+    → leastShort (against 1 (wordsWith s n) lengths) ≡ none → leastShort (against 1 (wordsWith s′ n) lengths) ≡ none
 short-with s s′ n lengths five h =
     let l = short-none (against 1 (wordsWith s n) lengths) .0 h in
     let m = l .1 .1 .1 .1 in
@@ -117,7 +117,7 @@ read-less binary n sum = omega arith
 
 -- tables of exactly the words that the desk question names are long enough to read the file
 pub desk-enough : (file : List ℕ) (h : Head) (at : ℕ) → header V19 file 0 ≡ got h at
-    → short (against 1 (wordsToRead (h .form) (h .counts)) (map (wordsFor file) (1 ∷ 2 ∷ 3 ∷ 4 ∷ 5 ∷ []) ++ (0 ∷ map (wordsFor file) (7 ∷ 8 ∷ 9 ∷ []))))
+    → leastShort (against 1 (wordsToRead (h .form) (h .counts)) (map (wordsFor file) (1 ∷ 2 ∷ 3 ∷ 4 ∷ 5 ∷ []) ++ (0 ∷ map (wordsFor file) (7 ∷ 8 ∷ 9 ∷ []))))
     ≡ none
 desk-enough file h at head =
     let n = h .counts in

@@ -7,7 +7,7 @@ use native.Mathlib.Omega.{arith}
 use lib.ListN.{length, replicate, length-append}
 use Rattle.plan.specs.declared.Version.the-variants.{V19}
 use Rattle.plan.specs.Circuit.{Circuit, countsOf, oneLine, latchLine, nexts}
-use Rattle.plan.specs.Bytes.{withResets, Spells, AllSpell, unlessZero, shortest}
+use Rattle.plan.specs.Bytes.{withResets, Spells, AllSpell, unlessZero, withoutZeros}
 use Rattle.plan.specs.Header.{allCounts, shortCounts}
 use Rattle.plan.specs.Text.{textLatches, textOf}
 use Rattle.plan.specs.Binary.{binaryLatches, binaryOf, binaryOrder}
@@ -28,24 +28,24 @@ tail-fills (suc n) l s h e =
     let q : suc (length l) - suc (length s) ≡ length l - length s = omega arith in
     (omega arith, ap (λ (k : ℕ). suc n ∷ s ++ replicate k 0) q ∙ ap (λ (t : List ℕ). suc n ∷ t) e)
 
-shortest-fills : (k : ℕ) (l : List ℕ) → (length (shortest k l) ≤ length l) × (shortest k l ++ replicate (length l - length (shortest k l)) 0 ≡ l)
+shortest-fills : (k : ℕ) (l : List ℕ) → (length (withoutZeros k l) ≤ length l) × (withoutZeros k l ++ replicate (length l - length (withoutZeros k l)) 0 ≡ l)
 shortest-fills k [] = (omega arith, refl)
-shortest-fills zero (n ∷ l) = let ih = shortest-fills zero l in tail-fills n l (shortest zero l) (ih .0) (ih .1)
+shortest-fills zero (n ∷ l) = let ih = shortest-fills zero l in tail-fills n l (withoutZeros zero l) (ih .0) (ih .1)
 shortest-fills (suc k) (n ∷ l) =
     let ih = shortest-fills k l in
-    let q : suc (length l) - suc (length (shortest k l)) ≡ length l - length (shortest k l) = omega arith in
-    (omega (arith, ih .0), ap (λ (j : ℕ). n ∷ shortest k l ++ replicate j 0) q ∙ ap (λ (t : List ℕ). n ∷ t) (ih .1))
+    let q : suc (length l) - suc (length (withoutZeros k l)) ≡ length l - length (withoutZeros k l) = omega arith in
+    (omega (arith, ih .0), ap (λ (j : ℕ). n ∷ withoutZeros k l ++ replicate j 0) q ∙ ap (λ (t : List ℕ). n ∷ t) (ih .1))
 
-shortest-least : (k : ℕ) (l : List ℕ) → k ≤ length l → k ≤ length (shortest k l)
+shortest-least : (k : ℕ) (l : List ℕ) → k ≤ length l → k ≤ length (withoutZeros k l)
 shortest-least zero l h = omega arith
 shortest-least (suc k) [] h = absurd (omega arith)
 shortest-least (suc k) (n ∷ l) h = omega (arith, shortest-least k l (omega arith))
 
-pub shortest-spells : (k n : ℕ) (l : List ℕ) → k ≤ n → length l ≡ n → Spells k n l (shortest k l)
+pub shortest-spells : (k n : ℕ) (l : List ℕ) → k ≤ n → length l ≡ n → Spells k n l (withoutZeros k l)
 shortest-spells k n l h e =
     let f = shortest-fills k l in (shortest-least k l (omega arith), omega (arith, f .0), f .1)
 
-all-shortest : (k n : ℕ) (rows : List (List ℕ)) → k ≤ n → Long n rows → AllSpell k n rows (map (shortest k) rows)
+all-shortest : (k n : ℕ) (rows : List (List ℕ)) → k ≤ n → Long n rows → AllSpell k n rows (map (withoutZeros k) rows)
 all-shortest k n [] h l = tt
 all-shortest k n (row ∷ rows) h l = (shortest-spells k n row h (l .0), all-shortest k n rows h (l .1))
 
@@ -55,7 +55,7 @@ resets-long k (base ∷ bases) [] h = tt
 resets-long k (base ∷ bases) (r ∷ rs) h = (omega (arith, length-append base (r ∷ []), h .0), resets-long k bases rs (h .1))
 
 -- and no line that spells them is shorter
-pub zeros-short : (j : ℕ) → shortest zero (replicate j 0) ≡ []
+pub zeros-short : (j : ℕ) → withoutZeros zero (replicate j 0) ≡ []
 zeros-short zero = refl
 zeros-short (suc j) = ap (unlessZero 0) (zeros-short j)
 
@@ -64,21 +64,21 @@ unless-long zero [] = omega arith
 unless-long zero (x ∷ s) = omega arith
 unless-long (suc n) s = omega arith
 
-least : (k j : ℕ) (row : List ℕ) → k ≤ length row → length (shortest k (row ++ replicate j 0)) ≤ length row
+least : (k j : ℕ) (row : List ℕ) → k ≤ length row → length (withoutZeros k (row ++ replicate j 0)) ≤ length row
 least zero j [] h = omega (arith, ap length (zeros-short j))
-least zero j (x ∷ row) h = omega (arith, unless-long x (shortest zero (row ++ replicate j 0)), least zero j row (omega arith))
+least zero j (x ∷ row) h = omega (arith, unless-long x (withoutZeros zero (row ++ replicate j 0)), least zero j row (omega arith))
 least (suc k) j [] h = absurd (omega arith)
 least (suc k) j (x ∷ row) h = omega (arith, least k j row (omega arith))
 
-pub shortest-is-least : (k n : ℕ) (l row : List ℕ) → Spells k n l row → length (shortest k l) ≤ length row
+pub shortest-is-least : (k n : ℕ) (l row : List ℕ) → Spells k n l row → length (withoutZeros k l) ≤ length row
 shortest-is-least k n l row s =
-    subst (λ (x : List ℕ). length (shortest k x) ≤ length row) (s .2) (least k (length l - length row) row (s .0))
+    subst (λ (x : List ℕ). length (withoutZeros k x) ≤ length row) (s .2) (least k (length l - length row) row (s .0))
 
 -- a circuit's counts and latches in the shortest form
 abbrev text-short : (c : Circuit) → Spelled V19 c 2 (textLatches c)
 text-short c = record {
   counts = shortCounts (countsOf c);
-  latches = map (shortest 2) (textLatches c);
+  latches = map (withoutZeros 2) (textLatches c);
   all-counts = shortest-spells 5 9 (allCounts (countsOf c)) (omega arith) refl;
   all-latches = all-shortest 2 3 (textLatches c) (omega arith)
       (resets-long 2 (map latchLine (c .latches)) (c .resets) (map-long 2 latchLine (λ a. refl) (c .latches)));
@@ -87,7 +87,7 @@ text-short c = record {
 abbrev binary-short : (c : Circuit) → Spelled V19 c 1 (binaryLatches c)
 binary-short c = record {
   counts = shortCounts (countsOf c);
-  latches = map (shortest 1) (binaryLatches c);
+  latches = map (withoutZeros 1) (binaryLatches c);
   all-counts = shortest-spells 5 9 (allCounts (countsOf c)) (omega arith) refl;
   all-latches = all-shortest 1 2 (binaryLatches c) (omega arith)
       (resets-long 1 (map oneLine (nexts (c .latches))) (c .resets) (map-long 1 oneLine (λ a. refl) (nexts (c .latches))));

@@ -12,7 +12,7 @@ use Rattle.plan.specs.declared.Refusal.{Refusal}
 use Rattle.plan.specs.Refusals.{Parse, got, refused, _then_}
 use Rattle.plan.specs.Literals.{most, beyond, varOf, inRange, isReset}
 use Rattle.plan.specs.Circuit.{literalOf}
-use Rattle.plan.specs.Bytes.{number, expect, endOf, Placed, goesOn, numbers, line, lines, latchLineAt, latchLines}
+use Rattle.plan.specs.Bytes.{number, expect, endOf, Placed, goesOn, numbers, line, lines, latchLineAt, latchLines, latchForm}
 
 -- the rows that are read, before the rest
 abbrev pub onRows : List (List ℕ) → Parse (List (List ℕ)) → Parse (List (List ℕ))
@@ -39,17 +39,17 @@ module _ (file : List ℕ) (k : ℕ) (d : Bool) (m : ℕ) where
 -- the same of lines of latches
 module _ (file : List ℕ) (k : ℕ) (d : Bool) (m more : ℕ) where
   pub latches-turn : (rows : List (List ℕ)) (n v : ℕ) (seen : List ℕ) (at : ℕ) (row : List ℕ) (next : ℕ)
-      → latchLineAt file k d m more v seen at ≡ got row next
-      → onRows rows (latchLines file k d m more (suc n) v seen at)
-      ≡ onRows (rows ++ (row ∷ [])) (latchLines file k d m more n (suc v) (seen ++ (varOf (literalOf row) ∷ [])) next)
+      → latchLineAt file (latchForm k d more) m v seen at ≡ got row next
+      → onRows rows (latchLines file (latchForm k d more) m (suc n) v seen at)
+      ≡ onRows (rows ++ (row ∷ [])) (latchLines file (latchForm k d more) m n (suc v) (seen ++ (varOf (literalOf row) ∷ [])) next)
   latches-turn rows n v seen at row next e =
-      rw e (on-one rows row (latchLines file k d m more n (suc v) (seen ++ (varOf (literalOf row) ∷ [])) next))
+      rw e (on-one rows row (latchLines file (latchForm k d more) m n (suc v) (seen ++ (varOf (literalOf row) ∷ [])) next))
 
-  pub latches-stop : (rows : List (List ℕ)) (n v : ℕ) (seen : List ℕ) (at : ℕ) (r : Refusal) → latchLineAt file k d m more v seen at ≡ refused r
-      → onRows rows (latchLines file k d m more (suc n) v seen at) ≡ refused r
+  pub latches-stop : (rows : List (List ℕ)) (n v : ℕ) (seen : List ℕ) (at : ℕ) (r : Refusal) → latchLineAt file (latchForm k d more) m v seen at ≡ refused r
+      → onRows rows (latchLines file (latchForm k d more) m (suc n) v seen at) ≡ refused r
   latches-stop rows n v seen at r e = rw e
 
-  pub latches-done : (rows : List (List ℕ)) (v : ℕ) (seen : List ℕ) (at : ℕ) → onRows rows (latchLines file k d m more zero v seen at) ≡ got rows at
+  pub latches-done : (rows : List (List ℕ)) (v : ℕ) (seen : List ℕ) (at : ℕ) → onRows rows (latchLines file (latchForm k d more) m zero v seen at) ≡ got rows at
   latches-done rows v seen at = ap (λ (x : List (List ℕ)). got x at) (append-nil rows)
 
 -- a line of exactly k + 1 numbers: the first, then a space or, after the last, the new line, then the others

@@ -10,7 +10,7 @@ use Rattle.plan.specs.declared.Counts.{Counts}
 use Rattle.plan.specs.declared.Version.{Version}
 use Rattle.plan.specs.declared.Version.the-variants.{V2007, V19}
 use Rattle.plan.specs.Circuit.{Circuit, countsOf, allNew, allInside, oneLine, latchLine, gateLine, literalOf, latchOf, gateOf, heads}
-use Rattle.plan.specs.Bytes.{lines, latchLines, resetAfter, linesOf, withResets, AllSpell}
+use Rattle.plan.specs.Bytes.{lines, latchLines, resetAfter, linesOf, withResets, AllSpell, latchForm}
 use Rattle.plan.specs.Header.{moreResets}
 use Rattle.plan.specs.Text.{textBody, textLines, textLatches}
 use Rattle.plan.specs.Reading.{WellFormed}
@@ -97,7 +97,7 @@ module _ (file : List ℕ) where
   pub text-took : (v : Version) (n : Counts) (at : ℕ) (c : Circuit) (e : ℕ) → textBody v file n at ≡ got c e → TextOk v file n at c e
   text-took v n at c e q =
       let t1 = then-got (lines file 1 true (n .M) (n .I) [] at) _ c e q in
-      let t2 = then-got (latchLines file 2 true (n .M) (moreResets v) (n .L) zero (heads (t1 .0)) (t1 .1)) _ c e (t1 .3) in
+      let t2 = then-got (latchLines file (latchForm 2 true (moreResets v)) (n .M) (n .L) zero (heads (t1 .0)) (t1 .1)) _ c e (t1 .3) in
       let t3 = then-got (lines file 1 false (n .M) (n .O) [] (t2 .1)) _ c e (t2 .3) in
       let t4 = then-got (lines file 1 false (n .M) (n .B) [] (t3 .1)) _ c e (t3 .3) in
       let t5 = then-got (lines file 1 false (n .M) (n .C) [] (t4 .1)) _ c e (t4 .3) in
@@ -167,8 +167,8 @@ module _ (file : List ℕ) where
       table-reads 1 true (c .M) oneLine (c .inputs) [] at _ k1
       (e ∙ assoc6 (linesOf q1) (linesOf lats) (linesOf q3) (linesOf q4) (linesOf q5) (linesOf q6) s) in
       let r2 = latches-reads file 2 true (c .M) (moreResets v) (omega arith) lats zero (heads q1) (r1 .0) _ (z .0) (r1 .2) in
-      let r2′ : latchLines file 2 true (c .M) (moreResets v) (length (c .latches)) zero (heads q1) (r1 .0) ≡ got lats (r2 .0)
-      = ap (λ (x : ℕ). latchLines file 2 true (c .M) (moreResets v) x zero (heads q1) (r1 .0)) (sym n2) ∙ r2 .1 in
+      let r2′ : latchLines file (latchForm 2 true (moreResets v)) (c .M) (length (c .latches)) zero (heads q1) (r1 .0) ≡ got lats (r2 .0)
+      = ap (λ (x : ℕ). latchLines file (latchForm 2 true (moreResets v)) (c .M) x zero (heads q1) (r1 .0)) (sym n2) ∙ r2 .1 in
       let r3 = using-reads (c .M) (c .outputs) (r2 .0) _ (w .outputs) (r2 .2) in
       let r4 = using-reads (c .M) (c .bads) (r3 .0) _ (w .bads) (r3 .2) in
       let r5 = using-reads (c .M) (c .constraints) (r4 .0) _ (w .constraints) (r4 .2) in

@@ -18,7 +18,7 @@ use Rattle.plan.specs.Literals.{litOf}
 use Rattle.plan.specs.Refusals.{stage, firstOf}
 use Rattle.plan.specs.Circuit.{Circuit}
 use Rattle.plan.specs.Binary.{binaryOrder}
-use Rattle.plan.specs.Given.{given, lentAlone, stages, orderStage}
+use Rattle.plan.specs.Given.{givenCircuit, lentAlone, stages, orderStage}
 use Rattle.plan.specs.Step.{Value, valueOf}
 use Rattle.laws.proofs.Reading.Runs.{order-exactly}
 use Rattle.laws.proofs.Running.Binary.{inner}
@@ -40,16 +40,16 @@ rewiring-accepted e c l o there low0 low1 size right =
     let a-is : n .A ≡ length (c .gates) = ap (λ (x : Counts). x .A) (l .counts) in
     let m-is : n .M ≡ c .M = ap (λ (x : Counts). x .M) (l .counts) in
     let left-is : leftAt n (e .gate) ≡ litOf (inner c + e .gate) = ap (λ (x : Counts). litOf (1 + x .I + x .L + e .gate)) (l .counts) in
-    let order : binaryOrder (given g) ≡ true = ap binaryOrder (l .holds) ∙ o in
+    let order : binaryOrder (givenCircuit g) ≡ true = ap binaryOrder (l .holds) ∙ o in
     let e1 : ltb (e .gate) (n .A) ≡ true = lt-ltb (e .gate) (n .A) (omega arith) in
     let e2 : leb (e .rhs0) (2 * n .M + 1) ≡ true = le-leb (e .rhs0) (2 * n .M + 1) (omega (arith, sum)) in
     let e3 : leb (e .rhs1) (2 * n .M + 1) ≡ true = le-leb (e .rhs1) (2 * n .M + 1) (omega (arith, sum)) in
     let e4 : ltb (e .rhs0) (leftAt n (e .gate)) ≡ true = lt-ltb _ _ (subst (λ (x : ℕ). e .rhs0 < x) (sym left-is) low0) in
     let e5 : ltb (e .rhs1) (leftAt n (e .gate)) ≡ true = lt-ltb _ _ (subst (λ (x : ℕ). e .rhs1 < x) (sym left-is) low1) in
     let e6 : eqb (length (e .values)) (n .M + 1) ≡ true = eq-eqb _ _ (size ∙ ap (λ (m : ℕ). m + 1) (sym m-is)) in
-    let e7 : wrongOn (given g) (e .values) ≡ none = ap (λ (x : Circuit). wrongOn x (e .values)) (l .holds) ∙ right in
+    let e7 : wrongOn (givenCircuit g) (e .values) ≡ none = ap (λ (x : Circuit). wrongOn x (e .values)) (l .holds) ∙ right in
     let lasts : List (Option Refusal)
-    = editStages n (e .gate) (e .rhs0) (e .rhs1) (length (e .values)) ++ (stage WrongValue (wrongOn (given g) (e .values)) ∷ []) in
+    = editStages n (e .gate) (e .rhs0) (e .rhs1) (length (e .values)) ++ (stage WrongValue (wrongOn (givenCircuit g) (e .values)) ∷ []) in
     let rest : firstOf (orderStage g ∷ lasts) ≡ none = rw (order, e1, e2, e3, e4, e5, e6, e7) in
     ap (λ (x : Option Refusal). rewiredBy x e .answer) (both-first (stages g (lentAlone g)) (orderStage g ∷ lasts) (l .fine) ∙ rest)
 
@@ -66,7 +66,7 @@ same-part xs ys a n h k same =
 
 module _ (e : RewireEntry) (d : rewiring e .answer ≡ stepped.Done) where
   abbrev c : Circuit
-  c = given (e .circuit)
+  c = givenCircuit (e .circuit)
 
   now-long : length (rewiring e .values) ≡ c .M + 1
   now-long = ap length (values-are e d) ∙ length-screen (edited e) (stateOn c (e .values)) (inputsOn c (e .values))
@@ -94,7 +94,7 @@ module _ (e : RewireEntry) (d : rewiring e .answer ≡ stepped.Done) where
       (omega (arith, done-edits e d .size, leaves-fit)) (λ u h. below-stays u (omega arith)))
 
   -- no value on the screen is wrong afterwards
-  pub right-after : wrongOn (given (after e)) (rewiring e .values) ≡ none
+  pub right-after : wrongOn (givenCircuit (after e)) (rewiring e .values) ≡ none
   right-after =
       ap (λ (x : Circuit). wrongOn x (rewiring e .values)) (holds-edited e d)
       ∙ screen-exactly (edited e) (edited-formed e d) (edited-in-order e d) (rewiring e .values) now-long .1

@@ -14,11 +14,11 @@ use Rattle.plan.specs.declared.Refusal.the-variants.{NotInOrder, BadVector, NoG
 use Rattle.plan.specs.declared.Stepped.the-variants as stepped
 use Rattle.plan.specs.Literals.{litOf}
 use Rattle.plan.specs.Refusals.{stage, firstOf}
-use Rattle.plan.specs.Circuit.{Gate, Circuit, Tables, countsOf, wordsToWork, against, short}
+use Rattle.plan.specs.Circuit.{Gate, Circuit, Tables, countsOf, wordsToWork, against, leastShort}
 use Rattle.plan.specs.Depends.{Depends}
 use Rattle.plan.specs.Reading.{WellFormed}
 use Rattle.plan.specs.Binary.{binaryOrder}
-use Rattle.plan.specs.Given.{Given, given, lentAlone, failingAt, failing, stages, orderStage}
+use Rattle.plan.specs.Given.{Given, givenCircuit, lentAlone, failingAt, failing, stages, orderStage}
 use Rattle.plan.specs.Step.{codeOf, valuesOf}
 use Rattle.plan.specs.Outcome.{put}
 use Rattle.laws.proofs.Reading.Common.{and-left, and-right}
@@ -52,22 +52,22 @@ withGates t gates = record {
 -- a circuit and an edit that are refused for nothing
 pub record Edits (e : RewireEntry) : Type 0 where
   pub fine : firstOf (stages (e .circuit) (lentAlone (e .circuit))) ≡ none
-  pub formed : WellFormed (given (e .circuit))
-  pub order : binaryOrder (given (e .circuit)) ≡ true
-  pub counts : countsOf (given (e .circuit)) ≡ e .circuit .counts
+  pub formed : WellFormed (givenCircuit (e .circuit))
+  pub order : binaryOrder (givenCircuit (e .circuit)) ≡ true
+  pub counts : countsOf (givenCircuit (e .circuit)) ≡ e .circuit .counts
   pub room : 3 * e .circuit .counts .A ≤ length (e .circuit .tables .gates)
   pub there : e .gate < e .circuit .counts .A
-  pub below0 : e .rhs0 < litOf (inner (given (e .circuit)) + e .gate)
-  pub below1 : e .rhs1 < litOf (inner (given (e .circuit)) + e .gate)
+  pub below0 : e .rhs0 < litOf (inner (givenCircuit (e .circuit)) + e .gate)
+  pub below1 : e .rhs1 < litOf (inner (givenCircuit (e .circuit)) + e .gate)
   pub size : length (e .values) ≡ e .circuit .counts .M + 1
-  pub right : wrongOn (given (e .circuit)) (e .values) ≡ none
+  pub right : wrongOn (givenCircuit (e .circuit)) (e .values) ≡ none
 
 module _ (e : RewireEntry) where
   abbrev g : Given
   g = e .circuit
 
   abbrev c : Circuit
-  c = given g
+  c = givenCircuit g
 
   abbrev n : Counts
   n = g .counts
@@ -139,7 +139,7 @@ module _ (e : RewireEntry) where
     values-are = ap (λ (o : Option Refusal). rewiredBy o e .values) nothing
 
     -- the tables hold the edited circuit
-    pub holds-edited : given after ≡ edited
+    pub holds-edited : givenCircuit after ≡ edited
     holds-edited = λ i. record {
       M = n .M;
       inputs = c .inputs;
@@ -151,7 +151,7 @@ module _ (e : RewireEntry) where
       gates = gates-edited i;
     }
       where
-        gates-edited : given after .gates ≡ rewiredGates (e .gate) (e .rhs0) (e .rhs1) (c .gates)
+        gates-edited : givenCircuit after .gates ≡ rewiredGates (e .gate) (e .rhs0) (e .rhs1) (c .gates)
         gates-edited =
             gates-rows (rewiring e .gates) (n .A)
             ∙ ap (λ (t : List ℕ). gatesAt t (n .A))
@@ -195,16 +195,16 @@ module _ (e : RewireEntry) where
         scratch-long =
             ap (λ (o : Option Refusal). length (rewiredBy o e .scratch)) nothing ∙ length-replicate {A = ℕ} (length (g .scratch)) 0
 
-        still-long : short (lentAlone after) ≡ none
+        still-long : leastShort (lentAlone after) ≡ none
         still-long =
             let t = g .tables in
-            (λ i. short (against 1 (wordsToWork n) (length (t .inputs) ∷ length (t .latches) ∷ length (t .outputs) ∷ gates-long i ∷ scratch-long i ∷ 0
+            (λ i. leastShort (against 1 (wordsToWork n) (length (t .inputs) ∷ length (t .latches) ∷ length (t .outputs) ∷ gates-long i ∷ scratch-long i ∷ 0
             ∷ length (t .resets) ∷ length (t .bads) ∷ length (t .constraints) ∷ [])))
             ∙ nothing-fine g (lentAlone g) (done-edits .fine) .room
 
     -- the values are those of a fresh step of the circuit that the tables hold then, on the inputs and the state that were on the screen
     pub values-fresh : (v : ℕ) → v < c .M + 1
-        → getD (rewiring e .values) v 0 ≡ codeOf (valuesOf (given after) (stateOn c (e .values)) (inputsOn c (e .values)) v)
+        → getD (rewiring e .values) v 0 ≡ codeOf (valuesOf (givenCircuit after) (stateOn c (e .values)) (inputsOn c (e .values)) v)
     values-fresh v h =
         ap (λ (l : List ℕ). getD l v 0) values-are ∙ screen-at edited (stateOn c (e .values)) (inputsOn c (e .values)) v h
         ∙ ap (λ (x : Circuit). codeOf (valuesOf x (stateOn c (e .values)) (inputsOn c (e .values)) v)) (sym holds-edited)

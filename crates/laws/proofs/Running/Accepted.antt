@@ -8,23 +8,22 @@ use borrow.Author.Tests.{leb-true}
 use lib.Dec.{eqb, leb}
 use lib.ListN.{length}
 use Rattle.plan.specs.Literals.{varOf, signOf, inRange}
-use Rattle.plan.specs.Circuit.{Latch, Gate, Circuit, oneLine, latchLine, gateLine, heads, vars, currents, lefts, definedIn, nexts, observed, roots}
+use Rattle.plan.specs.Circuit.{Latch, Gate, Circuit, oneLine, latchLine, gateLine, heads, vars, currentVars, leftVars, definedIn, nexts, observed, roots, leaves}
 use Rattle.plan.specs.Circuit.{rights, usedIn, has, allNew, inside, allInside}
 use Rattle.plan.specs.Depends.{settled}
 use Rattle.plan.specs.Reading.{WellFormed}
-use Rattle.plan.specs.Convert.{leaves}
 use Rattle.laws.proofs.Reading.Common.{and-left, and-right}
 use Rattle.laws.proofs.Reading.Members.{has-cases, distinct}
 use Rattle.laws.proofs.Reading.Cycles.{settled-exactly}
 use Rattle.laws.proofs.Running.Lists.{has-left, has-right, has-but, absent, distinct-cons, new-distinct, allIn, all-in}
 
 pub record Accepted (c : Circuit) : Type 0 where
-  pub once : distinct (leaves c ++ lefts (c .gates)) ≡ true
-  pub used-next : allIn (nexts (c .latches)) (leaves c ++ lefts (c .gates)) ≡ true
-  pub used-output : allIn (c .outputs) (leaves c ++ lefts (c .gates)) ≡ true
-  pub used-bad : allIn (c .bads) (leaves c ++ lefts (c .gates)) ≡ true
-  pub used-constraint : allIn (c .constraints) (leaves c ++ lefts (c .gates)) ≡ true
-  pub used-gate : allIn (rights (c .gates)) (leaves c ++ lefts (c .gates)) ≡ true
+  pub once : distinct (leaves c ++ leftVars (c .gates)) ≡ true
+  pub used-next : allIn (nexts (c .latches)) (leaves c ++ leftVars (c .gates)) ≡ true
+  pub used-output : allIn (c .outputs) (leaves c ++ leftVars (c .gates)) ≡ true
+  pub used-bad : allIn (c .bads) (leaves c ++ leftVars (c .gates)) ≡ true
+  pub used-constraint : allIn (c .constraints) (leaves c ++ leftVars (c .gates)) ≡ true
+  pub used-gate : allIn (rights (c .gates)) (leaves c ++ leftVars (c .gates)) ≡ true
   pub settles : (v : ℕ) → settled (c .gates) (length (c .gates)) v ≡ true
 
 -- a line that defines a literal within range does not define variable 0
@@ -48,41 +47,41 @@ vars-append [] ys = refl
 vars-append (x ∷ xs) ys = ap (λ (t : List ℕ). varOf x ∷ t) (vars-append xs ys)
 
 -- the constant, then what is defined
-pub leaves-lefts : (c : Circuit) → leaves c ++ lefts (c .gates) ≡ zero ∷ definedIn c
-leaves-lefts c = ap (λ (t : List ℕ). zero ∷ t) (append-assoc (vars (c .inputs)) (currents (c .latches)) (lefts (c .gates)))
+pub leaves-lefts : (c : Circuit) → leaves c ++ leftVars (c .gates) ≡ zero ∷ definedIn c
+leaves-lefts c = ap (λ (t : List ℕ). zero ∷ t) (append-assoc (vars (c .inputs)) (currentVars (c .latches)) (leftVars (c .gates)))
 
 -- literals in their ranges, none defined twice: the leaves and the gates are all different
 module _ (c : Circuit) (inputs : allInside true (c .M) (map oneLine (c .inputs)) ≡ true)
     (latches : allInside true (c .M) (map latchLine (c .latches)) ≡ true) (gates : allInside true (c .M) (map gateLine (c .gates)) ≡ true)
     (different : allNew [] (definedIn c) ≡ true) where
   zero-new : has 0 (definedIn c) ≡ false
-  zero-new = absent (has 0 (definedIn c)) (λ h. go h (has 0 (currents (c .latches) ++ lefts (c .gates))) refl)
+  zero-new = absent (has 0 (definedIn c)) (λ h. go h (has 0 (currentVars (c .latches) ++ leftVars (c .gates))) refl)
     where
-      gates-not : has 0 (lefts (c .gates)) ≡ true → ⊥
+      gates-not : has 0 (leftVars (c .gates)) ≡ true → ⊥
       gates-not = not-zero (c .M) (λ (g : Gate). g .lhs) (λ (g : Gate). g .rhs0 ∷ g .rhs1 ∷ []) (c .gates) gates
 
-      latches-not : has 0 (currents (c .latches)) ≡ true → ⊥
+      latches-not : has 0 (currentVars (c .latches)) ≡ true → ⊥
       latches-not = not-zero (c .M) (λ (l : Latch). l .current) (λ (l : Latch). l .next ∷ []) (c .latches) latches
 
       inputs-not : has 0 (vars (c .inputs)) ≡ true → ⊥
       inputs-not = not-zero (c .M) (λ (l : ℕ). l) (λ (l : ℕ). []) (c .inputs) inputs
 
-      go : has 0 (definedIn c) ≡ true → (t : Bool) → has 0 (currents (c .latches) ++ lefts (c .gates)) ≡ t → ⊥
-      go h true e = latches-not (has-but 0 (currents (c .latches)) (lefts (c .gates)) e (absent (has 0 (lefts (c .gates))) gates-not))
-      go h false e = inputs-not (has-but 0 (vars (c .inputs)) (currents (c .latches) ++ lefts (c .gates)) h e)
+      go : has 0 (definedIn c) ≡ true → (t : Bool) → has 0 (currentVars (c .latches) ++ leftVars (c .gates)) ≡ t → ⊥
+      go h true e = latches-not (has-but 0 (currentVars (c .latches)) (leftVars (c .gates)) e (absent (has 0 (leftVars (c .gates))) gates-not))
+      go h false e = inputs-not (has-but 0 (vars (c .inputs)) (currentVars (c .latches) ++ leftVars (c .gates)) h e)
 
-  pub all-once : distinct (leaves c ++ lefts (c .gates)) ≡ true
+  pub all-once : distinct (leaves c ++ leftVars (c .gates)) ≡ true
   all-once = ap distinct (leaves-lefts c) ∙ (distinct-cons zero (definedIn c) zero-new (new-distinct [] (definedIn c) different .0))
 
 -- what is used is defined: it is among the leaves and the gates
 module _ (c : Circuit) (defined : (v : ℕ) → has v (usedIn c) ≡ true → has v (zero ∷ definedIn c) ≡ true) where
-  used-in : (ls : List ℕ) → ((v : ℕ) → has v (vars ls) ≡ true → has v (usedIn c) ≡ true) → allIn ls (leaves c ++ lefts (c .gates)) ≡ true
+  used-in : (ls : List ℕ) → ((v : ℕ) → has v (vars ls) ≡ true → has v (usedIn c) ≡ true) → allIn ls (leaves c ++ leftVars (c .gates)) ≡ true
   used-in ls h = rw (leaves-lefts c) (all-in ls (zero ∷ definedIn c) (λ v k. defined v (h v k)))
 
   has-roots : (v : ℕ) → has v (vars (roots c)) ≡ true → has v (usedIn c) ≡ true
   has-roots v k = rw (vars-append (roots c) (rights (c .gates))) (has-left v (vars (roots c)) (vars (rights (c .gates))) k)
 
-  pub nexts-in : allIn (nexts (c .latches)) (leaves c ++ lefts (c .gates)) ≡ true
+  pub nexts-in : allIn (nexts (c .latches)) (leaves c ++ leftVars (c .gates)) ≡ true
   nexts-in =
       used-in (nexts (c .latches))
       (λ v k. has-roots v (rw (vars-append (nexts (c .latches)) (observed c))
@@ -92,25 +91,25 @@ module _ (c : Circuit) (defined : (v : ℕ) → has v (usedIn c) ≡ true → ha
   has-observed v k =
       has-roots v (rw (vars-append (nexts (c .latches)) (observed c)) (has-right v (vars (nexts (c .latches))) (vars (observed c)) k))
 
-  pub outputs-in : allIn (c .outputs) (leaves c ++ lefts (c .gates)) ≡ true
+  pub outputs-in : allIn (c .outputs) (leaves c ++ leftVars (c .gates)) ≡ true
   outputs-in =
       used-in (c .outputs)
       (λ v k. has-observed v (rw (vars-append (c .outputs) (c .bads ++ c .constraints))
       (has-left v (vars (c .outputs)) (vars (c .bads ++ c .constraints)) k)))
 
-  pub bads-in : allIn (c .bads) (leaves c ++ lefts (c .gates)) ≡ true
+  pub bads-in : allIn (c .bads) (leaves c ++ leftVars (c .gates)) ≡ true
   bads-in =
       used-in (c .bads)
       (λ v k. has-observed v (rw (vars-append (c .outputs) (c .bads ++ c .constraints), vars-append (c .bads) (c .constraints))
       (has-right v (vars (c .outputs)) (vars (c .bads) ++ vars (c .constraints)) (has-left v (vars (c .bads)) (vars (c .constraints)) k))))
 
-  pub constraints-in : allIn (c .constraints) (leaves c ++ lefts (c .gates)) ≡ true
+  pub constraints-in : allIn (c .constraints) (leaves c ++ leftVars (c .gates)) ≡ true
   constraints-in =
       used-in (c .constraints)
       (λ v k. has-observed v (rw (vars-append (c .outputs) (c .bads ++ c .constraints), vars-append (c .bads) (c .constraints))
       (has-right v (vars (c .outputs)) (vars (c .bads) ++ vars (c .constraints)) (has-right v (vars (c .bads)) (vars (c .constraints)) k))))
 
-  pub rights-in : allIn (rights (c .gates)) (leaves c ++ lefts (c .gates)) ≡ true
+  pub rights-in : allIn (rights (c .gates)) (leaves c ++ leftVars (c .gates)) ≡ true
   rights-in =
       used-in (rights (c .gates))
       (λ v k. rw (vars-append (roots c) (rights (c .gates))) (has-right v (vars (roots c)) (vars (rights (c .gates))) k))

@@ -8,9 +8,9 @@ use borrow.Author.Tests.{leb-true, leb-false}
 use lib.Dec.{leb}
 use lib.ListN.{length, getD, length-append, List·getD-eq-default}
 use Rattle.plan.specs.Literals.{varOf, signOf}
-use Rattle.plan.specs.Circuit.{Circuit, lefts, nexts}
+use Rattle.plan.specs.Circuit.{Circuit, leftVars, nexts, leaves}
 use Rattle.plan.specs.Depends.{find}
-use Rattle.plan.specs.Convert.{leaves, sorted, numbered, renumber, convert}
+use Rattle.plan.specs.Convert.{sorted, numbered, renumber, convert}
 use Rattle.plan.specs.Step.{Value, vx, signedValue, lit, gateValue, leafValue, valuesOf, outputsOf, badsOf, constraintsOf, nextOf}
 use Rattle.laws.proofs.Running.Values.{Solves, unique}
 use Rattle.laws.proofs.Running.Lists.{distinct-left, has-at, index-at, allIn, in-head, in-tail}
@@ -44,8 +44,8 @@ module _ (c : Circuit) (ok : Accepted c) (s i : List Value) (ls : length s ≡ l
   before-leaf v h =
       let h′ : v < length (leaves c) = omega (arith, length-leaves c) in
       let u = getD (leaves c) v 0 in
-      look-front before (leaves c) (lefts (sorted c)) v h′ ∙ leaf-holds c ok s i u (has-at (leaves c) v h′)
-      ∙ ap (λ (n : ℕ). getD (given s i) n vx) (index-at (leaves c) (distinct-left (leaves c) (lefts (c .gates)) (ok .once)) v h′)
+      look-front before (leaves c) (leftVars (sorted c)) v h′ ∙ leaf-holds c ok s i u (has-at (leaves c) v h′)
+      ∙ ap (λ (n : ℕ). getD (given s i) n vx) (index-at (leaves c) (distinct-left (leaves c) (leftVars (c .gates)) (ok .once)) v h′)
 
   after-solves : Solves (convert c .gates) (leafValue (convert c) s i) (look before (numbered c))
   after-solves v = low (leb (inner c) v) refl
@@ -75,15 +75,15 @@ module _ (c : Circuit) (ok : Accepted c) (s i : List Value) (ls : length s ≡ l
       sym (unique (convert c .gates) (leafValue (convert c) s i) (look before (numbered c)) after-solves (length (convert c .gates)) v
       (settled-binary (inner c) (convert c .gates) (gates-binary c) v))
 
-  lits-renumber : (ls : List ℕ) → allIn ls (leaves c ++ lefts (c .gates)) ≡ true
+  lits-renumber : (ls : List ℕ) → allIn ls (leaves c ++ leftVars (c .gates)) ≡ true
       → map (lit (valuesOf (convert c) s i)) (map (renumber (numbered c)) ls) ≡ map (lit (valuesOf c s i)) ls
   unfolding before
   lits-renumber [] a = refl
   lits-renumber (l ∷ ls) a =
       ap₂ (λ (x : Value) (t : List Value). x ∷ t)
       (ap (signedValue (signOf (renumber (numbered c) l))) (after-values (varOf (renumber (numbered c) l)))
-      ∙ lit-renumber before (numbered c) l (gets-number c ok (varOf l) (in-head l ls (leaves c ++ lefts (c .gates)) a)))
-      (lits-renumber ls (in-tail l ls (leaves c ++ lefts (c .gates)) a))
+      ∙ lit-renumber before (numbered c) l (gets-number c ok (varOf l) (in-head l ls (leaves c ++ leftVars (c .gates)) a)))
+      (lits-renumber ls (in-tail l ls (leaves c ++ leftVars (c .gates)) a))
 
   pub convert-outputs : outputsOf (convert c) s i ≡ outputsOf c s i
   convert-outputs = lits-renumber (c .outputs) (ok .used-output)

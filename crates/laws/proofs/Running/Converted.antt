@@ -6,8 +6,8 @@ use mathlib.Core.List.{List, [], _∷_, _++_, map, append-nil}
 use native.Mathlib.Omega.{arith}
 use lib.ListN.{length, length-append, length-map}
 use Rattle.plan.specs.Literals.{varOf}
-use Rattle.plan.specs.Circuit.{Gate, Latch, Circuit, vars, currents, lefts, nexts, has}
-use Rattle.plan.specs.Convert.{leaves, sorted, numbered, index, renumber, renumberGates, convert}
+use Rattle.plan.specs.Circuit.{Gate, Latch, Circuit, vars, currentVars, leftVars, nexts, has, leaves, index}
+use Rattle.plan.specs.Convert.{sorted, numbered, renumber, renumberGates, convert}
 use Rattle.laws.proofs.Reading.Runs.{upFrom, vars-lits, currents-latches, nexts-latches, length-lits, length-latches, length-nexts}
 use Rattle.laws.proofs.Running.Lists.{index-front, allIn, in-head, in-tail}
 use Rattle.laws.proofs.Running.Accepted.{Accepted}
@@ -21,17 +21,17 @@ length-vars : (ls : List ℕ) → length (vars ls) ≡ length ls
 length-vars [] = refl
 length-vars (l ∷ ls) = ap suc (length-vars ls)
 
-length-currents : (ls : List Latch) → length (currents ls) ≡ length ls
+length-currents : (ls : List Latch) → length (currentVars ls) ≡ length ls
 length-currents [] = refl
 length-currents (l ∷ ls) = ap suc (length-currents ls)
 
-pub length-renumberGates : (o : List ℕ) (u : ℕ) (gs : List Gate) → length (renumberGates o u gs) ≡ length (lefts gs)
+pub length-renumberGates : (o : List ℕ) (u : ℕ) (gs : List Gate) → length (renumberGates o u gs) ≡ length (leftVars gs)
 length-renumberGates o u [] = refl
 length-renumberGates o u (g ∷ gs) = ap suc (length-renumberGates o (suc u) gs)
 
 pub length-leaves : (c : Circuit) → length (leaves c) ≡ inner c
 length-leaves c =
-    omega (arith, length-append (vars (c .inputs)) (currents (c .latches)), length-vars (c .inputs), length-currents (c .latches))
+    omega (arith, length-append (vars (c .inputs)) (currentVars (c .latches)), length-vars (c .inputs), length-currents (c .latches))
 
 module _ (c : Circuit) where
   abbrev nexts′ : List ℕ
@@ -61,23 +61,23 @@ module _ (c : Circuit) where
 
   pub length-numbered : length (numbered c) ≡ inner c + length (convert c .gates)
   length-numbered =
-      length-append (leaves c) (lefts (sorted c))
+      length-append (leaves c) (leftVars (sorted c))
       ∙ ap₂ _+_ (length-leaves c) (sym (length-renumberGates (numbered c) (inner c) (sorted c)))
 
 module _ (c : Circuit) (ok : Accepted c) where
   -- every used variable has a number
-  pub gets-number : (v : ℕ) → has v (leaves c ++ lefts (c .gates)) ≡ true → has v (numbered c) ≡ true
+  pub gets-number : (v : ℕ) → has v (leaves c ++ leftVars (c .gates)) ≡ true → has v (numbered c) ≡ true
   gets-number v h = settled-numbered c (ok .used-gate) v h (ok .settles v)
 
-  bounded : (ls : List ℕ) → allIn ls (leaves c ++ lefts (c .gates)) ≡ true
+  bounded : (ls : List ℕ) → allIn ls (leaves c ++ leftVars (c .gates)) ≡ true
       → Bounded (inner c + length (convert c .gates)) (map (renumber (numbered c)) ls)
   bounded [] a = tt
   bounded (l ∷ ls) a =
-      let h : has (varOf l) (numbered c) ≡ true = gets-number (varOf l) (in-head l ls (leaves c ++ lefts (c .gates)) a) in
+      let h : has (varOf l) (numbered c) ≡ true = gets-number (varOf l) (in-head l ls (leaves c ++ leftVars (c .gates)) a) in
       let k : index (varOf l) (numbered c) < length (numbered c)
       = subst (λ (o : List ℕ). index (varOf l) o < length (numbered c)) (append-nil (numbered c))
       (index-front (varOf l) (numbered c) [] h) in
-      (omega (arith, k, renumber-half (numbered c) l, length-numbered c), bounded ls (in-tail l ls (leaves c ++ lefts (c .gates)) a))
+      (omega (arith, k, renumber-half (numbered c) l, length-numbered c), bounded ls (in-tail l ls (leaves c ++ leftVars (c .gates)) a))
 
   pub convert-ordered : Ordered (convert c)
   convert-ordered = record {

@@ -9,7 +9,7 @@ use Rattle.plan.specs.Circuit.{Circuit, nexts}
 use Rattle.plan.specs.Reading.{readFile, WellFormed}
 use Rattle.plan.specs.Convert.{convert}
 use Rattle.plan.specs.Reduce.{reduce}
-use Rattle.plan.specs.Step.{Value, outputsOf, badsOf, constraintsOf, nextOf, Step, run, first}
+use Rattle.plan.specs.Step.{Value, outputsOf, badsOf, constraintsOf, nextOf, Step, run, firstState}
 use Rattle.laws.proofs.Reading.Differences.{Bytes}
 use Rattle.laws.proofs.Reading.Exactly.{sound, formed}
 use Rattle.laws.proofs.Running.Refinement.{Les, les-refl}
@@ -23,7 +23,7 @@ use Rattle.laws.proofs.Running.WithoutX.{NoX, NoXs, les-eq, lits-nox}
 abbrev after : Circuit → Circuit
 after c = reduce (convert c)
 
-same-first : (c : Circuit) → first c ≡ first (after c)
+same-first : (c : Circuit) → firstState c ≡ firstState (after c)
 same-first c = sym (first-convert c)
 
 same-inputs : (is js : List (List Value)) → Replaced is js → NoXs is → is ≡ js
@@ -52,36 +52,36 @@ module _ (c : Circuit) (ok : Accepted c) where
 -- demand 3, from any state that replaces x of the resets in any way: with x in the input vectors replaced in any way, at every step each
 -- output, bad state, constraint and latch that was 0 or 1 is the same after conversion and reduction
 pub demand-three-from : (c : Circuit) → WellFormed c → (is js : List (List Value)) → Sized (length (c .inputs)) is → Replaced is js
-    → (s : List Value) → Les (first c) s
-    → Kept (run c (first c) is) (run (reduce (convert c)) s js)
+    → (s : List Value) → Les (firstState c) s
+    → Kept (run c (firstState c) is) (run (reduce (convert c)) s js)
 demand-three-from c w is js z r s start =
-    subst (λ (t : List Step). Kept t (run (after c) s js)) (run-converted c (accepted c w) is z (first c) (first-length c w))
-    (run-reduced (convert c) (convert-ordered c (accepted c w)) is js r (first c) s start)
+    subst (λ (t : List Step). Kept t (run (after c) s js)) (run-converted c (accepted c w) is z (firstState c) (first-length c w))
+    (run-reduced (convert c) (convert-ordered c (accepted c w)) is js r (firstState c) s start)
 
 -- demand 3: from the resets, with x in the input vectors replaced in any way, at every step each output, bad state, constraint and latch
 -- that was 0 or 1 is the same after conversion and reduction; if the input vectors hold no x and no reset is x, so is every step
 pub demand-three : (c : Circuit) → WellFormed c → (is js : List (List Value)) → Sized (length (c .inputs)) is → Replaced is js
-    → Kept (run c (first c) is) (run (reduce (convert c)) (first (reduce (convert c))) js)
-    × (NoXs is → NoX (first c) → run c (first c) is ≡ run (reduce (convert c)) (first (reduce (convert c))) js)
+    → Kept (run c (firstState c) is) (run (reduce (convert c)) (firstState (reduce (convert c))) js)
+    × (NoXs is → NoX (firstState c) → run c (firstState c) is ≡ run (reduce (convert c)) (firstState (reduce (convert c))) js)
 demand-three c w is js z r = (kept js r, same)
   where
-    start : Les (first c) (first (after c))
-    start = subst (λ (t : List Value). Les (first c) t) (same-first c) (les-refl (first c))
+    start : Les (firstState c) (firstState (after c))
+    start = subst (λ (t : List Value). Les (firstState c) t) (same-first c) (les-refl (firstState c))
 
-    kept : (js : List (List Value)) → Replaced is js → Kept (run c (first c) is) (run (after c) (first (after c)) js)
-    kept js r = demand-three-from c w is js z r (first (after c)) start
+    kept : (js : List (List Value)) → Replaced is js → Kept (run c (firstState c) is) (run (after c) (firstState (after c)) js)
+    kept js r = demand-three-from c w is js z r (firstState (after c)) start
 
-    same : NoXs is → NoX (first c) → run c (first c) is ≡ run (after c) (first (after c)) js
+    same : NoXs is → NoX (firstState c) → run c (firstState c) is ≡ run (after c) (firstState (after c)) js
     same x f =
         let e = same-inputs is js r x in
-        run-same c (accepted c w) is z x (first c) (first (after c)) (first-length c w) f (same-first c)
+        run-same c (accepted c w) is z x (firstState c) (firstState (after c)) (first-length c w) f (same-first c)
         (kept is (subst (λ (t : List (List Value)). Replaced is t) (sym e) r))
-        ∙ ap (run (after c) (first (after c))) e
+        ∙ ap (run (after c) (firstState (after c))) e
 
 -- the same of every file that the reader accepts
 pub demand-three-file : (v : Version) (file lengths : List ℕ) → Bytes file → (c : Circuit) (start : ℕ) → readFile v file lengths ≡ got c start
     → (is js : List (List Value)) → Sized (length (c .inputs)) is → Replaced is js
-    → Kept (run c (first c) is) (run (reduce (convert c)) (first (reduce (convert c))) js)
-    × (NoXs is → NoX (first c) → run c (first c) is ≡ run (reduce (convert c)) (first (reduce (convert c))) js)
+    → Kept (run c (firstState c) is) (run (reduce (convert c)) (firstState (reduce (convert c))) js)
+    × (NoXs is → NoX (firstState c) → run c (firstState c) is ≡ run (reduce (convert c)) (firstState (reduce (convert c))) js)
 demand-three-file v file lengths bytes c start q =
     demand-three c (formed v file c (drop start file) (sound v file lengths bytes c start q .0))

@@ -6,7 +6,7 @@ use mathlib.Core.Option.{Option, none, some}
 use mathlib.Core.List.{List, [], _∷_, _++_, map}
 use borrow.Author.Tests.{not-true}
 use Rattle.plan.specs.Literals.{varOf}
-use Rattle.plan.specs.Circuit.{Circuit, oneLine, latchLine, gateLine, literalOf, heads, vars, currents, lefts, definedIn, has, allNew}
+use Rattle.plan.specs.Circuit.{Circuit, oneLine, latchLine, gateLine, literalOf, heads, vars, currentVars, leftVars, definedIn, has, allNew}
 use Rattle.plan.specs.Bytes.{twice}
 use Rattle.plan.specs.Given.{placed, orElse, twiceOf, twiceIn}
 use Rattle.laws.proofs.Reading.Common.{and-left, and-right}
@@ -33,8 +33,8 @@ new-once t seen (row ∷ rows) h =
 pub different-once : (c : Circuit) → allNew [] (definedIn c) ≡ true → twiceIn c ≡ none
 different-once c h =
     let ins = vars (c .inputs) in
-    let lats = currents (c .latches) in
-    let later = new-second [] ins (lats ++ lefts (c .gates)) h in
-    or-none _ _ (new-once 1 [] (map oneLine (c .inputs)) (new-first [] ins (lats ++ lefts (c .gates)) h))
-    (or-none _ _ (new-once 2 ins (map latchLine (c .latches)) (new-first ins lats (lefts (c .gates)) later))
-    (new-once 4 (ins ++ lats) (map gateLine (c .gates)) (new-second ins lats (lefts (c .gates)) later)))
+    let lats = currentVars (c .latches) in
+    let later = new-second [] ins (lats ++ leftVars (c .gates)) h in
+    or-none _ _ (new-once 1 [] (map oneLine (c .inputs)) (new-first [] ins (lats ++ leftVars (c .gates)) h))
+    (or-none _ _ (new-once 2 ins (map latchLine (c .latches)) (new-first ins lats (leftVars (c .gates)) later))
+    (new-once 4 (ins ++ lats) (map gateLine (c .gates)) (new-second ins lats (leftVars (c .gates)) later)))

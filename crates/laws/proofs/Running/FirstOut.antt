@@ -7,9 +7,9 @@ use mathlib.Core.List.{List, [], _∷_, _++_}
 use native.Mathlib.Omega.{arith}
 use lib.ListN.{length}
 use Rattle.plan.specs.Literals.{varOf}
-use Rattle.plan.specs.Circuit.{Gate, Circuit, lefts, rights, has}
+use Rattle.plan.specs.Circuit.{Gate, Circuit, leftVars, rights, has, leaves}
 use Rattle.plan.specs.Depends.{settled, firstStuck, cyclicIn}
-use Rattle.plan.specs.Convert.{leaves, numbered}
+use Rattle.plan.specs.Convert.{numbered}
 use Rattle.laws.proofs.Reading.Members.{has-self, has-later, distinct}
 use Rattle.laws.proofs.Running.Lists.{has-right, allIn}
 use Rattle.laws.proofs.Running.Settled.{numbered-settled, settled-numbered}
@@ -39,16 +39,16 @@ out-append-some o (g ∷ gs) hs v e = go (has (varOf (g .lhs)) o) e (out-append-
     go false p f = p
 
 -- what is in o is what settles
-out-stuck : (o : List ℕ) (all gs : List Gate) → ((v : ℕ) → has v (lefts gs) ≡ true → has v o ≡ settled all (length all) v)
+out-stuck : (o : List ℕ) (all gs : List Gate) → ((v : ℕ) → has v (leftVars gs) ≡ true → has v o ≡ settled all (length all) v)
     → firstOut o gs ≡ firstStuck all gs
 out-stuck o all [] h = refl
 out-stuck o all (g ∷ gs) h =
-    ap₂ (λ (b : Bool) (r : Option ℕ). cond b r (some (varOf (g .lhs)))) (h (varOf (g .lhs)) (has-self (varOf (g .lhs)) (lefts gs)))
-    (out-stuck o all gs (λ v k. h v (has-later v (varOf (g .lhs)) (lefts gs) k)))
+    ap₂ (λ (b : Bool) (r : Option ℕ). cond b r (some (varOf (g .lhs)))) (h (varOf (g .lhs)) (has-self (varOf (g .lhs)) (leftVars gs)))
+    (out-stuck o all gs (λ v k. h v (has-later v (varOf (g .lhs)) (leftVars gs) k)))
 
-module _ (c : Circuit) (once : distinct (leaves c ++ lefts (c .gates)) ≡ true)
-    (used : allIn (rights (c .gates)) (leaves c ++ lefts (c .gates)) ≡ true) where
-  settled-is : (v : ℕ) → has v (leaves c ++ lefts (c .gates)) ≡ true → has v (numbered c) ≡ settled (c .gates) (length (c .gates)) v
+module _ (c : Circuit) (once : distinct (leaves c ++ leftVars (c .gates)) ≡ true)
+    (used : allIn (rights (c .gates)) (leaves c ++ leftVars (c .gates)) ≡ true) where
+  settled-is : (v : ℕ) → has v (leaves c ++ leftVars (c .gates)) ≡ true → has v (numbered c) ≡ settled (c .gates) (length (c .gates)) v
   settled-is v h = go (has v (numbered c)) refl (settled (c .gates) (length (c .gates)) v) refl
     where
       go : (x : Bool) → has v (numbered c) ≡ x → (y : Bool) → settled (c .gates) (length (c .gates)) v ≡ y → x ≡ y
@@ -57,7 +57,7 @@ module _ (c : Circuit) (once : distinct (leaves c ++ lefts (c .gates)) ≡ true)
       go false e false q = refl
 
   -- the place of 8, by the scan
-  pub cyclic-out : cyclicIn c ≡ firstOut (leaves c ++ lefts (scanned (c .gates) (length (c .gates)) (leaves c))) (c .gates)
+  pub cyclic-out : cyclicIn c ≡ firstOut (leaves c ++ leftVars (scanned (c .gates) (length (c .gates)) (leaves c))) (c .gates)
   cyclic-out =
-      sym (ap (λ (q : List Gate). firstOut (leaves c ++ lefts q) (c .gates)) (sym (sorted-scanned c once))
-      ∙ out-stuck (numbered c) (c .gates) (c .gates) (λ v k. settled-is v (has-right v (leaves c) (lefts (c .gates)) k)))
+      sym (ap (λ (q : List Gate). firstOut (leaves c ++ leftVars q) (c .gates)) (sym (sorted-scanned c once))
+      ∙ out-stuck (numbered c) (c .gates) (c .gates) (λ v k. settled-is v (has-right v (leaves c) (leftVars (c .gates)) k)))

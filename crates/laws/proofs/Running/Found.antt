@@ -7,7 +7,7 @@ use mathlib.Core.List.{List, [], _∷_, List·Memᴰ, List·Memᴰ·head, List·
 use borrow.Author.Tests.{eqb-true, eqb-false, eq-eqb, ne-eqb}
 use lib.Dec.{eqb}
 use Rattle.plan.specs.Literals.{varOf}
-use Rattle.plan.specs.Circuit.{Gate, lefts, rights, has}
+use Rattle.plan.specs.Circuit.{Gate, leftVars, rights, has}
 use Rattle.plan.specs.Depends.{find}
 use Rattle.laws.proofs.Reading.Members.{distinct}
 use Rattle.laws.proofs.Running.Lists.{distinct-head, distinct-tail, allIn, in-head, in-tail}
@@ -31,7 +31,7 @@ all-both P Q (g ∷ gs) a b = ((a .0, b .0), all-both P Q gs (a .1) (b .1))
 
 -- the gate of a variable
 abbrev pub FindSays : ℕ → List Gate → Option Gate → Type 1
-FindSays v gs none = (_≡_ {A = Bool} (has v (lefts gs)) false) × Unit {1}
+FindSays v gs none = (_≡_ {A = Bool} (has v (leftVars gs)) false) × Unit {1}
 FindSays v gs (some g) = (varOf (g .lhs) ≡ v) × ((P : Gate → Type 0) → AllG P gs → P g)
 
 find-past : (v : ℕ) (g : Gate) (gs : List Gate) → eqb (varOf (g .lhs)) v ≡ false → (r : Option Gate) → FindSays v gs r
@@ -64,20 +64,20 @@ pub or-none : (a b : Bool) → (a || b) ≡ false → (a ≡ false) × (b ≡ fa
 or-none true b h = absurd (false≢true (sym h))
 or-none false b h = (refl, h)
 
-other-left : (x : ℕ) (gs : List Gate) → has x (lefts gs) ≡ false → AllG (λ g. eqb x (varOf (g .lhs)) ≡ false) gs
+other-left : (x : ℕ) (gs : List Gate) → has x (leftVars gs) ≡ false → AllG (λ g. eqb x (varOf (g .lhs)) ≡ false) gs
 other-left x [] h = tt
 other-left x (g ∷ gs) h = (
-  ne-eqb x (varOf (g .lhs)) (λ e. eqb-false (varOf (g .lhs)) x (or-none (eqb (varOf (g .lhs)) x) (has x (lefts gs)) h .0) (sym e)),
-  other-left x gs (or-none (eqb (varOf (g .lhs)) x) (has x (lefts gs)) h .1),
+  ne-eqb x (varOf (g .lhs)) (λ e. eqb-false (varOf (g .lhs)) x (or-none (eqb (varOf (g .lhs)) x) (has x (leftVars gs)) h .0) (sym e)),
+  other-left x gs (or-none (eqb (varOf (g .lhs)) x) (has x (leftVars gs)) h .1),
 )
 
-pub found-own : (gs : List Gate) → distinct (lefts gs) ≡ true → AllG (λ g. find (varOf (g .lhs)) gs ≡ some g) gs
+pub found-own : (gs : List Gate) → distinct (leftVars gs) ≡ true → AllG (λ g. find (varOf (g .lhs)) gs ≡ some g) gs
 found-own [] h = tt
 found-own (g ∷ gs) h = (
   rw (eq-eqb (varOf (g .lhs)) (varOf (g .lhs)) refl),
   all-map (λ j. (eqb (varOf (g .lhs)) (varOf (j .lhs)) ≡ false) × (find (varOf (j .lhs)) gs ≡ some j))
       (λ j. find (varOf (j .lhs)) (g ∷ gs) ≡ some j) (λ j t. rw (t .0) (t .1)) gs
       (all-both (λ j. eqb (varOf (g .lhs)) (varOf (j .lhs)) ≡ false) (λ j. find (varOf (j .lhs)) gs ≡ some j) gs
-      (other-left (varOf (g .lhs)) gs (distinct-head (varOf (g .lhs)) (lefts gs) h))
-      (found-own gs (distinct-tail (varOf (g .lhs)) (lefts gs) h))),
+      (other-left (varOf (g .lhs)) gs (distinct-head (varOf (g .lhs)) (leftVars gs) h))
+      (found-own gs (distinct-tail (varOf (g .lhs)) (leftVars gs) h))),
 )

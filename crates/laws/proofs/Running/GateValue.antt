@@ -6,10 +6,9 @@ use mathlib.Core.Option.{some}
 use mathlib.Core.List.{List, List·Memᴰ}
 use lib.ListN.{length}
 use Rattle.plan.specs.Literals.{varOf}
-use Rattle.plan.specs.Circuit.{Gate, Circuit, lefts, has}
+use Rattle.plan.specs.Circuit.{Gate, Circuit, leftVars, has, leaves}
 use Rattle.plan.specs.Depends.{find}
 use Rattle.plan.specs.Reading.{WellFormed}
-use Rattle.plan.specs.Convert.{leaves}
 use Rattle.plan.specs.Step.{Value, and, lit, gateValue, leafValue, valuesOf}
 use Rattle.laws.proofs.Reading.Cycles.{none-of}
 use Rattle.laws.proofs.Running.Values.{Solves, value-solves}
@@ -25,7 +24,7 @@ module _ (c : Circuit) (ok : Accepted c) where
   values-solve s i = value-solves (c .gates) (leafValue c s i) (length (c .gates)) (ok .settles)
 
   pub gates-found : AllG (λ g. find (varOf (g .lhs)) (c .gates) ≡ some g) (c .gates)
-  gates-found = found-own (c .gates) (distinct-right (leaves c) (lefts (c .gates)) (ok .once))
+  gates-found = found-own (c .gates) (distinct-right (leaves c) (leftVars (c .gates)) (ok .once))
 
   pub gates-hold : (s i : List Value) → AllG (GateEq (valuesOf c s i)) (c .gates)
   gates-hold s i =
@@ -36,7 +35,7 @@ module _ (c : Circuit) (ok : Accepted c) where
   pub leaf-holds : (s i : List Value) (v : ℕ) → has v (leaves c) ≡ true → valuesOf c s i v ≡ leafValue c s i v
   leaf-holds s i v h =
       values-solve s i v ∙ ap (gateValue (valuesOf c s i) (leafValue c s i v))
-      (none-of v (c .gates) (distinct-apart v (leaves c) (lefts (c .gates)) (ok .once) h))
+      (none-of v (c .gates) (distinct-apart v (leaves c) (leftVars (c .gates)) (ok .once) h))
 
 module _ (c : Circuit) (ok : WellFormed c) where
   -- every gate of the list is the gate of its left side's variable

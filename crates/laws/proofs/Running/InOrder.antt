@@ -7,11 +7,10 @@ use native.Mathlib.Omega.{arith}
 use borrow.Author.Tests.{leb-true, le-leb}
 use lib.ListN.{length}
 use Rattle.plan.specs.Literals.{most, varOf, inRange}
-use Rattle.plan.specs.Circuit.{Gate, Latch, Circuit, oneLine, latchLine, vars, currents, definedIn, usedIn, nexts, roots, rights, has, allNew, inside}
+use Rattle.plan.specs.Circuit.{Gate, Latch, Circuit, oneLine, latchLine, vars, currentVars, definedIn, usedIn, nexts, roots, rights, has, allNew, inside, leaves}
 use Rattle.plan.specs.Circuit.{allInside, observed, resetsOk}
 use Rattle.plan.specs.Depends.{Depends}
 use Rattle.plan.specs.Reading.{WellFormed}
-use Rattle.plan.specs.Convert.{leaves}
 use Rattle.laws.proofs.Reading.Common.{and-left, and-right, and-intro}
 use Rattle.laws.proofs.Reading.Members.{has-cases}
 use Rattle.laws.proofs.Reading.Cycles.{settled-exactly}
@@ -84,9 +83,9 @@ module _ (c : Circuit) (b : BinaryOrder c) where
   inputs-up : vars (c .inputs) ≡ upFrom 1 (length (c .inputs))
   inputs-up = ap vars (b .inputs) ∙ vars-lits 1 (length (c .inputs))
 
-  latches-up : currents (c .latches) ≡ upFrom (1 + length (c .inputs)) (length (c .latches))
+  latches-up : currentVars (c .latches) ≡ upFrom (1 + length (c .inputs)) (length (c .latches))
   latches-up =
-      ap currents (b .latches) ∙ currents-latches (1 + length (c .inputs)) (nexts (c .latches))
+      ap currentVars (b .latches) ∙ currents-latches (1 + length (c .inputs)) (nexts (c .latches))
       ∙ ap (upFrom (1 + length (c .inputs))) (length-nexts (c .latches))
 
   pub leaves-order : leaves c ≡ upFrom 0 (inner c)

@@ -9,8 +9,7 @@ use borrow.Author.Tests.{eq-eqb, not-true}
 use lib.Dec.{eqb}
 use lib.ListN.{length, getD}
 use Rattle.plan.specs.Literals.{varOf}
-use Rattle.plan.specs.Circuit.{vars, has, allNew}
-use Rattle.plan.specs.Convert.{index}
+use Rattle.plan.specs.Circuit.{vars, has, allNew, index}
 use Rattle.laws.proofs.Reading.Common.{and-left, and-right, and-intro}
 use Rattle.laws.proofs.Reading.Members.{has-self, has-later, has-cases, has-not, distinct}
 

@@ -2,8 +2,7 @@
 use Prim.Native.Nat.{ℕ}
 use mathlib.Core.List.{List, [], _∷_, _++_}
 use lib.ListN.{length}
-use Rattle.plan.specs.Circuit.{Circuit, nexts}
-use Rattle.plan.specs.Convert.{leaves, index}
+use Rattle.plan.specs.Circuit.{Circuit, nexts, leaves, index}
 use Rattle.plan.specs.Step.{Value, v0, leafValue, valuesOf, outputsOf, badsOf, constraintsOf, nextOf, Step, run}
 use Rattle.laws.proofs.Running.Refinement.{Le, Les, les-append, les-at, lits-le}
 use Rattle.laws.proofs.Running.Values.{value-le}

@@ -9,7 +9,7 @@ use native.Mathlib.Nat.{not-suc-le-zero}
 use lib.ListN.{length}
 use lib.Seq.{append-snoc}
 use Rattle.plan.specs.Literals.{varOf}
-use Rattle.plan.specs.Circuit.{Gate, lefts, has}
+use Rattle.plan.specs.Circuit.{Gate, leftVars, has}
 use Rattle.plan.specs.Depends.{find, isNone, both, settled}
 use Rattle.plan.specs.Convert.{ready, past, pick, Picked, orderBy, order}
 use Rattle.laws.proofs.Reading.Common.{and-left, and-right, and-intro}
@@ -70,18 +70,18 @@ order-all P (suc k) o gs a = go (λ o′ gs′ a′. order-all P k o′ gs′ a�
 abbrev pub Closed : List ℕ → Gate → Type 0
 Closed f g = ready f g ≡ true → has (varOf (g .lhs)) f ≡ true
 
-pub order-closed : (k : ℕ) (o : List ℕ) (gs : List Gate) → length gs ≤ k → AllG (Closed (o ++ lefts (order k o gs))) gs
+pub order-closed : (k : ℕ) (o : List ℕ) (gs : List Gate) → length gs ≤ k → AllG (Closed (o ++ leftVars (order k o gs))) gs
 order-closed zero o [] h = tt
 order-closed zero o (g ∷ gs) h = absurd (not-suc-le-zero h)
 order-closed (suc k) o gs h = go (λ o′ gs′ h′. order-closed k o′ gs′ h′) (pick o gs) (pick-says o gs)
   where
-    go : ((o′ : List ℕ) (gs′ : List Gate) → length gs′ ≤ k → AllG (Closed (o′ ++ lefts (order k o′ gs′))) gs′) → (r : Option Picked)
+    go : ((o′ : List ℕ) (gs′ : List Gate) → length gs′ ≤ k → AllG (Closed (o′ ++ leftVars (order k o′ gs′))) gs′) → (r : Option Picked)
         → PickSays o gs r
-        → AllG (Closed (o ++ lefts (orderBy (λ o′ gs′. order k o′ gs′) o r))) gs
+        → AllG (Closed (o ++ leftVars (orderBy (λ o′ gs′. order k o′ gs′) o r))) gs
     go ih none t = rw (append-nil o) (t (Closed o) (λ g e p. absurd (false≢true (sym e ∙ p))))
     go ih (some q) t =
         let x = varOf (q .gate .lhs) in
-        let ys = lefts (order k (o ++ (x ∷ [])) (q .rest)) in
+        let ys = leftVars (order k (o ++ (x ∷ [])) (q .rest)) in
         t .whole (Closed (o ++ (x ∷ ys))) (λ _. has-seam x o ys)
         (subst (λ (f : List ℕ). AllG (Closed f) (q .rest)) (append-snoc o x ys) (ih (o ++ (x ∷ [])) (q .rest) (omega (arith, t .size, h))))
 
@@ -96,20 +96,20 @@ order-length (suc k) o gs = go (pick o gs) (λ o′ gs′. order-length k o′ g
 
 -- every settled variable has a number
 module _ (gs : List Gate) (lv f : List ℕ) (leaf-in : (v : ℕ) → has v lv ≡ true → has v f ≡ true)
-    (shut : AllG (Closed f) gs) (used : AllG (Sides (lv ++ lefts gs)) gs) where
-  pub complete : (k v : ℕ) → settled gs k v ≡ true → has v (lv ++ lefts gs) ≡ true → has v f ≡ true
+    (shut : AllG (Closed f) gs) (used : AllG (Sides (lv ++ leftVars gs)) gs) where
+  pub complete : (k v : ℕ) → settled gs k v ≡ true → has v (lv ++ leftVars gs) ≡ true → has v f ≡ true
   complete zero v p d = go (find v gs) (find-says v gs) p
     where
       go : (r : Option Gate) → FindSays v gs r → isNone r ≡ true → has v f ≡ true
-      go none h q = leaf-in v (has-but v lv (lefts gs) d (h .0))
+      go none h q = leaf-in v (has-but v lv (leftVars gs) d (h .0))
       go (some g) h q = absurd (false≢true q)
   complete (suc k) v p d = go (λ u q t. complete k u q t) (find v gs) (find-says v gs) p
     where
-      go : ((u : ℕ) → settled gs k u ≡ true → has u (lv ++ lefts gs) ≡ true → has u f ≡ true) → (r : Option Gate) → FindSays v gs r
+      go : ((u : ℕ) → settled gs k u ≡ true → has u (lv ++ leftVars gs) ≡ true → has u f ≡ true) → (r : Option Gate) → FindSays v gs r
           → both (λ u. settled gs k u) r ≡ true → has v f ≡ true
-      go ih none h q = leaf-in v (has-but v lv (lefts gs) d (h .0))
+      go ih none h q = leaf-in v (has-but v lv (leftVars gs) d (h .0))
       go ih (some g) h q =
-          let s = h .1 (Sides (lv ++ lefts gs)) used in
+          let s = h .1 (Sides (lv ++ leftVars gs)) used in
           rw (h .0) at (h .1 (Closed f) shut (and-intro (has (varOf (g .rhs0)) f) (has (varOf (g .rhs1)) f)
           (ih (varOf (g .rhs0)) (and-left (settled gs k (varOf (g .rhs0))) (settled gs k (varOf (g .rhs1))) q) (s .0))
           (ih (varOf (g .rhs1)) (and-right (settled gs k (varOf (g .rhs0))) (settled gs k (varOf (g .rhs1))) q) (s .1))))

@@ -5,9 +5,8 @@ use mathlib.Core.List.{List, [], _∷_, _++_, map}
 use native.Mathlib.Omega.{arith}
 use lib.ListN.{length, getD}
 use Rattle.plan.specs.Literals.{litOf, varOf}
-use Rattle.plan.specs.Circuit.{Latch, Circuit, currents, nexts}
+use Rattle.plan.specs.Circuit.{Latch, Circuit, currentVars, nexts, leaves, index}
 use Rattle.plan.specs.Binary.{litsFrom}
-use Rattle.plan.specs.Convert.{leaves, index}
 use Rattle.plan.specs.Reduce.{Reduced, becomes, reduced, latchBecomes, reduce}
 use Rattle.plan.specs.Step.{Value, v0, lit, leafValue, valuesOf, outputsOf, badsOf, constraintsOf, nextOf}
 use Rattle.laws.proofs.Reading.Runs.{length-lits}
@@ -18,7 +17,7 @@ use Rattle.laws.proofs.Running.Binary.{settled-binary, holds, leaf-give
 use Rattle.laws.proofs.Running.Upward.{lits-at, lits-low}
 use Rattle.laws.proofs.Running.ReduceGates.{Refines, becomes-le, refines-all, Ok, ok-all, length-all}
 
-currents-becomes : (m : List ℕ) (ls : List Latch) → currents (map (latchBecomes m) ls) ≡ currents ls
+currents-becomes : (m : List ℕ) (ls : List Latch) → currentVars (map (latchBecomes m) ls) ≡ currentVars ls
 currents-becomes m [] = refl
 currents-becomes m (l ∷ ls) = ap (λ (t : List ℕ). varOf (l .current) ∷ t) (currents-becomes m ls)
 

@@ -10,8 +10,8 @@ use lib.Dec.{eqb}
 use lib.ListN.{length, getD, length-append}
 use lib.Seq.{append-snoc}
 use Rattle.plan.specs.Literals.{litOf, varOf, signOf}
-use Rattle.plan.specs.Circuit.{Gate, lefts, has}
-use Rattle.plan.specs.Convert.{ready, index, renumber, renumberGates}
+use Rattle.plan.specs.Circuit.{Gate, leftVars, has, index}
+use Rattle.plan.specs.Convert.{ready, renumber, renumberGates}
 use Rattle.plan.specs.Step.{Value, vx, and, signedValue, lit}
 use Rattle.laws.proofs.Reading.Common.{and-left, and-right}
 use Rattle.laws.proofs.Running.Lists.{has-left, index-front}
@@ -68,7 +68,7 @@ Readied p (g ∷ gs) = (ready p g ≡ true) × Readied (p ++ (varOf (g .lhs) ∷
 length-snoc : (p : List ℕ) (x : ℕ) → length (p ++ (x ∷ [])) ≡ suc (length p)
 length-snoc p x = length-append p (x ∷ []) ∙ omega arith
 
-pub renumberGates-binary : (o p : List ℕ) (gs : List Gate) → Readied p gs → o ≡ p ++ lefts gs
+pub renumberGates-binary : (o p : List ℕ) (gs : List Gate) → Readied p gs → o ≡ p ++ leftVars gs
     → Binary (length p) (renumberGates o (length p) gs)
 renumberGates-binary o p [] r e = tt
 renumberGates-binary o p (g ∷ gs) r e = (
@@ -76,14 +76,14 @@ renumberGates-binary o p (g ∷ gs) r e = (
   high,
   low,
   subst (λ (n : ℕ). Binary n (renumberGates o n gs)) (length-snoc p (varOf (g .lhs)))
-      (renumberGates-binary o (p ++ (varOf (g .lhs) ∷ [])) gs (r .1) (e ∙ sym (append-snoc p (varOf (g .lhs)) (lefts gs)))),
+      (renumberGates-binary o (p ++ (varOf (g .lhs) ∷ [])) gs (r .1) (e ∙ sym (append-snoc p (varOf (g .lhs)) (leftVars gs)))),
 )
   where
     in0 : index (varOf (g .rhs0)) o < length p
-    in0 = rw e (index-front (varOf (g .rhs0)) p (lefts (g ∷ gs)) (and-left (has (varOf (g .rhs0)) p) (has (varOf (g .rhs1)) p) (r .0)))
+    in0 = rw e (index-front (varOf (g .rhs0)) p (leftVars (g ∷ gs)) (and-left (has (varOf (g .rhs0)) p) (has (varOf (g .rhs1)) p) (r .0)))
 
     in1 : index (varOf (g .rhs1)) o < length p
-    in1 = rw e (index-front (varOf (g .rhs1)) p (lefts (g ∷ gs)) (and-right (has (varOf (g .rhs0)) p) (has (varOf (g .rhs1)) p) (r .0)))
+    in1 = rw e (index-front (varOf (g .rhs1)) p (leftVars (g ∷ gs)) (and-right (has (varOf (g .rhs0)) p) (has (varOf (g .rhs1)) p) (r .0)))
 
     high : varOf (max (renumber o (g .rhs0)) (renumber o (g .rhs1))) < length p
     high = omega (arith, in0, in1)
@@ -91,23 +91,23 @@ renumberGates-binary o p (g ∷ gs) r e = (
     low : varOf (min (renumber o (g .rhs0)) (renumber o (g .rhs1))) < length p
     low = omega (arith, in0, in1)
 
-pub renumberGates-hold : (w : ℕ → Value) (o p : List ℕ) (gs : List Gate) → Readied p gs → o ≡ p ++ lefts gs → AllG (GateEq w) gs
+pub renumberGates-hold : (w : ℕ → Value) (o p : List ℕ) (gs : List Gate) → Readied p gs → o ≡ p ++ leftVars gs → AllG (GateEq w) gs
     → Holds (look w o) (renumberGates o (length p) gs)
 renumberGates-hold w o p [] r e a = tt
 renumberGates-hold w o p (g ∷ gs) r e a = (
   this,
   subst (λ (n : ℕ). Holds (look w o) (renumberGates o n gs)) (length-snoc p (varOf (g .lhs)))
-      (renumberGates-hold w o (p ++ (varOf (g .lhs) ∷ [])) gs (r .1) (e ∙ sym (append-snoc p (varOf (g .lhs)) (lefts gs))) (a .1)),
+      (renumberGates-hold w o (p ++ (varOf (g .lhs) ∷ [])) gs (r .1) (e ∙ sym (append-snoc p (varOf (g .lhs)) (leftVars gs))) (a .1)),
 )
   where
     in0 : has (varOf (g .rhs0)) o ≡ true
-    in0 = rw e (has-left (varOf (g .rhs0)) p (lefts (g ∷ gs)) (and-left (has (varOf (g .rhs0)) p) (has (varOf (g .rhs1)) p) (r .0)))
+    in0 = rw e (has-left (varOf (g .rhs0)) p (leftVars (g ∷ gs)) (and-left (has (varOf (g .rhs0)) p) (has (varOf (g .rhs1)) p) (r .0)))
 
     in1 : has (varOf (g .rhs1)) o ≡ true
-    in1 = rw e (has-left (varOf (g .rhs1)) p (lefts (g ∷ gs)) (and-right (has (varOf (g .rhs0)) p) (has (varOf (g .rhs1)) p) (r .0)))
+    in1 = rw e (has-left (varOf (g .rhs1)) p (leftVars (g ∷ gs)) (and-right (has (varOf (g .rhs0)) p) (has (varOf (g .rhs1)) p) (r .0)))
 
     at : look w o (length p) ≡ w (varOf (g .lhs))
-    at = rw e (look-seam w p (varOf (g .lhs)) (lefts gs))
+    at = rw e (look-seam w p (varOf (g .lhs)) (leftVars gs))
 
     this : lit (look w o) (litOf (length p)) ≡ and (lit (look w o) (max (renumber o (g .rhs0)) (renumber o (g .rhs1))))
         (lit (look w o) (min (renumber o (g .rhs0)) (renumber o (g .rhs1))))

@@ -9,12 +9,12 @@ use lib.Dec.{eqb}
 use lib.ListN.{length, length-map, length-append}
 use lib.Seq.{append-snoc}
 use Rattle.plan.specs.Literals.{litOf, varOf, signOf, inRange, isReset}
-use Rattle.plan.specs.Circuit.{Latch, Circuit, latchLine, vars, currents, lefts, nexts, has, inside, allInside, resetsOk}
+use Rattle.plan.specs.Circuit.{Latch, Circuit, latchLine, vars, currentVars, leftVars, nexts, has, inside, allInside, resetsOk, leaves, index}
 use Rattle.plan.specs.Reading.{WellFormed}
 use Rattle.plan.specs.Binary.{latchesFrom}
-use Rattle.plan.specs.Convert.{leaves, sorted, numbered, index, renumber, convert}
+use Rattle.plan.specs.Convert.{sorted, numbered, renumber, convert}
 use Rattle.plan.specs.Reduce.{latchBecomes, reduce}
-use Rattle.plan.specs.Step.{Value, vx, resetValue, first}
+use Rattle.plan.specs.Step.{Value, vx, resetValue, firstState}
 use Rattle.laws.proofs.Reading.Common.{and-left, and-right, and-intro}
 use Rattle.laws.proofs.Reading.Members.{has-self, distinct}
 use Rattle.laws.proofs.Reading.Runs.{length-nexts, BinaryOrder}
@@ -84,7 +84,7 @@ even-current m l ls h =
     eqb-true _ _ (and-left (eqb (signOf (l .current)) 0) _ (and-left (inRange true m (l .current)) _ (and-left (inside true m (latchLine l)) _ h)))
 
 renamed : (m : ℕ) (os post : List ℕ) → renumber os 0 ≡ 0 → renumber os 1 ≡ 1 → (ls : List Latch) (rs pre ns : List ℕ)
-    → os ≡ pre ++ (currents ls ++ post) → distinct (pre ++ currents ls) ≡ true → allInside true m (map latchLine ls) ≡ true
+    → os ≡ pre ++ (currentVars ls ++ post) → distinct (pre ++ currentVars ls) ≡ true → allInside true m (map latchLine ls) ≡ true
     → length ns ≡ length ls → resetsOk ls rs ≡ true → resetsOk (latchesFrom (length pre) ns) (map (renumber os) rs) ≡ true
 renamed m os post z0 z1 [] [] pre [] o d i n h = refl
 renamed m os post z0 z1 [] [] pre (x ∷ ns) o d i n h = absurd (omega arith)
@@ -93,8 +93,8 @@ renamed m os post z0 z1 (l ∷ ls) [] pre ns o d i n h = absurd (false≢true h)
 renamed m os post z0 z1 (l ∷ ls) (r ∷ rs) pre [] o d i n h = absurd (omega arith)
 renamed m os post z0 z1 (l ∷ ls) (r ∷ rs) pre (x ∷ ns) o d i n h =
     let v = varOf (l .current) in
-    let fresh : has v pre ≡ false = apart pre (v ∷ currents ls) d v (has-self v (currents ls)) in
-    let at : index v os ≡ length pre = ap (index v) o ∙ index-seam v pre (currents ls ++ post) fresh in
+    let fresh : has v pre ≡ false = apart pre (v ∷ currentVars ls) d v (has-self v (currentVars ls)) in
+    let at : index v os ≡ length pre = ap (index v) o ∙ index-seam v pre (currentVars ls ++ post) fresh in
     let own : litOf (length pre) ≡ renumber os (l .current) = omega (arith, at, even-current m l ls i) in
     let long : length (pre ++ (v ∷ [])) ≡ suc (length pre) = omega (arith, length-append pre (v ∷ [])) in
     and-intro (isReset (litOf (length pre)) (renumber os r)) _
@@ -102,8 +102,8 @@ renamed m os post z0 z1 (l ∷ ls) (r ∷ rs) pre (x ∷ ns) o d i n h =
     (ap (isReset (litOf (length pre))) z0) (ap (isReset (litOf (length pre))) z1)
     (ap (isReset (litOf (length pre))) (sym own) ∙ own-reset (litOf (length pre))))
     (subst (λ (k : ℕ). resetsOk (latchesFrom k ns) (map (renumber os) rs) ≡ true) long
-    (renamed m os post z0 z1 ls rs (pre ++ (v ∷ [])) ns (o ∙ sym (append-snoc pre v (currents ls ++ post)))
-    (ap distinct (append-snoc pre v (currents ls)) ∙ d) (and-right (inside true m (latchLine l)) _ i) (omega arith)
+    (renamed m os post z0 z1 ls rs (pre ++ (v ∷ [])) ns (o ∙ sym (append-snoc pre v (currentVars ls ++ post)))
+    (ap distinct (append-snoc pre v (currentVars ls)) ∙ d) (and-right (inside true m (latchLine l)) _ i) (omega arith)
     (and-right (isReset (l .current) r) _ h)))
 
 length-vars : (ls : List ℕ) → length (vars ls) ≡ length ls
@@ -116,8 +116,8 @@ resets-convert c w ok =
     let k : length pre ≡ 1 + length (c .inputs) = omega (arith, length-vars (c .inputs)) in
     let ns = map (renumber (numbered c)) (nexts (c .latches)) in
     subst (λ (n : ℕ). resetsOk (latchesFrom n ns) (map (renumber (numbered c)) (c .resets)) ≡ true) k
-    (renamed (c .M) (numbered c) (lefts (sorted c)) refl refl (c .latches) (c .resets) pre ns
-    (append-assoc pre (currents (c .latches)) (lefts (sorted c))) (distinct-left (leaves c) (lefts (c .gates)) (ok .once)) (w .latches)
+    (renamed (c .M) (numbered c) (leftVars (sorted c)) refl refl (c .latches) (c .resets) pre ns
+    (append-assoc pre (currentVars (c .latches)) (leftVars (sorted c))) (distinct-left (leaves c) (leftVars (c .gates)) (ok .once)) (w .latches)
     (length-map (nexts (c .latches)) (renumber (numbered c)) ∙ length-nexts (c .latches)) (w .resets))
 
 -- the first state: a literal but 0 and 1 is x, and stays one
@@ -135,11 +135,11 @@ values-renumbered : (os rs : List ℕ) → map resetValue (map (renumber (zero �
 values-renumbered os [] = refl
 values-renumbered os (r ∷ rs) = ap₂ (λ (x : Value) (t : List Value). x ∷ t) (reset-value os r) (values-renumbered os rs)
 
-pub first-convert : (c : Circuit) → first (convert c) ≡ first c
-first-convert c = values-renumbered ((vars (c .inputs) ++ currents (c .latches)) ++ lefts (sorted c)) (c .resets)
+pub first-convert : (c : Circuit) → firstState (convert c) ≡ firstState c
+first-convert c = values-renumbered ((vars (c .inputs) ++ currentVars (c .latches)) ++ leftVars (sorted c)) (c .resets)
 
-pub first-reduce : (c : Circuit) → first (reduce c) ≡ first c
+pub first-reduce : (c : Circuit) → firstState (reduce c) ≡ firstState c
 first-reduce c = refl
 
-pub first-length : (c : Circuit) → WellFormed c → length (first c) ≡ length (c .latches)
+pub first-length : (c : Circuit) → WellFormed c → length (firstState c) ≡ length (c .latches)
 first-length c w = length-map (c .resets) resetValue ∙ resets-length (c .latches) (c .resets) (w .resets)

@@ -9,8 +9,8 @@ use borrow.Author.Tests.{eqb-false, ne-eqb}
 use lib.Dec.{eqb}
 use lib.ListN.{length}
 use Rattle.plan.specs.Literals.{varOf}
-use Rattle.plan.specs.Circuit.{Gate, Circuit, lefts, has}
-use Rattle.plan.specs.Convert.{leaves, ready, Picked, past, pick, orderBy, order, sorted}
+use Rattle.plan.specs.Circuit.{Gate, Circuit, leftVars, has, leaves}
+use Rattle.plan.specs.Convert.{ready, Picked, past, pick, orderBy, order, sorted}
 use Rattle.laws.proofs.Reading.Members.{has-self, has-later, has-not, distinct, pigeon}
 use Rattle.laws.proofs.Reading.Cycles.{length-lefts}
 use Rattle.laws.proofs.Running.Lists.{has-left, has-right, has-seam, has-rest, distinct-head, distinct-tail, distinct-right, apart}
@@ -44,12 +44,12 @@ pub has-snoc : (v x : ℕ) (o : List ℕ) → eqb x v ≡ false → has v (o ++ 
 has-snoc v x [] e = rw e
 has-snoc v x (y ∷ o) e = ap (λ (t : Bool). eqb y v || t) (has-snoc v x o e)
 
-remaining-same : (x : ℕ) (o : List ℕ) (gs : List Gate) → has x (lefts gs) ≡ false → remaining (o ++ (x ∷ [])) gs ≡ remaining o gs
+remaining-same : (x : ℕ) (o : List ℕ) (gs : List Gate) → has x (leftVars gs) ≡ false → remaining (o ++ (x ∷ [])) gs ≡ remaining o gs
 remaining-same x o [] h = refl
 remaining-same x o (g ∷ gs) h = go (eqb (varOf (g .lhs)) x) refl h (remaining-same x o gs)
   where
-    go : (t : Bool) → eqb (varOf (g .lhs)) x ≡ t → (t || has x (lefts gs)) ≡ false
-        → (has x (lefts gs) ≡ false → remaining (o ++ (x ∷ [])) gs ≡ remaining o gs)
+    go : (t : Bool) → eqb (varOf (g .lhs)) x ≡ t → (t || has x (leftVars gs)) ≡ false
+        → (has x (leftVars gs) ≡ false → remaining (o ++ (x ∷ [])) gs ≡ remaining o gs)
         → remaining (o ++ (x ∷ [])) (g ∷ gs) ≡ remaining o (g ∷ gs)
     go true e p f = absurd (false≢true (sym p))
     go false e p f =
@@ -59,7 +59,7 @@ remaining-same x o (g ∷ gs) h = go (eqb (varOf (g .lhs)) x) refl h (remaining-
 abbrev ScanSays : List ℕ → List Gate → Option Picked → Type 0
 ScanSays o gs none = scan o gs ≡ none
 ScanSays o gs (some q) =
-    (scan o gs ≡ some (q .gate)) × (has (varOf (q .gate .lhs)) (lefts gs) ≡ true)
+    (scan o gs ≡ some (q .gate)) × (has (varOf (q .gate .lhs)) (leftVars gs) ≡ true)
     × (q .rest ≡ remaining (o ++ (varOf (q .gate .lhs) ∷ [])) gs)
 
 numbered-past : (o : List ℕ) (g : Gate) (gs : List Gate) → has (varOf (g .lhs)) o ≡ true → (r : Option Picked) → ScanSays o gs r
@@ -67,40 +67,40 @@ numbered-past : (o : List ℕ) (g : Gate) (gs : List Gate) → has (varOf (g .lh
 numbered-past o g gs e none h = rw e h
 numbered-past o g gs e (some q) h = (
   rw e (h .0),
-  has-later (varOf (q .gate .lhs)) (varOf (g .lhs)) (lefts gs) (h .1),
+  has-later (varOf (q .gate .lhs)) (varOf (g .lhs)) (leftVars gs) (h .1),
   rw
       (has-left (varOf (g .lhs)) o (varOf (q .gate .lhs) ∷ []) e) (h .2),
 )
 
-unready-past : (o : List ℕ) (g : Gate) (gs : List Gate) → distinct (lefts (g ∷ gs)) ≡ true → has (varOf (g .lhs)) o ≡ false
+unready-past : (o : List ℕ) (g : Gate) (gs : List Gate) → distinct (leftVars (g ∷ gs)) ≡ true → has (varOf (g .lhs)) o ≡ false
     → ready o g ≡ false → (r : Option Picked) → ScanSays o gs r → ScanSays o (g ∷ gs) (past g r)
 unready-past o g gs d e f none h = rw (e, f) h
 unready-past o g gs d e f (some q) h =
-    let n : has (varOf (g .lhs)) (lefts gs) ≡ false = distinct-head (varOf (g .lhs)) (lefts gs) d in
-    let x : eqb (varOf (g .lhs)) (varOf (q .gate .lhs)) ≡ false = has-not (varOf (q .gate .lhs)) (varOf (g .lhs)) (lefts gs) n (h .1) in
+    let n : has (varOf (g .lhs)) (leftVars gs) ≡ false = distinct-head (varOf (g .lhs)) (leftVars gs) d in
+    let x : eqb (varOf (g .lhs)) (varOf (q .gate .lhs)) ≡ false = has-not (varOf (q .gate .lhs)) (varOf (g .lhs)) (leftVars gs) n (h .1) in
     let y : eqb (varOf (q .gate .lhs)) (varOf (g .lhs)) ≡ false
     = ne-eqb (varOf (q .gate .lhs)) (varOf (g .lhs)) (λ t. eqb-false (varOf (g .lhs)) (varOf (q .gate .lhs)) x (sym t)) in (
       rw (e, f) (h .0),
-      has-later (varOf (q .gate .lhs)) (varOf (g .lhs)) (lefts gs) (h .1),
+      has-later (varOf (q .gate .lhs)) (varOf (g .lhs)) (leftVars gs) (h .1),
       ap₂ (λ (t : Bool) (r : List Gate). skip t g r) (sym (has-snoc (varOf (g .lhs)) (varOf (q .gate .lhs)) o y ∙ e)) (h .2),
     )
 
-scan-says : (o : List ℕ) (gs : List Gate) → distinct (lefts gs) ≡ true → ScanSays o gs (pick o (remaining o gs))
+scan-says : (o : List ℕ) (gs : List Gate) → distinct (leftVars gs) ≡ true → ScanSays o gs (pick o (remaining o gs))
 scan-says o [] d = refl
-scan-says o (g ∷ gs) d = go (has (varOf (g .lhs)) o) refl (ready o g) refl (scan-says o gs (distinct-tail (varOf (g .lhs)) (lefts gs) d))
+scan-says o (g ∷ gs) d = go (has (varOf (g .lhs)) o) refl (ready o g) refl (scan-says o gs (distinct-tail (varOf (g .lhs)) (leftVars gs) d))
   where
     go : (t : Bool) → has (varOf (g .lhs)) o ≡ t → (r : Bool) → ready o g ≡ r → ScanSays o gs (pick o (remaining o gs))
         → ScanSays o (g ∷ gs) (pick o (skip t g (remaining o gs)))
     go true e r f ih = numbered-past o g gs e (pick o (remaining o gs)) ih
     go false e true f ih = rw (f, pick) (
       ap₂ (λ (t r : Bool). cond (not t && r) (some g) (scan o gs)) e f,
-      has-self (varOf (g .lhs)) (lefts gs),
+      has-self (varOf (g .lhs)) (leftVars gs),
       sym (ap (λ (t : Bool). skip t g (remaining (o ++ (varOf (g .lhs) ∷ [])) gs)) (has-seam (varOf (g .lhs)) o [])
-          ∙ remaining-same (varOf (g .lhs)) o gs (distinct-head (varOf (g .lhs)) (lefts gs) d)),
+          ∙ remaining-same (varOf (g .lhs)) o gs (distinct-head (varOf (g .lhs)) (leftVars gs) d)),
     )
     go false e false f ih = rw (f, pick) (unready-past o g gs d e f (pick o (remaining o gs)) ih)
 
-pub scanned-order : (all : List Gate) → distinct (lefts all) ≡ true → (k : ℕ) (o : List ℕ) → order k o (remaining o all) ≡ scanned all k o
+pub scanned-order : (all : List Gate) → distinct (leftVars all) ≡ true → (k : ℕ) (o : List ℕ) → order k o (remaining o all) ≡ scanned all k o
 scanned-order all d zero o = refl
 scanned-order all d (suc k) o = go (pick o (remaining o all)) (scan-says o all d) (λ o′. scanned-order all d k o′)
   where
@@ -111,18 +111,18 @@ scanned-order all d (suc k) o = go (pick o (remaining o all)) (scan-says o all d
         let o′ = o ++ (varOf (q .gate .lhs) ∷ []) in
         ap (λ (t : List Gate). q .gate ∷ t) (ap (order k o′) (h .2) ∙ ih o′) ∙ ap (scanGo (λ p. scanned all k p) o) (sym (h .0))
 
-remaining-all : (o : List ℕ) (gs : List Gate) → ((v : ℕ) → has v (lefts gs) ≡ true → has v o ≡ false) → remaining o gs ≡ gs
+remaining-all : (o : List ℕ) (gs : List Gate) → ((v : ℕ) → has v (leftVars gs) ≡ true → has v o ≡ false) → remaining o gs ≡ gs
 remaining-all o [] h = refl
 remaining-all o (g ∷ gs) h =
-    rw (h (varOf (g .lhs)) (has-self (varOf (g .lhs)) (lefts gs)))
-    (ap (λ (t : List Gate). g ∷ t) (remaining-all o gs (λ v k. h v (has-later v (varOf (g .lhs)) (lefts gs) k))))
+    rw (h (varOf (g .lhs)) (has-self (varOf (g .lhs)) (leftVars gs)))
+    (ap (λ (t : List Gate). g ∷ t) (remaining-all o gs (λ v k. h v (has-later v (varOf (g .lhs)) (leftVars gs) k))))
 
 -- the two ways to say the order
-pub sorted-scanned : (c : Circuit) → distinct (leaves c ++ lefts (c .gates)) ≡ true
+pub sorted-scanned : (c : Circuit) → distinct (leaves c ++ leftVars (c .gates)) ≡ true
     → sorted c ≡ scanned (c .gates) (length (c .gates)) (leaves c)
 sorted-scanned c d =
-    ap (order (length (c .gates)) (leaves c)) (sym (remaining-all (leaves c) (c .gates) (apart (leaves c) (lefts (c .gates)) d)))
-    ∙ scanned-order (c .gates) (distinct-right (leaves c) (lefts (c .gates)) d) (length (c .gates)) (leaves c)
+    ap (order (length (c .gates)) (leaves c)) (sym (remaining-all (leaves c) (c .gates) (apart (leaves c) (leftVars (c .gates)) d)))
+    ∙ scanned-order (c .gates) (distinct-right (leaves c) (leftVars (c .gates)) d) (length (c .gates)) (leaves c)
 
 -- every gate is retained
 pub every-gate : (c : Circuit) → Accepted c → length (sorted c) ≡ length (c .gates)
@@ -132,9 +132,9 @@ every-gate c ok =
       order-length (length (c .gates)) (leaves c) (c .gates),
       length-lefts (c .gates),
       length-lefts (sorted c),
-      pigeon (lefts (c .gates)) (lefts (sorted c)) (distinct-right (leaves c) (lefts (c .gates)) (ok .once))
-          (λ v h. has-rest v (leaves c) (lefts (sorted c)) (gets-number c ok v (has-right v (leaves c) (lefts (c .gates)) h))
-          (apart (leaves c) (lefts (c .gates)) (ok .once) v h)),
+      pigeon (leftVars (c .gates)) (leftVars (sorted c)) (distinct-right (leaves c) (leftVars (c .gates)) (ok .once))
+          (λ v h. has-rest v (leaves c) (leftVars (sorted c)) (gets-number c ok v (has-right v (leaves c) (leftVars (c .gates)) h))
+          (apart (leaves c) (leftVars (c .gates)) (ok .once) v h)),
     )
 
 pub scanned-length : (all : List Gate) (k : ℕ) (o : List ℕ) → length (scanned all k o) ≤ k

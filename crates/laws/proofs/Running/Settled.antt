@@ -11,9 +11,9 @@ use lib.Dec.{eqb}
 use lib.ListN.{length}
 use lib.Seq.{append-snoc}
 use Rattle.plan.specs.Literals.{varOf}
-use Rattle.plan.specs.Circuit.{Gate, Circuit, lefts, rights, has}
+use Rattle.plan.specs.Circuit.{Gate, Circuit, leftVars, rights, has, leaves}
 use Rattle.plan.specs.Depends.{find, both, settled}
-use Rattle.plan.specs.Convert.{leaves, sorted, numbered}
+use Rattle.plan.specs.Convert.{sorted, numbered}
 use Rattle.laws.proofs.Reading.Common.{and-left, and-right, and-intro}
 use Rattle.laws.proofs.Reading.Members.{distinct}
 use Rattle.laws.proofs.Reading.Cycles.{none-of}
@@ -37,12 +37,12 @@ has-snoc-cases C v x (y ∷ p) h f g = go (eqb y v) h (λ q k. has-snoc-cases C 
     go false q ih k = ih q k
 
 settled-in : (gs : List Gate) (j : ℕ) (p : List ℕ) (qs : List Gate) → Readied p qs → AllG (λ g. find (varOf (g .lhs)) gs ≡ some g) qs
-    → ((v : ℕ) → has v p ≡ true → settled gs j v ≡ true) → (v : ℕ) → has v (p ++ lefts qs) ≡ true → settled gs (j + length qs) v ≡ true
+    → ((v : ℕ) → has v p ≡ true → settled gs j v ≡ true) → (v : ℕ) → has v (p ++ leftVars qs) ≡ true → settled gs (j + length qs) v ≡ true
 settled-in gs j p [] r a h v k = rw (add-zero j) (h v (rw (append-nil p) at k))
 settled-in gs j p (g ∷ qs) r a h v k =
     subst (λ (n : ℕ). settled gs n v ≡ true) (suc-swap j (length qs))
     (settled-in gs (suc j) (p ++ (varOf (g .lhs) ∷ [])) qs (r .1) (a .1) now v
-    (subst (λ (o : List ℕ). has v o ≡ true) (sym (append-snoc p (varOf (g .lhs)) (lefts qs))) k))
+    (subst (λ (o : List ℕ). has v o ≡ true) (sym (append-snoc p (varOf (g .lhs)) (leftVars qs))) k))
   where
     suc-swap : (m n : ℕ) → suc m + n ≡ m + suc n
     suc-swap m n = omega arith
@@ -62,7 +62,7 @@ settled-plus : (gs : List Gate) (j d v : ℕ) → settled gs j v ≡ true → se
 settled-plus gs j zero v h = rw (add-zero j) h
 settled-plus gs j (suc d) v h = rw (add-suc j d) (settled-more gs (j + d) v (settled-plus gs j d v h))
 
-module _ (c : Circuit) (once : distinct (leaves c ++ lefts (c .gates)) ≡ true) where
+module _ (c : Circuit) (once : distinct (leaves c ++ leftVars (c .gates)) ≡ true) where
   pub numbered-settled : (v : ℕ) → has v (numbered c) ≡ true → settled (c .gates) (length (c .gates)) v ≡ true
   numbered-settled v h =
       let k = length (c .gates) in
@@ -71,13 +71,13 @@ module _ (c : Circuit) (once : distinct (leaves c ++ lefts (c .gates)) ≡ true)
       (settled-plus (c .gates) (0 + length (sorted c)) (k - length (sorted c)) v
       (settled-in (c .gates) 0 (leaves c) (sorted c) (order-readied k (leaves c) (c .gates))
       (order-all (λ g. find (varOf (g .lhs)) (c .gates) ≡ some g) k (leaves c) (c .gates)
-      (found-own (c .gates) (distinct-right (leaves c) (lefts (c .gates)) once)))
-      (λ u t. settled-none (c .gates) 0 u (none-of u (c .gates) (distinct-apart u (leaves c) (lefts (c .gates)) once t))) v h))
+      (found-own (c .gates) (distinct-right (leaves c) (leftVars (c .gates)) once)))
+      (λ u t. settled-none (c .gates) 0 u (none-of u (c .gates) (distinct-apart u (leaves c) (leftVars (c .gates)) once t))) v h))
 
-pub settled-numbered : (c : Circuit) → allIn (rights (c .gates)) (leaves c ++ lefts (c .gates)) ≡ true → (v : ℕ)
-    → has v (leaves c ++ lefts (c .gates)) ≡ true
+pub settled-numbered : (c : Circuit) → allIn (rights (c .gates)) (leaves c ++ leftVars (c .gates)) ≡ true → (v : ℕ)
+    → has v (leaves c ++ leftVars (c .gates)) ≡ true
     → settled (c .gates) (length (c .gates)) v ≡ true → has v (numbered c) ≡ true
 settled-numbered c used v h s =
-    complete (c .gates) (leaves c) (numbered c) (λ u k. has-left u (leaves c) (lefts (sorted c)) k)
+    complete (c .gates) (leaves c) (numbered c) (λ u k. has-left u (leaves c) (leftVars (sorted c)) k)
     (order-closed (length (c .gates)) (leaves c) (c .gates) (omega arith))
-    (sides-in (leaves c ++ lefts (c .gates)) (c .gates) used) (length (c .gates)) v s h
+    (sides-in (leaves c ++ leftVars (c .gates)) (c .gates) used) (length (c .gates)) v s h

@@ -7,7 +7,7 @@ use Rattle.plan.specs.Circuit.{Circuit}
 use Rattle.plan.specs.Reading.{WellFormed}
 use Rattle.plan.specs.Convert.{convert}
 use Rattle.plan.specs.Reduce.{reduce}
-use Rattle.plan.specs.Step.{Value, v0, v1, vx, Step, run, first, is1, any1, all1, shows1}
+use Rattle.plan.specs.Step.{Value, v0, v1, vx, Step, run, firstState, is1, any1, all1, shows1}
 use Rattle.laws.proofs.Reading.Common.{and-left, and-right, and-intro}
 use Rattle.laws.proofs.Running.Refinement.{Le, Les}
 use Rattle.laws.proofs.Running.Monotone.{Replaced, Kept, run-monotone}
@@ -68,10 +68,10 @@ pub shows-replaced : (c : Circuit) (is js : List (List Value)) → Replaced is j
 shows-replaced c is js r s s′ h = shows-kept (run c s is) (run c s′ js) (run-monotone c is js r s s′ h)
 
 module _ (c : Circuit) (w : WellFormed c) (is : List (List Value)) (z : Sized (length (c .inputs)) is) where
-  pub shows-converted : shows1 (run (convert c) (first (convert c)) is) ≡ shows1 (run c (first c) is)
+  pub shows-converted : shows1 (run (convert c) (firstState (convert c)) is) ≡ shows1 (run c (firstState c) is)
   shows-converted =
-      ap (λ (s : List Value). shows1 (run (convert c) s is)) (first-convert c) ∙ ap shows1 (convert-run c w is z (first c) (first-length c w))
+      ap (λ (s : List Value). shows1 (run (convert c) s is)) (first-convert c) ∙ ap shows1 (convert-run c w is z (firstState c) (first-length c w))
 
-  pub shows-reduced : (js : List (List Value)) → Replaced is js → (s : List Value) → Les (first c) s
-      → shows1 (run c (first c) is) ≡ true → shows1 (run (reduce (convert c)) s js) ≡ true
-  shows-reduced js r s h = shows-kept (run c (first c) is) (run (reduce (convert c)) s js) (demand-three-from c w is js z r s h)
+  pub shows-reduced : (js : List (List Value)) → Replaced is js → (s : List Value) → Les (firstState c) s
+      → shows1 (run c (firstState c) is) ≡ true → shows1 (run (reduce (convert c)) s js) ≡ true
+  shows-reduced js r s h = shows-kept (run c (firstState c) is) (run (reduce (convert c)) s js) (demand-three-from c w is js z r s h)

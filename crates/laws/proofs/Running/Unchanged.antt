@@ -7,10 +7,10 @@ use mathlib.Core.List.{List, [], _∷_, _++_, map}
 use native.Mathlib.Omega.{arith}
 use lib.ListN.{length}
 use Rattle.plan.specs.Literals.{litOf, varOf}
-use Rattle.plan.specs.Circuit.{Gate, Circuit, lefts, nexts, has}
+use Rattle.plan.specs.Circuit.{Gate, Circuit, leftVars, nexts, has, index}
 use Rattle.plan.specs.Reading.{WellFormed}
 use Rattle.plan.specs.Binary.{latchesFrom, binaryOrder}
-use Rattle.plan.specs.Convert.{ready, past, pick, orderBy, order, sorted, numbered, index, renumber, gateFor, renumberGates, convert}
+use Rattle.plan.specs.Convert.{ready, past, pick, orderBy, order, sorted, numbered, renumber, gateFor, renumberGates, convert}
 use Rattle.laws.proofs.Reading.Common.{and-intro}
 use Rattle.laws.proofs.Reading.Order.{InOrder}
 use Rattle.laws.proofs.Reading.Runs.{upFrom, up-append, lefts-gates, BinaryOrder, order-exactly}
@@ -75,7 +75,7 @@ module _ (c : Circuit) (w : WellFormed c) (b : BinaryOrder c) where
   numbered-same : numbered c ≡ upFrom 0 (inner c + length (c .gates))
   numbered-same =
       let p : inner c ≡ 0 + inner c = omega arith in
-      ap₂ (λ (s t : List ℕ). s ++ t) (leaves-order c b) (ap lefts sorted-same ∙ lefts-gates (inner c) (c .gates) (b .gates))
+      ap₂ (λ (s t : List ℕ). s ++ t) (leaves-order c b) (ap leftVars sorted-same ∙ lefts-gates (inner c) (c .gates) (b .gates))
       ∙ ap (λ (k : ℕ). upFrom 0 (inner c) ++ upFrom k (length (c .gates))) p ∙ sym (up-append 0 (inner c) (length (c .gates)))
 
   used-same : (ls : List ℕ) → Bounded (inner c + length (c .gates)) ls → map (renumber (numbered c)) ls ≡ ls

@@ -9,9 +9,8 @@ use borrow.Author.Tests.{eqb-false, eq-eqb, ne-eqb, leb-true, leb-false}
 use lib.Dec.{eqb, leb}
 use lib.ListN.{length, getD, List·getD-eq-default}
 use Rattle.plan.specs.Literals.{litOf, varOf}
-use Rattle.plan.specs.Circuit.{Circuit, vars, currents, has}
+use Rattle.plan.specs.Circuit.{Circuit, vars, currentVars, has, leaves, index}
 use Rattle.plan.specs.Binary.{litsFrom}
-use Rattle.plan.specs.Convert.{leaves, index}
 use Rattle.plan.specs.Step.{Value, v0, vx, leafValue}
 use Rattle.laws.proofs.Reading.Runs.{upFrom, up-append}
 
@@ -52,7 +51,7 @@ lits-low u (suc n) f z h zero = omega arith
 lits-low u (suc n) f z h (suc v) = lits-low (suc u) n f z (omega arith) v
 
 -- leaves that stand in a row from variable 1 on
-pub leaves-up : (c : Circuit) (i l : ℕ) → vars (c .inputs) ≡ upFrom 1 i → currents (c .latches) ≡ upFrom (1 + i) l
+pub leaves-up : (c : Circuit) (i l : ℕ) → vars (c .inputs) ≡ upFrom 1 i → currentVars (c .latches) ≡ upFrom (1 + i) l
     → leaves c ≡ upFrom 0 (1 + i + l)
 leaves-up c i l p q =
     let e : suc (i + l) ≡ 1 + i + l = omega arith in

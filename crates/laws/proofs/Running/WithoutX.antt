@@ -9,9 +9,8 @@ use native.Mathlib.Omega.{arith}
 use native.Mathlib.Nat.{not-suc-le-zero}
 use lib.ListN.{length, getD, replicate, length-append}
 use Rattle.plan.specs.Literals.{varOf, signOf}
-use Rattle.plan.specs.Circuit.{Gate, Circuit, lefts, has}
+use Rattle.plan.specs.Circuit.{Gate, Circuit, leftVars, has, leaves, index}
 use Rattle.plan.specs.Depends.{find, isNone, both, settled}
-use Rattle.plan.specs.Convert.{leaves, index}
 use Rattle.plan.specs.Step.{Value, v0, v1, vx, and, inv, signedValue, lit, gateValue, valueIn, leafValue, valuesOf}
 use Rattle.laws.proofs.Reading.Common.{and-left, and-right}
 use Rattle.laws.proofs.Running.Refinement.{Le, Les, le-of}
@@ -87,20 +86,20 @@ les-eq (x ∷ xs) (y ∷ ys) h k = ap₂ (λ (a : Value) (t : List Value). a ∷
 
 -- without x in what is given no defined variable is x
 module _ (gs : List Gate) (e : ℕ → Value) (lv : List ℕ) (leaf-not : (v : ℕ) → has v lv ≡ true → NotX (e v))
-    (used : AllG (Sides (lv ++ lefts gs)) gs) where
-  value-notx : (k v : ℕ) → settled gs k v ≡ true → has v (lv ++ lefts gs) ≡ true → NotX (valueIn gs e k v)
+    (used : AllG (Sides (lv ++ leftVars gs)) gs) where
+  value-notx : (k v : ℕ) → settled gs k v ≡ true → has v (lv ++ leftVars gs) ≡ true → NotX (valueIn gs e k v)
   value-notx zero v p d = go (find v gs) (find-says v gs) p
     where
       go : (r : Option Gate) → FindSays v gs r → isNone r ≡ true → NotX (e v)
-      go none h q = leaf-not v (has-but v lv (lefts gs) d (h .0))
+      go none h q = leaf-not v (has-but v lv (leftVars gs) d (h .0))
       go (some g) h q = absurd (false≢true q)
   value-notx (suc k) v p d = go (λ u q t. value-notx k u q t) (find v gs) (find-says v gs) p
     where
-      go : ((u : ℕ) → settled gs k u ≡ true → has u (lv ++ lefts gs) ≡ true → NotX (valueIn gs e k u)) → (r : Option Gate)
+      go : ((u : ℕ) → settled gs k u ≡ true → has u (lv ++ leftVars gs) ≡ true → NotX (valueIn gs e k u)) → (r : Option Gate)
           → FindSays v gs r → both (λ u. settled gs k u) r ≡ true → NotX (gateValue (λ u. valueIn gs e k u) (e v) r)
-      go ih none h q = leaf-not v (has-but v lv (lefts gs) d (h .0))
+      go ih none h q = leaf-not v (has-but v lv (leftVars gs) d (h .0))
       go ih (some g) h q =
-          let s = h .1 (Sides (lv ++ lefts gs)) used in
+          let s = h .1 (Sides (lv ++ leftVars gs)) used in
           notx-and (lit (λ u. valueIn gs e k u) (g .rhs0)) (lit (λ u. valueIn gs e k u) (g .rhs1))
           (notx-signed (signOf (g .rhs0)) (valueIn gs e k (varOf (g .rhs0)))
           (ih (varOf (g .rhs0)) (and-left (settled gs k (varOf (g .rhs0))) (settled gs k (varOf (g .rhs1))) q) (s .0)))
@@ -125,12 +124,12 @@ module _ (c : Circuit) (ok : Accepted c) (s i : List Value) (ls : length s ≡ l
       ))
 
   -- no used literal is x
-  pub lits-nox : (qs : List ℕ) → allIn qs (leaves c ++ lefts (c .gates)) ≡ true → NoX (map (lit (valuesOf c s i)) qs)
+  pub lits-nox : (qs : List ℕ) → allIn qs (leaves c ++ leftVars (c .gates)) ≡ true → NoX (map (lit (valuesOf c s i)) qs)
   lits-nox [] a = tt
   lits-nox (l ∷ qs) a = (
     notx-signed (signOf l) (valuesOf c s i (varOf l))
-        (value-notx (c .gates) (leafValue c s i) (leaves c) leaf-notx (sides-in (leaves c ++ lefts (c .gates)) (c .gates) (ok .used-gate))
+        (value-notx (c .gates) (leafValue c s i) (leaves c) leaf-notx (sides-in (leaves c ++ leftVars (c .gates)) (c .gates) (ok .used-gate))
         (length (c .gates)) (varOf l)
-        (ok .settles (varOf l)) (in-head l qs (leaves c ++ lefts (c .gates)) a)),
-    lits-nox qs (in-tail l qs (leaves c ++ lefts (c .gates)) a),
+        (ok .settles (varOf l)) (in-head l qs (leaves c ++ leftVars (c .gates)) a)),
+    lits-nox qs (in-tail l qs (leaves c ++ leftVars (c .gates)) a),
   )

@@ -12,7 +12,7 @@ use Rattle.plan.specs.Reading.{readFile, WellFormed}
 use Rattle.plan.specs.Binary.{binaryOrder}
 use Rattle.plan.specs.Convert.{convert}
 use Rattle.plan.specs.Reduce.{reduced, latchBecomes, reduce}
-use Rattle.plan.specs.Step.{Value, Step, run, first}
+use Rattle.plan.specs.Step.{Value, Step, run, firstState}
 use Rattle.plan.specs.Outcome.{conversion, reduction}
 use Rattle.plan.specs.Drop.{dropUnused, dropping}
 use Rattle.laws.proofs.Reading.Differences.{Bytes}
@@ -49,25 +49,25 @@ module _ (c : Circuit) (w : WellFormed c) (is js : List (List Value)) (z : Sized
       (subst (λ (n : ℕ). Sized n js) (sym (length-lits 1 (length (c .inputs)))) (replaced-sized (length (c .inputs)) is js r z)) s long)
 
   -- from any state that replaces x of the resets in any way
-  pub demand-three-dropped-from : (s : List Value) → Les (first c) s → Kept (run c (first c) is) (run (after c) s js)
+  pub demand-three-dropped-from : (s : List Value) → Les (firstState c) s → Kept (run c (firstState c) is) (run (after c) s js)
   demand-three-dropped-from s start =
-      subst (λ (x : List Step). Kept (run c (first c) is) x)
-      (same-runs s (sym (les-length (first c) s start) ∙ first-length c w)) (demand-three-from c w is js z r s start)
+      subst (λ (x : List Step). Kept (run c (firstState c) is) x)
+      (same-runs s (sym (les-length (firstState c) s start) ∙ first-length c w)) (demand-three-from c w is js z r s start)
 
   -- from the resets: at every step each output, bad state, constraint and latch that was 0 or 1 is the same after conversion, reduction
   -- and dropping; if the input vectors hold no x and no reset is x, so is every step
-  pub demand-three-dropped : Kept (run c (first c) is) (run (after c) (first (after c)) js)
-      × (NoXs is → NoX (first c) → run c (first c) is ≡ run (after c) (first (after c)) js)
+  pub demand-three-dropped : Kept (run c (firstState c) is) (run (after c) (firstState (after c)) js)
+      × (NoXs is → NoX (firstState c) → run c (firstState c) is ≡ run (after c) (firstState (after c)) js)
   demand-three-dropped =
       let d = demand-three c w is js z r in
-      let e = same-runs (first (after c)) (ap length (first-convert c) ∙ first-length c w) in
-      (subst (λ (x : List Step). Kept (run c (first c) is) x) e (d .0), λ x f. d .1 x f ∙ e)
+      let e = same-runs (firstState (after c)) (ap length (first-convert c) ∙ first-length c w) in
+      (subst (λ (x : List Step). Kept (run c (firstState c) is) x) e (d .0), λ x f. d .1 x f ∙ e)
 
 -- of every file that the reader accepts
 pub demand-three-file : (v : Version) (file lengths : List ℕ) → Bytes file → (c : Circuit) (start : ℕ) → readFile v file lengths ≡ got c start
     → (is js : List (List Value)) → Sized (length (c .inputs)) is → Replaced is js
-    → Kept (run c (first c) is) (run (after c) (first (after c)) js)
-    × (NoXs is → NoX (first c) → run c (first c) is ≡ run (after c) (first (after c)) js)
+    → Kept (run c (firstState c) is) (run (after c) (firstState (after c)) js)
+    × (NoXs is → NoX (firstState c) → run c (firstState c) is ≡ run (after c) (firstState (after c)) js)
 demand-three-file v file lengths bytes c start q =
     demand-three-dropped c (formed v file c (drop start file) (sound v file lengths bytes c start q .0))
 
@@ -76,9 +76,9 @@ pub demand-three-calls : (r : ReadCall) (m : MakeCall conversion) → FromRead (
     → (s : MakeCall reduction) → FromMade conversion (s .entry .circuit) m
     → (u : MakeCall dropping) → FromMade reduction (u .entry .circuit) s
     → (is js : List (List Value)) → Sized (length (readCircuit r .inputs)) is → Replaced is js
-    → Kept (run (readCircuit r) (first (readCircuit r)) is) (run (madeCircuit dropping u) (first (madeCircuit dropping u)) js)
-    × (NoXs is → NoX (first (readCircuit r))
-    → run (readCircuit r) (first (readCircuit r)) is ≡ run (madeCircuit dropping u) (first (madeCircuit dropping u)) js)
+    → Kept (run (readCircuit r) (firstState (readCircuit r)) is) (run (madeCircuit dropping u) (firstState (madeCircuit dropping u)) js)
+    × (NoXs is → NoX (firstState (readCircuit r))
+    → run (readCircuit r) (firstState (readCircuit r)) is ≡ run (madeCircuit dropping u) (firstState (madeCircuit dropping u)) js)
 demand-three-calls r m m-given s s-given u u-given is js sized replaced =
     let c = readCircuit r in
     let reduced-from : madeCircuit reduction s ≡ reduce (convert c)
@@ -86,7 +86,7 @@ demand-three-calls r m m-given s s-given u u-given is js sized replaced =
     ∙ (converted-is m ∙ ap convert (from-read (m .entry .circuit) r m-given))) in
     let d-is : after c ≡ madeCircuit dropping u
     = sym (dropped-is u ∙ ap dropUnused (from-made reduction (u .entry .circuit) s u-given ∙ reduced-from)) in
-    subst (λ (d : Circuit). Kept (run c (first c) is) (run d (first d) js) × (NoXs is → NoX (first c) → run c (first c) is ≡ run d (first d) js)) d-is
+    subst (λ (d : Circuit). Kept (run c (firstState c) is) (run d (firstState d) js) × (NoXs is → NoX (firstState c) → run c (firstState c) is ≡ run d (firstState d) js)) d-is
     (demand-three-dropped c (read-formed r) is js sized replaced)
 
 -- the same in the bytes of the stepper's calls: of what the conversion left on one list, and of what dropping left on a list in which any x is
@@ -118,11 +118,11 @@ module _ (r : ReadCall) (m : MakeCall conversion) (m-given : FromRead (m .entry 
 
   module _ (is js : List (List Value)) (sized : Sized (length (readCircuit r .inputs)) is) (replaced : Replaced is js)
       (outs outs′ : List ℕ) (room : length outs ≡ length (readCircuit r .outputs)) (room′ : length outs′ ≡ length (readCircuit r .outputs)) where
-    runs : Kept (run d (first d) is) (run (dropUnused (reduce d)) (first d) js)
-        × (NoXs is → NoX (first d) → run d (first d) is ≡ run (dropUnused (reduce d)) (first d) js)
+    runs : Kept (run d (firstState d) is) (run (dropUnused (reduce d)) (firstState d) js)
+        × (NoXs is → NoX (firstState d) → run d (firstState d) is ≡ run (dropUnused (reduce d)) (firstState d) js)
     runs =
-        subst (λ (e : Circuit). Kept (run d (first d) is) (run (dropUnused (reduce e)) (first e) js)
-        × (NoXs is → NoX (first d) → run d (first d) is ≡ run (dropUnused (reduce e)) (first e) js))
+        subst (λ (e : Circuit). Kept (run d (firstState d) is) (run (dropUnused (reduce e)) (firstState e) js)
+        × (NoXs is → NoX (firstState d) → run d (firstState d) is ≡ run (dropUnused (reduce e)) (firstState e) js))
         (convert-same d w o) (demand-three-dropped d w is js (converted-sized r m m-given is sized) replaced)
 
     pub demand-three-dropped-steps : KeptSteps (stepsFrom (readCircuit r) (leftBy conversion m) outs is)
@@ -130,7 +130,7 @@ module _ (r : ReadCall) (m : MakeCall conversion) (m-given : FromRead (m .entry 
     demand-three-dropped-steps =
         later-kept r m m-given (dropUnused (reduce d)) (leftBy dropping u) follows is js sized replaced outs outs′ room room′ (runs .0)
 
-    pub same-dropped-steps : NoXs is → NoX (first (readCircuit r))
+    pub same-dropped-steps : NoXs is → NoX (firstState (readCircuit r))
         → map shown (stepsFrom (readCircuit r) (leftBy conversion m) outs is) ≡ map shown (stepsFrom (readCircuit r) (leftBy dropping u) outs′ js)
     same-dropped-steps x =
         later-same r m m-given (dropUnused (reduce d)) (leftBy dropping u) follows is js sized replaced outs outs′ room room′ (runs .1 x)

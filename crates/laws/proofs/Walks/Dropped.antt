@@ -10,11 +10,11 @@ use native.Mathlib.Decide.{decLt}
 use lib.Dec.{eqb}
 use lib.ListN.{length}
 use Rattle.plan.specs.Literals.{litOf, varOf, isReset}
-use Rattle.plan.specs.Circuit.{Gate, Latch, Circuit, lefts, nexts, has, resetsOk}
+use Rattle.plan.specs.Circuit.{Gate, Latch, Circuit, leftVars, nexts, has, resetsOk, leaves, index}
 use Rattle.plan.specs.Depends.{find}
 use Rattle.plan.specs.Reading.{WellFormed}
 use Rattle.plan.specs.Binary.{latchesFrom, binaryOrder}
-use Rattle.plan.specs.Convert.{leaves, past, pick, orderBy, order, sorted, numbered, index, renumber, renumberGates, convert}
+use Rattle.plan.specs.Convert.{past, pick, orderBy, order, sorted, numbered, renumber, renumberGates, convert}
 use Rattle.plan.specs.Step.{Value, nextOf, stepOf, Step, run}
 use Rattle.laws.proofs.Reading.Common.{and-left, and-right, and-intro}
 use Rattle.laws.proofs.Reading.Runs.{length-nexts, upFrom, BinaryOrder, order-exactly}
@@ -113,7 +113,7 @@ module _ (c : Circuit) (w : WellFormed c) (t : binaryOrder c ≡ true) where
       let z : 0 + v ≡ v = omega arith in
       let there : has v (leaves c) ≡ true
       = subst (λ (l : List ℕ). has v l ≡ true) (sym (leaves-order c b)) (has-up 0 (inner c) v (omega arith) (omega arith)) in
-      index-left v (leaves c) (lefts (used c .gates)) there ∙ ap (index v) (leaves-order c b)
+      index-left v (leaves c) (leftVars (used c .gates)) there ∙ ap (index v) (leaves-order c b)
       ∙ ap (λ (u : ℕ). index u (upFrom 0 (inner c))) (sym z) ∙ index-up 0 (inner c) v h
 
   pub used-readied : Readied (leaves c) (used c .gates)
@@ -141,7 +141,7 @@ module _ (c : Circuit) (w : WellFormed c) (t : binaryOrder c ≡ true) where
   })
     where
       same : numbered (used c) ≡ left (used c)
-      same = ap (λ (gs : List Gate). leaves c ++ lefts gs) used-sorted
+      same = ap (λ (gs : List Gate). leaves c ++ leftVars gs) used-sorted
 
       lats : latchesFrom (1 + length (c .inputs)) (map (renumber (numbered (used c))) (nexts (c .latches)))
           ≡ map (latchRenumbered (left (used c))) (c .latches)

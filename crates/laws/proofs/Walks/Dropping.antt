@@ -13,12 +13,12 @@ use Rattle.plan.specs.declared.Refusal.the-variants.{NotInOrder}
 use Rattle.plan.specs.declared.Made.the-variants as made
 use Rattle.plan.specs.Refusals.{firstOf}
 use Rattle.plan.specs.Literals.{varOf}
-use Rattle.plan.specs.Circuit.{Gate, Circuit, Tables, countsOf, lefts, has, wordsToWork, against, short, lengthsOf}
+use Rattle.plan.specs.Circuit.{Gate, Circuit, Tables, countsOf, leftVars, has, wordsToWork, against, leastShort, lengthsOf, leaves, index}
 use Rattle.plan.specs.Depends.{find}
 use Rattle.plan.specs.Binary.{binaryOrder}
 use Rattle.plan.specs.Reading.{WellFormed}
-use Rattle.plan.specs.Given.{Given, given, lentWith, failing, stages, orderStage}
-use Rattle.plan.specs.Convert.{leaves, index, renumber, gateFor}
+use Rattle.plan.specs.Given.{Given, givenCircuit, lentWith, failing, stages, orderStage}
+use Rattle.plan.specs.Convert.{renumber, gateFor}
 use Rattle.plan.specs.Outcome.{madeBy}
 use Rattle.plan.specs.Drop.{Reached, reached, used, left, dropUnused, dropping}
 use Rattle.laws.proofs.Reading.Members.{distinct}
@@ -80,7 +80,7 @@ module _ (c : Circuit) (w : WellFormed c) (t : binaryOrder c ≡ true) where
 
   there : (u : ℕ) (g : Gate) → find u (c .gates) ≡ some g → Reached c u → has u (left (used c)) ≡ true
   there u g f r =
-      has-right u (leaves (used c)) (lefts (used c .gates))
+      has-right u (leaves (used c)) (leftVars (used c .gates))
       (of-lefts (reached c) (c .gates) u (gate-left u (c .gates) g f) (reached-exactly c w t u .1 r))
 
   -- so a gate is left exactly if it is reached
@@ -102,31 +102,31 @@ module _ (u : MakeCall dropping) where
   g = u .entry .circuit
 
   abbrev before : Circuit
-  before = given (u .entry .circuit)
+  before = givenCircuit (u .entry .circuit)
 
   passed : firstOf (stages g (lentWith g (u .entry .written)) ++ (orderStage g ∷ [])) ≡ none
   passed =
       made-none (λ o. madeBy o (u .entry) (dropUnused before) .answer) (λ r. refl)
       (firstOf (stages g (lentWith g (u .entry .written)) ++ (orderStage g ∷ []))) (u .counts) (u .accepted)
 
-  pub given-formed : WellFormed (given (u .entry .circuit))
+  pub given-formed : WellFormed (givenCircuit (u .entry .circuit))
   given-formed =
       nothing-fine g (lentWith g (u .entry .written)) (first-both (stages g (lentWith g (u .entry .written))) (orderStage g ∷ []) passed .0) .formed
 
-  pub given-in-order : binaryOrder (given (u .entry .circuit)) ≡ true
+  pub given-in-order : binaryOrder (givenCircuit (u .entry .circuit)) ≡ true
   given-in-order =
       let last = first-all (orderStage g ∷ []) (first-both (stages g (lentWith g (u .entry .written))) (orderStage g ∷ []) passed .1) in
       failing-none (binaryOrder before) (stage-none NotInOrder (failing (binaryOrder before)) (last .0))
 
   -- what it leaves has exactly the reached gates of what it was given, under their new numbers
-  pub call-retains-exactly : (v : ℕ) (g : Gate) → find v (given (u .entry .circuit) .gates) ≡ some g
-      → Reached (given (u .entry .circuit)) v
-      ↔ (find (newNumber (given (u .entry .circuit)) v) (madeCircuit dropping u .gates) ≡ some (renumbered (given (u .entry .circuit)) v g))
+  pub call-retains-exactly : (v : ℕ) (g : Gate) → find v (givenCircuit (u .entry .circuit) .gates) ≡ some g
+      → Reached (givenCircuit (u .entry .circuit)) v
+      ↔ (find (newNumber (givenCircuit (u .entry .circuit)) v) (madeCircuit dropping u .gates) ≡ some (renumbered (givenCircuit (u .entry .circuit)) v g))
   call-retains-exactly v h f =
       subst (λ (d : Circuit). Reached before v ↔ (find (newNumber before v) (d .gates) ≡ some (renumbered before v h))) (sym (dropped-is u))
       (retains-reached before given-formed given-in-order v h f)
 
-  pub call-retains-only : AllG (λ h. ReachedGate (given (u .entry .circuit)) (varOf (h .lhs))) (madeCircuit dropping u .gates)
+  pub call-retains-only : AllG (λ h. ReachedGate (givenCircuit (u .entry .circuit)) (varOf (h .lhs))) (madeCircuit dropping u .gates)
   call-retains-only =
       subst (λ (d : Circuit). AllG (λ h. ReachedGate before (varOf (h .lhs))) (d .gates)) (sym (dropped-is u))
       (retains-only-reached before given-formed given-in-order)
@@ -147,12 +147,12 @@ module _ (u : MakeCall dropping) where
   abbrev pub leftBy : Given
   leftBy = record { counts = u .counts; tables = dropping (u .entry) .written; scratch = dropping (u .entry) .scratch }
 
-  pub drop-again-accepted : (t : Tables) → short (against 1 (wordsToWork (u .counts)) (lengthsOf t (dropping (u .entry) .scratch))) ≡ none
+  pub drop-again-accepted : (t : Tables) → leastShort (against 1 (wordsToWork (u .counts)) (lengthsOf t (dropping (u .entry) .scratch))) ≡ none
       → dropping (record { circuit = leftBy; written = t }) .answer ≡ made.Accepted (u .counts)
   drop-again-accepted t long =
       let l = dropping-left (u .entry) (u .counts) (u .accepted) in
       let d = dropUnused before in
       dropping-accepted leftBy d (l .0) t
-      (ap (λ (m : Counts). short (against 1 (wordsToWork m) (lengthsOf t (dropping (u .entry) .scratch)))) (sym (l .0 .counts)) ∙ long) (l .1)
+      (ap (λ (m : Counts). leastShort (against 1 (wordsToWork m) (lengthsOf t (dropping (u .entry) .scratch)))) (sym (l .0 .counts)) ∙ long) (l .1)
       ∙ (ap (λ (x : Circuit). made.Accepted (countsOf x)) (drop-again before given-formed given-in-order)
       ∙ ap made.Accepted (sym (l .0 .counts)))

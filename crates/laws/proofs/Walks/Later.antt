@@ -10,11 +10,11 @@ use lib.ListN.{length, length-map}
 use Rattle.plan.specs.declared.Counts.{Counts}
 use Rattle.plan.specs.declared.Version.{Version}
 use Rattle.plan.specs.declared.Made.the-variants as made
-use Rattle.plan.specs.Circuit.{Circuit, Tables, countsOf, wordsToWork, against, short, lengthsOf}
+use Rattle.plan.specs.Circuit.{Circuit, Tables, countsOf, wordsToWork, against, leastShort, lengthsOf}
 use Rattle.plan.specs.Tail.{TailOk}
 use Rattle.plan.specs.Reading.{WellFormed}
 use Rattle.plan.specs.Binary.{binaryOrder}
-use Rattle.plan.specs.Given.{Given, given}
+use Rattle.plan.specs.Given.{Given, givenCircuit}
 use Rattle.plan.specs.Convert.{renumber}
 use Rattle.plan.specs.Outcome.{MakeEntry}
 use Rattle.plan.specs.Drop.{reached, used, left, latchRenumbered, dropUnused, dropping}
@@ -76,15 +76,15 @@ fitting c w t = record {
 }
 
 pub dropping-left : (e : MakeEntry) (n : Counts) → dropping e .answer ≡ made.Accepted n
-    → Left (record { counts = n; tables = dropping e .written; scratch = dropping e .scratch }) (dropUnused (given (e .circuit)))
-    × (binaryOrder (dropUnused (given (e .circuit))) ≡ true)
+    → Left (record { counts = n; tables = dropping e .written; scratch = dropping e .scratch }) (dropUnused (givenCircuit (e .circuit)))
+    × (binaryOrder (dropUnused (givenCircuit (e .circuit))) ≡ true)
 dropping-left = in-order-left dropUnused fitting
 
-pub dropped-is : (m : MakeCall dropping) → madeCircuit dropping m ≡ dropUnused (given (m .entry .circuit))
+pub dropped-is : (m : MakeCall dropping) → madeCircuit dropping m ≡ dropUnused (givenCircuit (m .entry .circuit))
 dropped-is m = dropping-left (m .entry) (m .counts) (m .accepted) .0 .holds
 
 -- and dropping accepts what an earlier call left in binary order
 pub dropping-accepted : (g : Given) (c : Circuit) → Left g c → (t : Tables)
-    → short (against 1 (wordsToWork (countsOf c)) (lengthsOf t (g .scratch))) ≡ none → binaryOrder c ≡ true
+    → leastShort (against 1 (wordsToWork (countsOf c)) (lengthsOf t (g .scratch))) ≡ none → binaryOrder c ≡ true
     → dropping (record { circuit = g; written = t }) .answer ≡ made.Accepted (countsOf (dropUnused c))
 dropping-accepted g c l t long o = in-order-accepted g c l t long dropUnused o

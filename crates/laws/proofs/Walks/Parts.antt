@@ -9,7 +9,7 @@ use borrow.Author.Tests.{eqb-true}
 use lib.Dec.{eqb}
 use lib.ListN.{length}
 use Rattle.plan.specs.Literals.{varOf}
-use Rattle.plan.specs.Circuit.{Gate, gateLine, lefts, has, allNew, inside, allInside}
+use Rattle.plan.specs.Circuit.{Gate, gateLine, leftVars, has, allNew, inside, allInside}
 use Rattle.plan.specs.Depends.{find, Depends, one, more}
 use Rattle.laws.proofs.Reading.Common.{and-left, and-right, and-intro}
 use Rattle.laws.proofs.Reading.Members.{has-self, has-later, has-cases, has-not, distinct}
@@ -86,60 +86,60 @@ of-all vs [] a = refl
 of-all vs (g ∷ gs) a = rw (a .0) (ap (λ (t : List Gate). g ∷ t) (of-all vs gs (a .1)))
 
 -- left sides
-pub lefts-of : (vs : List ℕ) (gs : List Gate) (v : ℕ) → has v (lefts (gatesOf vs gs)) ≡ true → has v (lefts gs) ≡ true
+pub lefts-of : (vs : List ℕ) (gs : List Gate) (v : ℕ) → has v (leftVars (gatesOf vs gs)) ≡ true → has v (leftVars gs) ≡ true
 lefts-of vs [] v h = h
 lefts-of vs (g ∷ gs) v h = go (has (varOf (g .lhs)) vs) h (lefts-of vs gs v)
   where
-    go : (t : Bool) → has v (lefts (cond t (g ∷ gatesOf vs gs) (gatesOf vs gs))) ≡ true
-        → (has v (lefts (gatesOf vs gs)) ≡ true → has v (lefts gs) ≡ true) → has v (lefts (g ∷ gs)) ≡ true
+    go : (t : Bool) → has v (leftVars (cond t (g ∷ gatesOf vs gs) (gatesOf vs gs))) ≡ true
+        → (has v (leftVars (gatesOf vs gs)) ≡ true → has v (leftVars gs) ≡ true) → has v (leftVars (g ∷ gs)) ≡ true
     go true k ih =
-        has-cases (has v (lefts (g ∷ gs)) ≡ true) (varOf (g .lhs)) v (lefts (gatesOf vs gs)) k
-        (λ e. subst (λ (x : ℕ). has x (lefts (g ∷ gs)) ≡ true) e (has-self (varOf (g .lhs)) (lefts gs)))
-        (λ p. has-later v (varOf (g .lhs)) (lefts gs) (ih p))
-    go false k ih = has-later v (varOf (g .lhs)) (lefts gs) (ih k)
+        has-cases (has v (leftVars (g ∷ gs)) ≡ true) (varOf (g .lhs)) v (leftVars (gatesOf vs gs)) k
+        (λ e. subst (λ (x : ℕ). has x (leftVars (g ∷ gs)) ≡ true) e (has-self (varOf (g .lhs)) (leftVars gs)))
+        (λ p. has-later v (varOf (g .lhs)) (leftVars gs) (ih p))
+    go false k ih = has-later v (varOf (g .lhs)) (leftVars gs) (ih k)
 
-pub of-lefts : (vs : List ℕ) (gs : List Gate) (v : ℕ) → has v (lefts gs) ≡ true → has v vs ≡ true → has v (lefts (gatesOf vs gs)) ≡ true
+pub of-lefts : (vs : List ℕ) (gs : List Gate) (v : ℕ) → has v (leftVars gs) ≡ true → has v vs ≡ true → has v (leftVars (gatesOf vs gs)) ≡ true
 of-lefts vs [] v h k = h
 of-lefts vs (g ∷ gs) v h k =
-    has-cases (has v (lefts (gatesOf vs (g ∷ gs))) ≡ true) (varOf (g .lhs)) v (lefts gs) h
-    (λ e. subst (λ (x : ℕ). has x (lefts (gatesOf vs (g ∷ gs))) ≡ true) e (here (subst (λ (x : ℕ). has x vs ≡ true) (sym e) k)))
+    has-cases (has v (leftVars (gatesOf vs (g ∷ gs))) ≡ true) (varOf (g .lhs)) v (leftVars gs) h
+    (λ e. subst (λ (x : ℕ). has x (leftVars (gatesOf vs (g ∷ gs))) ≡ true) e (here (subst (λ (x : ℕ). has x vs ≡ true) (sym e) k)))
     (λ p. later (has (varOf (g .lhs)) vs) (of-lefts vs gs v p k))
   where
-    here : has (varOf (g .lhs)) vs ≡ true → has (varOf (g .lhs)) (lefts (gatesOf vs (g ∷ gs))) ≡ true
-    here e = rw e (has-self (varOf (g .lhs)) (lefts (gatesOf vs gs)))
+    here : has (varOf (g .lhs)) vs ≡ true → has (varOf (g .lhs)) (leftVars (gatesOf vs (g ∷ gs))) ≡ true
+    here e = rw e (has-self (varOf (g .lhs)) (leftVars (gatesOf vs gs)))
 
-    later : (t : Bool) → has v (lefts (gatesOf vs gs)) ≡ true → has v (lefts (cond t (g ∷ gatesOf vs gs) (gatesOf vs gs))) ≡ true
-    later true p = has-later v (varOf (g .lhs)) (lefts (gatesOf vs gs)) p
+    later : (t : Bool) → has v (leftVars (gatesOf vs gs)) ≡ true → has v (leftVars (cond t (g ∷ gatesOf vs gs) (gatesOf vs gs))) ≡ true
+    later true p = has-later v (varOf (g .lhs)) (leftVars (gatesOf vs gs)) p
     later false p = p
 
 -- after some variables, the left sides stay all different
-distinct-lefts : (vs : List ℕ) (gs : List Gate) → distinct (lefts gs) ≡ true → distinct (lefts (gatesOf vs gs)) ≡ true
+distinct-lefts : (vs : List ℕ) (gs : List Gate) → distinct (leftVars gs) ≡ true → distinct (leftVars (gatesOf vs gs)) ≡ true
 distinct-lefts vs [] d = refl
-distinct-lefts vs (g ∷ gs) d = go (has (varOf (g .lhs)) vs) (distinct-lefts vs gs (distinct-tail (varOf (g .lhs)) (lefts gs) d))
+distinct-lefts vs (g ∷ gs) d = go (has (varOf (g .lhs)) vs) (distinct-lefts vs gs (distinct-tail (varOf (g .lhs)) (leftVars gs) d))
   where
-    go : (t : Bool) → distinct (lefts (gatesOf vs gs)) ≡ true → distinct (lefts (cond t (g ∷ gatesOf vs gs) (gatesOf vs gs))) ≡ true
+    go : (t : Bool) → distinct (leftVars (gatesOf vs gs)) ≡ true → distinct (leftVars (cond t (g ∷ gatesOf vs gs) (gatesOf vs gs))) ≡ true
     go true ih =
-        distinct-cons (varOf (g .lhs)) (lefts (gatesOf vs gs))
-        (absent (has (varOf (g .lhs)) (lefts (gatesOf vs gs)))
-        (λ p. false≢true (sym (distinct-head (varOf (g .lhs)) (lefts gs) d) ∙ lefts-of vs gs (varOf (g .lhs)) p)))
+        distinct-cons (varOf (g .lhs)) (leftVars (gatesOf vs gs))
+        (absent (has (varOf (g .lhs)) (leftVars (gatesOf vs gs)))
+        (λ p. false≢true (sym (distinct-head (varOf (g .lhs)) (leftVars gs) d) ∙ lefts-of vs gs (varOf (g .lhs)) p)))
         ih
     go false ih = ih
 
 -- what is in a joined list, if the second part has no more than it had
-joined-of : (xs : List ℕ) (vs : List ℕ) (gs : List Gate) (v : ℕ) → has v (xs ++ lefts (gatesOf vs gs)) ≡ true → has v (xs ++ lefts gs) ≡ true
-joined-of xs vs gs v h = go (has v (lefts (gatesOf vs gs))) refl
+joined-of : (xs : List ℕ) (vs : List ℕ) (gs : List Gate) (v : ℕ) → has v (xs ++ leftVars (gatesOf vs gs)) ≡ true → has v (xs ++ leftVars gs) ≡ true
+joined-of xs vs gs v h = go (has v (leftVars (gatesOf vs gs))) refl
   where
-    go : (t : Bool) → has v (lefts (gatesOf vs gs)) ≡ t → has v (xs ++ lefts gs) ≡ true
-    go true p = has-right v xs (lefts gs) (lefts-of vs gs v p)
-    go false p = has-left v xs (lefts gs) (has-but v xs (lefts (gatesOf vs gs)) h p)
+    go : (t : Bool) → has v (leftVars (gatesOf vs gs)) ≡ t → has v (xs ++ leftVars gs) ≡ true
+    go true p = has-right v xs (leftVars gs) (lefts-of vs gs v p)
+    go false p = has-left v xs (leftVars gs) (has-but v xs (leftVars (gatesOf vs gs)) h p)
 
-pub distinct-of : (xs : List ℕ) (vs : List ℕ) (gs : List Gate) → distinct (xs ++ lefts gs) ≡ true → distinct (xs ++ lefts (gatesOf vs gs)) ≡ true
+pub distinct-of : (xs : List ℕ) (vs : List ℕ) (gs : List Gate) → distinct (xs ++ leftVars gs) ≡ true → distinct (xs ++ leftVars (gatesOf vs gs)) ≡ true
 distinct-of [] vs gs d = distinct-lefts vs gs d
 distinct-of (x ∷ xs) vs gs d =
-    distinct-cons x (xs ++ lefts (gatesOf vs gs))
-    (absent (has x (xs ++ lefts (gatesOf vs gs)))
-    (λ p. false≢true (sym (distinct-head x (xs ++ lefts gs) d) ∙ joined-of xs vs gs x p)))
-    (distinct-of xs vs gs (distinct-tail x (xs ++ lefts gs) d))
+    distinct-cons x (xs ++ leftVars (gatesOf vs gs))
+    (absent (has x (xs ++ leftVars (gatesOf vs gs)))
+    (λ p. false≢true (sym (distinct-head x (xs ++ leftVars gs) d) ∙ joined-of xs vs gs x p)))
+    (distinct-of xs vs gs (distinct-tail x (xs ++ leftVars gs) d))
 
 -- all different and none of `seen`: none stands among `seen` or earlier in the list
 pub distinct-new : (seen xs : List ℕ) → distinct xs ≡ true → ((v : ℕ) → has v xs ≡ true → has v seen ≡ false) → allNew seen xs ≡ true

@@ -10,10 +10,10 @@ use borrow.Author.Tests.{eqb-true}
 use lib.Dec.{eqb}
 use lib.ListN.{getD}
 use Rattle.plan.specs.Literals.{litOf, varOf, signOf, negOf}
-use Rattle.plan.specs.Circuit.{Gate, Circuit, has}
+use Rattle.plan.specs.Circuit.{Gate, Circuit, has, index}
 use Rattle.plan.specs.Reading.{WellFormed}
 use Rattle.plan.specs.Binary.{binaryOrder}
-use Rattle.plan.specs.Convert.{index, renumber, gateFor, renumberGates}
+use Rattle.plan.specs.Convert.{renumber, gateFor, renumberGates}
 use Rattle.plan.specs.Reduce.{twin, reduce}
 use Rattle.plan.specs.Drop.{reached, gatesOf, used, left, dropUnused}
 use Rattle.laws.proofs.Reading.Common.{and-left, and-right}

@@ -11,11 +11,11 @@ use lib.Dec.{eqb}
 use lib.ListN.{length, length-append}
 use lib.Seq.{append-snoc}
 use Rattle.plan.specs.Literals.{litOf, varOf}
-use Rattle.plan.specs.Circuit.{Gate, Latch, Circuit, vars, lefts, nexts, observed, roots, has}
+use Rattle.plan.specs.Circuit.{Gate, Latch, Circuit, vars, leftVars, nexts, observed, roots, has, leaves, index}
 use Rattle.plan.specs.Depends.{find}
 use Rattle.plan.specs.Reading.{WellFormed}
 use Rattle.plan.specs.Binary.{binaryOrder}
-use Rattle.plan.specs.Convert.{leaves, index, renumber, gateFor, renumberGates, convert}
+use Rattle.plan.specs.Convert.{renumber, gateFor, renumberGates, convert}
 use Rattle.laws.proofs.Reading.Members.{has-self, has-later, has-cases, distinct}
 use Rattle.laws.proofs.Reading.Cycles.{none-of}
 use Rattle.laws.proofs.Running.Lists.{apart}
@@ -44,10 +44,10 @@ index-seam u p ys h = index-after u p (u ∷ ys) h ∙ rw (eq-eqb u u refl) (ome
 length-snoc : (p : List ℕ) (x : ℕ) → length (p ++ (x ∷ [])) ≡ suc (length p)
 length-snoc p x = length-append p (x ∷ []) ∙ omega arith
 
-pub gate-left : (u : ℕ) (gs : List Gate) (g : Gate) → find u gs ≡ some g → has u (lefts gs) ≡ true
-gate-left u gs g e = go (has u (lefts gs)) refl
+pub gate-left : (u : ℕ) (gs : List Gate) (g : Gate) → find u gs ≡ some g → has u (leftVars gs) ≡ true
+gate-left u gs g e = go (has u (leftVars gs)) refl
   where
-    go : (t : Bool) → has u (lefts gs) ≡ t → t ≡ true
+    go : (t : Bool) → has u (leftVars gs) ≡ t → t ≡ true
     go true p = refl
     go false p = let q = sym (none-of u gs p) ∙ e in let z : _≡_ {A = ℕ} 0 1 = cc in absurd (omega arith)
 
@@ -55,22 +55,22 @@ half : (n : ℕ) → varOf (litOf n) ≡ n
 half n = omega arith
 
 module _ (o : List ℕ) where
-  pub here-first : (p : List ℕ) (g : Gate) (gs : List Gate) → distinct (p ++ lefts (g ∷ gs)) ≡ true → o ≡ p ++ lefts (g ∷ gs)
+  pub here-first : (p : List ℕ) (g : Gate) (gs : List Gate) → distinct (p ++ leftVars (g ∷ gs)) ≡ true → o ≡ p ++ leftVars (g ∷ gs)
       → index (varOf (g .lhs)) o ≡ length p
   here-first p g gs d e =
       ap (index (varOf (g .lhs))) e
-      ∙ index-seam (varOf (g .lhs)) p (lefts gs) (apart p (lefts (g ∷ gs)) d (varOf (g .lhs)) (has-self (varOf (g .lhs)) (lefts gs)))
+      ∙ index-seam (varOf (g .lhs)) p (leftVars gs) (apart p (leftVars (g ∷ gs)) d (varOf (g .lhs)) (has-self (varOf (g .lhs)) (leftVars gs)))
 
   -- the gate of a variable's new number
-  pub found-at : (p : List ℕ) (gs : List Gate) → distinct (p ++ lefts gs) ≡ true → o ≡ p ++ lefts gs → (u : ℕ) (g : Gate) → find u gs ≡ some g
+  pub found-at : (p : List ℕ) (gs : List Gate) → distinct (p ++ leftVars gs) ≡ true → o ≡ p ++ leftVars gs → (u : ℕ) (g : Gate) → find u gs ≡ some g
       → find (index u o) (renumberGates o (length p) gs) ≡ some (gateFor (index u o) (renumber o (g .rhs0)) (renumber o (g .rhs1)))
   found-at p [] d e u g q = let z : _≡_ {A = ℕ} 0 1 = cc in absurd (omega arith)
   found-at p (j ∷ gs) d e u g q =
       go (eqb (varOf (j .lhs)) u) refl q
       (found-at (p ++ (varOf (j .lhs) ∷ [])) gs (subst (λ (l : List ℕ). distinct l ≡ true) (sym snoc) d) (e ∙ sym snoc) u g)
     where
-      snoc : (p ++ (varOf (j .lhs) ∷ [])) ++ lefts gs ≡ p ++ (varOf (j .lhs) ∷ lefts gs)
-      snoc = append-snoc p (varOf (j .lhs)) (lefts gs)
+      snoc : (p ++ (varOf (j .lhs) ∷ [])) ++ leftVars gs ≡ p ++ (varOf (j .lhs) ∷ leftVars gs)
+      snoc = append-snoc p (varOf (j .lhs)) (leftVars gs)
 
       this : ℕ → Gate
       this n = gateFor n (renumber o (j .rhs0)) (renumber o (j .rhs1))
@@ -88,23 +88,23 @@ module _ (o : List ℕ) where
           ∙ ap₂ (λ (n : ℕ) (x : Gate). some (gateFor n (renumber o (x .rhs0)) (renumber o (x .rhs1)))) (sym at) same
       go false t q ih =
           let out : has u (p ++ (varOf (j .lhs) ∷ [])) ≡ false
-          = apart (p ++ (varOf (j .lhs) ∷ [])) (lefts gs) (subst (λ (l : List ℕ). distinct l ≡ true) (sym snoc) d) u (gate-left u gs g q) in
-          let at : index u o ≡ length (p ++ (varOf (j .lhs) ∷ [])) + index u (lefts gs)
-          = ap (index u) (e ∙ sym snoc) ∙ index-after u (p ++ (varOf (j .lhs) ∷ [])) (lefts gs) out in
+          = apart (p ++ (varOf (j .lhs) ∷ [])) (leftVars gs) (subst (λ (l : List ℕ). distinct l ≡ true) (sym snoc) d) u (gate-left u gs g q) in
+          let at : index u o ≡ length (p ++ (varOf (j .lhs) ∷ [])) + index u (leftVars gs)
+          = ap (index u) (e ∙ sym snoc) ∙ index-after u (p ++ (varOf (j .lhs) ∷ [])) (leftVars gs) out in
           ap (λ (b : Bool). cond b (some (this (length p))) (find (index u o) (renumberGates o (suc (length p)) gs)))
           (ne-eqb (varOf (litOf (length p))) (index u o) (λ x. omega (arith, x, at, length-snoc p (varOf (j .lhs)))))
           ∙ ap (λ (n : ℕ). find (index u o) (renumberGates o n gs)) (sym (length-snoc p (varOf (j .lhs)))) ∙ ih q
 
   -- what holds of the new number of each gate's variable
-  pub all-renumbered : (Q : ℕ → Type 0) (p : List ℕ) (gs : List Gate) → distinct (p ++ lefts gs) ≡ true → o ≡ p ++ lefts gs
+  pub all-renumbered : (Q : ℕ → Type 0) (p : List ℕ) (gs : List Gate) → distinct (p ++ leftVars gs) ≡ true → o ≡ p ++ leftVars gs
       → AllG (λ g. Q (index (varOf (g .lhs)) o)) gs → AllG (λ g. Q (varOf (g .lhs))) (renumberGates o (length p) gs)
   all-renumbered Q p [] d e a = tt
   all-renumbered Q p (g ∷ gs) d e a = (
     subst Q (here-first p g gs d e ∙ sym (half (length p))) (a .0),
     subst (λ (n : ℕ). AllG (λ j. Q (varOf (j .lhs))) (renumberGates o n gs)) (length-snoc p (varOf (g .lhs)))
         (all-renumbered Q (p ++ (varOf (g .lhs) ∷ [])) gs
-        (subst (λ (l : List ℕ). distinct l ≡ true) (sym (append-snoc p (varOf (g .lhs)) (lefts gs))) d)
-        (e ∙ sym (append-snoc p (varOf (g .lhs)) (lefts gs))) (a .1)),
+        (subst (λ (l : List ℕ). distinct l ≡ true) (sym (append-snoc p (varOf (g .lhs)) (leftVars gs))) d)
+        (e ∙ sym (append-snoc p (varOf (g .lhs)) (leftVars gs))) (a .1)),
   )
 
 -- roots under their new numbers

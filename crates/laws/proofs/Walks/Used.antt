@@ -8,11 +8,10 @@ use mathlib.Core.List.{List, [], _∷_, _++_, map, append-assoc}
 use native.Mathlib.Omega.{arith}
 use lib.ListN.{length}
 use Rattle.plan.specs.Literals.{varOf, signOf}
-use Rattle.plan.specs.Circuit.{Gate, Circuit, vars, currents, lefts, nexts, observed, roots, rights, definedIn, usedIn, has, allNew}
+use Rattle.plan.specs.Circuit.{Gate, Circuit, vars, currentVars, leftVars, nexts, observed, roots, rights, definedIn, usedIn, has, allNew, leaves}
 use Rattle.plan.specs.Depends.{find}
 use Rattle.plan.specs.Reading.{WellFormed}
 use Rattle.plan.specs.Binary.{binaryOrder}
-use Rattle.plan.specs.Convert.{leaves}
 use Rattle.plan.specs.Step.{Value, and, signedValue, lit, gateValue, leafValue, valuesOf, stepOf}
 use Rattle.laws.proofs.Reading.Members.{has-self, has-later, has-cases, distinct}
 use Rattle.laws.proofs.Reading.Runs.{order-exactly}
@@ -126,22 +125,22 @@ module _ (c : Circuit) (w : WellFormed c) (t : binaryOrder c ≡ true) where
 
   still-defined : (v : ℕ) → has v (usedIn (used c)) ≡ true → has v (zero ∷ definedIn (used c)) ≡ true
   still-defined v h =
-      subst (λ (l : List ℕ). has v l ≡ true) (leaves-lefts (used c)) (go (has v (lefts (c .gates))) refl)
+      subst (λ (l : List ℕ). has v l ≡ true) (leaves-lefts (used c)) (go (has v (leftVars (c .gates))) refl)
     where
-      before : has v (leaves c ++ lefts (c .gates)) ≡ true
+      before : has v (leaves c ++ leftVars (c .gates)) ≡ true
       before = subst (λ (l : List ℕ). has v l ≡ true) (sym (leaves-lefts c)) (w .defined v (was-used v h))
 
-      go : (b : Bool) → has v (lefts (c .gates)) ≡ b → has v (leaves c ++ lefts (used c .gates)) ≡ true
-      go true p = has-right v (leaves c) (lefts (used c .gates)) (of-lefts (reached c) (c .gates) v p (used-reached v h))
-      go false p = has-left v (leaves c) (lefts (used c .gates)) (has-but v (leaves c) (lefts (c .gates)) before p)
+      go : (b : Bool) → has v (leftVars (c .gates)) ≡ b → has v (leaves c ++ leftVars (used c .gates)) ≡ true
+      go true p = has-right v (leaves c) (leftVars (used c .gates)) (of-lefts (reached c) (c .gates) v p (used-reached v h))
+      go false p = has-left v (leaves c) (leftVars (used c .gates)) (has-but v (leaves c) (leftVars (c .gates)) before p)
 
-  still-different : (ins lats : List ℕ) → definedIn c ≡ ins ++ (lats ++ lefts (c .gates)) → definedIn (used c) ≡ ins ++ (lats ++ lefts (used c .gates))
+  still-different : (ins lats : List ℕ) → definedIn c ≡ ins ++ (lats ++ leftVars (c .gates)) → definedIn (used c) ≡ ins ++ (lats ++ leftVars (used c .gates))
       → allNew [] (definedIn (used c)) ≡ true
   still-different ins lats p q =
       distinct-new [] (definedIn (used c))
-      (subst (λ (l : List ℕ). distinct l ≡ true) (append-assoc ins lats (lefts (used c .gates)) ∙ sym q)
+      (subst (λ (l : List ℕ). distinct l ≡ true) (append-assoc ins lats (leftVars (used c .gates)) ∙ sym q)
       (distinct-of (ins ++ lats) (reached c) (c .gates)
-      (subst (λ (l : List ℕ). distinct l ≡ true) (p ∙ sym (append-assoc ins lats (lefts (c .gates)))) (new-distinct [] (definedIn c) (w .different) .0))))
+      (subst (λ (l : List ℕ). distinct l ≡ true) (p ∙ sym (append-assoc ins lats (leftVars (c .gates)))) (new-distinct [] (definedIn c) (w .different) .0))))
       (λ v k. refl)
 
   pub used-well-formed : WellFormed (used c)
@@ -161,7 +160,7 @@ module _ (c : Circuit) (w : WellFormed c) (t : binaryOrder c ≡ true) where
     bads = w .bads;
     constraints = w .constraints;
     gates = inside-of (reached c) (c .M) (c .gates) (w .gates);
-    different = still-different (vars (c .inputs)) (currents (c .latches)) refl refl;
+    different = still-different (vars (c .inputs)) (currentVars (c .latches)) refl refl;
     defined = still-defined;
     acyclic = λ v d. w .acyclic v (depends-of (reached c) (c .gates) d);
   }

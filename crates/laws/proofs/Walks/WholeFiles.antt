@@ -14,13 +14,13 @@ use Rattle.plan.specs.Refusals.{Parse, got, _then_}
 use Rattle.plan.specs.Circuit.{Circuit, countsOf, lengthsOf}
 use Rattle.plan.specs.Binary.{binaryOf, binaryOrder}
 use Rattle.plan.specs.Tail.{TailOk}
-use Rattle.plan.specs.Reading.{WellFormed, States, Room, RoomToRead}
-use Rattle.plan.specs.Given.{room}
+use Rattle.plan.specs.Reading.{WellFormed, States, LongEnough, LongEnoughToRead}
+use Rattle.plan.specs.Given.{lackingRoom}
 use Rattle.plan.specs.Convert.{convert}
 use Rattle.plan.specs.Reduce.{reduce}
 use Rattle.plan.specs.Outcome.{ReadEntry, readAs}
 use Rattle.plan.specs.Programs.{input}
-use Rattle.plan.specs.Whole.{WholeEntry, WholeExit, loaded, fittingIn, wholeBy, reduceWhole, dropWhole}
+use Rattle.plan.specs.Whole.{WholeEntry, WholeExit, fileCircuit, fittingIn, wholeBy, reduceWhole, dropWhole}
 use Rattle.plan.specs.Drop.{dropUnused}
 use Rattle.laws.proofs.Put.{put-first}
 use Rattle.laws.proofs.Reading.Common.{got-value, then-got, unless-got, cond-got}
@@ -52,7 +52,7 @@ module _ (make : Circuit → Circuit) where
   bytesOf c tail = binaryOf (make c) ++ tail
 
   abbrev rest : WholeEntry → List ℕ → Parse (List ℕ)
-  rest e file = loaded e file then λ c start. fittingIn (e .out) (bytesOf c (drop start file))
+  rest e file = fileCircuit e file then λ c start. fittingIn (e .out) (bytesOf c (drop start file))
 
   abbrev pub makeWhole : WholeEntry → WholeExit
   makeWhole e = wholeBy e (input (e .plan) (rest e))
@@ -64,9 +64,9 @@ module _ (make : Circuit → Circuit) where
       let w = whole-got e (input (e .plan) (rest e)) (k .size) (k .accepted) in
       let q : input (some file) (rest e) ≡ got (w .0) (w .1) = ap (λ (o : Option (List ℕ)). input o (rest e)) (sym (k .plan)) ∙ w .2 in
       let t0 = cond-got (leb (length file) 65536) (rest e file) (LongInput 65536) (w .0) (w .1) q in
-      let t1 = then-got (loaded e file) _ (w .0) (w .1) (t0 .1) in
+      let t1 = then-got (fileCircuit e file) _ (w .0) (w .1) (t0 .1) in
       let bytes = bytesOf (t1 .0) (drop (t1 .1) file) in
-      let u = unless-got (room (e .out) 0 bytes) ShortBuffer (got bytes (length bytes)) (w .0) (w .1) (t1 .3) in
+      let u = unless-got (lackingRoom (e .out) 0 bytes) ShortBuffer (got bytes (length bytes)) (w .0) (w .1) (t1 .3) in
       let read = work-read file (lengthsOf (e .read) (e .scratch)) (lengthsOf (e .made) (e .scratch)) (t1 .0) (t1 .1) (t1 .2) in (
         t1 .0,
         drop (t1 .1) file,
@@ -76,12 +76,12 @@ module _ (make : Circuit → Circuit) where
 
   -- with room it is not refused
   done : (e : WholeEntry) (file : List ℕ) → e .plan ≡ some file → length file ≤ 65536 → (c : Circuit) (tail : List ℕ) → States V19 file c tail
-      → RoomToRead file c (lengthsOf (e .read) (e .scratch)) → Room c (lengthsOf (e .made) (e .scratch))
+      → LongEnoughToRead file c (lengthsOf (e .read) (e .scratch)) → LongEnough c (lengthsOf (e .made) (e .scratch))
       → length (bytesOf c tail) ≤ length (e .out)
       → makeWhole e ≡ wholeBy e (got (bytesOf c tail) (length (bytesOf c tail)))
   done e file plan fits c tail s to-read to-work space =
       let a = complete V19 file (lengthsOf (e .read) (e .scratch)) c tail s to-read in
-      let read : loaded e file ≡ got c (a .0) = rw (a .1, to-work) in
+      let read : fileCircuit e file ≡ got c (a .0) = rw (a .1, to-work) in
       ap (wholeBy e) (input-done (e .plan) file (rest e) plan fits
       ∙ (ap (λ (p : Parse Circuit). p then λ c start. fittingIn (e .out) (bytesOf c (drop start file))) read
       ∙ (ap (λ (l : List ℕ). fittingIn (e .out) (bytesOf c l)) (a .2) ∙ fitting-done (e .out) (bytesOf c tail) space)))
@@ -96,7 +96,7 @@ module _ (make : Circuit → Circuit) where
 
     -- so it is read back, whatever tables it is read into
     read-back : (k : WholeCall makeWhole) → (c : Circuit) × (tail : List ℕ) × States V19 (k .file) c tail
-        × ((r : ReadEntry) → r .file ≡ wholeFile makeWhole k → RoomToRead (r .file) (make c) (lengthsOf (r .tables) (r .scratch))
+        × ((r : ReadEntry) → r .file ≡ wholeFile makeWhole k → LongEnoughToRead (r .file) (make c) (lengthsOf (r .tables) (r .scratch))
         → readAs V19 r ≡ readAnswer r (make c) tail)
     read-back k =
         let x = says k in
@@ -127,12 +127,12 @@ module _ (make : Circuit → Circuit) where
     Twice e c tail =
         (makeWhole e .answer ≡ written.Bytes (length (bytesOf c tail)))
         × ((e′ : WholeEntry) → e′ .plan ≡ some (take (length (bytesOf c tail)) (makeWhole e .out)) → length (bytesOf c tail) ≤ 65536
-        → RoomToRead (bytesOf c tail) (make c) (lengthsOf (e′ .read) (e′ .scratch)) → Room (make c) (lengthsOf (e′ .made) (e′ .scratch))
+        → LongEnoughToRead (bytesOf c tail) (make c) (lengthsOf (e′ .read) (e′ .scratch)) → LongEnough (make c) (lengthsOf (e′ .made) (e′ .scratch))
         → length (bytesOf c tail) ≤ length (e′ .out)
         → makeWhole e′ ≡ wholeBy e′ (got (bytesOf c tail) (length (bytesOf c tail))))
 
     twice-with-room : (e : WholeEntry) (file : List ℕ) → e .plan ≡ some file → length file ≤ 65536 → (c : Circuit) (tail : List ℕ) → States V19 file c tail
-        → RoomToRead file c (lengthsOf (e .read) (e .scratch)) → Room c (lengthsOf (e .made) (e .scratch)) → length (bytesOf c tail) ≤ length (e .out)
+        → LongEnoughToRead file c (lengthsOf (e .read) (e .scratch)) → LongEnough c (lengthsOf (e .made) (e .scratch)) → length (bytesOf c tail) ≤ length (e .out)
         → Twice e c tail
     twice-with-room e file plan fits c tail s to-read to-work space =
         let bytes = bytesOf c tail in
@@ -191,7 +191,7 @@ freeing = record {
 
 -- what drop_whole writes is read back
 pub drop-whole-read-back : (k : WholeCall dropWhole) → (c : Circuit) × (tail : List ℕ) × States V19 (k .file) c tail
-    × ((r : ReadEntry) → r .file ≡ wholeFile dropWhole k → RoomToRead (r .file) (dropUnused (reduce (convert c))) (lengthsOf (r .tables) (r .scratch))
+    × ((r : ReadEntry) → r .file ≡ wholeFile dropWhole k → LongEnoughToRead (r .file) (dropUnused (reduce (convert c))) (lengthsOf (r .tables) (r .scratch))
     → readAs V19 r ≡ readAnswer r (dropUnused (reduce (convert c))) tail)
 drop-whole-read-back = read-back frees freeing
 
@@ -201,19 +201,19 @@ drop-whole-twice = twice frees freeing
 
 -- and with room neither call refuses
 module _ (e : WholeEntry) (file : List ℕ) (plan : e .plan ≡ some file) (fits : length file ≤ 65536) (c : Circuit) (tail : List ℕ)
-    (s : States V19 file c tail) (to-read : RoomToRead file c (lengthsOf (e .read) (e .scratch))) (to-work : Room c (lengthsOf (e .made) (e .scratch))) where
+    (s : States V19 file c tail) (to-read : LongEnoughToRead file c (lengthsOf (e .read) (e .scratch))) (to-work : LongEnough c (lengthsOf (e .made) (e .scratch))) where
   pub drop-twice-with-room : let bytes = binaryOf (dropUnused (reduce (convert c))) ++ tail in
       length bytes ≤ length (e .out)
       → (dropWhole e .answer ≡ written.Bytes (length bytes))
       × ((e′ : WholeEntry) → e′ .plan ≡ some (take (length bytes) (dropWhole e .out)) → length bytes ≤ 65536
-      → RoomToRead bytes (dropUnused (reduce (convert c))) (lengthsOf (e′ .read) (e′ .scratch))
-      → Room (dropUnused (reduce (convert c))) (lengthsOf (e′ .made) (e′ .scratch)) → length bytes ≤ length (e′ .out)
+      → LongEnoughToRead bytes (dropUnused (reduce (convert c))) (lengthsOf (e′ .read) (e′ .scratch))
+      → LongEnough (dropUnused (reduce (convert c))) (lengthsOf (e′ .made) (e′ .scratch)) → length bytes ≤ length (e′ .out)
       → dropWhole e′ ≡ wholeBy e′ (got bytes (length bytes)))
   drop-twice-with-room = twice-with-room frees freeing e file plan fits c tail s to-read to-work
 
 -- the same of reduction
 pub reduce-whole-read-back : (k : WholeCall reduceWhole) → (c : Circuit) × (tail : List ℕ) × States V19 (k .file) c tail
-    × ((r : ReadEntry) → r .file ≡ wholeFile reduceWhole k → RoomToRead (r .file) (reduce (convert c)) (lengthsOf (r .tables) (r .scratch))
+    × ((r : ReadEntry) → r .file ≡ wholeFile reduceWhole k → LongEnoughToRead (r .file) (reduce (convert c)) (lengthsOf (r .tables) (r .scratch))
     → readAs V19 r ≡ readAnswer r (reduce (convert c)) tail)
 reduce-whole-read-back = read-back reduces reducing
 

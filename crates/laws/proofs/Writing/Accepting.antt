@@ -16,12 +16,12 @@ use Rattle.plan.specs.declared.Written.the-variants as written
 use Rattle.plan.specs.declared.Made.the-variants as made
 use Rattle.plan.specs.declared.Stepped.the-variants as stepped
 use Rattle.plan.specs.Refusals.{firstOf}
-use Rattle.plan.specs.Circuit.{Circuit, Tables, countsOf, wordsToWork, against, short, lengthsOf, cleared}
+use Rattle.plan.specs.Circuit.{Circuit, Tables, countsOf, wordsToWork, against, leastShort, lengthsOf, cleared}
 use Rattle.plan.specs.Text.{textOf}
 use Rattle.plan.specs.Binary.{binaryOf, binaryOrder}
 use Rattle.plan.specs.Tail.{TailOk}
 use Rattle.plan.specs.Reading.{WellFormed}
-use Rattle.plan.specs.Given.{Given, given, lentAlone, lentWith, stages, orderStage, refusalOf, tailStage, roomStage}
+use Rattle.plan.specs.Given.{Given, givenCircuit, lentAlone, lentWith, stages, orderStage, refusalOf, tailStage, roomStage}
 use Rattle.plan.specs.Convert.{convert}
 use Rattle.plan.specs.Reduce.{reduce}
 use Rattle.plan.specs.Step.{codeOf, valueOf, outputsOf, nextOf, witnessed}
@@ -47,7 +47,7 @@ module _ (g : Given) (c : Circuit) (l : Left g c) where
   room-passes out bytes h = let long : 0 + length bytes ≤ length out = omega arith in rw (le-leb (0 + length bytes) (length out) long)
 
   order-passes : binaryOrder c ≡ true → orderStage g ≡ none
-  order-passes o = let e : binaryOrder (given g) ≡ true = ap binaryOrder (l .holds) ∙ o in rw e
+  order-passes o = let e : binaryOrder (givenCircuit g) ≡ true = ap binaryOrder (l .holds) ∙ o in rw e
 
   -- the writers
   module _ (tail out : List ℕ) (t : TailOk V19 (countsOf c) tail) where
@@ -56,8 +56,8 @@ module _ (g : Given) (c : Circuit) (l : Left g c) where
 
     pub text-accepted : length (textOf c ++ tail) ≤ length out → writeText entry .answer ≡ written.Bytes (length (textOf c ++ tail))
     text-accepted h =
-        let bytes = textOf (given g) ++ tail in
-        let same : textOf (given g) ++ tail ≡ textOf c ++ tail = ap (λ (x : Circuit). textOf x ++ tail) (l .holds) in
+        let bytes = textOf (givenCircuit g) ++ tail in
+        let same : textOf (givenCircuit g) ++ tail ≡ textOf c ++ tail = ap (λ (x : Circuit). textOf x ++ tail) (l .holds) in
         let rest : firstOf (tailStage g tail ∷ roomStage out bytes ∷ []) ≡ none
         = rw (tail-passes tail t) (ap (λ (x : Option Refusal). firstOf (x ∷ []))
         (room-passes out bytes (subst (λ (x : List ℕ). length x ≤ length out) (sym same) h))) in
@@ -68,8 +68,8 @@ module _ (g : Given) (c : Circuit) (l : Left g c) where
     pub binary-accepted : binaryOrder c ≡ true → length (binaryOf c ++ tail) ≤ length out
         → writeBinary entry .answer ≡ written.Bytes (length (binaryOf c ++ tail))
     binary-accepted o h =
-        let bytes = binaryOf (given g) ++ tail in
-        let same : binaryOf (given g) ++ tail ≡ binaryOf c ++ tail = ap (λ (x : Circuit). binaryOf x ++ tail) (l .holds) in
+        let bytes = binaryOf (givenCircuit g) ++ tail in
+        let same : binaryOf (givenCircuit g) ++ tail ≡ binaryOf c ++ tail = ap (λ (x : Circuit). binaryOf x ++ tail) (l .holds) in
         let rest : firstOf (orderStage g ∷ tailStage g tail ∷ roomStage out bytes ∷ []) ≡ none
         = rw (order-passes o, tail-passes tail t) (ap (λ (x : Option Refusal). firstOf (x ∷ []))
         (room-passes out bytes (subst (λ (x : List ℕ). length x ≤ length out) (sym same) h))) in
@@ -78,27 +78,27 @@ module _ (g : Given) (c : Circuit) (l : Left g c) where
         ∙ ap (λ (x : List ℕ). written.Bytes (length x)) same
 
   -- conversion and reduction
-  module _ (t : Tables) (long : short (against 1 (wordsToWork (countsOf c)) (lengthsOf t (g .scratch))) ≡ none) where
+  module _ (t : Tables) (long : leastShort (against 1 (wordsToWork (countsOf c)) (lengthsOf t (g .scratch))) ≡ none) where
     both-long : firstOf (stages g (lentWith g t)) ≡ none
     both-long =
         let own = short-none (lentAlone g) .0 (nothing-fine g (lentAlone g) (l .fine) .room) in
         let lent = against 1 (wordsToWork (g .counts)) (lengthsOf t (g .scratch)) in
-        let more = short-none lent .0 (ap (λ (n : Counts). short (against 1 (wordsToWork n) (lengthsOf t (g .scratch)))) (l .counts) ∙ long) in
+        let more = short-none lent .0 (ap (λ (n : Counts). leastShort (against 1 (wordsToWork n) (lengthsOf t (g .scratch)))) (l .counts) ∙ long) in
         let all = short-none (lentAlone g ++ lent) .1 (long-both (lentAlone g) lent own more) in
         fine-nothing g (lentWith g t) (formed-fine g (lentWith g t) c (l .holds) (l .counts) well all)
 
     pub conversion-accepted : conversion (record { circuit = g; written = t }) .answer ≡ made.Accepted (countsOf (convert c))
     conversion-accepted =
-        ap (λ (o : Option Refusal). madeBy o (record { circuit = g; written = t }) (convert (given g)) .answer) both-long
+        ap (λ (o : Option Refusal). madeBy o (record { circuit = g; written = t }) (convert (givenCircuit g)) .answer) both-long
         ∙ ap (λ (x : Circuit). made.Accepted (countsOf (convert x))) (l .holds)
 
     -- a call on circuits in binary order
     pub in-order-accepted : (make : Circuit → Circuit) → binaryOrder c ≡ true
-        → madeBy (firstOf (stages g (lentWith g t) ++ (orderStage g ∷ []))) (record { circuit = g; written = t }) (make (given g)) .answer
+        → madeBy (firstOf (stages g (lentWith g t) ++ (orderStage g ∷ []))) (record { circuit = g; written = t }) (make (givenCircuit g)) .answer
         ≡ made.Accepted (countsOf (make c))
     in-order-accepted make o =
         let last : firstOf (orderStage g ∷ []) ≡ none = rw (order-passes o) in
-        ap (λ (x : Option Refusal). madeBy x (record { circuit = g; written = t }) (make (given g)) .answer)
+        ap (λ (x : Option Refusal). madeBy x (record { circuit = g; written = t }) (make (givenCircuit g)) .answer)
         (both-first (stages g (lentWith g t)) (orderStage g ∷ []) both-long ∙ last)
         ∙ ap (λ (x : Circuit). made.Accepted (countsOf (make x))) (l .holds)
 

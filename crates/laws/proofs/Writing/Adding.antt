@@ -14,9 +14,9 @@ use Rattle.plan.specs.declared.Refusal.{Refusal}
 use Rattle.plan.specs.declared.Stepped.the-variants as stepped
 use Rattle.plan.specs.Refusals.{firstOf}
 use Rattle.plan.specs.Circuit.{Circuit, countsOf, rowsOf}
-use Rattle.plan.specs.Given.{Given, given, lentAlone, stages, orderStage}
+use Rattle.plan.specs.Given.{Given, givenCircuit, lentAlone, stages, orderStage}
 use Rattle.plan.specs.Sixth.{lentSixth, sixthStages}
-use Rattle.plan.specs.Step.{Value, v0, v1, vx, valueOf, nextOf, Step, stepOf, run, first, vectorsOf}
+use Rattle.plan.specs.Step.{Value, v0, v1, vx, valueOf, nextOf, Step, stepOf, run, firstState, vectorsOf}
 use Rattle.plan.specs.Outcome.{listStage}
 use Rattle.plan.specs.Report.{times, timesOf, numbersOf, outputAlong, latchAlong, inTurn, needles, longStage, ReportEntry, reportedBy, reportStages, report}
 use Rattle.plan.specs.Rows.{rowSteps, rowReport, RowReportEntry, rowReportStage, reportedRows, reportRows}
@@ -56,7 +56,7 @@ vectors-length c number bytes = length-map (rowsOf (length (c .inputs)) number b
 
 -- the counts of given tables that pass with a table 6
 sixth-counts : (g : Given) (needed : ℕ) (six : List ℕ) (more : List (Option Refusal)) → firstOf (sixthStages g needed six ++ more) ≡ none
-    → countsOf (given g) ≡ g .counts
+    → countsOf (givenCircuit g) ≡ g .counts
 sixth-counts g needed six more f =
     let one = first-both (sixthStages g needed six) more f .0 in
     let two = first-both (stages g (lentSixth g needed six)) (orderStage g ∷ []) one .0 in
@@ -73,10 +73,10 @@ module _ (e : ReportEntry) (done : report e .answer ≡ stepped.Done) where
   g = e .circuit
 
   abbrev c : Circuit
-  c = given (e .circuit)
+  c = givenCircuit (e .circuit)
 
   abbrev steps : List Step
-  steps = run c (first c) (vectorsOf c (e .number) (e .bytes))
+  steps = run c (firstState c) (vectorsOf c (e .number) (e .bytes))
 
   passed : firstOf (reportStages e) ≡ none
   passed = stepped-none (λ o. reportedBy o e .answer) (λ r. refl) (firstOf (reportStages e)) done
@@ -114,7 +114,7 @@ module _ (e : ReportEntry) (done : report e .answer ≡ stepped.Done) where
       ∙ turn-at (λ (i : ℕ). numbersOf (latchAlong steps i)) 4 (λ i. refl) (length (c .latches)) i j zeros h k))
 
   steps-length : length steps ≡ e .number
-  steps-length = run-length c (first c) (vectorsOf c (e .number) (e .bytes)) ∙ vectors-length c (e .number) (e .bytes)
+  steps-length = run-length c (firstState c) (vectorsOf c (e .number) (e .bytes)) ∙ vectors-length c (e .number) (e .bytes)
 
   -- of each output, then of each latch
   pub report-adds-up : (i : ℕ) → i < e .circuit .counts .O + e .circuit .counts .L → threeAt (report e .six) (4 * i) ≡ e .number
@@ -150,7 +150,7 @@ module _ (e : RowReportEntry) (done : reportRows e .answer ≡ stepped.Done) whe
   pub row-report-adds-up : (i : ℕ) → i < e .circuit .counts .O → threeAt (reportRows e .report) (3 * i) ≡ e .rows
   row-report-adds-up i h =
       let g = e .circuit in
-      let c = given (e .circuit) in
+      let c = givenCircuit (e .circuit) in
       let all = sixthStages g (3 * g .counts .O) (e .report) ++ (rowReportStage e ∷ []) in
       let passed = stepped-none (λ o. reportedRows o e .answer) (λ r. refl) (firstOf all) done in
       let counts = sixth-counts g (3 * g .counts .O) (e .report) (rowReportStage e ∷ []) passed in
@@ -167,6 +167,6 @@ module _ (e : RowReportEntry) (done : reportRows e .answer ≡ stepped.Done) whe
       let w1 : getD (reportRows e .report) (3 * i + 1) 0 ≡ times v1 l = word 1 (omega arith) in
       let w2 : getD (reportRows e .report) (3 * i + 2) 0 ≡ times vx l = word 2 (omega arith) in
       let size : length l ≡ e .rows
-      = length-map steps (λ (s : Step). getD (s .outputs) i vx) ∙ (length-map (vectorsOf c (e .rows) (e .inputs)) (stepOf c (first c))
+      = length-map steps (λ (s : Step). getD (s .outputs) i vx) ∙ (length-map (vectorsOf c (e .rows) (e .inputs)) (stepOf c (firstState c))
       ∙ vectors-length c (e .rows) (e .inputs)) in
       omega (arith, w0, w1, w2, all-counted l, size)

@@ -11,7 +11,7 @@ use Rattle.plan.specs.Circuit.{Circuit, countsOf}
 use Rattle.plan.specs.Text.{textOf}
 use Rattle.plan.specs.Binary.{binaryOf, binaryOrder}
 use Rattle.plan.specs.Tail.{TailOk}
-use Rattle.plan.specs.Reading.{readFile, WellFormed, Room}
+use Rattle.plan.specs.Reading.{readFile, WellFormed, LongEnough}
 use Rattle.laws.proofs.Reading.Places.{start-within}
 use Rattle.laws.proofs.Reading.Exactly.{Accepts, complete, room-to-read}
 use Rattle.laws.proofs.Reading.Shortest.{states-text, states-binary}
@@ -25,7 +25,7 @@ tail-starts bytes tail lengths c a =
     = omega (arith, length-append bytes tail, length-drop (a .0) (bytes ++ tail), ap length (a .2)) in
     a .1 ∙ ap (got c) at
 
-module _ (c : Circuit) (tail lengths : List ℕ) (w : WellFormed c) (t : TailOk V19 (countsOf c) tail) (room : Room c lengths) where
+module _ (c : Circuit) (tail lengths : List ℕ) (w : WellFormed c) (t : TailOk V19 (countsOf c) tail) (room : LongEnough c lengths) where
   pub text-back : readFile V19 (textOf c ++ tail) lengths ≡ got c (length (textOf c))
   text-back =
       tail-starts (textOf c) tail lengths c (complete V19 (textOf c ++ tail) lengths c tail (states-text (textOf c ++ tail) c tail w t refl)

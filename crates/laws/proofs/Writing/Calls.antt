@@ -18,10 +18,10 @@ use Rattle.plan.specs.Header.{Head, text, binary, header, formIn}
 use Rattle.plan.specs.Text.{textOf}
 use Rattle.plan.specs.Binary.{binaryOf, binaryOrder}
 use Rattle.plan.specs.Reading.{WellFormed, States, asText, asBinary, Shortest, shortText, shortBinary}
-use Rattle.plan.specs.Given.{Given, given}
+use Rattle.plan.specs.Given.{Given, givenCircuit}
 use Rattle.plan.specs.Convert.{convert}
 use Rattle.plan.specs.Reduce.{reduce}
-use Rattle.plan.specs.Step.{Value, run, first}
+use Rattle.plan.specs.Step.{Value, run, firstState}
 use Rattle.plan.specs.Outcome.{ReadEntry, loadAs, FileEntry, FileExit, writeText, writeBinary, MakeEntry, MakeExit, conversion, reduction}
 use Rattle.laws.proofs.Reading.Differences.{Bytes}
 use Rattle.laws.proofs.Reading.Exactly.{sound, formed, unique}
@@ -75,10 +75,10 @@ FromRead g r = (g .counts ≡ r .counts) × (g .tables ≡ loadAs (r .version) (
 abbrev pub FromMade : (f : MakeEntry → MakeExit) → Given → MakeCall f → Type 0
 FromMade f g m = (g .counts ≡ m .counts) × (g .tables ≡ f (m .entry) .written)
 
-pub from-read : (g : Given) (r : ReadCall) → FromRead g r → given g ≡ readCircuit r
+pub from-read : (g : Given) (r : ReadCall) → FromRead g r → givenCircuit g ≡ readCircuit r
 from-read g r h = ap₂ circuitOf (h .0) (h .1)
 
-pub from-made : (f : MakeEntry → MakeExit) (g : Given) (m : MakeCall f) → FromMade f g m → given g ≡ madeCircuit f m
+pub from-made : (f : MakeEntry → MakeExit) (g : Given) (m : MakeCall f) → FromMade f g m → givenCircuit g ≡ madeCircuit f m
 from-made f g m h = ap₂ circuitOf (h .0) (h .1)
 
 -- what each leaves: by the version's own report, and so by 1.9
@@ -96,10 +96,10 @@ read-states r = states-by (r .version) (r .entry .file) (readCircuit r) (readTai
 pub read-formed : (r : ReadCall) → WellFormed (readCircuit r)
 read-formed r = formed V19 (r .entry .file) (readCircuit r) (readTail r) (read-states r)
 
-pub converted-is : (m : MakeCall conversion) → madeCircuit conversion m ≡ convert (given (m .entry .circuit))
+pub converted-is : (m : MakeCall conversion) → madeCircuit conversion m ≡ convert (givenCircuit (m .entry .circuit))
 converted-is m = conversion-left (m .entry) (m .counts) (m .accepted) .0 .holds
 
-pub reduced-is : (m : MakeCall reduction) → madeCircuit reduction m ≡ reduce (given (m .entry .circuit))
+pub reduced-is : (m : MakeCall reduction) → madeCircuit reduction m ≡ reduce (givenCircuit (m .entry .circuit))
 reduced-is m = reduction-left (m .entry) (m .counts) (m .accepted) .0 .holds
 
 -- a file that states a circuit and a tail, read: the same circuit and tail
@@ -119,10 +119,10 @@ module _ (r : ReadCall) (order : binaryOrder (readCircuit r) ≡ true) where
       → (b : WriteCall writeBinary) → FromMade conversion (b .entry .circuit) m → b .entry .tail ≡ readTail r′
       → fileOf writeBinary b ≡ r .entry .file
   binary-again f t t-given t-tail r′ r′-file m m-given b b-given b-tail =
-      let same = read-same (fileOf writeText t) (given (t .entry .circuit)) (t .entry .tail)
+      let same = read-same (fileOf writeText t) (givenCircuit (t .entry .circuit)) (t .entry .tail)
       (text-states (t .entry) (t .size) (t .accepted)) r′ r′-file in
       let c-is : readCircuit r′ ≡ readCircuit r = same .0 ∙ from-read (t .entry .circuit) r t-given in
-      let converted : given (b .entry .circuit) ≡ readCircuit r
+      let converted : givenCircuit (b .entry .circuit) ≡ readCircuit r
       = from-made conversion (b .entry .circuit) m b-given ∙ (converted-is m
       ∙ (ap convert (from-read (m .entry .circuit) r′ m-given ∙ c-is) ∙ convert-same (readCircuit r) (read-formed r) order)) in
       binary-bytes (b .entry) (b .size) (b .accepted)
@@ -135,10 +135,10 @@ module _ (r : ReadCall) (order : binaryOrder (readCircuit r) ≡ true) where
       → (t : WriteCall writeText) → FromRead (t .entry .circuit) r′ → t .entry .tail ≡ readTail r′
       → fileOf writeText t ≡ r .entry .file
   text-again f m m-given b b-given b-tail r′ r′-file t t-given t-tail =
-      let converted : given (b .entry .circuit) ≡ readCircuit r
+      let converted : givenCircuit (b .entry .circuit) ≡ readCircuit r
       = from-made conversion (b .entry .circuit) m b-given ∙ (converted-is m
       ∙ (ap convert (from-read (m .entry .circuit) r m-given) ∙ convert-same (readCircuit r) (read-formed r) order)) in
-      let same = read-same (fileOf writeBinary b) (given (b .entry .circuit)) (b .entry .tail)
+      let same = read-same (fileOf writeBinary b) (givenCircuit (b .entry .circuit)) (b .entry .tail)
       (binary-states (b .entry) (b .size) (b .accepted)) r′ r′-file in
       text-bytes (t .entry) (t .size) (t .accepted)
       ∙ (ap₂ (λ (x : Circuit) (y : List ℕ). textOf x ++ y) (from-read (t .entry .circuit) r′ t-given ∙ (same .0 ∙ converted))
@@ -216,13 +216,13 @@ module _ (r : ReadCall) (short : InShortestForm r) where
 pub demand-three-calls : (r : ReadCall) (m : MakeCall conversion) → FromRead (m .entry .circuit) r
     → (s : MakeCall reduction) → FromMade conversion (s .entry .circuit) m
     → (is js : List (List Value)) → Sized (length (readCircuit r .inputs)) is → Replaced is js
-    → Kept (run (readCircuit r) (first (readCircuit r)) is) (run (madeCircuit reduction s) (first (madeCircuit reduction s)) js)
-    × (NoXs is → NoX (first (readCircuit r))
-    → run (readCircuit r) (first (readCircuit r)) is ≡ run (madeCircuit reduction s) (first (madeCircuit reduction s)) js)
+    → Kept (run (readCircuit r) (firstState (readCircuit r)) is) (run (madeCircuit reduction s) (firstState (madeCircuit reduction s)) js)
+    × (NoXs is → NoX (firstState (readCircuit r))
+    → run (readCircuit r) (firstState (readCircuit r)) is ≡ run (madeCircuit reduction s) (firstState (madeCircuit reduction s)) js)
 demand-three-calls r m m-given s s-given is js sized replaced =
     let c = readCircuit r in
     let d-is : reduce (convert c) ≡ madeCircuit reduction s
     = sym (reduced-is s ∙ ap reduce (from-made conversion (s .entry .circuit) m s-given
     ∙ (converted-is m ∙ ap convert (from-read (m .entry .circuit) r m-given)))) in
-    subst (λ (d : Circuit). Kept (run c (first c) is) (run d (first d) js) × (NoXs is → NoX (first c) → run c (first c) is ≡ run d (first d) js)) d-is
+    subst (λ (d : Circuit). Kept (run c (firstState c) is) (run d (firstState d) js) × (NoXs is → NoX (firstState c) → run c (firstState c) is ≡ run d (firstState d) js)) d-is
     (demand-three c (read-formed r) is js sized replaced)

@@ -17,11 +17,11 @@ use Rattle.plan.specs.declared.Refusal.the-variants.{BadSymbol, NotInOrder}
 use Rattle.plan.specs.Refusals.{Parse, got, refused, _then_, numberOf, stage, firstOf}
 use Rattle.plan.specs.Bytes.{classOf, nameClass, span, numberBy, number, expect}
 use Rattle.plan.specs.Binary.{binaryOrder}
-use Rattle.plan.specs.Circuit.{short}
+use Rattle.plan.specs.Circuit.{leastShort}
 use Rattle.plan.specs.Header.{text, listOf, over, adds}
 use Rattle.plan.specs.Depends.{undefinedIn, cyclicIn}
 use Rattle.plan.specs.Tail.{Symbol, fits, symbol, endsLine, startsSymbol, tailFrom, tailAt}
-use Rattle.plan.specs.Given.{Given, given, lentAlone, counted, failing, outsideIn, twiceIn, stages, orderStage, refusalOf}
+use Rattle.plan.specs.Given.{Given, givenCircuit, lentAlone, counted, failing, outsideIn, twiceIn, stages, orderStage, refusalOf}
 
 -- a reading that refuses by a number other than 11
 abbrev Other : {A : Type 0} → Parse A → Type 0
@@ -90,17 +90,17 @@ other-tail-stage n tail = go (tailAt V19 tail n 0) (other-tail tail n (suc (leng
     go (refused r) h = h
 
 pub other-order-stage : (g : Given) → OtherThan11 (orderStage g)
-other-order-stage g = other-stage NotInOrder (λ p e. omega arith) (failing (binaryOrder (given g)))
+other-order-stage g = other-stage NotInOrder (λ p e. omega arith) (failing (binaryOrder (givenCircuit g)))
 
 pub others-circuit : (g : Given) (os : List (Option Refusal)) → Others os → Others (stages g (lentAlone g) ++ os)
 others-circuit g os k =
     let s2 = other-stage LargeCount (λ p e. omega arith) (over (counted 1 (listOf (g .counts)))) in
     let s3 = other-stage WrongSum (λ p e. omega arith) (failing (adds text (g .counts))) in
-    let s4 = other-stage ShortTable (λ p e. omega arith) (short (lentAlone g)) in
-    let s5 = other-stage OutOfRange (λ p e. omega arith) (outsideIn (given g)) in
-    let s6 = other-stage DefinedTwice (λ p e. omega arith) (twiceIn (given g)) in
-    let s7 = other-stage NotDefined (λ p e. omega arith) (undefinedIn (given g)) in
-    let s8 = other-stage Cyclic (λ p e. omega arith) (cyclicIn (given g)) in
+    let s4 = other-stage ShortTable (λ p e. omega arith) (leastShort (lentAlone g)) in
+    let s5 = other-stage OutOfRange (λ p e. omega arith) (outsideIn (givenCircuit g)) in
+    let s6 = other-stage DefinedTwice (λ p e. omega arith) (twiceIn (givenCircuit g)) in
+    let s7 = other-stage NotDefined (λ p e. omega arith) (undefinedIn (givenCircuit g)) in
+    let s8 = other-stage Cyclic (λ p e. omega arith) (cyclicIn (givenCircuit g)) in
     (s2, (s3, (s4, (s5, (s6, (s7, (s8, k)))))))
 
 pub others-first : (os ps : List (Option Refusal)) (r : Refusal) → Others os → numberOf r ≡ 11 → firstOf (os ++ ps) ≡ some r

@@ -13,12 +13,12 @@ use lib.Seq.{length-take-le}
 use Rattle.plan.specs.declared.Counts.{Counts}
 use Rattle.plan.specs.declared.Refusal.the-variants.{LargeCount, WrongSum, ShortTable, OutOfRange, DefinedTwice, NotDefined, Cyclic}
 use Rattle.plan.specs.Refusals.{firstOf}
-use Rattle.plan.specs.Circuit.{Circuit, Lent, countsOf, short, latchOf, gateOf, rowsOf, definedIn, usedIn}
+use Rattle.plan.specs.Circuit.{Circuit, Lent, countsOf, leastShort, latchOf, gateOf, rowsOf, definedIn, usedIn}
 use Rattle.plan.specs.Bytes.{values}
 use Rattle.plan.specs.Header.{text, listOf, over, adds}
 use Rattle.plan.specs.Depends.{undefinedIn, cyclicIn}
 use Rattle.plan.specs.Reading.{WellFormed}
-use Rattle.plan.specs.Given.{Given, given, counted, failing, outsideIn, twiceIn, lentAlone, stages}
+use Rattle.plan.specs.Given.{Given, givenCircuit, counted, failing, outsideIn, twiceIn, lentAlone, stages}
 use Rattle.laws.proofs.Reading.Headers.{AllMost, over-none, most-none}
 use Rattle.laws.proofs.Reading.Short.{short-none}
 use Rattle.laws.proofs.Reading.Undefined.{all-defined, defined-none}
@@ -29,8 +29,8 @@ use Rattle.laws.proofs.Writing.Nothing.{stage-none, failing-none, first
 pub record Fine (g : Given) (lent : List Lent) : Type 0 where
   pub small : AllMost (listOf (g .counts))
   pub sum : g .counts .I + g .counts .L + g .counts .A ≤ g .counts .M
-  pub room : short lent ≡ none
-  pub formed : WellFormed (given g)
+  pub room : leastShort lent ≡ none
+  pub formed : WellFormed (givenCircuit g)
 
 counted-values : (t : ℕ) (l : List ℕ) → values (counted t l) ≡ l
 counted-values t [] = refl
@@ -49,7 +49,7 @@ module _ (g : Given) where
   n = g .counts
 
   abbrev c : Circuit
-  c = given g
+  c = givenCircuit g
 
   inputs-least : length (c .inputs) ≤ n .I
   inputs-least = omega (arith, length-take (n .I) (g .tables .inputs))
@@ -71,7 +71,7 @@ module _ (g : Given) where
 
   -- tables that are long enough hold as many entries as the counts say
   pub counts-held : n .I ≤ length (g .tables .inputs) → n .O ≤ length (g .tables .outputs) → n .B ≤ length (g .tables .bads)
-      → n .C ≤ length (g .tables .constraints) → countsOf (given g) ≡ g .counts
+      → n .C ≤ length (g .tables .constraints) → countsOf (givenCircuit g) ≡ g .counts
   counts-held i o b k =
       let few : length (c .inputs) ≡ n .I = length-take-le (n .I) (g .tables .inputs) i in
       let outs : length (c .outputs) ≡ n .O = length-take-le (n .O) (g .tables .outputs) o in
@@ -79,7 +79,7 @@ module _ (g : Given) where
       let cons : length (c .constraints) ≡ n .C = length-take-le (n .C) (g .tables .constraints) k in
       λ j. record { M = n .M; I = few j; L = latches-are j; O = outs j; A = gates-are j; B = bads j; C = cons j }
 
-  pub counts-given : short (lentAlone g) ≡ none → countsOf (given g) ≡ g .counts
+  pub counts-given : leastShort (lentAlone g) ≡ none → countsOf (givenCircuit g) ≡ g .counts
   counts-given e = let l = short-none (lentAlone g) .0 e in counts-held (l .0) (l .1 .1 .0) (l .1 .1 .1 .1 .1 .1 .1 .0) (l .1 .1 .1 .1 .1 .1 .1 .1 .0)
 
 module _ (g : Given) (lent : List Lent) where
@@ -90,11 +90,11 @@ module _ (g : Given) (lent : List Lent) where
       = counts-most (g .counts) (stage-none LargeCount (over (counted 1 (listOf (g .counts)))) (s .0)) in
       let sum : g .counts .I + g .counts .L + g .counts .A ≤ g .counts .M
       = leb-true _ _ (failing-none (adds text (g .counts)) (stage-none WrongSum (failing (adds text (g .counts))) (s .1 .0))) in
-      let i = none-inside (given g) (stage-none OutOfRange (outsideIn (given g)) (s .1 .1 .1 .0)) in
+      let i = none-inside (givenCircuit g) (stage-none OutOfRange (outsideIn (givenCircuit g)) (s .1 .1 .1 .0)) in
       record {
         small = small;
         sum = sum;
-        room = stage-none ShortTable (short lent) (s .1 .1 .0);
+        room = stage-none ShortTable (leastShort lent) (s .1 .1 .0);
         formed = record {
           most-M = small .0;
           most-I = omega (arith, small .1 .0, inputs-least g);
@@ -111,10 +111,10 @@ module _ (g : Given) (lent : List Lent) where
           bads = i .bads;
           constraints = i .constraints;
           gates = i .gates;
-          different = once-different (given g) (stage-none DefinedTwice (twiceIn (given g)) (s .1 .1 .1 .1 .0));
-          defined = all-defined (zero ∷ definedIn (given g)) (usedIn (given g))
-              (stage-none NotDefined (undefinedIn (given g)) (s .1 .1 .1 .1 .1 .0));
-          acyclic = no-cycle (given g .gates) (stage-none Cyclic (cyclicIn (given g)) (s .1 .1 .1 .1 .1 .1 .0));
+          different = once-different (givenCircuit g) (stage-none DefinedTwice (twiceIn (givenCircuit g)) (s .1 .1 .1 .1 .0));
+          defined = all-defined (zero ∷ definedIn (givenCircuit g)) (usedIn (givenCircuit g))
+              (stage-none NotDefined (undefinedIn (givenCircuit g)) (s .1 .1 .1 .1 .1 .0));
+          acyclic = no-cycle (givenCircuit g .gates) (stage-none Cyclic (cyclicIn (givenCircuit g)) (s .1 .1 .1 .1 .1 .1 .0));
         };
       }
 
@@ -124,8 +124,8 @@ module _ (g : Given) (lent : List Lent) where
       let e2 : over (counted 1 (listOf (g .counts))) ≡ none
       = most-none (counted 1 (listOf (g .counts))) (subst AllMost (sym (counted-values 1 (listOf (g .counts)))) (f .small)) in
       let e3 : adds text (g .counts) ≡ true = le-leb _ _ (f .sum) in
-      let e5 : outsideIn (given g) ≡ none
-      = inside-none (given g) (record {
+      let e5 : outsideIn (givenCircuit g) ≡ none
+      = inside-none (givenCircuit g) (record {
         inputs = w .inputs;
         latches = w .latches;
         outputs = w .outputs;
@@ -134,9 +134,9 @@ module _ (g : Given) (lent : List Lent) where
         bads = w .bads;
         constraints = w .constraints;
       }) in
-      let e6 : twiceIn (given g) ≡ none = different-once (given g) (w .different) in
-      let e7 : undefinedIn (given g) ≡ none = defined-none (zero ∷ definedIn (given g)) (usedIn (given g)) (w .defined) in
-      let e8 : cyclicIn (given g) ≡ none = cycle-none (given g .gates) (given g .gates) (w .acyclic) in
+      let e6 : twiceIn (givenCircuit g) ≡ none = different-once (givenCircuit g) (w .different) in
+      let e7 : undefinedIn (givenCircuit g) ≡ none = defined-none (zero ∷ definedIn (givenCircuit g)) (usedIn (givenCircuit g)) (w .defined) in
+      let e8 : cyclicIn (givenCircuit g) ≡ none = cycle-none (givenCircuit g .gates) (givenCircuit g .gates) (w .acyclic) in
       rw (e2, e3, f .room, e5, e6, e7, e8)
 
   pub fine-exactly : (firstOf (stages g lent) ≡ none) ↔ Fine g lent

@@ -6,10 +6,10 @@ use mathlib.Core.Option.{none}
 use native.Mathlib.Omega.{arith}
 use lib.ListN.{length, replicate, length-append, length-replicate}
 use Rattle.plan.specs.declared.Counts.{Counts}
-use Rattle.plan.specs.Circuit.{Latch, Gate, Circuit, Tables, Lent, countsOf, latchLine, gateLine, circuitOf, lengthsOf, flat, filled, holding, short}
+use Rattle.plan.specs.Circuit.{Latch, Gate, Circuit, Tables, Lent, countsOf, latchLine, gateLine, circuitOf, lengthsOf, flat, filled, holding, leastShort}
 use Rattle.plan.specs.Header.{listOf}
 use Rattle.plan.specs.Reading.{WellFormed}
-use Rattle.plan.specs.Given.{Given, given}
+use Rattle.plan.specs.Given.{Given, givenCircuit}
 use Rattle.laws.proofs.Held.{starts-circuit}
 use Rattle.laws.proofs.Reading.Headers.{AllMost}
 use Rattle.laws.proofs.Reading.Exactly.{all-most}
@@ -77,7 +77,7 @@ holding-lengths t c scratch h = λ i. ins i ∷ lats i ∷ outs i ∷ gs i ∷ l
     gs = length-filled (t .gates) (flat (map gateLine (c .gates))) (omega (arith, h .gates, length-gate-words (c .gates)))
 
 -- tables that hold a well-formed circuit, with room: no check finds anything
-pub formed-fine : (g : Given) (lent : List Lent) (c : Circuit) → given g ≡ c → g .counts ≡ countsOf c → WellFormed c → short lent ≡ none
+pub formed-fine : (g : Given) (lent : List Lent) (c : Circuit) → givenCircuit g ≡ c → g .counts ≡ countsOf c → WellFormed c → leastShort lent ≡ none
     → Fine g lent
 formed-fine g lent c e n w r = record {
   small = subst (λ (x : Counts). AllMost (listOf x)) (sym n) (all-most c w);

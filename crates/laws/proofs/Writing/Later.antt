@@ -15,10 +15,10 @@ use Rattle.plan.specs.declared.Loaded.the-variants as loaded
 use Rattle.plan.specs.declared.Checked.the-variants as checked
 use Rattle.plan.specs.declared.Made.the-variants as made
 use Rattle.plan.specs.Refusals.{Parse, got, refused, firstOf}
-use Rattle.plan.specs.Circuit.{Circuit, Tables, countsOf, circuitOf, scratchToWork, wordsToWork, against, short, lengthsOf, holding, cleared}
-use Rattle.plan.specs.Reading.{readFile, WellFormed, Room}
+use Rattle.plan.specs.Circuit.{Circuit, Tables, countsOf, circuitOf, scratchToWork, wordsToWork, against, leastShort, lengthsOf, holding, cleared}
+use Rattle.plan.specs.Reading.{readFile, WellFormed, LongEnough}
 use Rattle.plan.specs.Binary.{binaryOrder}
-use Rattle.plan.specs.Given.{Given, given, lentAlone, lentWith, failing, stages, orderStage}
+use Rattle.plan.specs.Given.{Given, givenCircuit, lentAlone, lentWith, failing, stages, orderStage}
 use Rattle.plan.specs.Convert.{convert}
 use Rattle.plan.specs.Reduce.{reduce}
 use Rattle.plan.specs.Outcome.{ReadEntry, loadBy, loadAs, checkedBy, check, checkInOrder, MakeEntry, madeBy, conversion, reduction}
@@ -34,7 +34,7 @@ use Rattle.laws.proofs.Writing.Holding.{Enough, holding-circuit, holdin
 
 -- tables that hold a circuit, and that no check of given tables refuses
 pub record Left (g : Given) (c : Circuit) : Type 0 where
-  pub holds : given g ≡ c
+  pub holds : givenCircuit g ≡ c
   pub counts : g .counts ≡ countsOf c
   pub fine : firstOf (stages g (lentAlone g)) ≡ none
 
@@ -43,7 +43,7 @@ left-good g c l = ap checkedBy (l .fine)
 
 pub left-in-order : (g : Given) (c : Circuit) → Left g c → binaryOrder c ≡ true → checkInOrder g .answer ≡ checked.Good
 left-in-order g c l o =
-    let order : binaryOrder (given g) ≡ true = ap binaryOrder (l .holds) ∙ o in
+    let order : binaryOrder (givenCircuit g) ≡ true = ap binaryOrder (l .holds) ∙ o in
     let last : firstOf (orderStage g ∷ []) ≡ none = rw order in
     ap checkedBy (both-first (stages g (lentAlone g)) (orderStage g ∷ []) (l .fine) ∙ last)
 
@@ -52,7 +52,7 @@ module _ (c : Circuit) (t : Tables) (scratch : List ℕ) where
   after = record { counts = countsOf c; tables = holding t c; scratch = cleared scratch }
 
   -- the tables are as long as they were
-  after-room : WellFormed c → Room c (lengthsOf t scratch) → short (lentAlone after) ≡ none
+  after-room : WellFormed c → LongEnough c (lengthsOf t scratch) → leastShort (lentAlone after) ≡ none
   after-room w room =
       let l = short-none (against 1 (wordsToWork (countsOf c)) (lengthsOf t scratch)) .0 room in
       let enough : Enough c t = record {
@@ -64,7 +64,7 @@ module _ (c : Circuit) (t : Tables) (scratch : List ℕ) where
         bads = l .1 .1 .1 .1 .1 .1 .1 .0;
         constraints = l .1 .1 .1 .1 .1 .1 .1 .1 .0;
       } in
-      ap (λ (x : List ℕ). short (against 1 (wordsToWork (countsOf c)) x))
+      ap (λ (x : List ℕ). leastShort (against 1 (wordsToWork (countsOf c)) x))
       (holding-lengths t c (cleared scratch) enough ∙ same-length (length-replicate {A = ℕ} (length scratch) 0))
       ∙ room
     where
@@ -72,7 +72,7 @@ module _ (c : Circuit) (t : Tables) (scratch : List ℕ) where
       same-length e = λ i. length (t .inputs) ∷ length (t .latches) ∷ length (t .outputs) ∷ length (t .gates) ∷ e i ∷ 0
           ∷ length (t .resets) ∷ length (t .bads) ∷ length (t .constraints) ∷ []
 
-  pub left : WellFormed c → Room c (lengthsOf t scratch) → Left after c
+  pub left : WellFormed c → LongEnough c (lengthsOf t scratch) → Left after c
   left w room = record {
     holds = holding-circuit t c w;
     counts = refl;
@@ -113,7 +113,7 @@ module _ (e : MakeEntry) (f : firstOf (stages (e .circuit) (lentWith (e .circuit
   fine : Fine g (lentWith g (e .written))
   fine = nothing-fine g (lentWith g (e .written)) f
 
-  counts-are : countsOf (given g) ≡ g .counts
+  counts-are : countsOf (givenCircuit g) ≡ g .counts
   counts-are =
       let l = short-none (lentWith g (e .written)) .0 (fine .room) in
       counts-given g (short-none (lentAlone g) .1 (first-long (lentAlone g) (against 1 (wordsToWork (g .counts)) (lengthsOf (e .written) (g .scratch))) l))
@@ -122,7 +122,7 @@ module _ (e : MakeEntry) (f : firstOf (stages (e .circuit) (lentWith (e .circuit
   room-for : (c : Circuit) → c .M ≤ g .counts .M → length (c .inputs) ≡ g .counts .I → length (c .latches) ≡ g .counts .L
       → length (c .outputs) ≡ g .counts .O → length (c .gates) ≤ g .counts .A → length (c .bads) ≡ g .counts .B
       → length (c .constraints) ≡ g .counts .C
-      → Room c (lengthsOf (e .written) (g .scratch))
+      → LongEnough c (lengthsOf (e .written) (g .scratch))
   room-for c m i l o a b k =
       let r = short-none (lentWith g (e .written)) .0 (fine .room) in
       let s = last-long (lentAlone g) (against 1 (wordsToWork (g .counts)) (lengthsOf (e .written) (g .scratch))) r in
@@ -168,17 +168,17 @@ abbrev constraintsOf : Counts → ℕ
 constraintsOf n = n .C
 
 pub conversion-left : (e : MakeEntry) (n : Counts) → conversion e .answer ≡ made.Accepted n
-    → Left (record { counts = n; tables = conversion e .written; scratch = conversion e .scratch }) (convert (given (e .circuit)))
-    × (binaryOrder (convert (given (e .circuit))) ≡ true)
+    → Left (record { counts = n; tables = conversion e .written; scratch = conversion e .scratch }) (convert (givenCircuit (e .circuit)))
+    × (binaryOrder (convert (givenCircuit (e .circuit))) ≡ true)
 conversion-left e n a =
     let all = stages (e .circuit) (lentWith (e .circuit) (e .written)) in
-    let m = made-left (firstOf all) e (convert (given (e .circuit))) n a (λ f. of f) in
-    (m .1, convert-in-order (given (e .circuit)) (fine e (m .0) .formed))
+    let m = made-left (firstOf all) e (convert (givenCircuit (e .circuit))) n a (λ f. of f) in
+    (m .1, convert-in-order (givenCircuit (e .circuit)) (fine e (m .0) .formed))
   where
     of : firstOf (stages (e .circuit) (lentWith (e .circuit) (e .written))) ≡ none
-        → Left (after (convert (given (e .circuit))) (e .written) (e .circuit .scratch)) (convert (given (e .circuit)))
+        → Left (after (convert (givenCircuit (e .circuit))) (e .written) (e .circuit .scratch)) (convert (givenCircuit (e .circuit)))
     of f =
-        let c = given (e .circuit) in
+        let c = givenCircuit (e .circuit) in
         let w = fine e f .formed in
         let k = counts-convert c w in
         let q = counts-are e f in
@@ -201,27 +201,27 @@ pub record Fitting (c d : Circuit) : Type 0 where
 
 pub in-order-left : (make : Circuit → Circuit) → ((c : Circuit) → WellFormed c → binaryOrder c ≡ true → Fitting c (make c))
     → (e : MakeEntry) (n : Counts)
-    → let x = madeBy (firstOf (stages (e .circuit) (lentWith (e .circuit) (e .written)) ++ (orderStage (e .circuit) ∷ []))) e (make (given (e .circuit))) in
+    → let x = madeBy (firstOf (stages (e .circuit) (lentWith (e .circuit) (e .written)) ++ (orderStage (e .circuit) ∷ []))) e (make (givenCircuit (e .circuit))) in
     x .answer ≡ made.Accepted n
-    → Left (record { counts = n; tables = x .written; scratch = x .scratch }) (make (given (e .circuit)))
-    × (binaryOrder (make (given (e .circuit))) ≡ true)
+    → Left (record { counts = n; tables = x .written; scratch = x .scratch }) (make (givenCircuit (e .circuit)))
+    × (binaryOrder (make (givenCircuit (e .circuit))) ≡ true)
 in-order-left make fit e n a =
     let all = stages (e .circuit) (lentWith (e .circuit) (e .written)) ++ (orderStage (e .circuit) ∷ []) in
-    let m = made-left (firstOf all) e (make (given (e .circuit))) n a (λ f. of f) in
+    let m = made-left (firstOf all) e (make (givenCircuit (e .circuit))) n a (λ f. of f) in
     let h = first-both (stages (e .circuit) (lentWith (e .circuit) (e .written))) (orderStage (e .circuit) ∷ []) (m .0) in
-    (m .1, fit (given (e .circuit)) (fine e (h .0) .formed) (ordered (h .1)) .order)
+    (m .1, fit (givenCircuit (e .circuit)) (fine e (h .0) .formed) (ordered (h .1)) .order)
   where
-    ordered : firstOf (orderStage (e .circuit) ∷ []) ≡ none → binaryOrder (given (e .circuit)) ≡ true
+    ordered : firstOf (orderStage (e .circuit) ∷ []) ≡ none → binaryOrder (givenCircuit (e .circuit)) ≡ true
     ordered h =
-        let t = binaryOrder (given (e .circuit)) in
+        let t = binaryOrder (givenCircuit (e .circuit)) in
         failing-none t (stage-none NotInOrder (failing t) (first-all (orderStage (e .circuit) ∷ []) h .0))
 
     of : firstOf (stages (e .circuit) (lentWith (e .circuit) (e .written)) ++ (orderStage (e .circuit) ∷ [])) ≡ none
-        → Left (after (make (given (e .circuit))) (e .written) (e .circuit .scratch)) (make (given (e .circuit)))
+        → Left (after (make (givenCircuit (e .circuit))) (e .written) (e .circuit .scratch)) (make (givenCircuit (e .circuit)))
     of f′ =
         let h = first-both (stages (e .circuit) (lentWith (e .circuit) (e .written))) (orderStage (e .circuit) ∷ []) f′ in
         let f = h .0 in
-        let c = given (e .circuit) in
+        let c = givenCircuit (e .circuit) in
         let k = fit c (fine e f .formed) (ordered (h .1)) in
         let q = counts-are e f in
         left (make c) (e .written) (e .circuit .scratch) (k .formed)
@@ -229,8 +229,8 @@ in-order-left make fit e n a =
         (k .O ∙ ap outputsOf q) (omega (arith, k .A, ap gatesOf q)) (k .B ∙ ap badsOf q) (k .C ∙ ap constraintsOf q))
 
 pub reduction-left : (e : MakeEntry) (n : Counts) → reduction e .answer ≡ made.Accepted n
-    → Left (record { counts = n; tables = reduction e .written; scratch = reduction e .scratch }) (reduce (given (e .circuit)))
-    × (binaryOrder (reduce (given (e .circuit))) ≡ true)
+    → Left (record { counts = n; tables = reduction e .written; scratch = reduction e .scratch }) (reduce (givenCircuit (e .circuit)))
+    × (binaryOrder (reduce (givenCircuit (e .circuit))) ≡ true)
 reduction-left = in-order-left reduce fitting
   where
     fitting : (c : Circuit) → WellFormed c → binaryOrder c ≡ true → Fitting c (reduce c)

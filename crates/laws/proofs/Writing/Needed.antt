@@ -15,7 +15,7 @@ use Rattle.plan.specs.declared.Written.the-variants as written
 use Rattle.plan.specs.Refusals.{stage, firstOf}
 use Rattle.plan.specs.Text.{textOf}
 use Rattle.plan.specs.Binary.{binaryOf}
-use Rattle.plan.specs.Given.{Given, given, lentAlone, stages, orderStage, tailStage, roomStage}
+use Rattle.plan.specs.Given.{Given, givenCircuit, lentAlone, stages, orderStage, tailStage, roomStage}
 use Rattle.plan.specs.Outcome.{FileEntry, writtenBy, writeText, writeBinary}
 use Rattle.laws.proofs.Writing.Nothing.{some-none, first-both, both-first}
 use Rattle.laws.proofs.Writing.Written.{wrote}
@@ -81,10 +81,10 @@ module _ (g : Given) (tail : List ℕ) where
   buffer out = record { circuit = g; tail = tail; out = out }
 
   abbrev text-bytes : List ℕ
-  text-bytes = textOf (given g) ++ tail
+  text-bytes = textOf (givenCircuit g) ++ tail
 
   abbrev binary-bytes : List ℕ
-  binary-bytes = binaryOf (given g) ++ tail
+  binary-bytes = binaryOf (givenCircuit g) ++ tail
 
   abbrev text-stages : List (Option Refusal)
   text-stages = stages g (lentAlone g) ++ (tailStage g tail ∷ [])

@@ -14,7 +14,7 @@ use Rattle.plan.specs.declared.Stepped.{Stepped}
 use Rattle.plan.specs.declared.Stepped.the-variants as stepped
 use Rattle.plan.specs.Refusals.{stage, firstOf}
 use Rattle.plan.specs.Literals.{varOf, inRange}
-use Rattle.plan.specs.Circuit.{Circuit, oneLine, latchLine, gateLine, heads, vars, currents, lefts, definedIn, has, allNew, inside, allInside, resetsOk}
+use Rattle.plan.specs.Circuit.{Circuit, oneLine, latchLine, gateLine, heads, vars, currentVars, leftVars, definedIn, has, allNew, inside, allInside, resetsOk}
 use Rattle.plan.specs.Bytes.{outside}
 use Rattle.plan.specs.Given.{placed, orElse, failingAt, failing, outsideOf, outsideIn, twiceOf, twiceIn}
 use Rattle.laws.proofs.Reading.Rows.{Long, map-long, new-both}
@@ -163,11 +163,11 @@ none-new k t seen ((x ∷ row) ∷ rows) l e = go (has (varOf x) seen) (none-new
 pub once-different : (c : Circuit) → twiceIn c ≡ none → allNew [] (definedIn c) ≡ true
 once-different c e =
     let ins = vars (c .inputs) in
-    let lats = currents (c .latches) in
+    let lats = currentVars (c .latches) in
     let h1 = or-none _ _ e in
     let h2 = or-none _ _ (h1 .1) in
-    new-both [] ins (lats ++ lefts (c .gates))
+    new-both [] ins (lats ++ leftVars (c .gates))
     (none-new 0 1 [] (map oneLine (c .inputs)) (map-long 1 oneLine (λ a. refl) (c .inputs)) (h1 .0))
-    (new-both ins lats (lefts (c .gates))
+    (new-both ins lats (leftVars (c .gates))
     (none-new 1 2 ins (map latchLine (c .latches)) (map-long 2 latchLine (λ a. refl) (c .latches)) (h2 .0))
     (none-new 2 4 (ins ++ lats) (map gateLine (c .gates)) (map-long 3 gateLine (λ a. refl) (c .gates)) (h2 .1)))

@@ -12,7 +12,7 @@ use Rattle.plan.specs.Circuit.{Circuit}
 use Rattle.plan.specs.Header.{binary, formIn}
 use Rattle.plan.specs.Text.{textOf}
 use Rattle.plan.specs.Binary.{binaryOf, binaryOrder}
-use Rattle.plan.specs.Reading.{readFile, States, Room}
+use Rattle.plan.specs.Reading.{readFile, States, LongEnough}
 use Rattle.plan.specs.Programs.{lentWords, converter}
 use Rattle.laws.proofs.Reading.Differences.{Bytes}
 use Rattle.laws.proofs.Reading.Exactly.{sound, formed}
@@ -22,7 +22,7 @@ use Rattle.laws.proofs.Writing.ThereAndBack.{inOtherForm, binary-conver
 use Rattle.laws.proofs.Writing.Calls.{binary-file}
 
 -- a file that 1.9 states
-module _ (file lengths : List ℕ) (c : Circuit) (tail : List ℕ) (s : States V19 file c tail) (room : Room c lengths) where
+module _ (file lengths : List ℕ) (c : Circuit) (tail : List ℕ) (s : States V19 file c tail) (room : LongEnough c lengths) where
   pub left-off-back-again : ZerosLeftOff s → binaryOrder c ≡ true → BackAgain file lengths
   left-off-back-again t o = states-back file lengths c tail s (shortest-exactly-left-off file c tail s .1 t) room o
 
@@ -33,7 +33,7 @@ module _ (file lengths : List ℕ) (c : Circuit) (tail : List ℕ) (s : States V
 
 -- a file that the reader of 2007 accepts, with room for the calls that follow
 module _ (file lengths : List ℕ) (bytes : Bytes file) (c : Circuit) (start : ℕ) (accepted : readFile V2007 file lengths ≡ got c start)
-    (room : Room c lengths) where
+    (room : LongEnough c lengths) where
   stated : States V2007 file c (drop start file)
   stated = sound V2007 file lengths bytes c start accepted .0
 
@@ -48,7 +48,7 @@ module _ (file lengths : List ℕ) (bytes : Bytes file) (c : Circuit) (start : �
       old-back-again (binary-file file c tail form (stated-2007-shortest file c tail stated) (states-more file c tail stated) .1)
 
 -- the converter, run on what it wrote of a binary file that 2007 accepts in its tables, where both files are as long as an input may be
-pub old-converter-back : (file : List ℕ) → Bytes file → (c : Circuit) (start : ℕ) → readFile V2007 file lentWords ≡ got c start → Room c lentWords
+pub old-converter-back : (file : List ℕ) → Bytes file → (c : Circuit) (start : ℕ) → readFile V2007 file lentWords ≡ got c start → LongEnough c lentWords
     → formIn file ≡ binary → length file ≤ 65536 → length (textOf c ++ drop start file) ≤ 65536
     → converter (some (converter (some file))) ≡ file
 old-converter-back file bytes c start accepted room form h k =

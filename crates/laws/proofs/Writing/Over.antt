@@ -14,7 +14,7 @@ use Rattle.plan.specs.declared.Loaded.the-variants as loaded
 use Rattle.plan.specs.Refusals.{Parse, got, refused, numberOf}
 use Rattle.plan.specs.Circuit.{Circuit, countsOf, lengthsOf, holding, cleared}
 use Rattle.plan.specs.Header.{listOf}
-use Rattle.plan.specs.Reading.{readFile, States, RoomToRead}
+use Rattle.plan.specs.Reading.{readFile, States, LongEnoughToRead}
 use Rattle.plan.specs.Outcome.{ReadEntry, LoadExit, ReadExit, loadedValues, tailOf, loadBy, loadAs, readAs, read, read2007}
 use Rattle.laws.proofs.Reading.Differences.{Bytes}
 use Rattle.laws.proofs.Reading.Exactly.{sound, complete}
@@ -95,7 +95,7 @@ readAnswer e c tail = record { answer = 0 ∷ 0 ∷ listOf (countsOf c); tail = 
 
 -- the circuit and the tail are stated, and the tables have room to read them
 abbrev pub Readable : Version → ReadEntry → Circuit → List ℕ → Type 0
-Readable v e c tail = States v (e .file) c tail × RoomToRead (e .file) c (lengthsOf (e .tables) (e .scratch))
+Readable v e c tail = States v (e .file) c tail × LongEnoughToRead (e .file) c (lengthsOf (e .tables) (e .scratch))
 
 module _ (v : Version) (e : ReadEntry) (bytes : Bytes (e .file)) where
   abbrev lent : List ℕ

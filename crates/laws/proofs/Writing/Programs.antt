@@ -12,14 +12,14 @@ use lib.Seq.{drop-append-seam}
 use Rattle.plan.specs.declared.Version.the-variants.{V19}
 use Rattle.plan.specs.declared.Counts.{Counts}
 use Rattle.plan.specs.Refusals.{got, _then_}
-use Rattle.plan.specs.Circuit.{Circuit, countsOf, wordsToWork, against, short}
+use Rattle.plan.specs.Circuit.{Circuit, countsOf, wordsToWork, against, leastShort}
 use Rattle.plan.specs.Binary.{binaryOf, binaryOrder}
 use Rattle.plan.specs.Tail.{TailOk}
-use Rattle.plan.specs.Reading.{readFile, readToWork, WellFormed, States, shortBinary, Room}
+use Rattle.plan.specs.Reading.{readFile, readToWork, WellFormed, States, shortBinary, LongEnough}
 use Rattle.plan.specs.Convert.{convert}
 use Rattle.plan.specs.Reduce.{reduce}
 use Rattle.plan.specs.Programs.{lentWords, input, fitting, printed, reducer, stimulus, stepLines, tracer}
-use Rattle.plan.specs.Step.{valueOf, run, first}
+use Rattle.plan.specs.Step.{valueOf, run, firstState}
 use Rattle.laws.proofs.Reading.Differences.{Bytes}
 use Rattle.laws.proofs.Reading.Runs.{length-lits}
 use Rattle.laws.proofs.Reading.Short.{short-none}
@@ -34,7 +34,7 @@ use Rattle.laws.proofs.Writing.ThereAndBack.{BackAgain, stated-tail, sh
 -- a circuit with the same I, L, O, B and C, and M and A no larger, has room where the first has
 room-less : (n m : Counts) (lengths : List ℕ) → m .M ≤ n .M → m .I ≡ n .I → m .L ≡ n .L → m .O ≡ n .O → m .A ≤ n .A → m .B ≡ n .B
     → m .C ≡ n .C
-    → short (against 1 (wordsToWork n) lengths) ≡ none → short (against 1 (wordsToWork m) lengths) ≡ none
+    → leastShort (against 1 (wordsToWork n) lengths) ≡ none → leastShort (against 1 (wordsToWork m) lengths) ≡ none
 room-less n m lengths hm hi hl ho ha hb hc r =
     let l = short-none (against 1 (wordsToWork n) lengths) .0 r in
     let h1 = l .1 .1 .1 .1 in
@@ -53,14 +53,14 @@ room-less n m lengths hm hi hl ho ha hb hc r =
       ),
     )
 
-module _ (c : Circuit) (w : WellFormed c) (lengths : List ℕ) (room : Room c lengths) where
-  pub room-convert : Room (convert c) lengths
+module _ (c : Circuit) (w : WellFormed c) (lengths : List ℕ) (room : LongEnough c lengths) where
+  pub room-convert : LongEnough (convert c) lengths
   room-convert =
       let k = counts-convert c w in
       room-less (countsOf c) (countsOf (convert c)) lengths (w .sum) (ap (λ (n : Counts). n .I) k) (ap (λ (n : Counts). n .L) k)
       (ap (λ (n : Counts). n .O) k) (omega (arith, ap (λ (n : Counts). n .A) k)) (ap (λ (n : Counts). n .B) k) (ap (λ (n : Counts). n .C) k) room
 
-  pub room-reduce : binaryOrder c ≡ true → Room (reduce c) lengths
+  pub room-reduce : binaryOrder c ≡ true → LongEnough (reduce c) lengths
   room-reduce t =
       let k = counts-reduce c in
       let fewer = reduce-fewer c w t in
@@ -69,7 +69,7 @@ module _ (c : Circuit) (w : WellFormed c) (lengths : List ℕ) (room : Room c le
 
 -- of an accepted file, with room for the calls that follow
 module _ (file lengths : List ℕ) (bytes : Bytes file) (c : Circuit) (start : ℕ) (accepted : readFile V19 file lengths ≡ got c start)
-    (long : Room c lengths) where
+    (long : LongEnough c lengths) where
   abbrev tail : List ℕ
   tail = drop start file
 
@@ -85,7 +85,7 @@ module _ (file lengths : List ℕ) (bytes : Bytes file) (c : Circuit) (start : �
   tail-ok : TailOk V19 (countsOf (convert c)) tail
   tail-ok = tail-convert V19 c tail (stated-tail file c tail stated)
 
-  room : Room (convert c) lengths
+  room : LongEnough (convert c) lengths
   room = room-convert c well lengths long
 
   pub converted-accepted : readFile V19 (binaryOf (convert c) ++ tail) lengths ≡ got (convert c) (length (binaryOf (convert c)))
@@ -100,7 +100,7 @@ module _ (file lengths : List ℕ) (bytes : Bytes file) (c : Circuit) (start : �
   pub reduced-in-order : binaryOrder (reduce (convert c)) ≡ true
   reduced-in-order = reduce-in-order (convert c) (convert-well-formed c well) (convert-in-order c well)
 
-  reduced-room : Room (reduce (convert c)) lengths
+  reduced-room : LongEnough (reduce (convert c)) lengths
   reduced-room = room-reduce (convert c) (convert-well-formed c well) lengths room (convert-in-order c well)
 
   pub reduced-accepted : readFile V19 (binaryOf (reduce (convert c)) ++ tail) lengths
@@ -120,7 +120,7 @@ module _ (file lengths : List ℕ) (bytes : Bytes file) (c : Circuit) (start : �
 
 -- the programs on an accepted file, where files are as long as an input may be
 module _ (file : List ℕ) (bytes : Bytes file) (c : Circuit) (start : ℕ) (accepted : readFile V19 file lentWords ≡ got c start)
-    (long : Room c lentWords) (short-enough : length file ≤ 65536) where
+    (long : LongEnough c lentWords) (short-enough : length file ≤ 65536) where
   abbrev converted : List ℕ
   converted = binaryOf (convert c) ++ drop start file
 
@@ -167,4 +167,4 @@ module _ (file : List ℕ) (bytes : Bytes file) (c : Circuit) (start : ℕ) (acc
       lines n d =
           printed (input list λ bytes.
           stimulus n bytes then λ rows end.
-          got (stepLines (run d (first d) (map (map valueOf) rows))) end)
+          got (stepLines (run d (firstState d) (map (map valueOf) rows))) end)

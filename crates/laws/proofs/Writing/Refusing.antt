@@ -21,7 +21,7 @@ use Rattle.plan.specs.Difference.{groupsOf}
 use Rattle.plan.specs.Text.{textOf}
 use Rattle.plan.specs.Binary.{binaryOf}
 use Rattle.plan.specs.Reading.{readFile}
-use Rattle.plan.specs.Given.{Given, given, lentAlone, lentWith, stages, orderStage, tailStage, room, roomStage, inOrderThen}
+use Rattle.plan.specs.Given.{Given, givenCircuit, lentAlone, lentWith, stages, orderStage, tailStage, lackingRoom, roomStage, inOrderThen}
 use Rattle.plan.specs.Sixth.{sixthStages}
 use Rattle.plan.specs.Programs.{input}
 use Rattle.plan.specs.Convert.{convert}
@@ -37,7 +37,7 @@ use Rattle.plan.specs.Fillings.{FilledEntry, witness}
 use Rattle.plan.specs.Plain.{gatesStage, plainStep, plainTrace}
 use Rattle.plan.specs.Rewire.{wrongOn, editStages, RewireEntry, rewiredBy, rewiring}
 use Rattle.plan.specs.Cards.{cardsOf, readCards, loadCards, cardStage, writeCards, CardEntry, movedBy, filedCards, fileWhole, cardedFile, cardWhole}
-use Rattle.plan.specs.Whole.{WholeEntry, loaded as loadedFile, wholeBy, convertedFile, convertWhole, reducedFile, reduceWhole, droppedFile, dropWhole}
+use Rattle.plan.specs.Whole.{WholeEntry, fileCircuit as loadedFile, wholeBy, convertedFile, convertWhole, reducedFile, reduceWhole, droppedFile, dropWhole}
 use Rattle.plan.specs.Whole.{openBy, openWhole, TraceEntry, traceStage, tracedBy, trace}
 
 -- a table as long as before, of which every word is zero; all seven tables
@@ -222,25 +222,25 @@ refused-leaves = record {
   loading = λ v e r a. read-refused e (readFile v (e .file) (lengthsOf (e .tables) (e .scratch))) r a;
   reading = λ v e h. number-refused (e .file) e (readFile v (e .file) (lengthsOf (e .tables) (e .scratch))) h;
   card-loading = λ e r a. read-refused e (readCards (e .file) (lengthsOf (e .tables) (e .scratch))) r a;
-  converting = λ e r a. made-refused (firstOf (stages (e .circuit) (lentWith (e .circuit) (e .written)))) e (convert (given (e .circuit))) r a;
+  converting = λ e r a. made-refused (firstOf (stages (e .circuit) (lentWith (e .circuit) (e .written)))) e (convert (givenCircuit (e .circuit))) r a;
   reducing = λ e r a. made-refused (firstOf (stages (e .circuit) (lentWith (e .circuit) (e .written)) ++ (orderStage (e .circuit) ∷ []))) e
-      (reduce (given (e .circuit))) r a;
+      (reduce (givenCircuit (e .circuit))) r a;
   dropping-gates = λ e r a. made-refused (firstOf (stages (e .circuit) (lentWith (e .circuit) (e .written)) ++ (orderStage (e .circuit) ∷ []))) e
-      (dropUnused (given (e .circuit))) r a;
+      (dropUnused (givenCircuit (e .circuit))) r a;
   writing-text = λ e r a.
       let g = e .circuit in
-      let bytes = textOf (given g) ++ e .tail in
+      let bytes = textOf (givenCircuit g) ++ e .tail in
       written-refused (firstOf (stages g (lentAlone g) ++ (tailStage g (e .tail) ∷ roomStage (e .out) bytes ∷ []))) e bytes r a;
   writing-binary = λ e r a.
       let g = e .circuit in
-      let bytes = binaryOf (given g) ++ e .tail in
+      let bytes = binaryOf (givenCircuit g) ++ e .tail in
       written-refused (firstOf (inOrderThen g (tailStage g (e .tail) ∷ roomStage (e .out) bytes ∷ []))) e bytes r a;
   writing-cards = λ e r a.
       let g = e .circuit in
-      let bytes = cardsOf (given g) in
+      let bytes = cardsOf (givenCircuit g) in
       written-refused (firstOf (inOrderThen g (tailStage g (e .tail) ∷ cardStage g (e .tail) ∷ roomStage (e .out) bytes ∷ []))) e bytes r a;
-  writing-number = λ e r a. put-refused (room (e .out) (e .at) (digits (e .value))) (e .out) (e .at) (digits (e .value)) r a;
-  writing-difference = λ e r a. put-refused (room (e .out) (e .at) (groupsOf (e .value))) (e .out) (e .at) (groupsOf (e .value)) r a;
+  writing-number = λ e r a. put-refused (lackingRoom (e .out) (e .at) (digits (e .value))) (e .out) (e .at) (digits (e .value)) r a;
+  writing-difference = λ e r a. put-refused (lackingRoom (e .out) (e .at) (groupsOf (e .value))) (e .out) (e .at) (groupsOf (e .value)) r a;
   stepping = λ e r a. step-refused (firstOf (inOrderThen (e .circuit) (stepStage e ∷ []))) e r a;
   plain-stepping = λ e r a. step-refused (firstOf (inOrderThen (e .circuit) (gatesStage (e .circuit) ∷ stepStage e ∷ []))) e r a;
   reporting = λ e r a. report-refused (firstOf (reportStages e)) e r a;
@@ -252,7 +252,7 @@ refused-leaves = record {
   rewiring-gates = λ e r a.
       let g = e .circuit in
       rewire-refused (firstOf (inOrderThen g (editStages (g .counts) (e .gate) (e .rhs0) (e .rhs1) (length (e .values))
-      ++ (stage WrongValue (wrongOn (given g) (e .values)) ∷ [])))) e r a;
+      ++ (stage WrongValue (wrongOn (givenCircuit g) (e .values)) ∷ [])))) e r a;
   checking = λ g. (zeroed (g .scratch), zeroed (g .scratch));
   witnessing-three = λ e. zeroed (e .circuit .scratch);
   witnessing = λ e. zeroed (e .list .circuit .scratch);

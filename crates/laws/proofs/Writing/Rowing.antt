@@ -17,9 +17,9 @@ use Rattle.plan.specs.declared.Stepped.the-variants as stepped
 use Rattle.plan.specs.Refusals.{stage, firstOf}
 use Rattle.plan.specs.Circuit.{Circuit, countsOf, rowsOf, flat, cleared}
 use Rattle.plan.specs.Binary.{binaryOrder}
-use Rattle.plan.specs.Given.{Given, given, lentAlone, failing, stages, orderStage, inOrderThen}
-use Rattle.plan.specs.Step.{Value, codeOf, valueOf, isCode, lit, valuesOf, outputsOf, nextOf, Step, stepOf, first}
-use Rattle.plan.specs.Outcome.{allCodes, vector, vectorOf, StepEntry, step}
+use Rattle.plan.specs.Given.{Given, givenCircuit, lentAlone, failing, stages, orderStage, inOrderThen, failingAt}
+use Rattle.plan.specs.Step.{Value, codeOf, valueOf, isCode, lit, valuesOf, outputsOf, nextOf, Step, stepOf, firstState}
+use Rattle.plan.specs.Outcome.{allCodes, vectorOf, StepEntry, step}
 use Rattle.plan.specs.Rows.{outputsOfRow, nextOfRow, rowSteps, manyRows, RowsEntry, RowsExit, rowVectors, rowStage, steppedRows, stepRows}
 use Rattle.laws.proofs.Reading.Common.{and-left, and-right, and-intro}
 use Rattle.laws.proofs.Running.Resets.{first-length}
@@ -76,7 +76,7 @@ module _ (e : RowsEntry) (done : stepRows e .answer ≡ stepped.Done) where
   n = e .circuit .counts
 
   abbrev c : Circuit
-  c = given (e .circuit)
+  c = givenCircuit (e .circuit)
 
   passed : firstOf (inOrderThen g (rowStage e ∷ [])) ≡ none
   passed = stepped-none (λ o. steppedRows o e .answer) (λ r. refl) (firstOf (inOrderThen g (rowStage e ∷ []))) done
@@ -87,7 +87,7 @@ module _ (e : RowsEntry) (done : stepRows e .answer ≡ stepped.Done) where
   fine : Fine g (lentAlone g)
   fine = nothing-fine g (lentAlone g) tables-pass
 
-  pub counts : countsOf (given (e .circuit)) ≡ e .circuit .counts
+  pub counts : countsOf (givenCircuit (e .circuit)) ≡ e .circuit .counts
   counts = counts-given g (fine .room)
 
   left : Left g c
@@ -103,19 +103,19 @@ module _ (e : RowsEntry) (done : stepRows e .answer ≡ stepped.Done) where
       let all = first-all (orderStage g ∷ rowStage e ∷ []) (first-both (stages g (lentAlone g)) (orderStage g ∷ rowStage e ∷ []) passed .1) in
       let row = first-all (manyRows (e .rows) ∷ stage BadVector (rowVectors e) ∷ []) (all .1 .0) in
       let vectors = stage-none BadVector (rowVectors e) (row .1 .0) in
-      let rest = or-none (vector 1 (eqb (length (e .nexts)) (e .rows * n .L))) _ vectors .1 in
+      let rest = or-none (failingAt 1 (eqb (length (e .nexts)) (e .rows * n .L))) _ vectors .1 in
       let mine = or-none (vectorOf 2 (e .rows * n .I) (e .inputs)) _ rest .0 in
       let both = at-none 2 (eqb (length (e .inputs)) (e .rows * n .I) && allCodes (e .inputs)) mine in
       (eqb-true _ _ (and-left (eqb (length (e .inputs)) (e .rows * n .I)) _ both), and-right (eqb (length (e .inputs)) (e .rows * n .I)) _ both)
 
   -- a part of the exit, row k of it
   part : (w : ℕ) (take-out : Step → List ℕ) (bytes : List ℕ) → bytes ≡ flat (map take-out (rowSteps c (e .rows) (e .inputs)))
-      → ((x : List Value) → length (take-out (stepOf c (first c) x)) ≡ w) → (k : ℕ) → k < e .rows
-      → take w (drop (k * w) bytes) ≡ take-out (stepOf c (first c) (map valueOf (take (n .I) (drop (k * n .I) (e .inputs)))))
+      → ((x : List Value) → length (take-out (stepOf c (firstState c) x)) ≡ w) → (k : ℕ) → k < e .rows
+      → take w (drop (k * w) bytes) ≡ take-out (stepOf c (firstState c) (map valueOf (take (n .I) (drop (k * n .I) (e .inputs)))))
   part w take-out bytes is long k small =
       let i = length (c .inputs) in
-      let f : List ℕ → List ℕ = λ x. take-out (stepOf c (first c) (map valueOf x)) in
-      ap (λ (l : List ℕ). take w (drop (k * w) l)) (is ∙ ap flat (fused (stepOf c (first c)) take-out (rowsOf i (e .rows) (e .inputs))))
+      let f : List ℕ → List ℕ = λ x. take-out (stepOf c (firstState c) (map valueOf x)) in
+      ap (λ (l : List ℕ). take w (drop (k * w) l)) (is ∙ ap flat (fused (stepOf c (firstState c)) take-out (rowsOf i (e .rows) (e .inputs))))
       ∙ (chunk f w i (e .rows) k (e .inputs) (λ x. long (map valueOf x)) small
       ∙ ap (λ (j : ℕ). f (take j (drop (k * j) (e .inputs)))) (ap (λ (m : Counts). m .I) counts))
 
@@ -126,7 +126,7 @@ module _ (e : RowsEntry) (done : stepRows e .answer ≡ stepped.Done) where
   abbrev pub rowEntry : ℕ → List ℕ → StepEntry
   rowEntry k outs = record {
     circuit = e .circuit;
-    state = map codeOf (first (given (e .circuit)));
+    state = map codeOf (firstState (givenCircuit (e .circuit)));
     inputs = take (e .circuit .counts .I) (drop (k * e .circuit .counts .I) (e .inputs));
     outputs = outs;
   }
@@ -143,16 +143,16 @@ module _ (e : RowsEntry) (done : stepRows e .answer ≡ stepped.Done) where
       let size : length (take (n .I) (drop (k * n .I) (e .inputs))) ≡ n .I
       = length-take-le (n .I) (drop (k * n .I) (e .inputs))
       (omega (arith, length-drop (k * n .I) (e .inputs), room-in k (e .rows) (n .I) (length (e .inputs)) small (inputs-good .0))) in
-      let next-is : map codeOf (nextOf c (map valueOf (map codeOf (first c))) (map valueOf ins)) ≡ take (n .L) (drop (k * n .L) (stepRows e .nexts))
-      = ap (λ (s : List Value). map codeOf (nextOf c s (map valueOf ins))) (codes-values (first c))
+      let next-is : map codeOf (nextOf c (map valueOf (map codeOf (firstState c))) (map valueOf ins)) ≡ take (n .L) (drop (k * n .L) (stepRows e .nexts))
+      = ap (λ (s : List Value). map codeOf (nextOf c s (map valueOf ins))) (codes-values (firstState c))
       ∙ sym (part (n .L) nextOfRow (stepRows e .nexts) (ap (λ (x : RowsExit). x .nexts) exit)
-      (λ x. length-map (nextOf c (first c) x) codeOf ∙ (next-length c (first c) x ∙ ap (λ (m : Counts). m .L) counts)) k small) in
-      let outs-is : map codeOf (outputsOf c (map valueOf (map codeOf (first c))) (map valueOf ins)) ≡ take (n .O) (drop (k * n .O) (stepRows e .outputs))
-      = ap (λ (s : List Value). map codeOf (outputsOf c s (map valueOf ins))) (codes-values (first c))
+      (λ x. length-map (nextOf c (firstState c) x) codeOf ∙ (next-length c (firstState c) x ∙ ap (λ (m : Counts). m .L) counts)) k small) in
+      let outs-is : map codeOf (outputsOf c (map valueOf (map codeOf (firstState c))) (map valueOf ins)) ≡ take (n .O) (drop (k * n .O) (stepRows e .outputs))
+      = ap (λ (s : List Value). map codeOf (outputsOf c s (map valueOf ins))) (codes-values (firstState c))
       ∙ sym (part (n .O) outputsOfRow (stepRows e .outputs) (ap (λ (x : RowsExit). x .outputs) exit)
-      (λ x. length-map (outputsOf c (first c) x) codeOf
-      ∙ (length-map (c .outputs) (lit (valuesOf c (first c) x)) ∙ ap (λ (m : Counts). m .O) counts)) k small) in
-      step-done g c left order (map codeOf (first c)) ins outs (length-map (first c) codeOf ∙ first-length c (fine .formed)) (all-codes (first c))
+      (λ x. length-map (outputsOf c (firstState c) x) codeOf
+      ∙ (length-map (c .outputs) (lit (valuesOf c (firstState c) x)) ∙ ap (λ (m : Counts). m .O) counts)) k small) in
+      step-done g c left order (map codeOf (firstState c)) ins outs (length-map (firstState c) codeOf ∙ first-length c (fine .formed)) (all-codes (firstState c))
       (size ∙ sym (ap (λ (m : Counts). m .I) counts)) (codes-take (n .I) (drop (k * n .I) (e .inputs)) (codes-drop (k * n .I) (e .inputs) (inputs-good .1)))
       (long ∙ sym (ap (λ (m : Counts). m .O) counts))
       ∙ λ j. record { answer = stepped.Done; scratch = cleared (e .circuit .scratch); state = next-is j; outputs = outs-is j }

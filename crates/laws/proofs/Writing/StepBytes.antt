@@ -12,7 +12,7 @@ use Rattle.plan.specs.Binary.{binaryOrder}
 use Rattle.plan.specs.Given.{Given}
 use Rattle.plan.specs.Convert.{convert}
 use Rattle.plan.specs.Reduce.{reduce}
-use Rattle.plan.specs.Step.{Value, codeOf, Step, run, first}
+use Rattle.plan.specs.Step.{Value, codeOf, Step, run, firstState}
 use Rattle.plan.specs.Outcome.{MakeEntry, MakeExit, conversion, reduction, StepExit}
 use Rattle.laws.proofs.Running.Counts.{counts-convert, counts-reduce}
 use Rattle.laws.proofs.Running.Monotone.{Replaced, Kept}
@@ -60,7 +60,7 @@ shown-exits g h (x ∷ xs) = ap (λ (l : List Shown). shown (exitOf g x) ∷ l) 
 
 -- the stepper's calls on a list of vectors, from the resets of a circuit
 abbrev pub stepsFrom : Circuit → Given → List ℕ → List (List Value) → List StepExit
-stepsFrom c g outs is = steps g outs (map codeOf (first c)) (map (map codeOf) is)
+stepsFrom c g outs is = steps g outs (map codeOf (firstState c)) (map (map codeOf) is)
 
 -- a circuit that a later call left, as the stepper asks for it, with the inputs, outputs and resets of an earlier one
 pub record Follows (d e : Circuit) (g : Given) : Type 0 where
@@ -69,7 +69,7 @@ pub record Follows (d e : Circuit) (g : Given) : Type 0 where
   pub formed : WellFormed e
   pub inputs : length (e .inputs) ≡ length (d .inputs)
   pub outputs : length (e .outputs) ≡ length (d .outputs)
-  pub begins : first e ≡ first d
+  pub begins : firstState e ≡ firstState d
 
 module _ (r : ReadCall) (m : MakeCall conversion) (m-given : FromRead (m .entry .circuit) r) where
   abbrev d : Circuit
@@ -101,32 +101,32 @@ module _ (r : ReadCall) (m : MakeCall conversion) (m-given : FromRead (m .entry 
   module _ (e : Circuit) (g : Given) (follows : Follows d e g) (is js : List (List Value)) (sized : Sized (length (readCircuit r .inputs)) is)
       (replaced : Replaced is js) (outs outs′ : List ℕ) (room : length outs ≡ length (readCircuit r .outputs))
       (room′ : length outs′ ≡ length (readCircuit r .outputs)) where
-    start : first d ≡ first (readCircuit r)
+    start : firstState d ≡ firstState (readCircuit r)
     start = first-convert (readCircuit r)
 
-    converted-steps : stepsFrom (readCircuit r) (leftBy conversion m) outs is ≡ map (exitOf (leftBy conversion m)) (run d (first d) is)
+    converted-steps : stepsFrom (readCircuit r) (leftBy conversion m) outs is ≡ map (exitOf (leftBy conversion m)) (run d (firstState d) is)
     converted-steps =
         ap (λ (t : List Value). steps (leftBy conversion m) outs (map codeOf t) (map (map codeOf) is)) (sym start)
-        ∙ steps-run (leftBy conversion m) d converted-left converted-order outs (room ∙ sym outputs-are) is (converted-sized is sized) (first d)
+        ∙ steps-run (leftBy conversion m) d converted-left converted-order outs (room ∙ sym outputs-are) is (converted-sized is sized) (firstState d)
         (first-length d converted-formed)
 
-    later-steps : stepsFrom (readCircuit r) g outs′ js ≡ map (exitOf g) (run e (first d) js)
+    later-steps : stepsFrom (readCircuit r) g outs′ js ≡ map (exitOf g) (run e (firstState d) js)
     later-steps =
         ap (λ (t : List Value). steps g outs′ (map codeOf t) (map (map codeOf) js)) (sym start)
         ∙ steps-run g e (follows .left) (follows .order) outs′ (room′ ∙ sym (follows .outputs ∙ outputs-are)) js
         (subst (λ (n : ℕ). Sized n js) (sym (follows .inputs)) (replaced-sized (length (d .inputs)) is js replaced (converted-sized is sized)))
-        (first d) (sym (ap length (follows .begins)) ∙ first-length e (follows .formed))
+        (firstState d) (sym (ap length (follows .begins)) ∙ first-length e (follows .formed))
 
-    pub later-kept : Kept (run d (first d) is) (run e (first d) js)
+    pub later-kept : Kept (run d (firstState d) is) (run e (firstState d) js)
         → KeptSteps (stepsFrom (readCircuit r) (leftBy conversion m) outs is) (stepsFrom (readCircuit r) g outs′ js)
     later-kept kept =
-        subst₂ KeptSteps (sym converted-steps) (sym later-steps) (kept-exits (leftBy conversion m) g (run d (first d) is) (run e (first d) js) kept)
+        subst₂ KeptSteps (sym converted-steps) (sym later-steps) (kept-exits (leftBy conversion m) g (run d (firstState d) is) (run e (firstState d) js) kept)
 
-    pub later-same : (NoX (first d) → run d (first d) is ≡ run e (first d) js) → NoX (first (readCircuit r))
+    pub later-same : (NoX (firstState d) → run d (firstState d) is ≡ run e (firstState d) js) → NoX (firstState (readCircuit r))
         → map shown (stepsFrom (readCircuit r) (leftBy conversion m) outs is) ≡ map shown (stepsFrom (readCircuit r) g outs′ js)
     later-same same f =
         ap (map shown) converted-steps
-        ∙ (shown-exits (leftBy conversion m) g (run d (first d) is)
+        ∙ (shown-exits (leftBy conversion m) g (run d (firstState d) is)
         ∙ (ap (λ (l : List Step). map shown (map (exitOf g) l)) (same (subst NoX (sym start) f)) ∙ ap (map shown) (sym later-steps)))
 
 module _ (r : ReadCall) (m : MakeCall conversion) (m-given : FromRead (m .entry .circuit) r)
@@ -149,10 +149,10 @@ module _ (r : ReadCall) (m : MakeCall conversion) (m-given : FromRead (m .entry 
     abbrev c : Circuit
     c = convert (readCircuit r)
 
-    runs : Kept (run c (first c) is) (run (reduce c) (first c) js) × (NoXs is → NoX (first c) → run c (first c) is ≡ run (reduce c) (first c) js)
+    runs : Kept (run c (firstState c) is) (run (reduce c) (firstState c) js) × (NoXs is → NoX (firstState c) → run c (firstState c) is ≡ run (reduce c) (firstState c) js)
     runs =
-        subst (λ (e : Circuit). Kept (run c (first c) is) (run (reduce e) (first e) js)
-        × (NoXs is → NoX (first c) → run c (first c) is ≡ run (reduce e) (first e) js))
+        subst (λ (e : Circuit). Kept (run c (firstState c) is) (run (reduce e) (firstState e) js)
+        × (NoXs is → NoX (firstState c) → run c (firstState c) is ≡ run (reduce e) (firstState e) js))
         (convert-same c (converted-formed r m m-given) (converted-order r m m-given))
         (demand-three c (converted-formed r m m-given) is js (converted-sized r m m-given is sized) replaced)
 
@@ -162,6 +162,6 @@ module _ (r : ReadCall) (m : MakeCall conversion) (m-given : FromRead (m .entry 
     demand-three-steps = later-kept r m m-given (reduce c) (leftBy reduction s) follows is js sized replaced outs outs′ room room′ (runs .0)
 
     -- without x in the list and the resets all bytes are the same
-    pub same-steps : NoXs is → NoX (first (readCircuit r))
+    pub same-steps : NoXs is → NoX (firstState (readCircuit r))
         → map shown (stepsFrom (readCircuit r) (leftBy conversion m) outs is) ≡ map shown (stepsFrom (readCircuit r) (leftBy reduction s) outs′ js)
     same-steps x = later-same r m m-given (reduce c) (leftBy reduction s) follows is js sized replaced outs outs′ room room′ (runs .1 x)

@@ -13,11 +13,11 @@ use Rattle.plan.specs.declared.Version.the-variants.{V19}
 use Rattle.plan.specs.Refusals.{Parse, got, refused, _then_}
 use Rattle.plan.specs.Circuit.{Circuit, countsOf}
 use Rattle.plan.specs.Header.{Form, text, binary, letterOf, Head, header, headerOf, allCounts, shortCounts}
-use Rattle.plan.specs.Bytes.{shortest}
+use Rattle.plan.specs.Bytes.{withoutZeros}
 use Rattle.plan.specs.Text.{textLines, textLatches, textOf}
 use Rattle.plan.specs.Binary.{binaryLines, binaryLatches, binaryOf, binaryOrder}
 use Rattle.plan.specs.Tail.{TailOk}
-use Rattle.plan.specs.Reading.{readFile, readToWork, WellFormed, States, asText, asBinary, Shortest, shortText, shortBinary, Room}
+use Rattle.plan.specs.Reading.{readFile, readToWork, WellFormed, States, asText, asBinary, Shortest, shortText, shortBinary, LongEnough}
 use Rattle.plan.specs.Convert.{convert}
 use Rattle.plan.specs.Programs.{lentWords, otherForm, fitting, printed, converter}
 use Rattle.laws.proofs.Reading.Common.{not-got, got-value}
@@ -34,11 +34,11 @@ abbrev pub inOtherForm : List ℕ → List ℕ → Parse (List ℕ)
 inOtherForm file lengths =
     readToWork file lengths lengths then λ c start. header V19 file 0 then λ h _. got (otherForm (h .form) c ++ drop start file) start
 
-module _ (c : Circuit) (tail lengths : List ℕ) (w : WellFormed c) (t : TailOk V19 (countsOf c) tail) (room : Room c lengths) where
+module _ (c : Circuit) (tail lengths : List ℕ) (w : WellFormed c) (t : TailOk V19 (countsOf c) tail) (room : LongEnough c lengths) where
   text-header : (at : ℕ) × (header V19 (textOf c ++ tail) 0 ≡ got (record { form = text; counts = countsOf c }) at)
   text-header =
       let row = shortCounts (countsOf c) in
-      let body = textLines (map (shortest 2) (textLatches c)) c in
+      let body = textLines (map (withoutZeros 2) (textLatches c)) c in
       let r = header-reads (textOf c ++ tail) V19 0 text (countsOf c) row (body ++ tail) (shortest-spells 5 9 (allCounts (countsOf c)) (omega arith) refl)
       (all-most c w) (le-leb _ _ (w .sum)) (append-assoc (headerOf text row) body tail) in
       (r .0, r .1)
@@ -52,7 +52,7 @@ module _ (c : Circuit) (tail lengths : List ℕ) (w : WellFormed c) (t : TailOk 
     binary-header : (at : ℕ) × (header V19 (binaryOf c ++ tail) 0 ≡ got (record { form = binary; counts = countsOf c }) at)
     binary-header =
         let row = shortCounts (countsOf c) in
-        let body = binaryLines (map (shortest 1) (binaryLatches c)) c in
+        let body = binaryLines (map (withoutZeros 1) (binaryLatches c)) c in
         let r = header-reads (binaryOf c ++ tail) V19 0 binary (countsOf c) row (body ++ tail)
         (shortest-spells 5 9 (allCounts (countsOf c)) (omega arith) refl) (all-most c w) (eq-eqb _ _ (order-exactly c .0 o .sum))
         (append-assoc (headerOf binary row) body tail) in
@@ -96,7 +96,7 @@ pub record BackAgain (file lengths : List ℕ) : Type 0 where
   pub back : (n : ℕ) × (inOtherForm other lengths ≡ got file n)
 
 module _ (file lengths : List ℕ) (c : Circuit) where
-  pub shortest-back : (tail : List ℕ) → WellFormed c → TailOk V19 (countsOf c) tail → Shortest file c tail → Room c lengths → binaryOrder c ≡ true
+  pub shortest-back : (tail : List ℕ) → WellFormed c → TailOk V19 (countsOf c) tail → Shortest file c tail → LongEnough c lengths → binaryOrder c ≡ true
       → BackAgain file lengths
   shortest-back tail w t (shortText e) room o = record {
     other = binaryOf c ++ tail;
@@ -109,12 +109,12 @@ module _ (file lengths : List ℕ) (c : Circuit) where
     back = (length (textOf c), text-in-order c tail lengths w t room o ∙ ap (λ (x : List ℕ). got x (length (textOf c))) (sym e));
   }
 
-  pub states-back : (tail : List ℕ) → States V19 file c tail → Shortest file c tail → Room c lengths → binaryOrder c ≡ true → BackAgain file lengths
+  pub states-back : (tail : List ℕ) → States V19 file c tail → Shortest file c tail → LongEnough c lengths → binaryOrder c ≡ true → BackAgain file lengths
   states-back tail s p room o = shortest-back tail (formed V19 file c tail s) (stated-tail file c tail s) p room o
 
   -- of an accepted file in the shortest form, with room for the calls that follow
   module _ (bytes : Bytes file) (start : ℕ) (accepted : readFile V19 file lengths ≡ got c start) where
-    pub back-again : Shortest file c (drop start file) → Room c lengths → binaryOrder c ≡ true → BackAgain file lengths
+    pub back-again : Shortest file c (drop start file) → LongEnough c lengths → binaryOrder c ≡ true → BackAgain file lengths
     back-again p room o = states-back (drop start file) (sound V19 file lengths bytes c start accepted .0) p room o
 
     -- a binary file that is accepted is in binary order
@@ -122,7 +122,7 @@ module _ (file lengths : List ℕ) (c : Circuit) where
       pub binary-in-order : binaryOrder c ≡ true
       binary-in-order = binary-stated file c (drop start file) h at head form (sound V19 file lengths bytes c start accepted .0)
 
-      pub binary-back-again : Shortest file c (drop start file) → Room c lengths → BackAgain file lengths
+      pub binary-back-again : Shortest file c (drop start file) → LongEnough c lengths → BackAgain file lengths
       binary-back-again p room = back-again p room binary-in-order
 
 -- the converter, run on what it wrote, where both files are as long as an input may be

@@ -18,11 +18,11 @@ use Rattle.plan.specs.Circuit.{Circuit, lengthsOf}
 use Rattle.plan.specs.Header.{Form, text, binary, Head, header, formIn}
 use Rattle.plan.specs.Text.{textOf}
 use Rattle.plan.specs.Binary.{binaryOf, binaryOrder}
-use Rattle.plan.specs.Reading.{States, Shortest, Room, RoomToRead}
-use Rattle.plan.specs.Given.{room}
+use Rattle.plan.specs.Reading.{States, Shortest, LongEnough, LongEnoughToRead}
+use Rattle.plan.specs.Given.{lackingRoom}
 use Rattle.plan.specs.Convert.{convert}
 use Rattle.plan.specs.Programs.{input, otherForm}
-use Rattle.plan.specs.Whole.{WholeEntry, WholeExit, loaded, fittingIn, wholeBy, convertedFile, convertWhole}
+use Rattle.plan.specs.Whole.{WholeEntry, WholeExit, fileCircuit, fittingIn, wholeBy, convertedFile, convertWhole}
 use Rattle.laws.proofs.Put.{put-first}
 use Rattle.laws.proofs.Reading.Common.{got-value, then-got, unless-got, cond-got}
 use Rattle.laws.proofs.Reading.Differences.{Bytes}
@@ -74,13 +74,13 @@ whole-says k =
     let file = k .file in
     let w = whole-got e (convertedFile e) (k .size) (k .accepted) in
     let rest : List ℕ → Parse (List ℕ)
-    = λ file. loaded e file then λ c start. header V19 file 0 then λ h _. fittingIn (e .out) (otherForm (h .form) c ++ drop start file) in
+    = λ file. fileCircuit e file then λ c start. header V19 file 0 then λ h _. fittingIn (e .out) (otherForm (h .form) c ++ drop start file) in
     let q : input (some file) rest ≡ got (w .0) (w .1) = ap (λ (o : Option (List ℕ)). input o rest) (sym (k .plan)) ∙ w .2 in
     let t0 = cond-got (leb (length file) 65536) (rest file) (LongInput 65536) (w .0) (w .1) q in
-    let t1 = then-got (loaded e file) _ (w .0) (w .1) (t0 .1) in
+    let t1 = then-got (fileCircuit e file) _ (w .0) (w .1) (t0 .1) in
     let t2 = then-got (header V19 file 0) _ (w .0) (w .1) (t1 .3) in
     let bytes = otherForm (t2 .0 .form) (t1 .0) ++ drop (t1 .1) file in
-    let u = unless-got (room (e .out) 0 bytes) ShortBuffer (got bytes (length bytes)) (w .0) (w .1) (t2 .3) in
+    let u = unless-got (lackingRoom (e .out) 0 bytes) ShortBuffer (got bytes (length bytes)) (w .0) (w .1) (t2 .3) in
     let h = header-took file V19 0 (t2 .0) (t2 .1) (t2 .2) in
     let form : formIn file ≡ t2 .0 .form = form-in file (t2 .0 .form) (h .0) _ (h .1) in
     let read = work-read file (lengthsOf (e .read) (e .scratch)) (lengthsOf (e .made) (e .scratch)) (t1 .0) (t1 .1) (t1 .2) in (
@@ -137,7 +137,7 @@ input-done plan file f e h =
 
 -- with room: a whole file that states a circuit and a tail is converted, and the bytes stand in the buffer, all else as it was
 pub whole-done : (e : WholeEntry) (file : List ℕ) → e .plan ≡ some file → length file ≤ 65536 → (c : Circuit) (tail : List ℕ) → States V19 file c tail
-    → RoomToRead file c (lengthsOf (e .read) (e .scratch)) → Room c (lengthsOf (e .made) (e .scratch))
+    → LongEnoughToRead file c (lengthsOf (e .read) (e .scratch)) → LongEnough c (lengthsOf (e .made) (e .scratch))
     → length (otherForm (formIn file) c ++ tail) ≤ length (e .out)
     → let bytes = otherForm (formIn file) c ++ tail in convertWhole e ≡ wholeBy e (got bytes (length bytes))
 whole-done e file plan fits c tail s to-read to-work space =
@@ -147,24 +147,24 @@ whole-done e file plan fits c tail s to-read to-work space =
     let form : formIn file ≡ t .0 .form = form-in file (t .0 .form) (h .0) _ (h .1) in
     let same : otherForm (t .0 .form) c ++ drop (a .0) file ≡ otherForm (formIn file) c ++ tail
     = ap₂ (λ (f : Form) (l : List ℕ). otherForm f c ++ l) (sym form) (a .2) in
-    let read : loaded e file ≡ got c (a .0) = rw (a .1, to-work) in
+    let read : fileCircuit e file ≡ got c (a .0) = rw (a .1, to-work) in
     ap (wholeBy e) (input-done (e .plan) file (rest e) plan fits
     ∙ (ap₂ (λ (p : Parse Circuit) (q : Parse Head). p then λ c start. q then λ h _. fittingIn (e .out) (otherForm (h .form) c ++ drop start file)) read (t .2)
     ∙ (ap (fittingIn (e .out)) same ∙ fitting-done (e .out) (otherForm (formIn file) c ++ tail) space)))
   where
     rest : WholeEntry → List ℕ → Parse (List ℕ)
-    rest e file = loaded e file then λ c start. header V19 file 0 then λ h _. fittingIn (e .out) (otherForm (h .form) c ++ drop start file)
+    rest e file = fileCircuit e file then λ c start. header V19 file 0 then λ h _. fittingIn (e .out) (otherForm (h .form) c ++ drop start file)
 
 -- converted to `there` and converted again, with room: neither call refuses, and the last buffer holds the file, all else as it was
 abbrev pub WholeAndBack : WholeEntry → List ℕ → List ℕ → Circuit → Type 0
 WholeAndBack e file there c =
     (convertWhole e .answer ≡ written.Bytes (length there))
     × ((e′ : WholeEntry) → e′ .plan ≡ some (take (length there) (convertWhole e .out)) → length there ≤ 65536
-    → RoomToRead there c (lengthsOf (e′ .read) (e′ .scratch)) → Room c (lengthsOf (e′ .made) (e′ .scratch)) → length file ≤ length (e′ .out)
+    → LongEnoughToRead there c (lengthsOf (e′ .read) (e′ .scratch)) → LongEnough c (lengthsOf (e′ .made) (e′ .scratch)) → length file ≤ length (e′ .out)
     → convertWhole e′ ≡ wholeBy e′ (got file (length file)))
 
 module _ (e : WholeEntry) (file : List ℕ) (plan : e .plan ≡ some file) (fits : length file ≤ 65536) (c : Circuit) (tail : List ℕ)
-    (s : States V19 file c tail) (to-read : RoomToRead file c (lengthsOf (e .read) (e .scratch))) (to-work : Room c (lengthsOf (e .made) (e .scratch))) where
+    (s : States V19 file c tail) (to-read : LongEnoughToRead file c (lengthsOf (e .read) (e .scratch))) (to-work : LongEnough c (lengthsOf (e .made) (e .scratch))) where
   and-back : (there : List ℕ) → otherForm (formIn file) c ++ tail ≡ there → States V19 there c tail → otherForm (formIn there) c ++ tail ≡ file
       → length there ≤ length (e .out) → WholeAndBack e file there c
   and-back there is s′ back space =

@@ -15,14 +15,14 @@ use Rattle.plan.specs.declared.Loaded.the-variants as loaded
 use Rattle.plan.specs.declared.Made.the-variants as made
 use Rattle.plan.specs.declared.Written.the-variants as written
 use Rattle.plan.specs.Refusals.{got, firstOf}
-use Rattle.plan.specs.Circuit.{Circuit, Latch, Tables, countsOf, circuitOf, lengthsOf, scratchToWork, wordsToWork, against, short, oneLine, latchLine, nexts}
-use Rattle.plan.specs.Bytes.{withResets, Spells, AllSpell, shortest}
+use Rattle.plan.specs.Circuit.{Circuit, Latch, Tables, countsOf, circuitOf, lengthsOf, scratchToWork, wordsToWork, against, leastShort, oneLine, latchLine, nexts}
+use Rattle.plan.specs.Bytes.{withResets, Spells, AllSpell, withoutZeros}
 use Rattle.plan.specs.Header.{text, binary, formIn, allCounts, shortCounts}
 use Rattle.plan.specs.Text.{textLatches, textOf}
 use Rattle.plan.specs.Binary.{binaryLatches, binaryOf, binaryOrder}
 use Rattle.plan.specs.Tail.{TailOk}
-use Rattle.plan.specs.Reading.{WellFormed, Spelled, States, asText, asBinary, RoomToRead}
-use Rattle.plan.specs.Given.{Given, given, lentAlone, lentWith, stages, orderStage, tailStage, roomStage}
+use Rattle.plan.specs.Reading.{WellFormed, Spelled, States, asText, asBinary, LongEnoughToRead}
+use Rattle.plan.specs.Given.{Given, givenCircuit, lentAlone, lentWith, stages, orderStage, tailStage, roomStage}
 use Rattle.plan.specs.Convert.{convert}
 use Rattle.plan.specs.Outcome.{ReadEntry, LoadExit, loadBy, loadAs, FileEntry, FileExit, writtenBy, writeText, writeBinary, MakeEntry, MakeExit, madeBy, conversion}
 use Rattle.laws.proofs.Put.{put-first}
@@ -43,11 +43,11 @@ use Rattle.laws.proofs.Writing.Calls.{ReadCall, readCircuit, readTail, 
 
 -- a call is handed these counts and, up to them, the words of these tables, whatever stands past them
 abbrev pub Handed : Given → Counts → Tables → Type 0
-Handed g n t = (g .counts ≡ n) × (given g ≡ circuitOf n t)
+Handed g n t = (g .counts ≡ n) × (givenCircuit g ≡ circuitOf n t)
 
 -- tables and scratch are as long as counts ask
 abbrev pub LongEnough : Counts → Tables → List ℕ → Type 0
-LongEnough n t scratch = short (against 1 (wordsToWork n) (lengthsOf t scratch)) ≡ none
+LongEnough n t scratch = leastShort (against 1 (wordsToWork n) (lengthsOf t scratch)) ≡ none
 
 -- a writer with room: it is handed these counts and tables and this tail, its tables and scratch are as long as the counts ask, and its buffer
 -- holds these bytes; a conversion with room: so are its tables, and those lent for writing
@@ -66,8 +66,8 @@ module _ (c : Circuit) (w : WellFormed c) (n : Counts) (t : Tables) (counts : n 
   handed-left : (g : Given) → Handed g n t → LongEnough n (g .tables) (g .scratch) → Left g c
   handed-left g h l =
       let e = h .1 ∙ holds in
-      let words : short (lentAlone g) ≡ none
-      = ap (λ (m : Counts). short (against 1 (wordsToWork m) (lengthsOf (g .tables) (g .scratch)))) (h .0) ∙ l in
+      let words : leastShort (lentAlone g) ≡ none
+      = ap (λ (m : Counts). leastShort (against 1 (wordsToWork m) (lengthsOf (g .tables) (g .scratch)))) (h .0) ∙ l in
       record {
         holds = e;
         counts = h .0 ∙ counts;
@@ -80,7 +80,7 @@ module _ (c : Circuit) (w : WellFormed c) (n : Counts) (t : Tables) (counts : n 
         let g = e .circuit in
         let l = handed-left g (x .handed) (x .words) in
         let tail-is = x .tail-handed in
-        let bytes = textOf (given g) ++ e .tail in
+        let bytes = textOf (givenCircuit g) ++ e .tail in
         let all = firstOf (stages g (lentAlone g) ++ (tailStage g (e .tail) ∷ roomStage (e .out) bytes ∷ [])) in
         let a = text-accepted g c l (e .tail) (e .out) (subst (TailOk V19 (countsOf c)) (sym tail-is) k)
         (subst (λ (y : List ℕ). length (textOf c ++ y) ≤ length (e .out)) (sym tail-is) (x .space)) in
@@ -92,7 +92,7 @@ module _ (c : Circuit) (w : WellFormed c) (n : Counts) (t : Tables) (counts : n 
         let g = e .circuit in
         let l = handed-left g (x .handed) (x .words) in
         let tail-is = x .tail-handed in
-        let bytes = binaryOf (given g) ++ e .tail in
+        let bytes = binaryOf (givenCircuit g) ++ e .tail in
         let all = firstOf (stages g (lentAlone g) ++ (orderStage g ∷ tailStage g (e .tail) ∷ roomStage (e .out) bytes ∷ [])) in
         let a = binary-accepted g c l (e .tail) (e .out) (subst (TailOk V19 (countsOf c)) (sym tail-is) k) o
         (subst (λ (y : List ℕ). length (binaryOf c ++ y) ≤ length (e .out)) (sym tail-is) (x .space)) in
@@ -103,11 +103,11 @@ module _ (c : Circuit) (w : WellFormed c) (n : Counts) (t : Tables) (counts : n 
   conversion-done e x =
       let g = e .circuit in
       let l = handed-left g (x .handed) (x .words) in
-      let long : short (against 1 (wordsToWork (countsOf c)) (lengthsOf (e .written) (g .scratch))) ≡ none
-      = ap (λ (m : Counts). short (against 1 (wordsToWork m) (lengthsOf (e .written) (g .scratch)))) (sym counts) ∙ x .written in
+      let long : leastShort (against 1 (wordsToWork (countsOf c)) (lengthsOf (e .written) (g .scratch))) ≡ none
+      = ap (λ (m : Counts). leastShort (against 1 (wordsToWork m) (lengthsOf (e .written) (g .scratch)))) (sym counts) ∙ x .written in
       let all = firstOf (stages g (lentWith g (e .written))) in
       ap₂ (λ (r : Option Refusal) (d : Circuit). madeBy r e (convert d))
-      (made-none (λ o. madeBy o e (convert (given g)) .answer) (λ r. refl) all (countsOf (convert c)) (conversion-accepted g c l (e .written) long)) (l .holds)
+      (made-none (λ o. madeBy o e (convert (givenCircuit g)) .answer) (λ r. refl) all (countsOf (convert c)) (conversion-accepted g c l (e .written) long)) (l .holds)
 
 -- the bytes of a writer that was done
 done-file : (e : FileEntry) (bytes : List ℕ) (x : FileExit) → x ≡ writtenBy none e bytes → take (length bytes) (x .out) ≡ bytes
@@ -115,7 +115,7 @@ done-file e bytes x d = ap (λ (y : FileExit). take (length bytes) (y .out)) d �
 
 -- a reader with room of a file that states a circuit and a tail
 read-done : (v : Version) (e : ReadEntry) (c : Circuit) (tail : List ℕ) → States v (e .file) c tail
-    → RoomToRead (e .file) c (lengthsOf (e .tables) (e .scratch))
+    → LongEnoughToRead (e .file) c (lengthsOf (e .tables) (e .scratch))
     → (s : ℕ) × (loadAs v e ≡ loadBy e (got c s)) × (drop s (e .file) ≡ tail) × (circuitOf (countsOf c) (loadAs v e .tables) ≡ c)
 read-done v e c tail s room =
     let a = complete v (e .file) (lengthsOf (e .tables) (e .scratch)) c tail s room in
@@ -130,16 +130,16 @@ reset-zero [] (y ∷ row) r j l e = absurd (omega arith)
 reset-zero (x ∷ b) [] r j l e = absurd (omega arith)
 reset-zero (x ∷ b) (y ∷ row) r j l e = reset-zero b row r j (omega arith) (ap (drop 1) e)
 
-alone : (j : ℕ) (m : List ℕ) (r : ℕ) → length m ≡ j → r ≡ 0 → Spells j (j + 0) (m ++ (r ∷ [])) (shortest j (m ++ (r ∷ [])))
+alone : (j : ℕ) (m : List ℕ) (r : ℕ) → length m ≡ j → r ≡ 0 → Spells j (j + 0) (m ++ (r ∷ [])) (withoutZeros j (m ++ (r ∷ [])))
 alone j m r l e =
     let one : length (m ++ (0 ∷ [])) - length m ≡ 1 = omega (arith, length-append m (0 ∷ [])) in
     let s : Spells j (j + 0) (m ++ (0 ∷ [])) m = (omega arith, omega arith, ap (λ (i : ℕ). m ++ replicate i 0) one) in
-    subst (λ (x : ℕ). Spells j (j + 0) (m ++ (x ∷ [])) (shortest j (m ++ (x ∷ [])))) (sym e)
+    subst (λ (x : ℕ). Spells j (j + 0) (m ++ (x ∷ [])) (withoutZeros j (m ++ (x ∷ [])))) (sym e)
     (subst (λ (x : List ℕ). Spells j (j + 0) (m ++ (0 ∷ [])) x) (trimmed-shortest j (j + 0) (m ++ (0 ∷ [])) m s (exact-trimmed j m (omega arith))) s)
 
 resets-left-off : (k j : ℕ) (bases more : List (List ℕ)) (rs : List ℕ) (rows : List (List ℕ)) → Long k bases → Long j more
     → length bases ≡ length more → AllSpell k (k + 0) (withResets bases rs) rows
-    → AllSpell j (j + 0) (withResets more rs) (map (shortest j) (withResets more rs))
+    → AllSpell j (j + 0) (withResets more rs) (map (withoutZeros j) (withResets more rs))
 resets-left-off k j [] [] rs rows lb lm e s = tt
 resets-left-off k j [] (m ∷ more) rs rows lb lm e s = absurd (omega arith)
 resets-left-off k j (b ∷ bases) [] rs rows lb lm e s = absurd (omega arith)
@@ -164,14 +164,14 @@ module _ (c : Circuit) where
   five row s = subst (Spells 5 5 (allCounts (countsOf c))) (trimmed-shortest 5 5 (allCounts (countsOf c)) row s (exact-trimmed 5 row (s .1))) s
 
   abbrev old-text : (row : List ℕ) → Spells 5 5 (allCounts (countsOf c)) row
-      → AllSpell 2 2 (textLatches c) (map (shortest 2) (textLatches c)) → Spelled V2007 c 2 (textLatches c)
+      → AllSpell 2 2 (textLatches c) (map (withoutZeros 2) (textLatches c)) → Spelled V2007 c 2 (textLatches c)
   old-text row s a =
-      record { counts = shortCounts (countsOf c); latches = map (shortest 2) (textLatches c); all-counts = five row s; all-latches = a }
+      record { counts = shortCounts (countsOf c); latches = map (withoutZeros 2) (textLatches c); all-counts = five row s; all-latches = a }
 
   abbrev old-binary : (row : List ℕ) → Spells 5 5 (allCounts (countsOf c)) row
-      → AllSpell 1 1 (binaryLatches c) (map (shortest 1) (binaryLatches c)) → Spelled V2007 c 1 (binaryLatches c)
+      → AllSpell 1 1 (binaryLatches c) (map (withoutZeros 1) (binaryLatches c)) → Spelled V2007 c 1 (binaryLatches c)
   old-binary row s a =
-      record { counts = shortCounts (countsOf c); latches = map (shortest 1) (binaryLatches c); all-counts = five row s; all-latches = a }
+      record { counts = shortCounts (countsOf c); latches = map (withoutZeros 1) (binaryLatches c); all-counts = five row s; all-latches = a }
 
 -- what a version states of a file, it states of both forms that the writers write
 module _ (c : Circuit) (tail : List ℕ) where
@@ -226,7 +226,7 @@ abbrev pub BinaryAndBack : ReadCall → Type 0
 BinaryAndBack r =
     (t : FileEntry) → WriteRoom t (r .counts) (loadAs (r .version) (r .entry) .tables) (readTail r) (textOf (readCircuit r) ++ readTail r)
     → (n : ℕ) × (writeText t .answer ≡ written.Bytes n)
-    × ((e : ReadEntry) → e .file ≡ take n (writeText t .out) → RoomToRead (e .file) (readCircuit r) (lengthsOf (e .tables) (e .scratch))
+    × ((e : ReadEntry) → e .file ≡ take n (writeText t .out) → LongEnoughToRead (e .file) (readCircuit r) (lengthsOf (e .tables) (e .scratch))
     → (m : Counts) × (s : ℕ) × (loadAs (r .version) e .answer ≡ loaded.Accepted m s)
     × ((k : MakeEntry) → MakeRoom k m (loadAs (r .version) e .tables)
     → (q : Counts) × (conversion k .answer ≡ made.Accepted q)
@@ -240,7 +240,7 @@ TextAndBack r =
     → (q : Counts) × (conversion k .answer ≡ made.Accepted q)
     × ((b : FileEntry) → WriteRoom b q (conversion k .written) (readTail r) (binaryOf (readCircuit r) ++ readTail r)
     → (n : ℕ) × (writeBinary b .answer ≡ written.Bytes n)
-    × ((e : ReadEntry) → e .file ≡ take n (writeBinary b .out) → RoomToRead (e .file) (readCircuit r) (lengthsOf (e .tables) (e .scratch))
+    × ((e : ReadEntry) → e .file ≡ take n (writeBinary b .out) → LongEnoughToRead (e .file) (readCircuit r) (lengthsOf (e .tables) (e .scratch))
     → (m : Counts) × (s : ℕ) × (loadAs (r .version) e .answer ≡ loaded.Accepted m s)
     × ((t : FileEntry) → WriteRoom t m (loadAs (r .version) e .tables) (drop s (e .file)) (r .entry .file)
     → writeText t ≡ writtenBy none t (r .entry .file))))
@@ -341,9 +341,9 @@ module _ (r : ReadCall) where
 
 -- with room none of the calls refuses, and the last buffer holds the file
 pub binary-with-room : (r : ReadCall) → InShortestForm r → formIn (r .entry .file) ≡ binary → BinaryAndBack r
-binary-with-room r short form =
-    let f = binary-file (r .entry .file) (readCircuit r) (readTail r) form (shortest-read r short) (read-states r) in
+binary-with-room r leastShort form =
+    let f = binary-file (r .entry .file) (readCircuit r) (readTail r) form (shortest-read r leastShort) (read-states r) in
     binary-room r (f .0) (f .1)
 
 pub text-with-room : (r : ReadCall) → InShortestForm r → formIn (r .entry .file) ≡ text → binaryOrder (readCircuit r) ≡ true → TextAndBack r
-text-with-room r short form = text-room r (text-file (r .entry .file) (readCircuit r) (readTail r) form (shortest-read r short))
+text-with-room r leastShort form = text-room r (text-file (r .entry .file) (readCircuit r) (readTail r) form (shortest-read r leastShort))

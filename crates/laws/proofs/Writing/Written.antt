@@ -17,8 +17,8 @@ use Rattle.plan.specs.Header.{listOf}
 use Rattle.plan.specs.Text.{textOf}
 use Rattle.plan.specs.Binary.{binaryOf, binaryOrder}
 use Rattle.plan.specs.Tail.{Symbol, tailAt, TailOk}
-use Rattle.plan.specs.Reading.{WellFormed, States, Room, Shortest, shortText, shortBinary}
-use Rattle.plan.specs.Given.{Given, given, lentAlone, failing, stages, orderStage, refusalOf, tailStage, roomStage}
+use Rattle.plan.specs.Reading.{WellFormed, States, LongEnough, Shortest, shortText, shortBinary}
+use Rattle.plan.specs.Given.{Given, givenCircuit, lentAlone, failing, stages, orderStage, refusalOf, tailStage, roomStage}
 use Rattle.plan.specs.Outcome.{ReadEntry, ReadExit, readAs, read, FileEntry, writtenBy, writeText, writeBinary}
 use Rattle.laws.proofs.Put.{put-first}
 use Rattle.laws.proofs.Reading.Exactly.{Accepts, complete, formed, room-to-read}
@@ -49,13 +49,13 @@ module _ (e : FileEntry) (k : ℕ) where
 
   -- the stages of the circuit and of the tail
   passed : firstOf (stages g (lentAlone g)) ≡ none → tailStage g (e .tail) ≡ none
-      → WellFormed (given g) × TailOk V19 (countsOf (given g)) (e .tail)
+      → WellFormed (givenCircuit g) × TailOk V19 (countsOf (givenCircuit g)) (e .tail)
   passed s t =
       let f = nothing-fine g (lentAlone g) s in
       (f .formed, subst (λ (n : Counts). TailOk V19 n (e .tail)) (sym (counts-given g (f .room))) (passed-tail (g .counts) (e .tail) t))
 
   abbrev text-file : List ℕ
-  text-file = textOf (given g) ++ e .tail
+  text-file = textOf (givenCircuit g) ++ e .tail
 
   abbrev text-last : List (Option Refusal)
   text-last = tailStage g (e .tail) ∷ roomStage (e .out) text-file ∷ []
@@ -65,21 +65,21 @@ module _ (e : FileEntry) (k : ℕ) where
     text-wrote = wrote e text-file k (firstOf (stages g (lentAlone g) ++ text-last)) a
 
     -- the file that the writer of text wrote, which states the circuit and the tail
-    pub text-bytes : take k (writeText e .out) ≡ textOf (given (e .circuit)) ++ e .tail
+    pub text-bytes : take k (writeText e .out) ≡ textOf (givenCircuit (e .circuit)) ++ e .tail
     text-bytes = text-wrote .2
 
-    pub text-states : States V19 (take k (writeText e .out)) (given (e .circuit)) (e .tail)
+    pub text-states : States V19 (take k (writeText e .out)) (givenCircuit (e .circuit)) (e .tail)
     text-states =
         let s = first-both (stages g (lentAlone g)) text-last (text-wrote .0) in
         let p = passed (s .0) (first-all text-last (s .1) .0) in
-        states-text (take k (writeText e .out)) (given g) (e .tail) (p .0) (p .1) text-bytes
+        states-text (take k (writeText e .out)) (givenCircuit g) (e .tail) (p .0) (p .1) text-bytes
 
     -- whatever spelling the circuit was read from, it is written in the shortest form
-    pub text-is-shortest : Shortest (take k (writeText e .out)) (given (e .circuit)) (e .tail)
+    pub text-is-shortest : Shortest (take k (writeText e .out)) (givenCircuit (e .circuit)) (e .tail)
     text-is-shortest = shortText text-bytes
 
   abbrev binary-file : List ℕ
-  binary-file = binaryOf (given g) ++ e .tail
+  binary-file = binaryOf (givenCircuit g) ++ e .tail
 
   abbrev binary-last : List (Option Refusal)
   binary-last = orderStage g ∷ tailStage g (e .tail) ∷ roomStage (e .out) binary-file ∷ []
@@ -90,32 +90,32 @@ module _ (e : FileEntry) (k : ℕ) where
     binary-wrote = wrote e binary-file k (firstOf (stages g (lentAlone g) ++ binary-last)) a
 
     -- the same of binary
-    pub binary-bytes : take k (writeBinary e .out) ≡ binaryOf (given (e .circuit)) ++ e .tail
+    pub binary-bytes : take k (writeBinary e .out) ≡ binaryOf (givenCircuit (e .circuit)) ++ e .tail
     binary-bytes = binary-wrote .2
 
-    pub binary-states : States V19 (take k (writeBinary e .out)) (given (e .circuit)) (e .tail)
+    pub binary-states : States V19 (take k (writeBinary e .out)) (givenCircuit (e .circuit)) (e .tail)
     binary-states =
         let s = first-both (stages g (lentAlone g)) binary-last (binary-wrote .0) in
         let all = first-all binary-last (s .1) in
         let p = passed (s .0) (all .1 .0) in
-        let o = failing-none (binaryOrder (given g)) (stage-none NotInOrder (failing (binaryOrder (given g))) (all .0)) in
-        states-binary (take k (writeBinary e .out)) (given g) (e .tail) (p .0) (p .1) binary-bytes o
+        let o = failing-none (binaryOrder (givenCircuit g)) (stage-none NotInOrder (failing (binaryOrder (givenCircuit g))) (all .0)) in
+        states-binary (take k (writeBinary e .out)) (givenCircuit g) (e .tail) (p .0) (p .1) binary-bytes o
 
-    pub binary-is-shortest : Shortest (take k (writeBinary e .out)) (given (e .circuit)) (e .tail)
+    pub binary-is-shortest : Shortest (take k (writeBinary e .out)) (givenCircuit (e .circuit)) (e .tail)
     binary-is-shortest = shortBinary binary-bytes
 
 -- read with tables that have room, it is the circuit and the tail again
-module _ (e : FileEntry) (k : ℕ) (lengths : List ℕ) (room : Room (given (e .circuit)) lengths) where
-  back : (file : List ℕ) → States V19 file (given (e .circuit)) (e .tail) → Accepts V19 file lengths (given (e .circuit)) (e .tail)
+module _ (e : FileEntry) (k : ℕ) (lengths : List ℕ) (room : LongEnough (givenCircuit (e .circuit)) lengths) where
+  back : (file : List ℕ) → States V19 file (givenCircuit (e .circuit)) (e .tail) → Accepts V19 file lengths (givenCircuit (e .circuit)) (e .tail)
   back file s =
-      let c = given (e .circuit) in
+      let c = givenCircuit (e .circuit) in
       complete V19 file lengths c (e .tail) s (room-to-read file c lengths (formed V19 file c (e .tail) s) room)
 
-  pub text-read-back : writeText e .answer ≡ written.Bytes k → Accepts V19 (take k (writeText e .out)) lengths (given (e .circuit)) (e .tail)
+  pub text-read-back : writeText e .answer ≡ written.Bytes k → Accepts V19 (take k (writeText e .out)) lengths (givenCircuit (e .circuit)) (e .tail)
   text-read-back a = back (take k (writeText e .out)) (text-states e k a)
 
   pub binary-read-back : writeBinary e .answer ≡ written.Bytes k
-      → Accepts V19 (take k (writeBinary e .out)) lengths (given (e .circuit)) (e .tail)
+      → Accepts V19 (take k (writeBinary e .out)) lengths (givenCircuit (e .circuit)) (e .tail)
   binary-read-back a = back (take k (writeBinary e .out)) (binary-states e k a)
 
 -- what the reader of a version answers and leaves where it accepts
@@ -131,23 +131,23 @@ read-accepts v r c tail a = rw (a .1) (λ i. record {
 
 -- written and read: the same counts, the same tail, tables that hold the circuit
 module _ (e : FileEntry) (k : ℕ) (t : Tables) (scratch : List ℕ)
-    (room : Room (given (e .circuit)) (lengthsOf t scratch)) where
+    (room : LongEnough (givenCircuit (e .circuit)) (lengthsOf t scratch)) where
   abbrev again : ReadExit
   again = record {
-    answer = 0 ∷ 0 ∷ listOf (countsOf (given (e .circuit)));
+    answer = 0 ∷ 0 ∷ listOf (countsOf (givenCircuit (e .circuit)));
     tail = e .tail;
-    tables = holding t (given (e .circuit));
+    tables = holding t (givenCircuit (e .circuit));
     scratch = cleared scratch;
   }
 
   pub written-text-is-read : writeText e .answer ≡ written.Bytes k
       → read (record { file = take k (writeText e .out); tables = t; scratch = scratch }) ≡ again
   written-text-is-read a =
-      read-accepts V19 (record { file = take k (writeText e .out); tables = t; scratch = scratch }) (given (e .circuit)) (e .tail)
+      read-accepts V19 (record { file = take k (writeText e .out); tables = t; scratch = scratch }) (givenCircuit (e .circuit)) (e .tail)
       (text-read-back e k (lengthsOf t scratch) room a)
 
   pub written-binary-is-read : writeBinary e .answer ≡ written.Bytes k
       → read (record { file = take k (writeBinary e .out); tables = t; scratch = scratch }) ≡ again
   written-binary-is-read a =
-      read-accepts V19 (record { file = take k (writeBinary e .out); tables = t; scratch = scratch }) (given (e .circuit)) (e .tail)
+      read-accepts V19 (record { file = take k (writeBinary e .out); tables = t; scratch = scratch }) (givenCircuit (e .circuit)) (e .tail)
       (binary-read-back e k (lengthsOf t scratch) room a)

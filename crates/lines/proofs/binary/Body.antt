@@ -10,7 +10,7 @@ use Rattle.plan.specs.declared.Passed.{Passed}
 use Rattle.plan.specs.declared.Passed.the-variants.{To, Refused}
 use Rattle.plan.specs.Refusals.{Parse, got, refused, _then_}
 use Rattle.plan.specs.Circuit.{Circuit, Tables, literalOf}
-use Rattle.plan.specs.Bytes.{latchLines, resetAfter}
+use Rattle.plan.specs.Bytes.{latchLines, resetAfter, latchForm}
 use Rattle.plan.specs.Header.{moreResets}
 use Rattle.plan.specs.Binary.{gatesFrom, litsFrom, latchesFrom, binaryBody}
 use Rattle.plan.specs.Outcome.{put}
@@ -22,7 +22,7 @@ use Rattle.lines.proofs.binary.Parts.{LatchesHeld, GatesHeld}
 
 -- the body with the three lists that are observed as one part
 binary-is : (v : Version) (file : List ℕ) (n : Counts) (at : ℕ) → binaryBody v file n at
-    ≡ (latchLines file 1 false (n .M) (moreResets v) (n .L) (1 + n .I) [] at then λ lats at.
+    ≡ (latchLines file (latchForm 1 false (moreResets v)) (n .M) (n .L) (1 + n .I) [] at then λ lats at.
     observedAt file n at then λ o at.
     gatesFrom file (n .A) (1 + n .I + n .L) at then λ gates at.
     got (record {
@@ -36,7 +36,7 @@ binary-is : (v : Version) (file : List ℕ) (n : Counts) (at : ℕ) → binaryBo
       gates = gates;
     }) at)
 binary-is v file n at = λ i.
-    latchLines file 1 false (n .M) (moreResets v) (n .L) (1 + n .I) [] at then λ lats at.
+    latchLines file (latchForm 1 false (moreResets v)) (n .M) (n .L) (1 + n .I) [] at then λ lats at.
     regroup file n at (λ outs bads cons at.
     gatesFrom file (n .A) (1 + n .I + n .L) at then λ gates at.
     got (record {
@@ -57,13 +57,13 @@ module _ (v : Version) (file : List ℕ) (n : Counts) (at : ℕ) (t : Tables) (r
   says-refused : (q : Refusal) → binaryBody v file n at ≡ refused q → r ≡ Refused q → Says
   says-refused q e told = subst (λ (p : Parse Circuit). BodySays t p r t′) (sym e) told
 
-  pub latches-refused : {q : Refusal} → latchLines file 1 false (n .M) (moreResets v) (n .L) (1 + n .I) [] at ≡ refused q → r ≡ Refused q → Says
+  pub latches-refused : {q : Refusal} → latchLines file (latchForm 1 false (moreResets v)) (n .M) (n .L) (1 + n .I) [] at ≡ refused q → r ≡ Refused q → Says
   latches-refused {q} stop told = says-refused q (binary-is v file n at ∙ rw stop) told
 
   -- the latches are read
   module _ {p₁ : ℕ} {seen marks₁ : List ℕ}
       (a₁ : Read (LatchesHeld (n .M) (1 + n .I) seen (t .latches) (t .resets) (t′ .latches) (t′ .resets) marks₁)
-      (latchLines file 1 false (n .M) (moreResets v) (n .L) (1 + n .I) [] at) p₁) where
+      (latchLines file (latchForm 1 false (moreResets v)) (n .M) (n .L) (1 + n .I) [] at) p₁) where
     pub observed-refused : {q : Refusal} → observedAt file n p₁ ≡ refused q → r ≡ Refused q → Says
     observed-refused {q} stop told = says-refused q (binary-is v file n at ∙ rw (a₁ .whole, stop)) told
 

@@ -10,7 +10,7 @@ use Rattle.plan.specs.declared.Passed.{Passed}
 use Rattle.plan.specs.Literals.{varOf}
 use Rattle.plan.specs.Refusals.{Parse, got, refused, _then_}
 use Rattle.plan.specs.Circuit.{Gate, literalOf, flat, latchLine, gateLine}
-use Rattle.plan.specs.Bytes.{latchLineAt, latchLines, resetAfter}
+use Rattle.plan.specs.Bytes.{latchLineAt, latchLines, resetAfter, latchForm}
 use Rattle.plan.specs.Header.{moreResets}
 use Rattle.plan.specs.Binary.{latchesFrom}
 use Rattle.plan.specs.Outcome.{put}
@@ -21,10 +21,10 @@ use Rattle.lines.proofs.outputs.Answers.{Answered}
 
 -- lines that define nothing do not depend on what was defined before them
 latches-using : (file : List ℕ) (k m more n v : ℕ) (s s′ : List ℕ) (at : ℕ)
-    → latchLines file k false m more n v s at ≡ latchLines file k false m more n v s′ at
+    → latchLines file (latchForm k false more) m n v s at ≡ latchLines file (latchForm k false more) m n v s′ at
 latches-using file k m more zero v s s′ at = refl
 latches-using file k m more (suc n) v s s′ at = λ i.
-    latchLineAt file k false m more v s at then λ row next.
+    latchLineAt file (latchForm k false more) m v s at then λ row next.
     latches-using file k m more n (suc v) (s ++ (varOf (literalOf row) ∷ [])) (s′ ++ (varOf (literalOf row) ∷ [])) next i then λ rows last.
     got (row ∷ rows) last
 
@@ -40,12 +40,12 @@ pub record LatchesHeld (m v : ℕ) (seen table resets table′ resets′ marks�
 
 pub latches-told : (version : Version) (file : List ℕ) (m more n v at : ℕ) (seen table resets : List ℕ) (r : Passed) (table′ resets′ marks′ : List ℕ)
     → more ≡ moreResets version
-    → LatchesSay false m v seen table resets (latchLines file 1 false m more n v seen at) r table′ resets′ marks′
-    → Answered (LatchesHeld m v seen table resets table′ resets′ marks′) (latchLines file 1 false m (moreResets version) n v [] at) r
+    → LatchesSay false m v seen table resets (latchLines file (latchForm 1 false more) m n v seen at) r table′ resets′ marks′
+    → Answered (LatchesHeld m v seen table resets table′ resets′ marks′) (latchLines file (latchForm 1 false (moreResets version)) m n v [] at) r
 latches-told version file m more n v at seen table resets r table′ resets′ marks′ e says =
-    go (latchLines file 1 false m (moreResets version) n v [] at)
+    go (latchLines file (latchForm 1 false (moreResets version)) m n v [] at)
     (subst (λ (p : Parse (List (List ℕ))). LatchesSay false m v seen table resets p r table′ resets′ marks′)
-    (ap (λ (x : ℕ). latchLines file 1 false m x n v seen at) e ∙ latches-using file 1 m (moreResets version) n v seen [] at) says)
+    (ap (λ (x : ℕ). latchLines file (latchForm 1 false x) m n v seen at) e ∙ latches-using file 1 m (moreResets version) n v seen [] at) says)
   where
     go : (p : Parse (List (List ℕ))) → LatchesSay false m v seen table resets p r table′ resets′ marks′
         → Answered (LatchesHeld m v seen table resets table′ resets′ marks′) p r

@@ -12,7 +12,7 @@ use Rattle.plan.specs.declared.Passed.the-variants.{To, Refused}
 use Rattle.plan.specs.Literals.{varOf}
 use Rattle.plan.specs.Refusals.{Parse, got, refused}
 use Rattle.plan.specs.Circuit.{Latch, literalOf, latchOf, latchLine, has, heads, flat}
-use Rattle.plan.specs.Bytes.{latchLineAt, latchLines, resetAfter}
+use Rattle.plan.specs.Bytes.{latchLineAt, latchLines, resetAfter, latchForm}
 use Rattle.plan.specs.Binary.{latchesFrom}
 use Rattle.plan.specs.Outcome.{passedBy, put}
 use Rattle.laws.proofs.Marks.{Agrees, agrees-more}
@@ -63,8 +63,8 @@ pub record Before (file : List ℕ) (d : Bool) (m more first n at : ℕ) (t₀ r
   pub left : ℕ
   pub sum : i + left ≡ n
   pub count : length rows ≡ i
-  pub whole : latchLines file (literals d) d m more n first seen at
-      ≡ onRows rows (latchLines file (literals d) d m more left (first + i) (seen ++ heads rows) pos)
+  pub whole : latchLines file (latchForm (literals d) d more) m n first seen at
+      ≡ onRows rows (latchLines file (latchForm (literals d) d more) m left (first + i) (seen ++ heads rows) pos)
   pub held : table ≡ put t₀ 0 (flat (map latchLine (latchesIn d first rows)))
   pub kept : resets ≡ put r₀ 0 (map (resetAfter (literals d)) rows)
   pub agrees : Agrees m (seenAfter d seen rows) marks
@@ -99,8 +99,8 @@ begins file d m more first n at t₀ r₀ marks₀ = record {
     left = n;
     sum = zero-add n;
     count = refl;
-    whole = on-none (latchLines file (literals d) d m more n first seen at)
-        ∙ ap₂ (λ (v : ℕ) (s : List ℕ). onRows [] (latchLines file (literals d) d m more n v s at)) (sym (add-zero first)) (sym (append-nil seen));
+    whole = on-none (latchLines file (latchForm (literals d) d more) m n first seen at)
+        ∙ ap₂ (λ (v : ℕ) (s : List ℕ). onRows [] (latchLines file (latchForm (literals d) d more) m n v s at)) (sym (add-zero first)) (sym (append-nil seen));
     held = sym (put-none t₀ 0) ∙ ap (put t₀ 0) (none-yet d first);
     kept = sym (put-none r₀ 0);
     agrees = subst (λ (s : List ℕ). Agrees m s marks₀) (after-none d seen) a;
@@ -129,19 +129,19 @@ module _ {file : List ℕ} {d : Bool} {m more first n at : ℕ} {t₀ r₀ marks
       go (suc l) e = (l, refl, omega arith)
 
   turned : {seen : List ℕ} (b : Before file d m more first n at t₀ r₀ seen table resets marks pos i) (h : i < n)
-      → latchLines file (literals d) d m more n first seen at
-      ≡ onRows (b .rows) (latchLines file (literals d) d m more (suc (rest h b .0)) (first + i) (seen ++ heads (b .rows)) pos)
+      → latchLines file (latchForm (literals d) d more) m n first seen at
+      ≡ onRows (b .rows) (latchLines file (latchForm (literals d) d more) m (suc (rest h b .0)) (first + i) (seen ++ heads (b .rows)) pos)
   turned {seen} b h =
-      b .whole ∙ ap (λ (x : ℕ). onRows (b .rows) (latchLines file (literals d) d m more x (first + i) (seen ++ heads (b .rows)) pos)) (rest h b .1)
+      b .whole ∙ ap (λ (x : ℕ). onRows (b .rows) (latchLines file (latchForm (literals d) d more) m x (first + i) (seen ++ heads (b .rows)) pos)) (rest h b .1)
 
-  says-refused : (seen : List ℕ) (r : Refusal) (t′ r′ marks′ : List ℕ) → latchLines file (literals d) d m more n first seen at ≡ refused r
-      → LatchesSay d m first seen t₀ r₀ (latchLines file (literals d) d m more n first seen at) (Refused r) t′ r′ marks′
+  says-refused : (seen : List ℕ) (r : Refusal) (t′ r′ marks′ : List ℕ) → latchLines file (latchForm (literals d) d more) m n first seen at ≡ refused r
+      → LatchesSay d m first seen t₀ r₀ (latchLines file (latchForm (literals d) d more) m n first seen at) (Refused r) t′ r′ marks′
   says-refused seen r t′ r′ marks′ e =
       subst (λ (p : Parse (List (List ℕ))). LatchesSay d m first seen t₀ r₀ p (Refused r) t′ r′ marks′) (sym e) refl
 
   pub stops : (h : i < n) (r : Refusal) (t′ r′ marks′ : List ℕ) → Refused r ≡ passedBy (latchRow file d m more (first + i) pos)
       → (seen : List ℕ) → Agrees m seen marks₀
-      → LatchesSay d m first seen t₀ r₀ (latchLines file (literals d) d m more n first seen at) (Refused r) t′ r′ marks′
+      → LatchesSay d m first seen t₀ r₀ (latchLines file (latchForm (literals d) d more) m n first seen at) (Refused r) t′ r′ marks′
   stops h r t′ r′ marks′ e seen a =
       let b = s .before seen a in
       says-refused seen r t′ r′ marks′ (turned b h
@@ -160,13 +160,13 @@ module _ {file : List ℕ} {d : Bool} {m more first n at : ℕ} {t₀ r₀ marks
 
     judged-line : (seen : List ℕ) (rows : List (List ℕ)) (t : Bool) → Agrees m (seenAfter d seen rows) marks
         → marked d (varOf (literalOf row)) marks ≡ t
-        → latchLineAt file (literals d) d m more (first + i) (seen ++ heads rows) pos ≡ cond t (refused (DefinedTwice pos)) (got row next)
+        → latchLineAt file (latchForm (literals d) d more) m (first + i) (seen ++ heads rows) pos ≡ cond t (refused (DefinedTwice pos)) (got row next)
     judged-line seen rows t a q =
         latch-line file d m more (first + i) pos (seen ++ heads rows) row next e
         ∙ ap (λ (x : Bool). cond x (refused (DefinedTwice pos)) (got row next)) (sym (tells seen rows a) ∙ q)
 
     pub twice-told : (t′ r′ marks′ : List ℕ) → marked d (varOf (literalOf row)) marks ≡ true → (seen : List ℕ) → Agrees m seen marks₀
-        → LatchesSay d m first seen t₀ r₀ (latchLines file (literals d) d m more n first seen at) (Refused (DefinedTwice pos)) t′ r′ marks′
+        → LatchesSay d m first seen t₀ r₀ (latchLines file (latchForm (literals d) d more) m n first seen at) (Refused (DefinedTwice pos)) t′ r′ marks′
     twice-told t′ r′ marks′ q seen a =
         let b = s .before seen a in
         says-refused seen (DefinedTwice pos) t′ r′ marks′ (turned b h
@@ -215,7 +215,7 @@ module _ {file : List ℕ} {d : Bool} {m more first n at : ℕ} {t₀ r₀ marks
             whole = turned b h
                 ∙ latches-turn file (literals d) d m more (b .rows) (r .0) (first + i) (seen ++ heads (b .rows)) pos row next
                 (judged-line seen (b .rows) false (b .agrees) q)
-                ∙ ap₂ (λ (v : ℕ) (z : List ℕ). onRows (b .rows ++ (row ∷ [])) (latchLines file (literals d) d m more (r .0) v z next)) one-more
+                ∙ ap₂ (λ (v : ℕ) (z : List ℕ). onRows (b .rows ++ (row ∷ [])) (latchLines file (latchForm (literals d) d more) m (r .0) v z next)) one-more
                 (append-assoc seen (heads (b .rows)) (varOf (literalOf row) ∷ []) ∙ ap (λ (z : List ℕ). seen ++ z) (sym (heads-snoc (b .rows) row)));
             held = held .0 ∙ ap₂ (λ (x : List ℕ) (y : ℕ). put x y (latchLine (latchIn d (first + i) row))) (b .held) base-is
                 ∙ put-put t₀ 0 (flat (map latchLine ls)) (latchLine (latchIn d (first + i) row))
@@ -232,11 +232,11 @@ module _ {file : List ℕ} {d : Bool} {m more first n at : ℕ} {t₀ r₀ marks
     }
 
   pub ends-here : n ≤ i → (seen : List ℕ) → Agrees m seen marks₀
-      → LatchesSay d m first seen t₀ r₀ (latchLines file (literals d) d m more n first seen at) (To pos) table resets marks
+      → LatchesSay d m first seen t₀ r₀ (latchLines file (latchForm (literals d) d more) m n first seen at) (To pos) table resets marks
   ends-here over seen a =
       let b = s .before seen a in
       let none : b .left ≡ zero = omega (arith, b .sum) in
       subst (λ (p : Parse (List (List ℕ))). LatchesSay d m first seen t₀ r₀ p (To pos) table resets marks)
-      (sym (b .whole ∙ ap (λ (x : ℕ). onRows (b .rows) (latchLines file (literals d) d m more x (first + i) (seen ++ heads (b .rows)) pos)) none
+      (sym (b .whole ∙ ap (λ (x : ℕ). onRows (b .rows) (latchLines file (latchForm (literals d) d more) m x (first + i) (seen ++ heads (b .rows)) pos)) none
       ∙ latches-done file (literals d) d m more (b .rows) (first + i) (seen ++ heads (b .rows)) pos))
       (refl, b .held, b .kept, b .agrees)

@@ -12,7 +12,7 @@ use Rattle.plan.specs.declared.Passed.the-variants.{To, Refused}
 use Rattle.plan.specs.Literals.{most, varOf, litOf}
 use Rattle.plan.specs.Refusals.{Parse, got, refused, _then_, unless}
 use Rattle.plan.specs.Circuit.{literalOf, has, latchLine}
-use Rattle.plan.specs.Bytes.{number, goesOn, less, Placed, numbers, values, outside, wrongReset, ownOf, twice, latchLineAt, resetAfter}
+use Rattle.plan.specs.Bytes.{number, goesOn, less, Placed, numbers, values, outside, wrongReset, ownOf, twice, latchLineAt, resetAfter, latchForm}
 use Rattle.plan.specs.Given.{orElse}
 use Rattle.plan.specs.Outcome.{passedBy, put}
 use Rattle.laws.proofs.Put.{put-one}
@@ -89,7 +89,7 @@ module _ (file : List ℕ) (d : Bool) (m more v at : ℕ) where
 
   -- what 6 says of a line that 1 and 5 accept
   pub latch-line : (seen row : List ℕ) (next : ℕ) → latchRow file d m more v at ≡ got row next
-      → latchLineAt file (literals d) d m more v seen at ≡ cond (d && has (varOf (literalOf row)) seen) (refused (DefinedTwice at)) (got row next)
+      → latchLineAt file (latchForm (literals d) d more) m v seen at ≡ cond (d && has (varOf (literalOf row)) seen) (refused (DefinedTwice at)) (got row next)
   latch-line seen row next e =
       let a = accepted row next e in
       let xs = a .xs in
@@ -103,7 +103,7 @@ module _ (file : List ℕ) (d : Bool) (m more v at : ℕ) where
       ∙ ap₂ (λ (x : ℕ) (y : List ℕ). cond (d && has (varOf x) seen) (refused (DefinedTwice at)) (got y next)) v-is (a .is)))))
 
   pub latch-refused : (seen : List ℕ) (r : Refusal) → latchRow file d m more v at ≡ refused r
-      → latchLineAt file (literals d) d m more v seen at ≡ refused r
+      → latchLineAt file (latchForm (literals d) d more) m v seen at ≡ refused r
   latch-refused seen r e = go (numbers file (literals d) (literals d + more) at) e
     where
       go : (p : Parse (List Placed))

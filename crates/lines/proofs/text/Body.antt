@@ -11,7 +11,7 @@ use Rattle.plan.specs.declared.Passed.the-variants.{To, Refused}
 use Rattle.plan.specs.Literals.{varOf}
 use Rattle.plan.specs.Refusals.{Parse, got, refused, _then_}
 use Rattle.plan.specs.Circuit.{Circuit, Tables, literalOf, latchLine, latchOf, gateOf, heads, flat, definedIn}
-use Rattle.plan.specs.Bytes.{lines, latchLines, resetAfter}
+use Rattle.plan.specs.Bytes.{lines, latchLines, resetAfter, latchForm}
 use Rattle.plan.specs.Header.{moreResets}
 use Rattle.plan.specs.Text.{textBody}
 use Rattle.plan.specs.Outcome.{put}
@@ -36,7 +36,7 @@ heads-latches (row ∷ rows) = ap (λ (x : List ℕ). varOf (literalOf row) ∷ 
 -- the body with the three lists that are observed as one part
 text-is : (v : Version) (file : List ℕ) (n : Counts) (at : ℕ) → textBody v file n at
     ≡ (lines file 1 true (n .M) (n .I) [] at then λ ins at.
-    latchLines file 2 true (n .M) (moreResets v) (n .L) zero (heads ins) at then λ lats at.
+    latchLines file (latchForm 2 true (moreResets v)) (n .M) (n .L) zero (heads ins) at then λ lats at.
     observedAt file n at then λ o at.
     lines file 3 true (n .M) (n .A) (heads ins ++ heads lats) at then λ gates at.
     got (record {
@@ -51,7 +51,7 @@ text-is : (v : Version) (file : List ℕ) (n : Counts) (at : ℕ) → textBody v
     }) at)
 text-is v file n at = λ i.
     lines file 1 true (n .M) (n .I) [] at then λ ins at.
-    latchLines file 2 true (n .M) (moreResets v) (n .L) zero (heads ins) at then λ lats at.
+    latchLines file (latchForm 2 true (moreResets v)) (n .M) (n .L) zero (heads ins) at then λ lats at.
     regroup file n at (λ outs bads cons at.
     lines file 3 true (n .M) (n .A) (heads ins ++ heads lats) at then λ gates at.
     got (record {
@@ -81,14 +81,14 @@ module _ (v : Version) (file : List ℕ) (n : Counts) (at : ℕ) (t : Tables) (r
   -- the inputs are read
   module _ {p₁ : ℕ} {marks₁ : List ℕ}
       (a₁ : Read (RowsHeld 1 (n .M) [] (t .inputs) (t′ .inputs) marks₁) (lines file 1 true (n .M) (n .I) [] at) p₁) where
-    pub latches-refused : {q : Refusal} → latchLines file 2 true (n .M) (moreResets v) (n .L) zero (heads (a₁ .value)) p₁ ≡ refused q
+    pub latches-refused : {q : Refusal} → latchLines file (latchForm 2 true (moreResets v)) (n .M) (n .L) zero (heads (a₁ .value)) p₁ ≡ refused q
         → r ≡ Refused q → Says
     latches-refused {q} stop told = says-refused q (text-is v file n at ∙ rw (a₁ .whole, stop)) told
 
     -- the latches are read
     module _ {p₂ : ℕ} {marks₂ : List ℕ}
         (a₂ : Read (LatchesHeld (n .M) (heads (a₁ .value)) (t .latches) (t .resets) (t′ .latches) (t′ .resets) marks₂)
-        (latchLines file 2 true (n .M) (moreResets v) (n .L) zero (heads (a₁ .value)) p₁) p₂) where
+        (latchLines file (latchForm 2 true (moreResets v)) (n .M) (n .L) zero (heads (a₁ .value)) p₁) p₂) where
       pub observed-refused : {q : Refusal} → observedAt file n p₂ ≡ refused q → r ≡ Refused q → Says
       observed-refused {q} stop told = says-refused q (text-is v file n at ∙ rw (a₁ .whole, a₂ .whole, stop)) told
 

@@ -9,7 +9,7 @@ use Rattle.plan.specs.declared.Version.the-variants.{V2007, V19}
 use Rattle.plan.specs.declared.Passed.{Passed}
 use Rattle.plan.specs.Refusals.{Parse, got, refused}
 use Rattle.plan.specs.Circuit.{flat, latchLine, latchOf}
-use Rattle.plan.specs.Bytes.{lines, latchLines, resetAfter}
+use Rattle.plan.specs.Bytes.{lines, latchLines, resetAfter, latchForm}
 use Rattle.plan.specs.Header.{moreResets}
 use Rattle.plan.specs.Outcome.{put}
 use Rattle.laws.proofs.Marks.{Agrees}
@@ -48,11 +48,11 @@ pub record LatchesHeld (m : ℕ) (seen table resets table′ resets′ marks′ 
 
 pub latches-told : (v : Version) (file : List ℕ) (m more n at : ℕ) (seen table resets : List ℕ) (r : Passed) (table′ resets′ marks′ : List ℕ)
     → more ≡ moreResets v
-    → LatchesSay true m 0 seen table resets (latchLines file 2 true m more n 0 seen at) r table′ resets′ marks′
-    → Answered (LatchesHeld m seen table resets table′ resets′ marks′) (latchLines file 2 true m (moreResets v) n 0 seen at) r
+    → LatchesSay true m 0 seen table resets (latchLines file (latchForm 2 true more) m n 0 seen at) r table′ resets′ marks′
+    → Answered (LatchesHeld m seen table resets table′ resets′ marks′) (latchLines file (latchForm 2 true (moreResets v)) m n 0 seen at) r
 latches-told v file m more n at seen table resets r table′ resets′ marks′ e says =
-    go (latchLines file 2 true m (moreResets v) n 0 seen at)
-    (subst (λ (x : ℕ). LatchesSay true m 0 seen table resets (latchLines file 2 true m x n 0 seen at) r table′ resets′ marks′) e says)
+    go (latchLines file (latchForm 2 true (moreResets v)) m n 0 seen at)
+    (subst (λ (x : ℕ). LatchesSay true m 0 seen table resets (latchLines file (latchForm 2 true x) m n 0 seen at) r table′ resets′ marks′) e says)
   where
     go : (p : Parse (List (List ℕ))) → LatchesSay true m 0 seen table resets p r table′ resets′ marks′
         → Answered (LatchesHeld m seen table resets table′ resets′ marks′) p r

@@ -3,7 +3,7 @@ use borrow.Author.Needs.{needs}
 use Prim.Native.Nat.{ℕ}
 use mathlib.Core.Path.{sym, ap₂, _∙_}
 use lib.ListN.{length}
-use Rattle.plan.specs.Circuit.{Tables, seven, wordsWith, against, short}
+use Rattle.plan.specs.Circuit.{Tables, seven, wordsWith, against, leastShort}
 use Rattle.lines.proofs.header.Accepted.{accepted, not-accepted}
 use Rattle.tables.specs.declared.Sizes.{Sizes}
 use Rattle.tables.specs.Lengths.{lengthsIn}
@@ -158,7 +158,7 @@ returns c =
     let head = accepted (start .args .version) (start .args .file .now) _ _ _ (sym (binary-of (lengths-of c) .binary .given .1) ∙ read-header-of
     (lengths-of c) .read-header .ensures) in
     short-told (a .version) (a .file .now) t t (a .scratch .now) _ _ _ (head .head) _ (some-table _ _ (c .if1 .taken) (c .before .too-short .ensures
-    ∙ ap₂ (λ (k : ℕ) (x : Sizes). short (against 1 (wordsWith k (binary-of (lengths-of c) .binary .given .0 .1 .0)) (lengthsIn x (length
+    ∙ ap₂ (λ (k : ℕ) (x : Sizes). leastShort (against 1 (wordsWith k (binary-of (lengths-of c) .binary .given .0 .1 .0)) (lengthsIn x (length
     (a .scratch .now))))) (c .before .before .scratch-to-read .ensures) (c .before .before .before .lengths .ensures)))
 
 rest-of-requires : tie.Need-rest-of-requires
@@ -169,7 +169,7 @@ rest-of-requires c κs =
     let head = accepted (start .args .version) (start .args .file .now) _ _ _ (sym (binary-of (lengths-of2 c) .binary .given .1) ∙ read-header-of
     (lengths-of2 c) .read-header .ensures) in (
       room-for _ _ t (a .scratch .now) (head .small) (no-table _ _ (else1-of c .if1 .left) (too-short-of c .too-short .ensures ∙ ap₂ (λ (k : ℕ)
-          (x : Sizes). short (against 1 (wordsWith k (binary-of (lengths-of2 c) .binary .given .0 .1 .0)) (lengthsIn x (length (a .scratch .now)))))
+          (x : Sizes). leastShort (against 1 (wordsWith k (binary-of (lengths-of2 c) .binary .given .0 .1 .0)) (lengthsIn x (length (a .scratch .now)))))
           (scratch-to-read-of c .scratch-to-read .ensures) (lengths-of2 c .lengths .ensures))) (start .pre),
       head .sum,
     )
@@ -228,7 +228,7 @@ returns-3 c =
     let head = accepted (start .args .version) (start .args .file .now) _ _ _ (sym (binary-of (lengths-of3 c) .binary .given .1) ∙ read-header-of
     (lengths-of3 c) .read-header .ensures) in
     rest-refused (a .version) (a .file .now) t t′ (a .scratch .now) _ _ _ (head .head) (no-table _ _ (else1-of (before-rest-of c) .if1 .left)
-    (too-short-of (before-rest-of c) .too-short .ensures ∙ ap₂ (λ (k : ℕ) (x : Sizes). short (against 1 (wordsWith k (binary-of
+    (too-short-of (before-rest-of c) .too-short .ensures ∙ ap₂ (λ (k : ℕ) (x : Sizes). leastShort (against 1 (wordsWith k (binary-of
     (lengths-of3 c) .binary .given .0 .1 .0)) (lengthsIn x (length (a .scratch .now))))) (scratch-to-read-of
     (before-rest-of c) .scratch-to-read .ensures) (lengths-of2 (before-rest-of c) .lengths .ensures))) _ _ (f .ensures) (c .before .r2 .given .1)
 
@@ -272,7 +272,7 @@ returns-4 c =
     let head = accepted (start .args .version) (start .args .file .now) _ _ _ (sym (binary-of (lengths-of4 c) .binary .given .1) ∙ read-header-of
     (lengths-of4 c) .read-header .ensures) in
     rest-accepted (a .version) (a .file .now) t t′ (a .scratch .now) _ _ _ (head .head) (no-table _ _ (else1-of (before-rest-of2 c) .if1 .left)
-    (too-short-of (before-rest-of2 c) .too-short .ensures ∙ ap₂ (λ (k : ℕ) (x : Sizes). short (against 1 (wordsWith k (binary-of
+    (too-short-of (before-rest-of2 c) .too-short .ensures ∙ ap₂ (λ (k : ℕ) (x : Sizes). leastShort (against 1 (wordsWith k (binary-of
     (lengths-of4 c) .binary .given .0 .1 .0)) (lengthsIn x (length (a .scratch .now))))) (scratch-to-read-of
     (before-rest-of2 c) .scratch-to-read .ensures) (lengths-of2 (before-rest-of2 c) .lengths .ensures))) _ _
     (λ k. at-start c .shared-slice-known .given k .fits) (head .sum) (f .ensures) (c .before .next .given .1)

@@ -10,7 +10,7 @@ use Rattle.plan.specs.Reading.{WellFormed}
 use Rattle.plan.specs.Convert.{numbered, renumber, convert}
 use Rattle.plan.specs.Reduce.{reduced, becomes, latchBecomes, reduce}
 use Rattle.plan.specs.Drop.{dropUnused}
-use Rattle.plan.specs.Step.{Value, Step, run, first}
+use Rattle.plan.specs.Step.{Value, Step, run, firstState}
 use Rattle.laws.proofs.Running.Refinement.{les-refl}
 use Rattle.laws.proofs.Running.Monotone.{Replaced}
 use Rattle.laws.proofs.Running.Converted.{latches-convert}
@@ -24,7 +24,7 @@ use Rattle.plan.specs.Report.{numbersOf, outputAlong, latchAlong, inTurn, needl
 
 -- the numbers of a list, from the resets
 abbrev pub reported : Circuit → List (List Value) → List ℕ
-reported c list = needles c (run c (first c) list)
+reported c list = needles c (run c (firstState c) list)
 
 -- of a circuit a report asks the lengths of two lists alone
 same-needles : (c d : Circuit) (steps : List Step) → length (c .outputs) ≡ length (d .outputs) → length (c .latches) ≡ length (d .latches)
@@ -48,23 +48,23 @@ all-replaced (i ∷ is) = (les-refl i, all-replaced is)
 -- conversion changes no report, also of lists with x
 pub convert-report : (c : Circuit) → WellFormed c → (is : List (List Value)) → Sized (length (c .inputs)) is → reported (convert c) is ≡ reported c is
 convert-report c w is z =
-    ap (needles (convert c)) (ap (λ (s : List Value). run (convert c) s is) (first-convert c) ∙ convert-run c w is z (first c) (first-length c w))
-    ∙ same-needles (convert c) c (run c (first c) is) (converted-outputs c) (latches-convert c)
+    ap (needles (convert c)) (ap (λ (s : List Value). run (convert c) s is) (first-convert c) ∙ convert-run c w is z (firstState c) (first-length c w))
+    ∙ same-needles (convert c) c (run c (firstState c) is) (converted-outputs c) (latches-convert c)
 
 -- demand 3, after conversion and reduction
-pub demand-three-report : (c : Circuit) → WellFormed c → (is : List (List Value)) → Sized (length (c .inputs)) is → NoXs is → NoX (first c)
+pub demand-three-report : (c : Circuit) → WellFormed c → (is : List (List Value)) → Sized (length (c .inputs)) is → NoXs is → NoX (firstState c)
     → reported (reduce (convert c)) is ≡ reported c is
 demand-three-report c w is z x f =
     ap (needles (reduce (convert c))) (sym (demand-three c w is is z (all-replaced is) .1 x f))
-    ∙ same-needles (reduce (convert c)) c (run c (first c) is) (reduced-outputs (convert c) ∙ converted-outputs c)
+    ∙ same-needles (reduce (convert c)) c (run c (firstState c) is) (reduced-outputs (convert c) ∙ converted-outputs c)
     (reduced-latches (convert c) ∙ latches-convert c)
 
 -- and with unused gates dropped
-pub demand-three-dropped-report : (c : Circuit) → WellFormed c → (is : List (List Value)) → Sized (length (c .inputs)) is → NoXs is → NoX (first c)
+pub demand-three-dropped-report : (c : Circuit) → WellFormed c → (is : List (List Value)) → Sized (length (c .inputs)) is → NoXs is → NoX (firstState c)
     → reported (dropUnused (reduce (convert c))) is ≡ reported c is
 demand-three-dropped-report c w is z x f =
     let d = dropUnused (reduce (convert c)) in
     ap (needles d) (sym (demand-three-dropped c w is is z (all-replaced is) .1 x f))
-    ∙ same-needles d c (run c (first c) is)
+    ∙ same-needles d c (run c (firstState c) is)
     (ap (λ (n : Counts). n .O) (counts-drop (reduce (convert c))) ∙ (reduced-outputs (convert c) ∙ converted-outputs c))
     (ap (λ (n : Counts). n .L) (counts-drop (reduce (convert c))) ∙ (reduced-latches (convert c) ∙ latches-convert c))

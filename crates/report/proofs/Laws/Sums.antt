@@ -6,7 +6,7 @@ use mathlib.Core.List.{List, [], _∷_, map}
 use native.Mathlib.Omega.{arith}
 use lib.ListN.{length, getD, length-map}
 use Rattle.plan.specs.Circuit.{Circuit, rowsOf}
-use Rattle.plan.specs.Step.{Value, v0, v1, vx, same, valueOf, nextOf, Step, run, first, vectorsOf}
+use Rattle.plan.specs.Step.{Value, v0, v1, vx, same, valueOf, nextOf, Step, run, firstState, vectorsOf}
 use Rattle.plan.specs.Report.{times, changesAfter, changes, outputAlong, latchAlong}
 use Rattle.laws.proofs.Writing.Fine.{length-rows}
 use Rattle.laws.proofs.Running.Times.{all-counted}
@@ -30,11 +30,11 @@ run-length c s (i ∷ list) = ap suc (run-length c (nextOf c s i) list)
 
 module _ (c : Circuit) (number : ℕ) (bytes : List ℕ) where
   abbrev pub steps : List Step
-  steps = run c (first c) (vectorsOf c number bytes)
+  steps = run c (firstState c) (vectorsOf c number bytes)
 
   steps-length : length steps ≡ number
   steps-length =
-      run-length c (first c) (vectorsOf c number bytes)
+      run-length c (firstState c) (vectorsOf c number bytes)
       ∙ (length-map (rowsOf (length (c .inputs)) number bytes) (map valueOf) ∙ length-rows (length (c .inputs)) number bytes)
 
   -- the first three numbers of each output and of each latch add up to the number of vectors

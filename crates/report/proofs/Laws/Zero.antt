@@ -10,8 +10,8 @@ use Rattle.plan.specs.declared.Refusal.{Refusal}
 use Rattle.plan.specs.declared.Stepped.the-variants.{Done, Refused}
 use Rattle.plan.specs.Refusals.{firstOf}
 use Rattle.plan.specs.Circuit.{Circuit, cleared}
-use Rattle.plan.specs.Given.{given}
-use Rattle.plan.specs.Step.{Step, run, first, vectorsOf}
+use Rattle.plan.specs.Given.{givenCircuit}
+use Rattle.plan.specs.Step.{Step, run, firstState, vectorsOf}
 use Rattle.laws.proofs.Marks.{zeros}
 use Rattle.plan.specs.Report.{numbersOf, outputAlong, latchAlong, inTurn, needles, ReportEntry, reportStages, reportedBy, report}
 use Rattle.report.proofs.needles.Rows.{turn-length}
@@ -42,12 +42,12 @@ past words n k h =
 
 -- where nothing is refused, every word past four for each output and each latch is zero
 pub past-zero : (e : ReportEntry) → report e .answer ≡ Done → (i : ℕ)
-    → 4 * (length (given (e .circuit) .outputs) + length (given (e .circuit) .latches)) ≤ i → getD (report e .six) i 0 ≡ 0
+    → 4 * (length (givenCircuit (e .circuit) .outputs) + length (givenCircuit (e .circuit) .latches)) ≤ i → getD (report e .six) i 0 ≡ 0
 past-zero e done i h = go (firstOf (reportStages e)) done
   where
     go : (o : Option Refusal) → reportedBy o e .answer ≡ Done → getD (reportedBy o e .six) i 0 ≡ 0
     go none q =
-        let c = given (e .circuit) in
-        let steps = run c (first c) (vectorsOf c (e .number) (e .bytes)) in
+        let c = givenCircuit (e .circuit) in
+        let steps = run c (firstState c) (vectorsOf c (e .number) (e .bytes)) in
         past (needles c steps) (length (e .six) - length (needles c steps)) i (omega (arith, needles-length c steps))
     go (some s) q = let z : _≡_ {A = ℕ} 0 1 = cc in absurd (omega arith)

@@ -7,7 +7,7 @@ use borrow.Author.Needs.{needs}
 use lib.ListN.{length, length-append}
 use Rattle.plan.specs.declared.Counts.{Counts}
 use Rattle.plan.specs.Circuit.{Tables, seven, circuitOf}
-use Rattle.plan.specs.Step.{first, run, vectorsOf}
+use Rattle.plan.specs.Step.{firstState, run, vectorsOf}
 use Rattle.laws.proofs.Running.Resets.{first-length}
 use Rattle.step.specs.sweep.Running.{Runs}
 use Rattle.report.specs.Tallying.{tally}
@@ -20,7 +20,7 @@ tables s inputs bads constraints =
     let a = s .args in
     seven inputs (a .latches .now) (a .outputs .now) (a .gates .now) (a .resets .now) bads constraints
 
-first-long : {n : Counts} {x : Tables} → Runs n x → length (first (circuitOf n x)) ≡ n .L
+first-long : {n : Counts} {x : Tables} → Runs n x → length (firstState (circuitOf n x)) ≡ n .L
 first-long {n} {x} r = first-length (circuitOf n x) (r .formed) ∙ ap (λ (m : Counts). m .L) (r .counts)
 
 start-values-requires : tie.Need-start-values-requires
@@ -34,7 +34,7 @@ tally-requires c κs =
     let p = s .pre in
     record {
       others = tables s (p .inputs) (p .bads) (p .constraints);
-      state = first (circuitOf (s .args .n) (tables s (p .inputs) (p .bads) (p .constraints)));
+      state = firstState (circuitOf (s .args .n) (tables s (p .inputs) (p .bads) (p .constraints)));
       runs = record { fits = p .runs .fits; counts = p .runs .counts; formed = p .runs .formed; order = p .runs .order };
       scratch-long = omega (arith, p .scratch-long, c .before .before .before .scratch .given);
       state-length = first-long (p .runs);
@@ -69,9 +69,9 @@ returns c = λ inputs bads constraints rest r held.
     let x = tables s inputs bads constraints in
     let d = circuitOf n x in
     c .before .before .finish .ensures
-    ∙ all-finished n d (run d (first d) (vectorsOf d (s .args .number) (s .args .bytes .now))) rest (ap (λ (m : Counts). m .O) (r .counts))
+    ∙ all-finished n d (run d (firstState d) (vectorsOf d (s .args .number) (s .args .bytes .now))) rest (ap (λ (m : Counts). m .O) (r .counts))
     (ap (λ (m : Counts). m .L) (r .counts)) _
-    (c .before .before .before .before .before .before .before .before .before .tally .ensures x (first d) rest r (first-long r)
+    (c .before .before .before .before .before .before .before .before .before .tally .ensures x (firstState d) rest r (first-long r)
     (c .before .before .before .before .before .before .before .before .before .before .before .before .before .before .start-values .ensures) held)
 
 pub fill-spec : {M : Type 1} → statement M

@@ -11,8 +11,8 @@ use Rattle.plan.specs.declared.Refusal.{Refusal}
 use Rattle.plan.specs.declared.Stepped.the-variants.{Done, Refused}
 use Rattle.plan.specs.Refusals.{firstOf}
 use Rattle.plan.specs.Circuit.{seven, cleared}
-use Rattle.plan.specs.Step.{first, run, vectorsOf}
-use Rattle.plan.specs.Given.{given}
+use Rattle.plan.specs.Step.{firstState, run, vectorsOf}
+use Rattle.plan.specs.Given.{givenCircuit}
 use Rattle.plan.specs.Outcome.{checkedBy}
 use Rattle.judge.proofs.Sound.{good-none, refused-some}
 use Rattle.step.specs.sweep.Running.{Runs}
@@ -134,14 +134,14 @@ returns-2 c =
     let e = entry s in
     let n = s .args .n in
     let t = e .circuit .tables in
-    let circuit = given (e .circuit) in
+    let circuit = givenCircuit (e .circuit) in
     let r = holds d in
     let scratch = c .before .before .clear .ensures
     ∙ ap (λ (k : ℕ). replicate k 0) (c .before .before .before .before .before .before .before .scratch2 .given
     ∙ c .before .before .before .before .before .before .before .before .before .before .before .before .before .before .scratch .given) in
     let six =
     c .before .before .before .before .before .before .before .before .fill .ensures (t .inputs) (t .bads) (t .constraints) (rest s) r (held d)
-    ∙ filled-report n circuit (run circuit (first circuit) (vectorsOf circuit (e .number) (e .bytes))) (rest s) (ap (λ (m : Counts). m .O) (r .counts))
+    ∙ filled-report n circuit (run circuit (firstState circuit) (vectorsOf circuit (e .number) (e .bytes))) (rest s) (ap (λ (m : Counts). m .O) (r .counts))
     (ap (λ (m : Counts). m .L) (r .counts)) (e .six) in
     _∙_ {A = ReportExit} (λ i. record { answer = Done; scratch = scratch i; six = six i }) (sym (ap (λ (o : Option Refusal). reportedBy o e) (found d)))
 

@@ -8,10 +8,10 @@ use Rattle.plan.specs.declared.Refusal.{Refusal}
 use Rattle.plan.specs.declared.Stepped.the-variants as stepped
 use Rattle.plan.specs.Refusals.{firstOf}
 use Rattle.plan.specs.Circuit.{Circuit}
-use Rattle.plan.specs.Given.{given, inOrderThen}
+use Rattle.plan.specs.Given.{givenCircuit, inOrderThen}
 use Rattle.plan.specs.Convert.{convert}
 use Rattle.plan.specs.Reduce.{reduce}
-use Rattle.plan.specs.Step.{Value, Step, first, vectorsOf}
+use Rattle.plan.specs.Step.{Value, Step, firstState, vectorsOf}
 use Rattle.plan.specs.Outcome.{conversion, reduction}
 use Rattle.plan.specs.Drop.{dropUnused, dropping}
 use Rattle.plan.specs.Rows.{outputBytes, nextBytes, rowSteps, RowsEntry, RowsExit, rowStage, steppedRows, stepRows}
@@ -27,10 +27,10 @@ use Rattle.rows.proofs.Planes.Demand.{rowsFrom, rows-kept, rows-same, r
 -- state that was 0 or 1 is the same, and the bytes of the call are those of the rows; without x every row is the same
 abbrev pub RowsKept : Circuit → RowsEntry → List (List Value) → Type 0
 RowsKept c e is =
-    let after = rowSteps (given (e .circuit)) (e .rows) (e .inputs) in
+    let after = rowSteps (givenCircuit (e .circuit)) (e .rows) (e .inputs) in
     Kept (rowsFrom c is) after
     × (stepRows e .outputs ≡ outputBytes after) × (stepRows e .nexts ≡ nextBytes after)
-    × (NoXs is → NoX (first c) → rowsFrom c is ≡ after)
+    × (NoXs is → NoX (firstState c) → rowsFrom c is ≡ after)
 
 module _ (r : ReadCall) (m : MakeCall conversion) (m-given : FromRead (m .entry .circuit) r)
     (s : MakeCall reduction) (s-given : FromMade conversion (s .entry .circuit) m) where
@@ -42,11 +42,11 @@ module _ (r : ReadCall) (m : MakeCall conversion) (m-given : FromRead (m .entry 
       reduced-is s ∙ ap reduce (from-made conversion (s .entry .circuit) m s-given ∙ (converted-is m ∙ ap convert (from-read (m .entry .circuit) r m-given)))
 
   module _ (e : RowsEntry) (done : stepRows e .answer ≡ stepped.Done) (is : List (List Value)) (sized : Sized (length (readCircuit r .inputs)) is)
-      (replaced : Replaced is (vectorsOf (given (e .circuit)) (e .rows) (e .inputs))) where
+      (replaced : Replaced is (vectorsOf (givenCircuit (e .circuit)) (e .rows) (e .inputs))) where
     abbrev js : List (List Value)
-    js = vectorsOf (given (e .circuit)) (e .rows) (e .inputs)
+    js = vectorsOf (givenCircuit (e .circuit)) (e .rows) (e .inputs)
 
-    by-rows : rowsFrom (reduce (convert c)) js ≡ rowsFrom (given (e .circuit)) js → RowsKept c e is
+    by-rows : rowsFrom (reduce (convert c)) js ≡ rowsFrom (givenCircuit (e .circuit)) js → RowsKept c e is
     by-rows same =
         let all = firstOf (inOrderThen (e .circuit) (rowStage e ∷ [])) in
         let exit = ap (λ (o : Option Refusal). steppedRows o e) (stepped-none (λ o. steppedRows o e .answer) (λ r. refl) all done) in (

@@ -7,7 +7,7 @@ use Rattle.plan.specs.Circuit.{Circuit}
 use Rattle.plan.specs.Reading.{WellFormed}
 use Rattle.plan.specs.Convert.{convert}
 use Rattle.plan.specs.Reduce.{reduce}
-use Rattle.plan.specs.Step.{Value, Step, stepOf, first}
+use Rattle.plan.specs.Step.{Value, Step, stepOf, firstState}
 use Rattle.plan.specs.Drop.{dropUnused}
 use Rattle.laws.proofs.Running.Monotone.{Replaced, Kept}
 use Rattle.laws.proofs.Running.Runs.{Sized}
@@ -20,7 +20,7 @@ use Rattle.laws.proofs.Walks.Dropped.{drop-step}
 
 -- a row is a list of one vector
 abbrev pub rowsFrom : Circuit → List (List Value) → List Step
-rowsFrom c is = map (stepOf c (first c)) is
+rowsFrom c is = map (stepOf c (firstState c)) is
 
 module _ (c : Circuit) (w : WellFormed c) where
   abbrev after : Circuit
@@ -36,14 +36,14 @@ module _ (c : Circuit) (w : WellFormed c) where
       (k .0, k .1, k .2, k .3, k .4, rows-kept is js (z .1) (r .1))
 
   -- without x every row is the same
-  pub rows-same : NoX (first c) → (is js : List (List Value)) → Sized (length (c .inputs)) is → Replaced is js → NoXs is
+  pub rows-same : NoX (firstState c) → (is js : List (List Value)) → Sized (length (c .inputs)) is → Replaced is js → NoXs is
       → rowsFrom c is ≡ rowsFrom after js
   rows-same f [] [] z r x = refl
   rows-same f [] (j ∷ js) z r x = absurd r
   rows-same f (i ∷ is) [] z r x = absurd r
   rows-same f (i ∷ is) (j ∷ js) z r x =
       let e = demand-three c w (i ∷ []) (j ∷ []) (z .0, tt) (r .0, tt) .1 (x .0, tt) f in
-      ap₂ (λ (s : Step) (t : List Step). s ∷ t) (ap (λ (l : List Step). getD l 0 (stepOf c (first c) i)) e)
+      ap₂ (λ (s : Step) (t : List Step). s ∷ t) (ap (λ (l : List Step). getD l 0 (stepOf c (firstState c) i)) e)
       (rows-same f is js (z .1) (r .1) (x .1))
 
   -- without its unused gates too: dropping changes no row
@@ -56,5 +56,5 @@ module _ (c : Circuit) (w : WellFormed c) where
       let inputs : length (after .inputs) ≡ length (c .inputs)
       = ap (λ (n : Counts). n .I) (counts-reduce (convert c)) ∙ ap (λ (n : Counts). n .I) (counts-convert c w) in
       ap₂ (λ (s : Step) (t : List Step). s ∷ t)
-      (sym (drop-step after formed (reduce-in-order (convert c) w′ o′) (first after) j (first-length after formed) (z .0 ∙ sym inputs)))
+      (sym (drop-step after formed (reduce-in-order (convert c) w′ o′) (firstState after) j (first-length after formed) (z .0 ∙ sym inputs)))
       (rows-dropped js (z .1))

@@ -7,10 +7,10 @@ use lib.ListN.{length}
 use Rattle.plan.specs.declared.Counts.{Counts}
 use Rattle.plan.specs.declared.Stepped.the-variants as stepped
 use Rattle.plan.specs.Circuit.{Circuit, rowsOf}
-use Rattle.plan.specs.Given.{given}
+use Rattle.plan.specs.Given.{givenCircuit}
 use Rattle.plan.specs.Convert.{convert}
 use Rattle.plan.specs.Reduce.{reduce}
-use Rattle.plan.specs.Step.{Value, valueOf, Step, first, vectorsOf}
+use Rattle.plan.specs.Step.{Value, valueOf, Step, firstState, vectorsOf}
 use Rattle.plan.specs.Outcome.{conversion, reduction}
 use Rattle.plan.specs.Drop.{dropUnused, dropping}
 use Rattle.plan.specs.Rows.{outputBytes, nextBytes, rowSteps, RowsEntry, RowsExit, stepRows}
@@ -43,7 +43,7 @@ module _ (r : ReadCall) (m : MakeCall conversion) (m-given : FromRead (m .entry 
   abbrev c : Circuit
   c = convert (readCircuit r)
 
-  x-is : given (x .circuit) ≡ c
+  x-is : givenCircuit (x .circuit) ≡ c
   x-is = from-made conversion (x .circuit) m x-given ∙ (converted-is m ∙ ap convert (from-read (m .entry .circuit) r m-given))
 
   -- conversion changes nothing more
@@ -51,32 +51,32 @@ module _ (r : ReadCall) (m : MakeCall conversion) (m-given : FromRead (m .entry 
   again = ap reduce (convert-same c (convert-well-formed (readCircuit r) (read-formed r)) (convert-in-order (readCircuit r) (read-formed r)))
 
   abbrev is : List (List Value)
-  is = vectorsOf (given (x .circuit)) (x .rows) (x .inputs)
+  is = vectorsOf (givenCircuit (x .circuit)) (x .rows) (x .inputs)
 
   is-sized : Sized (length (c .inputs)) is
   is-sized =
       subst (λ (d : Circuit). Sized (length (d .inputs)) is) x-is
-      (sized-rows (length (given (x .circuit) .inputs)) (x .rows) (x .inputs)
+      (sized-rows (length (givenCircuit (x .circuit) .inputs)) (x .rows) (x .inputs)
       (inputs-good x x-done .0 ∙ ap (λ (n : Counts). x .rows * n .I) (sym (counts x x-done))))
 
   -- of a circuit with as many inputs whose rows are those of the reduced one
-  module _ (e : Circuit) (y-is : given (y .circuit) ≡ e) (inputs : length (e .inputs) ≡ length (c .inputs))
+  module _ (e : Circuit) (y-is : givenCircuit (y .circuit) ≡ e) (inputs : length (e .inputs) ≡ length (c .inputs))
       (like : (js : List (List Value)) → Sized (length (c .inputs)) js → rowsFrom (reduce c) js ≡ rowsFrom e js) where
     abbrev js : List (List Value)
-    js = vectorsOf (given (y .circuit)) (y .rows) (y .inputs)
+    js = vectorsOf (givenCircuit (y .circuit)) (y .rows) (y .inputs)
 
-    inputs-same : length (given (y .circuit) .inputs) ≡ length (given (x .circuit) .inputs)
+    inputs-same : length (givenCircuit (y .circuit) .inputs) ≡ length (givenCircuit (x .circuit) .inputs)
     inputs-same = ap (λ (d : Circuit). length (d .inputs)) y-is ∙ (inputs ∙ sym (ap (λ (d : Circuit). length (d .inputs)) x-is))
 
     is-js : Replaced is js
     is-js =
         subst₂ (λ (k n : ℕ). Replaced is (vectors k n (y .inputs))) (sym inputs-same) rows
-        (replaced-rows (length (given (x .circuit) .inputs)) (x .rows) (x .inputs) (y .inputs) replaced)
+        (replaced-rows (length (givenCircuit (x .circuit) .inputs)) (x .rows) (x .inputs) (y .inputs) replaced)
       where
         vectors : ℕ → ℕ → List ℕ → List (List Value)
         vectors k n l = map (map valueOf) (rowsOf k n l)
 
-    y-rows : rowsFrom (reduce (convert c)) js ≡ rowsFrom (given (y .circuit)) js
+    y-rows : rowsFrom (reduce (convert c)) js ≡ rowsFrom (givenCircuit (y .circuit)) js
     y-rows =
         ap (λ (d : Circuit). rowsFrom d js) again
         ∙ (like js (replaced-sized (length (c .inputs)) is js is-js is-sized) ∙ ap (λ (d : Circuit). rowsFrom d js) (sym y-is))
@@ -85,17 +85,17 @@ module _ (r : ReadCall) (m : MakeCall conversion) (m-given : FromRead (m .entry 
     kept =
         let steps = subst₂ (λ (d : Circuit) (l : List Step). Kept (rowsFrom d is) l) (sym x-is) y-rows
         (rows-kept c (convert-well-formed (readCircuit r) (read-formed r)) is js is-sized is-js) in
-        let k = kept-rows (rowSteps (given (x .circuit)) (x .rows) (x .inputs)) (rowSteps (given (y .circuit)) (y .rows) (y .inputs)) steps in (
+        let k = kept-rows (rowSteps (givenCircuit (x .circuit)) (x .rows) (x .inputs)) (rowSteps (givenCircuit (y .circuit)) (y .rows) (y .inputs)) steps in (
           subst₂ KeptBytes (sym (ap (λ (z : RowsExit). z .outputs) (exit x x-done))) (sym (ap (λ (z : RowsExit). z .outputs) (exit y y-done))) (k .0),
           subst₂ KeptBytes (sym (ap (λ (z : RowsExit). z .nexts) (exit x x-done))) (sym (ap (λ (z : RowsExit). z .nexts) (exit y y-done))) (k .1),
         )
 
-    same : NoXBytes (x .inputs) → NoX (first (given (x .circuit))) → LanesSame x y
+    same : NoXBytes (x .inputs) → NoX (firstState (givenCircuit (x .circuit))) → LanesSame x y
     same h f =
-        let steps : rowSteps (given (x .circuit)) (x .rows) (x .inputs) ≡ rowSteps (given (y .circuit)) (y .rows) (y .inputs)
+        let steps : rowSteps (givenCircuit (x .circuit)) (x .rows) (x .inputs) ≡ rowSteps (givenCircuit (y .circuit)) (y .rows) (y .inputs)
         = ap (λ (d : Circuit). rowsFrom d is) x-is
-        ∙ (rows-same c (convert-well-formed (readCircuit r) (read-formed r)) (subst (λ (d : Circuit). NoX (first d)) x-is f) is js is-sized is-js
-        (no-x-rows (length (given (x .circuit) .inputs)) (x .rows) (x .inputs) (no-x-values (x .inputs) (inputs-good x x-done .1) h))
+        ∙ (rows-same c (convert-well-formed (readCircuit r) (read-formed r)) (subst (λ (d : Circuit). NoX (firstState d)) x-is f) is js is-sized is-js
+        (no-x-rows (length (givenCircuit (x .circuit) .inputs)) (x .rows) (x .inputs) (no-x-values (x .inputs) (inputs-good x x-done .1) h))
         ∙ y-rows) in (
           ap (λ (z : RowsExit). z .outputs) (exit x x-done) ∙ (ap outputBytes steps ∙ sym (ap (λ (z : RowsExit). z .outputs) (exit y y-done))),
           ap (λ (z : RowsExit). z .nexts) (exit x x-done) ∙ (ap nextBytes steps ∙ sym (ap (λ (z : RowsExit). z .nexts) (exit y y-done))),
@@ -103,18 +103,18 @@ module _ (r : ReadCall) (m : MakeCall conversion) (m-given : FromRead (m .entry 
 
   -- beside what the reduction left
   module _ (y-given : FromMade reduction (y .circuit) s) where
-    y-is : given (y .circuit) ≡ reduce c
+    y-is : givenCircuit (y .circuit) ≡ reduce c
     y-is = from-made reduction (y .circuit) s y-given ∙ reduced-from r m m-given s s-given
 
     pub lanes-kept : LanesKept x y
     lanes-kept = kept (reduce c) y-is (ap (λ (n : Counts). n .I) (counts-reduce c)) (λ js z. refl)
 
-    pub lanes-same : NoXBytes (x .inputs) → NoX (first (given (x .circuit))) → LanesSame x y
+    pub lanes-same : NoXBytes (x .inputs) → NoX (firstState (givenCircuit (x .circuit))) → LanesSame x y
     lanes-same = same (reduce c) y-is (ap (λ (n : Counts). n .I) (counts-reduce c)) (λ js z. refl)
 
   -- beside what dropping left after it
   module _ (u : MakeCall dropping) (u-given : FromMade reduction (u .entry .circuit) s) (y-given : FromMade dropping (y .circuit) u) where
-    dropped-from : given (y .circuit) ≡ dropUnused (reduce c)
+    dropped-from : givenCircuit (y .circuit) ≡ dropUnused (reduce c)
     dropped-from =
         from-made dropping (y .circuit) u y-given
         ∙ (dropped-is u ∙ ap dropUnused (from-made reduction (u .entry .circuit) s u-given ∙ reduced-from r m m-given s s-given))
@@ -130,5 +130,5 @@ module _ (r : ReadCall) (m : MakeCall conversion) (m-given : FromRead (m .entry 
     pub dropped-lanes-kept : LanesKept x y
     dropped-lanes-kept = kept (dropUnused (reduce c)) dropped-from inputs-kept like-dropped
 
-    pub dropped-lanes-same : NoXBytes (x .inputs) → NoX (first (given (x .circuit))) → LanesSame x y
+    pub dropped-lanes-same : NoXBytes (x .inputs) → NoX (firstState (givenCircuit (x .circuit))) → LanesSame x y
     dropped-lanes-same = same (dropUnused (reduce c)) dropped-from inputs-kept like-dropped

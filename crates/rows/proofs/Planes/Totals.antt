@@ -4,7 +4,7 @@ use mathlib.Core.Path.{_≡_, _∙_}
 use mathlib.Core.List.{List, map}
 use lib.ListN.{length, getD, length-map}
 use Rattle.plan.specs.Circuit.{Circuit, rowsOf}
-use Rattle.plan.specs.Step.{v0, v1, vx, Step, stepOf, first, valueOf, vectorsOf}
+use Rattle.plan.specs.Step.{v0, v1, vx, Step, stepOf, firstState, valueOf, vectorsOf}
 use Rattle.plan.specs.Report.{times, outputAlong}
 use Rattle.plan.specs.Rows.{rowSteps}
 use Rattle.laws.proofs.Writing.Fine.{length-rows}
@@ -15,5 +15,5 @@ pub rows-add-up : (c : Circuit) (rows : ℕ) (bytes : List ℕ) (j : ℕ)
 rows-add-up c rows bytes j =
     all-counted (outputAlong (rowSteps c rows bytes) j)
     ∙ (length-map (rowSteps c rows bytes) (λ (s : Step). getD (s .outputs) j vx)
-    ∙ (length-map (vectorsOf c rows bytes) (stepOf c (first c))
+    ∙ (length-map (vectorsOf c rows bytes) (stepOf c (firstState c))
     ∙ (length-map (rowsOf (length (c .inputs)) rows bytes) (map valueOf) ∙ length-rows (length (c .inputs)) rows bytes)))

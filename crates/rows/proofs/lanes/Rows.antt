@@ -11,7 +11,7 @@ use lib.Seq.{getD-append-seam}
 use Rattle.plan.specs.declared.Counts.{Counts}
 use Rattle.plan.specs.Literals.{varOf, negOf}
 use Rattle.plan.specs.Circuit.{Circuit, Tables, circuitOf, flat, nexts, rowsOf}
-use Rattle.plan.specs.Step.{Value, v0, v1, vx, codeOf, valueOf, lit, valuesOf, outputsOf, Step, stepOf, first}
+use Rattle.plan.specs.Step.{Value, v0, v1, vx, codeOf, valueOf, lit, valuesOf, outputsOf, Step, stepOf, firstState}
 use Rattle.laws.proofs.Tables.{firsts, length-firsts, rowAt, rows-firsts, flat-snoc}
 use Rattle.judge.specs.used.Least.{every}
 use Rattle.judge.proofs.used.Walked.{one-word}
@@ -61,30 +61,30 @@ module _ {n : Counts} {x : Tables} (r : Runs n x) (bytes : List ℕ) (rows : ℕ
   abbrev row : ℕ → List Value
   row k = map valueOf (rowAt (n .I) bytes k)
 
-  steps-firsts : rowSteps c rows bytes ≡ firsts (λ k. stepOf c (first c) (row k)) rows
+  steps-firsts : rowSteps c rows bytes ≡ firsts (λ k. stepOf c (firstState c) (row k)) rows
   steps-firsts =
-      ap (map (stepOf c (first c)))
+      ap (map (stepOf c (firstState c)))
       (ap (λ (i : ℕ). map (map valueOf) (rowsOf i rows bytes)) (ap (λ (m : Counts). m .I) (r .counts))
       ∙ rows-firsts (n .I) (map valueOf) row bytes (λ k. refl) rows)
-      ∙ map-firsts (stepOf c (first c)) row rows
+      ∙ map-firsts (stepOf c (firstState c)) row rows
 
   module _ {t : List ℕ} (holds : Holds n c bytes rows t) where
     -- the value of a literal in lane k
-    negated : (k : ℕ) → k < rows → (l : ℕ) → varOf l ≤ n .M → bit k (planeAt t (negOf l)) ≡ may0 (lit (valuesOf c (first c) (row k)) l)
+    negated : (k : ℕ) → k < rows → (l : ℕ) → varOf l ≤ n .M → bit k (planeAt t (negOf l)) ≡ may0 (lit (valuesOf c (firstState c) (row k)) l)
     negated k h l up =
         let half : varOf (negOf l) ≡ varOf l = omega arith in
-        holds .is k h (negOf l) (omega arith) ∙ negated-may (valuesOf c (first c) (row k)) l
+        holds .is k h (negOf l) (omega arith) ∙ negated-may (valuesOf c (firstState c) (row k)) l
 
-    lane-code : (k : ℕ) → k < rows → (l : ℕ) → varOf l ≤ n .M → codeAt t k l ≡ codeOf (lit (valuesOf c (first c) (row k)) l)
+    lane-code : (k : ℕ) → k < rows → (l : ℕ) → varOf l ≤ n .M → codeAt t k l ≡ codeOf (lit (valuesOf c (firstState c) (row k)) l)
     lane-code k h l up =
         ap₂ (λ (a b : ℕ). 48 + a + 71 * b) (holds .is k h l up)
         (bit-and k (planeAt t l) (planeAt t (negOf l)) ∙ ap₂ bitAnd (holds .is k h l up) (negated k h l up))
-        ∙ code-bits (lit (valuesOf c (first c) (row k)) l)
+        ∙ code-bits (lit (valuesOf c (firstState c) (row k)) l)
 
     -- the codes of a row
     row-codes : (table : List ℕ) (start stride m : ℕ) (ls : List ℕ) → ls ≡ every table start stride m
         → ((j : ℕ) → j < m → varOf (getD table (stride * j + start) 0) ≤ n .M)
-        → (k : ℕ) → k < rows → codesIn table start stride m t k ≡ map codeOf (map (lit (valuesOf c (first c) (row k))) ls)
+        → (k : ℕ) → k < rows → codesIn table start stride m t k ≡ map codeOf (map (lit (valuesOf c (firstState c) (row k))) ls)
     row-codes table start stride m ls e up k h =
         firsts-same _ _ m (λ j q. lane-code k h (getD table (stride * j + start) 0) (up j q))
         ∙ sym (ap (λ (l : List ℕ). map codeOf (map w l)) e
@@ -92,21 +92,21 @@ module _ {n : Counts} {x : Tables} (r : Runs n x) (bytes : List ℕ) (rows : ℕ
         ∙ map-firsts codeOf (λ j. w (getD table (stride * j + start) 0)) m))
       where
         w : ℕ → Value
-        w = lit (valuesOf c (first c) (row k))
+        w = lit (valuesOf c (firstState c) (row k))
 
     -- O bytes a row
     pub outputs-are : codesOf outputs 0 1 (n .O) rows t ≡ outputBytes (rowSteps c rows bytes)
     outputs-are =
-        ap flat (firsts-same _ (λ k. outputsOfRow (stepOf c (first c) (row k))) rows
+        ap flat (firsts-same _ (λ k. outputsOfRow (stepOf c (firstState c) (row k))) rows
         (λ k h. row-codes outputs 0 1 (n .O) (c .outputs) (outputs-every r) (output-up r) k h)
-        ∙ sym (ap (map outputsOfRow) steps-firsts ∙ map-firsts outputsOfRow (λ k. stepOf c (first c) (row k)) rows))
+        ∙ sym (ap (map outputsOfRow) steps-firsts ∙ map-firsts outputsOfRow (λ k. stepOf c (firstState c) (row k)) rows))
 
     -- L bytes a row
     pub nexts-are : codesOf latches 1 2 (n .L) rows t ≡ nextBytes (rowSteps c rows bytes)
     nexts-are =
-        ap flat (firsts-same _ (λ k. nextOfRow (stepOf c (first c) (row k))) rows
+        ap flat (firsts-same _ (λ k. nextOfRow (stepOf c (firstState c) (row k))) rows
         (λ k h. row-codes latches 1 2 (n .L) (nexts (c .latches)) (nexts-every r) (next-up r) k h)
-        ∙ sym (ap (map nextOfRow) steps-firsts ∙ map-firsts nextOfRow (λ k. stepOf c (first c) (row k)) rows))
+        ∙ sym (ap (map nextOfRow) steps-firsts ∙ map-firsts nextOfRow (λ k. stepOf c (firstState c) (row k)) rows))
 
     -- the values of an output in all rows, and how many are a
     times-snoc : (a : Value) (l : List Value) (b : Value) → times a (l ++ (b ∷ [])) ≡ one-if a b + times a l
@@ -118,14 +118,14 @@ module _ {n : Counts} {x : Tables} (r : Runs n x) (bytes : List ℕ) (rows : ℕ
     times-sum a v (suc m) = times-snoc a (firsts v m) (v m) ∙ ap (λ (x : ℕ). one-if a (v m) + x) (times-sum a v m)
 
     output-value : (k j : ℕ) → j < n .O
-        → getD (outputsOf c (first c) (row k)) j vx ≡ lit (valuesOf c (first c) (row k)) (getD outputs (1 * j + 0) 0)
+        → getD (outputsOf c (firstState c) (row k)) j vx ≡ lit (valuesOf c (firstState c) (row k)) (getD outputs (1 * j + 0) 0)
     output-value k j h =
         ap (λ (ls : List ℕ). getD (map w ls) j vx) (outputs-every r)
         ∙ (ap (λ (l : List Value). getD l j vx) (map-firsts w (λ i. getD outputs (1 * i + 0) 0) (n .O))
         ∙ getD-firsts (λ i. w (getD outputs (1 * i + 0) 0)) (n .O) j vx h)
       where
         w : ℕ → Value
-        w = lit (valuesOf c (first c) (row k))
+        w = lit (valuesOf c (firstState c) (row k))
 
     -- per output the rows at 0, at 1 and at x
     abbrev counted : ℕ → List ℕ
@@ -138,7 +138,7 @@ module _ {n : Counts} {x : Tables} (r : Runs n x) (bytes : List ℕ) (rows : ℕ
         ∙ (λ i. back v0 i ∷ back v1 i ∷ back vx i ∷ []))
       where
         v : ℕ → Value
-        v k = getD (outputsOf c (first c) (row k)) j vx
+        v k = getD (outputsOf c (firstState c) (row k)) j vx
 
         bits : (k : ℕ) → k < rows → (bit k (planeAt t (getD outputs (1 * j + 0) 0)) ≡ may1 (v k))
             × (bit k (planeAt t (negOf (getD outputs (1 * j + 0) 0))) ≡ may0 (v k))
@@ -150,7 +150,7 @@ module _ {n : Counts} {x : Tables} (r : Runs n x) (bytes : List ℕ) (rows : ℕ
         along : outputAlong (rowSteps c rows bytes) j ≡ firsts v rows
         along =
             ap (λ (steps : List Step). outputAlong steps j) steps-firsts
-            ∙ map-firsts (λ (s : Step). getD (s .outputs) j vx) (λ k. stepOf c (first c) (row k)) rows
+            ∙ map-firsts (λ (s : Step). getD (s .outputs) j vx) (λ k. stepOf c (firstState c) (row k)) rows
 
         back : (a : Value) → sum (λ k. one-if a (v k)) rows ≡ times a (outputAlong (rowSteps c rows bytes) j)
         back a = sym (ap (times a) along ∙ times-sum a v rows)

@@ -11,7 +11,7 @@ use lib.Pow.{shr-le}
 use Rattle.plan.specs.declared.Counts.{Counts}
 use Rattle.plan.specs.Literals.{varOf, signOf}
 use Rattle.plan.specs.Circuit.{Gate, Circuit, Tables, circuitOf}
-use Rattle.plan.specs.Step.{Value, v0, v1, vx, valueOf, resetValue, signedValue, lit, valuesOf, first}
+use Rattle.plan.specs.Step.{Value, v0, v1, vx, valueOf, resetValue, signedValue, lit, valuesOf, firstState}
 use Rattle.laws.proofs.Reading.Runs.{BinaryOrder, order-exactly}
 use Rattle.laws.proofs.Tables.{firsts, length-firsts, rowAt, gateAt, gatesAt, gates-rows, row-ends, words-take}
 use Rattle.laws.proofs.Running.Binary.{Binary, inner}
@@ -127,7 +127,7 @@ module _ {n : Counts} {x : Tables} (r : Runs n x) (bytes : List ℕ) (rows : ℕ
   abbrev pub endPlanes : List ℕ
   endPlanes = sweepPlanes (startPlanes bytes (x .resets) (n .I) (n .L) rows) (gatesAt (x .gates) (n .A))
 
-  first-is : startOf (x .resets) (n .L) ≡ first c
+  first-is : startOf (x .resets) (n .L) ≡ firstState c
   first-is =
       sym (ap (map resetValue) (words-take (x .resets) (n .L) (r .fits .resets-long)) ∙ map-firsts resetValue (λ j. getD (x .resets) j 0) (n .L))
 
@@ -162,19 +162,19 @@ module _ {n : Counts} {x : Tables} (r : Runs n x) (bytes : List ℕ) (rows : ℕ
         length-sweep (given s i) (gatesAt (x .gates) (n .A))
         ∙ omega (arith, given-length, length-firsts (gateAt (x .gates)) (n .A), in-order .sum, ni, nl, na)
 
-    value-is : (v : ℕ) → at (sweep (given s i) (gatesAt (x .gates) (n .A))) v ≡ valuesOf c (first c) i v
+    value-is : (v : ℕ) → at (sweep (given s i) (gatesAt (x .gates) (n .A))) v ≡ valuesOf c (firstState c) i v
     value-is v =
         ap (λ (gs : List Gate). at (sweep (given s i) gs) v) (sym (gates-rows (x .gates) (n .A)))
         ∙ (sweep-step c in-order s i (start-length ∙ sym (ap (λ (m : Counts). m .L) (r .counts)))
         (row-length ∙ sym (ap (λ (m : Counts). m .I) (r .counts))) v
         ∙ ap (λ (l : List Value). valuesOf c l i v) first-is)
 
-    lit-value : (l : ℕ) → lit (at (sweep (given s i) (gatesAt (x .gates) (n .A)))) l ≡ lit (valuesOf c (first c) i) l
+    lit-value : (l : ℕ) → lit (at (sweep (given s i) (gatesAt (x .gates) (n .A)))) l ≡ lit (valuesOf c (firstState c) i) l
     lit-value l = ap (signedValue (signOf l)) (value-is (varOf l))
 
     -- lane by lane it equals the plain stepper
     pub lanes-hold : (t : List ℕ) → Begins endPlanes t → (l : ℕ) → varOf l ≤ n .M
-        → bit k (planeAt t l) ≡ may1 (lit (valuesOf c (first c) i) l)
+        → bit k (planeAt t l) ≡ may1 (lit (valuesOf c (firstState c) i) l)
     lanes-hold t b l up =
         ap (bit k) (begins-plane endPlanes t b l (omega (arith, lane-end .two, vals-length)))
         ∙ (lane-end .is l (omega (arith, vals-length)) ∙ ap may1 (lit-value l))

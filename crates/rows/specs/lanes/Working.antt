@@ -8,7 +8,7 @@ use lib.ListN.{length, getD}
 use Rattle.plan.specs.declared.Counts.{Counts}
 use Rattle.plan.specs.Literals.{varOf, negOf}
 use Rattle.plan.specs.Circuit.{Circuit, Tables, seven, flat}
-use Rattle.plan.specs.Step.{valueOf, lit, valuesOf, first}
+use Rattle.plan.specs.Step.{valueOf, lit, valuesOf, firstState}
 use Rattle.laws.proofs.Tables.{firsts, rowAt, gatesAt}
 use Rattle.laws.proofs.Running.Binary.{Binary}
 use Rattle.tables.specs.Held.{Scratch}
@@ -57,7 +57,7 @@ pub record Ready (n : Counts) (gates resets bytes : List ℕ) (rows : ℕ) (t : 
 
 pub record Holds (n : Counts) (c : Circuit) (bytes : List ℕ) (rows : ℕ) (t : List ℕ) : Type 0 where
   pub is : (k : ℕ) → k < rows → (l : ℕ) → varOf l ≤ n .M
-      → bit k (planeAt t l) ≡ may1 (lit (valuesOf c (first c) (map valueOf (rowAt (n .I) bytes k))) l)
+      → bit k (planeAt t l) ≡ may1 (lit (valuesOf c (firstState c) (map valueOf (rowAt (n .I) bytes k))) l)
 
 -- n literals of a table, from `start` on by `stride`, whose planes stand in a table
 abbrev pub literalAt : List ℕ → ℕ → ℕ → ℕ → ℕ

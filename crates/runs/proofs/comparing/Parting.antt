@@ -13,7 +13,7 @@ use Rattle.plan.specs.declared.Traced.{Traced}
 use Rattle.plan.specs.declared.Traced.the-variants as traced
 use Rattle.plan.specs.Refusals.{numberOf, placeOf, firstOf}
 use Rattle.plan.specs.Circuit.{wordsToWork, against}
-use Rattle.plan.specs.Given.{given, stages, orderStage}
+use Rattle.plan.specs.Given.{givenCircuit, stages, orderStage}
 use Rattle.plan.specs.Step.{codeOf, valueOf, run}
 use Rattle.plan.specs.Outcome.{put, tracedValues}
 use Rattle.plan.specs.Programs.{stepLines}
@@ -110,8 +110,8 @@ module _ (e : TraceEntry) (t : List ℕ) (same : length t ≡ length (e .circuit
   exits none = λ j. record {
     answer = traced.Lines (length (nextLines e));
     scratch = replicate (same j) 0;
-    state = map codeOf (stateAfter (given (e .circuit)) (map valueOf (e .state)) (nextLines e));
-    out = put (e .out) 0 (stepLines (run (given (e .circuit)) (map valueOf (e .state)) (nextLines e)));
+    state = map codeOf (stateAfter (givenCircuit (e .circuit)) (map valueOf (e .state)) (nextLines e));
+    out = put (e .out) 0 (stepLines (run (givenCircuit (e .circuit)) (map valueOf (e .state)) (nextLines e)));
   }
   exits (some r) = λ j. record { answer = traced.Refused r; scratch = replicate (same j) 0; state = e .state; out = e .out }
 

@@ -17,7 +17,7 @@ use Rattle.plan.specs.Circuit.{Circuit, Tables, circuitOf}
 use Rattle.plan.specs.Given.{failingAt}
 use Rattle.plan.specs.Reading.{readToWork}
 use Rattle.plan.specs.Convert.{convert}
-use Rattle.plan.specs.Step.{codeOf, valueOf, run, first}
+use Rattle.plan.specs.Step.{codeOf, valueOf, run, firstState}
 use Rattle.plan.specs.Programs.{lentWords, refusalLine, printed, input, stimulus, stepLines, tracer}
 use Rattle.plan.specs.Whole.{lineWidth, countLines, trace}
 use Rattle.plan.specs.Plain.{manyGates, comparer}
@@ -33,7 +33,7 @@ module _ (file : List ℕ) (c : Circuit) (start : ℕ) (short : length file ≤ 
   abbrev after : Circuit → ℕ → Parse (List ℕ)
   after d _ = input source λ bytes.
       stimulus (length (d .inputs)) bytes then λ list end.
-      got (stepLines (run (convert d) (first (convert d)) (map (map valueOf) list))) end
+      got (stepLines (run (convert d) (firstState (convert d)) (map (map valueOf) list))) end
 
   opened : (f : Circuit → ℕ → Parse (List ℕ))
       → printed (input (some file) (λ bytes. readToWork bytes lentWords lentWords then f)) ≡ printed (f c start)
@@ -91,7 +91,7 @@ both-trace {n} {t} {scratch} {state} {out} {twin} {again} {vectors} few a b (one
 pub calls-compare : (file : List ℕ) (c : Circuit) (start : ℕ) → length file ≤ 65536 → readToWork file lentWords lentWords ≡ got c start
     → length (c .gates) ≤ 24 → (bytes : List ℕ) (k : ℕ) → countLines (some bytes) (length (c .inputs)) ≡ traced.Lines k
     → (n : Counts) (t : Tables) → circuitOf n t ≡ convert c → n .A ≤ 24 → (scratch out printed : List ℕ)
-    → BothCalls n t scratch (map codeOf (first (convert c))) out (map codeOf (first (convert c))) out bytes printed
+    → BothCalls n t scratch (map codeOf (firstState (convert c))) out (map codeOf (firstState (convert c))) out bytes printed
     → printed ≡ comparer (some file) (some bytes)
 calls-compare file c start short reads few bytes k counted n t holds small scratch out printed calls =
     calls-trace file c start short reads bytes k counted n t holds scratch printed (both-trace small refl refl calls)

@@ -17,10 +17,10 @@ use Rattle.plan.specs.declared.Traced.the-variants.{Lines, Refused}
 use Rattle.plan.specs.declared.Stepped.the-variants as stepped
 use Rattle.plan.specs.Refusals.{Parse, got, refused, _then_, unless, firstOf}
 use Rattle.plan.specs.Circuit.{Circuit}
-use Rattle.plan.specs.Given.{given, failingAt}
+use Rattle.plan.specs.Given.{givenCircuit, failingAt}
 use Rattle.plan.specs.Reading.{readToWork}
 use Rattle.plan.specs.Convert.{convert}
-use Rattle.plan.specs.Step.{Value, valueOf, Step, run, first, vectorsOf}
+use Rattle.plan.specs.Step.{Value, valueOf, Step, run, firstState, vectorsOf}
 use Rattle.plan.specs.Programs.{lentWords, refusalLine, printed, input, linesIn, allVectors, stimulus}
 use Rattle.plan.specs.Whole.{countedBy, countLines}
 use Rattle.plan.specs.Report.{inTurn, numbersOf, outputAlong, latchAlong, needles, reportOf, ReportEntry, reportedBy, reportStages, report}
@@ -82,7 +82,7 @@ module _ (file : List ℕ) (c : Circuit) (start : ℕ) (short : length file ≤ 
   abbrev report-lines : Circuit → List (List ℕ) → ℕ → Parse (List ℕ)
   report-lines c list end =
       let d = convert c in
-      got (needleLines (length (d .outputs)) (length (d .latches)) (needles d (run d (first d) (map (map valueOf) list)))) end
+      got (needleLines (length (d .outputs)) (length (d .latches)) (needles d (run d (firstState d) (map (map valueOf) list)))) end
 
   abbrev after-file : Circuit → ℕ → Parse (List ℕ)
   after-file c _ =
@@ -114,7 +114,7 @@ module _ (file : List ℕ) (c : Circuit) (start : ℕ) (short : length file ≤ 
 
     -- or tells how many there are: a report that is done on the converted circuit and the packed lines, its lines put where there is room for all
     pub reporter-prints : (bytes : List ℕ) → source ≡ some bytes → (k : ℕ) → countLines source (length (c .inputs)) ≡ Lines k
-        → (e : ReportEntry) → given (e .circuit) ≡ convert c → e .number ≡ k → e .bytes ≡ packed bytes → report e .answer ≡ stepped.Done
+        → (e : ReportEntry) → givenCircuit (e .circuit) ≡ convert c → e .number ≡ k → e .bytes ≡ packed bytes → report e .answer ≡ stepped.Done
         → (out : List ℕ) → 4 * (length (convert c .outputs) + length (convert c .latches)) ≤ length (report e .six)
         → 66 * (length (convert c .outputs) + length (convert c .latches)) ≤ length out
         → fittingLines (length (convert c .outputs)) (length (convert c .latches)) (report e .six) out ≡ reporter (some file) source
@@ -131,18 +131,18 @@ module _ (file : List ℕ) (c : Circuit) (start : ℕ) (short : length file ≤ 
         let list = map (map valueOf) (linesIn bytes) in
         let wide : allVectors (length (d .inputs)) (linesIn bytes) ≡ true
         = ap (λ (w : ℕ). allVectors w (linesIn bytes)) (length-lits 1 n) ∙ good .1 in
-        let vectors : vectorsOf (given (e .circuit)) (e .number) (e .bytes) ≡ list
+        let vectors : vectorsOf (givenCircuit (e .circuit)) (e .number) (e .bytes) ≡ list
         = (λ j. vectorsOf (holds j) ((number ∙ sym (good .2)) j) (packs j)) ∙ vectors-packed d bytes (good .0) wide in
-        let numbers : reportOf (given (e .circuit)) (e .number) (e .bytes) ≡ needles d (run d (first d) list)
-        = ap₂ (λ (x : Circuit) (l : List (List Value)). needles x (run x (first x) l)) holds vectors in
+        let numbers : reportOf (givenCircuit (e .circuit)) (e .number) (e .bytes) ≡ needles d (run d (firstState d) list)
+        = ap₂ (λ (x : Circuit) (l : List (List Value)). needles x (run x (firstState x) l)) holds vectors in
         let o = length (d .outputs) in
         let l = length (d .latches) in
-        let rest : List ℕ = replicate (length (e .six) - length (reportOf (given (e .circuit)) (e .number) (e .bytes))) 0 in
-        let table : report e .six ≡ needles d (run d (first d) list) ++ rest
+        let rest : List ℕ = replicate (length (e .six) - length (reportOf (givenCircuit (e .circuit)) (e .number) (e .bytes))) 0 in
+        let table : report e .six ≡ needles d (run d (firstState d) list) ++ rest
         = ap (λ (z : Option Refusal). reportedBy z e .six)
         (stepped-none (λ z. reportedBy z e .answer) (λ r. refl) (firstOf (reportStages e)) done)
         ∙ ap (λ (x : List ℕ). x ++ rest) numbers in
         all-fit o l (report e .six) out words room
         ∙ (ap (needleLines o l) table
-        ∙ (lines-first o l (needles d (run d (first d) list)) rest (omega (arith, needles-long d (run d (first d) list)))
+        ∙ (lines-first o l (needles d (run d (firstState d) list)) rest (omega (arith, needles-long d (run d (firstState d) list)))
         ∙ sym (accepted ∙ ap (λ (p : Parse (List (List ℕ))). printed (p then report-lines c)) whole)))

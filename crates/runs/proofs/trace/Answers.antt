@@ -17,8 +17,8 @@ use Rattle.plan.specs.declared.Traced.the-variants.{Lines, Refused}
 use Rattle.plan.specs.Refusals.{stage, firstOf}
 use Rattle.plan.specs.Circuit.{cleared}
 use Rattle.plan.specs.Step.{Value, codeOf, valueOf, run}
-use Rattle.plan.specs.Given.{given, orElse}
-use Rattle.plan.specs.Outcome.{allCodes, vector, put}
+use Rattle.plan.specs.Given.{givenCircuit, orElse, failingAt}
+use Rattle.plan.specs.Outcome.{allCodes, put}
 use Rattle.plan.specs.Programs.{linesIn, allVectors, stepLines}
 use Rattle.plan.specs.Whole.{TraceEntry, TraceExit, traceStage, lineWidth, nextLines, stateAfter, tracedBy, trace}
 use Rattle.laws.proofs.Reading.Common.{and-left, and-right}
@@ -29,7 +29,7 @@ use Rattle.runs.specs.trace.Tracing.{Listed, Left, firstOnes, judged}
 
 -- what was judged
 abbrev pub bad : Bool → Bool → Option Refusal
-bad s v = stage BadVector (orElse (vector 1 s) (vector 2 v))
+bad s v = stage BadVector (orElse (failingAt 1 s) (failingAt 2 v))
 
 some-bad : (s v : Bool) (k : ℕ) (r : Refusal) → judged s v k ≡ Refused r → bad s v ≡ some r
 some-bad true true k r e = let z : _≡_ {A = ℕ} 0 1 = cc in absurd (omega arith)
@@ -99,7 +99,7 @@ module _ (e : TraceEntry) where
           (past ∙ ap (λ (o : Option Refusal). firstOf (o ∷ [])) (some-bad state-good whole (length lines) r (sym says ∙ is)))
 
       pub done-trace : (m : ℕ) → a ≡ Lines m → (number : ℕ) → number ≡ min m (length (e .out) / lineWidth (e .circuit .counts))
-          → (state′ out′ : List ℕ) → Left (given (e .circuit)) (e .state) (firstOnes number (e .vectors)) state′ (e .out) out′
+          → (state′ out′ : List ℕ) → Left (givenCircuit (e .circuit)) (e .state) (firstOnes number (e .vectors)) state′ (e .out) out′
           → _≡_ {A = TraceExit} (record { answer = Lines number; scratch = t; state = state′; out = out′ }) (trace e)
       done-trace m is number fit state′ out′ l =
           (λ j. record { answer = Lines (count j); scratch = blank j; state = state-is j; out = out-is j })
@@ -114,14 +114,14 @@ module _ (e : TraceEntry) where
           list-is : firstOnes number (e .vectors) ≡ nextLines e
           list-is = ap (λ (k : ℕ). firstOnes k (e .vectors)) same
 
-          state-is : state′ ≡ map codeOf (stateAfter (given (e .circuit)) (map valueOf (e .state)) (nextLines e))
+          state-is : state′ ≡ map codeOf (stateAfter (givenCircuit (e .circuit)) (map valueOf (e .state)) (nextLines e))
           state-is =
-              l .state-is ∙ ap (λ (x : List (List Value)). map codeOf (stateAfter (given (e .circuit)) (map valueOf (e .state)) x)) list-is
+              l .state-is ∙ ap (λ (x : List (List Value)). map codeOf (stateAfter (givenCircuit (e .circuit)) (map valueOf (e .state)) x)) list-is
 
-          out-is : out′ ≡ put (e .out) 0 (stepLines (run (given (e .circuit)) (map valueOf (e .state)) (nextLines e)))
+          out-is : out′ ≡ put (e .out) 0 (stepLines (run (givenCircuit (e .circuit)) (map valueOf (e .state)) (nextLines e)))
           out-is =
               l .lines
-              ∙ ap (λ (x : List (List Value)). put (e .out) 0 (stepLines (run (given (e .circuit)) (map valueOf (e .state)) x))) list-is
+              ∙ ap (λ (x : List (List Value)). put (e .out) 0 (stepLines (run (givenCircuit (e .circuit)) (map valueOf (e .state)) x))) list-is
 
           nothing : bad state-good whole ≡ none
           nothing = ap₂ bad (told m is .0) (told m is .1)

@@ -15,7 +15,7 @@ use Rattle.plan.specs.declared.Traced.the-variants.{Lines}
 use Rattle.plan.specs.Refusals.{firstOf}
 use Rattle.plan.specs.Circuit.{Tables, wordsToWork, against}
 use Rattle.plan.specs.Step.{Value, codeOf, valueOf}
-use Rattle.plan.specs.Given.{given, lentAlone}
+use Rattle.plan.specs.Given.{givenCircuit, lentAlone}
 use Rattle.plan.specs.Outcome.{allCodes}
 use Rattle.plan.specs.Programs.{linesIn, allVectors}
 use Rattle.plan.specs.Whole.{TraceEntry, TraceExit, traceStage, lineWidth, nextLines, stateAfter, tracedBy, trace}
@@ -65,7 +65,7 @@ module _ (e : TraceEntry) (k : ℕ) (said : trace e .answer ≡ Lines k) (out : 
       ∙ good-drop (n .I) k (linesIn (e .vectors)) (whole e k said))
 
   abbrev after : List Value
-  after = stateAfter (given (e .circuit)) (map valueOf (e .state)) (nextLines e)
+  after = stateAfter (givenCircuit (e .circuit)) (map valueOf (e .state)) (nextLines e)
 
   state-is : trace e .state ≡ map codeOf after
   state-is = ap (λ (x : TraceExit). x .state) (outcome e k said)

@@ -16,7 +16,7 @@ use Rattle.plan.specs.declared.Traced.the-variants.{Lines}
 use Rattle.plan.specs.Refusals.{firstOf}
 use Rattle.plan.specs.Circuit.{Circuit, Tables, circuitOf}
 use Rattle.plan.specs.Step.{Value, valueOf, run}
-use Rattle.plan.specs.Given.{given, lentAlone}
+use Rattle.plan.specs.Given.{givenCircuit, lentAlone}
 use Rattle.plan.specs.Outcome.{allCodes}
 use Rattle.plan.specs.Programs.{linesIn, allVectors, stepLines}
 use Rattle.plan.specs.Whole.{TraceEntry, TraceExit, traceStage, lineWidth, nextLines, stateAfter, tracedBy, trace}
@@ -50,7 +50,7 @@ module _ (e : TraceEntry) (k : ℕ) (said : trace e .answer ≡ Lines k) where
   n = e .circuit .counts
 
   abbrev c : Circuit
-  c = given (e .circuit)
+  c = givenCircuit (e .circuit)
 
   abbrev s : List Value
   s = map valueOf (e .state)

@@ -17,7 +17,7 @@ use Rattle.plan.specs.Refusals.{Parse, got, refused, _then_}
 use Rattle.plan.specs.Circuit.{Circuit, Tables, circuitOf}
 use Rattle.plan.specs.Reading.{readToWork}
 use Rattle.plan.specs.Convert.{convert}
-use Rattle.plan.specs.Step.{Value, codeOf, valueOf, run, first}
+use Rattle.plan.specs.Step.{Value, codeOf, valueOf, run, firstState}
 use Rattle.plan.specs.Programs.{lentWords, refusalLine, printed, input, linesIn, allVectors, stimulus, stepLines, tracer}
 use Rattle.plan.specs.Whole.{countedBy, countLines}
 use Rattle.laws.proofs.Writing.Stepping.{codes-values}
@@ -26,7 +26,7 @@ use Rattle.runs.proofs.trace.InParts.{values, Calls, calls-print}
 
 -- what is printed of standard input's lines
 abbrev tracedLines : Circuit → List (List ℕ) → ℕ → Parse (List ℕ)
-tracedLines c list end = got (stepLines (run (convert c) (first (convert c)) (map (map valueOf) list))) end
+tracedLines c list end = got (stepLines (run (convert c) (firstState (convert c)) (map (map valueOf) list))) end
 
 abbrev of-lines : Circuit → Parse (List (List ℕ)) → List ℕ
 of-lines c p = printed (p then tracedLines c)
@@ -79,7 +79,7 @@ module _ (file : List ℕ) (c : Circuit) (start : ℕ) (short : length file ≤ 
 
   -- or tells how many there are
   pub tracer-prints : (bytes : List ℕ) → source ≡ some bytes → (k : ℕ) → countLines source width ≡ Lines k
-      → tracer (some file) source ≡ stepLines (run (convert c) (first (convert c)) (values bytes))
+      → tracer (some file) source ≡ stepLines (run (convert c) (firstState (convert c)) (values bytes))
   tracer-prints bytes is k e =
       let whole : input source (stimulus width) ≡ got (linesIn bytes) (length bytes)
       = ap (λ (o : Option (List ℕ)). input o (stimulus width)) is
@@ -91,9 +91,9 @@ module _ (file : List ℕ) (c : Circuit) (start : ℕ) (short : length file ≤ 
 pub calls-trace : (file : List ℕ) (c : Circuit) (start : ℕ) → length file ≤ 65536 → readToWork file lentWords lentWords ≡ got c start
     → (bytes : List ℕ) (k : ℕ) → countLines (some bytes) (length (c .inputs)) ≡ Lines k
     → (n : Counts) (t : Tables) → circuitOf n t ≡ convert c → (scratch out : List ℕ)
-    → Calls n t scratch (map codeOf (first (convert c))) bytes out
+    → Calls n t scratch (map codeOf (firstState (convert c))) bytes out
     → out ≡ tracer (some file) (some bytes)
 calls-trace file c start short reads bytes k counted n t holds scratch out calls =
     calls-print calls
-    ∙ (ap₂ (λ (d : Circuit) (s : List Value). stepLines (run d s (values bytes))) holds (codes-values (first (convert c)))
+    ∙ (ap₂ (λ (d : Circuit) (s : List Value). stepLines (run d s (values bytes))) holds (codes-values (firstState (convert c)))
     ∙ sym (tracer-prints file c start short reads (some bytes) bytes refl k counted))

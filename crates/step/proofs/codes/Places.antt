@@ -6,15 +6,15 @@ use mathlib.Core.Option.{Option, none, some}
 use mathlib.Core.List.{List}
 use lib.Dec.{eqb}
 use lib.ListN.{length}
-use Rattle.plan.specs.Given.{orElse}
-use Rattle.plan.specs.Outcome.{allCodes, vector}
+use Rattle.plan.specs.Given.{orElse, failingAt}
+use Rattle.plan.specs.Outcome.{allCodes}
 
 abbrev pub codesIn : List ℕ → ℕ → Bool
 codesIn bytes n = eqb (length bytes) n && allCodes bytes
 
 -- the state's, the inputs' and the outputs' vectors are good
 abbrev pub firstBad : Bool → Bool → Bool → Option ℕ
-firstBad s i o = orElse (vector 1 s) (orElse (vector 2 i) (vector 3 o))
+firstBad s i o = orElse (failingAt 1 s) (orElse (failingAt 2 i) (failingAt 3 o))
 
 module _ (s i o : Bool) where
   pub bad-state : s ≡ false → some 1 ≡ firstBad s i o
@@ -23,11 +23,11 @@ module _ (s i o : Bool) where
   pub bad-inputs : s ≡ true → i ≡ false → some 2 ≡ firstBad s i o
   bad-inputs e f = sym (ap₂ (λ (a b : Bool). firstBad a b o) e f)
 
-  last : s ≡ true → i ≡ true → firstBad s i o ≡ vector 3 o
+  last : s ≡ true → i ≡ true → firstBad s i o ≡ failingAt 3 o
   last e f = ap₂ (λ (a b : Bool). firstBad a b o) e f
 
   pub bad-outputs : s ≡ true → i ≡ true → o ≡ false → some 3 ≡ firstBad s i o
-  bad-outputs e f g = sym (last e f ∙ ap (vector 3) g)
+  bad-outputs e f g = sym (last e f ∙ ap (failingAt 3) g)
 
   pub none-bad : s ≡ true → i ≡ true → o ≡ true → none ≡ firstBad s i o
-  none-bad e f g = sym (last e f ∙ ap (vector 3) g)
+  none-bad e f g = sym (last e f ∙ ap (failingAt 3) g)

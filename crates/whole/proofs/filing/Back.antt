@@ -14,8 +14,8 @@ use Rattle.plan.specs.Refusals.{Parse, got, refused, _then_}
 use Rattle.plan.specs.Circuit.{Circuit, lengthsOf}
 use Rattle.plan.specs.Header.{binary, formIn}
 use Rattle.plan.specs.Binary.{binaryOf, binaryOrder}
-use Rattle.plan.specs.Reading.{States, Room}
-use Rattle.plan.specs.Given.{room}
+use Rattle.plan.specs.Reading.{States, LongEnough}
+use Rattle.plan.specs.Given.{lackingRoom}
 use Rattle.plan.specs.Outcome.{put}
 use Rattle.plan.specs.Programs.{input}
 use Rattle.plan.specs.Whole.{fittingIn}
@@ -45,7 +45,7 @@ came plan file f bytes k e q =
     cond-got (leb (length file) 65536) (f file) (LongInput 65536) bytes k (ap (λ (x : Option (List ℕ)). input x f) (sym e) ∙ q) .1
 
 fitted : (out bytes b : List ℕ) (k : ℕ) → fittingIn out b ≡ got bytes k → b ≡ bytes
-fitted out bytes b k q = got-value b bytes (length b) k (unless-got (room out 0 b) _ _ bytes k q .1)
+fitted out bytes b k q = got-value b bytes (length b) k (unless-got (lackingRoom out 0 b) _ _ bytes k q .1)
 
 module _ (e : CardEntry) (file : List ℕ) (plan : e .plan ≡ some file) (n : ℕ) where
   pub filed : fileWhole e .answer ≡ written.Bytes n
@@ -104,21 +104,21 @@ binary-and-back e file plan bytes n a form short f filed-again between m b =
 
 -- with room neither call refuses, and the last buffer holds the file, all else as it was
 filed-done : (e : CardEntry) (file : List ℕ) → e .plan ≡ some file → length file ≤ 65536 → (c : Circuit) → CardStates file c
-    → Room c (lengthsOf (e .tables) (e .scratch)) → length (binaryOf c) ≤ length (e .out)
+    → LongEnough c (lengthsOf (e .tables) (e .scratch)) → length (binaryOf c) ≤ length (e .out)
     → fileWhole e ≡ movedBy e (got (binaryOf c) (length (binaryOf c)))
-filed-done e file plan fits c s room space =
+filed-done e file plan fits c s lackingRoom space =
     let lens = lengthsOf (e .tables) (e .scratch) in
     let read : readCards file lens ≡ got c (length (cardsOf c))
-    = ap (λ (x : List ℕ). readCards x lens) (s .cards) ∙ cards-read c (s .formed) (s .order) (s .held) lens room in
+    = ap (λ (x : List ℕ). readCards x lens) (s .cards) ∙ cards-read c (s .formed) (s .order) (s .held) lens lackingRoom in
     ap (movedBy e) (input-done (e .plan) file (λ x. readCards x lens then λ d _. fittingIn (e .out) (binaryOf d)) plan fits
     ∙ (ap (λ (p : Parse Circuit). p then λ d _. fittingIn (e .out) (binaryOf d)) read ∙ fitting-done (e .out) (binaryOf c) space))
 
 carded-done : (e : CardEntry) (file : List ℕ) → e .plan ≡ some file → length file ≤ 65536 → (c : Circuit) → States V19 file c [] → binaryOrder c ≡ true
-    → holdable c ≡ true → Room c (lengthsOf (e .tables) (e .scratch)) → length (cardsOf c) ≤ length (e .out)
+    → holdable c ≡ true → LongEnough c (lengthsOf (e .tables) (e .scratch)) → length (cardsOf c) ≤ length (e .out)
     → cardWhole e ≡ movedBy e (got (cardsOf c) (length (cardsOf c)))
-carded-done e file plan fits c s order held room space =
+carded-done e file plan fits c s order held lackingRoom space =
     let lens = lengthsOf (e .tables) (e .scratch) in
-    let read = stated-to-card file c lens s order held room in
+    let read = stated-to-card file c lens s order held lackingRoom in
     ap (movedBy e) (input-done (e .plan) file (λ x. readToCard x lens then λ d _. fittingIn (e .out) (cardsOf d)) plan fits
     ∙ (ap (λ (p : Parse Circuit). p then λ d _. fittingIn (e .out) (cardsOf d)) (read .1) ∙ fitting-done (e .out) (cardsOf c) space))
 
@@ -127,15 +127,15 @@ first-bytes : (e : CardEntry) (bytes : List ℕ) (x : CardExit) → x ≡ movedB
 first-bytes e bytes x said = ap (λ (y : CardExit). take (length bytes) (y .out)) said ∙ put-first (e .out) bytes
 
 module _ (e : CardEntry) (file : List ℕ) (plan : e .plan ≡ some file) (fits : length file ≤ 65536) (c : Circuit)
-    (room : Room c (lengthsOf (e .tables) (e .scratch))) where
+    (room : LongEnough c (lengthsOf (e .tables) (e .scratch))) where
   -- the carder after the filer
   pub cards-with-room : CardStates file c → length (binaryOf c) ≤ length (e .out)
       → (fileWhole e .answer ≡ written.Bytes (length (binaryOf c)))
       × ((f : CardEntry) → f .plan ≡ some (take (length (binaryOf c)) (fileWhole e .out)) → length (binaryOf c) ≤ 65536
-      → Room c (lengthsOf (f .tables) (f .scratch)) → length file ≤ length (f .out)
+      → LongEnough c (lengthsOf (f .tables) (f .scratch)) → length file ≤ length (f .out)
       → cardWhole f ≡ movedBy f (got file (length file)))
   cards-with-room s space =
-      let first = filed-done e file plan fits c s room space in
+      let first = filed-done e file plan fits c s lackingRoom space in
       let there = binaryOf c in
       let itself = states-binary there c [] (s .formed) (no-tail c) (sym (append-nil there)) (s .order) in (
         ap (λ (x : CardExit). x .answer) first,
@@ -149,11 +149,11 @@ module _ (e : CardEntry) (file : List ℕ) (plan : e .plan ≡ some file) (fits 
   pub binary-with-room : States V19 file c [] → formIn file ≡ binary → ShortestForm file → holdable c ≡ true → length (cardsOf c) ≤ length (e .out)
       → (cardWhole e .answer ≡ written.Bytes (length (cardsOf c)))
       × ((f : CardEntry) → f .plan ≡ some (take (length (cardsOf c)) (cardWhole e .out)) → length (cardsOf c) ≤ 65536
-      → Room c (lengthsOf (f .tables) (f .scratch)) → length file ≤ length (f .out)
+      → LongEnough c (lengthsOf (f .tables) (f .scratch)) → length file ≤ length (f .out)
       → fileWhole f ≡ movedBy f (got file (length file)))
   binary-with-room s form short held space =
       let b = shortest-binary file c form short s in
-      let first = carded-done e file plan fits c s (b .1) held room space in
+      let first = carded-done e file plan fits c s (b .1) held lackingRoom space in
       let there = cardsOf c in
       let itself : CardStates there c = record { cards = refl; formed = formed V19 file c [] s; order = b .1; held = held } in (
         ap (λ (x : CardExit). x .answer) first,

@@ -20,7 +20,7 @@ use Rattle.plan.specs.Refusals.{Parse, got, refused, _then_, unless, stage, fir
 use Rattle.plan.specs.Circuit.{Circuit, Tables, lengthsOf, cleared, allCleared}
 use Rattle.plan.specs.Binary.{binaryOf, binaryOrder}
 use Rattle.plan.specs.Tail.{TailOk}
-use Rattle.plan.specs.Given.{Given, given, lentAlone, failing, stages, orderStage, refusalOf, tailStage, room, roomStage}
+use Rattle.plan.specs.Given.{Given, givenCircuit, lentAlone, failing, stages, orderStage, refusalOf, tailStage, lackingRoom, roomStage}
 use Rattle.plan.specs.Outcome.{WriteExit, ReadEntry, LoadExit, loadBy, FileEntry, FileExit, writtenBy, writeBinary}
 use Rattle.plan.specs.Programs.{input}
 use Rattle.plan.specs.Whole.{inputOf, fittingIn}
@@ -91,8 +91,8 @@ module _ (e : ReadEntry) (x : LoadExit) (said : x ≡ loadCards e) where
         let nothing : tail ≡ []
         = t-is ∙ (part-from start (e .file) ∙ (ap (λ (k : ℕ). drop k (e .file)) cards-end ∙ drop-length (e .file))) in
         let f : FileEntry = record { circuit = g; tail = []; out = out } in
-        let file : List ℕ = binaryOf (given g) ++ [] in
-        let in-order : binaryOrder (given g) ≡ true
+        let file : List ℕ = binaryOf (givenCircuit g) ++ [] in
+        let in-order : binaryOrder (givenCircuit g) ≡ true
         = ap binaryOrder (l .holds) ∙ cards-order (e .file) (lengthsOf (e .tables) (e .scratch)) c start (cards-got .1) in
         let last : firstOf (stages g (lentAlone g) ++ (orderStage g ∷ tailStage g [] ∷ roomStage out file ∷ [])) ≡ roomStage out file
         = both-first (stages g (lentAlone g)) (orderStage g ∷ tailStage g [] ∷ roomStage out file ∷ []) (l .fine)
@@ -100,9 +100,9 @@ module _ (e : ReadEntry) (x : LoadExit) (said : x ≡ loadCards e) where
         let told : y ≡ writtenBy (roomStage out file) f file
         = y-is ∙ (ap (λ (t : List ℕ). writeBinary (record { circuit = g; tail = t; out = out })) nothing
         ∙ ap (λ (o : Option Refusal). writtenBy o f file) last) in
-        let file-is : file ≡ binaryOf c = append-nil (binaryOf (given g)) ∙ ap binaryOf (l .holds) in
+        let file-is : file ≡ binaryOf c = append-nil (binaryOf (givenCircuit g)) ∙ ap binaryOf (l .holds) in
         (λ i. record { answer = told i .answer; out = told i .out })
-        ∙ (wrote-by f file (room out 0 file)
+        ∙ (wrote-by f file (lackingRoom out 0 file)
         ∙ (ap (λ (t : List ℕ). toldBy out (fittingIn out t)) file-is
         ∙ ap (λ (p : Parse Circuit). toldBy out (p then λ d _. fittingIn out (binaryOf d))) (sym (cards-got .1))))
 
@@ -118,7 +118,7 @@ onCards file c start =
     past (failing (eqb (length (drop start file)) 0 && holdable c)) NotOnCards then λ _ _.
     got c start
 
-by-stages : (c : Circuit) (start : ℕ) (f : FileEntry) (a b : Bool) (o : Option ℕ) → room (f .out) 0 (cardsOf c) ≡ o
+by-stages : (c : Circuit) (start : ℕ) (f : FileEntry) (a b : Bool) (o : Option ℕ) → lackingRoom (f .out) 0 (cardsOf c) ≡ o
     → _≡_ {A = WriteExit} (record {
       answer = writtenBy (firstOf (stage NotInOrder (failing a) ∷ none ∷ stage NotOnCards (failing b) ∷ stage ShortBuffer o ∷ [])) f (cardsOf c) .answer;
       out = writtenBy (firstOf (stage NotInOrder (failing a) ∷ none ∷ stage NotOnCards (failing b) ∷ stage ShortBuffer o ∷ [])) f (cardsOf c) .out;
@@ -152,7 +152,7 @@ module _ (readable : Bool) (file : List ℕ) (t : Tables) (scratch out : List �
   not-carded r q = sym (ap (toldBy out) (carded-by ∙ ap (λ (p : Parse Circuit). p then later file) q))
 
   pub file-carded : (g : Given) (start : ℕ)
-      → opened (record { readable = readable; file = file; tables = t; scratch = scratch; made = sizesOf t }) ≡ got (given g) start
+      → opened (record { readable = readable; file = file; tables = t; scratch = scratch; made = sizesOf t }) ≡ got (givenCircuit g) start
       → firstOf (stages g (lentAlone g)) ≡ none → TailOk V19 (g .counts) (drop start file)
       → (tail : List ℕ) → tail ≡ midOf start (length file - start) file
       → (y : FileExit) → y ≡ writeCards (record { circuit = g; tail = tail; out = out })
@@ -160,7 +160,7 @@ module _ (readable : Bool) (file : List ℕ) (t : Tables) (scratch out : List �
       (toldBy out (cardedFile (record { plan = inputOf readable file; tables = t; scratch = scratch; out = out })))
   file-carded g start q fine tail-ok tail t-is y y-is =
       let rest : List ℕ = drop start file in
-      let c : Circuit = given g in
+      let c : Circuit = givenCircuit g in
       let f : FileEntry = record { circuit = g; tail = rest; out = out } in
       let f-is : y ≡ writeCards f
       = y-is ∙ ap (λ (l : List ℕ). writeCards (record { circuit = g; tail = l; out = out })) (t-is ∙ part-from start file) in
@@ -171,7 +171,7 @@ module _ (readable : Bool) (file : List ℕ) (t : Tables) (scratch out : List �
       ∙ ap (λ (x : Option Refusal). firstOf (orderStage g ∷ x ∷ cardStage g rest ∷ roomStage out (cardsOf c) ∷ [])) passed in
       let told = f-is ∙ ap (λ (x : Option Refusal). writtenBy x f (cardsOf c)) last in
       (λ i. record { answer = told i .answer; out = told i .out })
-      ∙ (by-stages c start f (binaryOrder c) (eqb (length rest) 0 && holdable c) (room out 0 (cardsOf c)) refl
+      ∙ (by-stages c start f (binaryOrder c) (eqb (length rest) 0 && holdable c) (lackingRoom out 0 (cardsOf c)) refl
       ∙ sym (ap (toldBy out) (carded-by ∙ ap (λ (p : Parse Circuit). p then later file) q)))
 
 -- all tables zero

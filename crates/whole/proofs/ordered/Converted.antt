@@ -9,11 +9,11 @@ use Rattle.plan.specs.declared.Refusal.{Refusal}
 use Rattle.plan.specs.declared.Made.the-variants as made
 use Rattle.plan.specs.Refusals.{Parse, got, refused, firstOf}
 use Rattle.plan.specs.Circuit.{Circuit, Tables, countsOf, holding, allCleared, cleared}
-use Rattle.plan.specs.Given.{Given, given, lentWith, stages}
+use Rattle.plan.specs.Given.{Given, givenCircuit, lentWith, stages}
 use Rattle.plan.specs.Convert.{convert}
 use Rattle.plan.specs.Outcome.{MakeEntry, MakeExit, madeBy, conversion}
 use Rattle.plan.specs.Programs.{input}
-use Rattle.plan.specs.Whole.{WholeEntry, OpenExit, inputOf, loaded, openBy, openWhole}
+use Rattle.plan.specs.Whole.{WholeEntry, OpenExit, inputOf, fileCircuit, openBy, openWhole}
 use Rattle.tables.specs.Lengths.{sizesOf}
 use Rattle.read.proofs.Loads.{same-cleared}
 use Rattle.whole.specs.Opening.{OpenEntry, opened, Ready}
@@ -44,12 +44,12 @@ module _ (readable : Bool) (file : List ℕ) (read lent : Tables) (scratch : Lis
       ∙ sym (ap leftBy (open-is ∙ ap (openBy w) q))
 
   -- tables that stand ready are converted
-  pub opened-made : (g : Given) (start : ℕ) → opened e ≡ got (given g) start → (tail : List ℕ) → Ready g tail (sizesOf lent)
+  pub opened-made : (g : Given) (start : ℕ) → opened e ≡ got (givenCircuit g) start → (tail : List ℕ) → Ready g tail (sizesOf lent)
       → length (g .scratch) ≡ length scratch → (x : MakeExit) → x ≡ conversion (record { circuit = g; written = lent })
       → x ≡ leftBy (openWhole w)
   opened-made g start q tail ready same x said =
       let m : MakeEntry = record { circuit = g; written = lent } in
-      let c = convert (given g) in
+      let c = convert (givenCircuit g) in
       said
       ∙ (accepts (firstOf (stages g (lentWith g lent))) m c (not-refused _ _ tail (converts g lent tail ready) (conversion m) refl)
       ∙ ((λ i. record { answer = made.Accepted (countsOf c); written = holding lent c; scratch = same-cleared (g .scratch) scratch same i })
@@ -59,7 +59,7 @@ module _ (readable : Bool) (file : List ℕ) (read lent : Tables) (scratch : Lis
 pub closed : (w : WholeEntry) (x : MakeExit) → x ≡ leftBy (openWhole w) → (read : Tables) → read ≡ allCleared (w .read)
     → _≡_ {A = OpenExit} (record { answer = x .answer; read = read; made = x .written; scratch = x .scratch }) (openWhole w)
 closed w x said read r =
-    (λ i. record { answer = said i .answer; read = r i; made = said i .written; scratch = said i .scratch }) ∙ go (input (w .plan) (loaded w))
+    (λ i. record { answer = said i .answer; read = r i; made = said i .written; scratch = said i .scratch }) ∙ go (input (w .plan) (fileCircuit w))
   where
     go : (p : Parse Circuit) → _≡_ {A = OpenExit} (record {
       answer = openBy w p .answer;

@@ -14,8 +14,8 @@ use Rattle.plan.specs.declared.Verdict.the-variants.{Yes, No, Refused}
 use Rattle.plan.specs.Refusals.{stage, firstOf}
 use Rattle.plan.specs.Circuit.{cleared}
 use Rattle.plan.specs.Step.{witnessed}
-use Rattle.plan.specs.Given.{given}
-use Rattle.plan.specs.Outcome.{WitnessEntry, WitnessExit, allCodes, vector, listStage, verdictBy, witness3}
+use Rattle.plan.specs.Given.{givenCircuit, failingAt}
+use Rattle.plan.specs.Outcome.{WitnessEntry, WitnessExit, allCodes, listStage, verdictBy, witness3}
 use Rattle.laws.proofs.Reading.Common.{and-left}
 use Rattle.step.proofs.codes.Places.{codesIn}
 use Rattle.step.proofs.Checks.{answer}
@@ -25,7 +25,7 @@ module _ (e : WitnessEntry) where
   whole = codesIn (e .bytes) (e .number * e .circuit .counts .I)
 
   abbrev seen : Bool
-  seen = witnessed (given (e .circuit)) (e .number) (e .bytes)
+  seen = witnessed (givenCircuit (e .circuit)) (e .number) (e .bytes)
 
   pub good-list : whole ≡ true → length (e .bytes) ≡ e .number * e .circuit .counts .I
   good-list q = eqb-true _ _ (and-left (eqb (length (e .bytes)) (e .number * e .circuit .counts .I)) (allCodes (e .bytes)) q)
@@ -41,8 +41,8 @@ module _ (e : WitnessEntry) where
 
     -- the tables are good
     module _ (past : answer (e .circuit) (listStage e) ≡ firstOf (listStage e ∷ [])) where
-      judged : (b : Bool) → whole ≡ b → answer (e .circuit) (listStage e) ≡ firstOf (stage BadVector (vector 2 b) ∷ [])
-      judged b q = past ∙ ap (λ (x : Bool). firstOf (stage BadVector (vector 2 x) ∷ [])) q
+      judged : (b : Bool) → whole ≡ b → answer (e .circuit) (listStage e) ≡ firstOf (stage BadVector (failingAt 2 b) ∷ [])
+      judged b q = past ∙ ap (λ (x : Bool). firstOf (stage BadVector (failingAt 2 x) ∷ [])) q
 
       pub refused-list : whole ≡ false → _≡_ {A = WitnessExit} (record { answer = Refused (BadVector 2); scratch = t }) (witness3 e)
       refused-list q = refused-witness (BadVector 2) (judged false q)

@@ -10,7 +10,7 @@ use borrow.Author.Tests.{not-true, not-false}
 use lib.ListN.{length, replicate}
 use Rattle.plan.specs.declared.Checked.the-variants.{Good}
 use Rattle.plan.specs.Circuit.{cleared, seven}
-use Rattle.plan.specs.Given.{given}
+use Rattle.plan.specs.Given.{givenCircuit}
 use Rattle.plan.specs.Outcome.{CheckExit, checkInOrder}
 use Rattle.tables.specs.Held.{Scratch}
 use Rattle.step.proofs.codes.Places.{codesIn}
@@ -93,7 +93,7 @@ counted x = ap₂ (λ (i j : ℕ). i + j) (x .before .count-resets .ensures) (x 
 
 count-told : (x : tie.After-count-x)
     → let w = entry (start (good (listed x))) .list in
-    x .before .count-resets .result + x .count-x .result ≡ xCount (asked (given (w .circuit)) (w .bytes))
+    x .before .count-resets .result + x .count-x .result ≡ xCount (asked (givenCircuit (w .circuit)) (w .bytes))
 count-told x =
     let a = start (good (listed x)) .args in
     counted x ∙ sym (count-append (codesOf (a .resets .now) (a .n .L)) (a .bytes .now))

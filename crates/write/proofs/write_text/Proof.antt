@@ -4,7 +4,7 @@ use mathlib.Core.Path.{ap, _∙_}
 use mathlib.Core.Bool.{false}
 use mathlib.Core.List.{List, _++_}
 use Rattle.plan.specs.Text.{textOf}
-use Rattle.plan.specs.Given.{given, roomStage}
+use Rattle.plan.specs.Given.{givenCircuit, roomStage}
 use Rattle.plan.specs.Outcome.{FileEntry, putBytes}
 use Rattle.write.specs.Judged.{givenIn, writerStages}
 use Rattle.write.proofs.Parts.{text-parts}
@@ -55,7 +55,7 @@ returns c =
     let g = givenIn (a .n) (a .inputs .now) (a .latches .now) (a .outputs .now) (a .gates .now) (a .resets .now) (a .bads .now) (a .constraints .now)
     (a .scratch .now) in
     let e : FileEntry = record { circuit = g; tail = a .tail .now; out = a .out .now } in
-    let bytes = textOf (given g) ++ a .tail .now in
+    let bytes = textOf (givenCircuit g) ++ a .tail .now in
     let says = judged .judge .ensures in
     refused-file e bytes _ (says .1) _
     (refused-before (writerStages false g (a .tail .now)) (roomStage (a .out .now) bytes) (says .0) _ (c .before .r .given .1))
@@ -75,7 +75,7 @@ returns-2 c =
     let g = givenIn (a .n) (a .inputs .now) (a .latches .now) (a .outputs .now) (a .gates .now) (a .resets .now) (a .bads .now) (a .constraints .now)
     (a .scratch .now) in
     let e : FileEntry = record { circuit = g; tail = a .tail .now; out = a .out .now } in
-    let bytes = textOf (given g) ++ a .tail .now in
+    let bytes = textOf (givenCircuit g) ++ a .tail .now in
     let says = judged .judge .ensures in
     let good = good-judged false g (a .tail .now) (says .0) (told .enum-told .given .1) in
     written-file e bytes _ (says .1)

@@ -4,7 +4,7 @@ use mathlib.Core.Bool.{Bool, true, false}
 use mathlib.Core.List.{List, [], _∷_, _++_, map}
 use lib.ListN.{getD, take}
 use Rattle.plan.specs.Circuit.{latchOf, latchLine, oneLine, nexts, rowsOf}
-use Rattle.plan.specs.Bytes.{lineOf, withResets, unlessZero, shortest}
+use Rattle.plan.specs.Bytes.{lineOf, withResets, unlessZero, withoutZeros}
 
 -- a latch's line: its current state, which binary form leaves out, its next state, and its reset unless that is 0
 abbrev pub nextLine : ℕ → ℕ → List ℕ
@@ -17,9 +17,9 @@ latchBytes false current next reset = lineOf (current ∷ next ∷ unlessZero re
 -- n lines of the tables, in binary form or in text form
 abbrev pub latchRows : Bool → ℕ → List ℕ → List ℕ → List (List ℕ)
 latchRows true n latches resets =
-    map (shortest 1) (withResets (map oneLine (nexts (map latchOf (rowsOf 2 n latches)))) (take n resets))
+    map (withoutZeros 1) (withResets (map oneLine (nexts (map latchOf (rowsOf 2 n latches)))) (take n resets))
 latchRows false n latches resets =
-    map (shortest 2) (withResets (map latchLine (map latchOf (rowsOf 2 n latches))) (take n resets))
+    map (withoutZeros 2) (withResets (map latchLine (map latchOf (rowsOf 2 n latches))) (take n resets))
 
 -- the bytes of latch i of the tables, and of m latches from i on
 abbrev pub latchBytesAt : Bool → List ℕ → List ℕ → ℕ → List ℕ

@@ -6,7 +6,7 @@ use mathlib.Core.Option.{none}
 use native.Mathlib.Omega.{arith}
 use Rattle.plan.specs.declared.Counts.{Counts}
 use Rattle.plan.specs.Refusals.{got}
-use Rattle.plan.specs.Circuit.{Tables, seven, wordsWith, wordsToWork, against, short}
+use Rattle.plan.specs.Circuit.{Tables, seven, wordsWith, wordsToWork, against, leastShort}
 use Rattle.tables.specs.declared.Sizes.{Sizes}
 use Rattle.tables.specs.Lengths.{tableOf, lengthsIn, sizesOf}
 use Rattle.tables.proofs.Told.{some-table, no-table}
@@ -80,15 +80,15 @@ head d =
 
 -- 4
 shorts : (e : tie.After-too-short) → let d = e .before .before .before .before .before .before .before .before .before .before in let s = start d in
-    tableOf (e .too-short .result) ≡ short (against 1 (wordsToWork (counts d)) (lengthsIn (sizesOf (tables s)) (s .args .words)))
+    tableOf (e .too-short .result) ≡ leastShort (against 1 (wordsToWork (counts d)) (lengthsIn (sizesOf (tables s)) (s .args .words)))
 shorts e =
     let d = after-n (lengths-of e) in
     e .too-short .ensures
-    ∙ ap₂ (λ (k : ℕ) (to : Sizes). short (against 1 (wordsWith k (counts d)) (lengthsIn to (start d .args .words))))
+    ∙ ap₂ (λ (k : ℕ) (to : Sizes). leastShort (against 1 (wordsWith k (counts d)) (lengthsIn to (start d .args .words))))
     (e .before .scratch-to-work .ensures) (e .before .before .lengths .ensures)
 
 long : (f : tie.Else1) → let d = f .before .before .before .before .before .before .before .before .before .before .before in let s = start d in
-    short (against 1 (wordsToWork (counts d)) (lengthsIn (sizesOf (tables s)) (s .args .words))) ≡ none
+    leastShort (against 1 (wordsToWork (counts d)) (lengthsIn (sizesOf (tables s)) (s .args .words))) ≡ none
 long f = no-table _ _ (f .if1 .left) (shorts (f .before))
 
 read-head-requires : tie.Need-read-head-requires

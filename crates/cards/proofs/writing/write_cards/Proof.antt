@@ -4,7 +4,7 @@ use mathlib.Core.Path.{sym, ap, _∙_}
 use mathlib.Core.Bool.{true}
 use borrow.Author.Tests.{not-true, not-false}
 use Rattle.plan.specs.Refusals.{firstOf}
-use Rattle.plan.specs.Given.{Given, given}
+use Rattle.plan.specs.Given.{Given, givenCircuit}
 use Rattle.plan.specs.Outcome.{FileEntry, putBytes}
 use Rattle.judge.proofs.Sound.{good-none, refused-some}
 use Rattle.write.specs.Judged.{givenIn, writerStages}
@@ -74,8 +74,8 @@ returns c =
     let g = gave s in
     let says = judge-of (after-judge2 c) .judge .ensures in
     let good = good-judged true g (s .args .tail .now) (says .0) (c .before .before .enum-told .given .1) in
-    refused-file (entry s) (cardsOf (given g)) _ (says .1) _
-    (at-nineteen g (s .args .tail .now) (s .args .out .now) (cardsOf (given g)) (good-none (firstOf (writerStages true g (s .args .tail .now))) (sym
+    refused-file (entry s) (cardsOf (givenCircuit g)) _ (says .1) _
+    (at-nineteen g (s .args .tail .now) (s .args .out .now) (cardsOf (givenCircuit g)) (good-none (firstOf (writerStages true g (s .args .tail .now))) (sym
     (c .before .before .enum-told .given .1) ∙ says .0))
     (held-same g (good .fits) (s .args .tail .now) ∙ (sym (c .before .on-cards .ensures) ∙ not-true _ (c .if1 .taken))))
 
@@ -93,8 +93,8 @@ returns-2 c =
     let s = start-of (after-judge4 c) in
     let g = gave s in
     let says = judge-of (after-judge4 c) .judge .ensures in
-    refused-file (entry s) (cardsOf (given g)) _ (says .1) _
-    (refused-first g (s .args .tail .now) (s .args .out .now) (cardsOf (given g)) _ (refused-some _ (firstOf (writerStages true g
+    refused-file (entry s) (cardsOf (givenCircuit g)) _ (says .1) _
+    (refused-first g (s .args .tail .now) (s .args .out .now) (cardsOf (givenCircuit g)) _ (refused-some _ (firstOf (writerStages true g
     (s .args .tail .now))) (sym (c .before .r .given .1) ∙ says .0)))
 
 same-length-3 : tie.Need-same-length-3
@@ -109,8 +109,8 @@ returns-3 c =
     let g = gave s in
     let says = judge-of (after-judge6 c) .judge .ensures in
     let good = good-judged true g (s .args .tail .now) (says .0) (after-judge5 c .enum-told .given .1) in
-    written-file (entry s) (cardsOf (given g)) _ (says .1)
-    (past-nineteen g (s .args .tail .now) (s .args .out .now) (cardsOf (given g)) (good-none (firstOf (writerStages true g (s .args .tail .now)))
+    written-file (entry s) (cardsOf (givenCircuit g)) _ (says .1)
+    (past-nineteen g (s .args .tail .now) (s .args .out .now) (cardsOf (givenCircuit g)) (good-none (firstOf (writerStages true g (s .args .tail .now)))
     (sym (after-judge5 c .enum-told .given .1) ∙ says .0))
     (held-same g (good .fits) (s .args .tail .now) ∙ (sym (on-cards-of c .on-cards .ensures) ∙ not-false _ (c .before .before .before .before .if1 .left))))
     (c .before .before .put-cards .ensures ∙ ap (putBytes (s .args .out .now) 0) (cards-same g (good .fits)))

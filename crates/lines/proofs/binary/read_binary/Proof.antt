@@ -3,7 +3,7 @@ use Prim.Native.Nat.{_+_}
 use mathlib.Core.Bool.{false}
 use mathlib.Core.List.{[]}
 use native.Mathlib.Omega.{arith}
-use Rattle.plan.specs.Bytes.{latchLines}
+use Rattle.plan.specs.Bytes.{latchLines, latchForm}
 use Rattle.plan.specs.Header.{moreResets}
 use Rattle.plan.specs.Binary.{gatesFrom}
 use Rattle.laws.proofs.Marks.{agreeing}
@@ -70,7 +70,7 @@ returns c =
     (c .before .before .before .before .before .before .before .before .read-latches .ensures (s .0) (s .1)) in
     latches-refused (a .version) (a .file .now) (a .n) (a .at) _ _ _
     (was-refused (LatchesHeld (a .n .M) (1 + a .n .I) (s .0) (a .latches .now) (a .resets .now) _ _ _)
-    (latchLines (a .file .now) 1 false (a .n .M) (moreResets (a .version)) (a .n .L) (1 + a .n .I) [] (a .at)) _ _ told₁ (c .enum-told .given .1))
+    (latchLines (a .file .now) (latchForm 1 false (moreResets (a .version))) (a .n .M) (a .n .L) (1 + a .n .I) [] (a .at)) _ _ told₁ (c .enum-told .given .1))
     (c .enum-told .given .1)
 
 read-observed-requires : tie.Need-read-observed-requires
@@ -116,7 +116,7 @@ returns-2 c =
     (c .before .before .before .before .before .before .before .before .before .before .before .before .before .before .before .before .before .before
     .before .before .before .before .before .before .read-latches .ensures (s .0) (s .1)) in
     let a₁ = was-read (LatchesHeld (a .n .M) (1 + a .n .I) (s .0) (a .latches .now) (a .resets .now) _ _ _)
-    (latchLines (a .file .now) 1 false (a .n .M) (moreResets (a .version)) (a .n .L) (1 + a .n .I) [] (a .at)) _ _ told₁
+    (latchLines (a .file .now) (latchForm 1 false (moreResets (a .version))) (a .n .M) (a .n .L) (1 + a .n .I) [] (a .at)) _ _ told₁
     (c .before .before .before .before .before .before .before .before .before .before .before .before .before .before .before .before .read .given .1) in
     let told₂ = observed-told (a .n .M) (s .0) (a .outputs .now) (a .bads .now) (a .constraints .now)
     (observedAt (a .file .now) (a .n) _) _ _ _ _ _
@@ -193,7 +193,7 @@ returns-3 c =
     .before .before .before .before .before .before .before .before .before .before .before .before .before .before .before .before .read-latches
     .ensures (s .0) (s .1)) in
     let a₁ = was-read (LatchesHeld (a .n .M) (1 + a .n .I) (s .0) (a .latches .now) (a .resets .now) _ _ _)
-    (latchLines (a .file .now) 1 false (a .n .M) (moreResets (a .version)) (a .n .L) (1 + a .n .I) [] (a .at)) _ _ told₁
+    (latchLines (a .file .now) (latchForm 1 false (moreResets (a .version))) (a .n .M) (a .n .L) (1 + a .n .I) [] (a .at)) _ _ told₁
     (c .before .before .before .before .before .before .before .before .before .before .before .before .before .before .before .before .before .before
     .before .before .before .before .before .before .before .before .read .given .1) in
     let told₂ = observed-told (a .n .M) (s .0) (a .outputs .now) (a .bads .now) (a .constraints .now)

@@ -5,7 +5,7 @@ use mathlib.Core.Bool.{true}
 use mathlib.Core.List.{[]}
 use native.Mathlib.Omega.{arith}
 use Rattle.plan.specs.Circuit.{heads}
-use Rattle.plan.specs.Bytes.{lines, latchLines}
+use Rattle.plan.specs.Bytes.{lines, latchLines, latchForm}
 use Rattle.plan.specs.Header.{moreResets}
 use Rattle.laws.proofs.Marks.{agrees-none}
 use Rattle.lines.specs.outputs.Observed.{observedAt}
@@ -110,7 +110,7 @@ returns-2 c =
     (c .before .before .before .before .before .before .before .before .read-latches .ensures (heads (a₁ .value)) (a₁ .held .agrees)) in
     latches-refused (a .version) (a .file .now) (a .n) (a .at) _ _ _ _ a₁
     (was-refused (LatchesHeld (a .n .M) (heads (a₁ .value)) (a .latches .now) (a .resets .now) _ _ _)
-    (latchLines (a .file .now) 2 true (a .n .M) (moreResets (a .version)) (a .n .L) 0 (heads (a₁ .value)) _) _ _ told₂ (c .enum-told2 .given .1))
+    (latchLines (a .file .now) (latchForm 2 true (moreResets (a .version))) (a .n .M) (a .n .L) 0 (heads (a₁ .value)) _) _ _ told₂ (c .enum-told2 .given .1))
     (c .enum-told2 .given .1)
 
 read-observed-requires : tie.Need-read-observed-requires
@@ -170,7 +170,7 @@ returns-3 c =
     (c .before .before .before .before .before .before .before .before .before .before .before .before .before .before .before .before .before .before
     .before .before .before .before .before .before .read-latches .ensures (heads (a₁ .value)) (a₁ .held .agrees)) in
     let a₂ = was-read (LatchesHeld (a .n .M) (heads (a₁ .value)) (a .latches .now) (a .resets .now) _ _ _)
-    (latchLines (a .file .now) 2 true (a .n .M) (moreResets (a .version)) (a .n .L) 0 (heads (a₁ .value)) _) _ _ told₂
+    (latchLines (a .file .now) (latchForm 2 true (moreResets (a .version))) (a .n .M) (a .n .L) 0 (heads (a₁ .value)) _) _ _ told₂
     (c .before .before .before .before .before .before .before .before .before .before .before .before .before .before .before .before .read2 .given .1) in
     let told₃ = observed-told (a .n .M) (both (a₁ .value) (a₂ .value)) (a .outputs .now) (a .bads .now) (a .constraints .now)
     (observedAt (a .file .now) (a .n) _) _ _ _ _ _
@@ -261,7 +261,7 @@ returns-4 c =
     .before .before .before .before .before .before .before .before .before .before .before .before .before .before .before .before .before
     .read-latches .ensures (heads (a₁ .value)) (a₁ .held .agrees)) in
     let a₂ = was-read (LatchesHeld (a .n .M) (heads (a₁ .value)) (a .latches .now) (a .resets .now) _ _ _)
-    (latchLines (a .file .now) 2 true (a .n .M) (moreResets (a .version)) (a .n .L) 0 (heads (a₁ .value)) _) _ _ told₂
+    (latchLines (a .file .now) (latchForm 2 true (moreResets (a .version))) (a .n .M) (a .n .L) 0 (heads (a₁ .value)) _) _ _ told₂
     (c .before .before .before .before .before .before .before .before .before .before .before .before .before .before .before .before .before .before
     .before .before .before .before .before .before .read2 .given .1) in
     let told₃ = observed-told (a .n .M) (both (a₁ .value) (a₂ .value)) (a .outputs .now) (a .bads .now) (a .constraints .now)

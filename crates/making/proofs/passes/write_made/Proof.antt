@@ -6,7 +6,7 @@ use mathlib.Core.List.{_++_}
 use borrow.Author.Needs.{needs}
 use Rattle.plan.specs.Circuit.{Circuit, Tables, seven}
 use Rattle.plan.specs.Binary.{binaryOf}
-use Rattle.plan.specs.Given.{Given, given}
+use Rattle.plan.specs.Given.{Given, givenCircuit}
 use Rattle.plan.specs.Outcome.{putBytes}
 use Rattle.write.specs.Judged.{givenIn}
 use Rattle.whole.proofs.Writes.{text-put, not-refused, made-put, made-is, made-in-order, converts, converted-ready}
@@ -193,7 +193,7 @@ returns c =
     let s = start-of (at-start c) in
     let a = s .args in
     text-put (circuit s) (a .tail .now) (a .out .now) (s .pre .fine) (s .pre .tail-ok) _ (c .before .before .before .before .write-text .ensures)
-    ∙ ap (λ (b : Bool). putBytes (a .out .now) 0 (bytesOf b (a .reduced) (a .dropped) (given (circuit s)) ++ a .tail .now)) (sym (then1-of c .if1 .taken))
+    ∙ ap (λ (b : Bool). putBytes (a .out .now) 0 (bytesOf b (a .reduced) (a .dropped) (givenCircuit (circuit s)) ++ a .tail .now)) (sym (then1-of c .if1 .taken))
 
 convert-requires : tie.Need-convert-requires
 convert-requires c κs = search needs
@@ -270,8 +270,8 @@ returns-2 c =
     ∙ (ap (λ (d : Circuit). putBytes (a .out .now) 0 (binaryOf (lessened (a .dropped) d) ++ a .tail .now))
     (made-is _ _ (a .tail .now) (converts (circuit s) (into s) (a .tail .now) (s .pre)) _ (convert-of (after-convert2 c) .convert .ensures) _
     (after-m2 c .before .m .given .1))
-    ∙ (ap (λ (b : Bool). putBytes (a .out .now) 0 (bytesOf false b (a .dropped) (given (circuit s)) ++ a .tail .now)) (sym (then2-of c .if2 .taken))
-    ∙ ap (λ (b : Bool). putBytes (a .out .now) 0 (bytesOf b (a .reduced) (a .dropped) (given (circuit s)) ++ a .tail .now)) (sym (else1-of
+    ∙ (ap (λ (b : Bool). putBytes (a .out .now) 0 (bytesOf false b (a .dropped) (givenCircuit (circuit s)) ++ a .tail .now)) (sym (then2-of c .if2 .taken))
+    ∙ ap (λ (b : Bool). putBytes (a .out .now) 0 (bytesOf b (a .reduced) (a .dropped) (givenCircuit (circuit s)) ++ a .tail .now)) (sym (else1-of
     (after-m2 c) .if1 .left))))
 
 write-binary-requires : tie.Need-write-binary-requires
@@ -384,8 +384,8 @@ returns-4 c =
     made-put _ _ (a .tail .now) (converts (circuit s) (into s) (a .tail .now) (s .pre)) _ (convert-of (after-convert4 c) .convert .ensures) _
     (after-m3 c .before .m .given .1)
     (a .out .now) _ (c .before .before .before .before .write-binary .ensures)
-    ∙ (ap (λ (b : Bool). putBytes (a .out .now) 0 (bytesOf false b (a .dropped) (given (circuit s)) ++ a .tail .now)) (sym (else2-of c .if2 .left))
-    ∙ ap (λ (b : Bool). putBytes (a .out .now) 0 (bytesOf b (a .reduced) (a .dropped) (given (circuit s)) ++ a .tail .now)) (sym (else1-of
+    ∙ (ap (λ (b : Bool). putBytes (a .out .now) 0 (bytesOf false b (a .dropped) (givenCircuit (circuit s)) ++ a .tail .now)) (sym (else2-of c .if2 .left))
+    ∙ ap (λ (b : Bool). putBytes (a .out .now) 0 (bytesOf b (a .reduced) (a .dropped) (givenCircuit (circuit s)) ++ a .tail .now)) (sym (else1-of
     (after-m3 c) .if1 .left)))
 
 pub write-made-spec : {M : Type 1} → statement M

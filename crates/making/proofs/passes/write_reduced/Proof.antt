@@ -6,7 +6,7 @@ use mathlib.Core.List.{_++_}
 use borrow.Author.Needs.{needs}
 use Rattle.plan.specs.Circuit.{Circuit, Tables, seven}
 use Rattle.plan.specs.Binary.{binaryOf}
-use Rattle.plan.specs.Given.{Given, given}
+use Rattle.plan.specs.Given.{Given, givenCircuit}
 use Rattle.plan.specs.Drop.{dropUnused}
 use Rattle.plan.specs.Outcome.{putBytes}
 use Rattle.write.specs.Judged.{givenIn}
@@ -186,7 +186,7 @@ returns c =
     ∙ (ap (λ (d : Circuit). putBytes (a .out .now) 0 (binaryOf (dropUnused d) ++ a .tail .now))
     (made-is _ _ (a .tail .now) (reduces (circuit s) (into s) (a .tail .now) (s .pre .0) (s .pre .1)) _ (reduce-of
     (after-reduce2 c) .reduce .ensures) _ (after-m2 c .before .m .given .1))
-    ∙ ap (λ (b : Bool). putBytes (a .out .now) 0 (binaryOf (lessened b (given (circuit s))) ++ a .tail .now)) (sym (then1-of c .if1 .taken)))
+    ∙ ap (λ (b : Bool). putBytes (a .out .now) 0 (binaryOf (lessened b (givenCircuit (circuit s))) ++ a .tail .now)) (sym (then1-of c .if1 .taken)))
 
 write-binary-requires : tie.Need-write-binary-requires
 write-binary-requires c κs = search needs
@@ -298,7 +298,7 @@ returns-3 c =
     made-put _ _ (a .tail .now) (reduces (circuit s) (into s) (a .tail .now) (s .pre .0) (s .pre .1)) _ (reduce-of
     (after-reduce4 c) .reduce .ensures) _ (after-m3 c .before .m .given .1)
     (a .out .now) _ (c .before .before .before .before .write-binary .ensures)
-    ∙ ap (λ (b : Bool). putBytes (a .out .now) 0 (binaryOf (lessened b (given (circuit s))) ++ a .tail .now)) (sym (else1-of c .if1 .left))
+    ∙ ap (λ (b : Bool). putBytes (a .out .now) 0 (binaryOf (lessened b (givenCircuit (circuit s))) ++ a .tail .now)) (sym (else1-of c .if1 .left))
 
 pub write-reduced-spec : {M : Type 1} → statement M
 write-reduced-spec =

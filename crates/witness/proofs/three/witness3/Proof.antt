@@ -9,8 +9,8 @@ use lib.ListN.{length, replicate}
 use Rattle.plan.specs.declared.Checked.the-variants.{Good}
 use Rattle.plan.specs.declared.Counts.{Counts}
 use Rattle.plan.specs.Circuit.{cleared, seven}
-use Rattle.plan.specs.Step.{first, witnessed}
-use Rattle.plan.specs.Given.{given}
+use Rattle.plan.specs.Step.{firstState, witnessed}
+use Rattle.plan.specs.Given.{givenCircuit}
 use Rattle.plan.specs.Outcome.{CheckExit, WitnessEntry, checkInOrder, listStage}
 use Rattle.laws.proofs.Running.Resets.{first-length}
 use Rattle.tables.specs.Held.{Scratch}
@@ -85,10 +85,10 @@ long d =
     room (e .circuit) (listStage e) (says d) (told d) (checked d .check-in-order .last .1 .1 .1 .1 .1 .1 .1 .1 .0) (same d) .scratch-long
 
 -- from the first state on
-state-long : (d : tie.After-enum-told) → let g = entry (start d) .circuit in length (first (given g)) ≡ g .counts .L
+state-long : (d : tie.After-enum-told) → let g = entry (start d) .circuit in length (firstState (givenCircuit g)) ≡ g .counts .L
 state-long d =
     let g = entry (start d) .circuit in
-    first-length (given g) (holds d .formed) ∙ ap (λ (m : Counts). m .L) (holds d .counts)
+    first-length (givenCircuit g) (holds d .formed) ∙ ap (λ (m : Counts). m .L) (holds d .counts)
 
 begins : (s : tie.After-scratch2)
     → let g = entry (start (good s)) .circuit in
@@ -100,7 +100,7 @@ begins s =
     record {
       inputs = g .tables .inputs;
       resets = g .tables .resets;
-      state = first (given g);
+      state = firstState (givenCircuit g);
       runs = holds d;
       scratch-long = omega (arith, long d, s .scratch2 .given);
       state-length = state-long d;
@@ -114,7 +114,7 @@ zero z =
     z .before .clear .ensures ∙ ap (λ (k : ℕ). replicate k 0) (y .scratch3 .given ∙ s .scratch2 .given ∙ same (good s))
 
 shown : (y : tie.After-scratch3)
-    → let e = entry (start (good (begun y))) in y .before .shows-one .result ≡ witnessed (given (e .circuit)) (e .number) (e .bytes)
+    → let e = entry (start (good (begun y))) in y .before .shows-one .result ≡ witnessed (givenCircuit (e .circuit)) (e .number) (e .bytes)
 shown y =
     let s = begun y in
     let d = good s in
