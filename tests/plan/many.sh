@@ -145,11 +145,11 @@ wrong_many() {
 
 # Names that a terminal would obey stay one line.
 odd_names() {
-    mkdir "$room/names"
-    cp examples/toggle.aag "$room/names/"$'new\nline\e[31m.aag'
-    printf '%s\n' "$room/names/new"'\nline\x1b[31m.aag: '"$toggle" "1 of 1 accepted" >"$room/lines"
-    accepts "$room/lines" check "$room/names"
-    rm -r "$room/names"
+    mkdir "$room/odd-names"
+    cp examples/toggle.aag "$room/odd-names/"$'new\nline\e[31m.aag'
+    printf '%s\n' "$room/odd-names/new"'\nline\x1b[31m.aag: '"$toggle" "1 of 1 accepted" >"$room/lines"
+    accepts "$room/lines" check "$room/odd-names"
+    rm -r "$room/odd-names"
 }
 
 # Pairs: text beside binary, and the same name in two folders.

@@ -28,6 +28,19 @@ valgrind_on_small() {
     try same examples/guard.aag "$room/plan"
     expect "same examples/guard.aag $room/plan" 1 "$room/told" ""
     misuses "refused 8 at 2" same examples/guard.aag tests/refused-08/above-a-cycle.aag
+    try same examples
+    holds "same of a folder" [ "$(cat "$room/status") $(tail -n 1 "$room/out" | cut -d ';' -f 1)" = "0 5 of 5 pairs are the same" ]
+    try check examples tests/refused-10
+    holds "check of folders" [ "$(cat "$room/status") $(grep -c 'refused 10 at' "$room/out") $(wc -c <"$room/error")" = "1 $(ls tests/refused-10/*.a?g | wc -l) 0" ]
+    try reduce -o "$room/mirror" examples
+    holds "reduce of a folder" [ "$(cat "$room/status") $(find "$room/mirror" -type f | wc -l)" = "2 5" ]
+    printf 'no, 1 filling tried\nno output or bad state is 1, in filling 0:\nlifted (l1) starts as 0\nlift (i0) is 0 at step 0\n' >"$room/told"
+    printf 'x1\n' >"$room/vectors"
+    accepts "$room/told" witness examples/guard.aag "$room/vectors"
+    printf 'lifted twice (b0) is 0 at step 2, because\nlifted (l1) is 0\n' >"$room/told"
+    accepts "$room/told" explain --bad 0 --step 2 examples/guard.aag examples/guard.vectors
+    try report --all --json examples/guard.aag examples/guard.vectors
+    holds "report --all --json" [ "$(cat "$room/status") $(wc -l <"$room/out")" = "0 5" ]
     refuses "refused 12 at 2" trace --vcd examples/guard.aag examples/toggle.aag
     refuses "refused 10 at 23" witness tests/refused-10/second.aag
     refuses "refused 8 at 2" check tests/refused-08/above-a-cycle.aag

@@ -11,26 +11,26 @@ is_plain() {
 file_names() {
     local name=$'\e[31mred\nroll\r\t\177 \233 m\303\274hle'
     local shown='\x1b[31mred\nroll\r\t\x7f \x9b m'$'\303\274'hle
-    mkdir "$room/names"
-    cp examples/toggle.aag "$room/names/$name"
-    cp tests/refused-05/output.aag "$room/names/wrong $name"
-    refuses "$room/names/none $shown: refused 14 at 0: it can't be read" check "$room/names/none $name"
+    mkdir "$room/shown-names"
+    cp examples/toggle.aag "$room/shown-names/$name"
+    cp tests/refused-05/output.aag "$room/shown-names/wrong $name"
+    refuses "$room/shown-names/none $shown: refused 14 at 0: it can't be read" check "$room/shown-names/none $name"
     is_plain "a file that is not there" 1
-    refuses "$room/names/wrong $shown:3:1: refused 5 at 16" check "$room/names/wrong $name"
+    refuses "$room/shown-names/wrong $shown:3:1: refused 5 at 16" check "$room/shown-names/wrong $name"
     is_plain "a refused file" 3
     misuses "plan: $room/$shown/made: No such file or directory" convert -o "$room/$name/made" examples/toggle.aag
     is_plain "a folder that is not there" 1
-    printf '%s\n' different "$room/names/$shown: the number of inputs is 2" 'examples/selector.aag: the number of inputs is 3' \
-        "$room/names/$shown: the number of gates is 4" 'examples/selector.aag: the number of gates is 6' \
-        "$room/names/$shown: symbol 0 names input 0 \"enable\"" 'examples/selector.aag: symbol 0 names input 0 "left border"' >"$room/told"
-    try same "$room/names/$name" examples/selector.aag
+    printf '%s\n' different "$room/shown-names/$shown: the number of inputs is 2" 'examples/selector.aag: the number of inputs is 3' \
+        "$room/shown-names/$shown: the number of gates is 4" 'examples/selector.aag: the number of gates is 6' \
+        "$room/shown-names/$shown: symbol 0 names input 0 \"enable\"" 'examples/selector.aag: symbol 0 names input 0 "left border"' >"$room/told"
+    try same "$room/shown-names/$name" examples/selector.aag
     expect "same of such a name" 1 "$room/told" ""
     is_plain "same of such a name" "$(wc -l <"$room/out")"
-    printf '%s\n' "$room/names/$shown: refused 15 at 0: " "$room/names/wrong $shown:3:1: refused 5 at 16: " '0 of 2 written' >"$room/told"
-    try card -o "$room/names-cards" "$room/names"
+    printf '%s\n' "$room/shown-names/$shown: refused 15 at 0: " "$room/shown-names/wrong $shown:3:1: refused 5 at 16: " '0 of 2 written' >"$room/told"
+    try card -o "$room/names-cards" "$room/shown-names"
     holds "a folder of such names" test 2 = "$(head -n 2 "$room/told" | grep -cFf - "$room/out")"
     is_plain "a folder of such names" 3
-    rm -r "$room/names"
+    rm -r "$room/shown-names"
 }
 
 words() {
