@@ -9,6 +9,12 @@ valgrind_on_small() {
     accepts examples/toggle.aig reduce examples/toggle.aag
     accepts examples/toggle.aig rewire examples/toggle.aig 0 2 6
     refuses "refused 22 at 9" rewire examples/guard.aig 9 0 0
+    sed 's/$/\r/' examples/guard.aag >"$room/windows"
+    try mend "$room/windows"
+    expect "mend $room/windows" 0 examples/guard.aag "takes the CR off"
+    printf 'aig 7 2 1 2 4\n14\n6\n7\n\2\4\3\4\1\2\2\10' >"$room/bare"
+    accepts "$room/bare" strip examples/toggle.aig
+    accepts examples/guard.trace trace examples/guard.aag - <examples/guard.vectors
     accepts examples/guard.trace trace examples/guard.aag examples/guard.vectors
     accepts examples/guard.trace plain examples/guard.aag examples/guard.vectors
     printf '%s\n' 'left needle (o0) is 1 at step 5, because' 'odd row (l0) is 1' 'left border (i0) is 1' >"$room/told"
@@ -48,6 +54,7 @@ valgrind_on_small() {
 own_program() {
     command=target/desk/reduce
     accepts examples/toggle.aig examples/toggle.aag
+    { printf 'aig 6 3 0 2 3\n13\n13\n\4\2\4\3\1\2' && sed -n '/^i0/,$p' examples/drafted.aag; } >"$room/reduced"
     accepts "$room/reduced" examples/drafted.aag
     refuses "refused 8 at 1" tests/refused-08/two-gates.aag
     head -c 1048576 /dev/zero >"$room/plan"
