@@ -180,7 +180,8 @@ refused-only true (traced.Refused q) r e = let same : q ≡ r = cc in (refl, ap 
 refused-only false a r e = let z : _≡_ {A = ℕ} 0 1 = cc in absurd (omega arith)
 
 refused-too : (r : Refusal) (b : Traced) → sameAnswer (traced.Refused r) b ≡ true → (s : Refusal) × (b ≡ traced.Refused s)
-refused-too r (traced.Lines m) e = absurd (false≢true e)
+refused-too r (traced.Lines m) e =
+    absurd (false≢true (second-lines {a = traced.Refused r} {b = traced.Lines m} {r = r} {m = m} refl refl ∙ e))
 refused-too r (traced.Refused s) e = (s, refl)
 
 pub compare-refused : (e : CompareEntry) (r : Refusal) → compare e .answer ≡ Refused r
