@@ -106,19 +106,19 @@ binary-and-back e file plan bytes n a form short f filed-again between m b =
 filed-done : (e : CardEntry) (file : List ℕ) → e .plan ≡ some file → length file ≤ 65536 → (c : Circuit) → CardStates file c
     → LongEnough c (lengthsOf (e .tables) (e .scratch)) → length (binaryOf c) ≤ length (e .out)
     → fileWhole e ≡ movedBy e (got (binaryOf c) (length (binaryOf c)))
-filed-done e file plan fits c s lackingRoom space =
+filed-done e file plan fits c s room space =
     let lens = lengthsOf (e .tables) (e .scratch) in
     let read : readCards file lens ≡ got c (length (cardsOf c))
-    = ap (λ (x : List ℕ). readCards x lens) (s .cards) ∙ cards-read c (s .formed) (s .order) (s .held) lens lackingRoom in
+    = ap (λ (x : List ℕ). readCards x lens) (s .cards) ∙ cards-read c (s .formed) (s .order) (s .held) lens room in
     ap (movedBy e) (input-done (e .plan) file (λ x. readCards x lens then λ d _. fittingIn (e .out) (binaryOf d)) plan fits
     ∙ (ap (λ (p : Parse Circuit). p then λ d _. fittingIn (e .out) (binaryOf d)) read ∙ fitting-done (e .out) (binaryOf c) space))
 
 carded-done : (e : CardEntry) (file : List ℕ) → e .plan ≡ some file → length file ≤ 65536 → (c : Circuit) → States V19 file c [] → binaryOrder c ≡ true
     → holdable c ≡ true → LongEnough c (lengthsOf (e .tables) (e .scratch)) → length (cardsOf c) ≤ length (e .out)
     → cardWhole e ≡ movedBy e (got (cardsOf c) (length (cardsOf c)))
-carded-done e file plan fits c s order held lackingRoom space =
+carded-done e file plan fits c s order held room space =
     let lens = lengthsOf (e .tables) (e .scratch) in
-    let read = stated-to-card file c lens s order held lackingRoom in
+    let read = stated-to-card file c lens s order held room in
     ap (movedBy e) (input-done (e .plan) file (λ x. readToCard x lens then λ d _. fittingIn (e .out) (cardsOf d)) plan fits
     ∙ (ap (λ (p : Parse Circuit). p then λ d _. fittingIn (e .out) (cardsOf d)) (read .1) ∙ fitting-done (e .out) (cardsOf c) space))
 
@@ -135,7 +135,7 @@ module _ (e : CardEntry) (file : List ℕ) (plan : e .plan ≡ some file) (fits 
       → LongEnough c (lengthsOf (f .tables) (f .scratch)) → length file ≤ length (f .out)
       → cardWhole f ≡ movedBy f (got file (length file)))
   cards-with-room s space =
-      let first = filed-done e file plan fits c s lackingRoom space in
+      let first = filed-done e file plan fits c s room space in
       let there = binaryOf c in
       let itself = states-binary there c [] (s .formed) (no-tail c) (sym (append-nil there)) (s .order) in (
         ap (λ (x : CardExit). x .answer) first,
@@ -153,7 +153,7 @@ module _ (e : CardEntry) (file : List ℕ) (plan : e .plan ≡ some file) (fits 
       → fileWhole f ≡ movedBy f (got file (length file)))
   binary-with-room s form short held space =
       let b = shortest-binary file c form short s in
-      let first = carded-done e file plan fits c s (b .1) held lackingRoom space in
+      let first = carded-done e file plan fits c s (b .1) held room space in
       let there = cardsOf c in
       let itself : CardStates there c = record { cards = refl; formed = formed V19 file c [] s; order = b .1; held = held } in (
         ap (λ (x : CardExit). x .answer) first,
