@@ -30,14 +30,14 @@ static int said(const char *text) { return text != NULL && text[0] != 0; }
 
 /* Every refusal has words, and no other number. */
 static void expect_sentences(void) {
-    for (uint64_t number = GOLVANZO_WRONG_BYTE; number <= GOLVANZO_MANY_GATES; number++) {
+    for (uint64_t number = GOLVANZO_WRONG_BYTE; number <= GOLVANZO_NOT_ALIKE; number++) {
         const char *sentence = plan_sentence(number);
         expect(said(sentence) && said(plan_place(number)) && said(plan_advice(number)), "a refusal's words");
         for (uint64_t other = GOLVANZO_WRONG_BYTE; other < number; other++)
             expect(sentence == NULL || strcmp(sentence, plan_sentence(other)) != 0, "two refusals say the same");
     }
     expect(said(plan_sentence(PLAN_NO_MEMORY)) && said(plan_advice(PLAN_NO_MEMORY)), "the words of no memory");
-    expect(plan_sentence(GOLVANZO_MANY_GATES + 1) == NULL, "a sentence past the last refusal");
+    expect(plan_sentence(GOLVANZO_NOT_ALIKE + 1) == NULL, "a sentence past the last refusal");
     expect(plan_sentence(UINT32_MAX) == NULL && plan_advice(UINT32_MAX) == NULL, "words of no refusal");
 }
 

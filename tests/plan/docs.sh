@@ -23,8 +23,8 @@ broken() {
     sed -n 's/^    fn plain::\([a-z_]*\):.*/\1/p' "$lesson" | sort >"$room/said"
     sed -n 's/^\(pub \)\{0,1\}fn \([a-z_]*\).*/\2/p' $engine | sort >"$room/functions"
     holds "the lesson names every function" diff "$room/said" "$room/functions"
-    sed -n 's/^    \(tests.*\.edit\): refused .*/\1/p' "$lesson" >"$room/said"
-    holds "the lesson names every edit" diff "$room/said" <(printf '%s\n' tests/edits/gate/plain/*.edit)
+    sed -n '/^They are/,$p' "$lesson" | grep -o '`[a-z_]*`' | tr -d '`' >"$room/said"
+    holds "the lesson names every edit" diff "$room/said" <(basename -s .edit tests/edits/gate/plain/*.edit)
 }
 
 pages() {
