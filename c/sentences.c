@@ -61,7 +61,7 @@ static const struct saying sayings[] = {
          "the offset of the difference",
          "Have the file written again by whoever made it: numbers must be written in as few bytes as they need."},
     [GOLVANZO_NOT_EXPLAINED] =
-        {"The explainer can't say why: there is no output of that number, or it is x in that step.",
+        {"The explainer can't say why: there is no output of that number, or it is x in that step. Or a search is to watch an output that isn't there.",
          "1 if it is not there, 2 if it is x",
          "Choose another output or another step; plan trace shows the values of all. An x can't be explained."},
     [GOLVANZO_WRONG_MARK] =

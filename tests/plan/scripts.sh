@@ -110,7 +110,7 @@ about() {
     accepts "$room/said" --version
     misuses "--completion is for bash, zsh or fish" --completion
     misuses "--completion is for bash, zsh or fish" --completion csh
-    misuses 'there is no refusal 25: "plan help refusals" has them all' help 25
+    misuses 'there is no refusal 28: "plan help refusals" has them all' help 28
     misuses 'there is no refusal 0' help 0
     misuses 'there is no refusal 99999999999999999999' help 99999999999999999999
     misuses 'there is no command "9x"' help 9x
