@@ -1,4 +1,4 @@
-// What C calls: numbers and slices only. The header for C is desk/golvanzo.h.
+// What C calls: numbers and slices only. The header for C is c/golvanzo.h.
 ghost use mathlib.Core.Path.{_≡_};
 ghost use Rattle.plan.specs.Header.{wordsFor};
 ghost use Rattle.plan.specs.Outcome.{loadedValues};
