@@ -1,4 +1,6 @@
 // What an answer says to a caller in C: its number, its place, and its values.
+#![tactic(auto)]
+
 pub mod findings;
 pub mod happening;
 pub mod numbers;

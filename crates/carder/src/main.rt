@@ -1,6 +1,8 @@
 // Writes plan.in, an AIGER file of either form in binary order, as plan cards to standard output, or the line of
 // the refusal (the paper, plan cards and programs). 14, 13, the reader's refusals, 4, 15, 19 and 11 are decided by
 // whole::filing.
+#![tactic(auto)]
+
 use whole::filing;
 
 fn main() {

@@ -1,5 +1,7 @@
 // The two bytes of a mark and the four of a number on the old plan cards, low byte first: each read and written
 // here alone; and where the records start and end (the paper, plan cards).
+#![tactic(auto)]
+
 ghost use Rattle.std.specs.Prelude.{◌≡◌, ◌+◌, ◌≤◌, length, drop};
 ghost use Rattle.plan.specs.Outcome.{put};
 ghost use Rattle.plan.specs.Cards.{word_at, word_bytes, marked, mark_bytes, outputs_at, gates_at, card_bytes};

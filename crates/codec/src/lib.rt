@@ -1,4 +1,6 @@
 // Numbers and differences as bytes, and the room for them.
+#![tactic(auto)]
+
 pub mod classes;
 pub mod differences;
 pub mod numbers;

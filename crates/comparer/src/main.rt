@@ -2,6 +2,8 @@
 // and writes the tracer's lines, or the line of the refusal (the paper, the plain engine). 14, 13, the reader's
 // refusals and 4 are decided by whole::ordered, then 24, and those of standard input by runs::stimulus. That the
 // engines never part is proved in runs::comparing.
+#![tactic(auto)]
+
 use plan::{Counts, Made, Refusal, Traced};
 use runs::comparing::Compared;
 use runs::{comparing, stimulus, trace};

@@ -1,5 +1,7 @@
 // Conversion: the same circuit in binary order. Inputs get the variables from 1 on, in list order, latches the
 // next, then gates.
+#![tactic(auto)]
+
 ghost use Rattle.plan.specs.Circuit.{Tables, circuit_of};
 ghost use Rattle.plan.specs.Convert.{convert};
 ghost use Rattle.plan.specs.Outcome.{conversion};

@@ -1,5 +1,7 @@
 // Writes plan.in in its other form to standard output, or the line of the refusal
 // (the paper, programs). 14, 13, the reader's refusals, 4 and 11 are decided by making::convert_whole.
+#![tactic(auto)]
+
 use making::convert_whole;
 
 fn main() {

@@ -1,4 +1,6 @@
 // What C calls: numbers and slices only. The header for C is c/golvanzo.h.
+#![tactic(auto)]
+
 ghost use Rattle.std.specs.Prelude.{◌≡◌};
 ghost use Rattle.plan.specs.Header.{words_for};
 ghost use Rattle.plan.specs.Outcome.{loaded_values};

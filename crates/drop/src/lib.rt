@@ -1,5 +1,7 @@
 // Unused gates are dropped and the gaps closed in order: marks from the roots down, then one pass up (the paper,
 // unused gates).
+#![tactic(auto)]
+
 ghost use Rattle.std.specs.Prelude.{◌≡◌, List, [], ◌∷◌, ◌++◌, ℕ, ◌+◌, ◌*◌, ◌<◌, ◌≤◌, length};
 ghost use Rattle.plan.specs.Literals.{var_of, word_of};
 ghost use Rattle.plan.specs.Walk.{walk};

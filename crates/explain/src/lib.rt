@@ -1,4 +1,6 @@
 // What made an output 0 or 1: values by one pass up, marks by one pass down, from the output's gate (the paper, why a needle lifts).
+#![tactic(auto)]
+
 ghost use Rattle.std.specs.Prelude.{◌≡◌, List, [], ◌∷◌, map, ℕ, ◌+◌, ◌*◌, ◌<◌, ◌≤◌, length, get_or};
 ghost use Rattle.plan.specs.Literals.{var_of, word_of};
 ghost use Rattle.plan.specs.Circuit.{Tables, circuit_of};

@@ -1,5 +1,7 @@
 // Writes the plan cards of plan.in as binary AIGER to standard output, or the line of the refusal (the paper, plan
 // cards and programs). 14, 13, the refusals of the reader of cards and 11 are decided by whole::filing.
+#![tactic(auto)]
+
 use whole::filing;
 
 fn main() {

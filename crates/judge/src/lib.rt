@@ -1,5 +1,7 @@
 // The checks of given tables: 2, 3, 4, 5, 6, 7, 8 over the whole circuit, in this order, and 15 for the callers
 // that ask it.
+#![tactic(auto)]
+
 ghost use Rattle.std.specs.Prelude.{◌≡◌, true, false, not, ◌&&◌, List, ℕ};
 ghost use Rattle.plan.specs.declared.Refusal.{Refusal};
 ghost use Rattle.plan.specs.declared.Checked.TheVariants.{Good, Refused};

@@ -12,7 +12,7 @@ use plan::{Counts, Lit};
 use tables::bitmap;
 
 // The least used variable that is not defined.
-#[derive(Drop)]
+#[derive(Clone, Copy)]
 pub enum Missing {
     Nothing,
     Least(usize),

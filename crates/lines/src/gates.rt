@@ -12,14 +12,14 @@ use codec::differences;
 use plan::{Difference, Lit, Passed, Refusal, Var};
 
 // What one difference leads to: a literal and the position after the difference.
-#[derive(Drop)]
+#[derive(Clone, Copy)]
 enum Side {
     At(Lit, usize),
     Refused(Refusal),
 }
 
 // What one gate answers: its three literals and the position after it.
-#[derive(Drop)]
+#[derive(Clone, Copy)]
 enum Gated {
     Whole(Lit, Lit, Lit, usize),
     Refused(Refusal),

@@ -14,7 +14,7 @@ use tables::scratch_to_read;
 const NONE: u64 = 18446744073709551615;
 
 // The first four bytes: "aag ", "aig ", or the offset of the first byte that is neither's.
-#[derive(Drop)]
+#[derive(Clone, Copy)]
 enum Magic {
     Text,
     Binary,

@@ -1,5 +1,7 @@
 // Lines of literals: the one reader of inputs and gates of the text form, and of outputs, bad states and constraints of both forms. Lines of
 // numbers of which some may be left off: the one reader of the header's counts and of a latch with its reset.
+#![tactic(auto)]
+
 ghost use Rattle.std.specs.Prelude.{◌≡◌, cond, List, ℕ, ◌+◌, ◌*◌, ◌≤◌, ◌<◌, eqb, length, get_or};
 ghost use Rattle.std.proofs.Math.Option.{none, some};
 ghost use Rattle.plan.specs.Literals.{most, var_of, word_of};
@@ -24,14 +26,14 @@ pub mod tail;
 pub mod text;
 
 // The place of the first literal of a line that is out of its range.
-#[derive(Drop)]
+#[derive(Clone, Copy)]
 pub enum Found {
     Nothing,
     At(usize),
 }
 
 // What stands after a number of a line: its end, the space before the next number, or neither where it can stand.
-#[derive(Drop)]
+#[derive(Clone, Copy)]
 enum Going {
     Stop,
     On,

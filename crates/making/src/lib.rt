@@ -1,6 +1,8 @@
 // Whole files made of whole files: the other form, the reduced form, the reduced form without unused gates (the
 // paper, programs). All three go one way: the file is opened, its circuit is converted and made as small as is
 // wanted, and the bytes are written with the same tail.
+#![tactic(auto)]
+
 ghost use Rattle.std.specs.Prelude.{◌≡◌};
 ghost use Rattle.plan.specs.declared.Version.TheVariants.{V19};
 ghost use Rattle.plan.specs.Header.{header};

@@ -1,5 +1,7 @@
 // What the programs do with files: an input is read whole, as far as a buffer goes, and what was written, or the
 // refusal, is printed. A buffer of one byte more than an input may have shows that it has too many.
+#![tactic(auto)]
+
 ghost use Rattle.std.specs.Prelude.{◌≡◌, ◌≤◌, length};
 ghost use Rattle.office.specs.Came.{could_be_read, came};
 
@@ -8,7 +10,7 @@ use plan::{Refusal, Written};
 use tables::lesser;
 use write::refusal_line::tell_refusal;
 
-#[derive(Drop)]
+#[derive(Clone, Copy)]
 pub enum Input {
     Bytes(usize),
     Unreadable,

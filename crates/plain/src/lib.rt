@@ -1,6 +1,8 @@
 // The plain engine: a step straight from the rules, for teaching circuits (the paper, the plain engine). The value
 // of a literal asks for its variable, and the value of a gate's variable asks for two literals; nothing is held but
 // the next states. docs/LESSON.md walks through it.
+#![tactic(auto)]
+
 ghost use Rattle.std.specs.Prelude.{◌≡◌, true, ◌≤◌, length, take};
 ghost use Rattle.plan.specs.Literals.{index_of, var_of, word_of};
 ghost use Rattle.plan.specs.Circuit.{Tables, circuit_of};

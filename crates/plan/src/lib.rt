@@ -1,14 +1,16 @@
 // The vocabulary: variables and literals, counts, classes of bytes, refusals and answers.
 // What each of them means stands in specs/, in the paper's order.
+#![tactic(auto)]
+
 ghost use Rattle.std.specs.Prelude.{◌≡◌, ◌-◌, max, min, ltb};
 ghost use Rattle.plan.specs.Literals.{lit_at, word_of, halved, sign_of, negated, signed_as, in_range, var_at, index_of, doubled, is_reset};
 
 // A variable's index. Neither it nor a literal stands for the other: a doubling and a halving lead across.
-#[derive(Drop)]
+#[derive(Clone, Copy)]
 pub struct Var(u32);
 
 // Twice a variable and the sign (AIGER report, section 6).
-#[derive(Drop)]
+#[derive(Clone, Copy)]
 pub struct Lit(u32);
 
 impl Var {
@@ -158,7 +160,7 @@ pub fn is_reset(own: u32, reset: u32) -> bool
 }
 
 // M, I, L, O, A, B, C: the largest variable; the inputs, latches, outputs and gates, bad states and constraints.
-#[derive(Drop)]
+#[derive(Clone, Copy)]
 pub struct Counts {
     pub M: usize,
     pub I: usize,
@@ -170,14 +172,14 @@ pub struct Counts {
 }
 
 // The report of 2007, or 1.9, which goes on from it.
-#[derive(Drop)]
+#[derive(Clone, Copy)]
 pub enum Version {
     V2007,
     V19,
 }
 
 // The six classes of bytes: new line, space, digit 0, digits 1 to 9, other printable, the rest.
-#[derive(Drop)]
+#[derive(Clone, Copy)]
 pub enum Class {
     Line,
     Space,
@@ -188,7 +190,7 @@ pub enum Class {
 }
 
 // One case for each refusal number from 1 to 27, in their order, each with its place.
-#[derive(Drop)]
+#[derive(Clone, Copy)]
 pub enum Refusal {
     WrongByte(usize),
     LargeCount(usize),
@@ -220,7 +222,7 @@ pub enum Refusal {
 }
 
 // A number at a position of a file.
-#[derive(Drop)]
+#[derive(Clone, Copy)]
 pub enum Number {
     // The value, cut at 2 ^ 21, and the position after it.
     Value(u32, usize),
@@ -229,7 +231,7 @@ pub enum Number {
 }
 
 // A difference at a position of a file.
-#[derive(Drop)]
+#[derive(Clone, Copy)]
 pub enum Difference {
     // The value and the position after it.
     Value(u32, usize),
@@ -240,56 +242,56 @@ pub enum Difference {
 }
 
 // What a part of a file answers: the position after it.
-#[derive(Drop)]
+#[derive(Clone, Copy)]
 pub enum Passed {
     To(usize),
     Refused(Refusal),
 }
 
 // What a header answers: whether it is binary, the counts, and the position after it.
-#[derive(Drop)]
+#[derive(Clone, Copy)]
 pub enum Headed {
     Accepted(bool, Counts, usize),
     Refused(Refusal),
 }
 
 // What a reader answers: the counts and where the tail starts.
-#[derive(Drop)]
+#[derive(Clone, Copy)]
 pub enum Loaded {
     Accepted(Counts, usize),
     Refused(Refusal),
 }
 
 // What a check of given tables answers.
-#[derive(Drop)]
+#[derive(Clone, Copy)]
 pub enum Checked {
     Good,
     Refused(Refusal),
 }
 
 // What a writer answers: the number of bytes written.
-#[derive(Drop)]
+#[derive(Clone, Copy)]
 pub enum Written {
     Bytes(usize),
     Refused(Refusal),
 }
 
 // What conversion and reduction answer: the counts of the circuit made.
-#[derive(Drop)]
+#[derive(Clone, Copy)]
 pub enum Made {
     Accepted(Counts),
     Refused(Refusal),
 }
 
 // What the stepper answers.
-#[derive(Drop)]
+#[derive(Clone, Copy)]
 pub enum Stepped {
     Done,
     Refused(Refusal),
 }
 
 // What the witness question in three values answers.
-#[derive(Drop)]
+#[derive(Clone, Copy)]
 pub enum Verdict {
     Yes,
     No,
@@ -297,7 +299,7 @@ pub enum Verdict {
 }
 
 // What the witness question answers: whether every filling of the x shows a 1, and how many were tried.
-#[derive(Drop)]
+#[derive(Clone, Copy)]
 pub enum Finding {
     Yes(usize),
     No(usize),
@@ -307,7 +309,7 @@ pub enum Finding {
 
 // What the search answers: it never happens, and how many states are reached; it can, by a list of so many steps; or the allowance is used up.
 // Each with the tries made.
-#[derive(Drop)]
+#[derive(Clone, Copy)]
 pub enum Happening {
     Never(usize, usize),
     Can(usize, usize),
@@ -316,7 +318,7 @@ pub enum Happening {
 }
 
 // What a part of a run answers: how many lines of it.
-#[derive(Drop)]
+#[derive(Clone, Copy)]
 pub enum Traced {
     Lines(usize),
     Refused(Refusal),

@@ -1,4 +1,6 @@
 // Reading a file of either form.
+#![tactic(auto)]
+
 ghost use Rattle.std.specs.Prelude.{◌≡◌, true, ℕ, get_or};
 ghost use Rattle.plan.specs.Circuit.{seven, lengths_of};
 ghost use Rattle.plan.specs.Header.{adds};

@@ -14,7 +14,7 @@ use crate::pairs::{Place, left_side};
 use plan::{Lit, Var};
 
 // What two sides give with no look at the retained gates.
-#[derive(Drop)]
+#[derive(Clone, Copy)]
 enum Rule {
     Gives(u32),
     Open,

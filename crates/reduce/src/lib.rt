@@ -1,5 +1,7 @@
 // Reduction: folds gates in order, and writes what is left of the circuit into tables lent for writing (the paper,
 // reduction).
+#![tactic(auto)]
+
 ghost use Rattle.std.specs.Prelude.{◌≡◌};
 ghost use Rattle.plan.specs.Outcome.{reduction};
 ghost use Rattle.reduce.specs.Becoming.{Replaceable, replaced};

@@ -14,7 +14,7 @@ ghost use Rattle.reduce.specs.pairs.Pairs.{number_of, stored, gates_hung, scratc
 use plan::{Lit, Var};
 
 // Where a gate hangs.
-#[derive(Drop)]
+#[derive(Clone, Copy)]
 pub enum Slot {
     // At a root: a word of the scratch.
     Root(usize),
@@ -23,7 +23,7 @@ pub enum Slot {
 }
 
 // Where a pair belongs.
-#[derive(Drop)]
+#[derive(Clone, Copy)]
 pub enum Place {
     // The left side of the earlier gate with the same pair.
     Taken(u32),

@@ -1,5 +1,7 @@
 // The needle report: a list of input vectors is stepped from the state of the resets, and each output's and each
 // latch's values are counted (the paper, the needle report).
+#![tactic(auto)]
+
 ghost use Rattle.std.specs.Prelude.{◌≡◌, List, [], ◌++◌, map, ℕ, ◌+◌, ◌*◌, ltb, length};
 ghost use Rattle.plan.specs.Refusals.{first_of};
 ghost use Rattle.plan.specs.Circuit.{Tables, circuit_of, seven, cleared};

@@ -1,6 +1,8 @@
 // Reports on the circuit of plan.in, converted, over the vectors of standard input, or writes the line of the
 // refusal (the paper, the needle report). 14, 13, the reader's refusals and 4 are decided by whole::ordered, 4 at
 // table 6 here, those of standard input by runs::stimulus.
+#![tactic(auto)]
+
 use plan::{Counts, Made, Refusal, Stepped, Traced};
 use runs::{reporting, stimulus};
 use whole::ordered;

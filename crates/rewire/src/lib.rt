@@ -1,5 +1,7 @@
 // One gate rewired at the desk: the edit is judged, its two right sides are stored, and the values from it upward
 // are computed anew, in one pass over the bytes on the screen (the paper, rewiring one gate).
+#![tactic(auto)]
+
 ghost use Rattle.std.specs.Prelude.{◌≡◌, [], ◌∷◌, ℕ, ◌+◌, ◌*◌, ◌<◌, ◌≤◌, min, max, length, get_or};
 ghost use Rattle.plan.specs.declared.Refusal.TheVariants.{WrongValue};
 ghost use Rattle.plan.specs.Literals.{var_of, sign_of, word_of};

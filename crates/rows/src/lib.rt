@@ -1,5 +1,7 @@
 // Many rows at once, from vectors of bytes into vectors of bytes or into a report: up to 64 rows, each stepped once
 // from the resets (the paper, many rows).
+#![tactic(auto)]
+
 ghost use Rattle.std.specs.Prelude.{◌≡◌, cond, ◌&&◌, ◌*◌, ◌≤◌, eqb, length};
 ghost use Rattle.plan.specs.declared.Stepped.TheVariants.{Refused};
 ghost use Rattle.plan.specs.Literals.{most};

@@ -23,7 +23,7 @@ use tables::clear;
 use write::forms::append;
 
 // What both engines answer, or that they part.
-#[derive(Drop)]
+#[derive(Clone, Copy)]
 pub enum Compared {
     Lines(usize),
     Differ,

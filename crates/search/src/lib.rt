@@ -1,4 +1,6 @@
 // Can it ever happen: a search of the states of a small circuit, breadth first (the paper, the search).
+#![tactic(auto)]
+
 ghost use Rattle.std.specs.Prelude.{◌≡◌, cond, List, map, ℕ, ◌+◌, ◌*◌, ◌/◌, ◌%◌, ◌^◌, ◌≤◌, ◌<◌, length};
 ghost use Rattle.plan.specs.Step.{is1, value_of};
 ghost use Rattle.plan.specs.Outcome.{put};
@@ -28,7 +30,7 @@ use witness::{count_resets, load_resets_filled};
 mod back;
 
 // What a move does: it is barred, it shows what is looked for, or it leads to a state.
-#[derive(Drop)]
+#[derive(Clone, Copy)]
 pub enum Attempt {
     Barred,
     Seen,
@@ -109,7 +111,7 @@ fn try_move(
 }
 
 // What a turn of the search comes to: it is found, or so many states are met.
-#[derive(Drop)]
+#[derive(Clone, Copy)]
 pub enum Turn {
     Found,
     Left(usize),
@@ -163,7 +165,7 @@ fn take_turn(
 }
 
 // What a search of the states comes to: how many are reached; the place of a state and the move that shows it; or undecided. Each with the tries.
-#[derive(Drop)]
+#[derive(Clone, Copy)]
 pub enum Reach {
     Never(usize, usize),
     Shown(usize, u32, usize),

@@ -1,4 +1,6 @@
 // A step in three values, from vectors of bytes into vectors of bytes (the paper, stepping).
+#![tactic(auto)]
+
 ghost use Rattle.plan.specs.Circuit.{Tables, circuit_of};
 ghost use Rattle.plan.specs.Outcome.{step};
 ghost use Rattle.step.specs.sweep.Running.{these, Runs};

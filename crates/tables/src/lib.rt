@@ -1,4 +1,6 @@
 // Lent tables of words.
+#![tactic(auto)]
+
 ghost use Rattle.std.specs.Prelude.{◌≡◌, ◌≤◌, min};
 ghost use Rattle.plan.specs.Literals.{most};
 ghost use Rattle.plan.specs.Circuit.{seven, cleared, all_cleared, words_with, scratch_to_work, against, least_short};
@@ -11,7 +13,7 @@ use plan::Counts;
 pub mod bitmap;
 
 // The words of tables 1 to 4 and 7 to 9.
-#[derive(Drop)]
+#[derive(Clone, Copy)]
 pub struct Sizes {
     pub inputs: usize,
     pub latches: usize,

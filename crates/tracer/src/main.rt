@@ -1,6 +1,8 @@
 // Traces the circuit of plan.in, converted, from its first state on the vectors of standard input, or writes the
 // line of the refusal (the paper, programs). 14, 13, the reader's refusals and 4 are decided by whole::ordered,
 // those of standard input by runs::trace.
+#![tactic(auto)]
+
 use plan::{Counts, Made, Traced};
 use runs::{stimulus, trace};
 use step::values;

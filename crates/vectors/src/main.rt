@@ -1,5 +1,7 @@
 // Runs the worked examples of the paper and of the AIGER report, and writes what came of each. The arguments are
 // three words for each: what is asked, the example's file, and the file of its vectors where it is to be stepped.
+#![tactic(auto)]
+
 ghost use Rattle.std.specs.Prelude.{◌≤◌, length};
 
 use codec::differences;

@@ -1,4 +1,6 @@
 // A whole file comes in: from the bytes of an input to tables that hold its circuit (the paper, programs).
+#![tactic(auto)]
+
 ghost use Rattle.whole.specs.Lent.{OpensFile};
 
 use plan::{Loaded, Refusal, Version};

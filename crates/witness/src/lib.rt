@@ -1,4 +1,6 @@
 // The witness question by fillings: each x of the start and of the list is filled by 0 or 1 (the paper, the witness question).
+#![tactic(auto)]
+
 ghost use Rattle.std.specs.Prelude.{◌≡◌, cond, List, map, ℕ, ◌+◌, ◌*◌, ◌≤◌, ◌<◌, length};
 ghost use Rattle.plan.specs.Circuit.{circuit_of, seven};
 ghost use Rattle.plan.specs.Step.{Value, code_of, value_of, reset_value};

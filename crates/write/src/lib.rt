@@ -1,5 +1,7 @@
 // Writing given tables in text form or binary form, and their tail (the paper, text form, binary form, and refusal
 // numbers; AIGER report, sections 7, 11 and 12; AIGER 1.9).
+#![tactic(auto)]
+
 ghost use Rattle.std.specs.Prelude.{◌≡◌, ◌++◌};
 ghost use Rattle.plan.specs.Refusals.{first_of};
 ghost use Rattle.plan.specs.Circuit.{cleared};
