@@ -1,0 +1,11 @@
+-- Each answer is given by `refusal-told`.
+use mathlib.Core.Path.{refl, sym, ap, ◌∙◌}
+use borrow.Author.Rules.{rules}
+use Rattle.plan.specs.Outcome.{checked_values}
+use Rattle.answers.proofs.numbers.Refused.{refusal-told}
+use Rattle.answers.proofs.numbers.checked.Goals as goal
+
+pub returns-in-Refused : goal.returns-in-Refused
+returns-in-Refused c =
+    refusal-told c.told_number.ensures c.told_place.ensures refl
+    ∙ sym (ap checked_values c.in-Refused.is)

@@ -1,0 +1,11 @@
+-- Each answer is given by `refusal-told`.
+use mathlib.Core.Path.{refl, sym, ap, ◌∙◌}
+use borrow.Author.Rules.{rules}
+use Rattle.plan.specs.Outcome.{stepped_values}
+use Rattle.answers.proofs.numbers.Refused.{refusal-told}
+use Rattle.answers.proofs.numbers.stepped.Goals as goal
+
+pub returns-in-Refused : goal.returns-in-Refused
+returns-in-Refused c =
+    refusal-told c.told_number.ensures c.told_place.ensures refl
+    ∙ sym (ap stepped_values c.in-Refused.is)

@@ -1,0 +1,21 @@
+-- A turn adds one number.
+use borrow.Author.Rules.{rules}
+use Prim.Native.Nat.{◌-◌}
+use Rattle.cards.proofs.fill.Filling.{Worded, none-worded, one-worded, all-worded}
+use Rattle.cards.proofs.fill.fill_words.Goals as goal
+
+pub loop-i-init : goal.loop-i-init
+loop-i-init c = none-worded _ _ _ _
+
+pub loop-i-preserved : goal.loop-i-preserved
+loop-i-preserved c =
+    let s = c.loop-i in
+    let d = c.before.before.before.before.before in
+    let a = d.args in
+    one-worded a.file.now a.at a.n a.table.now s.table s.i s.invariant d.requires.n_in_bounds_2 c.loop-i-test.true _ c.word_at.ensures
+
+pub returns : goal.returns
+returns c =
+    let s = c.loop-i in
+    let a = c.args in
+    all-worded a.file.now a.at a.n a.table.now s.table s.i s.invariant c.loop-i-test.false

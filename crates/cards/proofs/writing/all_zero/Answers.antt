@@ -1,0 +1,26 @@
+-- A turn passes one word.
+use borrow.Author.Rules.{rules}
+use Prim.Native.Nat.{◌-◌}
+use Rattle.cards.proofs.writing.Holding.{Zeros, none_seen, not-zero, one_seen, all_seen}
+use Rattle.cards.proofs.writing.all_zero.Goals as goal
+
+pub loop-i-init : goal.loop-i-init
+loop-i-init c = none_seen _ _
+
+pub returns-then-table-i-ne0 : goal.returns-then-table-i-ne0
+returns-then-table-i-ne0 c =
+    let s = c.loop-i in
+    let d = c.before.before.before.before in
+    not-zero d.args.table.now d.args.n s.i s.invariant d.requires c.loop-i-test.true c.if-table-i-ne0.true
+
+pub loop-i-preserved : goal.loop-i-preserved
+loop-i-preserved c =
+    let s = c.loop-i in
+    let d = c.before.before.before.before in
+    one_seen d.args.table.now d.args.n s.i s.invariant d.requires c.loop-i-test.true c.if-table-i-ne0.false
+
+pub returns : goal.returns
+returns c =
+    let s = c.loop-i in
+    let d = c.before.before in
+    all_seen d.args.table.now d.args.n s.i s.invariant d.requires c.loop-i-test.false

@@ -1,0 +1,23 @@
+-- Whether given tables hold a circuit that a reader could have accepted: number (0: they do) and place. Each answer is given by `check-told`.
+use native.Mathlib.Omega.{arith}
+use borrow.Author.Rules.{rules}
+use Rattle.plan.specs.Circuit.{seven}
+use Rattle.plan.specs.Header.{counts_from}
+use Rattle.plan.specs.Given.{Given}
+use Rattle.judge.specs.Judged.{given_at}
+use Rattle.desk.proofs.Answers.{check-told}
+use Rattle.desk.proofs.golvanzo_check.Goals as goal
+
+pub shape_of-scratch : goal.shape_of-scratch
+shape_of-scratch c = omega (arith, c.check-r.auto.marks)
+
+pub returns : goal.returns
+returns c =
+    let start = c.before.before.before.before.before.before.before.before.before.before.before.before.before.before.before in
+    let counts' = c.counts-n in
+    let checked = c.check-r in
+    let a = start.args in
+    let g : Given = given_at (counts_from a.counts.now) (seven a.inputs.now a.latches.now a.outputs.now a.gates.now
+    a.resets.now a.bads.now a.constraints.now) a.scratch.now in
+    check-told g _ (record { answer = checked.result; scratch = checked.new.1.1.1.1.1.1.1.1.0 }) _ counts'.ensures checked.ensures
+    c.checked.ensures

@@ -1,0 +1,68 @@
+-- Drops the unused gates of the circuit in given tables, which are in binary order, into written ones: the same answer. Each answer is given by
+-- `made_told`.
+use native.Mathlib.Omega.{arith}
+use borrow.Author.Rules.{rules}
+use Rattle.plan.specs.Circuit.{seven}
+use Rattle.plan.specs.Circuit.{Tables}
+use Rattle.plan.specs.Header.{counts_from}
+use Rattle.plan.specs.Given.{Given}
+use Rattle.judge.specs.Judged.{given_at}
+use Rattle.plan.specs.Outcome.{MakeExit}
+use Rattle.plan.specs.Drop.{dropping}
+use Rattle.desk.proofs.Answers.{made_told}
+use Rattle.desk.proofs.golvanzo_drop.Goals as goal
+
+pub shape_of-to_inputs : goal.shape_of-to_inputs
+shape_of-to_inputs c =
+    let d0 = c.before.before.before.before.before.before.before.before.before.before.before.before.before.before.before in
+    omega (arith, d0.drop_unused-r.auto.to_inputs)
+
+pub shape_of-to_latches : goal.shape_of-to_latches
+shape_of-to_latches c =
+    omega (
+  arith,
+  c.to_latches-1.given,
+)
+
+pub shape_of-to_outputs : goal.shape_of-to_outputs
+shape_of-to_outputs c = omega (arith, c.to_outputs-1.given)
+
+pub shape_of-to_gates : goal.shape_of-to_gates
+shape_of-to_gates c = omega (arith, c.to_gates-1.given)
+
+pub shape_of-to_resets : goal.shape_of-to_resets
+shape_of-to_resets c = omega (arith, c.to_resets-1.given)
+
+pub shape_of-to_bads : goal.shape_of-to_bads
+shape_of-to_bads c = omega (arith, c.to_bads-1.given)
+
+pub shape_of-to_constraints : goal.shape_of-to_constraints
+shape_of-to_constraints c = omega (arith, c.to_constraints-1.given)
+
+pub shape_of-scratch : goal.shape_of-scratch
+shape_of-scratch c = omega (arith, c.scratch-1.given)
+
+pub returns : goal.returns
+returns c =
+    let s0 = c.before.before.before.before.before.before.before.before.before.before.before.before.before.before.before in
+    let s1 = s0.before.before.before.before.before.before.before.before.before.before.before.before.before.before.before in
+    let start = s1.before.before.before.before.before.before.before.before.before.before.before.before.before in
+    let n0 = c.before.before.before.before.before.before.before.before.before.before.before.before.before.before.before in
+    let counts' = n0.counts-n in
+    let k0 = c.before.before.before.before.before.before.before.before.before.before.before.before.before.before.before in
+    let made = k0.drop_unused-r in
+    let a = start.args in
+    let g : Given = given_at (counts_from a.counts.now) (seven a.inputs.now a.latches.now a.outputs.now a.gates.now
+    a.resets.now a.bads.now a.constraints.now) a.scratch.now in
+    let t : Tables = seven a.to-inputs.now a.to-latches.now a.to-outputs.now a.to-gates.now
+    a.to-resets.now a.to-bads.now a.to-constraints.now in
+    let l = made.new in
+    let x : MakeExit = record {
+      answer = made.result;
+      written = seven l.1.1.1.1.1.1.1.1.0 l.1.1.1.1.1.1.1.1.1.0
+          l.1.1.1.1.1.1.1.1.1.1.0 l.1.1.1.1.1.1.1.1.1.1.1.0
+          l.1.1.1.1.1.1.1.1.1.1.1.1.0 l.1.1.1.1.1.1.1.1.1.1.1.1.1.0
+          l.1.1.1.1.1.1.1.1.1.1.1.1.1.1.0;
+      scratch = l.1.1.1.1.1.1.1.1.1.1.1.1.1.1.1.0;
+    } in
+    made_told dropping g t _ x _ counts'.ensures made.ensures c.made.ensures

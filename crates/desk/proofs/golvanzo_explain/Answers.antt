@@ -1,0 +1,34 @@
+-- What made an output 0 or 1 in a step of given tables, which are in binary order: number (0: explained) and place. Each answer is given by
+-- `explain-told`.
+use native.Mathlib.Omega.{arith}
+use borrow.Author.Rules.{rules}
+use Rattle.plan.specs.Circuit.{seven}
+use Rattle.plan.specs.Header.{counts_from}
+use Rattle.plan.specs.Given.{Given}
+use Rattle.judge.specs.Judged.{given_at}
+use Rattle.plan.specs.Explain.{ExplainExit}
+use Rattle.desk.proofs.Answers.{explain-told}
+use Rattle.desk.proofs.golvanzo_explain.Goals as goal
+
+pub shape_of-scratch : goal.shape_of-scratch
+shape_of-scratch c = omega (arith, c.explain-r.auto.scratch)
+
+pub shape_of-marks : goal.shape_of-marks
+shape_of-marks c = omega (arith, c.marks-1.given)
+
+pub returns : goal.returns
+returns c =
+    let called = c.before.before.before.before.before.before in
+    let counts' = called.before.before.before in
+    let start = counts'.before.before.before.before.before.before.before.before.before.before.before.before in
+    let a = start.args in
+    let g : Given = given_at (counts_from a.counts.now) (seven a.inputs.now a.latches.now a.outputs.now a.gates.now
+    a.resets.now a.bads.now a.constraints.now) a.scratch.now in
+    let l = called.explain-r.new in
+    let x : ExplainExit = record {
+      answer = called.explain-r.result;
+      scratch = l.1.1.1.1.1.1.1.1.0;
+      marks = l.1.1.1.1.1.1.1.1.1.1.1.1.0;
+    } in
+    explain-told g a.state.now a.ins.now a.output a.marks.now _ x _ counts'.counts-n.ensures called.explain-r.ensures
+    c.stepped.ensures

@@ -1,0 +1,83 @@
+-- Reads a file of AIGER 1.9 into the tables; where its tail starts, which after a refusal is the file's length. Each answer is given by
+-- `tail-starts`.
+use native.Mathlib.Omega.{arith}
+use borrow.Author.Rules.{rules}
+use Rattle.plan.specs.declared.Version.TheVariants.{V19}
+use Rattle.plan.specs.Circuit.{seven}
+use Rattle.plan.specs.Outcome.{ReadEntry, ReadExit}
+use Rattle.desk.proofs.Tails.{tail-shorter, tail-starts}
+use Rattle.desk.proofs.golvanzo_read.Goals as goal
+
+pub overflow_sub-result : goal.overflow_sub-result
+overflow_sub-result c =
+    let s0 = c.before.before.before.before.before.before.before.before.before.before.before.before.before.before.before in
+    let s1 = s0.before.before.before.before.before.before.before.before.before.before.before.before.before.before.before in
+    let start = s1.before.before.before.before.before in
+    let k0 = c.before.before.before.before.before.before.before.before.before.before.before.before.before.before.before in
+    let read = k0.read-tail in
+    let a = start.args in
+    let e : ReadEntry = record {
+      file = a.file.now;
+      tables = seven a.inputs.now a.latches.now a.outputs.now a.gates.now a.resets.now a.bads.now a.constraints.now;
+      scratch = a.scratch.now;
+    } in
+    let l = read.new in
+    let x : ReadExit = record {
+      answer = l.1.1.1.1.1.1.1.1.1.1.0;
+      tail = read.result.now;
+      tables = seven l.1.1.0 l.1.1.1.0 l.1.1.1.1.0 l.1.1.1.1.1.0
+          l.1.1.1.1.1.1.0 l.1.1.1.1.1.1.1.0 l.1.1.1.1.1.1.1.1.0;
+      scratch = l.1.1.1.1.1.1.1.1.1.0;
+    } in
+    omega (arith, tail-shorter V19 e x read.ensures)
+
+pub shape_of-inputs : goal.shape_of-inputs
+shape_of-inputs c =
+    omega (
+  arith,
+  c.read-tail.auto.inputs,
+)
+
+pub shape_of-latches : goal.shape_of-latches
+shape_of-latches c = omega (arith, c.latches-1.given)
+
+pub shape_of-outputs : goal.shape_of-outputs
+shape_of-outputs c = omega (arith, c.outputs-1.given)
+
+pub shape_of-gates : goal.shape_of-gates
+shape_of-gates c = omega (arith, c.gates-1.given)
+
+pub shape_of-resets : goal.shape_of-resets
+shape_of-resets c = omega (arith, c.resets-1.given)
+
+pub shape_of-bads : goal.shape_of-bads
+shape_of-bads c = omega (arith, c.bads-1.given)
+
+pub shape_of-constraints : goal.shape_of-constraints
+shape_of-constraints c = omega (arith, c.constraints-1.given)
+
+pub shape_of-scratch : goal.shape_of-scratch
+shape_of-scratch c = omega (arith, c.scratch-1.given)
+
+pub returns : goal.returns
+returns c =
+    let s0 = c.before.before.before.before.before.before.before.before.before.before.before.before.before.before.before in
+    let s1 = s0.before.before.before.before.before.before.before.before.before.before.before.before.before.before.before in
+    let start = s1.before.before.before.before.before in
+    let k0 = c.before.before.before.before.before.before.before.before.before.before.before.before.before.before.before in
+    let read = k0.read-tail in
+    let a = start.args in
+    let e : ReadEntry = record {
+      file = a.file.now;
+      tables = seven a.inputs.now a.latches.now a.outputs.now a.gates.now a.resets.now a.bads.now a.constraints.now;
+      scratch = a.scratch.now;
+    } in
+    let l = read.new in
+    let x : ReadExit = record {
+      answer = l.1.1.1.1.1.1.1.1.1.1.0;
+      tail = read.result.now;
+      tables = seven l.1.1.0 l.1.1.1.0 l.1.1.1.1.0 l.1.1.1.1.1.0
+          l.1.1.1.1.1.1.0 l.1.1.1.1.1.1.1.0 l.1.1.1.1.1.1.1.1.0;
+      scratch = l.1.1.1.1.1.1.1.1.1.0;
+    } in
+    tail-starts V19 e x read.ensures

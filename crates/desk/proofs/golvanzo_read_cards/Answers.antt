@@ -1,0 +1,48 @@
+-- What the reader of cards answers, as numbers.
+use Prim.Native.Nat.{ℕ}
+use mathlib.Core.Path.{ap, ◌∙◌}
+use mathlib.Core.List.{List}
+use borrow.Author.Rules.{rules}
+use Rattle.plan.specs.Circuit.{seven}
+use Rattle.plan.specs.Outcome.{LoadExit, loaded_values}
+use Rattle.desk.specs.Told.{CardsTold}
+use Rattle.desk.proofs.golvanzo_read_cards.Goals as goal
+
+-- the answer, and all else as the reader left it
+abbrev told : List ℕ → LoadExit → CardsTold
+told answer x = record { answer = answer; tables = x.tables; scratch = x.scratch }
+
+pub shape_of-inputs : goal.shape_of-inputs
+shape_of-inputs c = c.read_cards-r.auto.inputs
+
+pub shape_of-latches : goal.shape_of-latches
+shape_of-latches c = c.latches-1.given
+
+pub shape_of-outputs : goal.shape_of-outputs
+shape_of-outputs c = c.outputs-1.given
+
+pub shape_of-gates : goal.shape_of-gates
+shape_of-gates c = c.gates-1.given
+
+pub shape_of-resets : goal.shape_of-resets
+shape_of-resets c = c.resets-1.given
+
+pub shape_of-bads : goal.shape_of-bads
+shape_of-bads c = c.bads-1.given
+
+pub shape_of-constraints : goal.shape_of-constraints
+shape_of-constraints c = c.constraints-1.given
+
+pub shape_of-scratch : goal.shape_of-scratch
+shape_of-scratch c = c.scratch-1.given
+
+pub returns : goal.returns
+returns c =
+    let read = c.read_cards-r in
+    let l = read.last in
+    let x : LoadExit = record {
+      answer = read.result;
+      tables = seven l.1.0 l.1.1.0 l.1.1.1.0 l.1.1.1.1.0 l.1.1.1.1.1.0 l.1.1.1.1.1.1.0 l.1.1.1.1.1.1.1.0;
+      scratch = l.1.1.1.1.1.1.1.1.0;
+    } in
+    ap (λ (answer : List ℕ). told answer x) c.loaded.ensures ∙ ap (λ (y : LoadExit). told (loaded_values y.answer) y) read.ensures

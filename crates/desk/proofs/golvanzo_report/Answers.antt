@@ -1,0 +1,32 @@
+-- The needle report of a list of vectors: number (0: reported) and place; the numbers go to table 6. Each answer is given by `report-told`.
+use native.Mathlib.Omega.{arith}
+use borrow.Author.Rules.{rules}
+use Rattle.plan.specs.Circuit.{seven}
+use Rattle.plan.specs.Header.{counts_from}
+use Rattle.plan.specs.Given.{Given}
+use Rattle.judge.specs.Judged.{given_at}
+use Rattle.plan.specs.Report.{ReportExit}
+use Rattle.desk.proofs.Reporting.{report-told}
+use Rattle.desk.proofs.golvanzo_report.Goals as goal
+
+pub shape_of-scratch : goal.shape_of-scratch
+shape_of-scratch c = omega (arith, c.report-r.auto.scratch)
+
+pub shape_of-six : goal.shape_of-six
+shape_of-six c = omega (arith, c.six-1.given)
+
+pub returns : goal.returns
+returns c =
+    let start = c.before.before.before.before.before.before.before.before.before.before.before.before.before.before.before.before.before.before.before.before in
+    let counts' = c.counts-n in
+    let reported = c.report-r in
+    let a = start.args in
+    let g : Given = given_at (counts_from a.counts.now) (seven a.inputs.now a.latches.now a.outputs.now a.gates.now
+    a.resets.now a.bads.now a.constraints.now) a.scratch.now in
+    let l = reported.new in
+    let x : ReportExit = record {
+      answer = reported.result;
+      scratch = l.1.1.1.1.1.1.1.1.0;
+      six = l.1.1.1.1.1.1.1.1.1.1.1.0;
+    } in
+    report-told g a.number a.bytes.now a.six.now _ x _ counts'.ensures reported.ensures c.stepped.ensures

@@ -1,0 +1,32 @@
+-- The row report of up to 64 rows, into table 6: number (0: reported) and place. Each answer is given by `report-told`.
+use native.Mathlib.Omega.{arith}
+use borrow.Author.Rules.{rules}
+use Rattle.plan.specs.Circuit.{seven}
+use Rattle.plan.specs.Header.{counts_from}
+use Rattle.plan.specs.Given.{Given}
+use Rattle.judge.specs.Judged.{given_at}
+use Rattle.plan.specs.Rows.{RowReportExit}
+use Rattle.desk.proofs.RowsAnswers.{report-told}
+use Rattle.desk.proofs.golvanzo_report_rows.Goals as goal
+
+pub shape_of-scratch : goal.shape_of-scratch
+shape_of-scratch c = omega (arith, c.report_rows-r.auto.scratch)
+
+pub shape_of-report : goal.shape_of-report
+shape_of-report c = omega (arith, c.report-1.given)
+
+pub returns : goal.returns
+returns c =
+    let asked = c.before.before.before.before.before.before in
+    let start = asked.before.before.before.before.before.before.before.before.before.before.before.before.before.before in
+    let a = start.args in
+    let g : Given = given_at (counts_from a.counts.now) (seven a.inputs.now a.latches.now a.outputs.now a.gates.now
+    a.resets.now a.bads.now a.constraints.now) a.scratch.now in
+    let l = asked.report_rows-r.new in
+    let x : RowReportExit = record {
+      answer = asked.report_rows-r.result;
+      scratch = l.1.1.1.1.1.1.1.1.0;
+      report = l.1.1.1.1.1.1.1.1.1.1.1.0;
+    } in
+    report-told g a.rows a.ins.now a.report.now _ x _ asked.counts-n.ensures asked.report_rows-r.ensures
+    c.stepped.ensures

@@ -1,0 +1,37 @@
+-- Up to 64 rows, each stepped once from the resets: number (0: stepped) and place. Each answer is given by `rows_told`.
+use native.Mathlib.Omega.{arith}
+use borrow.Author.Rules.{rules}
+use Rattle.plan.specs.Circuit.{seven}
+use Rattle.plan.specs.Header.{counts_from}
+use Rattle.plan.specs.Given.{Given}
+use Rattle.judge.specs.Judged.{given_at}
+use Rattle.plan.specs.Rows.{RowsExit}
+use Rattle.desk.proofs.RowsAnswers.{rows_told}
+use Rattle.desk.proofs.golvanzo_rows.Goals as goal
+
+pub shape_of-scratch : goal.shape_of-scratch
+shape_of-scratch c = omega (arith, c.step_rows-r.auto.scratch)
+
+pub shape_of-nexts : goal.shape_of-nexts
+shape_of-nexts c = omega (arith, c.nexts-1.given)
+
+pub shape_of-outs : goal.shape_of-outs
+shape_of-outs c = omega (arith, c.outs-1.given)
+
+pub returns : goal.returns
+returns c =
+    let s0 = c.before.before.before.before.before.before.before.before.before.before.before.before.before.before.before in
+    let start = s0.before.before.before.before.before.before.before.before.before in
+    let counts' = c.counts-n in
+    let stepped = c.step_rows-r in
+    let a = start.args in
+    let g : Given = given_at (counts_from a.counts.now) (seven a.inputs.now a.latches.now a.outputs.now a.gates.now
+    a.resets.now a.bads.now a.constraints.now) a.scratch.now in
+    let l = stepped.new in
+    let x : RowsExit = record {
+      answer = stepped.result;
+      scratch = l.1.1.1.1.1.1.1.1.0;
+      nexts = l.1.1.1.1.1.1.1.1.1.1.0;
+      outputs = l.1.1.1.1.1.1.1.1.1.1.1.1.0;
+    } in
+    rows_told g a.rows a.nexts.now a.ins.now a.outs.now _ x _ counts'.ensures stepped.ensures c.stepped.ensures

@@ -1,0 +1,26 @@
+-- The witness question in three values, in which nothing is filled: number (0: answered), place, and 1 for yes or 0 for no. Each answer is given by
+-- `witness3-told`.
+use native.Mathlib.Omega.{arith}
+use borrow.Author.Rules.{rules}
+use Rattle.plan.specs.Circuit.{seven}
+use Rattle.plan.specs.Header.{counts_from}
+use Rattle.plan.specs.Given.{Given}
+use Rattle.judge.specs.Judged.{given_at}
+use Rattle.plan.specs.Outcome.{WitnessExit}
+use Rattle.desk.proofs.Answers.{witness3-told}
+use Rattle.desk.proofs.golvanzo_witness3.Goals as goal
+
+pub shape_of-scratch : goal.shape_of-scratch
+shape_of-scratch c = omega (arith, c.witness3-r.auto.scratch)
+
+pub returns : goal.returns
+returns c =
+    let s0 = c.before.before.before.before.before.before.before.before.before.before.before.before.before.before.before in
+    let start = s0.before in
+    let counts' = c.counts-n in
+    let asked = c.witness3-r in
+    let a = start.args in
+    let g : Given = given_at (counts_from a.counts.now) (seven a.inputs.now a.latches.now a.outputs.now a.gates.now
+    a.resets.now a.bads.now a.constraints.now) a.scratch.now in
+    let x : WitnessExit = record { answer = asked.result; scratch = asked.new.1.1.1.1.1.1.1.1.0 } in
+    witness3-told g a.number a.bytes.now _ x _ counts'.ensures asked.ensures c.verdict.ensures

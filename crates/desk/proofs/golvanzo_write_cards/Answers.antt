@@ -1,0 +1,34 @@
+-- Writes given tables in binary order as plan cards: number (0: written), place and the number of bytes. Each answer is given by `file-told`.
+use native.Mathlib.Omega.{arith}
+use borrow.Author.Rules.{rules}
+use Rattle.plan.specs.Circuit.{seven}
+use Rattle.plan.specs.Header.{counts_from}
+use Rattle.plan.specs.Given.{Given}
+use Rattle.judge.specs.Judged.{given_at}
+use Rattle.plan.specs.Outcome.{FileExit}
+use Rattle.plan.specs.Cards.{write_cards}
+use Rattle.desk.proofs.Answers.{file-told}
+use Rattle.desk.proofs.golvanzo_write_cards.Goals as goal
+
+pub shape_of-scratch : goal.shape_of-scratch
+shape_of-scratch c = omega (arith, c.write_cards-r.auto.scratch)
+
+pub shape_of-out : goal.shape_of-out
+shape_of-out c = omega (arith, c.out-1.given)
+
+pub returns : goal.returns
+returns c =
+    let s0 = c.before.before.before.before.before.before.before.before.before.before.before.before.before.before.before in
+    let start = s0.before.before.before.before.before in
+    let counts' = c.counts-n in
+    let wrote = c.write_cards-r in
+    let a = start.args in
+    let g : Given = given_at (counts_from a.counts.now) (seven a.inputs.now a.latches.now a.outputs.now a.gates.now
+    a.resets.now a.bads.now a.constraints.now) a.scratch.now in
+    let x : FileExit = record {
+      answer = wrote.result;
+      scratch = wrote.new.1.1.1.1.1.1.1.1.0;
+      out
+          = wrote.new.1.1.1.1.1.1.1.1.1.1.0;
+    } in
+    file-told write_cards g a.tail.now a.out.now _ x _ counts'.ensures wrote.ensures c.written.ensures

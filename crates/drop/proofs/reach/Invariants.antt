@@ -1,0 +1,16 @@
+-- From the last gate to the first: in binary order a gate is marked, if at all, before it is come to. The loop keeps `Walking gates a t₀ t k`; the
+-- measure is `k`. `walking-more` carries it from turn to turn, and `walking-end` gives the answer.
+use borrow.Author.Rules.{rules}
+use Prim.Native.Nat.{ℕ, ◌-◌, ◌<◌}
+use mathlib.Core.Path.{sym, subst}
+use native.Mathlib.Omega.{arith}
+use Rattle.laws.proofs.Tables.{gate_at}
+use Rattle.drop.specs.Marks.{Below}
+use Rattle.drop.proofs.Marking.{Walking, walking_start, walking-more, walking-end}
+use Rattle.drop.proofs.reach.Given as goal
+
+abbrev pub invariant-loop-k : goal.invariant-loop-k
+invariant-loop-k l = Walking l.gates l.a l.initial.t l.t l.k
+
+abbrev pub decreases-loop-k : goal.decreases-loop-k
+decreases-loop-k l = l.k

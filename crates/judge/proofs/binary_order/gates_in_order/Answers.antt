@@ -1,0 +1,50 @@
+-- The same of n gates, whose variables run from `first` on: one pass. The loop keeps what `Inv-loop` says; the measure is `n - i`. `test-passes` and
+-- `order-turn` carry it from turn to turn, and `test-fails`, `order-turn` and `order_left` give the answer.
+use Prim.Native.Nat.{ℕ, ◌+◌, ◌*◌, ◌-◌, ◌≤◌}
+use mathlib.Core.Path.{◌≡◌, sym, ap, ◌∙◌}
+use mathlib.Core.Bool.{◌&&◌}
+use mathlib.Core.List.{map}
+use native.Mathlib.Omega.{arith}
+use borrow.Author.Rules.{rules}
+use lib.Dec.{eqb}
+use lib.ListN.{get_or}
+use Rattle.plan.specs.Literals.{lit_of}
+use Rattle.plan.specs.Circuit.{gate_of, rows_of}
+use Rattle.plan.specs.Binary.{runs, falls}
+use Rattle.judge.proofs.binary_order.Steps.{gate_test, order_left, order-turn, test-fails, test-passes}
+use Rattle.judge.proofs.binary_order.gates_in_order.Goals.{In-loop-i}
+use Rattle.judge.proofs.binary_order.gates_in_order.Goals as goal
+
+-- what is left from this turn on: its gate, and what is left after it
+whole : (c : In-loop-i) → let a = c.args in let gates = a.gates.now in let w = c.loop-i in (runs a.first (rows_of 3 a.n gates) && falls (map gate_of (rows_of 3 a.n gates))) ≡ ((eqb (get_or gates w.at 0) (lit_of w.v) && gate_test (get_or gates w.at 0) (get_or gates (w.at + 1) 0) (get_or gates (w.at + 2) 0)) && order_left gates (a.n - (w.i + 1)) (w.at + 3) (w.v + 1))
+whole c =
+    let a = c.args in
+    let w = c.loop-i in
+    w.invariant.3 ∙ order-turn a.gates.now a.n w.i w.at w.v c.loop-i-test.true
+
+pub loop-i-init : goal.loop-i-init
+loop-i-init c =
+    let a = c.args in
+    let all : a.n ≡ a.n - 0 = omega arith in
+    (omega arith, omega arith, omega arith, ap (λ (left : ℕ). order_left a.gates.now left 0 a.first) all)
+
+pub returns-then-not-stands_at : goal.returns-then-not-stands_at
+returns-then-not-stands_at c =
+    let t = c.before.before.before.before.before in
+    test-fails _ _ _ _ (whole t) c.stands_at.ensures c.if-not-stands_at.true-raw
+
+pub loop-i-preserved : goal.loop-i-preserved
+loop-i-preserved c =
+    let t = c.before.before.before.before.before in (
+      omega arith,
+      omega arith,
+      omega arith,
+      test-passes _ _ _ _ (whole t) c.stands_at.ensures c.if-not-stands_at.false-raw,
+    )
+
+pub returns : goal.returns
+returns c =
+    let a = c.args in
+    let w = c.loop-i in
+    let nothing : a.n - w.i ≡ 0 = omega arith in
+    sym (w.invariant.3 ∙ ap (λ (left : ℕ). order_left a.gates.now left w.at w.v) nothing)

@@ -1,0 +1,36 @@
+-- Words before v are settled, the others are as they came.
+use Prim.Native.Nat.{ℕ, ◌≤◌, ◌<◌, ◌-◌}
+use mathlib.Core.Path.{◌≡◌, refl}
+use native.Mathlib.Omega.{arith}
+use borrow.Author.Rules.{rules}
+use lib.ListN.{length, get_or}
+use Rattle.judge.specs.order.Waiting.{shown}
+use Rattle.judge.proofs.order.Settling.{settle_step}
+use Rattle.judge.proofs.order.words.settle.Goals as goal
+
+pub loop-v-init : goal.loop-v-init
+loop-v-init c = (omega arith, refl, λ p k. absurd (omega arith), λ p k. refl)
+
+pub overflow_add-v : goal.overflow_add-v
+overflow_add-v c = omega arith
+
+pub loop-v-smaller : goal.loop-v-smaller
+loop-v-smaller c = omega arith
+
+pub loop-v-preserved : goal.loop-v-preserved
+loop-v-preserved c =
+    let c5 = c.before.before.before.before.before in
+    let c7 = c5.before.before in
+    let A = c7.args in
+    let L = c5.loop-v in
+    let u = c.settle_one.new.t in
+    let same : length u ≡ length L.t = c.settle_one.auto.t in
+    let e = c.settle_one.ensures in
+    let s = settle_step A.t.now L.t u L.v (omega (arith, L.invariant.1)) L.invariant.2 L.invariant.3 e in
+    (omega arith, omega (arith, L.invariant.1), s.0, s.1)
+
+pub shape_of-t : goal.shape_of-t
+shape_of-t c = c.loop-v.invariant.1
+
+pub returns : goal.returns
+returns c = λ v k. c.loop-v.invariant.2 v (omega arith)

@@ -1,0 +1,24 @@
+-- The first right side's word if that names a gate, else the second one's.
+use Prim.Native.Nat.{ℕ, ◌<◌, ◌≤◌}
+use mathlib.Core.Path.{sym, ap, ◌∙◌, subst}
+use borrow.Author.Rules.{rules}
+use lib.ListN.{get_or}
+use Rattle.judge.proofs.order.Watching.{watched-low, watched-high}
+use Rattle.judge.proofs.order.words.watch.Goals as goal
+
+pub returns-then-w-lt2147483648 : goal.returns-then-w-lt2147483648
+returns-then-w-lt2147483648 c = let d =
+    c.before in
+    let f = d.before.before.before.before in
+    let A = f.before.before.before.before.args in
+    ap (λ (v : ℕ). get_or A.t.now v 0) d.var-of2.ensures
+    ∙ sym (watched-low A.gates.now A.t.now A.i
+    (subst (λ (v : ℕ). get_or A.t.now v 0 < 2147483648) f.var-of.ensures d.before.before.if1.true))
+
+pub returns : goal.returns
+returns c = let f =
+    c.before.before in
+    let A = f.before.before.before.before.args in
+    ap (λ (v : ℕ). get_or A.t.now v 0) f.var-of.ensures
+    ∙ sym (watched-high A.gates.now A.t.now A.i
+    (subst (λ (v : ℕ). 2147483648 ≤ get_or A.t.now v 0) f.var-of.ensures c.if-w-lt2147483648.false))

@@ -1,0 +1,28 @@
+-- The first of the tables with a literal out of its range, or 0, in the order of their numbers. The answers are given by `some-table`, `by_first` and
+-- `by_last`.
+use borrow.Author.Rules.{rules}
+use mathlib.Core.Path.{◌∙◌}
+use Rattle.plan.specs.Circuit.{Circuit}
+use Rattle.tables.specs.Held.{circuit_in}
+use Rattle.tables.proofs.Told.{some-table, no_table}
+use Rattle.judge.proofs.ranges.Places.{by_first, by_last}
+use Rattle.judge.proofs.ranges.out_of_range.Goals.{Start}
+use Rattle.judge.proofs.ranges.out_of_range.Goals as goal
+
+abbrev circuit : Start → Circuit
+circuit s =
+    let a = s.args in
+    circuit_in a.n a.inputs.now a.latches.now a.outputs.now a.gates.now a.resets.now a.bads.now a.constraints.now
+
+pub returns-then-first-ne0 : goal.returns-then-first-ne0
+returns-then-first-ne0 c =
+    let e = c.first_tables-first.ensures in
+    let named = some-table c.first_tables-first.result _ c.if-first-ne0.taken e in
+    e ∙ (named ∙ by_first (circuit c.before.before.before.before.before.before.before.before.before) _ named)
+
+pub returns : goal.returns
+returns c =
+    let d = c.before.before in
+    by_last (circuit d.before.before.before.before.before.before.before.before) _
+    (no_table d.first_tables-first.result _ c.if-first-ne0.left d.first_tables-first.ensures)
+    c.last_tables.ensures

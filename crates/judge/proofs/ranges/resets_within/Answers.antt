@@ -1,0 +1,39 @@
+-- Whether the first n latches have a reset each. The loop keeps what `Inv-loop` says; the measure is `left`. `reset-inside` carries it from turn to
+-- turn, and `reset-outside` and `resets_from` give the answer.
+use Prim.Native.Nat.{ℕ, ◌+◌, ◌*◌, ◌≤◌}
+use mathlib.Core.Path.{◌≡◌, refl, sym, ap, ◌∙◌}
+use native.Mathlib.Omega.{arith}
+use borrow.Author.Rules.{rules}
+use borrow.Author.Tests.{not-true, not-false}
+use lib.ListN.{length}
+use Rattle.judge.proofs.ranges.Steps.{resets_from, reset-inside, reset-outside}
+use Rattle.judge.proofs.ranges.resets_within.Goals as goal
+
+pub loop-left-init : goal.loop-left-init
+loop-left-init c = (omega arith, omega arith, refl)
+
+pub returns-then-not-is_reset : goal.returns-then-not-is_reset
+returns-then-not-is_reset c =
+    let a = c.args in
+    let w = c.loop-left in
+    sym (w.invariant.2
+    ∙ reset-outside a.latches.now a.resets.now w.at w.i w.left c.loop-left-test.true w.invariant.1
+    (sym c.is_reset.ensures ∙ not-true c.is_reset.result c.if-not-is_reset.true-raw))
+
+pub loop-left-preserved : goal.loop-left-preserved
+loop-left-preserved c =
+    let a = c.args in
+    let w = c.loop-left in (
+      omega arith,
+      omega arith,
+      w.invariant.2
+          ∙ reset-inside a.latches.now a.resets.now w.at w.i w.left c.loop-left-test.true w.invariant.1
+          (sym c.is_reset.ensures ∙ not-false c.is_reset.result c.if-not-is_reset.false-raw),
+    )
+
+pub returns : goal.returns
+returns c =
+    let a = c.args in
+    let w = c.loop-left in
+    let ended : w.left ≡ 0 = omega arith in
+    sym (w.invariant.2 ∙ ap (λ (k : ℕ). resets_from a.latches.now a.resets.now w.at w.i k) ended)

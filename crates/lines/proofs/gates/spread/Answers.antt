@@ -1,0 +1,32 @@
+-- A turn makes one latch below those that were made.
+use borrow.Author.Rules.{rules}
+use native.Mathlib.Omega.{arith}
+use Prim.Native.Nat.{◌+◌, ◌-◌}
+use mathlib.Core.Path.{◌∙◌}
+use lib.ListN.{length-set}
+use Rattle.lines.proofs.gates.Words.{lit_is}
+use Rattle.lines.proofs.gates.Spreading.{Spread, none-spread, one-spread, all-spread}
+use Rattle.lines.proofs.gates.spread.Goals as goal
+
+pub loop-i-init : goal.loop-i-init
+loop-i-init c = none-spread _ _ _ c.requires.n_in_bounds
+
+pub bounds-table-k-in-loop-i : goal.bounds-table-k-in-loop-i
+bounds-table-k-in-loop-i c = simp length-set (omega arith)
+
+pub loop-i-preserved : goal.loop-i-preserved
+loop-i-preserved c =
+    let lit = c.before in
+    let test = lit.before.before.before in
+    let s = test.loop-i in
+    let start = test.before.before.before in
+    let a = start.args in
+    let v = a.first + (s.i - 1) in
+    let l = lit_is lit.at.result lit.lit.result v (omega arith) lit.at.ensures lit.lit.ensures in
+    one-spread a.first a.n a.table.now start.requires.n_in_bounds s.table s.i s.invariant test.loop-i-test.true _ (c.word.ensures ∙ l)
+
+pub returns : goal.returns
+returns c =
+    let a = c.args in
+    let s = c.loop-i in
+    all-spread a.first a.n a.table.now c.requires.n_in_bounds s.table s.i s.invariant c.loop-i-test.false

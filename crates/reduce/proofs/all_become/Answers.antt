@@ -1,0 +1,50 @@
+-- The first n literals of a table, each replaced by what it became. The loop keeps `(i ≤ n) × (length to ≡ length to₀) × (to ≡ done table became to₀
+-- i)`; the measure is `n - i`. `one_more` carries it from turn to turn, and `done` gives the answer.
+use Prim.Native.Nat.{ℕ, ◌-◌, ◌≤◌}
+use mathlib.Core.Path.{◌≡◌, refl, ap, ap₂, ◌∙◌}
+use mathlib.Core.List.{List}
+use native.Mathlib.Omega.{arith}
+use borrow.Author.Rules.{rules}
+use lib.ListN.{length, get_or, set, take, length-set}
+use lib.Seq.{get_or-take, length-take-le}
+use Rattle.plan.specs.declared.Lit.{Lit}
+use Rattle.plan.specs.Literals.{word_of, var_of}
+use Rattle.plan.specs.Reduce.{becomes}
+use Rattle.reduce.proofs.Replaced.{bounded_at, done, none_done, one_more}
+use Rattle.reduce.proofs.all_become.Goals as goal
+
+pub loop-i-init : goal.loop-i-init
+loop-i-init c = let a = c.args in (omega arith, refl, none_done a.table.now a.became.now a.to.now)
+
+pub becomes-requires : goal.becomes-requires
+becomes-requires c =
+    let s = c.before.before.before.before.before.before.before in
+    let a = s.args in
+    let i = c.loop-i.i in
+    let low = bounded_at (length a.became.now) (take a.n a.table.now) s.requires.low i
+    (omega (arith, length-take-le a.n a.table.now s.requires.table-long)) in
+    omega (arith, ap (λ (l : Lit). var_of (word_of l)) c.at.ensures, low, ap var_of (get_or-take a.n a.table.now i 0 (omega arith)))
+
+pub loop-i-preserved : goal.loop-i-preserved
+loop-i-preserved c =
+    let start = c.before.before.before.before.before.before.before.before.before in
+    let a = start.args in
+    let l = c.loop-i in
+    let word : c.word.result ≡ becomes a.became.now (get_or a.table.now l.i 0)
+    = c.word.ensures ∙ ap word_of c.becomes.ensures
+    ∙ ap (λ (x : Lit). becomes a.became.now (word_of x)) c.at.ensures in (
+      omega arith,
+      length-set l.to l.i c.word.result ∙ l.invariant.1,
+      ap₂ (λ (t : List ℕ) (x : ℕ). set t l.i x) l.invariant.2 word
+          ∙ one_more a.table.now a.became.now a.to.now l.i (omega arith) (omega arith),
+    )
+
+pub shape_of-to : goal.shape_of-to
+shape_of-to c = c.loop-i.invariant.1
+
+pub returns : goal.returns
+returns c =
+    let a = c.args in
+    let l = c.loop-i in
+    let e : l.i ≡ a.n = omega arith in
+    l.invariant.2 ∙ ap (done a.table.now a.became.now a.to.now) e

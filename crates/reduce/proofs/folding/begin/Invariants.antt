@@ -1,0 +1,19 @@
+-- Each variable below n became itself. The loop keeps what `Inv-loop` says; the measure is `n - v`. `whole` and `begin-more` carry it from turn to
+-- turn.
+use borrow.Author.Rules.{rules}
+use Prim.Native.Nat.{ℕ, ◌-◌, ◌≤◌}
+use mathlib.Core.Path.{◌≡◌, refl, ap, ap₂, ◌∙◌}
+use mathlib.Core.List.{List, ◌++◌}
+use native.Mathlib.Omega.{arith}
+use lib.ListN.{length, drop, set, length-set}
+use Rattle.plan.specs.Literals.{lit_of, word_of, doubled}
+use Rattle.plan.specs.Binary.{lits_from}
+use Rattle.reduce.proofs.folding.Loop.{begin-more}
+use Rattle.reduce.proofs.pairs.Roots.{whole}
+use Rattle.reduce.proofs.folding.begin.Given as goal
+
+abbrev pub invariant-loop-v : goal.invariant-loop-v
+invariant-loop-v l = (l.v ≤ l.n) × (length l.scratch ≡ length l.initial.scratch) × (l.scratch ≡ lits_from 0 l.v ++ drop l.v l.initial.scratch)
+
+abbrev pub decreases-loop-v : goal.decreases-loop-v
+decreases-loop-v l = l.n - l.v

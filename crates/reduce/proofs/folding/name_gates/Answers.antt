@@ -1,0 +1,36 @@
+-- The left sides of n retained gates, which stand in their rows' first words once these are no links any more. The loop keeps `(i ≤ n) × (length to ≡
+-- length to₀) × (to ≡ rows base to₀ i ++ drop (3 * i) to₀)`; the measure is `n - i`. `name-more` carries it from turn to turn, and `rows` and
+-- `named-all` give the answer.
+use Prim.Native.Nat.{ℕ, ◌+◌, ◌*◌, ◌-◌, ◌≤◌}
+use mathlib.Core.Path.{◌≡◌, refl, ap, ap₂, ◌∙◌}
+use mathlib.Core.List.{List, ◌++◌}
+use native.Mathlib.Omega.{arith}
+use borrow.Author.Rules.{rules}
+use lib.ListN.{length, drop, set, length-set}
+use Rattle.reduce.proofs.folding.Loop.{rows, name-more, named-all}
+use Rattle.reduce.proofs.folding.name_gates.Goals as goal
+
+pub loop-i-init : goal.loop-i-init
+loop-i-init c = (omega arith, refl, refl)
+
+pub loop-i-preserved : goal.loop-i-preserved
+loop-i-preserved c =
+    let q = c.before.before in
+    let l = q.loop-i in
+    let s = q.before.before.before in
+    let a = s.args in (
+      omega arith,
+      length-set l.to (3 * l.i) c.word.result ∙ l.invariant.1,
+      ap₂ (λ (t : List ℕ) (x : ℕ). set t (3 * l.i) x) l.invariant.2 (c.word.ensures ∙ c.left_side.ensures)
+          ∙ name-more a.base a.to.now l.i (omega (arith, s.requires.0, q.loop-i-test.true)),
+    )
+
+pub shape_of-to : goal.shape_of-to
+shape_of-to c = c.loop-i.invariant.1
+
+pub returns : goal.returns
+returns c =
+    let a = c.args in
+    let l = c.loop-i in
+    let e : l.i ≡ a.n = omega arith in
+    l.invariant.2 ∙ ap (λ (i : ℕ). rows a.base a.to.now i ++ drop (3 * i) a.to.now) e ∙ named-all a.base a.to.now a.n

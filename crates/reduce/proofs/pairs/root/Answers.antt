@@ -1,0 +1,31 @@
+-- Which of the 2 × w roots is the pair's. The answers are given by `root-under` and `root_over`.
+use Prim.Native.Nat.{◌+◌}
+use mathlib.Core.Path.{◌≡◌, ap₂}
+use native.Mathlib.Omega.{arith}
+use borrow.Author.Rules.{rules}
+use Rattle.plan.specs.Literals.{word_of}
+use Rattle.reduce.specs.pairs.Pairs.{spread_of}
+use Rattle.reduce.proofs.pairs.Roots.{spread-low, root-under, root_over}
+use Rattle.reduce.proofs.pairs.root.Goals.{After-spread}
+use Rattle.reduce.proofs.pairs.root.Goals as goal
+
+-- what the code tests
+sum : (c : After-spread) → let a = c.args in c.word.result + c.spread.result ≡ word_of a.x + spread_of a.w (word_of a.y)
+sum c = ap₂ ◌+◌ c.word.ensures c.spread.ensures
+
+pub overflow_add-v : goal.overflow_add-v
+overflow_add-v c =
+    let s = c.before.before in
+    let a = s.args in
+    record { fits = omega (arith, sum c, s.requires, spread-low a.w (word_of a.y) (omega (arith, s.requires.0))) }
+
+pub returns-then-v-w : goal.returns-then-v-w
+returns-then-v-w c =
+    let a = c.args in
+    root-under a.w (word_of a.x) (word_of a.y) _ (sum c.before) (omega (arith, c.if-v-w.true))
+
+pub returns-else-v-w : goal.returns-else-v-w
+returns-else-v-w c =
+    let s = c.before.before.before in
+    let a = s.args in
+    root_over a.w (word_of a.x) (word_of a.y) _ s.requires.0 (sum c.before) (omega (arith, c.if-v-w.false))

@@ -1,0 +1,25 @@
+-- All vectors of a list, whose bytes are good, from the state that scratch holds. The loop keeps `Tables`; the measure is `number - k`. `next_row`
+-- and `going_on` carry it from turn to turn, and `all-gone` gives the answer.
+use Prim.Native.Nat.{ℕ, ◌+◌, ◌*◌, ◌-◌, ◌≤◌}
+use mathlib.Core.Path.{◌≡◌, refl, sym, ◌∙◌}
+use mathlib.Core.List.{List, [], ◌++◌}
+use native.Mathlib.Nat.{mul-zero}
+use native.Mathlib.Omega.{arith}
+use lib.ListN.{length}
+use borrow.Author.Rules.{rules}
+use Rattle.plan.specs.Circuit.{Tables, circuit_of}
+use Rattle.plan.specs.Step.{Value}
+use Rattle.laws.proofs.Tables.{next_row}
+use Rattle.step.specs.sweep.Running.{these, Runs, Rests}
+use Rattle.report.specs.Tallying.{tally}
+use Rattle.report.proofs.Listing.{Vector, Going, vector-ends, vector-length, going_on, going-first, all-gone}
+use Rattle.report.proofs.tally.Given as goal
+
+abbrev pub invariant-loop-k : goal.invariant-loop-k
+invariant-loop-k l = (l.k ≤ l.number) × (l.at ≡ l.n.I * l.k) × (length l.scratch ≡ length l.initial.scratch) × (length l.six ≡ length l.initial.six)
+    × ((x : Tables) (s : List Value) (rest : List ℕ) → Runs l.n (these x l.latches l.outputs l.gates) → length s ≡ l.n.L → Rests l.n s l.initial.scratch
+    → l.initial.six ≡ tally l.n [] ++ rest
+    → Going l.n (circuit_of l.n (these x l.latches l.outputs l.gates)) s l.number l.bytes rest l.scratch l.six l.k l.at)
+
+abbrev pub decreases-loop-k : goal.decreases-loop-k
+decreases-loop-k l = l.number - l.k

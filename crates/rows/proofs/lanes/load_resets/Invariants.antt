@@ -1,0 +1,19 @@
+-- The latches' planes, by their resets, behind those of `before` variables: in every row the same. The loop keeps `Grows`; the measure is `n - j`.
+-- `grows-more` carries it from turn to turn, and `grows_all` gives the answer.
+use Prim.Native.Nat.{ℕ, ◌+◌, ◌*◌, ◌-◌, ◌≤◌}
+use mathlib.Core.Path.{◌≡◌, refl, ◌∙◌}
+use mathlib.Core.List.{List}
+use native.Mathlib.Omega.{arith}
+use lib.ListN.{length, get_or}
+use Rattle.rows.specs.Planes.Planes.{other}
+use Rattle.rows.specs.lanes.Words.{every_row}
+use Rattle.rows.specs.lanes.Working.{Grows}
+use Rattle.rows.proofs.lanes.Turns.{grows_none, grows-more, grows_all}
+use borrow.Author.Rules.{rules}
+use Rattle.rows.proofs.lanes.load_resets.Given as goal
+
+abbrev pub invariant-loop-j : goal.invariant-loop-j
+invariant-loop-j l = (l.j ≤ l.n) × (l.to ≡ 4 * (l.before + l.j)) × (length l.t ≡ length l.initial.t) × Grows l.before (but 0 l.resets) (but 1 l.resets) l.j l.initial.t l.t
+
+abbrev pub decreases-loop-j : goal.decreases-loop-j
+decreases-loop-j l = l.n - l.j

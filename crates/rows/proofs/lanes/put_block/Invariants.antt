@@ -1,0 +1,20 @@
+-- The codes of a block in each row, which go to the columns from `from` on. The loop keeps `Blocked`; the measure is `rows - k`. `next-at` and
+-- `blocked-more` carry it from turn to turn, and `blocked-all` gives the answer.
+use Prim.Native.Nat.{ℕ, ◌+◌, ◌*◌, ◌-◌, ◌/◌, ◌%◌, ◌≤◌}
+use mathlib.Core.Path.{◌≡◌}
+use mathlib.Core.List.{List}
+use native.Mathlib.Nat.{mul-zero}
+use native.Mathlib.Omega.{arith}
+use lib.ListN.{length, get_or}
+use Rattle.laws.proofs.Tables.{row_ends}
+use Rattle.step.proofs.sweep.Lookups.{next-at}
+use Rattle.rows.specs.lanes.Words.{code_by}
+use Rattle.rows.specs.lanes.Blocks.{Blocked}
+use Rattle.rows.proofs.lanes.Storing.{blocked-none, blocked-more, blocked-all}
+use Rattle.rows.proofs.lanes.put_block.Given as goal
+
+abbrev pub invariant-loop-k : goal.invariant-loop-k
+invariant-loop-k l = (l.k ≤ l.rows) × (l.to ≡ l.n * l.k + l.from) × Blocked (codes l.ones l.boths) l.from l.w l.n l.k l.initial.out l.out
+
+abbrev pub decreases-loop-k : goal.decreases-loop-k
+decreases-loop-k l = l.rows - l.k

@@ -1,0 +1,26 @@
+-- Whether no byte is wrong. The loop keeps `all_codes bytes ≡ (eqb wrong 0 && all_codes (drop i bytes))`; the measure is `length bytes - i`.
+-- `left-more` carries it from turn to turn, and `left-none` gives the answer.
+use Prim.Native.Nat.{◌-◌}
+use mathlib.Core.Path.{◌≡◌, refl}
+use mathlib.Core.Bool.{◌&&◌}
+use native.Mathlib.Omega.{arith}
+use lib.Dec.{eqb}
+use lib.ListN.{length, drop}
+use Rattle.plan.specs.Outcome.{all_codes}
+use Rattle.rows.proofs.Lists.{left-more, left-none}
+use borrow.Author.Rules.{rules}
+use Rattle.rows.proofs.only_codes.Goals as goal
+
+pub loop-i-init : goal.loop-i-init
+loop-i-init c = refl
+
+pub loop-i-preserved : goal.loop-i-preserved
+loop-i-preserved c =
+    let q = c.before.before in
+    let w = q.loop-i in
+    left-more q.args.bytes.now w.i w.wrong c.not_code-wrong.result q.loop-i-test.true w.invariant c.not_code-wrong.ensures
+
+pub returns : goal.returns
+returns c =
+    let w = c.loop-i in
+    left-none c.args.bytes.now w.i w.wrong (omega (arith, c.loop-i-test.false)) w.invariant

@@ -1,0 +1,33 @@
+-- The row report of rows whose tables and inputs are good: per output the rows at 0, at 1 and at x, and zero past them. The answers are given by
+-- `put-cleared` and `report-is`.
+use Prim.Native.Nat.{ℕ, ◌-◌, ◌^◌}
+use mathlib.Core.Path.{ap, ◌∙◌}
+use mathlib.Core.List.{List}
+use native.Mathlib.Omega.{arith}
+use Rattle.plan.specs.Circuit.{filled}
+use Rattle.rows.specs.lanes.Working.{these, counts_of}
+use Rattle.rows.proofs.lanes.Rows.{report-is}
+use Rattle.rows.proofs.Reports.{report-ready, report-shows, put-cleared}
+use borrow.Author.Rules.{rules}
+use Rattle.rows.proofs.report_lists.Goals as goal
+
+pub step_lanes-requires : goal.step_lanes-requires
+step_lanes-requires c = report-ready c.requires
+
+pub count_rows-requires : goal.count_rows-requires
+count_rows-requires c =
+    let d = c.before.before.before.before.before.before.before in
+    let p = d.before.before.before.before.before.before.before.before.before.requires in
+    record { shows = report-shows p _ d.scratch.given; rows_bound = p.most; n_in_bounds = omega (arith, p.report-long, c.before.before.before.report.given); }
+
+pub returns : goal.returns
+returns c =
+    λ x r.
+    let e = c.before.before.before.before.before.before.before in
+    let d = e.before.before.before.before in
+    let a = d.before.before.before.before.before.before.before.before.args in
+    let t = d.step-lanes.new.1.1.1.1.1.0 in
+    let held = d.step-lanes.ensures (these x x.latches a.outputs.now a.gates.now a.resets.now) r in
+    put-cleared a.report.now e.clear.new.0 c.count_rows.new.report
+    (counts_of a.outputs.now a.n.O (2 ^ a.rows - 1) t) e.clear.ensures c.count_rows.ensures
+    ∙ ap (λ (w : List ℕ). filled a.report.now w) (report-is r a.ins.now a.rows held)

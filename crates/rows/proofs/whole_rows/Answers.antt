@@ -1,0 +1,20 @@
+-- Whether the inputs are `rows` vectors of `each` codes. The answers are given by `whole-not` and `whole_is`.
+use mathlib.Core.Path.{◌∙◌}
+use Rattle.rows.proofs.Lists.{product_small, whole-not, whole_is}
+use borrow.Author.Rules.{rules}
+use Rattle.rows.proofs.whole_rows.Goals as goal
+
+pub overflow_mul-rows : goal.overflow_mul-rows
+overflow_mul-rows c =
+    let s = c.before in
+    record { fits = product_small s.args.rows s.args.each s.requires.rows_bound s.requires.each_le_most }
+
+pub returns-then-ins-rows : goal.returns-then-ins-rows
+returns-then-ins-rows c =
+    let a = c.args in
+    whole-not a.ins.now a.rows a.each c.if-ins-rows.true
+
+pub returns : goal.returns
+returns c =
+    let a = c.args in
+    c.only_codes.ensures ∙ whole_is a.ins.now a.rows a.each c.if-ins-rows.false

@@ -1,0 +1,44 @@
+-- The lines of `width` codes each, in one pass: past the width of a line only a new line can stand, and before it only a code. The loop keeps `Scans
+-- width bytes column number i`; the measure is `length bytes - i`. `scans-at`, `line-next` and `code-next` carry it from turn to turn, and
+-- `too_long`, `wrong-code` and `all-scanned` give the answer.
+use Prim.Native.Nat.{◌-◌}
+use mathlib.Core.Path.{refl, sym, ◌∙◌}
+use mathlib.Core.Logic.{⊎_elim}
+use native.Mathlib.Omega.{arith}
+use borrow.Author.Tests.{not-true, not-false}
+use lib.ListN.{length}
+use Rattle.runs.proofs.stimulus.Scanning.{Scans, line-next, too_long, code-next, wrong-code, all-scanned, scans-at}
+use borrow.Author.Rules.{rules}
+use Rattle.runs.proofs.stimulus.scan_lines.Goals as goal
+
+pub loop-i-init : goal.loop-i-init
+loop-i-init c = record { bound = omega arith; few = omega arith; narrow = omega arith; left = refl }
+
+pub returns-then-b-ne10 : goal.returns-then-b-ne10
+returns-then-b-ne10 c =
+    let i = c.before.before.before in
+    too_long i.loop-i.invariant i.loop-i-test.true c.if-column-width.true c.if-b-ne10.true
+
+pub overflow_add-number : goal.overflow_add-number
+overflow_add-number c = omega (arith, c.loop-i.invariant.few)
+
+pub returns-then-not-is_code : goal.returns-then-not-is_code
+returns-then-not-is_code c =
+    let i = c.before.before.before.before in
+    wrong-code i.loop-i.invariant i.loop-i-test.true c.if-column-width.false
+    (sym c.is_code.ensures ∙ not-true _ c.if-not-is_code.true-raw)
+
+pub overflow_add-column : goal.overflow_add-column
+overflow_add-column c = omega (arith, c.loop-i.invariant.narrow)
+
+pub loop-i-preserved : goal.loop-i-preserved
+loop-i-preserved c =
+    let s = c.loop-i.invariant in
+    let h = c.loop-i-test.true in
+    ⊎_elim
+    (λ w. scans-at w.2 w.3 (line-next s h w.0.taken w.1.left))
+    (λ w. scans-at w.3 w.4 (code-next s h w.0.left (sym w.1.ensures ∙ not-false _ w.2.left)))
+    c.if-column-width.branch
+
+pub returns : goal.returns
+returns c = all-scanned c.loop-i.invariant c.loop-i-test.false

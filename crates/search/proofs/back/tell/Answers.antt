@@ -1,0 +1,31 @@
+use Prim.Native.Nat.{◌+◌, ◌*◌, ◌≤◌}
+use mathlib.Core.Path.{refl}
+use native.Mathlib.Omega.{arith}
+use Rattle.search.proofs.Walking.{few_bytes, told-short, told-long}
+use borrow.Author.Rules.{rules}
+use Rattle.search.proofs.back.tell.Goals as goal
+
+pub overflow_mul-needed : goal.overflow_mul-needed
+overflow_mul-needed c =
+    let x = c.before.before.before.before in
+    let w = x.requires.2 in
+    let t = c.steps_to-steps.ensures w.y w.ways w.rows w.there in
+    omega (arith, few_bytes c.steps_to-steps.result x.args.n.I (omega (arith, t.1, w.there, w.few)) x.requires.1, x.requires.0)
+
+pub overflow_add-needed : goal.overflow_add-needed
+overflow_add-needed c =
+    let x = c.before.before.before.before.before in
+    let w = x.requires.2 in
+    let t = c.steps_to-steps.ensures w.y w.ways w.rows w.there in
+    omega (arith, few_bytes c.steps_to-steps.result x.args.n.I (omega (arith, t.1, w.there, w.few)) x.requires.1, x.requires.0)
+
+pub returns-then-out-needed : goal.returns-then-out-needed
+returns-then-out-needed c =
+    let a = c.args in
+    told-short a.n a.met.now a.place a.m a.tries _ _ a.out.now c.steps_to-steps.ensures refl c.if-out-needed.true
+
+pub returns : goal.returns
+returns c =
+    let a = c.args in
+    told-long a.n a.met.now a.place a.m a.tries _ _ a.out.now c.steps_to-steps.ensures refl (omega (arith, c.if-out-needed.false)) _
+    c.store_way.ensures

@@ -1,0 +1,14 @@
+use Prim.Native.Nat.{ℕ, ◌+◌, ◌-◌, ◌*◌, ◌<◌, ◌≤◌}
+use mathlib.Core.Path.{◌≡◌, refl, sym, ap, ◌∙◌, subst}
+use native.Mathlib.Omega.{arith}
+use lib.ListN.{length, set, length-set}
+use Rattle.search.specs.Starting.{Started}
+use Rattle.search.proofs.Beginning.{start-marked, started_none, started-more, total-few}
+use borrow.Author.Rules.{rules}
+use Rattle.search.proofs.begin_rows.Given as goal
+
+abbrev pub invariant-loop-k : goal.invariant-loop-k
+invariant-loop-k l = (l.k ≤ l.total) × (length l.scratch ≡ length l.initial.scratch) × (length l.met ≡ length l.initial.met) × (length l.marks ≡ length l.initial.marks) × Started l.split l.n l.resets l.k l.met l.marks
+
+abbrev pub decreases-loop-k : goal.decreases-loop-k
+decreases-loop-k l = l.total - l.k

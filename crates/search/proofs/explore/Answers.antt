@@ -1,0 +1,170 @@
+use Prim.Native.Nat.{ℕ, ◌+◌, ◌-◌, ◌*◌, ◌/◌, ◌%◌, ◌<◌, ◌≤◌}
+use mathlib.Core.Path.{◌≡◌, refl, sym, ap, ◌∙◌, subst}
+use mathlib.Core.List.{List, map}
+use native.Mathlib.Omega.{arith}
+use lib.ListN.{length}
+use Rattle.plan.specs.Circuit.{Tables, circuit_of, seven}
+use Rattle.step.specs.sweep.Running.{Runs}
+use Rattle.plan.specs.Search.{begin, system_of}
+use Rattle.search.specs.Exploring.{Searched, Exploring}
+use Rattle.search.proofs.Looping.{some-moves, move-small, exploring-first, place_is, move-is, reached-few, reached-most, never_here, out-here, found_here, left_here}
+use borrow.Author.Rules.{rules}
+use Rattle.search.proofs.explore.Goals.{In-loop-tries, Start}
+use Rattle.search.proofs.explore.Goals as goal
+
+abbrev start_in : In-loop-tries → Start
+start_in q = q.before.before.before.before.before.before.before.before.before.before.before
+
+-- what is left to search, by the tables that were promised
+left : (q : In-loop-tries) → let x = start_in q in let a = x.args in let w = q.loop-tries in Exploring x.pre.split a.n (seven x.pre.inputs a.latches.now a.outputs.now a.gates.now x.pre.resets a.bads.now a.constraints.now) a.allowance w.tries w.reached w.met w.marks
+left q = let p = (start_in q).requires in q.loop-tries.invariant.4 p.split p.inputs p.resets p.runs p.begun p.count
+
+pub power-moves-requires : goal.power-moves-requires
+power-moves-requires c = c.requires.few-inputs
+
+pub loop-tries-init : goal.loop-tries-init
+loop-tries-init c =
+    let a = c.args in
+    (omega arith, refl, refl, refl, λ split inputs resets r sd e. exploring-first a.allowance a.starts a.met.now a.marks.now sd e)
+
+pub shape_of-scratch-then-reached-place : goal.shape_of-scratch-then-reached-place
+shape_of-scratch-then-reached-place c = c.loop-tries.invariant.1
+
+pub shape_of-met-then-reached-place : goal.shape_of-met-then-reached-place
+shape_of-met-then-reached-place c = c.loop-tries.invariant.2
+
+pub shape_of-marks-then-reached-place : goal.shape_of-marks-then-reached-place
+shape_of-marks-then-reached-place c = c.loop-tries.invariant.3
+
+pub returns-then-reached-place : goal.returns-then-reached-place
+returns-then-reached-place c =
+    λ split inputs resets r sd e.
+    let w = c.loop-tries in
+    never_here r _ w.tries w.reached _ w.met w.marks (w.invariant.4 split inputs resets r sd e) c.power-moves.ensures
+    c.if-reached-place.true
+
+pub overflow_cast-m : goal.overflow_cast-m
+overflow_cast-m c =
+    omega (
+  arith,
+  move-small _ c.loop-tries.tries _ c.requires.few-inputs c.power-moves.ensures,
+)
+
+pub take_turn-requires : goal.take_turn-requires
+take_turn-requires c =
+    let q = c.before.before.before.before in
+    let x = start_in q in
+    let a = x.args in
+    let p = x.pre in
+    let w = q.loop-tries in
+    let ex = left q in
+    let em = q.power-moves.ensures in
+    record {
+      split = p.split;
+      inputs = p.inputs;
+      resets = p.resets;
+      tries = w.tries;
+      ways = ex.ways;
+      runs = p.runs;
+      scratch-long = omega (arith, p.scratch-long, w.invariant.1);
+      few-latches = p.few-latches;
+      few-inputs = p.few-inputs;
+      met-long = omega (arith, p.met-long, w.invariant.2);
+      marks-long = omega (arith, p.marks-long, w.invariant.3);
+      searched = ex.searched;
+      count = ex.count;
+      here = place_is p.runs _ w.tries w.reached _ w.met w.marks ex em;
+      move = move-is p.runs _ w.tries w.reached _ w.met w.marks ex em;
+      there = omega (arith, c.if-reached-place.false);
+      few = reached-most p.runs _ w.tries w.reached _ w.met w.marks ex em p.few-latches;
+      rows_long = omega (arith, p.met-long, w.invariant.2, reached-few p.runs _ w.tries w.reached _ w.met w.marks ex em);
+    }
+
+pub overflow_add-result : goal.overflow_add-result
+overflow_add-result c =
+    omega (
+  arith,
+  c.loop-tries-test.true,
+  c.well_formed,
+)
+
+pub shape_of-scratch-in_default : goal.shape_of-scratch-in_default
+shape_of-scratch-in_default c = c.take_turn.auto.scratch ∙ c.loop-tries.invariant.1
+
+pub shape_of-met-in_default : goal.shape_of-met-in_default
+shape_of-met-in_default c = c.met-1.given ∙ c.loop-tries.invariant.2
+
+pub shape_of-marks-in_default : goal.shape_of-marks-in_default
+shape_of-marks-in_default c = c.marks-1.given ∙ c.loop-tries.invariant.3
+
+pub returns-in_default : goal.returns-in_default
+returns-in_default c =
+    λ split inputs resets r sd e.
+    let w = c.loop-tries in
+    let ex = w.invariant.4 split inputs resets r sd e in
+    let em = c.power-moves.ensures in
+    found_here r _ w.tries w.reached _ w.met w.marks ex em c.loop-tries-test.true _ _ _
+    (c.take_turn.ensures split inputs resets w.tries ex.ways r ex.searched
+    ex.count
+    (place_is r _ w.tries w.reached _ w.met w.marks ex em) (move-is r _ w.tries w.reached _ w.met w.marks ex em))
+    c.in_default.is (omega (arith, c.if-reached-place.false))
+
+pub overflow_add-tries : goal.overflow_add-tries
+overflow_add-tries c =
+    omega (
+  arith,
+  c.loop-tries-test.true,
+  c.well_formed,
+)
+
+pub loop-tries-smaller : goal.loop-tries-smaller
+loop-tries-smaller c = omega (arith, c.loop-tries-test.true)
+
+pub loop-tries-preserved : goal.loop-tries-preserved
+loop-tries-preserved c =
+    let w = c.loop-tries in (
+      omega (arith, c.loop-tries-test.true),
+      c.take_turn.auto.scratch ∙ w.invariant.1,
+      c.met-1.given ∙ w.invariant.2,
+      c.marks-1.given ∙ w.invariant.3,
+      λ split inputs resets r sd e.
+          let ex = w.invariant.4 split inputs resets r sd e in
+          let em = c.power-moves.ensures in
+          left_here r _ w.tries w.reached _ w.met w.marks ex em c.loop-tries-test.true _ _ _
+          (c.take_turn.ensures split inputs resets w.tries ex.ways r
+          ex.searched ex.count
+          (place_is r _ w.tries w.reached _ w.met w.marks ex em) (move-is r _ w.tries w.reached _ w.met w.marks ex em))
+          _ c.in-Left.is,
+    )
+
+pub shape_of-scratch-then-reached-tries : goal.shape_of-scratch-then-reached-tries
+shape_of-scratch-then-reached-tries c = c.loop-tries.invariant.1
+
+pub shape_of-met-then-reached-tries : goal.shape_of-met-then-reached-tries
+shape_of-met-then-reached-tries c = c.loop-tries.invariant.2
+
+pub shape_of-marks-then-reached-tries : goal.shape_of-marks-then-reached-tries
+shape_of-marks-then-reached-tries c = c.loop-tries.invariant.3
+
+pub returns-then-reached-tries : goal.returns-then-reached-tries
+returns-then-reached-tries c =
+    λ split inputs resets r sd e.
+    let w = c.loop-tries in
+    never_here r _ w.tries w.reached _ w.met w.marks (w.invariant.4 split inputs resets r sd e) c.power-moves.ensures
+    c.if-reached-tries.true
+
+pub shape_of-scratch : goal.shape_of-scratch
+shape_of-scratch c = c.loop-tries.invariant.1
+
+pub shape_of-met : goal.shape_of-met
+shape_of-met c = c.loop-tries.invariant.2
+
+pub shape_of-marks : goal.shape_of-marks
+shape_of-marks c = c.loop-tries.invariant.3
+
+pub returns : goal.returns
+returns c =
+    λ split inputs resets r sd e.
+    let w = c.loop-tries in
+    out-here r _ w.tries w.reached _ w.met w.marks (w.invariant.4 split inputs resets r sd e) c.power-moves.ensures
+    (omega (arith, c.if-reached-tries.false)) (omega (arith, w.invariant.0, c.loop-tries-test.false))

@@ -1,0 +1,23 @@
+use Prim.Native.Nat.{ℕ, ◌+◌, ◌-◌, ◌*◌, ◌/◌, ◌%◌, ◌<◌, ◌≤◌}
+use mathlib.Core.Path.{◌≡◌, refl, sym, ap, ◌∙◌, subst}
+use mathlib.Core.List.{List, map}
+use native.Mathlib.Omega.{arith}
+use lib.ListN.{length}
+use Rattle.plan.specs.Circuit.{Tables, circuit_of, seven}
+use Rattle.step.specs.sweep.Running.{Runs}
+use Rattle.plan.specs.Search.{begin, system_of}
+use Rattle.search.specs.Exploring.{Searched, Exploring}
+use Rattle.search.proofs.Looping.{some-moves, move-small, exploring-first, place_is, move-is, reached-few, reached-most, never_here, out-here, found_here, left_here}
+use borrow.Author.Rules.{rules}
+use Rattle.search.proofs.explore.Given as goal
+
+abbrev pub invariant-loop-tries : goal.invariant-loop-tries
+invariant-loop-tries l = (l.tries ≤ l.allowance) × (length l.scratch ≡ length l.initial.scratch) × (length l.met ≡ length l.initial.met) × (length l.marks ≡ length l.initial.marks)
+    × ((split : ℕ) (inputs resets : List ℕ) → Runs l.n (seven inputs l.latches l.outputs l.gates resets l.bads l.constraints)
+    → Searched split l.n (seven inputs l.latches l.outputs l.gates resets l.bads l.constraints) 0
+    (map begin (system_of split (circuit_of l.n (seven inputs l.latches l.outputs l.gates resets l.bads l.constraints))).starts) l.initial.met l.initial.marks
+    → length (system_of split (circuit_of l.n (seven inputs l.latches l.outputs l.gates resets l.bads l.constraints))).starts ≡ l.starts
+    → Exploring split l.n (seven inputs l.latches l.outputs l.gates resets l.bads l.constraints) l.allowance l.tries l.reached l.met l.marks)
+
+abbrev pub decreases-loop-tries : goal.decreases-loop-tries
+decreases-loop-tries l = l.allowance - l.tries

@@ -1,0 +1,32 @@
+use Prim.Native.Nat.{◌+◌, ◌-◌, ◌≤◌}
+use native.Mathlib.Omega.{arith}
+use Rattle.search.proofs.Beginning.{part-rest, both-loaded, first-asks, second-asks}
+use borrow.Author.Rules.{rules}
+use Rattle.search.proofs.load_start.Reads as reads
+use Rattle.search.proofs.load_start.Lts as lts
+use Rattle.tables.proofs.lesser.Reads as lesser-reads
+use Rattle.witness.proofs.load_resets_filled.Reads as load-resets-filled-reads
+use Rattle.search.proofs.load_start.Goals as goal
+
+pub load_resets_filled-requires : goal.load_resets_filled-requires
+load_resets_filled-requires c =
+    let x = c.before.before.before.before.before in
+    let a = x.args in
+    let whole = first-asks a.split a.n.L _ a.resets.now x.requires.resets-long c.lesser-first.ensures (1 + a.n.I) a.scratch.now
+    x.requires.few-latches x.requires.room in
+    record { n_in_bounds = whole.0; loads = whole.1; }
+
+pub load_resets_filled-requires-2 : goal.load_resets_filled-requires-2
+load_resets_filled-requires-2 c =
+    let x = c.before.before.before.before.before.before.before.before.before.before.before.before in
+    let a = x.args in
+    let whole = second-asks a.split a.n.L _ a.resets.now x.requires.resets-long c.lesser-first.ensures _ (part-rest _ a.resets.now)
+    (1 + a.n.I) _ x.requires.few-latches (omega (arith, x.requires.room, c.load_resets_filled.auto.t)) in
+    record { n_in_bounds = whole.0; loads = whole.1; }
+
+pub returns : goal.returns
+returns c =
+    let x = c.before.before.before.before.before.before.before.before.before.before.before.before.before.before.before in
+    let a = x.args in
+    both-loaded a.split a.n.L _ a.resets.now x.requires.resets-long c.lesser-first.ensures a.k (1 + a.n.I) a.scratch.now _ _ _
+    x.requires.room (part-rest _ a.resets.now) c.load_resets_filled.ensures.t_after c.load_resets_filled-2.ensures.t_after

@@ -1,0 +1,6 @@
+use Rattle.search.proofs.Numbers.{power-is}
+use borrow.Author.Rules.{rules}
+use Rattle.search.proofs.power.Goals as goal
+
+pub returns : goal.returns
+returns c = power-is c.args.n c.requires

@@ -1,0 +1,11 @@
+-- Whether a literal may be 1: one read, whatever its sign, as each literal has a word of its own. The answer is that of the call below it.
+use Prim.Native.Nat.{ℕ, ◌+◌}
+use mathlib.Core.Path.{ap}
+use lib.ListN.{get_or}
+use borrow.Author.Rules.{rules}
+use Rattle.step.proofs.sweep.may_be_1.Goals as goal
+
+pub returns : goal.returns
+returns c =
+    let s = c.before.before.before in
+    ap (λ (k : ℕ). get_or s.args.t.now (s.args.lits + k) 0) c.word.ensures

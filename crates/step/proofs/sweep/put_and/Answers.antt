@@ -1,0 +1,24 @@
+-- The And of two literals: it may be 1 if both may, and 0 if either may. Each answer is given by `two-put`.
+use Prim.Native.Nat.{ℕ}
+use mathlib.Core.Path.{ap₂, ◌∙◌}
+use mathlib.Core.List.{[], ◌∷◌}
+use native.Mathlib.Omega.{arith}
+use lib.Bits.{bit_and, bit_or}
+use lib.ListN.{length-set}
+use Rattle.plan.specs.Outcome.{put}
+use Rattle.step.proofs.sweep.Spreading.{two-put}
+use borrow.Author.Rules.{rules}
+use Rattle.step.proofs.sweep.put_and.Goals as goal
+
+pub bounds-t-to-2 : goal.bounds-t-to-2
+bounds-t-to-2 c = simp length-set (omega arith)
+
+pub returns : goal.returns
+returns c =
+    let b = c.before.before in
+    let d = b.before.before in
+    let a = d.before.before in
+    let s = a.before.before.before in
+    two-put s.args.t.now s.args.to _ _ s.requires.1.1
+    ∙ ap₂ (λ (x y : ℕ). put s.args.t.now s.args.to (x ∷ y ∷ []))
+    (ap₂ bit_and a.may-be-1.ensures d.may-be-12.ensures) (ap₂ bit_or b.may-be-0.ensures c.may_be_0-2.ensures)

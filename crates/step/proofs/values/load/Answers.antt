@@ -1,0 +1,32 @@
+-- A vector's values go into words from `first` on. The loop keeps `Filled`; the measure is `length codes - i`. `filled_more` carries it from turn to
+-- turn, and `filled-all` and `loaded` give the answer.
+use Prim.Native.Nat.{◌-◌, ◌≤◌}
+use mathlib.Core.Path.{ap, ◌∙◌}
+use native.Mathlib.Omega.{arith}
+use lib.ListN.{length, get_or}
+use Rattle.plan.specs.Step.{value_of}
+use Rattle.plan.specs.Outcome.{put}
+use Rattle.step.specs.values.Words.{word}
+use Rattle.step.proofs.values.Filling.{Filled, filled_none, filled_more, filled-all}
+use Rattle.step.proofs.values.Codes.{loaded}
+use borrow.Author.Rules.{rules}
+use Rattle.step.proofs.values.load.Goals as goal
+
+pub loop-i-init : goal.loop-i-init
+loop-i-init c = (omega arith, filled_none _ _ _)
+
+pub loop-i-preserved : goal.loop-i-preserved
+loop-i-preserved c =
+    let w = c.loop-i in
+    let s = c.before.before.before.before.before.before in
+    (omega arith, filled_more _ _ _ w.i w.t _ w.invariant.1 (omega (arith, s.requires)) c.word_of.ensures)
+
+pub shape_of-t : goal.shape_of-t
+shape_of-t c = c.loop-i.invariant.1.same
+
+pub returns : goal.returns
+returns c =
+    let w = c.loop-i in
+    let a = c.args in
+    filled-all _ _ _ (length a.codes.now) w.i w.t w.invariant.1 (omega arith)
+    ∙ ap (put a.t.now a.first) (loaded a.codes.now)

@@ -1,0 +1,16 @@
+-- Zero throughout. The loop keeps what `Inv-loop` says; the measure is `length table₀ - i`. `all` gives the answer.
+use Prim.Native.Nat.{ℕ, ◌≤◌, ◌<◌, ◌-◌}
+use mathlib.Core.Path.{◌≡◌, ap, ◌∙◌}
+use mathlib.Core.List.{List, ◌++◌}
+use native.Mathlib.Omega.{arith}
+use borrow.Author.Rules.{rules}
+use borrow.Author.Fill.{fill_more}
+use lib.ListN.{length, drop, set, replicate, length-set}
+use Rattle.tables.proofs.Fill.{all}
+use Rattle.tables.proofs.clear.Given as goal
+
+abbrev pub invariant-loop-i : goal.invariant-loop-i
+invariant-loop-i l = (l.i ≤ length l.initial.table) × (l.table ≡ replicate l.i 0 ++ drop l.i l.initial.table) × (length l.table ≡ length l.initial.table)
+
+abbrev pub decreases-loop-i : goal.decreases-loop-i
+decreases-loop-i l = length l.initial.table - l.i

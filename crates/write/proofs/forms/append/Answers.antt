@@ -1,0 +1,32 @@
+-- Each turn copies one byte.
+use Prim.Native.Nat.{◌-◌}
+use mathlib.Core.Path.{refl, ap, ◌∙◌}
+use native.Mathlib.Omega.{arith}
+use lib.ListN.{length}
+use borrow.Author.Rules.{rules}
+use Rattle.plan.specs.Outcome.{put}
+use Rattle.write.proofs.forms.Copies.{Copied, none-copied, one-copied, all-copied, words_of, all_words}
+use Rattle.write.proofs.forms.append.Goals as goal
+
+pub loop-i-init : goal.loop-i-init
+loop-i-init c = let a = c.args in none-copied (words_of a.tail.now) (length a.tail.now) a.out.now a.at c.requires
+
+pub loop-i-preserved : goal.loop-i-preserved
+loop-i-preserved c =
+    let start = c.before.before.before in
+    let a = start.args in
+    let s = c.loop-i in
+    one-copied (words_of a.tail.now) (length a.tail.now) a.out.now a.at start.requires s.out s.i s.invariant _ _ refl refl
+    c.loop-i-test.true
+
+pub shape_of-out : goal.shape_of-out
+shape_of-out c = c.loop-i.invariant.size
+
+pub returns : goal.returns
+returns c =
+    let start = c.before.before in
+    let a = start.args in
+    let s = c.loop-i in
+    record { value = omega (arith, s.invariant.bound); out_after = all-copied (words_of a.tail.now) (length a.tail.now) a.out.now a.at start.requires s.out s.i s.invariant
+          c.loop-i-test.false
+          ∙ ap (put a.out.now a.at) (all_words a.tail.now); }

@@ -1,0 +1,15 @@
+-- Each turn copies one byte.
+use Prim.Native.Nat.{◌-◌}
+use mathlib.Core.Path.{refl, ap, ◌∙◌}
+use native.Mathlib.Omega.{arith}
+use lib.ListN.{length}
+use borrow.Author.Rules.{rules}
+use Rattle.plan.specs.Outcome.{put}
+use Rattle.write.proofs.forms.Copies.{Copied, none-copied, one-copied, all-copied, words_of, all_words}
+use Rattle.write.proofs.forms.append.Given as goal
+
+abbrev pub invariant-loop-i : goal.invariant-loop-i
+invariant-loop-i l = Copied (words_of l.tail) (length l.tail) l.initial.out l.at l.out l.i
+
+abbrev pub decreases-loop-i : goal.decreases-loop-i
+decreases-loop-i l = length l.tail - l.i

@@ -1,0 +1,18 @@
+-- By whether three bytes are enough.
+use native.Mathlib.Omega.{arith}
+use borrow.Author.Rules.{rules}
+use Rattle.plan.specs.Difference.{groups_of}
+use Rattle.laws.proofs.Reading.Differences.{groups-some}
+use Rattle.write.proofs.print.Begun.{begun-put}
+use Rattle.write.proofs.print.begin_difference.Goals as goal
+
+pub put_three-requires : goal.put_three-requires
+put_three-requires c =
+    let start = c.before.before.before in
+    record { d_bound = c.if-d-lt2097152.true; at_in_bounds = omega (arith, start.requires, groups-some start.args.d); }
+
+pub returns : goal.returns
+returns c =
+    let wrote = c.put_groups in
+    let a = c.args in
+    record { value = wrote.ensures.0; begun = begun-put a.out.now a.at (groups_of a.d) _ _ wrote.ensures.1 wrote.ensures.0; }

@@ -1,0 +1,12 @@
+-- Each turn counts one latch.
+use Prim.Native.Nat.{◌-◌}
+use native.Mathlib.Omega.{arith}
+use Rattle.write.proofs.print.Latches.{Counted, none-counted, one-counted, all-counted}
+use borrow.Author.Rules.{rules}
+use Rattle.write.proofs.print.latches_length.Given as goal
+
+abbrev pub invariant-loop-i : goal.invariant-loop-i
+invariant-loop-i l = Counted l.binary l.latches l.resets l.n l.sum l.i
+
+abbrev pub decreases-loop-i : goal.decreases-loop-i
+decreases-loop-i l = l.n - l.i

@@ -1,0 +1,12 @@
+-- Each turn writes one gate that another follows; the last one is written by itself.
+use Prim.Native.Nat.{◌-◌}
+use native.Mathlib.Omega.{arith}
+use borrow.Author.Rules.{rules}
+use Rattle.write.proofs.print.Gates.{Printed, none-printed, gate-fits, followed-fits, one-printed, one-begun, all-printed, all-passed}
+use Rattle.write.proofs.print.write_gates.Given as goal
+
+abbrev pub invariant-loop-i : goal.invariant-loop-i
+invariant-loop-i l = Printed l.gates l.n l.initial.out l.at l.out l.next l.i
+
+abbrev pub decreases-loop-i : goal.decreases-loop-i
+decreases-loop-i l = l.n - l.i

@@ -1,0 +1,11 @@
+-- Each turn writes one latch.
+use Prim.Native.Nat.{◌-◌}
+use Rattle.write.proofs.print.Latches.{Printed, none-printed, latch-fits, one-printed, all-printed, all-passed}
+use borrow.Author.Rules.{rules}
+use Rattle.write.proofs.print.write_latches.Given as goal
+
+abbrev pub invariant-loop-i : goal.invariant-loop-i
+invariant-loop-i l = Printed l.binary l.latches l.resets l.n l.initial.out l.at l.out l.next l.i
+
+abbrev pub decreases-loop-i : goal.decreases-loop-i
+decreases-loop-i l = l.n - l.i
