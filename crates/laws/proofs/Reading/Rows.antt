@@ -21,11 +21,11 @@ Long k (row ∷ rows) = (length row ≡ k) × Long k rows
 
 pub rows_long : (k : ℕ) (d : Bool) (m : ℕ) (seen : List ℕ) (rows : List (List ℕ)) → RowsOk k d m seen rows → Long k rows
 rows_long k d m seen [] h = tt
-rows_long k d m seen (row ∷ rows) h = (h.0.long, rows_long k d m _ rows h.1)
+rows_long k d m seen (row ∷ rows) h = (h.0.long, rows_long k d m (seen ++ var_of (literal_of row) ∷ []) rows h.1)
 
 pub rows_inside : (k : ℕ) (d : Bool) (m : ℕ) (seen : List ℕ) (rows : List (List ℕ)) → RowsOk k d m seen rows → all_inside d m rows ≡ true
 rows_inside k d m seen [] h = refl
-rows_inside k d m seen (row ∷ rows) h = and_intro (inside d m row) _ h.0.within (rows_inside k d m _ rows h.1)
+rows_inside k d m seen (row ∷ rows) h = and_intro (inside d m row) _ h.0.within (rows_inside k d m (seen ++ var_of (literal_of row) ∷ []) rows h.1)
 
 head-new : (k : ℕ) (seen row : List ℕ) → length row ≡ suc k → New true seen row → has (var_of (literal_of row)) seen ≡ false
 head-new k seen [] l h = absurd (omega arith)
@@ -39,7 +39,7 @@ pub rows_new : (k m : ℕ) (seen : List ℕ) (rows : List (List ℕ)) → RowsOk
 rows_new k m seen [] h = refl
 rows_new k m seen (row ∷ rows) h =
     and_intro (not (has (var_of (literal_of row)) seen)) _ (ap not (head-new k seen row h.0.long h.0.new))
-    (rows_new k m _ rows h.1)
+    (rows_new k m (seen ++ var_of (literal_of row) ∷ []) rows h.1)
 
 pub rows-defining : (k m : ℕ) (seen : List ℕ) (rows : List (List ℕ)) → Long k rows → all_inside true m rows ≡ true
     → all_new seen (heads rows) ≡ true
@@ -51,14 +51,14 @@ rows-defining k m seen (row ∷ rows) l i n = (
     within = and_left (inside true m row) _ i;
     new = new-head seen row (not-true _ (and_left (not (has (var_of (literal_of row)) seen)) _ n));
   },
-  rows-defining k m _ rows l.1 (and_right (inside true m row) _ i) (and_right (not (has (var_of (literal_of row)) seen)) _ n),
+  rows-defining k m (seen ++ var_of (literal_of row) ∷ []) rows l.1 (and_right (inside true m row) _ i) (and_right (not (has (var_of (literal_of row)) seen)) _ n),
 )
 
 pub rows-using : (k m : ℕ) (seen : List ℕ) (rows : List (List ℕ)) → Long k rows → all_inside false m rows ≡ true → RowsOk k false m seen rows
 rows-using k m seen [] l i = tt
 rows-using k m seen (row ∷ rows) l i = (
   record { long = l.0; within = and_left (inside false m row) _ i; new = tt },
-  rows-using k m _ rows l.1 (and_right (inside false m row) _ i),
+  rows-using k m (seen ++ var_of (literal_of row) ∷ []) rows l.1 (and_right (inside false m row) _ i),
 )
 
 -- rows to tables and back
