@@ -13,6 +13,4 @@ pub returns-then-left-n : goal.returns-then-left-n
 returns-then-left-n c = let n = c.args.n in sym (lt-leb (n.I + n.L + n.A) n.M (omega arith))
 
 pub returns : goal.returns
-returns c =
-    let start = c.before.before.before.before.before.before.before in
-    let n = start.args.n in taken-off n.I n.L n.A n.M c.if-n.false c.if-left-n.false
+returns c = let n = c.args.n in taken-off n.I n.L n.A n.M c.if-n.false c.if-left-n.false

@@ -10,18 +10,7 @@ use Rattle.tables.specs.Lengths.{lengths_in, table_of}
 use Rattle.tables.proofs.Told.{some-table, no_table}
 use Rattle.judge.proofs.Judging.{small-counts}
 use Rattle.judge.proofs.Stages.{at-two, at-three, at-four, past-four}
-use Rattle.judge.proofs.lent_enough.Goals.{After-too_short-short, Start}
 use Rattle.judge.proofs.lent_enough.Goals as goal
-
--- 4, with the words of table 5 for every call
-abbrev start : After-too_short-short → Start
-start c = c.before.before.before.before.before.before
-
-judged : (c : After-too_short-short) → table_of c.too_short-short.result ≡ least_short (against 1 (words_to_work (start c).args.n) (lengths_in (start c).args.to (start c).args.scratch))
-judged c =
-    let a = (start c).args in
-    c.too_short-short.ensures
-    ∙ ap (λ (k : ℕ). least_short (against 1 (words_with k a.n) (lengths_in a.to a.scratch))) c.scratch_to_work-needed.ensures
 
 pub returns-then-large-ne0 : goal.returns-then-large-ne0
 returns-then-large-ne0 c =
@@ -48,14 +37,22 @@ too_short-short-requires c =
 
 pub returns-then-short-ne0 : goal.returns-then-short-ne0
 returns-then-short-ne0 c =
+    let judged : table_of c.too_short-short.result ≡ least_short (against 1 (words_to_work c.args.n) (lengths_in c.args.to c.args.scratch)) =
+    let a = c.args in
+    c.too_short-short.ensures
+    ∙ ap (λ (k : ℕ). least_short (against 1 (words_with k a.n) (lengths_in a.to a.scratch))) c.scratch_to_work-needed.ensures in
     let a = c.args in
     let e2 = no_table _ _ c.if-large-ne0.false c.large_count-large.ensures in
     let e3 = sym c.adds_up.ensures ∙ not-false _ c.if-not-adds_up.false-raw in
-    sym (ap checked_by (at-four a.n (lengths_in a.to a.scratch) e2 e3 _ (some-table _ _ c.if-short-ne0.true (judged c.before))))
+    sym (ap checked_by (at-four a.n (lengths_in a.to a.scratch) e2 e3 _ (some-table _ _ c.if-short-ne0.true (judged))))
 
 pub returns : goal.returns
 returns c =
+    let judged : table_of c.too_short-short.result ≡ least_short (against 1 (words_to_work c.args.n) (lengths_in c.args.to c.args.scratch)) =
+    let a = c.args in
+    c.too_short-short.ensures
+    ∙ ap (λ (k : ℕ). least_short (against 1 (words_with k a.n) (lengths_in a.to a.scratch))) c.scratch_to_work-needed.ensures in
     let a = c.args in
     let e2 = no_table _ _ c.if-large-ne0.false c.large_count-large.ensures in
     let e3 = sym c.adds_up.ensures ∙ not-false _ c.if-not-adds_up.false-raw in
-    sym (ap checked_by (past-four a.n (lengths_in a.to a.scratch) e2 e3 (no_table _ _ c.if-short-ne0.false (judged c.before))))
+    sym (ap checked_by (past-four a.n (lengths_in a.to a.scratch) e2 e3 (no_table _ _ c.if-short-ne0.false (judged))))

@@ -19,93 +19,97 @@ use Rattle.judge.specs.at_end.Leaves.{Leaves}
 use Rattle.tables.specs.Held.{circuit_in}
 use Rattle.judge.proofs.at_end.Leaving.{leaves-count}
 use Rattle.judge.proofs.at_end.Closing.{in_reach, part-marked, once, used, leaves-ask, room, fresh, blank-rest, known, by-missing, by-cycle, not_good}
-use Rattle.judge.proofs.at_end.check.Goals.{After-scratch-in-Nothing-1, In-Nothing, Start}
 use Rattle.judge.proofs.at_end.check.Goals as goal
 
--- the circuit of the tables
-abbrev circuit : Start → Circuit
-circuit s =
-    let a = s.args in
-    circuit_in a.n a.inputs.now a.latches.now a.outputs.now a.gates.now [] a.bads.now a.constraints.now
-
--- back to the start, where nothing is missing, and from where the table is cleared
-abbrev start : In-Nothing → Start
-start c = c.before.before.before.before.before.before.before.before.before.before.before.before
-
-abbrev told : After-scratch-in-Nothing-1 → In-Nothing
-told c = c.before.before.before.before.before
-
-all_named : (c : In-Nothing) → none ≡ undefined_in (circuit (start c))
-all_named c =
-    sym (ap missing_of c.in-Nothing.is)
-    ∙ c.undefined.ensures (start c).args.inputs.now [] (part-marked (start c).requires)
-
--- the table is blank
-blank : (c : After-scratch-in-Nothing-1) (v : ℕ) → get_or c.clear.new.table v 0 ≡ 0
-blank c v = ap (λ (l : List ℕ). get_or l v 0) c.clear.ensures ∙ zeros (length (start (told c)).args.scratch.now) v
-
-asked : (c : After-scratch-in-Nothing-1) → let a = (start (told c)).args in Leaves a.n a.inputs.now a.latches.now c.clear.new.table
-asked c = leaves-ask (start (told c)).requires c.clear.new.table c.number_leaves.auto.t (blank c)
-
 pub undefined-requires : goal.undefined-requires
-undefined-requires c = in_reach c.before.before.before.before.before.before.before.before.before.requires
+undefined-requires c = in_reach c.requires
 
 pub returns-then-needs_no_order : goal.returns-then-needs_no_order
 returns-then-needs_no_order c =
-    let n = c.before.before in
+    let circuit : Circuit =
+    let a = c.args in
+    circuit_in a.n a.inputs.now a.latches.now a.outputs.now a.gates.now [] a.bads.now a.constraints.now in
+    let all_named : none ≡ undefined_in (circuit) =
+    sym (ap missing_of c.in-Nothing.is)
+    ∙ c.undefined.ensures c.args.inputs.now [] (part-marked c.requires) in
     let known = c.needs_no_order.ensures c.if-needs_no_order.true in
-    record { by_index = λ resets. by-cycle (circuit (start n)) _ (all_named n)
-          (sym (ap (λ (o : Option ℕ). checked_by (stage Cyclic o)) (ascends_none (circuit (start n)) known.1))); all_numbered = λ asked good. absurd (false≢true (sym known.0 ∙ asked)); }
+    record {
+      by_index = λ resets. by-cycle (circuit) _ (all_named)
+          (sym (ap (λ (o : Option ℕ). checked_by (stage Cyclic o)) (ascends_none (circuit) known.1)));
+      all_numbered = λ asked good. absurd (false≢true (sym known.0 ∙ asked));
+    }
 
 pub number_leaves-requires : goal.number_leaves-requires
-number_leaves-requires c = asked c.before.before
+number_leaves-requires c =
+    let blank : (v : ℕ) → get_or c.clear.new.table v 0 ≡ 0 =
+    λ v. ap (λ (l : List ℕ). get_or l v 0) c.clear.ensures ∙ zeros (length c.args.scratch.now) v in
+    let asked : let a = c.args in Leaves a.n a.inputs.now a.latches.now c.clear.new.table =
+    leaves-ask c.requires c.clear.new.table c.clear.auto.table blank in
+    asked
 
 pub overflow_add-n-in-Nothing : goal.overflow_add-n-in-Nothing
-overflow_add-n-in-Nothing c =
-    let e = c.before.before.before.before.before.before.before.before in
-    record { fits = omega (arith, (start (told e)).requires.most-M, (start (told e)).requires.sum) }
+overflow_add-n-in-Nothing c = record { fits = omega (arith, c.requires.most-M, c.requires.sum) }
 
 pub overflow_cast-n : goal.overflow_cast-n
-overflow_cast-n c =
-    let e = c.before.before.before.before.before.before.before.before in
-    record { fits = omega (arith, (start (told e)).requires.most-M, (start (told e)).requires.sum) }
+overflow_cast-n c = record { fits = omega (arith, c.requires.most-M, c.requires.sum) }
 
 pub overflow_add-n-in-Nothing-2 : goal.overflow_add-n-in-Nothing-2
-overflow_add-n-in-Nothing-2 c = let e =
-    c.before.before.before.before.before.before.before.before.before in omega (arith, (start (told e)).requires.most-M)
+overflow_add-n-in-Nothing-2 c = omega (arith, c.requires.most-M)
 
 pub cycle-requires : goal.cycle-requires
 cycle-requires c =
-    let d = c.before.before.before.before.before in
-    let e = d.before.before.before.before in
-    let s = start (told e) in
-    let p = s.pre in
-    let t = e.clear.new.table in
-    let u = d.number_leaves.new.t in
-    let kept : length u ≡ length t = d.scratch3.given in
-    let same : length t ≡ length s.args.scratch.now = e.scratch2.given in
-    let done = d.number_leaves.ensures in (
-      room p t same (asked e) u kept done,
+    let circuit : Circuit =
+    let a = c.args in
+    circuit_in a.n a.inputs.now a.latches.now a.outputs.now a.gates.now [] a.bads.now a.constraints.now in
+    let all_named : none ≡ undefined_in (circuit) =
+    sym (ap missing_of c.in-Nothing.is)
+    ∙ c.undefined.ensures c.args.inputs.now [] (part-marked c.requires) in
+    let blank : (v : ℕ) → get_or c.clear.new.table v 0 ≡ 0 =
+    λ v. ap (λ (l : List ℕ). get_or l v 0) c.clear.ensures ∙ zeros (length c.args.scratch.now) v in
+    let asked : let a = c.args in Leaves a.n a.inputs.now a.latches.now c.clear.new.table =
+    leaves-ask c.requires c.clear.new.table c.clear.auto.table blank in
+    let p = c.requires in
+    let t = c.clear.new.table in
+    let u = c.number_leaves.new.t in
+    let kept : length u ≡ length t = c.number_leaves.auto.t in
+    let same : length t ≡ length c.args.scratch.now = c.clear.auto.table in
+    let done = c.number_leaves.ensures in (
+      room p t same (asked) u kept done,
       omega arith,
       omega (arith, p.sum, p.most-M),
-      fresh p t same (asked e) u kept done,
-      blank-rest p t same (asked e) u kept done (blank e),
-      known p t same (asked e) u kept done (all_named (told e)),
+      fresh p t same (asked) u kept done,
+      blank-rest p t same (asked) u kept done (blank),
+      known p t same (asked) u kept done (all_named),
     )
 
 pub returns-in-Least : goal.returns-in-Least
 returns-in-Least c =
-    let s = c.before.before.before.before.before.before.before.before.before.before.before.before.before in
-    record { by_index = λ resets. by-missing (circuit s) _
+    let circuit : Circuit =
+    let a = c.args in
+    circuit_in a.n a.inputs.now a.latches.now a.outputs.now a.gates.now [] a.bads.now a.constraints.now in
+    record {
+      by_index = λ resets. by-missing (circuit) _
           (sym (ap missing_of c.in-Least.is)
-          ∙ c.undefined.ensures s.args.inputs.now [] (part-marked s.requires)); all_numbered = λ asked good. not_good _ good; }
+          ∙ c.undefined.ensures c.args.inputs.now [] (part-marked c.requires));
+      all_numbered = λ asked good. not_good _ good;
+    }
 
 pub returns-else-needs_no_order : goal.returns-else-needs_no_order
 returns-else-needs_no_order c =
-    let d = c.before.before.before.before.before.before.before.before in
-    let e = d.before.before.before.before in
-    let s = start (told e) in
-    let named = all_named (told e) in
-    let leaves = d.number_leaves.ensures.numbers in
-    record { by_index = λ resets. by-cycle (circuit s) _ named
-          (c.cycle.ensures.value (circuit s) refl (once s.pre) (used s.pre named) leaves (leaves-count (asked e))); all_numbered = λ wanted good. c.cycle.ensures.by_index _ leaves refl (leaves-count (asked e)); }
+    let circuit : Circuit =
+    let a = c.args in
+    circuit_in a.n a.inputs.now a.latches.now a.outputs.now a.gates.now [] a.bads.now a.constraints.now in
+    let all_named : none ≡ undefined_in (circuit) =
+    sym (ap missing_of c.in-Nothing.is)
+    ∙ c.undefined.ensures c.args.inputs.now [] (part-marked c.requires) in
+    let blank : (v : ℕ) → get_or c.clear.new.table v 0 ≡ 0 =
+    λ v. ap (λ (l : List ℕ). get_or l v 0) c.clear.ensures ∙ zeros (length c.args.scratch.now) v in
+    let asked : let a = c.args in Leaves a.n a.inputs.now a.latches.now c.clear.new.table =
+    leaves-ask c.requires c.clear.new.table c.clear.auto.table blank in
+    let named = all_named in
+    let leaves = c.number_leaves.ensures.numbers in
+    record {
+      by_index = λ resets. by-cycle (circuit) _ named
+          (c.cycle.ensures.value (circuit) refl (once c.requires) (used c.requires named) leaves (leaves-count (asked)));
+      all_numbered = λ wanted good. c.cycle.ensures.by_index _ leaves refl (leaves-count (asked));
+    }

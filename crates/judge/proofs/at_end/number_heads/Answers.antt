@@ -9,58 +9,53 @@ use Rattle.plan.specs.Literals.{var_of, index_of, halved}
 use Rattle.laws.proofs.Tables.{head_at, row_ends, next_row}
 use Rattle.judge.specs.at_end.Leaves.{with_heads}
 use Rattle.judge.proofs.at_end.Heads.{with-length, next-head}
-use Rattle.judge.proofs.at_end.number_heads.Goals.{After-index-v, In-loop-i}
 use Rattle.judge.proofs.at_end.number_heads.Goals as goal
 
--- the row of this turn ends in the table
-room : (c : In-loop-i) → let s = c.before.before.before.before in s.args.stride * c.loop-i.i + s.args.stride ≤ length s.args.table.now
-room c =
-    let s = c.before.before.before.before in
-    row_ends s.args.stride s.args.n c.loop-i.i s.args.table.now s.requires.n_in_bounds c.loop-i-test.true
-
--- the variable of this turn
-var-is : (c : After-index-v) → let t = c.before.before.before.before.before in c.index-v.result ≡ var_of (get_or t.args.table.now t.loop-i.at 0)
-var-is c = c.index-v.ensures ∙ ap index_of (c.var.ensures ∙ ap halved c.at.ensures)
-
 pub offset_bounds-table-at : goal.offset_bounds-table-at
-offset_bounds-table-at c = omega (arith, room c, c.requires.stride_nonzero)
+offset_bounds-table-at c =
+    let room : c.args.stride * c.loop-i.i + c.args.stride ≤ length c.args.table.now =
+    row_ends c.args.stride c.args.n c.loop-i.i c.args.table.now c.requires.n_in_bounds c.loop-i-test.true in
+    omega (arith, room, c.requires.stride_nonzero)
 
 pub bounds-table-at : goal.bounds-table-at
-bounds-table-at c = omega (arith, room c.before, c.requires.stride_nonzero)
+bounds-table-at c =
+    let room : c.args.stride * c.loop-i.i + c.args.stride ≤ length c.args.table.now =
+    row_ends c.args.stride c.args.n c.loop-i.i c.args.table.now c.requires.n_in_bounds c.loop-i-test.true in
+    omega (arith, room, c.requires.stride_nonzero)
 
 pub bounds-t-v : goal.bounds-t-v
 bounds-t-v c =
-    let w = c.loop-i in
-    let s = c.before.before.before.before.before.before.before.before in
-    let v : c.index-v.result ≡ head_at s.args.table.now s.args.stride w.i
-    = var-is c ∙ ap (λ (p : ℕ). var_of (get_or s.args.table.now p 0)) w.invariant.1 in
-    let fits = s.requires.by_index w.i c.loop-i-test.true in
-    omega (arith, v, fits, ap length w.invariant.3 ∙ with-length s.args.table.now s.args.stride s.args.first w.i s.args.t.now)
+    let var-is : c.index-v.result ≡ var_of (get_or c.args.table.now c.loop-i.at 0) =
+    c.index-v.ensures ∙ ap index_of (c.var.ensures ∙ ap halved c.at.ensures) in
+    let v : c.index-v.result ≡ head_at c.args.table.now c.args.stride c.loop-i.i
+    = var-is ∙ ap (λ (p : ℕ). var_of (get_or c.args.table.now p 0)) c.loop-i.invariant.1 in
+    let fits = c.requires.by_index c.loop-i.i c.loop-i-test.true in
+    omega (arith, v, fits, ap length c.loop-i.invariant.3 ∙ with-length c.args.table.now c.args.stride c.args.first c.loop-i.i c.args.t.now)
 
 pub overflow_add-at : goal.overflow_add-at
-overflow_add-at c = let t =
-    c.before.before.before.before in omega (arith, room t, t.before.before.before.before.requires.0)
+overflow_add-at c =
+    let room : c.args.stride * c.loop-i.i + c.args.stride ≤ length c.args.table.now =
+    row_ends c.args.stride c.args.n c.loop-i.i c.args.table.now c.requires.n_in_bounds c.loop-i-test.true in
+    omega (arith, room, c.requires.stride_nonzero)
 
 pub loop-i-preserved : goal.loop-i-preserved
 loop-i-preserved c =
-    let w = c.loop-i in
-    let s = c.before.before.before.before.before.before.before.before in (
+    let var-is : c.index-v.result ≡ var_of (get_or c.args.table.now c.loop-i.at 0) =
+    c.index-v.ensures ∙ ap index_of (c.var.ensures ∙ ap halved c.at.ensures) in (
       omega arith,
-      next_row s.args.stride w.i w.at w.invariant.1,
+      next_row c.args.stride c.loop-i.i c.loop-i.at c.loop-i.invariant.1,
       omega arith,
-      next-head s.args.table.now s.args.stride s.args.first w.i w.at c.index-v.result w.next s.args.t.now w.t
-          w.invariant.1 w.invariant.2 (var-is c) w.invariant.3,
+      next-head c.args.table.now c.args.stride c.args.first c.loop-i.i c.loop-i.at c.index-v.result c.loop-i.next c.args.t.now c.loop-i.t
+          c.loop-i.invariant.1 c.loop-i.invariant.2 (var-is) c.loop-i.invariant.3,
     )
 
 pub shape_of-t : goal.shape_of-t
 shape_of-t c =
-    let w = c.loop-i in
     let a = c.args in
-    ap length w.invariant.3 ∙ with-length a.table.now a.stride a.first w.i a.t.now
+    ap length c.loop-i.invariant.3 ∙ with-length a.table.now a.stride a.first c.loop-i.i a.t.now
 
 pub returns : goal.returns
 returns c =
-    let w = c.loop-i in
     let a = c.args in
-    let all : w.i ≡ a.n = omega arith in
-    w.invariant.3 ∙ ap (λ (k : ℕ). with_heads a.table.now a.stride a.first k a.t.now) all
+    let all : c.loop-i.i ≡ a.n = omega arith in
+    c.loop-i.invariant.3 ∙ ap (λ (k : ℕ). with_heads a.table.now a.stride a.first k a.t.now) all

@@ -7,19 +7,14 @@ use Rattle.judge.proofs.at_end.number_leaves.Goals as goal
 
 pub number_heads-requires : goal.number_heads-requires
 number_heads-requires c =
-    let s = c.before.before.before.before in
-    let p = s.requires in
-    record { stride_nonzero = omega arith; n_in_bounds = omega (arith, p.inputs_long); n_bound = omega (arith, p.most-M, p.sum); by_index = λ i h. omega (arith, input-below p i h, p.table-long); }
+    let p = c.requires in
+    record { stride_nonzero = omega arith; n_in_bounds = omega (arith, p.inputs_long); n_bound = omega (arith, p.most-M, p.sum); by_index = λ i h. omega (arith, input-below p i h, p.table-long) }
 
 pub number_heads-requires-2 : goal.number_heads-requires-2
 number_heads-requires-2 c =
-    let s = c.before.before.before.before.before.before.before.before.before in
-    let p = s.requires in
+    let p = c.requires in
     let same = c.number_heads.auto.t in
-    record { stride_nonzero = omega arith; n_in_bounds = omega (arith, p.latches-long); n_bound = omega (arith, p.most-M, p.sum); by_index = λ i h. omega (arith, latch-below p i h, p.table-long, same); }
+    record { stride_nonzero = omega arith; n_in_bounds = omega (arith, p.latches-long); n_bound = omega (arith, p.most-M, p.sum); by_index = λ i h. omega (arith, latch-below p i h, p.table-long, same) }
 
 pub returns : goal.returns
-returns c =
-    let c2 = c.before.before in
-    let c7 = c2.before.before.before.before.before in
-    leaves-numbered c7.requires _ _ c7.number_heads.ensures c2.number_heads-2.ensures
+returns c = leaves-numbered c.requires _ _ c.number_heads.ensures c.number_heads-2.ensures

@@ -7,14 +7,7 @@ use borrow.Author.Tests.{not-true, not-false, ltb-true, ltb-false, lt-leb, le-le
 use lib.Dec.{leb, ltb}
 use Rattle.plan.specs.declared.Lit.{Lit}
 use Rattle.plan.specs.Literals.{word_of}
-use Rattle.judge.proofs.binary_order.falls_at.Goals.{After-below}
 use Rattle.judge.proofs.binary_order.falls_at.Goals as goal
-
--- the first test is of rhs0 and lhs
-first-is : (c : After-below) → let a = c.args in c.below.result ≡ ltb a.rhs0 a.lhs
-first-is c =
-    c.below.ensures
-    ∙ ap₂ (λ (x y : Lit). ltb (word_of x) (word_of y)) c.at-larger.ensures c.at.ensures
 
 not-below : (a b : ℕ) → not (ltb a b) ≡ leb b a
 not-below a b = go (ltb a b) refl
@@ -25,14 +18,19 @@ not-below a b = go (ltb a b) refl
 
 pub returns-then-not-below : goal.returns-then-not-below
 returns-then-not-below c =
+    let first-is : let a = c.args in c.below.result ≡ ltb a.rhs0 a.lhs =
+    c.below.ensures
+    ∙ ap₂ (λ (x y : Lit). ltb (word_of x) (word_of y)) c.at-larger.ensures c.at.ensures in
     let a = c.args in
-    sym (ap (λ (b : Bool). b && leb a.rhs1 a.rhs0) (sym (first-is c.before) ∙ not-true _ c.if-not-below.true-raw))
+    sym (ap (λ (b : Bool). b && leb a.rhs1 a.rhs0) (sym (first-is) ∙ not-true _ c.if-not-below.true-raw))
 
 pub returns : goal.returns
 returns c =
-    let e = c.before.before in
-    let a = e.args in
+    let first-is : let a = c.args in c.below.result ≡ ltb a.rhs0 a.lhs =
+    c.below.ensures
+    ∙ ap₂ (λ (x y : Lit). ltb (word_of x) (word_of y)) c.at-larger.ensures c.at.ensures in
+    let a = c.args in
     ap not (c.below-2.ensures
-    ∙ ap₂ (λ (x y : Lit). ltb (word_of x) (word_of y)) e.at-larger.ensures c.at-2.ensures)
+    ∙ ap₂ (λ (x y : Lit). ltb (word_of x) (word_of y)) c.at-larger.ensures c.at-2.ensures)
     ∙ not-below a.rhs0 a.rhs1
-    ∙ sym (ap (λ (b : Bool). b && leb a.rhs1 a.rhs0) (sym (first-is e.before) ∙ not-false _ e.if-not-below.false-raw))
+    ∙ sym (ap (λ (b : Bool). b && leb a.rhs1 a.rhs0) (sym (first-is) ∙ not-false _ c.if-not-below.false-raw))

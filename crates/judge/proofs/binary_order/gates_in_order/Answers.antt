@@ -12,15 +12,7 @@ use Rattle.plan.specs.Literals.{lit_of}
 use Rattle.plan.specs.Circuit.{gate_of, rows_of}
 use Rattle.plan.specs.Binary.{runs, falls}
 use Rattle.judge.proofs.binary_order.Steps.{gate_test, order_left, order-turn, test-fails, test-passes}
-use Rattle.judge.proofs.binary_order.gates_in_order.Goals.{In-loop-i}
 use Rattle.judge.proofs.binary_order.gates_in_order.Goals as goal
-
--- what is left from this turn on: its gate, and what is left after it
-whole : (c : In-loop-i) → let a = c.args in let gates = a.gates.now in let w = c.loop-i in (runs a.first (rows_of 3 a.n gates) && falls (map gate_of (rows_of 3 a.n gates))) ≡ ((eqb (get_or gates w.at 0) (lit_of w.v) && gate_test (get_or gates w.at 0) (get_or gates (w.at + 1) 0) (get_or gates (w.at + 2) 0)) && order_left gates (a.n - (w.i + 1)) (w.at + 3) (w.v + 1))
-whole c =
-    let a = c.args in
-    let w = c.loop-i in
-    w.invariant.3 ∙ order-turn a.gates.now a.n w.i w.at w.v c.loop-i-test.true
 
 pub loop-i-init : goal.loop-i-init
 loop-i-init c =
@@ -30,21 +22,24 @@ loop-i-init c =
 
 pub returns-then-not-stands_at : goal.returns-then-not-stands_at
 returns-then-not-stands_at c =
-    let t = c.before.before.before.before.before in
-    test-fails _ _ _ _ (whole t) c.stands_at.ensures c.if-not-stands_at.true-raw
+    let whole : let a = c.args in let gates = a.gates.now in (runs a.first (rows_of 3 a.n gates) && falls (map gate_of (rows_of 3 a.n gates))) ≡ ((eqb (get_or gates c.loop-i.at 0) (lit_of c.loop-i.v) && gate_test (get_or gates c.loop-i.at 0) (get_or gates (c.loop-i.at + 1) 0) (get_or gates (c.loop-i.at + 2) 0)) && order_left gates (a.n - (c.loop-i.i + 1)) (c.loop-i.at + 3) (c.loop-i.v + 1)) =
+    let a = c.args in
+    c.loop-i.invariant.3 ∙ order-turn a.gates.now a.n c.loop-i.i c.loop-i.at c.loop-i.v c.loop-i-test.true in
+    test-fails _ _ _ _ (whole) c.stands_at.ensures c.if-not-stands_at.true-raw
 
 pub loop-i-preserved : goal.loop-i-preserved
 loop-i-preserved c =
-    let t = c.before.before.before.before.before in (
+    let whole : let a = c.args in let gates = a.gates.now in (runs a.first (rows_of 3 a.n gates) && falls (map gate_of (rows_of 3 a.n gates))) ≡ ((eqb (get_or gates c.loop-i.at 0) (lit_of c.loop-i.v) && gate_test (get_or gates c.loop-i.at 0) (get_or gates (c.loop-i.at + 1) 0) (get_or gates (c.loop-i.at + 2) 0)) && order_left gates (a.n - (c.loop-i.i + 1)) (c.loop-i.at + 3) (c.loop-i.v + 1)) =
+    let a = c.args in
+    c.loop-i.invariant.3 ∙ order-turn a.gates.now a.n c.loop-i.i c.loop-i.at c.loop-i.v c.loop-i-test.true in (
       omega arith,
       omega arith,
       omega arith,
-      test-passes _ _ _ _ (whole t) c.stands_at.ensures c.if-not-stands_at.false-raw,
+      test-passes _ _ _ _ (whole) c.stands_at.ensures c.if-not-stands_at.false-raw,
     )
 
 pub returns : goal.returns
 returns c =
     let a = c.args in
-    let w = c.loop-i in
-    let nothing : a.n - w.i ≡ 0 = omega arith in
-    sym (w.invariant.3 ∙ ap (λ (left : ℕ). order_left a.gates.now left w.at w.v) nothing)
+    let nothing : a.n - c.loop-i.i ≡ 0 = omega arith in
+    sym (c.loop-i.invariant.3 ∙ ap (λ (left : ℕ). order_left a.gates.now left c.loop-i.at c.loop-i.v) nothing)

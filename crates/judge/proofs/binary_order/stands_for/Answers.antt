@@ -13,6 +13,5 @@ uncut v h = omega arith
 
 pub returns : goal.returns
 returns c =
-    let s = c.before.before.before.before.before in
     ap₂ eqb (c.word.ensures ∙ ap word_of c.at.ensures)
-    (c.word-2.ensures ∙ ap word_of (c.lit.ensures ∙ ap doubled c.at-2.ensures) ∙ uncut s.args.v s.requires)
+    (c.word-2.ensures ∙ ap word_of (c.lit.ensures ∙ ap doubled c.at-2.ensures) ∙ uncut c.args.v c.requires)

@@ -8,19 +8,17 @@ use Rattle.judge.proofs.marks.Levels.{lowered}
 use Rattle.judge.proofs.marks.lower.Goals as goal
 
 pub returns-then-t-k-eq0 : goal.returns-then-t-k-eq0
-returns-then-t-k-eq0 c = let P =
-    c.before.before.before in
-    let A = P.args in (
-      lowered A.t.now _ A.p A.i A.e A.e P.requires.0 P.requires.1 refl
+returns-then-t-k-eq0 c =
+    let A = c.args in (
+      lowered A.t.now _ A.p A.i A.e A.e c.requires.0 c.requires.1 refl
           (sym (ap (λ (b : Bool). cond b A.e 0) (eq-eqb _ 0 c.if-t-k-eq0.true))),
-      P.requires.1,
+      c.requires.1,
     )
 
 pub returns : goal.returns
-returns c = let P =
-    c.before.before.before in
-    let A = P.args in (
-      lowered A.t.now _ A.p A.i A.e 0 P.requires.0 P.requires.1 refl
+returns c =
+    let A = c.args in (
+      lowered A.t.now _ A.p A.i A.e 0 c.requires.0 c.requires.1 refl
           (sym (ap (λ (b : Bool). cond b A.e 0) (ne_eqb _ 0 c.if-t-k-eq0.false))),
       omega arith,
     )

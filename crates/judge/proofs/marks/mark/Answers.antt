@@ -9,14 +9,10 @@ use Rattle.judge.proofs.marks.mark.Goals as goal
 
 pub returns : goal.returns
 unfolding marked
-returns c = let c2 =
-    c.before.before in
-    let c6 = c2.before.before.before.before in
-    let c10 = c6.before.before.before.before in
-    let c14 = c10.before.before.before.before in
-    let A = c14.before.before.before.args in
-    c2.raise4.ensures
+returns c =
+    let A = c.args in
+    c.raise-4.ensures
     ∙ ap (λ (l : List ℕ). raised l (p3 A.n A.a) (A.i / 32768))
-    (c6.raise3.ensures
+    (c.raise-3.ensures
     ∙ ap (λ (l : List ℕ). raised l (p2 A.n A.a) (A.i / 1024))
-    (c10.raise2.ensures ∙ ap (λ (l : List ℕ). raised l (p1 A.n A.a) (A.i / 32)) c14.raise.ensures))
+    (c.raise-2.ensures ∙ ap (λ (l : List ℕ). raised l (p1 A.n A.a) (A.i / 32)) c.raise.ensures))

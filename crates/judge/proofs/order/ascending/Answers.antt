@@ -32,13 +32,10 @@ bounds-gates-i-in-loop-i c = omega arith
 
 pub returns-then-v-var_of : goal.returns-then-v-var_of
 returns-then-v-var_of c =
-    let c3 = c.before.before.before in
-    let c6 = c3.before.before.before in
-    let c8 = c6.before.before in
-    let G = c8.args.gates.now in
-    let i = c6.loop-i.i in
-    sym (falls-all G c8.args.a i (omega arith)
-    (falls-first (gate_at G i) (omega (arith, c3.var_of-v.ensures, c.var_of.ensures, c.if-v-var_of.true))))
+    let G = c.args.gates.now in
+    let i = c.loop-i.i in
+    sym (falls-all G c.args.a i (omega arith)
+    (falls-first (gate_at G i) (omega (arith, c.var_of-v.ensures, c.var_of.ensures, c.if-v-var_of.true))))
 
 pub overflow_mul-i-in-loop-i-2 : goal.overflow_mul-i-in-loop-i-2
 overflow_mul-i-in-loop-i-2 c = omega arith
@@ -54,14 +51,11 @@ bounds-gates-i-in-loop-i-2 c = omega arith
 
 pub returns-then-v-var_of-2 : goal.returns-then-v-var_of-2
 returns-then-v-var_of-2 c =
-    let c6 = c.before.before.before.before.before.before in
-    let c9 = c6.before.before.before in
-    let c11 = c9.before.before in
-    let G = c11.args.gates.now in
-    let i = c9.loop-i.i in
-    sym (falls-all G c11.args.a i (omega arith)
+    let G = c.args.gates.now in
+    let i = c.loop-i.i in
+    sym (falls-all G c.args.a i (omega arith)
     (falls-second (gate_at G i)
-    (omega (arith, c6.var_of-v.ensures, c.var_of-in-loop-i.ensures, c.if-v-var_of-2.true))))
+    (omega (arith, c.var_of-v.ensures, c.var_of-in-loop-i.ensures, c.if-v-var_of-2.true))))
 
 pub overflow_add-i-in-loop-i-2 : goal.overflow_add-i-in-loop-i-2
 overflow_add-i-in-loop-i-2 c = omega arith
@@ -71,18 +65,13 @@ loop-i-smaller c = omega arith
 
 pub loop-i-preserved : goal.loop-i-preserved
 loop-i-preserved c =
-    let c3 = c.before.before.before in
-    let c4 = c3.before in
-    let c6 = c4.before.before in
-    let c9 = c6.before.before.before in
-    let c11 = c9.before.before in
-    let G = c11.args.gates.now in
-    let i = c9.loop-i.i in
+    let G = c.args.gates.now in
+    let i = c.loop-i.i in
     let up =
     rises (gate_at G i)
-    (omega (arith, c6.var_of-v.ensures, c4.var_of.ensures, c3.if-v-var_of.false))
-    (omega (arith, c6.var_of-v.ensures, c.var_of-in-loop-i.ensures, c.if-v-var_of-2.false)) in
-    (omega arith, rises-more G i c9.loop-i.invariant.1 up)
+    (omega (arith, c.var_of-v.ensures, c.var_of.ensures, c.if-v-var_of.false))
+    (omega (arith, c.var_of-v.ensures, c.var_of-in-loop-i.ensures, c.if-v-var_of-2.false)) in
+    (omega arith, rises-more G i c.loop-i.invariant.1 up)
 
 pub returns : goal.returns
 returns c =

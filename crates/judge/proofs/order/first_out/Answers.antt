@@ -28,10 +28,10 @@ numbered-requires c = (c.requires.1 c.loop-i.i (omega arith)).0
 pub returns-then-not-numbered : goal.returns-then-not-numbered
 returns-then-not-numbered c =
     record {
-  within = omega arith;
-  before = c.loop-i.invariant.1;
-  there = λ h. sym c.numbered.ensures ∙ not-true c.numbered.result c.if-not-numbered.true-raw;
-}
+      within = omega arith;
+      before = c.loop-i.invariant.1;
+      there = λ h. sym c.numbered.ensures ∙ not-true c.numbered.result c.if-not-numbered.true-raw;
+    }
 
 pub overflow_add-i : goal.overflow_add-i
 overflow_add-i c = omega arith
@@ -40,13 +40,12 @@ pub loop-i-smaller : goal.loop-i-smaller
 loop-i-smaller c = omega arith
 
 pub loop-i-preserved : goal.loop-i-preserved
-loop-i-preserved c =
-    (
+loop-i-preserved c = (
   omega arith,
   below_more _ _ c.loop-i.invariant.1
       (sym c.numbered.ensures ∙ not-false c.numbered.result c.if-not-numbered.false-raw),
 )
 
 pub returns : goal.returns
-returns c = record { within = omega arith; before = λ i h. c.before.loop.invariant.1 i (omega arith); there =
-    λ h. absurd (omega arith) }
+returns c =
+    record { within = omega arith; before = λ i h. c.loop-i.invariant.1 i (omega arith); there = λ h. absurd (omega arith) }

@@ -4,4 +4,4 @@ use borrow.Author.Rules.{rules}
 use Rattle.judge.proofs.ranges.known_within.Goals as goal
 
 pub returns-then-known : goal.returns-then-known
-returns-then-known c = sym (c.before.before.pre.1 c.if-known.taken)
+returns-then-known c = sym (c.requires.table_value c.if-known.true)

@@ -7,37 +7,34 @@ use borrow.Author.Tests.{not-true, not-false}
 use lib.ListN.{take}
 use Rattle.plan.specs.Circuit.{latch_of, rows_of, resets_ok, all_inside}
 use Rattle.judge.proofs.ranges.Named.{table7, table8, table9, no-last-table}
-use Rattle.judge.proofs.ranges.last_tables.Goals.{Else-not-resets_within, Else-not-rows_within}
 use Rattle.judge.proofs.ranges.last_tables.Goals as goal
-
--- what each test that passed says
-resets-in : (c : Else-not-resets_within) → let a = c.args in resets_ok (map latch_of (rows_of 2 a.n.L a.latches.now)) (take a.n.L a.resets.now) ≡ true
-resets-in c = sym c.resets_within.ensures ∙ not-false c.resets_within.result c.if-not-resets_within.left
-
-bads-in : (c : Else-not-rows_within) → let a = c.args in all_inside false a.n.M (rows_of 1 a.n.B a.bads.now) ≡ true
-bads-in c = sym c.rows_within.ensures ∙ not-false c.rows_within.result c.if-not-rows_within.left
 
 pub returns-then-not-resets_within : goal.returns-then-not-resets_within
 returns-then-not-resets_within c =
-    table7 c.before.before.before.before.before.before.before.pre
-    (sym c.resets_within.ensures ∙ not-true c.resets_within.result c.if-not-resets_within.taken)
+    table7 c.requires
+    (sym c.resets_within.ensures ∙ not-true c.resets_within.result c.if-not-resets_within.true-raw)
 
 pub returns-then-not-rows_within : goal.returns-then-not-rows_within
 returns-then-not-rows_within c =
-    let d = c.before.before in
-    table8 d.before.before.before.before.before.before.before.pre (resets-in d)
-    (sym c.rows_within.ensures ∙ not-true c.rows_within.result c.if-not-rows_within.taken)
+    let resets-in : let a = c.args in resets_ok (map latch_of (rows_of 2 a.n.L a.latches.now)) (take a.n.L a.resets.now) ≡ true =
+    sym c.resets_within.ensures ∙ not-false c.resets_within.result c.if-not-resets_within.false-raw in
+    table8 c.requires (resets-in)
+    (sym c.rows_within.ensures ∙ not-true c.rows_within.result c.if-not-rows_within.true-raw)
 
 pub returns-then-not-rows_within-2 : goal.returns-then-not-rows_within-2
 returns-then-not-rows_within-2 c =
-    let e = c.before.before in
-    let d = e.before.before in
-    table9 d.before.before.before.before.before.before.before.pre (resets-in d) (bads-in e)
-    (sym c.rows_within-2.ensures ∙ not-true c.rows_within-2.result c.if-not-rows_within-2.taken)
+    let resets-in : let a = c.args in resets_ok (map latch_of (rows_of 2 a.n.L a.latches.now)) (take a.n.L a.resets.now) ≡ true =
+    sym c.resets_within.ensures ∙ not-false c.resets_within.result c.if-not-resets_within.false-raw in
+    let bads-in : let a = c.args in all_inside false a.n.M (rows_of 1 a.n.B a.bads.now) ≡ true =
+    sym c.rows_within.ensures ∙ not-false c.rows_within.result c.if-not-rows_within.false-raw in
+    table9 c.requires (resets-in) (bads-in)
+    (sym c.rows_within-2.ensures ∙ not-true c.rows_within-2.result c.if-not-rows_within-2.true-raw)
 
 pub returns : goal.returns
 returns c =
-    let e = c.before.before in
-    let d = e.before.before in
-    no-last-table d.before.before.before.before.before.before.before.pre (resets-in d) (bads-in e)
-    (sym c.rows_within-2.ensures ∙ not-false c.rows_within-2.result c.if-not-rows_within-2.left)
+    let resets-in : let a = c.args in resets_ok (map latch_of (rows_of 2 a.n.L a.latches.now)) (take a.n.L a.resets.now) ≡ true =
+    sym c.resets_within.ensures ∙ not-false c.resets_within.result c.if-not-resets_within.false-raw in
+    let bads-in : let a = c.args in all_inside false a.n.M (rows_of 1 a.n.B a.bads.now) ≡ true =
+    sym c.rows_within.ensures ∙ not-false c.rows_within.result c.if-not-rows_within.false-raw in
+    no-last-table c.requires (resets-in) (bads-in)
+    (sym c.rows_within-2.ensures ∙ not-false c.rows_within-2.result c.if-not-rows_within-2.false-raw)

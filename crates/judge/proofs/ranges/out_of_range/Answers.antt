@@ -6,23 +6,22 @@ use Rattle.plan.specs.Circuit.{Circuit}
 use Rattle.tables.specs.Held.{circuit_in}
 use Rattle.tables.proofs.Told.{some-table, no_table}
 use Rattle.judge.proofs.ranges.Places.{by_first, by_last}
-use Rattle.judge.proofs.ranges.out_of_range.Goals.{Start}
 use Rattle.judge.proofs.ranges.out_of_range.Goals as goal
-
-abbrev circuit : Start → Circuit
-circuit s =
-    let a = s.args in
-    circuit_in a.n a.inputs.now a.latches.now a.outputs.now a.gates.now a.resets.now a.bads.now a.constraints.now
 
 pub returns-then-first-ne0 : goal.returns-then-first-ne0
 returns-then-first-ne0 c =
+    let circuit : Circuit =
+    let a = c.args in
+    circuit_in a.n a.inputs.now a.latches.now a.outputs.now a.gates.now a.resets.now a.bads.now a.constraints.now in
     let e = c.first_tables-first.ensures in
-    let named = some-table c.first_tables-first.result _ c.if-first-ne0.taken e in
-    e ∙ (named ∙ by_first (circuit c.before.before.before.before.before.before.before.before.before) _ named)
+    let named = some-table c.first_tables-first.result _ c.if-first-ne0.true e in
+    e ∙ (named ∙ by_first (circuit) _ named)
 
 pub returns : goal.returns
 returns c =
-    let d = c.before.before in
-    by_last (circuit d.before.before.before.before.before.before.before.before) _
-    (no_table d.first_tables-first.result _ c.if-first-ne0.left d.first_tables-first.ensures)
+    let circuit : Circuit =
+    let a = c.args in
+    circuit_in a.n a.inputs.now a.latches.now a.outputs.now a.gates.now a.resets.now a.bads.now a.constraints.now in
+    by_last (circuit) _
+    (no_table c.first_tables-first.result _ c.if-first-ne0.false c.first_tables-first.ensures)
     c.last_tables.ensures

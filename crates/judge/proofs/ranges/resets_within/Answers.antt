@@ -15,25 +15,22 @@ loop-left-init c = (omega arith, omega arith, refl)
 pub returns-then-not-is_reset : goal.returns-then-not-is_reset
 returns-then-not-is_reset c =
     let a = c.args in
-    let w = c.loop-left in
-    sym (w.invariant.2
-    ∙ reset-outside a.latches.now a.resets.now w.at w.i w.left c.loop-left-test.true w.invariant.1
+    sym (c.loop-left.invariant.2
+    ∙ reset-outside a.latches.now a.resets.now c.loop-left.at c.loop-left.i c.loop-left.left c.loop-left-test.true c.loop-left.invariant.1
     (sym c.is_reset.ensures ∙ not-true c.is_reset.result c.if-not-is_reset.true-raw))
 
 pub loop-left-preserved : goal.loop-left-preserved
 loop-left-preserved c =
-    let a = c.args in
-    let w = c.loop-left in (
+    let a = c.args in (
       omega arith,
       omega arith,
-      w.invariant.2
-          ∙ reset-inside a.latches.now a.resets.now w.at w.i w.left c.loop-left-test.true w.invariant.1
+      c.loop-left.invariant.2
+          ∙ reset-inside a.latches.now a.resets.now c.loop-left.at c.loop-left.i c.loop-left.left c.loop-left-test.true c.loop-left.invariant.1
           (sym c.is_reset.ensures ∙ not-false c.is_reset.result c.if-not-is_reset.false-raw),
     )
 
 pub returns : goal.returns
 returns c =
     let a = c.args in
-    let w = c.loop-left in
-    let ended : w.left ≡ 0 = omega arith in
-    sym (w.invariant.2 ∙ ap (λ (k : ℕ). resets_from a.latches.now a.resets.now w.at w.i k) ended)
+    let ended : c.loop-left.left ≡ 0 = omega arith in
+    sym (c.loop-left.invariant.2 ∙ ap (λ (k : ℕ). resets_from a.latches.now a.resets.now c.loop-left.at c.loop-left.i k) ended)

@@ -15,27 +15,22 @@ loop-left-init c = (omega arith, refl)
 
 pub returns-then-not-word_within : goal.returns-then-not-word_within
 returns-then-not-word_within c =
-    let start = c.before.before.before.before.before.before in
-    let a = start.args in
-    let w = c.loop-left in
-    sym (w.invariant.1
-    ∙ word-outside w.first a.m a.table.now w.at w.left c.loop-left-test.true w.invariant.0
+    let a = c.args in
+    sym (c.loop-left.invariant.1
+    ∙ word-outside c.loop-left.first a.m a.table.now c.loop-left.at c.loop-left.left c.loop-left-test.true c.loop-left.invariant.0
     (sym c.word_within.ensures ∙ not-true c.word_within.result c.if-not-word_within.true-raw))
 
 pub loop-left-preserved : goal.loop-left-preserved
 loop-left-preserved c =
-    let start = c.before.before.before.before.before.before in
-    let a = start.args in
-    let w = c.loop-left in (
+    let a = c.args in (
       omega arith,
-      w.invariant.1
-          ∙ word-inside w.first a.m a.table.now w.at w.left c.loop-left-test.true w.invariant.0
+      c.loop-left.invariant.1
+          ∙ word-inside c.loop-left.first a.m a.table.now c.loop-left.at c.loop-left.left c.loop-left-test.true c.loop-left.invariant.0
           (sym c.word_within.ensures ∙ not-false c.word_within.result c.if-not-word_within.false-raw),
     )
 
 pub returns : goal.returns
 returns c =
     let a = c.args in
-    let w = c.loop-left in
-    let ended : w.left ≡ 0 = omega arith in
-    sym (w.invariant.1 ∙ ap (λ (k : ℕ). inside w.first a.m (take k (drop w.at a.table.now))) ended)
+    let ended : c.loop-left.left ≡ 0 = omega arith in
+    sym (c.loop-left.invariant.1 ∙ ap (λ (k : ℕ). inside c.loop-left.first a.m (take k (drop c.loop-left.at a.table.now))) ended)

@@ -25,21 +25,19 @@ returns-then-not-short c = let a = c.args in long a.answer a.short (not-true a.s
 
 pub returns-then-before_sixth : goal.returns-then-before_sixth
 returns-then-before_sixth c =
-    let d = c.before.before.before in
-    let a = d.args in
-    refused a.answer a.short d.in-Refused.refusal c.before_sixth.result true
-    (not-false a.short d.if-not-short.false-raw) d.in-Refused.is
+    let a = c.args in
+    refused a.answer a.short c.in-Refused.refusal c.before_sixth.result true
+    (not-false a.short c.if-not-short.false-raw) c.in-Refused.is
     c.before_sixth.ensures c.if-before_sixth.true
 
 pub returns-in-Good : goal.returns-in-Good
-returns-in-Good c = let a =
-    c.args in good a.answer a.short (not-false a.short c.if-not-short.false-raw)
+returns-in-Good c =
+    let a = c.args in good a.answer a.short (not-false a.short c.if-not-short.false-raw)
     c.in-Good.is
 
 pub returns-else-before_sixth : goal.returns-else-before_sixth
 returns-else-before_sixth c =
-    let d = c.before.before.before in
-    let a = d.args in
-    refused a.answer a.short d.in-Refused.refusal c.before_sixth.result false
-    (not-false a.short d.if-not-short.false-raw) d.in-Refused.is
+    let a = c.args in
+    refused a.answer a.short c.in-Refused.refusal c.before_sixth.result false
+    (not-false a.short c.if-not-short.false-raw) c.in-Refused.is
     c.before_sixth.ensures c.if-before_sixth.false

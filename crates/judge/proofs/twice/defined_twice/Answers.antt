@@ -8,59 +8,60 @@ use Rattle.judge.proofs.twice.defined_twice.Goals as goal
 
 pub mark_rows-requires : goal.mark_rows-requires
 mark_rows-requires c =
-    let s = c.before.before.before.before.before in
-    let a = s.args in
-    let p = s.requires in
-    record { stride_nonzero = omega arith; n_in_bounds = omega (arith, p.inputs_long); by_index = λ i h. omega
-            (arith, input-in a.n.M a.inputs.now a.n.I p.inputs_long p.inputs-inside i h, p.marks-long); }
+    let a = c.args in
+    let p = c.requires in
+    record {
+      stride_nonzero = omega arith;
+      n_in_bounds = omega (arith, p.inputs_long);
+      by_index = λ i h. omega
+          (arith, input-in a.n.M a.inputs.now a.n.I p.inputs_long p.inputs-inside i h, p.marks-long);
+    }
 
 pub returns-then-mark_rows : goal.returns-then-mark_rows
-returns-then-mark_rows c = let d =
-    c.before.before.before in told-inputs d.before.before.before.before.before.before.requires _ _ d.mark-rows.ensures
+returns-then-mark_rows c =
+    told-inputs c.requires _ _ c.mark_rows.ensures
     c.if-mark_rows.true
 
 pub mark_rows-requires-2 : goal.mark_rows-requires-2
 mark_rows-requires-2 c =
-    let s = c.before.before.before.before.before.before.before.before.before.before in
-    let a = s.args in
-    let p = s.requires in
-    record { stride_nonzero = omega arith; n_in_bounds = omega (arith, p.latches-long); by_index = λ i h. omega
-            (arith, latch-in a.n.M a.latches.now a.n.L p.latches-inside i h, p.marks-long, c.mark_rows.auto.marks); }
+    let a = c.args in
+    let p = c.requires in
+    record {
+      stride_nonzero = omega arith;
+      n_in_bounds = omega (arith, p.latches-long);
+      by_index = λ i h. omega
+          (arith, latch-in a.n.M a.latches.now a.n.L p.latches-inside i h, p.marks-long, c.mark_rows.auto.marks);
+    }
 
 pub returns-then-mark_rows-2 : goal.returns-then-mark_rows-2
 returns-then-mark_rows-2 c =
-    let e = c.before.before.before in
-    let d = e.before.before.before.before.before in
-    told-latches d.requires _ _ d.mark_rows.ensures e.if-mark_rows.false _ _
-    e.mark_rows-2.ensures c.if-mark_rows-2.true
+    told-latches c.requires _ _ c.mark_rows.ensures c.if-mark_rows.false _ _
+    c.mark_rows-2.ensures c.if-mark_rows-2.true
 
 pub mark_rows-requires-3 : goal.mark_rows-requires-3
 mark_rows-requires-3 c =
-    let s = c.before.before.before.before.before.before.before.before.before.before.before.before.before.before.before in
-    let a = s.args in
-    let p = s.requires in
-    record { stride_nonzero = omega arith; n_in_bounds = omega (arith, p.gates-long); by_index = λ i h. omega (
-          arith,
-          gate-in a.n.M a.gates.now a.n.A p.gates-inside i h,
-          p.marks-long,
-          c.mark_rows-2.auto.marks,
-          c.mark_rows.auto.marks,
-        ); }
+    let a = c.args in
+    let p = c.requires in
+    record {
+      stride_nonzero = omega arith;
+      n_in_bounds = omega (arith, p.gates-long);
+      by_index = λ i h. omega (
+        arith,
+        gate-in a.n.M a.gates.now a.n.A p.gates-inside i h,
+        p.marks-long,
+        c.mark_rows-2.auto.marks,
+        c.mark_rows.auto.marks,
+      );
+    }
 
 pub returns-then-mark_rows-3 : goal.returns-then-mark_rows-3
 returns-then-mark_rows-3 c =
-    let f = c.before.before.before in
-    let e = f.before.before.before.before.before in
-    let d = e.before.before.before.before.before in
-    told-gates d.requires _ _ d.mark_rows.ensures e.if-mark_rows.false _ _
-    e.mark_rows-2.ensures f.if-mark_rows-2.false
-    _ _ f.mark_rows-3.ensures c.if-mark_rows-3.true
+    told-gates c.requires _ _ c.mark_rows.ensures c.if-mark_rows.false _ _
+    c.mark_rows-2.ensures c.if-mark_rows-2.false
+    _ _ c.mark_rows-3.ensures c.if-mark_rows-3.true
 
 pub returns : goal.returns
 returns c =
-    let f = c.before.before.before in
-    let e = f.before.before.before.before.before in
-    let d = e.before.before.before.before.before in
-    told_none d.requires _ _ d.mark_rows.ensures e.if-mark_rows.false _ _
-    e.mark_rows-2.ensures f.if-mark_rows-2.false
-    _ _ f.mark_rows-3.ensures c.if-mark_rows-3.false
+    told_none c.requires _ _ c.mark_rows.ensures c.if-mark_rows.false _ _
+    c.mark_rows-2.ensures c.if-mark_rows-2.false
+    _ _ c.mark_rows-3.ensures c.if-mark_rows-3.false

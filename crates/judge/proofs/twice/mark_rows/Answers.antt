@@ -8,66 +8,79 @@ use lib.ListN.{length}
 use Rattle.plan.specs.Literals.{index_of, halved}
 use Rattle.laws.proofs.Tables.{head_at, row_ends}
 use Rattle.judge.proofs.twice.Rows.{Loop, begins, var-at, stops, turns, ends}
-use Rattle.judge.proofs.twice.mark_rows.Goals.{After-index-v, In-loop-i}
 use Rattle.judge.proofs.twice.mark_rows.Goals as goal
-
--- the row of this turn ends in the table
-room : (c : In-loop-i) → let s = c.before.before.before.before in c.loop-i.at + s.args.stride ≤ length s.args.table.now
-room c =
-    let s = c.before.before.before.before in
-    omega (
-      arith,
-      c.loop-i.invariant.place,
-      row_ends s.args.stride s.args.n c.loop-i.i s.args.table.now s.requires.n_in_bounds c.loop-i-test.true,
-    )
-
--- the variable of this turn, which has a mark
-var-is : (c : After-index-v) → let t = c.before.before.before.before.before in c.index-v.result ≡ head_at t.args.table.now t.args.stride t.loop-i.i
-var-is c =
-    var-at c.loop-i.invariant c.index-v.result
-    (c.index-v.ensures ∙ ap index_of (c.var.ensures ∙ ap halved c.at.ensures))
-
-in-marks : (c : After-index-v) → c.index-v.result < length c.loop-i.marks
-in-marks c =
-    let t = c.before.before.before.before.before in
-    omega (arith, var-is c, t.requires.by_index t.loop-i.i c.loop-i-test.true, t.loop-i.invariant.wide)
 
 pub loop-i-init : goal.loop-i-init
 loop-i-init c = let a = c.args in begins a.table.now a.stride a.n a.marks.now
 
 pub offset_bounds-table-at : goal.offset_bounds-table-at
-offset_bounds-table-at c = omega (arith, room c, c.requires.stride_nonzero)
+offset_bounds-table-at c =
+    let room : c.loop-i.at + c.args.stride ≤ length c.args.table.now =
+    omega (
+      arith,
+      c.loop-i.invariant.place,
+      row_ends c.args.stride c.args.n c.loop-i.i c.args.table.now c.requires.n_in_bounds c.loop-i-test.true,
+    ) in
+    omega (arith, room, c.requires.stride_nonzero)
 
 pub bounds-table-at : goal.bounds-table-at
-bounds-table-at c = omega (arith, room c.before, c.requires.stride_nonzero)
+bounds-table-at c =
+    let room : c.loop-i.at + c.args.stride ≤ length c.args.table.now =
+    omega (
+      arith,
+      c.loop-i.invariant.place,
+      row_ends c.args.stride c.args.n c.loop-i.i c.args.table.now c.requires.n_in_bounds c.loop-i-test.true,
+    ) in
+    omega (arith, room, c.requires.stride_nonzero)
 
 pub is_on-requires : goal.is_on-requires
-is_on-requires c = omega (arith, in-marks c.before)
+is_on-requires c =
+    let var-is : c.index-v.result ≡ head_at c.args.table.now c.args.stride c.loop-i.i =
+    var-at c.loop-i.invariant c.index-v.result
+    (c.index-v.ensures ∙ ap index_of (c.var.ensures ∙ ap halved c.at.ensures)) in
+    let in-marks : c.index-v.result < length c.loop-i.marks =
+    omega (arith, var-is, c.requires.by_index c.loop-i.i c.loop-i-test.true, c.loop-i.invariant.wide) in
+    omega (arith, in-marks)
 
 pub shape_of-marks-then-is_on : goal.shape_of-marks-then-is_on
-shape_of-marks-then-is_on c = c.before.before.before.before.before.before.before.before.loop.invariant.wide
+shape_of-marks-then-is_on c = c.loop-i.invariant.wide
 
 pub returns-then-is_on : goal.returns-then-is_on
 returns-then-is_on c =
-    let d = c.before.before.before in
-    let w = d.before.before.before.before.before.loop in
-    stops w.invariant d.index.result (var-is d) d.before.before.before.before.loop-test.true
-    (sym c.is_on.ensures ∙ c.if-is_on.true) w.marks
+    let var-is : c.index-v.result ≡ head_at c.args.table.now c.args.stride c.loop-i.i =
+    var-at c.loop-i.invariant c.index-v.result
+    (c.index-v.ensures ∙ ap index_of (c.var.ensures ∙ ap halved c.at.ensures)) in
+    stops c.loop-i.invariant c.index-v.result (var-is) c.loop-i-test.true
+    (sym c.is_on.ensures ∙ c.if-is_on.true) c.loop-i.marks
 
 pub raise-requires : goal.raise-requires
-raise-requires c = omega (arith, in-marks c.before.before.before.before)
+raise-requires c =
+    let var-is : c.index-v.result ≡ head_at c.args.table.now c.args.stride c.loop-i.i =
+    var-at c.loop-i.invariant c.index-v.result
+    (c.index-v.ensures ∙ ap index_of (c.var.ensures ∙ ap halved c.at.ensures)) in
+    let in-marks : c.index-v.result < length c.loop-i.marks =
+    omega (arith, var-is, c.requires.by_index c.loop-i.i c.loop-i-test.true, c.loop-i.invariant.wide) in
+    omega (arith, in-marks)
 
 pub overflow_add-at : goal.overflow_add-at
 overflow_add-at c =
-    let t = c.before.before.before.before.before.before.before.before.before.before.before in
-    omega (arith, room t, t.before.before.before.before.requires.0)
+    let room : c.loop-i.at + c.args.stride ≤ length c.args.table.now =
+    omega (
+      arith,
+      c.loop-i.invariant.place,
+      row_ends c.args.stride c.args.n c.loop-i.i c.args.table.now c.requires.n_in_bounds c.loop-i-test.true,
+    ) in
+    omega (arith, room, c.requires.stride_nonzero)
 
 pub loop-i-preserved : goal.loop-i-preserved
 loop-i-preserved c =
-    let test = c.before.before.before.before in
-    let d = test.before.before.before in
-    turns d.before.before.before.before.before.loop.invariant d.index.result (var-is d) d.before.before.before.before.loop-test.true
-    (sym test.is_on.ensures ∙ test.if-is_on.false) (in-marks d) _ c.raise.ensures
+    let var-is : c.index-v.result ≡ head_at c.args.table.now c.args.stride c.loop-i.i =
+    var-at c.loop-i.invariant c.index-v.result
+    (c.index-v.ensures ∙ ap index_of (c.var.ensures ∙ ap halved c.at.ensures)) in
+    let in-marks : c.index-v.result < length c.loop-i.marks =
+    omega (arith, var-is, c.requires.by_index c.loop-i.i c.loop-i-test.true, c.loop-i.invariant.wide) in
+    turns c.loop-i.invariant c.index-v.result (var-is) c.loop-i-test.true
+    (sym c.is_on.ensures ∙ c.if-is_on.false) (in-marks) _ c.raise.ensures
 
 pub shape_of-marks : goal.shape_of-marks
 shape_of-marks c = c.loop-i.invariant.wide

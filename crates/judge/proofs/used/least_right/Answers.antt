@@ -38,23 +38,18 @@ pub bounds-gates-i-in-loop-i : goal.bounds-gates-i-in-loop-i
 bounds-gates-i-in-loop-i c = omega arith
 
 pub lower-low-requires-in-loop-i : goal.lower-low-requires-in-loop-i
-lower-low-requires-in-loop-i c =
-    let t = c.before.before.before in
-    t.requires.by_index_2 t.loop-i.i t.loop-i-test.true
+lower-low-requires-in-loop-i c = c.requires.by_index_2 c.loop-i.i c.loop-i-test.true
 
 pub loop-i-preserved : goal.loop-i-preserved
 loop-i-preserved c =
-    let t = c.before.before.before.before in
-    let a = t.args in
-    let w = t.loop-i in (
+    let a = c.args in (
       omega arith,
-      next-right a.gates.now a.marks.now a.before w.low w.i _ _ w.invariant.1 c.lower-low.ensures
+      next-right a.gates.now a.marks.now a.before c.loop-i.low c.loop-i.i _ _ c.loop-i.invariant.1 c.lower-low.ensures
           c.lower-low-in-loop-i.ensures,
     )
 
 pub returns : goal.returns
 returns c =
     let a = c.args in
-    let w = c.loop-i in
-    let all : w.i ≡ a.n = omega arith in
-    w.invariant.1 ∙ ap (λ (k : ℕ). lowest a.marks.now a.before (rights (gates_at a.gates.now k))) all
+    let all : c.loop-i.i ≡ a.n = omega arith in
+    c.loop-i.invariant.1 ∙ ap (λ (k : ℕ). lowest a.marks.now a.before (rights (gates_at a.gates.now k))) all

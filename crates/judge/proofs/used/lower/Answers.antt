@@ -10,7 +10,6 @@ use lib.Dec.{eqb}
 use Rattle.plan.specs.Literals.{var_of}
 use Rattle.tables.specs.bitmap.Bitmap.{is_on}
 use Rattle.judge.specs.used.Least.{lower}
-use Rattle.judge.proofs.used.lower.Goals.{Else-v-eq0}
 use Rattle.judge.proofs.used.lower.Goals as goal
 
 module _ (marks : List ℕ) (k l v : ℕ) (var : v ≡ var_of l) where
@@ -30,31 +29,31 @@ module _ (marks : List ℕ) (k l v : ℕ) (var : v ≡ var_of l) where
   unfolding lower
   no-mark off n = rw (← var, ne_eqb 0 v (λ e. n (sym e)), off)
 
--- the variable has no mark, and is not 0
-lesser : (c : Else-v-eq0) → let d = c.before.before.before in let a = d.args in min d.variable-v.result a.least ≡ lower a.marks.now a.least a.word
-lesser c =
-    let d = c.before.before.before in
-    let a = d.args in
-    no-mark a.marks.now a.least a.word d.variable-v.result d.variable-v.ensures
-    (sym c.is_on.ensures ∙ c.if-is_on.false) c.if-v-eq0.false
-
 pub is_on-requires : goal.is_on-requires
 is_on-requires c = omega (arith, c.variable-v.ensures, c.requires)
 
 pub returns-then-is_on : goal.returns-then-is_on
 returns-then-is_on c =
-    let d = c.before.before in
-    let a = d.args in
-    has-mark a.marks.now a.least a.word d.variable-v.result d.variable-v.ensures (sym c.is_on.ensures ∙ c.if-is_on.true)
+    let a = c.args in
+    has-mark a.marks.now a.least a.word c.variable-v.result c.variable-v.ensures (sym c.is_on.ensures ∙ c.if-is_on.true)
 
 pub returns-then-v-eq0 : goal.returns-then-v-eq0
 returns-then-v-eq0 c =
-    let d = c.before.before.before in
-    let a = d.args in
-    constant a.marks.now a.least a.word d.variable-v.result d.variable-v.ensures c.if-v-eq0.true
+    let a = c.args in
+    constant a.marks.now a.least a.word c.variable-v.result c.variable-v.ensures c.if-v-eq0.true
 
 pub returns-then-v-least : goal.returns-then-v-least
-returns-then-v-least c = omega (arith, lesser c.before)
+returns-then-v-least c =
+    let lesser : let a = c.args in min c.variable-v.result a.least ≡ lower a.marks.now a.least a.word =
+    let a = c.args in
+    no-mark a.marks.now a.least a.word c.variable-v.result c.variable-v.ensures
+    (sym c.is_on.ensures ∙ c.if-is_on.false) c.if-v-eq0.false in
+    omega (arith, lesser)
 
 pub returns : goal.returns
-returns c = omega (arith, lesser c.before)
+returns c =
+    let lesser : let a = c.args in min c.variable-v.result a.least ≡ lower a.marks.now a.least a.word =
+    let a = c.args in
+    no-mark a.marks.now a.least a.word c.variable-v.result c.variable-v.ensures
+    (sym c.is_on.ensures ∙ c.if-is_on.false) c.if-v-eq0.false in
+    omega (arith, lesser)

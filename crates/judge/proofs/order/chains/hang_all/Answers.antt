@@ -14,14 +14,12 @@ pub loop-i-init : goal.loop-i-init
 loop-i-init c = (omega arith, refl, c.requires.1, λ p k. refl)
 
 pub hang-requires : goal.hang-requires
-hang-requires c = let P =
-    c.before.before.before.before.before in
-    let A = P.args in
-    let L = c.loop-i in
+hang-requires c =
+    let A = c.args in
     let inn = c.loop-i-test.true in (
-      space-again A.gates.now A.t.now L.t A.n A.a L.invariant.1 P.requires.0,
+      space-again A.gates.now A.t.now c.loop-i.t A.n A.a c.loop-i.invariant.1 c.requires.0,
       inn,
-      watched-below A.gates.now L.t A.n A.a P.requires.0.inside L.invariant.2.named L.i inn,
+      watched-below A.gates.now c.loop-i.t A.n A.a c.requires.0.inside c.loop-i.invariant.2.named c.loop-i.i inn,
     )
 
 pub overflow_add-i : goal.overflow_add-i
@@ -31,24 +29,20 @@ pub loop-i-smaller : goal.loop-i-smaller
 loop-i-smaller c = omega arith
 
 pub loop-i-preserved : goal.loop-i-preserved
-loop-i-preserved c = let c5 =
-    c.before.before.before.before.before in
-    let P = c5.before.before.before in
-    let A = P.args in
-    let L = c5.loop in
+loop-i-preserved c =
+    let A = c.args in
     let u = c.hang.new.t in
-    let same : length u ≡ length L.t = c.hang.auto.t in
+    let same : length u ≡ length c.loop-i.t = c.hang.auto.t in
     let more =
-    hang-more A.gates.now A.t.now L.t A.n A.a L.i
-    (space-again A.gates.now A.t.now L.t A.n A.a L.invariant.1 P.requires.0) c.loop-i-test.true
-    P.requires.2 L.invariant.3 L.invariant.2 u c.hang.ensures in
-    (omega arith, same ∙ L.invariant.1, more.0, more.1)
+    hang-more A.gates.now A.t.now c.loop-i.t A.n A.a c.loop-i.i
+    (space-again A.gates.now A.t.now c.loop-i.t A.n A.a c.loop-i.invariant.1 c.requires.0) c.loop-i-test.true
+    c.requires.2 c.loop-i.invariant.3 c.loop-i.invariant.2 u c.hang.ensures in
+    (omega arith, same ∙ c.loop-i.invariant.1, more.0, more.1)
 
 pub shape_of-t : goal.shape_of-t
 shape_of-t c = c.loop-i.invariant.1
 
 pub returns : goal.returns
-returns c = let L =
-    c.loop-i in
+returns c =
     let A = c.args in
-    (hang-end A.gates.now L.t A.n A.a L.i c.loop-i-test.false L.invariant.2, L.invariant.3)
+    (hang-end A.gates.now c.loop-i.t A.n A.a c.loop-i.i c.loop-i-test.false c.loop-i.invariant.2, c.loop-i.invariant.3)

@@ -28,18 +28,14 @@ pub bounds-gates-i : goal.bounds-gates-i
 bounds-gates-i c = omega arith
 
 pub offset_bounds-t-var_of : goal.offset_bounds-t-var_of
-offset_bounds-t-var_of c = let P =
-    c.before.before.before.before.before.before in
-    let L = c.loop-i in
-    let inn = (P.requires.inside L.i c.loop-i-test.true).0 in
-    record { fits = omega (arith, inn, c.var_of.ensures, P.requires.table-long, L.invariant.1) }
+offset_bounds-t-var_of c =
+    let inn = (c.requires.inside c.loop-i.i c.loop-i-test.true).0 in
+    record { fits = omega (arith, inn, c.var_of.ensures, c.requires.table-long, c.loop-i.invariant.1) }
 
 pub bounds-t-var_of : goal.bounds-t-var_of
-bounds-t-var_of c = let P =
-    c.before.before.before.before.before.before in
-    let L = c.loop-i in
-    let inn = (P.requires.inside L.i c.loop-i-test.true).0 in
-    omega (arith, inn, c.var_of.ensures, P.requires.table-long, L.invariant.1)
+bounds-t-var_of c =
+    let inn = (c.requires.inside c.loop-i.i c.loop-i-test.true).0 in
+    omega (arith, inn, c.var_of.ensures, c.requires.table-long, c.loop-i.invariant.1)
 
 pub overflow_add-i : goal.overflow_add-i
 overflow_add-i c = omega arith
@@ -48,22 +44,19 @@ pub loop-i-smaller : goal.loop-i-smaller
 loop-i-smaller c = omega arith
 
 pub loop-i-preserved : goal.loop-i-preserved
-loop-i-preserved c = let P =
-    c.before.before.before.before.before.before in
-    let A = P.args in
-    let L = c.loop-i in (
+loop-i-preserved c =
+    let A = c.args in (
       omega arith,
-      length-set L.t c.var_of.result (2147483648 + L.i) ∙ L.invariant.1,
-      ap₂ (λ (l : List ℕ) (v : ℕ). set l v (2147483648 + L.i)) L.invariant.2 c.var_of.ensures
-          ∙ sym (ap (λ (k : ℕ). with_names A.gates.now k A.t.now) (add-one L.i)),
+      length-set c.loop-i.t c.var_of.result (2147483648 + c.loop-i.i) ∙ c.loop-i.invariant.1,
+      ap₂ (λ (l : List ℕ) (v : ℕ). set l v (2147483648 + c.loop-i.i)) c.loop-i.invariant.2 c.var_of.ensures
+          ∙ sym (ap (λ (k : ℕ). with_names A.gates.now k A.t.now) (add-one c.loop-i.i)),
     )
 
 pub shape_of-t : goal.shape_of-t
 shape_of-t c = c.loop-i.invariant.1
 
 pub returns : goal.returns
-returns c = let L =
-    c.loop-i in
+returns c =
     let A = c.args in
-    let e : L.i ≡ A.a = omega arith in
-    L.invariant.2 ∙ ap (λ (k : ℕ). with_names A.gates.now k A.t.now) e
+    let e : c.loop-i.i ≡ A.a = omega arith in
+    c.loop-i.invariant.2 ∙ ap (λ (k : ℕ). with_names A.gates.now k A.t.now) e

@@ -19,15 +19,12 @@ loop-v-smaller c = omega arith
 
 pub loop-v-preserved : goal.loop-v-preserved
 loop-v-preserved c =
-    let c5 = c.before.before.before.before.before in
-    let c7 = c5.before.before in
-    let A = c7.args in
-    let L = c5.loop-v in
+    let A = c.args in
     let u = c.settle_one.new.t in
-    let same : length u ≡ length L.t = c.settle_one.auto.t in
+    let same : length u ≡ length c.loop-v.t = c.settle_one.auto.t in
     let e = c.settle_one.ensures in
-    let s = settle_step A.t.now L.t u L.v (omega (arith, L.invariant.1)) L.invariant.2 L.invariant.3 e in
-    (omega arith, omega (arith, L.invariant.1), s.0, s.1)
+    let s = settle_step A.t.now c.loop-v.t u c.loop-v.v (omega (arith, c.loop-v.invariant.1)) c.loop-v.invariant.2 c.loop-v.invariant.3 e in
+    (omega arith, omega (arith, c.loop-v.invariant.1), s.0, s.1)
 
 pub shape_of-t : goal.shape_of-t
 shape_of-t c = c.loop-v.invariant.1

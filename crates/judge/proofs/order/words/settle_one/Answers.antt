@@ -25,5 +25,5 @@ pub bounds-t-v-2 : goal.bounds-t-v-2
 bounds-t-v-2 c = omega arith
 
 pub returns : goal.returns
-returns c = let A =
-    c.args in sym (ap (set A.t.now A.v) (shown-high (get_or A.t.now A.v 0) c.if-t-v-lt2147483648.false))
+returns c =
+    let A = c.args in sym (ap (set A.t.now A.v) (shown-high (get_or A.t.now A.v 0) c.if-t-v-lt2147483648.false))

@@ -7,18 +7,15 @@ use Rattle.judge.proofs.order.Watching.{watched-low, watched-high}
 use Rattle.judge.proofs.order.words.watch.Goals as goal
 
 pub returns-then-w-lt2147483648 : goal.returns-then-w-lt2147483648
-returns-then-w-lt2147483648 c = let d =
-    c.before in
-    let f = d.before.before.before.before in
-    let A = f.before.before.before.before.args in
-    ap (λ (v : ℕ). get_or A.t.now v 0) d.var-of2.ensures
+returns-then-w-lt2147483648 c =
+    let A = c.args in
+    ap (λ (v : ℕ). get_or A.t.now v 0) c.var_of-then-w-lt2147483648.ensures
     ∙ sym (watched-low A.gates.now A.t.now A.i
-    (subst (λ (v : ℕ). get_or A.t.now v 0 < 2147483648) f.var-of.ensures d.before.before.if1.true))
+    (subst (λ (v : ℕ). get_or A.t.now v 0 < 2147483648) c.var_of.ensures c.if-w-lt2147483648.true))
 
 pub returns : goal.returns
-returns c = let f =
-    c.before.before in
-    let A = f.before.before.before.before.args in
-    ap (λ (v : ℕ). get_or A.t.now v 0) f.var-of.ensures
+returns c =
+    let A = c.args in
+    ap (λ (v : ℕ). get_or A.t.now v 0) c.var_of.ensures
     ∙ sym (watched-high A.gates.now A.t.now A.i
-    (subst (λ (v : ℕ). 2147483648 ≤ get_or A.t.now v 0) f.var-of.ensures c.if-w-lt2147483648.false))
+    (subst (λ (v : ℕ). 2147483648 ≤ get_or A.t.now v 0) c.var_of.ensures c.if-w-lt2147483648.false))
