@@ -17,53 +17,41 @@ pub loop-j-init : goal.loop-j-init
 loop-j-init c = let a = c.args in begins a.file.now a.k a.defines a.m a.at a.table.now a.base _ refl
 
 pub shape_of-table-in-Wrong : goal.shape_of-table-in-Wrong
-shape_of-table-in-Wrong c =
-    let start = c.before.before.before.before.before.before.before.before in
-    wide c.loop-j.invariant start.requires.k_in_bounds
+shape_of-table-in-Wrong c = wide c.loop-j.invariant c.requires.k_in_bounds
 
 pub returns-in-Wrong : goal.returns-in-Wrong
 returns-in-Wrong c =
-    let start = c.before.before.before.before.before.before.before.before in
-    let a = start.args in
+    let a = c.args in
     let r = wrong-number c.loop-j.invariant _ c.loop-j-test.true
     (sym c.in-Wrong.is ∙ c.read_number.ensures) in
-    record { value = r; by_index = λ ls next q. not-accepted (row a.file.now a.k a.defines a.m a.at) _ r _ ls next q; }
+    record { value = r; by_index = λ ls next q. not-accepted (row a.file.now a.k a.defines a.m a.at) _ r _ ls next q }
 
 pub overflow_add-j : goal.overflow_add-j
 overflow_add-j c = omega arith
 
 pub shape_of-table-then-not-ends : goal.shape_of-table-then-not-ends
-shape_of-table-then-not-ends c =
-    let start = c.before.before.before.before.before.before.before.before.before.before in
-    wide c.loop-j.invariant start.requires.k_in_bounds
+shape_of-table-then-not-ends c = wide c.loop-j.invariant c.requires.k_in_bounds
 
 pub returns-then-not-ends : goal.returns-then-not-ends
 returns-then-not-ends c =
-    let start = c.before.before.before.before.before.before.before.before.before.before in
-    let a = start.args in
+    let a = c.args in
     let r = wrong-end c.loop-j.invariant _ _
     c.loop-j-test.true
     (sym c.in-Value.is ∙ c.read_number.ensures)
     (sym c.ends.ensures ∙ not-true _ c.if-not-ends.true-raw) in
-    record { value = r; by_index = λ ls next q. not-accepted (row a.file.now a.k a.defines a.m a.at) _ r _ ls next q; }
+    record { value = r; by_index = λ ls next q. not-accepted (row a.file.now a.k a.defines a.m a.at) _ r _ ls next q }
 
 pub overflow_add-table : goal.overflow_add-table
-overflow_add-table c =
-    let start = c.before.before.before.before.before.before.before.before.before.before in
-    omega (arith, start.requires.k_in_bounds)
+overflow_add-table c = omega (arith, c.requires.k_in_bounds)
 
 pub bounds-table-base : goal.bounds-table-base
-bounds-table-base c =
-    let start = c.before.before.before.before.before.before.before.before.before.before in
-    omega (arith, start.requires.k_in_bounds, wide c.loop-j.invariant start.requires.k_in_bounds)
+bounds-table-base c = omega (arith, c.requires.k_in_bounds, wide c.loop-j.invariant c.requires.k_in_bounds)
 
 pub overflow_add-pos : goal.overflow_add-pos
 overflow_add-pos c =
-    let start = c.before.before.before.before.before.before.before.before.before.before.before.before.before in
-    let loop = c.loop-j in
     omega (
       arith,
-      inner start.args.file.now _ (eqb (loop.j + 1) start.args.k)
+      inner c.args.file.now _ (eqb (c.loop-j.j + 1) c.args.k)
           (sym c.ends.ensures ∙ not-false _ c.if-not-ends.false-raw),
     )
 
@@ -75,14 +63,10 @@ loop-j-smaller c = omega arith
 
 pub loop-j-preserved : goal.loop-j-preserved
 loop-j-preserved c =
-    let start = c.before.before.before.before.before.before.before.before.before.before.before.before.before in
-    let loop = c.loop-j in
-    let loop-test = c.loop-j-test in
-    let read_number = c.read_number in
-    turns loop.invariant _ _ loop-test.true (sym c.in-Value.is ∙ read_number.ensures) _ _
-    start.requires.m_le_most start.requires.k_in_bounds
+    turns c.loop-j.invariant _ _ c.loop-j-test.true (sym c.in-Value.is ∙ c.read_number.ensures) _ _
+    c.requires.m_le_most c.requires.k_in_bounds
     (sym c.ends.ensures ∙ not-false _ c.if-not-ends.false-raw)
-    (c.within.ensures ∙ ap (λ (l : Lit). in_range loop.d start.args.m (word_of l)) c.at.ensures)
+    (c.within.ensures ∙ ap (λ (l : Lit). in_range c.loop-j.d c.args.m (word_of l)) c.at.ensures)
     c.noted-bad.ensures
 
 pub shape_of-table-in-Nothing : goal.shape_of-table-in-Nothing
@@ -90,20 +74,15 @@ shape_of-table-in-Nothing c = wide c.loop-j.invariant c.requires.k_in_bounds
 
 pub returns-in-Nothing : goal.returns-in-Nothing
 returns-in-Nothing c =
-    let start = c.before.before.before.before.before.before in
     let s = c.loop-j.invariant in
-    let over : start.args.k ≤ c.loop-j.j = omega arith in
-    record { value = all-fine s over (ap found_of c.in-Nothing.is); by_index = held s over start.requires.m_le_most; }
+    let over : c.args.k ≤ c.loop-j.j = omega arith in
+    record { value = all-fine s over (ap found_of c.in-Nothing.is); by_index = held s over c.requires.m_le_most }
 
 pub shape_of-table-in-At : goal.shape_of-table-in-At
-shape_of-table-in-At c =
-    let start = c.before.before.before.before.before.before.before in
-    wide c.loop-j.invariant start.requires.k_in_bounds
+shape_of-table-in-At c = wide c.loop-j.invariant c.requires.k_in_bounds
 
 pub returns-in-At : goal.returns-in-At
 returns-in-At c =
-    let start = c.before.before.before.before.before.before.before in
-    let loop = c.loop-j in
-    let s = loop.invariant in
-    let over : start.args.k ≤ loop.j = omega arith in
-    record { value = one_out s over _ (ap found_of c.in-At.is); by_index = held s over start.requires.m_le_most; }
+    let s = c.loop-j.invariant in
+    let over : c.args.k ≤ c.loop-j.j = omega arith in
+    record { value = one_out s over _ (ap found_of c.in-At.is); by_index = held s over c.requires.m_le_most }

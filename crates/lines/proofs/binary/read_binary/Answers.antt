@@ -20,16 +20,14 @@ overflow_add-first c = omega arith
 
 pub read_latches-read-requires : goal.read_latches-read-requires
 read_latches-read-requires c =
-    let start = c.before.before.before.before.before.before.before.before.before.before.before.before.before.before.before in
     let more = c.more_resets-more.ensures in
-    let least = few start.args.version in
-    let sum = start.requires.a_value in
-    record { m_le_most = start.requires.m_le_most; more_bound = omega arith; own_all = (omega arith, omega arith); n_bound = omega (arith, start.requires.m_le_most); n_in_bounds = start.requires.l_in_bounds; n_in_bounds_2 = start.requires.l_in_bounds_2; marks_for = tt; }
+    let least = few c.args.version in
+    let sum = c.requires.a_value in
+    record { m_le_most = c.requires.m_le_most; more_bound = omega arith; own_all = (omega arith, omega arith); n_bound = omega (arith, c.requires.m_le_most); n_in_bounds = c.requires.l_in_bounds; n_in_bounds_2 = c.requires.l_in_bounds_2; marks_for = tt }
 
 pub returns-in_default : goal.returns-in_default
 returns-in_default c =
-    let start = c.before.before.before.before.before.before.before.before.before.before.before.before.before.before.before.before.before.before.before.before.before.before.before.before in
-    let a = start.args in
+    let a = c.args in
     let s = agreeing a.marks.now a.n.M in
     let told₁ = latches-told a.version a.file.now a.n.M _ a.n.L (1 + a.n.I) a.at s.0 a.latches.now a.resets.now _ _ _ _
     c.more_resets-more.ensures
@@ -41,13 +39,11 @@ returns-in_default c =
 
 pub read_observed-read-requires : goal.read_observed-read-requires
 read_observed-read-requires c =
-    let start = c.before.before.before.before.before.before.before.before.before.before.before.before.before.before.before.before.before.before.before.before.before.before.before.before.before.before.before.before.before in
-    record { m_le_most = start.pre.0; o_in_bounds = start.pre.1.1.1.1.0; b_in_bounds = start.pre.1.1.1.1.1.1.1.0; c_in_bounds = start.pre.1.1.1.1.1.1.1.1; }
+    record { m_le_most = c.requires.m_le_most; o_in_bounds = c.requires.o_in_bounds; b_in_bounds = c.requires.b_in_bounds; c_in_bounds = c.requires.c_in_bounds }
 
 pub returns-in_default-read : goal.returns-in_default-read
 returns-in_default-read c =
-    let start = c.before.before.before.before.before.before.before.before.before.before.before.before.before.before.before.before.before.before.before.before.before.before.before.before.before.before.before.before.before.before.before.before.before.before.before.before.before.before.before.before in
-    let a = start.args in
+    let a = c.args in
     let s = agreeing a.marks.now a.n.M in
     let told₁ = latches-told a.version a.file.now a.n.M _ a.n.L (1 + a.n.I) a.at s.0 a.latches.now a.resets.now _ _ _ _
     c.more_resets-more.ensures
@@ -64,22 +60,17 @@ returns-in_default-read c =
 
 pub run_on-requires : goal.run_on-requires
 run_on-requires c =
-    let start = c.before.before.before.before.before.before.before.before.before.before.before.before.before.before.before.before.before.before.before.before.before.before.before.before.before.before.before.before.before.before.before.before.before.before.before.before.before.before.before.before.before.before in
-    record { n_in_bounds = start.pre.1.1.0; n_bound = omega (arith, start.pre.0, start.pre.1.0); }
+    record { n_in_bounds = c.requires.i_in_bounds; n_bound = omega (arith, c.requires.m_le_most, c.requires.a_value) }
 
 pub overflow_cast-n : goal.overflow_cast-n
-overflow_cast-n c =
-    let start = c.before.before.before.before.before.before.before.before.before.before.before.before.before.before.before.before.before.before.before.before.before.before.before.before.before.before.before.before.before.before.before.before.before.before.before.before.before.before.before.before.before.before.before.before.before.before in omega (arith, start.pre.0, start.pre.1.0)
+overflow_cast-n c = omega (arith, c.requires.m_le_most, c.requires.a_value)
 
 pub overflow_add-first-2 : goal.overflow_add-first-2
-overflow_add-first-2 c =
-    let start = c.before.before.before.before.before.before.before.before.before.before.before.before.before.before.before.before.before.before.before.before.before.before.before.before.before.before.before.before.before.before.before.before.before.before.before.before.before.before.before.before.before.before.before.before.before.before in omega (arith, start.pre.0, start.pre.1.0)
+overflow_add-first-2 c = omega (arith, c.requires.m_le_most, c.requires.a_value)
 
 pub read_gates-requires : goal.read_gates-requires
 read_gates-requires c =
-    let start = c.before.before.before.before.before.before.before.before.before.before.before.before.before.before.before.before.before.before.before.before.before.before.before.before.before.before.before.before.before.before.before.before.before.before.before.before.before.before.before.before.before.before.before.before.before.before.before
-    in
-    record { n_in_bounds = start.pre.1.1.1.1.1.0; n_bound = omega (arith, start.pre.0, start.pre.1.0); }
+    record { n_in_bounds = c.requires.a_in_bounds; n_bound = omega (arith, c.requires.m_le_most, c.requires.a_value) }
 
 pub shape_of-latches : goal.shape_of-latches
 shape_of-latches c = c.read_latches-read.auto.table
@@ -89,8 +80,7 @@ shape_of-resets c = c.resets-1.given
 
 pub returns : goal.returns
 returns c =
-    let start = c.before.before.before.before.before.before.before.before.before.before.before.before.before.before.before.before.before.before.before.before.before.before.before.before.before.before.before.before.before.before.before.before.before.before.before.before.before.before.before.before.before.before.before.before.before.before.before.before.before.before in
-    let a = start.args in
+    let a = c.args in
     let s = agreeing a.marks.now a.n.M in
     let told₁ = latches-told a.version a.file.now a.n.M _ a.n.L (1 + a.n.I) a.at s.0 a.latches.now a.resets.now _ _ _ _
     c.more_resets-more.ensures

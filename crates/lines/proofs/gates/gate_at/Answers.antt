@@ -7,39 +7,23 @@ use Rattle.lines.proofs.gates.gate_at.Goals as goal
 
 pub returns-in-Refused : goal.returns-in-Refused
 returns-in-Refused c =
-    let asked = c.before.before.before in
-    let lit = asked.before in
-    let start = lit.before.before.before in
-    let a = start.args in
-    let lhs = lit.lit-lhs.result in
-    let g = c.r-1.given in
-    first-refused a.file.now (word_of lhs) a.at g.0.0 (sym g.1 ∙ asked.taken.ensures)
-    ∙ of-variable a.file.now a.v a.at lit.at.result lhs start.requires lit.at.ensures lit.lit-lhs.ensures
+    let a = c.args in
+    let lhs = c.lit-lhs.result in
+    first-refused a.file.now (word_of lhs) a.at c.in-Refused.r (sym c.in-Refused.is ∙ c.taken.ensures)
+    ∙ of-variable a.file.now a.v a.at c.at.result lhs c.requires c.at.ensures c.lit-lhs.ensures
 
 pub returns-in-Refused-taken : goal.returns-in-Refused-taken
 returns-in-Refused-taken c =
-    let again = c.before.before.before in
-    let asked = again.before.before.before.before in
-    let lit = asked.before in
-    let start = lit.before.before.before in
-    let a = start.args in
-    let lhs = lit.lit-lhs.result in
-    let g = again.rhs0-1.given in
-    let k = c.r-in-Refused-taken-2-1.given in
-    second-refused a.file.now (word_of lhs) a.at g.0.0 g.0.1.0 (sym g.1 ∙ asked.taken.ensures)
-    k.0.0 (sym k.1 ∙ again.taken-in-At.ensures)
-    ∙ of-variable a.file.now a.v a.at lit.at.result lhs start.requires lit.at.ensures lit.lit-lhs.ensures
+    let a = c.args in
+    let lhs = c.lit-lhs.result in
+    second-refused a.file.now (word_of lhs) a.at c.in-At.rhs0 c.in-At.middle (sym c.in-At.is ∙ c.taken.ensures)
+    c.in-Refused-taken.r (sym c.in-Refused-taken.is ∙ c.taken-in-At.ensures)
+    ∙ of-variable a.file.now a.v a.at c.at.result lhs c.requires c.at.ensures c.lit-lhs.ensures
 
 pub returns-in-At-taken : goal.returns-in-At-taken
 returns-in-At-taken c =
-    let again = c.before.before.before in
-    let asked = again.before.before.before.before in
-    let lit = asked.before in
-    let start = lit.before.before.before in
-    let a = start.args in
-    let lhs = lit.lit-lhs.result in
-    let g = again.rhs0-1.given in
-    let k = c.rhs1-1.given in
-    both-taken a.file.now (word_of lhs) a.at g.0.0 g.0.1.0 (sym g.1 ∙ asked.taken.ensures)
-    k.0.0 k.0.1.0 (sym k.1 ∙ again.taken-in-At.ensures)
-    ∙ of-variable a.file.now a.v a.at lit.at.result lhs start.requires lit.at.ensures lit.lit-lhs.ensures
+    let a = c.args in
+    let lhs = c.lit-lhs.result in
+    both-taken a.file.now (word_of lhs) a.at c.in-At.rhs0 c.in-At.middle (sym c.in-At.is ∙ c.taken.ensures)
+    c.in-At-taken.rhs1 c.in-At-taken.next (sym c.in-At-taken.is ∙ c.taken-in-At.ensures)
+    ∙ of-variable a.file.now a.v a.at c.at.result lhs c.requires c.at.ensures c.lit-lhs.ensures

@@ -13,8 +13,6 @@ returns-in_default c =
 
 pub returns : goal.returns
 returns c =
-    let first = c.before.before.before.before.before.before.before.before.before in
-    let start = first.before.before.before.before in
-    let a = start.args in
+    let a = c.args in
     both_say a.file.now (a.n / 2) (a.n - a.n / 2) a.n a.first (a.first + a.n / 2) a.at (omega arith) (omega arith) a.table.now
-    start.requires.n_in_bounds _ _ _ c.in-To.is first.read_run-read.ensures _ _ c.read_run.ensures
+    c.requires.n_in_bounds _ _ _ c.in-To.is c.read_run-read.ensures _ _ c.read_run.ensures

@@ -12,13 +12,9 @@ loop-i-init c = none_read _ _ _ _ _
 
 pub returns-in-Refused : goal.returns-in-Refused
 returns-in-Refused c =
-    let asked = c.before.before.before in
-    let test = asked.before in
-    let s = test.loop-i in
-    let a = test.args in
-    let g = c.r-1.given in
-    one-refused a.file.now a.at a.first a.n a.table.now s.table s.next s.i s.invariant g.0.0 s.table
-    test.loop-i-test.true (sym g.1 ∙ asked.gate_at.ensures)
+    let a = c.args in
+    one-refused a.file.now a.at a.first a.n a.table.now c.loop-i.table c.loop-i.next c.loop-i.i c.loop-i.invariant c.in-Refused.r c.loop-i.table
+    c.loop-i-test.true (sym c.in-Refused.is ∙ c.gate_at.ensures)
 
 pub bounds-table-k-in-Whole : goal.bounds-table-k-in-Whole
 bounds-table-k-in-Whole c = simp length-set (omega arith)
@@ -28,19 +24,12 @@ bounds-table-k-in-Whole-2 c = simp length-set (omega arith)
 
 pub loop-i-preserved : goal.loop-i-preserved
 loop-i-preserved c =
-    let words = c.before.before in
-    let asked = words.before.before.before.before in
-    let test = asked.before in
-    let s = test.loop-i in
-    let start = test.before.before.before.before in
-    let a = start.args in
-    let g = words.lhs-1.given in
-    one_more a.file.now a.at a.first a.n a.table.now s.table s.next s.i s.invariant
-    g.0.0 g.0.1.0 g.0.1.1.0 g.0.1.1.1.0 test.loop-i-test.true start.requires.n_in_bounds (sym g.1 ∙ asked.gate_at.ensures)
-    _ _ _ words.word.ensures c.word-in-Whole.ensures c.word-in-Whole-2.ensures
+    let a = c.args in
+    one_more a.file.now a.at a.first a.n a.table.now c.loop-i.table c.loop-i.next c.loop-i.i c.loop-i.invariant
+    c.in-Whole.lhs c.in-Whole.rhs0 c.in-Whole.rhs1 c.in-Whole.after c.loop-i-test.true c.requires.n_in_bounds (sym c.in-Whole.is ∙ c.gate_at.ensures)
+    _ _ _ c.word.ensures c.word-in-Whole.ensures c.word-in-Whole-2.ensures
 
 pub returns : goal.returns
 returns c =
     let a = c.args in
-    let s = c.loop-i in
-    all_read a.file.now a.at a.first a.n a.table.now s.table s.next s.i s.invariant c.loop-i-test.false
+    all_read a.file.now a.at a.first a.n a.table.now c.loop-i.table c.loop-i.next c.loop-i.i c.loop-i.invariant c.loop-i-test.false

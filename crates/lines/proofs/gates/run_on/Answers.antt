@@ -12,16 +12,12 @@ loop-i-init c = none_written _ _ _
 
 pub loop-i-preserved : goal.loop-i-preserved
 loop-i-preserved c =
-    let lit = c.before in
-    let test = lit.before.before in
-    let s = test.loop-i in
-    let a = test.args in
-    let v = a.first + s.i in
-    let l = lit_is lit.at.result lit.lit.result v (omega arith) lit.at.ensures lit.lit.ensures in
-    one_written a.first a.n a.table.now s.table s.i s.invariant (omega arith) test.loop-i-test.true _ (c.word.ensures ∙ l)
+    let a = c.args in
+    let v = a.first + c.loop-i.i in
+    let l = lit_is c.at.result c.lit.result v (omega arith) c.at.ensures c.lit.ensures in
+    one_written a.first a.n a.table.now c.loop-i.table c.loop-i.i c.loop-i.invariant (omega arith) c.loop-i-test.true _ (c.word.ensures ∙ l)
 
 pub returns : goal.returns
 returns c =
     let a = c.args in
-    let s = c.loop-i in
-    all-written a.first a.n a.table.now s.table s.i s.invariant c.loop-i-test.false
+    all-written a.first a.n a.table.now c.loop-i.table c.loop-i.i c.loop-i.invariant c.loop-i-test.false

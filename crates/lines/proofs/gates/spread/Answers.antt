@@ -16,17 +16,12 @@ bounds-table-k-in-loop-i c = simp length-set (omega arith)
 
 pub loop-i-preserved : goal.loop-i-preserved
 loop-i-preserved c =
-    let lit = c.before in
-    let test = lit.before.before.before in
-    let s = test.loop-i in
-    let start = test.before.before.before in
-    let a = start.args in
-    let v = a.first + (s.i - 1) in
-    let l = lit_is lit.at.result lit.lit.result v (omega arith) lit.at.ensures lit.lit.ensures in
-    one-spread a.first a.n a.table.now start.requires.n_in_bounds s.table s.i s.invariant test.loop-i-test.true _ (c.word.ensures ∙ l)
+    let a = c.args in
+    let v = a.first + (c.loop-i.i - 1) in
+    let l = lit_is c.at.result c.lit.result v (omega arith) c.at.ensures c.lit.ensures in
+    one-spread a.first a.n a.table.now c.requires.n_in_bounds c.loop-i.table c.loop-i.i c.loop-i.invariant c.loop-i-test.true _ (c.word.ensures ∙ l)
 
 pub returns : goal.returns
 returns c =
     let a = c.args in
-    let s = c.loop-i in
-    all-spread a.first a.n a.table.now c.requires.n_in_bounds s.table s.i s.invariant c.loop-i-test.false
+    all-spread a.first a.n a.table.now c.requires.n_in_bounds c.loop-i.table c.loop-i.i c.loop-i.invariant c.loop-i-test.false

@@ -18,7 +18,6 @@ returns-in-Refused c =
 
 pub returns-in-Accepted : goal.returns-in-Accepted
 returns-in-Accepted c =
-    let start = c.before.before.before.before.before.before in
-    let a = start.args in
+    let a = c.args in
     let took = accepted V19 a.file.now _ _ _ (sym c.in-Accepted.is ∙ c.read_header.ensures) in
     c.words_of.ensures ∙ sym (ap (words_by a.table) took.head)

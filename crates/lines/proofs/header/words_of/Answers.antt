@@ -28,10 +28,3 @@ returns-in-8 c = rw c.in-8.is
 
 pub returns-in-9 : goal.returns-in-9
 returns-in-9 c = rw c.in-9.is
-
-pub returns-in_default : goal.returns-in_default
-returns-in_default c =
-    let a = c.args in
-    let r = c.in_default.rest in
-    no_table (form_of a.binary) a.n a.table r.0.0.0.0.0.0.0.1 r.0.0.0.0.0.0.1 r.0.0.0.0.0.1
-    r.0.0.0.0.1 r.0.0.0.1 r.0.0.1 r.0.1 r.1

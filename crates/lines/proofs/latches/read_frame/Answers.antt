@@ -16,19 +16,14 @@ overflow_add-more c = omega arith
 
 pub read_numbers-requires : goal.read_numbers-requires
 read_numbers-requires c =
-    let pre = c.requires
-    in
-    record { must_le_may = omega arith; may_in_bounds = omega (arith, pre.0, ap length pre.1.1.0); may_in_bounds_2 = omega (arith, pre.0, ap length pre.1.1.1); }
+    record { must_le_may = omega arith; may_in_bounds = omega (arith, c.requires.more_bound, ap length c.requires.words_value); may_in_bounds_2 = omega (arith, c.requires.more_bound, ap length c.requires.places_value) }
 
 pub returns-then-defines : goal.returns-then-defines
 returns-then-defines c =
     let a = c.args in
-    let pre = c.requires in
-    let r = c.read_numbers in
-    in
-    let whole = -text a.file.now a.defines a.more a.v a.at pre.0 _ _ _ _ _
-    c.if-defines.true pre.1.1.0 pre.1.1.1 r.ensures.0 r.ensures.1 in
-    record { value = whole.0; words_after = whole.1; }
+    let whole = in-text a.file.now a.defines a.more a.v a.at c.requires.more_bound _ _ _ _ _
+    c.if-defines.true c.requires.words_value c.requires.places_value c.read_numbers.ensures.value c.read_numbers.ensures.numbered in
+    record { value = whole.0; words_after = whole.1 }
 
 pub bounds-words-0 : goal.bounds-words-0
 bounds-words-0 c = omega (arith, ap length c.requires.words_value)
@@ -38,9 +33,7 @@ overflow_add-more-2 c = omega arith
 
 pub read_numbers-requires-2 : goal.read_numbers-requires-2
 read_numbers-requires-2 c =
-    let pre = c.requires
-    in
-    record { must_le_may = omega arith; may_in_bounds = simp length-set (omega (arith, pre.0, ap length pre.1.1.0)); may_in_bounds_2 = omega (arith, pre.0, ap length pre.1.1.1); }
+    record { must_le_may = omega arith; may_in_bounds = simp length-set (omega (arith, c.requires.more_bound, ap length c.requires.words_value)); may_in_bounds_2 = omega (arith, c.requires.more_bound, ap length c.requires.places_value) }
 
 pub shape_of-words : goal.shape_of-words
 shape_of-words c = c.read_numbers-2.auto.words ∙ simp length-set
@@ -48,15 +41,12 @@ shape_of-words c = c.read_numbers-2.auto.words ∙ simp length-set
 pub returns : goal.returns
 returns c =
     let a = c.args in
-    let pre = c.requires in
-    let r = c.read_numbers-2 in
-    let small : lit_of a.v % 2 ^ 32 ≡ lit_of a.v = omega (arith, pre.1.0) in
+    let small : lit_of a.v % 2 ^ 32 ≡ lit_of a.v = omega (arith, c.requires.v_bound) in
     let own : c.word.result ≡ lit_of a.v
     = c.word.ensures
     ∙ ap word_of (c.lit.ensures
     ∙ ap doubled c.at.ensures) ∙ small in
-    in
-    let whole = -binary a.file.now a.defines a.more a.v a.at pre.0 _ _ _ _ _
+    let whole = in-binary a.file.now a.defines a.more a.v a.at c.requires.more_bound _ _ _ _ _
     c.if-defines.false
-    (ap₂ (λ (x : List ℕ) (y : ℕ). set x 0 y) pre.1.1.0 own) pre.1.1.1 r.ensures.0 r.ensures.1 in
-    record { value = whole.0; words_after = whole.1; }
+    (ap₂ (λ (x : List ℕ) (y : ℕ). set x 0 y) c.requires.words_value own) c.requires.places_value c.read_numbers-2.ensures.value c.read_numbers-2.ensures.numbered in
+    record { value = whole.0; words_after = whole.1 }

@@ -23,24 +23,20 @@ returns-in-Refused c =
     let a = c.args in
     let whole = line_refused a.file.now a.defines a.m a.more a.v a.at a.table.now a.resets.now a.i _ _ _
     (sym c.in-Refused.is ∙ c.read_frame.ensures.value) in
-    record { value = whole.0; by_index = whole.1; }
+    record { value = whole.0; by_index = whole.1 }
 
 pub returns-in-At : goal.returns-in-At
 returns-in-At c =
     let a = c.args in
-    let pre = c.requires in
-    let f = c.read_frame in
-    let whole = out_of_range a.file.now a.defines a.m a.more a.v a.at a.table.now a.resets.now a.i _ _ _ pre.0 pre.1.0 pre.1.1.0
-    (sym c.in-To.is ∙ f.ensures.0) f.ensures.1 _ _ _
+    let whole = out_of_range a.file.now a.defines a.m a.more a.v a.at a.table.now a.resets.now a.i _ _ _ c.requires.m_le_most c.requires.more_bound c.requires.own
+    (sym c.in-To.is ∙ c.read_frame.ensures.value) c.read_frame.ensures.words_after _ _ _
     (sym (ap found_of c.in-At.is) ∙ c.judge.ensures) in
-    record { value = whole.0; by_index = whole.1; }
+    record { value = whole.0; by_index = whole.1 }
 
 pub returns-in-Nothing : goal.returns-in-Nothing
 returns-in-Nothing c =
     let a = c.args in
-    let pre = c.requires in
-    let f = c.read_frame in
-    let whole = all-fine a.file.now a.defines a.m a.more a.v a.at a.table.now a.resets.now a.i _ _ _ pre.0 pre.1.0 pre.1.1.0
-    (sym c.in-To.is ∙ f.ensures.0) f.ensures.1 pre.1.1.1.1.0 pre.1.1.1.1.1
+    let whole = all-fine a.file.now a.defines a.m a.more a.v a.at a.table.now a.resets.now a.i _ _ _ c.requires.m_le_most c.requires.more_bound c.requires.own
+    (sym c.in-To.is ∙ c.read_frame.ensures.value) c.read_frame.ensures.words_after c.requires.i_in_bounds c.requires.i_in_bounds_2
     (sym (ap found_of c.in-Nothing.is) ∙ c.judge.ensures) in
-    record { value = whole.0; by_index = whole.1; }
+    record { value = whole.0; by_index = whole.1 }

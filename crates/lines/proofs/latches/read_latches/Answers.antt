@@ -27,11 +27,16 @@ overflow_add-first c = omega (arith, c.requires.n_bound)
 
 pub read_latch-requires : goal.read_latch-requires
 read_latch-requires c =
-    let start = c.before.before.before.before.before.before.before.before in
-    let loop = c.loop-i in
     let h = c.loop-i-test.true in
-    record { m_le_most = start.requires.m_le_most; more_bound = start.requires.more_bound; own = own_at start.args.defines start.args.m start.args.first start.args.n loop.i start.requires.own_all h; v_bound = omega (arith, start.requires.n_bound); i_in_bounds = fits loop.invariant start.requires.n_in_bounds start.requires.n_in_bounds_2 h; i_in_bounds_2 = fits-resets loop.invariant start.requires.n_in_bounds
-                  start.requires.n_in_bounds_2 h; }
+    record {
+      m_le_most = c.requires.m_le_most;
+      more_bound = c.requires.more_bound;
+      own = own_at c.args.defines c.args.m c.args.first c.args.n c.loop-i.i c.requires.own_all h;
+      v_bound = omega (arith, c.requires.n_bound);
+      i_in_bounds = fits c.loop-i.invariant c.requires.n_in_bounds c.requires.n_in_bounds_2 h;
+      i_in_bounds_2 = fits-resets c.loop-i.invariant c.requires.n_in_bounds
+          c.requires.n_in_bounds_2 h;
+    }
 
 pub shape_of-table-in-Refused : goal.shape_of-table-in-Refused
 shape_of-table-in-Refused c =
@@ -48,53 +53,44 @@ shape_of-marks-in-Refused c = c.loop-i.invariant.wide-marks
 
 pub returns-in-Refused : goal.returns-in-Refused
 returns-in-Refused c =
-    let start = c.before.before.before.before.before.before.before.before.before.before.before.before.before.before.before.before in
-    let loop = c.loop-i in
     let h = c.loop-i-test.true in
-    stops loop.invariant start.requires.n_in_bounds start.requires.n_in_bounds_2 h _ _ _ _
+    stops c.loop-i.invariant c.requires.n_in_bounds c.requires.n_in_bounds_2 h _ _ _ _
     (sym c.in-Refused.is ∙ c.read_latch.ensures.value)
 
 pub offset_bounds-table-i : goal.offset_bounds-table-i
 offset_bounds-table-i c =
-    let start = c.before.before.before.before.before.before.before.before.before.before.before.before.before.before.before.before in
-    let loop = c.loop-i in
     let h = c.loop-i-test.true in
     omega (
       arith,
-      fits loop.invariant start.requires.n_in_bounds
-          start.requires.n_in_bounds_2 h,
+      fits c.loop-i.invariant c.requires.n_in_bounds
+          c.requires.n_in_bounds_2 h,
       c.read_latch.auto.table,
     )
 
 pub bounds-table-i : goal.bounds-table-i
 bounds-table-i c =
-    let start = c.before.before.before.before.before.before.before.before.before.before.before.before.before.before.before.before.before in
-    let loop = c.loop-i in
     let h = c.loop-i-test.true in
     omega (
       arith,
-      fits loop.invariant start.requires.n_in_bounds
-          start.requires.n_in_bounds_2 h,
+      fits c.loop-i.invariant c.requires.n_in_bounds
+          c.requires.n_in_bounds_2 h,
       c.read_latch.auto.table,
     )
 
 pub defined_before-requires : goal.defined_before-requires
 defined_before-requires c =
-    let start = c.before.before.before.before.before.before.before.before.before.before.before.before.before.before.before.before.before.before.before in
-    let loop = c.loop-i in
     let h = c.loop-i-test.true in
-    let a = start.args in
-    let rl = c.read_latch in
-    let own = own_at a.defines a.m a.first a.n loop.i start.pre.1.1.0 h in
-    let p = passed_to (latch_row a.file.now a.defines a.m a.more (a.first + loop.i) loop.pos) _
-    (sym c.in-To.is ∙ rl.ensures.0) in
-    let held = rl.ensures.1 p.0 _ p.1 in
-    let word : word_of c.at.result ≡ (latch_in a.defines (a.first + loop.i) p.0).current
-    = ap word_of c.at.ensures ∙ own-word _ _ loop.i a.defines (a.first + loop.i) p.0 held.0
-    (fits loop.invariant start.pre.1.1.1.1.0 start.pre.1.1.1.1.1.0 h) in
-    let small : var_of (latch_in a.defines (a.first + loop.i) p.0).current ≤ a.m = latch-var a.file.now a.defines a.m a.more
-    (a.first + loop.i) loop.pos p.0 _ own p.1 in
-    marks-less a.defines _ a.m a.marks.now _ (omega (arith, ap var_of word, small)) loop.invariant.wide-marks start.pre.1.1.1.1.1.1
+    let a = c.args in
+    let own = own_at a.defines a.m a.first a.n c.loop-i.i c.requires.own_all h in
+    let p = passed_to (latch_row a.file.now a.defines a.m a.more (a.first + c.loop-i.i) c.loop-i.pos) _
+    (sym c.in-To.is ∙ c.read_latch.ensures.value) in
+    let held = c.read_latch.ensures.by_index p.0 _ p.1 in
+    let word : word_of c.at.result ≡ (latch_in a.defines (a.first + c.loop-i.i) p.0).current
+    = ap word_of c.at.ensures ∙ own-word _ _ c.loop-i.i a.defines (a.first + c.loop-i.i) p.0 held.0
+    (fits c.loop-i.invariant c.requires.n_in_bounds c.requires.n_in_bounds_2 h) in
+    let small : var_of (latch_in a.defines (a.first + c.loop-i.i) p.0).current ≤ a.m = latch-var a.file.now a.defines a.m a.more
+    (a.first + c.loop-i.i) c.loop-i.pos p.0 _ own p.1 in
+    marks-less a.defines _ a.m a.marks.now _ (omega (arith, ap var_of word, small)) c.loop-i.invariant.wide-marks c.requires.marks_for
 
 pub shape_of-table-then-defined_before : goal.shape_of-table-then-defined_before
 shape_of-table-then-defined_before c =
@@ -111,22 +107,19 @@ shape_of-marks-then-defined_before c = c.defined_before.auto.marks ∙ c.loop-i.
 
 pub returns-then-defined_before : goal.returns-then-defined_before
 returns-then-defined_before c =
-    let start = c.before.before.before.before.before.before.before.before.before.before.before.before.before.before.before.before.before.before.before.before.before.before.before in
-    let loop = c.loop-i in
     let h = c.loop-i-test.true in
-    let a = start.args in
-    let rl = c.read_latch in
-    let own = own_at a.defines a.m a.first a.n loop.i start.pre.1.1.0 h in
-    let p = passed_to (latch_row a.file.now a.defines a.m a.more (a.first + loop.i) loop.pos) _
-    (sym c.in-To.is ∙ rl.ensures.0) in
-    let held = rl.ensures.1 p.0 _ p.1 in
-    let word : word_of c.at.result ≡ (latch_in a.defines (a.first + loop.i) p.0).current
+    let a = c.args in
+    let own = own_at a.defines a.m a.first a.n c.loop-i.i c.requires.own_all h in
+    let p = passed_to (latch_row a.file.now a.defines a.m a.more (a.first + c.loop-i.i) c.loop-i.pos) _
+    (sym c.in-To.is ∙ c.read_latch.ensures.value) in
+    let held = c.read_latch.ensures.by_index p.0 _ p.1 in
+    let word : word_of c.at.result ≡ (latch_in a.defines (a.first + c.loop-i.i) p.0).current
     = ap word_of c.at.ensures
-    ∙ own-word _ _ loop.i a.defines (a.first + loop.i) p.0 held.0
-    (fits loop.inv start.pre.1.1.1.1.0 start.pre.1.1.1.1.1.0 h) in
+    ∙ own-word _ _ c.loop-i.i a.defines (a.first + c.loop-i.i) p.0 held.0
+    (fits c.loop-i.invariant c.requires.n_in_bounds c.requires.n_in_bounds_2 h) in
     let told = c.defined_before.ensures.value
-    ∙ (ap (λ (x : ℕ). marked a.defines (var_of x) loop.marks) word ∙ same-mark a.defines (a.first + loop.i) p.0 loop.marks) in
-    twice-told loop.inv start.pre.1.1.1.1.0 start.pre.1.1.1.1.1.0 h p.0 _ p.1 _ _ _ (sym told ∙ c.if-defined_before.true)
+    ∙ (ap (λ (x : ℕ). marked a.defines (var_of x) c.loop-i.marks) word ∙ same-mark a.defines (a.first + c.loop-i.i) p.0 c.loop-i.marks) in
+    twice-told c.loop-i.invariant c.requires.n_in_bounds c.requires.n_in_bounds_2 h p.0 _ p.1 _ _ _ (sym told ∙ c.if-defined_before.true)
 
 pub overflow_add-i : goal.overflow_add-i
 overflow_add-i c = omega arith
@@ -136,25 +129,22 @@ loop-i-smaller c = omega arith
 
 pub loop-i-preserved : goal.loop-i-preserved
 loop-i-preserved c =
-    let start = c.before.before.before.before.before.before.before.before.before.before.before.before.before.before.before.before.before.before.before.before.before.before.before in
-    let loop = c.loop-i in
     let h = c.loop-i-test.true in
-    let a = start.args in
-    let rl = c.read_latch in
-    let own = own_at a.defines a.m a.first a.n loop.i start.pre.1.1.0 h in
-    let p = passed_to (latch_row a.file.now a.defines a.m a.more (a.first + loop.i) loop.pos) _
-    (sym c.in-To.is ∙ rl.ensures.0) in
-    let held = rl.ensures.1 p.0 _ p.1 in
-    let word : word_of c.at.result ≡ (latch_in a.defines (a.first + loop.i) p.0).current
+    let a = c.args in
+    let own = own_at a.defines a.m a.first a.n c.loop-i.i c.requires.own_all h in
+    let p = passed_to (latch_row a.file.now a.defines a.m a.more (a.first + c.loop-i.i) c.loop-i.pos) _
+    (sym c.in-To.is ∙ c.read_latch.ensures.value) in
+    let held = c.read_latch.ensures.by_index p.0 _ p.1 in
+    let word : word_of c.at.result ≡ (latch_in a.defines (a.first + c.loop-i.i) p.0).current
     = ap word_of c.at.ensures
-    ∙ own-word _ _ loop.i a.defines (a.first + loop.i) p.0 held.0
-    (fits loop.inv start.pre.1.1.1.1.0 start.pre.1.1.1.1.1.0 h) in
+    ∙ own-word _ _ c.loop-i.i a.defines (a.first + c.loop-i.i) p.0 held.0
+    (fits c.loop-i.invariant c.requires.n_in_bounds c.requires.n_in_bounds_2 h) in
     let told = c.defined_before.ensures.value
-    ∙ (ap (λ (x : ℕ). marked a.defines (var_of x) loop.marks) word ∙ same-mark a.defines (a.first + loop.i) p.0 loop.marks) in
-    turns loop.inv start.pre.1.1.1.1.0 start.pre.1.1.1.1.1.0 h p.0 _ p.1 _ _ _ start.pre.1.1.1.1.1.1
+    ∙ (ap (λ (x : ℕ). marked a.defines (var_of x) c.loop-i.marks) word ∙ same-mark a.defines (a.first + c.loop-i.i) p.0 c.loop-i.marks) in
+    turns c.loop-i.invariant c.requires.n_in_bounds c.requires.n_in_bounds_2 h p.0 _ p.1 _ _ _ c.requires.marks_for
     (sym told ∙ c.if-defined_before.false) held
-    (c.defined_before.ensures.marks_after ∙ (ap₂ (λ (x : ℕ) (y : Bool). marking a.defines y (var_of x) loop.marks) word c.if-defined_before.false
-    ∙ same-marking a.defines false (a.first + loop.i) p.0 loop.marks))
+    (c.defined_before.ensures.marks_after ∙ (ap₂ (λ (x : ℕ) (y : Bool). marking a.defines y (var_of x) c.loop-i.marks) word c.if-defined_before.false
+    ∙ same-marking a.defines false (a.first + c.loop-i.i) p.0 c.loop-i.marks))
 
 pub shape_of-table : goal.shape_of-table
 shape_of-table c = c.loop-i.invariant.wide
@@ -167,5 +157,5 @@ shape_of-marks c = c.loop-i.invariant.wide-marks
 
 pub returns : goal.returns
 returns c =
-    let start = c.before.before.before.before.before.before in ends-here c.loop-i.invariant start.requires.n_in_bounds
-    start.requires.n_in_bounds_2 (omega arith)
+    ends-here c.loop-i.invariant c.requires.n_in_bounds
+    c.requires.n_in_bounds_2 (omega arith)

@@ -31,8 +31,7 @@ returns-in_default-read c =
 
 pub read_lines-requires : goal.read_lines-requires
 read_lines-requires c =
-    let pre = c.requires in
-    record { m_le_most = pre.0; k_nonzero = omega arith; k_in_bounds = omega (arith, pre.1.1.1); marks_for = tt; }
+    record { m_le_most = c.requires.m_le_most; k_nonzero = omega arith; k_in_bounds = omega (arith, c.requires.c_in_bounds); marks_for = tt }
 
 pub returns : goal.returns
 returns c =

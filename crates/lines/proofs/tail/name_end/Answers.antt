@@ -15,23 +15,18 @@ loop-i-init c = refl
 
 pub returns-then-not-in_name : goal.returns-then-not-in_name
 returns-then-not-in_name c =
-    let start = c.before.before.before.before.before.before.before in
-    let a = start.args in
-    let l = c.loop-i in
-    stays a.file.now a.at l.i l.invariant
-    (span_none name_class a.file.now l.i (omega arith)
+    let a = c.args in
+    stays a.file.now a.at c.loop-i.i c.loop-i.invariant
+    (span_none name_class a.file.now c.loop-i.i (omega arith)
     (ap name_class (sym c.class_of-c.ensures) ∙ (sym c.in_name.ensures ∙ not-true _ c.if-not-in_name.true-raw)))
 
 pub loop-i-preserved : goal.loop-i-preserved
 loop-i-preserved c =
-    let start = c.before.before.before.before.before.before.before in
-    let a = start.args in
-    let l = c.loop-i in
-    passes a.file.now a.at l.i l.invariant (omega arith)
+    let a = c.args in
+    passes a.file.now a.at c.loop-i.i c.loop-i.invariant (omega arith)
     (ap name_class (sym c.class_of-c.ensures) ∙ (sym c.in_name.ensures ∙ not-false _ c.if-not-in_name.false-raw))
 
 pub returns : goal.returns
 returns c =
     let a = c.args in
-    let l = c.loop-i in
-    stays a.file.now a.at l.i l.invariant (span-past name_class a.file.now l.i c.loop-i-test.false)
+    stays a.file.now a.at c.loop-i.i c.loop-i.invariant (span-past name_class a.file.now c.loop-i.i c.loop-i-test.false)

@@ -18,9 +18,8 @@ use Rattle.lines.proofs.text.read_text.Goals as goal
 
 pub returns-in_default : goal.returns-in_default
 returns-in_default c =
-    let start = c.before.before.before.before.before.before.before.before.before.before.before.before.before.before.before.before.before.before.before in
-    let a = start.args in
-    let unmarked = agrees-none _ a.marks.now start.pre.1.1.1.1.1.1.1.1.1.1 in
+    let a = c.args in
+    let unmarked = agrees-none _ a.marks.now c.requires.by_index in
     let told₁ = rows_told a.file.now 1 a.n.M a.n.I a.at [] a.inputs.now _ _ _
     (c.read_lines-read.ensures [] unmarked) in
     inputs-refused a.version a.file.now a.n a.at _ _ _ _
@@ -29,17 +28,23 @@ returns-in_default c =
 
 pub read_latches-read-requires : goal.read_latches-read-requires
 read_latches-read-requires c =
-    let start = c.before.before.before.before.before.before.before.before.before.before.before.before.before.before.before.before.before.before.before.before.before.before.before.before in
     let more = c.more_resets-more.ensures in
-    let least = few start.args.version in
-    record { m_le_most = start.pre.0; more_bound = omega arith; own_all = tt; n_bound = omega (arith, start.pre.0, start.pre.1.0); n_in_bounds = start.pre.1.1.1.0; n_in_bounds_2 = start.pre.1.1.1.1.1.1.0; marks_for = omega
-                    (arith, c.marks-1.given, start.pre.1.1.1.1.1.1.1.1.1.0); }
+    let least = few c.args.version in
+    record {
+      m_le_most = c.requires.m_le_most;
+      more_bound = omega arith;
+      own_all = tt;
+      n_bound = omega (arith, c.requires.m_le_most, c.requires.l_le_m);
+      n_in_bounds = c.requires.l_in_bounds;
+      n_in_bounds_2 = c.requires.l_in_bounds_2;
+      marks_for = omega
+          (arith, c.marks-1.given, c.requires.m_in_bounds);
+    }
 
 pub returns-in_default-read : goal.returns-in_default-read
 returns-in_default-read c =
-    let start = c.before.before.before.before.before.before.before.before.before.before.before.before.before.before.before.before.before.before.before.before.before.before.before.before.before.before.before.before.before.before.before.before.before in
-    let a = start.args in
-    let unmarked = agrees-none _ a.marks.now start.pre.1.1.1.1.1.1.1.1.1.1 in
+    let a = c.args in
+    let unmarked = agrees-none _ a.marks.now c.requires.by_index in
     let told₁ = rows_told a.file.now 1 a.n.M a.n.I a.at [] a.inputs.now _ _ _
     (c.read_lines-read.ensures [] unmarked) in
     let a₁ = was_read (RowsHeld 1 a.n.M [] a.inputs.now _ _) (lines a.file.now 1 true a.n.M a.n.I [] a.at) _ _ told₁
@@ -54,17 +59,15 @@ returns-in_default-read c =
 
 pub read_observed-read-requires : goal.read_observed-read-requires
 read_observed-read-requires c =
-    let start = c.before.before.before.before.before.before.before.before.before.before.before.before.before.before.before.before.before.before.before.before.before.before.before.before.before.before.before.before.before.before.before.before.before.before.before.before.before.before in
-    record { m_le_most = start.pre.0; o_in_bounds = start.pre.1.1.1.1.0; b_in_bounds = start.pre.1.1.1.1.1.1.1.0; c_in_bounds = start.pre.1.1.1.1.1.1.1.1.0; }
+    record { m_le_most = c.requires.m_le_most; o_in_bounds = c.requires.o_in_bounds; b_in_bounds = c.requires.b_in_bounds; c_in_bounds = c.requires.c_in_bounds }
 
 pub shape_of-inputs-in_default-read-2 : goal.shape_of-inputs-in_default-read-2
 shape_of-inputs-in_default-read-2 c = c.read_lines-read.auto.table
 
 pub returns-in_default-read-2 : goal.returns-in_default-read-2
 returns-in_default-read-2 c =
-    let start = c.before.before.before.before.before.before.before.before.before.before.before.before.before.before.before.before.before.before.before.before.before.before.before.before.before.before.before.before.before.before.before.before.before.before.before.before.before.before.before.before.before.before.before.before.before.before.before.before.before in
-    let a = start.args in
-    let unmarked = agrees-none _ a.marks.now start.pre.1.1.1.1.1.1.1.1.1.1 in
+    let a = c.args in
+    let unmarked = agrees-none _ a.marks.now c.requires.by_index in
     let told₁ = rows_told a.file.now 1 a.n.M a.n.I a.at [] a.inputs.now _ _ _
     (c.read_lines-read.ensures [] unmarked) in
     let a₁ = was_read (RowsHeld 1 a.n.M [] a.inputs.now _ _) (lines a.file.now 1 true a.n.M a.n.I [] a.at) _ _ told₁
@@ -85,15 +88,18 @@ returns-in_default-read-2 c =
 
 pub read_lines-requires : goal.read_lines-requires
 read_lines-requires c =
-    let start = c.before.before.before.before.before.before.before.before.before.before.before.before.before.before.before.before.before.before.before.before.before.before.before.before.before.before.before.before.before.before.before.before.before.before.before.before.before.before.before.before.before.before.before.before.before.before.before.before.before.before.before.before
-    in
-    record { m_le_most = start.pre.0; k_nonzero = omega arith; k_in_bounds = omega (arith, start.pre.1.1.1.1.1.0); marks_for = omega (
-            arith,
-            c.marks-1.given,
-            c.marks-2-1.given,
-            c.marks-3-1.given,
-            start.pre.1.1.1.1.1.1.1.1.1.0,
-          ); }
+    record {
+      m_le_most = c.requires.m_le_most;
+      k_nonzero = omega arith;
+      k_in_bounds = omega (arith, c.requires.a_in_bounds);
+      marks_for = omega (
+        arith,
+        c.marks-1.given,
+        c.marks-2-1.given,
+        c.marks-3-1.given,
+        c.requires.m_in_bounds,
+      );
+    }
 
 pub shape_of-inputs : goal.shape_of-inputs
 shape_of-inputs c = c.read_lines-read.auto.table
@@ -106,9 +112,8 @@ shape_of-marks c =
 
 pub returns : goal.returns
 returns c =
-    let start = c.before.before.before.before.before.before.before.before.before.before.before.before.before.before.before.before.before.before.before.before.before.before.before.before.before.before.before.before.before.before.before.before.before.before.before.before.before.before.before.before.before.before.before.before.before.before.before.before.before.before.before.before.before.before.before.before.before in
-    let a = start.args in
-    let unmarked = agrees-none _ a.marks.now start.pre.1.1.1.1.1.1.1.1.1.1 in
+    let a = c.args in
+    let unmarked = agrees-none _ a.marks.now c.requires.by_index in
     let told₁ = rows_told a.file.now 1 a.n.M a.n.I a.at [] a.inputs.now _ _ _
     (c.read_lines-read.ensures [] unmarked) in
     let a₁ = was_read (RowsHeld 1 a.n.M [] a.inputs.now _ _) (lines a.file.now 1 true a.n.M a.n.I [] a.at) _ _ told₁
