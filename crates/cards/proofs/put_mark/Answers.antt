@@ -10,6 +10,6 @@ pub bounds-out-at-2 : goal.bounds-out-at-2
 bounds-out-at-2 c = simp length-set (omega arith)
 
 pub returns : goal.returns
-returns c = let a =
-    c.args in
+returns c =
+    let a = c.args in
     record { value = refl; out_after = two-put a.out.now a.at _ _ c.requires; }

@@ -30,6 +30,6 @@ pub bounds-out-at-4 : goal.bounds-out-at-4
 bounds-out-at-4 c = simp length-set (omega arith)
 
 pub returns : goal.returns
-returns c = let a =
-    c.args in
+returns c =
+    let a = c.args in
     record { value = refl; out_after = word-put a.out.now a.at a.word c.requires _ _ _ _ refl refl refl refl; }

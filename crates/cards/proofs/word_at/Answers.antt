@@ -20,10 +20,7 @@ overflow_cast-d c = omega (arith, c.type_inv.file (c.args.at + 3))
 
 pub returns : goal.returns
 returns c =
-    let third = c.before in
-    let second = third.before in
-    let first = second.before in
-    let a = first.args in
-    word-joined a.file.now a.at _ _ _ _ refl refl refl refl (omega (arith, first.type_inv.file a.at))
-    (omega (arith, second.type_inv.file (a.at + 1))) (omega (arith, third.type_inv.file (a.at + 2)))
+    let a = c.args in
+    word-joined a.file.now a.at _ _ _ _ refl refl refl refl (omega (arith, c.type_inv.file a.at))
+    (omega (arith, c.type_inv.file (a.at + 1))) (omega (arith, c.type_inv.file (a.at + 2)))
     (omega (arith, c.type_inv.file (a.at + 3)))

@@ -9,15 +9,12 @@ use Rattle.desk.proofs.Answers.{check-told}
 use Rattle.desk.proofs.golvanzo_check.Goals as goal
 
 pub shape_of-scratch : goal.shape_of-scratch
-shape_of-scratch c = omega (arith, c.check-r.auto.marks)
+shape_of-scratch c = omega (arith, c.check-r.auto.scratch)
 
 pub returns : goal.returns
 returns c =
-    let start = c.before.before.before.before.before.before.before.before.before.before.before.before.before.before.before in
-    let counts' = c.counts-n in
-    let checked = c.check-r in
-    let a = start.args in
+    let a = c.args in
     let g : Given = given_at (counts_from a.counts.now) (seven a.inputs.now a.latches.now a.outputs.now a.gates.now
     a.resets.now a.bads.now a.constraints.now) a.scratch.now in
-    check-told g _ (record { answer = checked.result; scratch = checked.new.1.1.1.1.1.1.1.1.0 }) _ counts'.ensures checked.ensures
+    check-told g _ (record { answer = c.check-r.result; scratch = c.check-r.new.scratch }) _ c.counts-n.ensures c.check-r.ensures
     c.checked.ensures

@@ -12,9 +12,7 @@ use Rattle.desk.proofs.Answers.{made_told}
 use Rattle.desk.proofs.golvanzo_convert.Goals as goal
 
 pub shape_of-to_inputs : goal.shape_of-to_inputs
-shape_of-to_inputs c =
-    let d0 = c.before.before.before.before.before.before.before.before.before.before.before.before.before.before.before in
-    omega (arith, d0.convert-r.auto.to_inputs)
+shape_of-to_inputs c = omega (arith, c.convert-r.auto.to_inputs)
 
 pub shape_of-to_latches : goal.shape_of-to_latches
 shape_of-to_latches c =
@@ -43,25 +41,17 @@ shape_of-scratch c = omega (arith, c.scratch-1.given)
 
 pub returns : goal.returns
 returns c =
-    let s0 = c.before.before.before.before.before.before.before.before.before.before.before.before.before.before.before in
-    let s1 = s0.before.before.before.before.before.before.before.before.before.before.before.before.before.before.before in
-    let start = s1.before.before.before.before.before.before.before.before.before.before.before.before.before in
-    let n0 = c.before.before.before.before.before.before.before.before.before.before.before.before.before.before.before in
-    let counts' = n0.counts-n in
-    let k0 = c.before.before.before.before.before.before.before.before.before.before.before.before.before.before.before in
-    let made = k0.convert-r in
-    let a = start.args in
+    let a = c.args in
     let g : Given = given_at (counts_from a.counts.now) (seven a.inputs.now a.latches.now a.outputs.now a.gates.now
     a.resets.now a.bads.now a.constraints.now) a.scratch.now in
     let t : Tables = seven a.to-inputs.now a.to-latches.now a.to-outputs.now a.to-gates.now
     a.to-resets.now a.to-bads.now a.to-constraints.now in
-    let l = made.new in
     let x : MakeExit = record {
-      answer = made.result;
-      written = seven l.1.1.1.1.1.1.1.1.0 l.1.1.1.1.1.1.1.1.1.0
-          l.1.1.1.1.1.1.1.1.1.1.0 l.1.1.1.1.1.1.1.1.1.1.1.0
-          l.1.1.1.1.1.1.1.1.1.1.1.1.0 l.1.1.1.1.1.1.1.1.1.1.1.1.1.0
-          l.1.1.1.1.1.1.1.1.1.1.1.1.1.1.0;
-      scratch = l.1.1.1.1.1.1.1.1.1.1.1.1.1.1.1.0;
+      answer = c.convert-r.result;
+      written = seven c.convert-r.new.to_inputs c.convert-r.new.to_latches
+          c.convert-r.new.to_outputs c.convert-r.new.to_gates
+          c.convert-r.new.to_resets c.convert-r.new.to_bads
+          c.convert-r.new.to_constraints;
+      scratch = c.convert-r.new.scratch;
     } in
-    made_told conversion g t _ x _ counts'.ensures made.ensures c.made.ensures
+    made_told conversion g t _ x _ c.counts-n.ensures c.convert-r.ensures c.made.ensures

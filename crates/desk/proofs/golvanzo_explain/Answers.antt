@@ -18,17 +18,13 @@ shape_of-marks c = omega (arith, c.marks-1.given)
 
 pub returns : goal.returns
 returns c =
-    let called = c.before.before.before.before.before.before in
-    let counts' = called.before.before.before in
-    let start = counts'.before.before.before.before.before.before.before.before.before.before.before.before in
-    let a = start.args in
+    let a = c.args in
     let g : Given = given_at (counts_from a.counts.now) (seven a.inputs.now a.latches.now a.outputs.now a.gates.now
     a.resets.now a.bads.now a.constraints.now) a.scratch.now in
-    let l = called.explain-r.new in
     let x : ExplainExit = record {
-      answer = called.explain-r.result;
-      scratch = l.1.1.1.1.1.1.1.1.0;
-      marks = l.1.1.1.1.1.1.1.1.1.1.1.1.0;
+      answer = c.explain-r.result;
+      scratch = c.explain-r.new.scratch;
+      marks = c.explain-r.new.marks;
     } in
-    explain-told g a.state.now a.ins.now a.output a.marks.now _ x _ counts'.counts-n.ensures called.explain-r.ensures
+    explain-told g a.state.now a.ins.now a.output a.marks.now _ x _ c.counts-n.ensures c.explain-r.ensures
     c.stepped.ensures

@@ -10,26 +10,20 @@ use Rattle.desk.proofs.golvanzo_read.Goals as goal
 
 pub overflow_sub-result : goal.overflow_sub-result
 overflow_sub-result c =
-    let s0 = c.before.before.before.before.before.before.before.before.before.before.before.before.before.before.before in
-    let s1 = s0.before.before.before.before.before.before.before.before.before.before.before.before.before.before.before in
-    let start = s1.before.before.before.before.before in
-    let k0 = c.before.before.before.before.before.before.before.before.before.before.before.before.before.before.before in
-    let read = k0.read-tail in
-    let a = start.args in
+    let a = c.args in
     let e : ReadEntry = record {
       file = a.file.now;
       tables = seven a.inputs.now a.latches.now a.outputs.now a.gates.now a.resets.now a.bads.now a.constraints.now;
       scratch = a.scratch.now;
     } in
-    let l = read.new in
     let x : ReadExit = record {
-      answer = l.1.1.1.1.1.1.1.1.1.1.0;
-      tail = read.result.now;
-      tables = seven l.1.1.0 l.1.1.1.0 l.1.1.1.1.0 l.1.1.1.1.1.0
-          l.1.1.1.1.1.1.0 l.1.1.1.1.1.1.1.0 l.1.1.1.1.1.1.1.1.0;
-      scratch = l.1.1.1.1.1.1.1.1.1.0;
+      answer = c.read-tail.new.answer;
+      tail = c.read-tail.result.now;
+      tables = seven c.read-tail.new.inputs c.read-tail.new.latches c.read-tail.new.outputs c.read-tail.new.gates
+          c.read-tail.new.resets c.read-tail.new.bads c.read-tail.new.constraints;
+      scratch = c.read-tail.new.scratch;
     } in
-    omega (arith, tail-shorter V19 e x read.ensures)
+    omega (arith, tail-shorter V19 e x c.read-tail.ensures)
 
 pub shape_of-inputs : goal.shape_of-inputs
 shape_of-inputs c =
@@ -61,23 +55,17 @@ shape_of-scratch c = omega (arith, c.scratch-1.given)
 
 pub returns : goal.returns
 returns c =
-    let s0 = c.before.before.before.before.before.before.before.before.before.before.before.before.before.before.before in
-    let s1 = s0.before.before.before.before.before.before.before.before.before.before.before.before.before.before.before in
-    let start = s1.before.before.before.before.before in
-    let k0 = c.before.before.before.before.before.before.before.before.before.before.before.before.before.before.before in
-    let read = k0.read-tail in
-    let a = start.args in
+    let a = c.args in
     let e : ReadEntry = record {
       file = a.file.now;
       tables = seven a.inputs.now a.latches.now a.outputs.now a.gates.now a.resets.now a.bads.now a.constraints.now;
       scratch = a.scratch.now;
     } in
-    let l = read.new in
     let x : ReadExit = record {
-      answer = l.1.1.1.1.1.1.1.1.1.1.0;
-      tail = read.result.now;
-      tables = seven l.1.1.0 l.1.1.1.0 l.1.1.1.1.0 l.1.1.1.1.1.0
-          l.1.1.1.1.1.1.0 l.1.1.1.1.1.1.1.0 l.1.1.1.1.1.1.1.1.0;
-      scratch = l.1.1.1.1.1.1.1.1.1.0;
+      answer = c.read-tail.new.answer;
+      tail = c.read-tail.result.now;
+      tables = seven c.read-tail.new.inputs c.read-tail.new.latches c.read-tail.new.outputs c.read-tail.new.gates
+          c.read-tail.new.resets c.read-tail.new.bads c.read-tail.new.constraints;
+      scratch = c.read-tail.new.scratch;
     } in
-    tail-starts V19 e x read.ensures
+    tail-starts V19 e x c.read-tail.ensures

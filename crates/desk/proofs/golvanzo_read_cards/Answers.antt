@@ -38,11 +38,10 @@ shape_of-scratch c = c.scratch-1.given
 
 pub returns : goal.returns
 returns c =
-    let read = c.read_cards-r in
-    let l = read.last in
+    let l = c.read_cards-r.last in
     let x : LoadExit = record {
-      answer = read.result;
+      answer = c.read_cards-r.result;
       tables = seven l.1.0 l.1.1.0 l.1.1.1.0 l.1.1.1.1.0 l.1.1.1.1.1.0 l.1.1.1.1.1.1.0 l.1.1.1.1.1.1.1.0;
       scratch = l.1.1.1.1.1.1.1.1.0;
     } in
-    ap (λ (answer : List ℕ). told answer x) c.loaded.ensures ∙ ap (λ (y : LoadExit). told (loaded_values y.answer) y) read.ensures
+    ap (λ (answer : List ℕ). told answer x) c.loaded.ensures ∙ ap (λ (y : LoadExit). told (loaded_values y.answer) y) c.read_cards-r.ensures

@@ -17,16 +17,12 @@ shape_of-six c = omega (arith, c.six-1.given)
 
 pub returns : goal.returns
 returns c =
-    let start = c.before.before.before.before.before.before.before.before.before.before.before.before.before.before.before.before.before.before.before.before in
-    let counts' = c.counts-n in
-    let reported = c.report-r in
-    let a = start.args in
+    let a = c.args in
     let g : Given = given_at (counts_from a.counts.now) (seven a.inputs.now a.latches.now a.outputs.now a.gates.now
     a.resets.now a.bads.now a.constraints.now) a.scratch.now in
-    let l = reported.new in
     let x : ReportExit = record {
-      answer = reported.result;
-      scratch = l.1.1.1.1.1.1.1.1.0;
-      six = l.1.1.1.1.1.1.1.1.1.1.1.0;
+      answer = c.report-r.result;
+      scratch = c.report-r.new.scratch;
+      six = c.report-r.new.six;
     } in
-    report-told g a.number a.bytes.now a.six.now _ x _ counts'.ensures reported.ensures c.stepped.ensures
+    report-told g a.number a.bytes.now a.six.now _ x _ c.counts-n.ensures c.report-r.ensures c.stepped.ensures

@@ -17,16 +17,13 @@ shape_of-report c = omega (arith, c.report-1.given)
 
 pub returns : goal.returns
 returns c =
-    let asked = c.before.before.before.before.before.before in
-    let start = asked.before.before.before.before.before.before.before.before.before.before.before.before.before.before in
-    let a = start.args in
+    let a = c.args in
     let g : Given = given_at (counts_from a.counts.now) (seven a.inputs.now a.latches.now a.outputs.now a.gates.now
     a.resets.now a.bads.now a.constraints.now) a.scratch.now in
-    let l = asked.report_rows-r.new in
     let x : RowReportExit = record {
-      answer = asked.report_rows-r.result;
-      scratch = l.1.1.1.1.1.1.1.1.0;
-      report = l.1.1.1.1.1.1.1.1.1.1.1.0;
+      answer = c.report_rows-r.result;
+      scratch = c.report_rows-r.new.scratch;
+      report = c.report_rows-r.new.report;
     } in
-    report-told g a.rows a.ins.now a.report.now _ x _ asked.counts-n.ensures asked.report_rows-r.ensures
+    report-told g a.rows a.ins.now a.report.now _ x _ c.counts-n.ensures c.report_rows-r.ensures
     c.stepped.ensures

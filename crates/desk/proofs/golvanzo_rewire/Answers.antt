@@ -11,16 +11,13 @@ use Rattle.desk.proofs.golvanzo_rewire.Goals as goal
 
 pub returns : goal.returns
 returns c =
-    let r = c.before.before.before.before.before.before.before.before in
-    let k = r.before.before.before.before in
-    let a = k.args in
+    let a = c.args in
     let g : Given = given_at (counts_from a.counts.now) (seven a.inputs.now a.latches.now a.outputs.now a.gates.now
     a.resets.now a.bads.now a.constraints.now) a.scratch.now in
-    let l = r.rewire-r.new in
     let x : RewireExit = record {
-      answer = r.rewire-r.result;
-      gates = l.1.1.1.1.0;
-      scratch = l.1.1.1.1.1.1.1.1.0;
-      values = l.1.1.1.1.1.1.1.1.1.1.1.1.0;
+      answer = c.rewire-r.result;
+      gates = c.rewire-r.new.gates;
+      scratch = c.rewire-r.new.scratch;
+      values = c.rewire-r.new.values;
     } in
-    rewire-told g a.gate a.rhs0 a.rhs1 a.values.now _ x _ k.counts-n.ensures r.rewire-r.ensures c.stepped.ensures
+    rewire-told g a.gate a.rhs0 a.rhs1 a.values.now _ x _ c.counts-n.ensures c.rewire-r.ensures c.stepped.ensures

@@ -20,18 +20,13 @@ shape_of-outs c = omega (arith, c.outs-1.given)
 
 pub returns : goal.returns
 returns c =
-    let s0 = c.before.before.before.before.before.before.before.before.before.before.before.before.before.before.before in
-    let start = s0.before.before.before.before.before.before.before.before.before in
-    let counts' = c.counts-n in
-    let stepped = c.step_rows-r in
-    let a = start.args in
+    let a = c.args in
     let g : Given = given_at (counts_from a.counts.now) (seven a.inputs.now a.latches.now a.outputs.now a.gates.now
     a.resets.now a.bads.now a.constraints.now) a.scratch.now in
-    let l = stepped.new in
     let x : RowsExit = record {
-      answer = stepped.result;
-      scratch = l.1.1.1.1.1.1.1.1.0;
-      nexts = l.1.1.1.1.1.1.1.1.1.1.0;
-      outputs = l.1.1.1.1.1.1.1.1.1.1.1.1.0;
+      answer = c.step_rows-r.result;
+      scratch = c.step_rows-r.new.scratch;
+      nexts = c.step_rows-r.new.nexts;
+      outputs = c.step_rows-r.new.outs;
     } in
-    rows_told g a.rows a.nexts.now a.ins.now a.outs.now _ x _ counts'.ensures stepped.ensures c.stepped.ensures
+    rows_told g a.rows a.nexts.now a.ins.now a.outs.now _ x _ c.counts-n.ensures c.step_rows-r.ensures c.stepped.ensures

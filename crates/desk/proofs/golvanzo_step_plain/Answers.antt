@@ -21,18 +21,13 @@ shape_of-outs c = omega (arith, c.outs-1.given)
 
 pub returns : goal.returns
 returns c =
-    let s0 = c.before.before.before.before.before.before.before.before.before.before.before.before.before.before.before in
-    let start = s0.before.before.before.before.before.before.before.before.before in
-    let counts' = c.counts-n in
-    let stepped = c.step_plain-r in
-    let a = start.args in
+    let a = c.args in
     let g : Given = given_at (counts_from a.counts.now) (seven a.inputs.now a.latches.now a.outputs.now a.gates.now
     a.resets.now a.bads.now a.constraints.now) a.scratch.now in
-    let l = stepped.new in
     let x : StepExit = record {
-      answer = stepped.result;
-      scratch = l.1.1.1.1.1.1.1.1.0;
-      state = l.1.1.1.1.1.1.1.1.1.0;
-      outputs = l.1.1.1.1.1.1.1.1.1.1.1.0;
+      answer = c.step_plain-r.result;
+      scratch = c.step_plain-r.new.scratch;
+      state = c.step_plain-r.new.state;
+      outputs = c.step_plain-r.new.outs;
     } in
-    step-told plain_step g a.state.now a.ins.now a.outs.now _ x _ counts'.ensures stepped.ensures c.stepped.ensures
+    step-told plain_step g a.state.now a.ins.now a.outs.now _ x _ c.counts-n.ensures c.step_plain-r.ensures c.stepped.ensures

@@ -15,12 +15,8 @@ shape_of-scratch c = omega (arith, c.witness-r.auto.scratch)
 
 pub returns : goal.returns
 returns c =
-    let s0 = c.before.before.before.before.before.before.before.before.before.before.before.before.before.before.before in
-    let start = s0.before in
-    let counts' = c.counts-n in
-    let asked = c.witness-r in
-    let a = start.args in
+    let a = c.args in
     let g : Given = given_at (counts_from a.counts.now) (seven a.inputs.now a.latches.now a.outputs.now a.gates.now
     a.resets.now a.bads.now a.constraints.now) a.scratch.now in
-    let x : FilledExit = record { answer = asked.result; scratch = asked.new.1.1.1.1.1.1.1.1.0 } in
-    witness-told g a.number a.bytes.now a.allowance _ x _ counts'.ensures asked.ensures c.finding.ensures
+    let x : FilledExit = record { answer = c.witness-r.result; scratch = c.witness-r.new.scratch } in
+    witness-told g a.number a.bytes.now a.allowance _ x _ c.counts-n.ensures c.witness-r.ensures c.finding.ensures

@@ -15,12 +15,8 @@ shape_of-scratch c = omega (arith, c.witness3-r.auto.scratch)
 
 pub returns : goal.returns
 returns c =
-    let s0 = c.before.before.before.before.before.before.before.before.before.before.before.before.before.before.before in
-    let start = s0.before in
-    let counts' = c.counts-n in
-    let asked = c.witness3-r in
-    let a = start.args in
+    let a = c.args in
     let g : Given = given_at (counts_from a.counts.now) (seven a.inputs.now a.latches.now a.outputs.now a.gates.now
     a.resets.now a.bads.now a.constraints.now) a.scratch.now in
-    let x : WitnessExit = record { answer = asked.result; scratch = asked.new.1.1.1.1.1.1.1.1.0 } in
-    witness3-told g a.number a.bytes.now _ x _ counts'.ensures asked.ensures c.verdict.ensures
+    let x : WitnessExit = record { answer = c.witness3-r.result; scratch = c.witness3-r.new.scratch } in
+    witness3-told g a.number a.bytes.now _ x _ c.counts-n.ensures c.witness3-r.ensures c.verdict.ensures

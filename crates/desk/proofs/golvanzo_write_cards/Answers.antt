@@ -18,17 +18,13 @@ shape_of-out c = omega (arith, c.out-1.given)
 
 pub returns : goal.returns
 returns c =
-    let s0 = c.before.before.before.before.before.before.before.before.before.before.before.before.before.before.before in
-    let start = s0.before.before.before.before.before in
-    let counts' = c.counts-n in
-    let wrote = c.write_cards-r in
-    let a = start.args in
+    let a = c.args in
     let g : Given = given_at (counts_from a.counts.now) (seven a.inputs.now a.latches.now a.outputs.now a.gates.now
     a.resets.now a.bads.now a.constraints.now) a.scratch.now in
     let x : FileExit = record {
-      answer = wrote.result;
-      scratch = wrote.new.1.1.1.1.1.1.1.1.0;
+      answer = c.write_cards-r.result;
+      scratch = c.write_cards-r.new.scratch;
       out
-          = wrote.new.1.1.1.1.1.1.1.1.1.1.0;
+          = c.write_cards-r.new.out;
     } in
-    file-told write_cards g a.tail.now a.out.now _ x _ counts'.ensures wrote.ensures c.written.ensures
+    file-told write_cards g a.tail.now a.out.now _ x _ c.counts-n.ensures c.write_cards-r.ensures c.written.ensures

@@ -11,9 +11,7 @@ use borrow.Author.Rules.{rules}
 use Rattle.drop.proofs.mark.Goals as goal
 
 pub bounds-t-v : goal.bounds-t-v
-bounds-t-v c =
-    let d = c.before.before.before in
-    omega (arith, c.index-v.ensures, ap index_of c.var.ensures, d.requires)
+bounds-t-v c = omega (arith, c.index-v.ensures, ap index_of c.var.ensures, c.requires)
 
 pub returns : goal.returns
 returns c =

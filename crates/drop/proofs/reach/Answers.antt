@@ -14,17 +14,12 @@ loop-k-init c = walking_start _ _ _
 
 pub reach_from-requires : goal.reach_from-requires
 reach_from-requires c =
-    let d = c.before in
-    let s = d.before.before.before.before in
-    let l = d.loop-k in
-    let lt : l.k - 1 < s.args.a = omega (arith, d.loop-k-test.true, l.invariant.within) in
-    record { k_in_bounds = omega (arith, s.requires.a_in_bounds); below = subst (λ (n : ℕ). Below n (gate_at s.args.gates.now (l.k - 1))) (sym l.invariant.size) (s.requires.by_index (l.k - 1) lt); }
+    let lt : c.loop-k.k - 1 < c.args.a = omega (arith, c.loop-k-test.true, c.loop-k.invariant.within) in
+    record { k_in_bounds = omega (arith, c.requires.a_in_bounds); below = subst (λ (n : ℕ). Below n (gate_at c.args.gates.now (c.loop-k.k - 1))) (sym c.loop-k.invariant.size) (c.requires.by_index (c.loop-k.k - 1) lt); }
 
 pub loop-k-preserved : goal.loop-k-preserved
 loop-k-preserved c =
-    let d = c.before.before.before.before in
-    let l = d.loop-k in
-    walking-more _ _ _ _ _ l.k (l.k - 1) (omega (arith, d.loop-k-test.true)) l.invariant c.reach_from.auto.t c.reach_from.ensures
+    walking-more _ _ _ _ _ c.loop-k.k (c.loop-k.k - 1) (omega (arith, c.loop-k-test.true)) c.loop-k.invariant c.reach_from.auto.t c.reach_from.ensures
 
 pub shape_of-t : goal.shape_of-t
 shape_of-t c = c.loop-k.invariant.size

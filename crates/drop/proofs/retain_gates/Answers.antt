@@ -8,24 +8,20 @@ use Rattle.drop.proofs.Retaining.{begun, Going, going_start, going-room, going_m
 use Rattle.drop.proofs.retain_gates.Goals as goal
 
 pub run_on-requires : goal.run_on-requires
-run_on-requires c = let p =
-    c.requires in
+run_on-requires c =
+    let p = c.requires in
     record { n_in_bounds = omega (arith, p.t-long); n_bound = omega (arith, p.few); }
 
 pub loop-k-init : goal.loop-k-init
 loop-k-init c = going_start _ _ _ _ _
 
 pub retain_gate-n-requires : goal.retain_gate-n-requires
-retain_gate-n-requires c =
-    let d = c.before.before in
-    let s = d.before.before.before.before.before.before.before.before.before in
-    going-room s.requires d.run_on.auto.table d.loop-k-test.true d.loop-k.invariant
+retain_gate-n-requires c = going-room c.requires c.run_on.auto.table c.loop-k-test.true c.loop-k.invariant
 
 pub loop-k-preserved : goal.loop-k-preserved
 loop-k-preserved c =
-    let d = c.before.before.before.before.before.before.before in
     let s = c.retain_gate-n.ensures in
-    going_more d.loop-k-test.true c.retain_gate-n.auto.to c.t-in-loop-k-1.given s d.loop-k.invariant
+    going_more c.loop-k-test.true c.retain_gate-n.auto.to c.t-in-loop-k-1.given s c.loop-k.invariant
 
 pub shape_of-to : goal.shape_of-to
 shape_of-to c = c.loop-k.invariant.to-long

@@ -11,18 +11,13 @@ loop-k-init c = walking_start _ _ _ _ _ _
 
 pub blame_from-requires : goal.blame_from-requires
 blame_from-requires c =
-    let d = c.before in
-    let s = d.before.before.before.before in
-    let l = d.loop-k in
-    let lt : l.k - 1 < s.args.a = omega (arith, d.loop-k-test.true, l.invariant.within) in
-    let space = s.requires.space in
-    record { k_in_bounds = omega (arith, s.requires.a_in_bounds); below = s.requires.by_index (l.k - 1) lt; space = record { apart = space.apart; long = omega (arith, space.long, l.invariant.size) }; }
+    let lt : c.loop-k.k - 1 < c.args.a = omega (arith, c.loop-k-test.true, c.loop-k.invariant.within) in
+    let space = c.requires.space in
+    record { k_in_bounds = omega (arith, c.requires.a_in_bounds); below = c.requires.by_index (c.loop-k.k - 1) lt; space = record { apart = space.apart; long = omega (arith, space.long, c.loop-k.invariant.size) }; }
 
 pub loop-k-preserved : goal.loop-k-preserved
 loop-k-preserved c =
-    let d = c.before.before.before.before in
-    let l = d.loop-k in
-    walking-more _ _ _ _ _ _ _ _ l.k (l.k - 1) (omega (arith, d.loop-k-test.true)) l.invariant c.blame_from.auto.t
+    walking-more _ _ _ _ _ _ _ _ c.loop-k.k (c.loop-k.k - 1) (omega (arith, c.loop-k-test.true)) c.loop-k.invariant c.blame_from.auto.t
     c.blame_from.ensures
 
 pub shape_of-t : goal.shape_of-t

@@ -7,8 +7,7 @@ use Rattle.explain.proofs.explain_literal.Goals as goal
 
 pub blame-requires : goal.blame-requires
 blame-requires c =
-    let s = c.before.before.before.before.before.before.before.before.before.before.before.before.before.before in
-    let p = s.requires in
+    let p = c.requires in
     let one = c.mark.auto.t in
     let two = c.unmark.auto.t in
     record { a_in_bounds = p.gates-long; by_index = p.below; space = record { apart = omega arith; long = omega (arith, p.scratch, one, two) }; }
@@ -16,11 +15,7 @@ blame-requires c =
 pub returns : goal.returns
 returns c =
     λ x latches outputs s i r settled.
-    let f = c.before.before.before.before.before.before.before in
-    let b = f.before.before.before.before.before.before in
-    let k = b.before.before.before.before in
-    let u = k.before.before.before.before in
-    let p = u.before.before.before.before.before.before.before.requires in
-    let same = f.before.before.before.before.before.t3.given ∙ b.before.before.before.t2.given ∙ k.before.before.before.t.given in
+    let p = c.requires in
+    let same = c.blame.auto.t ∙ c.mark.auto.t ∙ c.unmark.auto.t in
     explained x latches outputs s i r p settled _ _ _ _ _ same
-    u.unmark.ensures k.mark.ensures b.blame.ensures f.show.ensures c.show-2.ensures
+    c.unmark.ensures c.mark.ensures c.blame.ensures c.show.ensures c.show-2.ensures

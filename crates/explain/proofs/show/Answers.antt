@@ -5,6 +5,5 @@ use Rattle.explain.proofs.show.Goals as goal
 
 pub returns : goal.returns
 returns c =
-    let s = c.before.before.before.before.before.before in
-    let a = s.args in
-    part-put a.t.now a.out.now a.first a.count a.at s.requires.count_in_bounds s.requires.count_in_bounds_2 _ c.store.ensures
+    let a = c.args in
+    part-put a.t.now a.out.now a.first a.count a.at c.requires.count_in_bounds c.requires.count_in_bounds_2 _ c.store.ensures

@@ -10,14 +10,12 @@ use Rattle.explain.proofs.zero_side.Goals as goal
 
 pub returns-then-t-at-eq0 : goal.returns-then-t-at-eq0
 returns-then-t-at-eq0 c =
-    let w = c.before.before in
-    let a = w.args in
+    let a = c.args in
     sym (ap (λ (b : Bool). cond b a.rhs0 a.rhs1) (eq-eqb (get_or a.t.now (a.lits + word_of a.rhs0) 0) 0
-    (ap (λ (l : ℕ). get_or a.t.now (a.lits + l) 0) (sym w.word.ensures) ∙ c.if-t-at-eq0.true)))
+    (ap (λ (l : ℕ). get_or a.t.now (a.lits + l) 0) (sym c.word.ensures) ∙ c.if-t-at-eq0.true)))
 
 pub returns : goal.returns
 returns c =
-    let w = c.before.before in
-    let a = w.args in
+    let a = c.args in
     sym (ap (λ (b : Bool). cond b a.rhs0 a.rhs1) (ne_eqb (get_or a.t.now (a.lits + word_of a.rhs0) 0) 0
-    (λ z. c.if-t-at-eq0.false (ap (λ (l : ℕ). get_or a.t.now (a.lits + l) 0) w.word.ensures ∙ z))))
+    (λ z. c.if-t-at-eq0.false (ap (λ (l : ℕ). get_or a.t.now (a.lits + l) 0) c.word.ensures ∙ z))))

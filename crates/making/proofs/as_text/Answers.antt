@@ -7,18 +7,7 @@ use Rattle.plan.specs.Header.{header}
 use Rattle.plan.specs.Outcome.{headed_by}
 use Rattle.whole.specs.Parts.{binary_by}
 use Rattle.making.specs.Passes.{as_text}
-use Rattle.making.proofs.as_text.Goals.{After-read_header, In-Accepted, In-Refused, Start}
 use Rattle.making.proofs.as_text.Goals as goal
-
--- moments, each named by what happened there
-abbrev start-of : After-read_header → Start
-start-of c = c.before.before.before
-
-abbrev read-header-of2 : In-Refused → After-read_header
-read-header-of2 c = c.before.before
-
-abbrev read-header-of : In-Accepted → After-read_header
-read-header-of c = c.before.before.before
 
 pub returns-then-reduced : goal.returns-then-reduced
 returns-then-reduced c =
@@ -27,9 +16,9 @@ returns-then-reduced c =
 pub returns-in-Accepted : goal.returns-in-Accepted
 returns-in-Accepted c =
     ap binary_by (sym c.in-Accepted.is ∙ c.read_header.ensures)
-    ∙ ap (λ (b : Bool). as_text b (headed_by (header V19 (start-of (read-header-of c)).args.file.now 0))) (sym c.if-reduced.false)
+    ∙ ap (λ (b : Bool). as_text b (headed_by (header V19 c.args.file.now 0))) (sym c.if-reduced.false)
 
 pub returns-in-Refused : goal.returns-in-Refused
 returns-in-Refused c =
     ap binary_by (sym c.in-Refused.is ∙ c.read_header.ensures)
-    ∙ ap (λ (b : Bool). as_text b (headed_by (header V19 (start-of (read-header-of2 c)).args.file.now 0))) (sym c.if-reduced.false)
+    ∙ ap (λ (b : Bool). as_text b (headed_by (header V19 c.args.file.now 0))) (sym c.if-reduced.false)

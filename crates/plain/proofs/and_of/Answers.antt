@@ -9,16 +9,10 @@ pub returns-then-b-eq48 : goal.returns-then-b-eq48
 returns-then-b-eq48 c = second-zero c.args.a c.args.b c.if-b-eq48.true
 
 pub returns-then-a-ne49 : goal.returns-then-a-ne49
-returns-then-a-ne49 c =
-    let s = c.before.before.before in
-    first-x s.args.a s.args.b c.if-a-eq48.false c.if-b-eq48.false c.if-a-ne49.true
+returns-then-a-ne49 c = first-x c.args.a c.args.b c.if-a-eq48.false c.if-b-eq48.false c.if-a-ne49.true
 
 pub returns-then-b-ne49 : goal.returns-then-b-ne49
-returns-then-b-ne49 c =
-    let s = c.before.before.before.before in
-    second-x s.args.a s.args.b c.if-a-eq48.false c.if-b-eq48.false c.if-b-ne49.true
+returns-then-b-ne49 c = second-x c.args.a c.args.b c.if-a-eq48.false c.if-b-eq48.false c.if-b-ne49.true
 
 pub returns : goal.returns
-returns c =
-    let s = c.before.before.before.before in
-    both_one s.args.a s.args.b c.if-a-ne49.false c.if-b-ne49.false
+returns c = both_one c.args.a c.args.b c.if-a-ne49.false c.if-b-ne49.false

@@ -19,25 +19,18 @@ loop-i-init c = (omega arith, filled_none _ _ _)
 
 pub literal_value-requires : goal.literal_value-requires
 literal_value-requires c =
-    let w = c.before.before.before.before in
-    let s = w.before.before.before.before.before.before in
     let e = ap word_of c.at.ensures in
-    record { teaches = s.requires.teaches; l_bound = omega (arith, e, s.requires.outs.up w.loop-i.i c.loop-i-test.true); }
+    record { teaches = c.requires.teaches; l_bound = omega (arith, e, c.requires.outs.up c.loop-i.i c.loop-i-test.true); }
 
 pub bounds-outs-i : goal.bounds-outs-i
-bounds-outs-i c =
-    let w = c.before.before.before.before.before in
-    let s = w.before.before.before.before.before.before in
-    omega (arith, w.loop-i.invariant.1.same, s.requires.outs.room, c.loop-i-test.true)
+bounds-outs-i c = omega (arith, c.loop-i.invariant.1.same, c.requires.outs.room, c.loop-i-test.true)
 
 pub loop-i-preserved : goal.loop-i-preserved
 loop-i-preserved c =
-    let w = c.before.before.before.before.before in
-    let s = w.before.before.before.before.before.before in
-    let worth = variable_in s.args.n s.args.gates.now s.args.state.now s.args.ins.now in
+    let worth = variable_in c.args.n c.args.gates.now c.args.state.now c.args.ins.now in
     let more = c.loop-i-test.true in (
       omega arith,
-      filled-front _ _ w.loop-i.i w.loop-i.outs _ w.loop-i.invariant.1 (omega (arith, s.requires.outs.room, more))
+      filled-front _ _ c.loop-i.i c.loop-i.outs _ c.loop-i.invariant.1 (omega (arith, c.requires.outs.room, more))
           (c.literal_value.ensures ∙ ap (λ (l : ℕ). code_of (lit worth l)) (ap word_of c.at.ensures)),
     )
 
@@ -46,7 +39,5 @@ shape_of-outs c = c.loop-i.invariant.1.same
 
 pub returns : goal.returns
 returns c =
-    let w = c.before.before in
-    let s = w.before.before.before.before.before.before in
-    filled-all _ _ _ s.args.n.O w.loop-i.i w.loop-i.outs w.loop-i.invariant.1 (omega arith)
-    ∙ filled-whole s.args.outs.now _ s.args.n.O s.requires.outs.room
+    filled-all _ _ _ c.args.n.O c.loop-i.i c.loop-i.outs c.loop-i.invariant.1 (omega arith)
+    ∙ filled-whole c.args.outs.now _ c.args.n.O c.requires.outs.room

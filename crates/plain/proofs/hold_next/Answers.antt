@@ -18,25 +18,18 @@ loop-i-init c = (omega arith, filled_none _ _ _)
 
 pub literal_value-requires : goal.literal_value-requires
 literal_value-requires c =
-    let w = c.before.before.before.before in
-    let s = w.before.before.before.before.before.before in
     let e = ap word_of c.at.ensures in
-    record { teaches = s.requires.teaches; l_bound = omega (arith, e, s.requires.nexts.up w.loop-i.i c.loop-i-test.true); }
+    record { teaches = c.requires.teaches; l_bound = omega (arith, e, c.requires.nexts.up c.loop-i.i c.loop-i-test.true); }
 
 pub bounds-t-i : goal.bounds-t-i
-bounds-t-i c =
-    let w = c.before.before.before.before.before in
-    let s = w.before.before.before.before.before.before in
-    omega (arith, w.loop-i.invariant.1.same, s.requires.nexts.room, c.loop-i-test.true)
+bounds-t-i c = omega (arith, c.loop-i.invariant.1.same, c.requires.nexts.room, c.loop-i-test.true)
 
 pub loop-i-preserved : goal.loop-i-preserved
 loop-i-preserved c =
-    let w = c.before.before.before.before.before in
-    let s = w.before.before.before.before.before.before in
-    let worth = variable_in s.args.n s.args.gates.now s.args.state.now s.args.ins.now in
+    let worth = variable_in c.args.n c.args.gates.now c.args.state.now c.args.ins.now in
     let more = c.loop-i-test.true in (
       omega arith,
-      filled-front _ _ w.loop-i.i w.loop-i.t _ w.loop-i.invariant.1 (omega (arith, s.requires.nexts.room, more))
+      filled-front _ _ c.loop-i.i c.loop-i.t _ c.loop-i.invariant.1 (omega (arith, c.requires.nexts.room, more))
           (c.literal_value.ensures ∙ ap (λ (l : ℕ). code_of (lit worth l)) (ap word_of c.at.ensures)),
     )
 
@@ -44,7 +37,4 @@ pub shape_of-t : goal.shape_of-t
 shape_of-t c = c.loop-i.invariant.1.same
 
 pub returns : goal.returns
-returns c =
-    let w = c.before.before in
-    let s = w.before.before.before.before.before.before in
-    filled-all _ _ _ s.args.n.L w.loop-i.i w.loop-i.t w.loop-i.invariant.1 (omega arith)
+returns c = filled-all _ _ _ c.args.n.L c.loop-i.i c.loop-i.t c.loop-i.invariant.1 (omega arith)

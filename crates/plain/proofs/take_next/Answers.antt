@@ -15,22 +15,18 @@ loop-i-init c = (omega arith, filled_none _ _ _)
 
 pub overflow_cast-state : goal.overflow_cast-state
 overflow_cast-state c =
-    let w = c.before.before in
-    record { fits = w.requires.small w.loop-i.i (omega (arith, c.loop-i-test.true, w.loop-i.invariant.1.same)) }
+    record { fits = c.requires.small c.loop-i.i (omega (arith, c.loop-i-test.true, c.loop-i.invariant.1.same)) }
 
 pub loop-i-preserved : goal.loop-i-preserved
 loop-i-preserved c =
-    let w = c.before.before in
-    (omega arith, filled-front _ _ w.loop-i.i w.loop-i.state _ w.loop-i.invariant.1 (omega arith) refl)
+    (omega arith, filled-front _ _ c.loop-i.i c.loop-i.state _ c.loop-i.invariant.1 (omega arith) refl)
 
 pub shape_of-state : goal.shape_of-state
 shape_of-state c = c.loop-i.invariant.1.same
 
 pub returns : goal.returns
 returns c =
-    let w = c.before in
-    let s = w.before in
-    let n = length s.args.state.now in
-    filled-all _ _ _ (length s.args.state.now) w.loop-i.i w.loop-i.state w.loop-i.invariant.1 (omega arith)
-    ∙ (filled-whole s.args.state.now _ (length s.args.state.now) refl
-    ∙ sym (words_take s.args.t.now (length s.args.state.now) s.requires.long))
+    let n = length c.args.state.now in
+    filled-all _ _ _ (length c.args.state.now) c.loop-i.i c.loop-i.state c.loop-i.invariant.1 (omega arith)
+    ∙ (filled-whole c.args.state.now _ (length c.args.state.now) refl
+    ∙ sym (words_take c.args.t.now (length c.args.state.now) c.requires.long))

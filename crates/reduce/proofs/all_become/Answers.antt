@@ -18,25 +18,22 @@ loop-i-init c = let a = c.args in (omega arith, refl, none_done a.table.now a.be
 
 pub becomes-requires : goal.becomes-requires
 becomes-requires c =
-    let s = c.before.before.before.before.before.before.before in
-    let a = s.args in
+    let a = c.args in
     let i = c.loop-i.i in
-    let low = bounded_at (length a.became.now) (take a.n a.table.now) s.requires.low i
-    (omega (arith, length-take-le a.n a.table.now s.requires.table-long)) in
+    let low = bounded_at (length a.became.now) (take a.n a.table.now) c.requires.low i
+    (omega (arith, length-take-le a.n a.table.now c.requires.table-long)) in
     omega (arith, ap (λ (l : Lit). var_of (word_of l)) c.at.ensures, low, ap var_of (get_or-take a.n a.table.now i 0 (omega arith)))
 
 pub loop-i-preserved : goal.loop-i-preserved
 loop-i-preserved c =
-    let start = c.before.before.before.before.before.before.before.before.before in
-    let a = start.args in
-    let l = c.loop-i in
-    let word : c.word.result ≡ becomes a.became.now (get_or a.table.now l.i 0)
+    let a = c.args in
+    let word : c.word.result ≡ becomes a.became.now (get_or a.table.now c.loop-i.i 0)
     = c.word.ensures ∙ ap word_of c.becomes.ensures
     ∙ ap (λ (x : Lit). becomes a.became.now (word_of x)) c.at.ensures in (
       omega arith,
-      length-set l.to l.i c.word.result ∙ l.invariant.1,
-      ap₂ (λ (t : List ℕ) (x : ℕ). set t l.i x) l.invariant.2 word
-          ∙ one_more a.table.now a.became.now a.to.now l.i (omega arith) (omega arith),
+      length-set c.loop-i.to c.loop-i.i c.word.result ∙ c.loop-i.invariant.1,
+      ap₂ (λ (t : List ℕ) (x : ℕ). set t c.loop-i.i x) c.loop-i.invariant.2 word
+          ∙ one_more a.table.now a.became.now a.to.now c.loop-i.i (omega arith) (omega arith),
     )
 
 pub shape_of-to : goal.shape_of-to
@@ -45,6 +42,5 @@ shape_of-to c = c.loop-i.invariant.1
 pub returns : goal.returns
 returns c =
     let a = c.args in
-    let l = c.loop-i in
-    let e : l.i ≡ a.n = omega arith in
-    l.invariant.2 ∙ ap (done a.table.now a.became.now a.to.now) e
+    let e : c.loop-i.i ≡ a.n = omega arith in
+    c.loop-i.invariant.2 ∙ ap (done a.table.now a.became.now a.to.now) e

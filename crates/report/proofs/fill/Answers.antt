@@ -12,13 +12,7 @@ use Rattle.laws.proofs.Running.Resets.{first-length}
 use Rattle.step.specs.sweep.Running.{Runs}
 use Rattle.report.specs.Tallying.{tally}
 use Rattle.report.proofs.Filling.{tally-long, all_finished}
-use Rattle.report.proofs.fill.Goals.{Start}
 use Rattle.report.proofs.fill.Goals as goal
-
-abbrev tables : Start → List ℕ → List ℕ → List ℕ → Tables
-tables s inputs bads constraints =
-    let a = s.args in
-    seven inputs a.latches.now a.outputs.now a.gates.now a.resets.now bads constraints
 
 first-long : {n : Counts} {x : Tables} → Runs n x → length (first_state (circuit_of n x)) ≡ n.L
 first-long {n} {x} r = first-length (circuit_of n x) r.formed ∙ ap (λ (m : Counts). m.L) r.counts
@@ -30,11 +24,13 @@ start_values-requires c =
 
 pub tally-requires : goal.tally-requires
 tally-requires c =
-    let s = c.before.before.before.before.before.before.before.before.before.before.before.before.before in
-    let p = s.requires in
+    let tables : List ℕ → List ℕ → List ℕ → Tables =
+    λ inputs bads constraints. let a = c.args in
+    seven inputs a.latches.now a.outputs.now a.gates.now a.resets.now bads constraints in
+    let p = c.requires in
     record {
-      others = tables s p.inputs p.bads p.constraints;
-      state = first_state (circuit_of s.args.n (tables s p.inputs p.bads p.constraints));
+      others = tables p.inputs p.bads p.constraints;
+      state = first_state (circuit_of c.args.n (tables p.inputs p.bads p.constraints));
       runs = record { fits = p.runs.fits; counts = p.runs.counts; formed = p.runs.formed; order = p.runs.order };
       scratch-long = omega (arith, p.scratch-long, c.start_values.auto.t);
       state-length = first-long p.runs;
@@ -47,19 +43,20 @@ tally-requires c =
 
 pub finish-requires : goal.finish-requires
 finish-requires c =
-    let s = c.before.before.before.before.before.before.before.before.before.before.before.before.before.before.before.before.before.before.before.before in
-    let p = s.pre in
-    omega (arith, ap length p.held ∙ length-append (tally s.args.n []) p.rest, tally-long s.args.n [], c.six-1.given)
+    let p = c.requires in
+    omega (arith, ap length p.held ∙ length-append (tally c.args.n []) p.rest, tally-long c.args.n [], c.six-1.given)
 
 pub returns : goal.returns
 returns c =
+    let tables : List ℕ → List ℕ → List ℕ → Tables =
+    λ inputs bads constraints. let a = c.args in
+    seven inputs a.latches.now a.outputs.now a.gates.now a.resets.now bads constraints in
     λ inputs bads constraints rest r held.
-    let s = c.before.before.before.before.before.before.before.before.before.before.before.before.before.before.before.before.before.before.before.before.before.before.before in
-    let n = s.args.n in
-    let x = tables s inputs bads constraints in
+    let n = c.args.n in
+    let x = tables inputs bads constraints in
     let d = circuit_of n x in
     c.finish.ensures
-    ∙ all_finished n d (run d (first_state d) (vectors_of d s.args.number s.args.bytes.now)) rest (ap (λ (m : Counts). m.O) r.counts)
+    ∙ all_finished n d (run d (first_state d) (vectors_of d c.args.number c.args.bytes.now)) rest (ap (λ (m : Counts). m.O) r.counts)
     (ap (λ (m : Counts). m.L) r.counts) _
     (c.tally.ensures x (first_state d) rest r (first-long r)
     c.start_values.ensures held)

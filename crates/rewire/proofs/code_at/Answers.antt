@@ -9,16 +9,13 @@ use borrow.Author.Rules.{rules}
 use Rattle.rewire.proofs.code_at.Goals as goal
 
 pub bounds-values-v : goal.bounds-values-v
-bounds-values-v c =
-    let d = c.before.before in
-    omega (arith, d.index-v.ensures, ap index_of d.var.ensures, d.requires)
+bounds-values-v c = omega (arith, c.index-v.ensures, ap index_of c.var.ensures, c.requires)
 
 pub returns : goal.returns
 returns c =
     λ a h.
-    let d = c.before.before.before in
-    let s = d.args in
+    let s = c.args in
     let sign = c.sign-sign.ensures in
-    let at : d.index-v.result ≡ var_of (word_of s.l) = d.index-v.ensures ∙ ap index_of d.var.ensures in
+    let at : c.index-v.result ≡ var_of (word_of s.l) = c.index-v.ensures ∙ ap index_of c.var.ensures in
     c.signed_code.ensures a (omega (arith, sign)) (ap (λ (v : ℕ). get_or s.values.now v 0) at ∙ h)
     ∙ ap (λ (k : ℕ). code_of (signed_value k a)) sign

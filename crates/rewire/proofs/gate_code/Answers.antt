@@ -18,14 +18,12 @@ code_at-y-requires c = omega (arith, ap (λ (l : Lit). var_of (word_of l)) c.at-
 pub returns : goal.returns
 returns c =
     λ w h0 h1.
-    let b = c.before.before in
-    let d = b.before.before.before in
-    let s = d.args in
+    let s = c.args in
     let g = gate_at s.gates.now s.j in
-    let r0 = d.at.ensures in
-    let r1 = b.at-2.ensures in
+    let r0 = c.at.ensures in
+    let r1 = c.at-2.ensures in
     c.and_code.ensures (lit w g.rhs0) (lit w g.rhs1)
-    (b.code_at-x.ensures (w (var_of g.rhs0)) (ap (λ (x : Lit). get_or s.values.now (var_of (word_of x)) 0) r0 ∙ h0)
+    (c.code_at-x.ensures (w (var_of g.rhs0)) (ap (λ (x : Lit). get_or s.values.now (var_of (word_of x)) 0) r0 ∙ h0)
     ∙ ap (λ (x : Lit). code_of (signed_value (sign_of (word_of x)) (w (var_of g.rhs0)))) r0)
     (c.code_at-y.ensures (w (var_of g.rhs1)) (ap (λ (x : Lit). get_or s.values.now (var_of (word_of x)) 0) r1 ∙ h1)
     ∙ ap (λ (x : Lit). code_of (signed_value (sign_of (word_of x)) (w (var_of g.rhs1)))) r1)

@@ -15,13 +15,12 @@ use Rattle.plan.specs.Rewire.{edit_stages, RewireEntry}
 use Rattle.rewire.specs.Shown.{Counted}
 use Rattle.rewire.proofs.Answers.{refused-tables, counted, refused-sides, ordered, refused-value, row_fits, gate-there, ordered-again, done}
 use borrow.Author.Rules.{rules}
-use Rattle.rewire.proofs.rewire.Goals.{After-check_in_order, After-judge_sides-sides, After-set_sides, After-wrong_value-shown, In-Good, In_default, Start}
 use Rattle.rewire.proofs.rewire.Goals as goal
 
--- what is handed over
-abbrev entry : Start → RewireEntry
-entry s =
-    let a = s.args in
+pub judge_sides-sides-requires : goal.judge_sides-sides-requires
+judge_sides-sides-requires c =
+    let entry : RewireEntry =
+    let a = c.args in
     record {
       circuit = given_at a.n (seven a.inputs.now a.latches.now a.outputs.now a.gates.now a.resets.now
           a.bads.now a.constraints.now) a.scratch.now;
@@ -29,117 +28,204 @@ entry s =
       rhs0 = a.rhs0;
       rhs1 = a.rhs1;
       values = a.values.now;
-    }
-
--- back from where values are judged, where the edit is, and where the tables are good, to the start
-abbrev fit : After-wrong_value-shown → In_default
-fit w = w.before.before.before.before.before
-
-abbrev passed : After-judge_sides-sides → In-Good
-passed j = j.before.before.before
-
-abbrev checked : In-Good → After-check_in_order
-checked d = d.before.before.before.before
-
-abbrev start : In-Good → Start
-start d = (checked d).before.before.before.before.before.before.before.before.before.before.before.before
-
-said : (d : In-Good) → ◌≡◌ {A = CheckExit} (record { answer = (checked d).check-in-order.result; scratch = (checked d).check-in-order.new.1.1.1.1.1.1.1.1.0 }) (check_in_order (entry (start d)).circuit)
-said d = (checked d).check-in-order.ensures
-
-ready : (d : In-Good) → Counted (start d).args.n
-ready d = counted (entry (start d)) _ _ (said d) d.in-Good.is
-
--- what was said of the edit
-sides-told : (j : After-judge_sides-sides) → let a = (start (passed j)).args in j.judge_sides-sides.result ≡ checked_by (first_of (edit_stages a.n a.gate a.rhs0 a.rhs1 (length a.values.now)))
-sides-told j =
-    let a = (start (passed j)).args in
-    j.judge_sides-sides.ensures
-    ∙ ap₂ (λ (x y : Lit). checked_by (first_of (edit_stages a.n a.gate (word_of x) (word_of y) (length a.values.now))))
-    j.at-a.ensures j.at-b.ensures
-
--- the two words that were stored
-stored : (k : After-set_sides) → let a = (start (passed (fit k.before.before.before.before).before.before)).args in k.set_sides.new.gates ≡ put a.gates.now (3 * a.gate + 1) (max a.rhs0 a.rhs1 ∷ min a.rhs0 a.rhs1 ∷ [])
-stored k =
-    let j = (fit k.before.before.before.before).before.before in
-    let a = (start (passed j)).args in
-    k.set_sides.ensures
-    ∙ ap₂ (λ (x y : Lit). put a.gates.now (3 * a.gate + 1) (max (word_of x) (word_of y) ∷ min (word_of x) (word_of y) ∷ []))
-    j.before.before.at.ensures j.before.at2.ensures
-
-pub judge_sides-sides-requires : goal.judge_sides-sides-requires
-judge_sides-sides-requires c = ready c.before.before
+    } in
+    let said : ◌≡◌ {A = CheckExit} (record { answer = c.check_in_order.result; scratch = c.check_in_order.new.scratch }) (check_in_order (entry).circuit) =
+    c.check_in_order.ensures in
+    let ready : Counted c.args.n =
+    counted (entry) _ _ (said) c.in-Good.is in
+    ready
 
 pub returns-in-Refused-sides : goal.returns-in-Refused-sides
 returns-in-Refused-sides c =
-    let j = c.before.before.before in
-    let d = passed j in
-    refused-sides (entry (start d)) _ _ (said d) d.enum_told.given.1 _ (sides-told j) _ c.in-Refused-sides.is
+    let entry : RewireEntry =
+    let a = c.args in
+    record {
+      circuit = given_at a.n (seven a.inputs.now a.latches.now a.outputs.now a.gates.now a.resets.now
+          a.bads.now a.constraints.now) a.scratch.now;
+      gate = a.gate;
+      rhs0 = a.rhs0;
+      rhs1 = a.rhs1;
+      values = a.values.now;
+    } in
+    let said : ◌≡◌ {A = CheckExit} (record { answer = c.check_in_order.result; scratch = c.check_in_order.new.scratch }) (check_in_order (entry).circuit) =
+    c.check_in_order.ensures in
+    let sides-told : let a = c.args in c.judge_sides-sides.result ≡ checked_by (first_of (edit_stages a.n a.gate a.rhs0 a.rhs1 (length a.values.now))) =
+    let a = c.args in
+    c.judge_sides-sides.ensures
+    ∙ ap₂ (λ (x y : Lit). checked_by (first_of (edit_stages a.n a.gate (word_of x) (word_of y) (length a.values.now))))
+    c.at-a.ensures c.at-b.ensures in
+    refused-sides (entry) _ _ (said) c.in-Good.is _ (sides-told) _ c.in-Refused-sides.is
 
 pub overflow_add-base : goal.overflow_add-base
-overflow_add-base c = let p = ready (passed c.before.before.before) in omega (arith, p.sum, p.most-M)
+overflow_add-base c =
+    let entry : RewireEntry =
+    let a = c.args in
+    record {
+      circuit = given_at a.n (seven a.inputs.now a.latches.now a.outputs.now a.gates.now a.resets.now
+          a.bads.now a.constraints.now) a.scratch.now;
+      gate = a.gate;
+      rhs0 = a.rhs0;
+      rhs1 = a.rhs1;
+      values = a.values.now;
+    } in
+    let said : ◌≡◌ {A = CheckExit} (record { answer = c.check_in_order.result; scratch = c.check_in_order.new.scratch }) (check_in_order (entry).circuit) =
+    c.check_in_order.ensures in
+    let ready : Counted c.args.n =
+    counted (entry) _ _ (said) c.in-Good.is in
+    let p = ready in omega (arith, p.sum, p.most-M)
 
 pub overflow_add-base-in-Good : goal.overflow_add-base-in-Good
-overflow_add-base-in-Good c = let p = ready (passed c.before.before.before.before) in omega (arith, p.sum, p.most-M)
+overflow_add-base-in-Good c =
+    let entry : RewireEntry =
+    let a = c.args in
+    record {
+      circuit = given_at a.n (seven a.inputs.now a.latches.now a.outputs.now a.gates.now a.resets.now
+          a.bads.now a.constraints.now) a.scratch.now;
+      gate = a.gate;
+      rhs0 = a.rhs0;
+      rhs1 = a.rhs1;
+      values = a.values.now;
+    } in
+    let said : ◌≡◌ {A = CheckExit} (record { answer = c.check_in_order.result; scratch = c.check_in_order.new.scratch }) (check_in_order (entry).circuit) =
+    c.check_in_order.ensures in
+    let ready : Counted c.args.n =
+    counted (entry) _ _ (said) c.in-Good.is in
+    let p = ready in omega (arith, p.sum, p.most-M)
 
 pub wrong_value-shown-requires : goal.wrong_value-shown-requires
 wrong_value-shown-requires c =
-    let f = c.before.before.before.before in
-    let j = f.before.before in
-    let d = passed j in
-    record { ordered = ordered (entry (start d)) _ _ (said d) d.enum_told.given.1 _ (sides-told j) f.enum-told2.given.1; le_base = omega arith; }
+    let entry : RewireEntry =
+    let a = c.args in
+    record {
+      circuit = given_at a.n (seven a.inputs.now a.latches.now a.outputs.now a.gates.now a.resets.now
+          a.bads.now a.constraints.now) a.scratch.now;
+      gate = a.gate;
+      rhs0 = a.rhs0;
+      rhs1 = a.rhs1;
+      values = a.values.now;
+    } in
+    let said : ◌≡◌ {A = CheckExit} (record { answer = c.check_in_order.result; scratch = c.check_in_order.new.scratch }) (check_in_order (entry).circuit) =
+    c.check_in_order.ensures in
+    let sides-told : let a = c.args in c.judge_sides-sides.result ≡ checked_by (first_of (edit_stages a.n a.gate a.rhs0 a.rhs1 (length a.values.now))) =
+    let a = c.args in
+    c.judge_sides-sides.ensures
+    ∙ ap₂ (λ (x y : Lit). checked_by (first_of (edit_stages a.n a.gate (word_of x) (word_of y) (length a.values.now))))
+    c.at-a.ensures c.at-b.ensures in
+    record { ordered = ordered (entry) _ _ (said) c.in-Good.is _ (sides-told) c.in_default.is; le_base = omega arith; }
 
 pub returns-in-Refused-shown : goal.returns-in-Refused-shown
 returns-in-Refused-shown c =
-    let w = c.before.before.before in
-    let f = fit w in
-    let j = f.before.before in
-    let d = passed j in
-    refused-value (entry (start d)) _ _ (said d) d.enum_told.given.1 _ (sides-told j) f.enum-told2.given.1 _ w.wrong_value-shown.ensures _
+    let entry : RewireEntry =
+    let a = c.args in
+    record {
+      circuit = given_at a.n (seven a.inputs.now a.latches.now a.outputs.now a.gates.now a.resets.now
+          a.bads.now a.constraints.now) a.scratch.now;
+      gate = a.gate;
+      rhs0 = a.rhs0;
+      rhs1 = a.rhs1;
+      values = a.values.now;
+    } in
+    let said : ◌≡◌ {A = CheckExit} (record { answer = c.check_in_order.result; scratch = c.check_in_order.new.scratch }) (check_in_order (entry).circuit) =
+    c.check_in_order.ensures in
+    let sides-told : let a = c.args in c.judge_sides-sides.result ≡ checked_by (first_of (edit_stages a.n a.gate a.rhs0 a.rhs1 (length a.values.now))) =
+    let a = c.args in
+    c.judge_sides-sides.ensures
+    ∙ ap₂ (λ (x y : Lit). checked_by (first_of (edit_stages a.n a.gate (word_of x) (word_of y) (length a.values.now))))
+    c.at-a.ensures c.at-b.ensures in
+    refused-value (entry) _ _ (said) c.in-Good.is _ (sides-told) c.in_default.is _ c.wrong_value-shown.ensures _
     c.in-Refused-shown.is
 
 pub set_sides-requires : goal.set_sides-requires
 set_sides-requires c =
-    let h = c.before in
-    let w = h.before.before in
-    let f = fit w in
-    let j = f.before.before in
-    let d = passed j in
-    row_fits (entry (start d)) _ _ (said d) d.enum_told.given.1 _ (sides-told j) f.enum-told2.given.1 _ w.wrong_value-shown.ensures
-    h.in_default-shown.is
+    let entry : RewireEntry =
+    let a = c.args in
+    record {
+      circuit = given_at a.n (seven a.inputs.now a.latches.now a.outputs.now a.gates.now a.resets.now
+          a.bads.now a.constraints.now) a.scratch.now;
+      gate = a.gate;
+      rhs0 = a.rhs0;
+      rhs1 = a.rhs1;
+      values = a.values.now;
+    } in
+    let said : ◌≡◌ {A = CheckExit} (record { answer = c.check_in_order.result; scratch = c.check_in_order.new.scratch }) (check_in_order (entry).circuit) =
+    c.check_in_order.ensures in
+    let sides-told : let a = c.args in c.judge_sides-sides.result ≡ checked_by (first_of (edit_stages a.n a.gate a.rhs0 a.rhs1 (length a.values.now))) =
+    let a = c.args in
+    c.judge_sides-sides.ensures
+    ∙ ap₂ (λ (x y : Lit). checked_by (first_of (edit_stages a.n a.gate (word_of x) (word_of y) (length a.values.now))))
+    c.at-a.ensures c.at-b.ensures in
+    row_fits (entry) _ _ (said) c.in-Good.is _ (sides-told) c.in_default.is _ c.wrong_value-shown.ensures
+    c.in_default-shown.is
 
 pub recompute-requires : goal.recompute-requires
 recompute-requires c =
-    let k = c.before.before.before.before in
-    let h = k.before.before in
-    let w = h.before.before in
-    let f = fit w in
-    let j = f.before.before in
-    let d = passed j in
-    let there = gate-there (entry (start d)) _ _ (said d) d.enum_told.given.1 _ (sides-told j) f.enum-told2.given.1 _ w.wrong-value.ensures
-    h.enum-told3.given.1 in
-    record { ordered = ordered-again (entry (start d)) _ _ (said d) d.enum_told.given.1 _ (sides-told j) f.enum-told2.given.1 _ w.wrong-value.ensures
-          h.enum-told3.given.1 _ (stored k); k_le_a = omega arith; }
+    let entry : RewireEntry =
+    let a = c.args in
+    record {
+      circuit = given_at a.n (seven a.inputs.now a.latches.now a.outputs.now a.gates.now a.resets.now
+          a.bads.now a.constraints.now) a.scratch.now;
+      gate = a.gate;
+      rhs0 = a.rhs0;
+      rhs1 = a.rhs1;
+      values = a.values.now;
+    } in
+    let said : ◌≡◌ {A = CheckExit} (record { answer = c.check_in_order.result; scratch = c.check_in_order.new.scratch }) (check_in_order (entry).circuit) =
+    c.check_in_order.ensures in
+    let sides-told : let a = c.args in c.judge_sides-sides.result ≡ checked_by (first_of (edit_stages a.n a.gate a.rhs0 a.rhs1 (length a.values.now))) =
+    let a = c.args in
+    c.judge_sides-sides.ensures
+    ∙ ap₂ (λ (x y : Lit). checked_by (first_of (edit_stages a.n a.gate (word_of x) (word_of y) (length a.values.now))))
+    c.at-a.ensures c.at-b.ensures in
+    let stored : let a = c.args in c.set_sides.new.gates ≡ put a.gates.now (3 * a.gate + 1) (max a.rhs0 a.rhs1 ∷ min a.rhs0 a.rhs1 ∷ []) =
+    let a = c.args in
+    c.set_sides.ensures
+    ∙ ap₂ (λ (x y : Lit). put a.gates.now (3 * a.gate + 1) (max (word_of x) (word_of y) ∷ min (word_of x) (word_of y) ∷ []))
+    c.at-a.ensures c.at-b.ensures in
+    let there = gate-there (entry) _ _ (said) c.in-Good.is _ (sides-told) c.in_default.is _ c.wrong_value-shown.ensures
+    c.in_default-shown.is in
+    record { ordered = ordered-again (entry) _ _ (said) c.in-Good.is _ (sides-told) c.in_default.is _ c.wrong_value-shown.ensures
+          c.in_default-shown.is _ (stored); k_le_a = omega arith; }
 
 pub returns-in-Refused : goal.returns-in-Refused
 returns-in-Refused c =
-    let k = c.before.before.before.before.before in
-    let s = k.before.before.before.before.before.before.before.before.before.before.before.before in
-    refused-tables (entry s) _ _ k.check_in_order.ensures _ c.in-Refused.is
+    let entry : RewireEntry =
+    let a = c.args in
+    record {
+      circuit = given_at a.n (seven a.inputs.now a.latches.now a.outputs.now a.gates.now a.resets.now
+          a.bads.now a.constraints.now) a.scratch.now;
+      gate = a.gate;
+      rhs0 = a.rhs0;
+      rhs1 = a.rhs1;
+      values = a.values.now;
+    } in
+    refused-tables (entry) _ _ c.check_in_order.ensures _ c.in-Refused.is
 
 pub shape_of-scratch-in_default-shown : goal.shape_of-scratch-in_default-shown
-shape_of-scratch-in_default-shown c =
-    let w = c.before.before.before.before.before.before.before.before.before.before.before in
-    (passed (fit w).before.before).before.before.before.scratch.given
+shape_of-scratch-in_default-shown c = c.check_in_order.auto.scratch
 
 pub returns-in_default-shown : goal.returns-in_default-shown
 returns-in_default-shown c =
-    let r = c.before.before in
-    let k = r.before.before.before.before.before in
-    let h = k.before.before in
-    let w = h.before.before in
-    let f = fit w in
-    let j = f.before.before in
-    let d = passed j in
-    done (entry (start d)) _ _ (said d) d.enum_told.given.1 _ (sides-told j) f.enum-told2.given.1 _ w.wrong-value.ensures
-    h.enum-told3.given.1 _ (stored k) _ c.recompute.auto.values r.recompute.ensures
+    let entry : RewireEntry =
+    let a = c.args in
+    record {
+      circuit = given_at a.n (seven a.inputs.now a.latches.now a.outputs.now a.gates.now a.resets.now
+          a.bads.now a.constraints.now) a.scratch.now;
+      gate = a.gate;
+      rhs0 = a.rhs0;
+      rhs1 = a.rhs1;
+      values = a.values.now;
+    } in
+    let said : ◌≡◌ {A = CheckExit} (record { answer = c.check_in_order.result; scratch = c.check_in_order.new.scratch }) (check_in_order (entry).circuit) =
+    c.check_in_order.ensures in
+    let sides-told : let a = c.args in c.judge_sides-sides.result ≡ checked_by (first_of (edit_stages a.n a.gate a.rhs0 a.rhs1 (length a.values.now))) =
+    let a = c.args in
+    c.judge_sides-sides.ensures
+    ∙ ap₂ (λ (x y : Lit). checked_by (first_of (edit_stages a.n a.gate (word_of x) (word_of y) (length a.values.now))))
+    c.at-a.ensures c.at-b.ensures in
+    let stored : let a = c.args in c.set_sides.new.gates ≡ put a.gates.now (3 * a.gate + 1) (max a.rhs0 a.rhs1 ∷ min a.rhs0 a.rhs1 ∷ []) =
+    let a = c.args in
+    c.set_sides.ensures
+    ∙ ap₂ (λ (x y : Lit). put a.gates.now (3 * a.gate + 1) (max (word_of x) (word_of y) ∷ min (word_of x) (word_of y) ∷ []))
+    c.at-a.ensures c.at-b.ensures in
+    done (entry) _ _ (said) c.in-Good.is _ (sides-told) c.in_default.is _ c.wrong_value-shown.ensures
+    c.in_default-shown.is _ (stored) _ c.recompute.auto.values c.recompute.ensures

@@ -15,10 +15,8 @@ bounds-gates-gate-2 c = simp length-set (omega arith)
 
 pub returns : goal.returns
 returns c =
-    let d = c.before.before in
-    let s = d.before.before.before in
-    let t = s.args.gates.now in
-    let k = s.args.gate in
-    two-stores t k _ _ s.requires
-    ∙ ap₂ (λ (x y : ℕ). put t (3 * k + 1) (x ∷ y ∷ [])) (d.word.ensures ∙ ap word_of d.larger.ensures)
+    let t = c.args.gates.now in
+    let k = c.args.gate in
+    two-stores t k _ _ c.requires
+    ∙ ap₂ (λ (x y : ℕ). put t (3 * k + 1) (x ∷ y ∷ [])) (c.word.ensures ∙ ap word_of c.larger.ensures)
     (c.word-2.ensures ∙ ap word_of c.smaller.ensures)

@@ -15,14 +15,13 @@ bounds-values-0 c = omega (arith, c.requires.le_n, c.requires.n_in_bounds)
 
 pub returns-then-values-ne48 : goal.returns-then-values-ne48
 returns-then-values-ne48 c =
-    let a = c.before.before.before in
-    judging-stop [] a.args.values.now 0 a.args.n 0 (judging-start [] a.args.values.now 0 a.args.n) (omega (arith, a.requires.le_n)) c.if-values-ne48.true
+    judging-stop [] c.args.values.now 0 c.args.n 0 (judging-start [] c.args.values.now 0 c.args.n) (omega (arith, c.requires.le_n)) c.if-values-ne48.true
 
 pub loop-v-init : goal.loop-v-init
 loop-v-init c =
-    let a = c.before.before.before in (
+    (
       omega arith,
-      judging-turn [] a.args.values.now 0 a.args.n 0 (judging-start [] a.args.values.now 0 a.args.n) (omega (arith, a.requires.le_n))
+      judging-turn [] c.args.values.now 0 c.args.n 0 (judging-start [] c.args.values.now 0 c.args.n) (omega (arith, c.requires.le_n))
           c.if-values-ne48.false,
     )
 
@@ -31,10 +30,8 @@ bounds-values-v c = omega (arith, c.requires.n_in_bounds, c.loop-v-test.true)
 
 pub returns-then-not-is_code : goal.returns-then-not-is_code
 returns-then-not-is_code c =
-    let a = c.before.before.before.before.before.before.before.before in
-    let l = c.loop-v in
-    judging-stop [] a.args.values.now 0 a.args.n l.v l.invariant.1 (omega (arith, c.loop-v-test.true))
-    (leaf-wrong a.args.values.now l.v l.invariant.0 (sym c.is_code.ensures ∙ not-true _ c.if-not-is_code.true-raw))
+    judging-stop [] c.args.values.now 0 c.args.n c.loop-v.v c.loop-v.invariant.1 (omega (arith, c.loop-v-test.true))
+    (leaf-wrong c.args.values.now c.loop-v.v c.loop-v.invariant.0 (sym c.is_code.ensures ∙ not-true _ c.if-not-is_code.true-raw))
 
 pub overflow_add-v : goal.overflow_add-v
 overflow_add-v c = omega (arith, c.well_formed, c.loop-v-test.true)
@@ -44,14 +41,12 @@ loop-v-smaller c = omega (arith, c.loop-v-test.true)
 
 pub loop-v-preserved : goal.loop-v-preserved
 loop-v-preserved c =
-    let a = c.before.before.before.before.before.before.before.before in
-    let l = c.loop-v in (
-      omega (arith, l.invariant.0),
-      judging-turn [] a.args.values.now 0 a.args.n l.v l.invariant.1 (omega (arith, c.loop-v-test.true))
-          (leaf-right a.args.values.now l.v l.invariant.0 (sym c.is_code.ensures ∙ not-false _ c.if-not-is_code.false-raw)),
+    (
+      omega (arith, c.loop-v.invariant.0),
+      judging-turn [] c.args.values.now 0 c.args.n c.loop-v.v c.loop-v.invariant.1 (omega (arith, c.loop-v-test.true))
+          (leaf-right c.args.values.now c.loop-v.v c.loop-v.invariant.0 (sym c.is_code.ensures ∙ not-false _ c.if-not-is_code.false-raw)),
     )
 
 pub returns : goal.returns
 returns c =
-    let a = c.before.before.before.before.before in
-    judging-end [] a.args.values.now 0 a.args.n c.loop-v.v c.loop-v.invariant.1 (omega (arith, c.loop-v-test.false))
+    judging-end [] c.args.values.now 0 c.args.n c.loop-v.v c.loop-v.invariant.1 (omega (arith, c.loop-v-test.false))

@@ -6,18 +6,15 @@ use Rattle.rewire.proofs.wrong_value.Goals as goal
 
 pub returns-in-Refused : goal.returns-in-Refused
 returns-in-Refused c =
-    let s = c.before.before.before.before.before.before in
-    leaf-refused s.args.gates.now s.args.a s.args.base s.args.values.now s.requires.ordered.binary _
+    leaf-refused c.args.gates.now c.args.a c.args.base c.args.values.now c.requires.ordered.binary _
     (sym c.in-Refused.is ∙ c.wrong_leaf-leaf.ensures)
 
 pub wrong_gate-requires : goal.wrong_gate-requires
 wrong_gate-requires c =
-    let s = c.before.before.before.before.before in
-    record { ordered = s.requires.ordered; shows = leaves-shown _ _ (sym c.in_default.is ∙ c.wrong_leaf-leaf.ensures); }
+    record { ordered = c.requires.ordered; shows = leaves-shown _ _ (sym c.in_default.is ∙ c.wrong_leaf-leaf.ensures); }
 
 pub returns : goal.returns
 returns c =
-    let s = c.before.before.before.before.before.before in
     c.wrong_gate.ensures
-    ∙ leaves-good s.args.gates.now s.args.a s.args.base s.args.values.now s.requires.ordered.binary
+    ∙ leaves-good c.args.gates.now c.args.a c.args.base c.args.values.now c.requires.ordered.binary
     (sym c.in_default.is ∙ c.wrong_leaf-leaf.ensures)

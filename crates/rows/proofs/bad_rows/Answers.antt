@@ -10,8 +10,7 @@ use Rattle.rows.proofs.bad_rows.Goals as goal
 
 pub overflow_mul-rows : goal.overflow_mul-rows
 overflow_mul-rows c =
-    let s = c.before.before in
-    record { fits = product_small s.args.rows s.args.n.L s.requires.rows_bound s.requires.i_le_most.1 }
+    record { fits = product_small c.args.rows c.args.n.L c.requires.rows_bound c.requires.i_le_most.1 }
 
 pub returns-then-nexts-rows : goal.returns-then-nexts-rows
 returns-then-nexts-rows c =
@@ -20,9 +19,7 @@ returns-then-nexts-rows c =
     (ne_eqb _ _ c.if-nexts-rows.true)
 
 pub whole_rows-requires : goal.whole_rows-requires
-whole_rows-requires c = let s =
-    c.before.before.before in
-    record { rows_bound = s.requires.0; each_le_most = s.requires.1.0; }
+whole_rows-requires c = record { rows_bound = c.requires.rows_bound; each_le_most = c.requires.i_le_most.0; }
 
 pub returns-then-not-whole_rows : goal.returns-then-not-whole_rows
 returns-then-not-whole_rows c =
@@ -32,8 +29,7 @@ returns-then-not-whole_rows c =
 
 pub overflow_mul-rows-2 : goal.overflow_mul-rows-2
 overflow_mul-rows-2 c =
-    let s = c.before.before.before.before.before.before in
-    record { fits = product_small s.args.rows s.args.n.O s.requires.rows_bound s.requires.i_le_most.2 }
+    record { fits = product_small c.args.rows c.args.n.O c.requires.rows_bound c.requires.i_le_most.2 }
 
 pub returns-then-outs-rows : goal.returns-then-outs-rows
 returns-then-outs-rows c =

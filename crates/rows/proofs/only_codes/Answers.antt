@@ -16,11 +16,8 @@ loop-i-init c = refl
 
 pub loop-i-preserved : goal.loop-i-preserved
 loop-i-preserved c =
-    let q = c.before.before in
-    let w = q.loop-i in
-    left-more q.args.bytes.now w.i w.wrong c.not_code-wrong.result q.loop-i-test.true w.invariant c.not_code-wrong.ensures
+    left-more c.args.bytes.now c.loop-i.i c.loop-i.wrong c.not_code-wrong.result c.loop-i-test.true c.loop-i.invariant c.not_code-wrong.ensures
 
 pub returns : goal.returns
 returns c =
-    let w = c.loop-i in
-    left-none c.args.bytes.now w.i w.wrong (omega (arith, c.loop-i-test.false)) w.invariant
+    left-none c.args.bytes.now c.loop-i.i c.loop-i.wrong (omega (arith, c.loop-i-test.false)) c.loop-i.invariant

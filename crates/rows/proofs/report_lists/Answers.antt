@@ -16,18 +16,15 @@ step_lanes-requires c = report-ready c.requires
 
 pub count_rows-requires : goal.count_rows-requires
 count_rows-requires c =
-    let d = c.before.before.before.before.before.before.before in
-    let p = d.before.before.before.before.before.before.before.before.before.requires in
-    record { shows = report-shows p _ d.scratch.given; rows_bound = p.most; n_in_bounds = omega (arith, p.report-long, c.before.before.before.report.given); }
+    let p = c.requires in
+    record { shows = report-shows p _ c.step_lanes.auto.t; rows_bound = p.most; n_in_bounds = omega (arith, p.report-long, c.clear.auto.table); }
 
 pub returns : goal.returns
 returns c =
     λ x r.
-    let e = c.before.before.before.before.before.before.before in
-    let d = e.before.before.before.before in
-    let a = d.before.before.before.before.before.before.before.before.args in
-    let t = d.step-lanes.new.1.1.1.1.1.0 in
-    let held = d.step-lanes.ensures (these x x.latches a.outputs.now a.gates.now a.resets.now) r in
-    put-cleared a.report.now e.clear.new.0 c.count_rows.new.report
-    (counts_of a.outputs.now a.n.O (2 ^ a.rows - 1) t) e.clear.ensures c.count_rows.ensures
+    let a = c.args in
+    let t = c.step_lanes.new.t in
+    let held = c.step_lanes.ensures (these x x.latches a.outputs.now a.gates.now a.resets.now) r in
+    put-cleared a.report.now c.clear.new.table c.count_rows.new.report
+    (counts_of a.outputs.now a.n.O (2 ^ a.rows - 1) t) c.clear.ensures c.count_rows.ensures
     ∙ ap (λ (w : List ℕ). filled a.report.now w) (report-is r a.ins.now a.rows held)

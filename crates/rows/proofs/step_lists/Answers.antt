@@ -7,31 +7,22 @@ use borrow.Author.Rules.{rules}
 use Rattle.rows.proofs.step_lists.Goals as goal
 
 pub step_lanes-requires : goal.step_lanes-requires
-step_lanes-requires c =
-    let s = c.before.before.before.before.before.before.before.before.before in
-    ready s.requires.room s.requires.lists
+step_lanes-requires c = ready c.requires.room c.requires.lists
 
 pub store_rows-requires : goal.store_rows-requires
 store_rows-requires c =
-    let d = c.before.before.before in
-    let s = d.before.before.before.before.before.before.before.before.before.before.before in
-    record { shows = shows-nexts s.requires.0 s.requires.1 _ d.scratch.given; rows_bound = (s.requires.1.most, nexts-room s.requires.0 s.requires.1); }
+    record { shows = shows-nexts c.requires.room c.requires.lists _ c.step_lanes.auto.t; rows_bound = (c.requires.lists.most, nexts-room c.requires.room c.requires.lists); }
 
 pub store_rows-requires-2 : goal.store_rows-requires-2
 store_rows-requires-2 c =
-    let d = c.before.before.before.before.before.before.before.before in
-    let s = d.before.before.before.before.before.before.before.before.before.before.before in
-    record { shows = shows-outputs s.requires.0 s.requires.1 _ d.scratch.given; rows_bound = (s.requires.1.most, outs-room s.requires.0 s.requires.1); }
+    record { shows = shows-outputs c.requires.room c.requires.lists _ c.step_lanes.auto.t; rows_bound = (c.requires.lists.most, outs-room c.requires.room c.requires.lists); }
 
 pub returns : goal.returns
 returns c =
     λ x r.
-    let n = c.before.before.before.before.before.before.before in
-    let d = n.before.before.before.before.before in
-    let s = d.before.before.before.before.before.before.before.before.before.before in
-    let a = s.args in
-    let held = d.step-lanes.ensures (these x a.latches.now a.outputs.now a.gates.now a.resets.now) r in
+    let a = c.args in
+    let held = c.step_lanes.ensures (these x a.latches.now a.outputs.now a.gates.now a.resets.now) r in
     record {
-      next = n.store-rows.ensures ∙ nexts-are r a.ins.now a.rows held;
+      next = c.store_rows.ensures ∙ nexts-are r a.ins.now a.rows held;
       outputs = c.store_rows-2.ensures ∙ outputs-are r a.ins.now a.rows held;
     }

@@ -6,8 +6,7 @@ use Rattle.rows.proofs.whole_rows.Goals as goal
 
 pub overflow_mul-rows : goal.overflow_mul-rows
 overflow_mul-rows c =
-    let s = c.before in
-    record { fits = product_small s.args.rows s.args.each s.requires.rows_bound s.requires.each_le_most }
+    record { fits = product_small c.args.rows c.args.each c.requires.rows_bound c.requires.each_le_most }
 
 pub returns-then-ins-rows : goal.returns-then-ins-rows
 returns-then-ins-rows c =

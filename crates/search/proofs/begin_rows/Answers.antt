@@ -5,21 +5,7 @@ use lib.ListN.{length, set, length-set}
 use Rattle.search.specs.Starting.{Started}
 use Rattle.search.proofs.Beginning.{start-marked, started_none, started-more, total-few}
 use borrow.Author.Rules.{rules}
-use Rattle.search.proofs.begin_rows.Goals.{After-slice_known-in-loop-k-2-1, Start}
 use Rattle.search.proofs.begin_rows.Goals as goal
-
-few : (x : Start) → x.args.total ≤ 1048576
-few x = total-few x.args.n.L x.args.total x.requires.few x.requires.numbers.few-latches
-
--- there is room for the row
-room : (c : After-slice_known-in-loop-k-2-1) → 3 * c.loop-k.k + 3 ≤ length c.loop-k.met
-room c = omega (
-  arith,
-  c.loop-k-test.true,
-  c.requires.few,
-  c.requires.met-long,
-  c.loop-k.invariant.2,
-)
 
 pub loop-k-init : goal.loop-k-init
 loop-k-init c =
@@ -32,7 +18,10 @@ loop-k-init c =
     )
 
 pub overflow_cast-k : goal.overflow_cast-k
-overflow_cast-k c = omega (arith, few c.before.before.before.before.before.before, c.loop-k-test.true)
+overflow_cast-k c =
+    let few : c.args.total ≤ 1048576 =
+    total-few c.args.n.L c.args.total c.requires.few c.requires.numbers.few-latches in
+    omega (arith, few, c.loop-k-test.true)
 
 pub start_number-s-requires : goal.start_number-s-requires
 start_number-s-requires c =
@@ -46,76 +35,115 @@ start_number-s-requires c =
 
 pub raise-requires : goal.raise-requires
 raise-requires c =
-    let x = c.before.before.before.before.before.before.before.before.before.before.before in
-    let w = c.loop-k in
     omega (
       arith,
-      start-marked x.args.split x.args.n x.args.resets.now x.requires.numbers.resets-long w.k _ w.marks c.start_number-s.ensures
-          (omega (arith, x.requires.marks-long, w.invariant.3)),
+      start-marked c.args.split c.args.n c.args.resets.now c.requires.numbers.resets-long c.loop-k.k _ c.loop-k.marks c.start_number-s.ensures
+          (omega (arith, c.requires.marks-long, c.loop-k.invariant.3)),
     )
 
 pub overflow_mul-row : goal.overflow_mul-row
 overflow_mul-row c =
+    let few : c.args.total ≤ 1048576 =
+    total-few c.args.n.L c.args.total c.requires.few c.requires.numbers.few-latches in
     omega (
   arith,
-  few c.before.before.before.before.before.before.before.before.before.before.before.before.before.before,
+  few,
   c.loop-k-test.true,
 )
 
 pub offset_bounds-met-row : goal.offset_bounds-met-row
 offset_bounds-met-row c =
+    let few : c.args.total ≤ 1048576 =
+    total-few c.args.n.L c.args.total c.requires.few c.requires.numbers.few-latches in
     omega (
   arith,
-  few c.before.before.before.before.before.before.before.before.before.before.before.before.before.before,
+  few,
   c.loop-k-test.true,
 )
 
 pub bounds-met-row : goal.bounds-met-row
-bounds-met-row c = omega (arith, room c)
+bounds-met-row c =
+    let room : 3 * c.loop-k.k + 3 ≤ length c.loop-k.met =
+    omega (
+  arith,
+  c.loop-k-test.true,
+  c.requires.few,
+  c.requires.met-long,
+  c.loop-k.invariant.2,
+) in
+    omega (arith, room)
 
 pub overflow_add-met : goal.overflow_add-met
 overflow_add-met c =
+    let few : c.args.total ≤ 1048576 =
+    total-few c.args.n.L c.args.total c.requires.few c.requires.numbers.few-latches in
     omega (
   arith,
-  few c.before.before.before.before.before.before.before.before.before.before.before.before.before.before,
+  few,
   c.loop-k-test.true,
 )
 
 pub offset_bounds-met-row-in-loop-k : goal.offset_bounds-met-row-in-loop-k
 offset_bounds-met-row-in-loop-k c =
+    let few : c.args.total ≤ 1048576 =
+    total-few c.args.n.L c.args.total c.requires.few c.requires.numbers.few-latches in
     omega (
   arith,
-  few c.before.before.before.before.before.before.before.before.before.before.before.before.before.before,
+  few,
   c.loop-k-test.true,
 )
 
 pub bounds-met-row-in-loop-k : goal.bounds-met-row-in-loop-k
-bounds-met-row-in-loop-k c = simp length-set (omega (arith, room c))
+bounds-met-row-in-loop-k c =
+    let room : 3 * c.loop-k.k + 3 ≤ length c.loop-k.met =
+    omega (
+  arith,
+  c.loop-k-test.true,
+  c.requires.few,
+  c.requires.met-long,
+  c.loop-k.invariant.2,
+) in
+    simp length-set (omega (arith, room))
 
 pub overflow_add-met-in-loop-k : goal.overflow_add-met-in-loop-k
 overflow_add-met-in-loop-k c =
+    let few : c.args.total ≤ 1048576 =
+    total-few c.args.n.L c.args.total c.requires.few c.requires.numbers.few-latches in
     omega (
   arith,
-  few c.before.before.before.before.before.before.before.before.before.before.before.before.before.before,
+  few,
   c.loop-k-test.true,
 )
 
 pub offset_bounds-met-row-in-loop-k-2 : goal.offset_bounds-met-row-in-loop-k-2
 offset_bounds-met-row-in-loop-k-2 c =
+    let few : c.args.total ≤ 1048576 =
+    total-few c.args.n.L c.args.total c.requires.few c.requires.numbers.few-latches in
     omega (
   arith,
-  few c.before.before.before.before.before.before.before.before.before.before.before.before.before.before,
+  few,
   c.loop-k-test.true,
 )
 
 pub bounds-met-row-in-loop-k-2 : goal.bounds-met-row-in-loop-k-2
-bounds-met-row-in-loop-k-2 c = simp length-set (omega (arith, room c))
+bounds-met-row-in-loop-k-2 c =
+    let room : 3 * c.loop-k.k + 3 ≤ length c.loop-k.met =
+    omega (
+  arith,
+  c.loop-k-test.true,
+  c.requires.few,
+  c.requires.met-long,
+  c.loop-k.invariant.2,
+) in
+    simp length-set (omega (arith, room))
 
 pub overflow_add-k : goal.overflow_add-k
 overflow_add-k c =
+    let few : c.args.total ≤ 1048576 =
+    total-few c.args.n.L c.args.total c.requires.few c.requires.numbers.few-latches in
     omega (
   arith,
-  few c.before.before.before.before.before.before.before.before.before.before.before.before.before.before,
+  few,
   c.loop-k-test.true,
 )
 
@@ -124,16 +152,23 @@ loop-k-smaller c = omega (arith, c.loop-k-test.true)
 
 pub loop-k-preserved : goal.loop-k-preserved
 loop-k-preserved c =
-    let x = c.before.before.before.before.before.before.before.before.before.before.before.before.before.before in
-    let w = c.loop-k in (
+    let room : 3 * c.loop-k.k + 3 ≤ length c.loop-k.met =
+    omega (
+  arith,
+  c.loop-k-test.true,
+  c.requires.few,
+  c.requires.met-long,
+  c.loop-k.invariant.2,
+) in
+    (
       omega (arith, c.loop-k-test.true),
-      c.start_number-s.auto.scratch ∙ w.invariant.1,
-      simp length-set w.invariant.2,
-      c.raise.auto.t ∙ w.invariant.3,
-      started-more x.args.split x.args.n x.args.resets.now w.k _ w.met w.marks w.invariant.4 c.start_number-s.ensures (room c) _
+      c.start_number-s.auto.scratch ∙ c.loop-k.invariant.1,
+      simp length-set c.loop-k.invariant.2,
+      c.raise.auto.t ∙ c.loop-k.invariant.3,
+      started-more c.args.split c.args.n c.args.resets.now c.loop-k.k _ c.loop-k.met c.loop-k.marks c.loop-k.invariant.4 c.start_number-s.ensures (room) _
           c.raise.ensures
-          (start-marked x.args.split x.args.n x.args.resets.now x.requires.numbers.resets-long w.k _ w.marks c.start_number-s.ensures
-          (omega (arith, x.requires.marks-long, w.invariant.3))),
+          (start-marked c.args.split c.args.n c.args.resets.now c.requires.numbers.resets-long c.loop-k.k _ c.loop-k.marks c.start_number-s.ensures
+          (omega (arith, c.requires.marks-long, c.loop-k.invariant.3))),
     )
 
 pub shape_of-scratch : goal.shape_of-scratch
@@ -147,6 +182,5 @@ shape_of-marks c = c.loop-k.invariant.3
 
 pub returns : goal.returns
 returns c =
-    let w = c.loop-k in
-    let e : w.k ≡ c.args.total = omega (arith, w.invariant.0, c.loop-k-test.false) in
-    subst (λ (k : ℕ). Started c.args.split c.args.n c.args.resets.now k w.met w.marks) e w.invariant.4
+    let e : c.loop-k.k ≡ c.args.total = omega (arith, c.loop-k.invariant.0, c.loop-k-test.false) in
+    subst (λ (k : ℕ). Started c.args.split c.args.n c.args.resets.now k c.loop-k.met c.loop-k.marks) e c.loop-k.invariant.4

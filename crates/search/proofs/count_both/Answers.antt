@@ -9,14 +9,12 @@ use Rattle.search.proofs.count_both.Goals as goal
 
 pub returns-then-before-after : goal.returns-then-before-after
 returns-then-before-after c =
-    let x = c.before.before.before.before.before.before.before in
-    let a = x.args in
-    more-second a.split a.n.L _ a.resets.now x.requires c.lesser-first.ensures _ (part-rest _ a.resets.now) _ _
+    let a = c.args in
+    more-second a.split a.n.L _ a.resets.now c.requires c.lesser-first.ensures _ (part-rest _ a.resets.now) _ _
     c.count_resets-before.ensures c.count_resets-after.ensures c.if-before-after.true
 
 pub returns : goal.returns
 returns c =
-    let x = c.before.before.before.before.before.before.before in
-    let a = x.args in
-    more-first a.split a.n.L _ a.resets.now x.requires c.lesser-first.ensures _ (part-rest _ a.resets.now) _ _
+    let a = c.args in
+    more-first a.split a.n.L _ a.resets.now c.requires c.lesser-first.ensures _ (part-rest _ a.resets.now) _ _
     c.count_resets-before.ensures c.count_resets-after.ensures (omega (arith, c.if-before-after.false))

@@ -9,15 +9,7 @@ use Rattle.plan.specs.Search.{begin, system_of}
 use Rattle.search.specs.Exploring.{Searched, Exploring}
 use Rattle.search.proofs.Looping.{some-moves, move-small, exploring-first, place_is, move-is, reached-few, reached-most, never_here, out-here, found_here, left_here}
 use borrow.Author.Rules.{rules}
-use Rattle.search.proofs.explore.Goals.{In-loop-tries, Start}
 use Rattle.search.proofs.explore.Goals as goal
-
-abbrev start_in : In-loop-tries → Start
-start_in q = q.before.before.before.before.before.before.before.before.before.before.before
-
--- what is left to search, by the tables that were promised
-left : (q : In-loop-tries) → let x = start_in q in let a = x.args in let w = q.loop-tries in Exploring x.pre.split a.n (seven x.pre.inputs a.latches.now a.outputs.now a.gates.now x.pre.resets a.bads.now a.constraints.now) a.allowance w.tries w.reached w.met w.marks
-left q = let p = (start_in q).requires in q.loop-tries.invariant.4 p.split p.inputs p.resets p.runs p.begun p.count
 
 pub power-moves-requires : goal.power-moves-requires
 power-moves-requires c = c.requires.few-inputs
@@ -39,8 +31,7 @@ shape_of-marks-then-reached-place c = c.loop-tries.invariant.3
 pub returns-then-reached-place : goal.returns-then-reached-place
 returns-then-reached-place c =
     λ split inputs resets r sd e.
-    let w = c.loop-tries in
-    never_here r _ w.tries w.reached _ w.met w.marks (w.invariant.4 split inputs resets r sd e) c.power-moves.ensures
+    never_here r _ c.loop-tries.tries c.loop-tries.reached _ c.loop-tries.met c.loop-tries.marks (c.loop-tries.invariant.4 split inputs resets r sd e) c.power-moves.ensures
     c.if-reached-place.true
 
 pub overflow_cast-m : goal.overflow_cast-m
@@ -52,32 +43,31 @@ overflow_cast-m c =
 
 pub take_turn-requires : goal.take_turn-requires
 take_turn-requires c =
-    let q = c.before.before.before.before in
-    let x = start_in q in
-    let a = x.args in
-    let p = x.pre in
-    let w = q.loop-tries in
-    let ex = left q in
-    let em = q.power-moves.ensures in
+    let left : let a = c.args in Exploring c.requires.split a.n (seven c.requires.inputs a.latches.now a.outputs.now a.gates.now c.requires.resets a.bads.now a.constraints.now) a.allowance c.loop-tries.tries c.loop-tries.reached c.loop-tries.met c.loop-tries.marks =
+    let p = c.requires in c.loop-tries.invariant.4 p.split p.inputs p.resets p.runs p.begun p.count in
+    let a = c.args in
+    let p = c.requires in
+    let ex = left in
+    let em = c.power-moves.ensures in
     record {
       split = p.split;
       inputs = p.inputs;
       resets = p.resets;
-      tries = w.tries;
+      tries = c.loop-tries.tries;
       ways = ex.ways;
       runs = p.runs;
-      scratch-long = omega (arith, p.scratch-long, w.invariant.1);
+      scratch-long = omega (arith, p.scratch-long, c.loop-tries.invariant.1);
       few-latches = p.few-latches;
       few-inputs = p.few-inputs;
-      met-long = omega (arith, p.met-long, w.invariant.2);
-      marks-long = omega (arith, p.marks-long, w.invariant.3);
+      met-long = omega (arith, p.met-long, c.loop-tries.invariant.2);
+      marks-long = omega (arith, p.marks-long, c.loop-tries.invariant.3);
       searched = ex.searched;
       count = ex.count;
-      here = place_is p.runs _ w.tries w.reached _ w.met w.marks ex em;
-      move = move-is p.runs _ w.tries w.reached _ w.met w.marks ex em;
+      here = place_is p.runs _ c.loop-tries.tries c.loop-tries.reached _ c.loop-tries.met c.loop-tries.marks ex em;
+      move = move-is p.runs _ c.loop-tries.tries c.loop-tries.reached _ c.loop-tries.met c.loop-tries.marks ex em;
       there = omega (arith, c.if-reached-place.false);
-      few = reached-most p.runs _ w.tries w.reached _ w.met w.marks ex em p.few-latches;
-      rows_long = omega (arith, p.met-long, w.invariant.2, reached-few p.runs _ w.tries w.reached _ w.met w.marks ex em);
+      few = reached-most p.runs _ c.loop-tries.tries c.loop-tries.reached _ c.loop-tries.met c.loop-tries.marks ex em p.few-latches;
+      rows_long = omega (arith, p.met-long, c.loop-tries.invariant.2, reached-few p.runs _ c.loop-tries.tries c.loop-tries.reached _ c.loop-tries.met c.loop-tries.marks ex em);
     }
 
 pub overflow_add-result : goal.overflow_add-result
@@ -100,13 +90,12 @@ shape_of-marks-in_default c = c.marks-1.given ∙ c.loop-tries.invariant.3
 pub returns-in_default : goal.returns-in_default
 returns-in_default c =
     λ split inputs resets r sd e.
-    let w = c.loop-tries in
-    let ex = w.invariant.4 split inputs resets r sd e in
+    let ex = c.loop-tries.invariant.4 split inputs resets r sd e in
     let em = c.power-moves.ensures in
-    found_here r _ w.tries w.reached _ w.met w.marks ex em c.loop-tries-test.true _ _ _
-    (c.take_turn.ensures split inputs resets w.tries ex.ways r ex.searched
+    found_here r _ c.loop-tries.tries c.loop-tries.reached _ c.loop-tries.met c.loop-tries.marks ex em c.loop-tries-test.true _ _ _
+    (c.take_turn.ensures split inputs resets c.loop-tries.tries ex.ways r ex.searched
     ex.count
-    (place_is r _ w.tries w.reached _ w.met w.marks ex em) (move-is r _ w.tries w.reached _ w.met w.marks ex em))
+    (place_is r _ c.loop-tries.tries c.loop-tries.reached _ c.loop-tries.met c.loop-tries.marks ex em) (move-is r _ c.loop-tries.tries c.loop-tries.reached _ c.loop-tries.met c.loop-tries.marks ex em))
     c.in_default.is (omega (arith, c.if-reached-place.false))
 
 pub overflow_add-tries : goal.overflow_add-tries
@@ -122,18 +111,18 @@ loop-tries-smaller c = omega (arith, c.loop-tries-test.true)
 
 pub loop-tries-preserved : goal.loop-tries-preserved
 loop-tries-preserved c =
-    let w = c.loop-tries in (
+    (
       omega (arith, c.loop-tries-test.true),
-      c.take_turn.auto.scratch ∙ w.invariant.1,
-      c.met-1.given ∙ w.invariant.2,
-      c.marks-1.given ∙ w.invariant.3,
+      c.take_turn.auto.scratch ∙ c.loop-tries.invariant.1,
+      c.met-1.given ∙ c.loop-tries.invariant.2,
+      c.marks-1.given ∙ c.loop-tries.invariant.3,
       λ split inputs resets r sd e.
-          let ex = w.invariant.4 split inputs resets r sd e in
+          let ex = c.loop-tries.invariant.4 split inputs resets r sd e in
           let em = c.power-moves.ensures in
-          left_here r _ w.tries w.reached _ w.met w.marks ex em c.loop-tries-test.true _ _ _
-          (c.take_turn.ensures split inputs resets w.tries ex.ways r
+          left_here r _ c.loop-tries.tries c.loop-tries.reached _ c.loop-tries.met c.loop-tries.marks ex em c.loop-tries-test.true _ _ _
+          (c.take_turn.ensures split inputs resets c.loop-tries.tries ex.ways r
           ex.searched ex.count
-          (place_is r _ w.tries w.reached _ w.met w.marks ex em) (move-is r _ w.tries w.reached _ w.met w.marks ex em))
+          (place_is r _ c.loop-tries.tries c.loop-tries.reached _ c.loop-tries.met c.loop-tries.marks ex em) (move-is r _ c.loop-tries.tries c.loop-tries.reached _ c.loop-tries.met c.loop-tries.marks ex em))
           _ c.in-Left.is,
     )
 
@@ -149,8 +138,7 @@ shape_of-marks-then-reached-tries c = c.loop-tries.invariant.3
 pub returns-then-reached-tries : goal.returns-then-reached-tries
 returns-then-reached-tries c =
     λ split inputs resets r sd e.
-    let w = c.loop-tries in
-    never_here r _ w.tries w.reached _ w.met w.marks (w.invariant.4 split inputs resets r sd e) c.power-moves.ensures
+    never_here r _ c.loop-tries.tries c.loop-tries.reached _ c.loop-tries.met c.loop-tries.marks (c.loop-tries.invariant.4 split inputs resets r sd e) c.power-moves.ensures
     c.if-reached-tries.true
 
 pub shape_of-scratch : goal.shape_of-scratch
@@ -165,6 +153,5 @@ shape_of-marks c = c.loop-tries.invariant.3
 pub returns : goal.returns
 returns c =
     λ split inputs resets r sd e.
-    let w = c.loop-tries in
-    out-here r _ w.tries w.reached _ w.met w.marks (w.invariant.4 split inputs resets r sd e) c.power-moves.ensures
-    (omega (arith, c.if-reached-tries.false)) (omega (arith, w.invariant.0, c.loop-tries-test.false))
+    out-here r _ c.loop-tries.tries c.loop-tries.reached _ c.loop-tries.met c.loop-tries.marks (c.loop-tries.invariant.4 split inputs resets r sd e) c.power-moves.ensures
+    (omega (arith, c.if-reached-tries.false)) (omega (arith, c.loop-tries.invariant.0, c.loop-tries-test.false))

@@ -9,8 +9,7 @@ use Rattle.search.proofs.find.Goals as goal
 
 pub watch_states-reach-requires : goal.watch_states-reach-requires
 watch_states-reach-requires c =
-    let x = c.before.before.before.before.before.before.before.before.before.before.before.before.before.before.before.before.before in
-    let p = x.requires in
+    let p = c.requires in
     record {
       finds = record {
         inputs = p.inputs;
@@ -22,48 +21,43 @@ watch_states-reach-requires c =
         met-long = p.met-long;
         marks-long = omega (arith, p.marks-long, c.clear.auto.table);
       };
-      blank = cleared-blank _ (length x.args.marks.now) c.clear.ensures;
+      blank = cleared-blank _ (length c.args.marks.now) c.clear.ensures;
     }
 
 pub tell-requires : goal.tell-requires
 tell-requires c =
-    let x = c.before.before.before.before.before.before.before.before.before.before.before.before.before.before.before.before.before.before.before.before.before.before.before.before.before.before.before.before.before in
-    let p = x.pre in
-    let w = c.before.before.before.before.before.before.before.before.before.before.before.watch-states in (
+    let p = c.requires in
+    (
       p.few-latches,
       p.few-inputs,
-      shown-walks (system_of x.args.split (watched x.args.watch (circuit_of x.args.n (seven p.inputs x.args.latches.now x.args.outputs.now x.args.gates.now x.args.resets.now x.args.bads.now x.args.constraints.now)))) x.args.n.L x.args.allowance _ _ _ w.new.1.1.1.1.1.1.1.1.1.1.0
-          w.result c.before.before.before.reach2.given.1 p.few-latches (omega (
+      shown-walks (system_of c.args.split (watched c.args.watch (circuit_of c.args.n (seven p.inputs c.args.latches.now c.args.outputs.now c.args.gates.now c.args.resets.now c.args.bads.now c.args.constraints.now)))) c.args.n.L c.args.allowance _ _ _ c.watch_states-reach.new.met
+          c.watch_states-reach.result c.in-Shown.is p.few-latches (omega (
             arith,
             p.met-long,
-            c.before.before.before.before.before.before.before.before.met.given,
-          )) (w.ensures p.inputs p.runs),
+            c.met-1.given,
+          )) (c.watch_states-reach.ensures p.inputs p.runs),
     )
 
 pub returns-in-Never : goal.returns-in-Never
 returns-in-Never c =
     λ inputs r.
     let a = c.args in
-    let w = c.watch_states-reach in
     told-never a.split (watched a.watch (circuit_of a.n (seven inputs a.latches.now a.outputs.now a.gates.now a.resets.now a.bads.now
-    a.constraints.now))) (2 ^ a.n.L) a.allowance w.new.1.1.1.1.1.1.1.1.1.1.0 a.out.now w.result (w.ensures inputs r)
+    a.constraints.now))) (2 ^ a.n.L) a.allowance c.watch_states-reach.new.met a.out.now c.watch_states-reach.result (c.watch_states-reach.ensures inputs r)
     _ _ c.in-Never.is
 
 pub returns-in-Shown : goal.returns-in-Shown
 returns-in-Shown c =
     λ inputs r.
-    let x = c.before.before.before.before.before.before.before.before.before.before.before.before.before.before.before.before.before.before.before.before.before.before.before.before.before.before.before.before.before.before.before.before in
-    let a = x.args in
-    let w = c.before.before.before.before.before.before.before.before.before.before.before.before.before.before.watch-states in
-    told-shown r a.split a.watch a.allowance w.new.1.1.1.1.1.1.1.1.1.1.0 a.out.now w.result (w.ensures inputs r) _ _
-    _ c.before.before.before.before.before.before.reach2.given.1
-    x.pre.few-latches x.pre.few-inputs _ _ c.tell.ensures
+    let a = c.args in
+    told-shown r a.split a.watch a.allowance c.watch_states-reach.new.met a.out.now c.watch_states-reach.result (c.watch_states-reach.ensures inputs r) _ _
+    _ c.in-Shown.is
+    c.requires.few-latches c.requires.few-inputs _ _ c.tell.ensures
 
 pub returns-in-Undecided : goal.returns-in-Undecided
 returns-in-Undecided c =
     λ inputs r.
     let a = c.args in
-    let w = c.watch_states-reach in
     told-undecided a.split (watched a.watch (circuit_of a.n (seven inputs a.latches.now a.outputs.now a.gates.now a.resets.now a.bads.now
-    a.constraints.now))) (2 ^ a.n.L) a.allowance w.new.1.1.1.1.1.1.1.1.1.1.0 a.out.now w.result (w.ensures inputs r)
+    a.constraints.now))) (2 ^ a.n.L) a.allowance c.watch_states-reach.new.met a.out.now c.watch_states-reach.result (c.watch_states-reach.ensures inputs r)
     _ c.in-Undecided.is

@@ -8,8 +8,8 @@ pub returns-then-n-gt20 : goal.returns-then-n-gt20
 returns-then-n-gt20 c = let a = c.args in fit-latches a.n a.watch a.met a.marks c.if-n-gt20.true
 
 pub returns-then-n-gt20-2 : goal.returns-then-n-gt20-2
-returns-then-n-gt20-2 c = let a =
-    c.args in fit-inputs a.n a.watch a.met a.marks (omega (
+returns-then-n-gt20-2 c =
+    let a = c.args in fit-inputs a.n a.watch a.met a.marks (omega (
   arith,
   c.if-n-gt20.false,
 )) c.if-n-gt20-2.true
@@ -23,20 +23,20 @@ overflow_mul-states c =
 )
 
 pub returns-then-met-states : goal.returns-then-met-states
-returns-then-met-states c = let a =
-    c.args in fit-ten a.n a.watch a.met a.marks (omega (
+returns-then-met-states c =
+    let a = c.args in fit-ten a.n a.watch a.met a.marks (omega (
   arith,
   c.if-n-gt20.false,
 )) (omega (arith, c.if-n-gt20-2.false)) _ c.power-states.ensures c.if-met-states.true
 
 pub returns-then-marks-states : goal.returns-then-marks-states
-returns-then-marks-states c = let a =
-    c.args in fit-eleven a.n a.watch a.met a.marks (omega
+returns-then-marks-states c =
+    let a = c.args in fit-eleven a.n a.watch a.met a.marks (omega
     (arith, c.if-n-gt20.false)) (omega (arith, c.if-n-gt20-2.false)) _ c.power-states.ensures (omega (arith, c.if-met-states.false)) c.if-marks-states.true
 
 pub returns-then-n-watch : goal.returns-then-n-watch
-returns-then-n-watch c = let a =
-    c.args in fit-watch a.n a.watch a.met a.marks (omega (arith, c.if-n-gt20.false)) (omega (
+returns-then-n-watch c =
+    let a = c.args in fit-watch a.n a.watch a.met a.marks (omega (arith, c.if-n-gt20.false)) (omega (
   arith,
   c.if-n-gt20-2.false,
 )) _ c.power-states.ensures (omega (arith, c.if-met-states.false)) (omega (
@@ -45,8 +45,8 @@ returns-then-n-watch c = let a =
 )) c.if-n-watch.true
 
 pub returns : goal.returns
-returns c = let a =
-    c.args in fit-good a.n a.watch a.met a.marks (omega (arith, c.if-n-gt20.false)) (omega (
+returns c =
+    let a = c.args in fit-good a.n a.watch a.met a.marks (omega (arith, c.if-n-gt20.false)) (omega (
   arith,
   c.if-n-gt20-2.false,
 )) _ c.power-states.ensures (omega (arith, c.if-met-states.false)) (omega (

@@ -5,13 +5,12 @@ use Rattle.plan.specs.Circuit.{seven}
 use Rattle.plan.specs.Search.{SearchEntry}
 use Rattle.search.proofs.Answering.{searched-clear}
 use borrow.Author.Rules.{rules}
-use Rattle.search.proofs.search.Goals.{Start}
 use Rattle.search.proofs.search.Goals as goal
 
--- what is handed over
-abbrev entry : Start → SearchEntry
-entry s =
-    let a = s.args in
+pub returns : goal.returns
+returns c =
+    let entry : SearchEntry =
+    let a = c.args in
     record {
       circuit = record {
         counts = a.n;
@@ -24,9 +23,6 @@ entry s =
       met = a.met.now;
       marks = a.marks.now;
       out = a.out.now;
-    }
-
-pub returns : goal.returns
-returns c =
-    searched-clear (entry c.before.before.before.before.before.before.before.before.before.before.before.before.before.before.before.before.before.before.before.before.before.before.before.before.before.before.before.before.before.before.before.before.before.before.before.before) _ _ _ _ _ c.ask-answer.ensures (c.clear.ensures ∙ ap (λ (k : ℕ). replicate k 0) c.ask-answer.auto.scratch)
+    } in
+    searched-clear (entry) _ _ _ _ _ c.ask-answer.ensures (c.clear.ensures ∙ ap (λ (k : ℕ). replicate k 0) c.ask-answer.auto.scratch)
     (c.clear-2.ensures ∙ ap (λ (k : ℕ). replicate k 0) c.met-1.given) (c.clear-3.ensures ∙ ap (λ (k : ℕ). replicate k 0) c.marks-1.given)

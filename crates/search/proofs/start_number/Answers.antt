@@ -11,8 +11,7 @@ use Rattle.search.proofs.start_number.Goals as goal
 
 pub returns : goal.returns
 returns c =
-    let x = c.before.before.before.before.before.before.before.before.before in
-    let a = x.args in
+    let a = c.args in
     c.number_in.ensures
     ∙ number-filled a.scratch.now _ (1 + a.n.I) a.n.L (map value_of (fill_both a.split a.k (codes_of a.resets.now a.n.L)))
-    (filled-length a.split a.n a.resets.now x.requires.resets-long a.k) (omega (arith, x.requires.room)) c.before.before.before.before.before.load-start.ensures
+    (filled-length a.split a.n a.resets.now c.requires.resets-long a.k) (omega (arith, c.requires.room)) c.load_start.ensures

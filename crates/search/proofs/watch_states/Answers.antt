@@ -12,10 +12,9 @@ before (suc w) h = omega arith
 
 pub search_states-requires : goal.search_states-requires
 search_states-requires c =
-    let x = c.before.before.before.before.before.before.before.before.before.before.before.before.before in
-    let a = x.args in
+    let a = c.args in
     all-searches a.n a.latches.now a.outputs.now a.gates.now a.resets.now a.bads.now a.constraints.now a.watch
-    a.scratch.now a.met.now a.marks.now x.requires
+    a.scratch.now a.met.now a.marks.now c.requires
 
 pub returns-then-watch-eq0 : goal.returns-then-watch-eq0
 returns-then-watch-eq0 c =
@@ -25,16 +24,14 @@ returns-then-watch-eq0 c =
 
 pub search_states-requires-2 : goal.search_states-requires-2
 search_states-requires-2 c =
-    let x = c.before.before.before.before.before.before.before.before.before.before.before.before.before.before in
-    let a = x.args in
+    let a = c.args in
     one-searches a.n a.latches.now a.outputs.now a.gates.now a.resets.now a.bads.now a.constraints.now a.watch
-    a.scratch.now a.met.now a.marks.now x.requires (a.watch - 1) (before a.watch c.if-watch-eq0.false) _
+    a.scratch.now a.met.now a.marks.now c.requires (a.watch - 1) (before a.watch c.if-watch-eq0.false) _
     (part-rest (a.watch - 1) a.outputs.now)
 
 pub returns : goal.returns
 returns c =
-    let x = c.before.before.before.before.before.before.before.before.before.before.before.before.before.before.before.before.before.before.before.before.before in
-    let a = x.args in
+    let a = c.args in
     one-watched a.n a.latches.now a.outputs.now a.gates.now a.resets.now a.bads.now a.constraints.now a.watch
-    a.split a.allowance c.search_states-2.result c.search_states-2.new.met (a.watch - 1) (before a.watch c.if-watch-eq0.false) x.pre.finds.there _ (part-rest (a.watch - 1) a.outputs.now)
+    a.split a.allowance c.search_states-2.result c.search_states-2.new.met (a.watch - 1) (before a.watch c.if-watch-eq0.false) c.requires.finds.there _ (part-rest (a.watch - 1) a.outputs.now)
     c.search_states-2.ensures

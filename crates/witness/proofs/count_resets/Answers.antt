@@ -19,21 +19,17 @@ overflow_add-xs c = omega (arith, c.x_of-xs.ensures, x-small c.code_of_reset.res
 
 pub loop-i-preserved : goal.loop-i-preserved
 loop-i-preserved c =
-    let w = c.before.before.before.before in
-    let s = w.before.before in
-    let resets = s.args.resets.now in
-    let n = s.args.n in
+    let resets = c.args.resets.now in
+    let n = c.args.n in
     let more = c.loop-i-test.true in
-    let here : c.x_of-xs.result ≡ x_of (get_or (codes_of resets n) w.loop-i.i 0) =
-    c.x_of-xs.ensures ∙ ap x_of (c.code_of_reset.ensures ∙ code_at resets n w.loop-i.i s.requires more) in (
+    let here : c.x_of-xs.result ≡ x_of (get_or (codes_of resets n) c.loop-i.i 0) =
+    c.x_of-xs.ensures ∙ ap x_of (c.code_of_reset.ensures ∙ code_at resets n c.loop-i.i c.requires more) in (
       omega arith,
-      omega (arith, here, w.loop-i.invariant.1, count-more (codes_of resets n) w.loop-i.i (omega (arith, codes-length resets n s.requires, more))),
-      omega (arith, w.loop-i.invariant.2, here, x-small (get_or (codes_of resets n) w.loop-i.i 0)),
+      omega (arith, here, c.loop-i.invariant.1, count-more (codes_of resets n) c.loop-i.i (omega (arith, codes-length resets n c.requires, more))),
+      omega (arith, c.loop-i.invariant.2, here, x-small (get_or (codes_of resets n) c.loop-i.i 0)),
     )
 
 pub returns : goal.returns
 returns c =
-    let w = c.before in
-    let s = w.before.before in
-    let codes = codes_of s.args.resets.now s.args.n in
-    w.loop-i.invariant.1 ∙ count-all codes w.loop-i.i (omega (arith, codes-length s.args.resets.now s.args.n s.requires, c.loop-i-test.false))
+    let codes = codes_of c.args.resets.now c.args.n in
+    c.loop-i.invariant.1 ∙ count-all codes c.loop-i.i (omega (arith, codes-length c.args.resets.now c.args.n c.requires, c.loop-i-test.false))

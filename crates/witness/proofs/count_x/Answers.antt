@@ -13,20 +13,15 @@ pub loop-i-init : goal.loop-i-init
 loop-i-init c = (omega arith, refl, omega arith)
 
 pub overflow_add-n : goal.overflow_add-n
-overflow_add-n c =
-    let w = c.before.before.before in
-    omega (arith, c.x_of-n.ensures, x-small (get_or w.args.bytes.now w.loop-i.i 0))
+overflow_add-n c = omega (arith, c.x_of-n.ensures, x-small (get_or c.args.bytes.now c.loop-i.i 0))
 
 pub loop-i-preserved : goal.loop-i-preserved
 loop-i-preserved c =
-    let w = c.before.before.before in
-    let bytes = w.args.bytes.now in (
+    let bytes = c.args.bytes.now in (
       omega arith,
-      omega (arith, c.x_of-n.ensures, count-more bytes w.loop-i.i c.loop-i-test.true),
-      omega (arith, c.x_of-n.ensures, x-small (get_or bytes w.loop-i.i 0)),
+      omega (arith, c.x_of-n.ensures, count-more bytes c.loop-i.i c.loop-i-test.true),
+      omega (arith, c.x_of-n.ensures, x-small (get_or bytes c.loop-i.i 0)),
     )
 
 pub returns : goal.returns
-returns c =
-    let w = c.before in
-    w.loop-i.invariant.1 ∙ count-all w.args.bytes.now w.loop-i.i c.loop-i-test.false
+returns c = c.loop-i.invariant.1 ∙ count-all c.args.bytes.now c.loop-i.i c.loop-i-test.false

@@ -11,15 +11,7 @@ use Rattle.plan.specs.Fillings.{fill_from, filling}
 use Rattle.laws.proofs.Fillings.Question.{number-shows}
 use Rattle.witness.specs.Asked.{codes_of}
 use Rattle.witness.proofs.Attempts.{start-length}
-use Rattle.witness.proofs.filling_shows.Goals.{Start}
 use Rattle.witness.proofs.filling_shows.Goals as goal
-
--- the filled start
-abbrev state_of : Start → List Value
-state_of s = map value_of (filling s.args.which (codes_of s.args.resets.now s.args.n.L))
-
-state-long : (s : Start) → length (state_of s) ≡ s.args.n.L
-state-long s = start-length s.args.resets.now s.args.n.L s.args.which s.requires.runs.fits.resets-long
 
 pub start_filled-first-requires : goal.start_filled-first-requires
 start_filled-first-requires c =
@@ -32,30 +24,34 @@ start_filled-first-requires c =
 
 pub shows_filled-requires : goal.shows_filled-requires
 shows_filled-requires c =
-    let begun = c.before.before.before in
-    let s = begun.before.before.before.before.before.before.before.before.before.before in
-    let p = s.requires in
+    let state_of : List Value =
+    map value_of (filling c.args.which (codes_of c.args.resets.now c.args.n.L)) in
+    let state-long : length (state_of) ≡ c.args.n.L =
+    start-length c.args.resets.now c.args.n.L c.args.which c.requires.runs.fits.resets-long in
+    let p = c.requires in
     record { starts = record {
         inputs = p.inputs;
-        resets = s.args.resets.now;
-        state = state_of s;
+        resets = c.args.resets.now;
+        state = state_of;
         runs = p.runs;
         scratch-long = omega (arith, p.scratch-long, c.start_filled-first.auto.t);
-        state-length = state-long s;
-        rests = begun.start_filled-first.ensures.rests;
-      }; bytes_len = p.whole; bytes_bound = omega (arith, p.few, begun.start_filled-first.ensures.value); }
+        state-length = state-long;
+        rests = c.start_filled-first.ensures.rests;
+      }; bytes_len = p.whole; bytes_bound = omega (arith, p.few, c.start_filled-first.ensures.value); }
 
 pub shape_of-scratch : goal.shape_of-scratch
 shape_of-scratch c = c.shows_filled.auto.scratch ∙ c.start_filled-first.auto.t
 
 pub returns : goal.returns
 returns c =
+    let state_of : List Value =
+    map value_of (filling c.args.which (codes_of c.args.resets.now c.args.n.L)) in
+    let state-long : length (state_of) ≡ c.args.n.L =
+    start-length c.args.resets.now c.args.n.L c.args.which c.requires.runs.fits.resets-long in
     λ inputs r.
-    let begun = c.before.before.before.before.before.before in
-    let s = begun.before.before.before.before.before.before.before.before.before.before in
-    let a = s.args in
+    let a = c.args in
     let held : Circuit = circuit_of a.n (seven inputs a.latches.now a.outputs.now a.gates.now a.resets.now a.bads.now
     a.constraints.now) in
-    c.shows_filled.ensures inputs a.resets.now (state_of s) r (state-long s) begun.start_filled-first.ensures.rests
-    ∙ (ap (λ (j : ℕ). shows_from held (state_of s) a.number (fill_from a.which j a.bytes.now)) begun.start_filled-first.ensures.value
+    c.shows_filled.ensures inputs a.resets.now (state_of) r (state-long) c.start_filled-first.ensures.rests
+    ∙ (ap (λ (j : ℕ). shows_from held (state_of) a.number (fill_from a.which j a.bytes.now)) c.start_filled-first.ensures.value
     ∙ sym (number-shows held a.number a.bytes.now a.which))

@@ -39,21 +39,18 @@ shape_of-scratch-then-not-filling_shows c = c.filling_shows.auto.scratch ∙ c.l
 pub returns-then-not-filling_shows : goal.returns-then-not-filling_shows
 returns-then-not-filling_shows c =
     λ inputs r.
-    let s = c.before.before.before in
-    let w = s.before.before.before in
     record {
-      within = w.loop-tried.invariant.0;
-      before = w.loop-tried.invariant.2 inputs r;
-      fails = λ h. sym (s.filling_shows.ensures inputs r) ∙ not-true _ c.if-not-filling_shows.true-raw;
+      within = c.loop-tried.invariant.0;
+      before = c.loop-tried.invariant.2 inputs r;
+      fails = λ h. sym (c.filling_shows.ensures inputs r) ∙ not-true _ c.if-not-filling_shows.true-raw;
     }
 
 pub loop-tried-preserved : goal.loop-tried-preserved
 loop-tried-preserved c =
-    let s = c.before.before.before in
-    let w = s.before.before.before in (
+    (
       omega arith,
-      c.filling_shows.auto.scratch ∙ w.loop-tried.invariant.1,
-      λ inputs r. below_more _ _ (w.loop-tried.invariant.2 inputs r) (sym (s.filling_shows.ensures inputs r) ∙ not-false _ c.if-not-filling_shows.false-raw),
+      c.filling_shows.auto.scratch ∙ c.loop-tried.invariant.1,
+      λ inputs r. below_more _ _ (c.loop-tried.invariant.2 inputs r) (sym (c.filling_shows.ensures inputs r) ∙ not-false _ c.if-not-filling_shows.false-raw),
     )
 
 pub shape_of-scratch : goal.shape_of-scratch
@@ -62,5 +59,4 @@ shape_of-scratch c = c.loop-tried.invariant.1
 pub returns : goal.returns
 returns c =
     λ inputs r.
-    let w = c.before in
-    record { within = w.loop-tried.invariant.0; before = w.loop-tried.invariant.2 inputs r; fails = λ h. absurd (omega (arith, c.loop-tried-test.false)) }
+    record { within = c.loop-tried.invariant.0; before = c.loop-tried.invariant.2 inputs r; fails = λ h. absurd (omega (arith, c.loop-tried-test.false)) }

@@ -16,53 +16,39 @@ use borrow.Author.Rules.{rules}
 use Rattle.witness.proofs.load_filled.Goals as goal
 
 pub loop-i-init : goal.loop-i-init
-loop-i-init c =
-    let s = c.before.before in
-    (omega arith, sym (add-zero s.args.x), filled_none _ _ _)
+loop-i-init c = (omega arith, sym (add-zero c.args.x), filled_none _ _ _)
 
 pub filled_word-requires : goal.filled_word-requires
-filled_word-requires c =
-    let w = c.before.before in
-    let s = w.before.before.before in
-    omega (arith, s.requires.few, w.loop-i.invariant.1, count-take w.loop-i.i s.args.codes.now)
+filled_word-requires c = omega (arith, c.requires.few, c.loop-i.invariant.1, count-take c.loop-i.i c.args.codes.now)
 
 pub overflow_add-t : goal.overflow_add-t
-overflow_add-t c =
-    let w = c.before.before.before in
-    omega (arith, w.requires.room)
+overflow_add-t c = omega (arith, c.requires.room)
 
 pub bounds-t-first : goal.bounds-t-first
-bounds-t-first c =
-    let w = c.before.before.before in
-    omega (arith, w.requires.room, w.loop-i.invariant.2.same)
+bounds-t-first c = omega (arith, c.requires.room, c.loop-i.invariant.2.same)
 
 pub overflow_add-next : goal.overflow_add-next
 overflow_add-next c =
-    let w = c.before.before.before.before.before in
-    let s = w.before.before.before in
     omega (
       arith,
       c.x_of-next.ensures,
-      x-small (get_or s.args.codes.now w.loop-i.i 0),
-      s.requires.few,
-      w.loop-i.invariant.1,
-      count-take w.loop-i.i
-          s.args.codes.now,
+      x-small (get_or c.args.codes.now c.loop-i.i 0),
+      c.requires.few,
+      c.loop-i.invariant.1,
+      count-take c.loop-i.i
+          c.args.codes.now,
     )
 
 pub loop-i-preserved : goal.loop-i-preserved
 loop-i-preserved c =
-    let w = c.before.before.before.before.before in
-    let s = w.before.before.before in
-    let f = c.before.before in
-    let codes = s.args.codes.now in
+    let codes = c.args.codes.now in
     let more = c.loop-i-test.true in (
       omega arith,
-      omega (arith, c.x_of-next.ensures, w.loop-i.invariant.1, count-more codes w.loop-i.i more),
-      filled_more _ _ _ w.loop-i.i w.loop-i.t _ w.loop-i.invariant.2 (omega (arith, s.requires.room, more))
-          (f.filled_word.ensures
-          ∙ (ap (filled_word (get_or s.args.codes.now w.loop-i.i 0) s.args.k) w.loop-i.invariant.1
-          ∙ filled-word-at s.args.k s.args.x s.args.codes.now w.loop-i.i more)),
+      omega (arith, c.x_of-next.ensures, c.loop-i.invariant.1, count-more codes c.loop-i.i more),
+      filled_more _ _ _ c.loop-i.i c.loop-i.t _ c.loop-i.invariant.2 (omega (arith, c.requires.room, more))
+          (c.filled_word.ensures
+          ∙ (ap (filled_word (get_or c.args.codes.now c.loop-i.i 0) c.args.k) c.loop-i.invariant.1
+          ∙ filled-word-at c.args.k c.args.x c.args.codes.now c.loop-i.i more)),
     )
 
 pub shape_of-t : goal.shape_of-t
@@ -70,7 +56,5 @@ shape_of-t c = c.loop-i.invariant.2.same
 
 pub returns : goal.returns
 returns c =
-    let w = c.before in
-    let s = w.before.before.before in
-    record { t_after = filled-all _ _ _ (length s.args.codes.now) w.loop-i.i w.loop-i.t w.loop-i.invariant.2 (omega arith)
-          ∙ ap (put s.args.t.now s.args.first) (filled-words s.args.k s.args.x s.args.codes.now); value = w.loop-i.invariant.1 ∙ ap (λ (n : ℕ). s.args.x + n) (count-all s.args.codes.now w.loop-i.i c.loop-i-test.false); }
+    record { t_after = filled-all _ _ _ (length c.args.codes.now) c.loop-i.i c.loop-i.t c.loop-i.invariant.2 (omega arith)
+          ∙ ap (put c.args.t.now c.args.first) (filled-words c.args.k c.args.x c.args.codes.now); value = c.loop-i.invariant.1 ∙ ap (λ (n : ℕ). c.args.x + n) (count-all c.args.codes.now c.loop-i.i c.loop-i-test.false); }

@@ -10,55 +10,58 @@ use Rattle.laws.proofs.Fillings.Numbering.{count-append}
 use Rattle.witness.specs.Asked.{codes_of}
 use Rattle.witness.proofs.Attempts.{total-is, total-small, found-no, found-yes, found-cut}
 use borrow.Author.Rules.{rules}
-use Rattle.witness.proofs.try_fillings.Goals.{Start}
 use Rattle.witness.proofs.try_fillings.Goals as goal
 
--- the circuit that the tables hold, with inputs beside them
-abbrev held : Start → List ℕ → Circuit
-held s inputs =
-    let a = s.args in
-    circuit_of a.n (seven inputs a.latches.now a.outputs.now a.gates.now a.resets.now a.bads.now a.constraints.now)
-
-few : (s : Start) → s.args.xs ≤ 20
-few s = omega (arith, s.requires.holds.few, s.requires.xs_value)
-
-total-told : (s : Start) → (1 * 2 ^ s.args.xs) % 2 ^ 64 ≡ 2 ^ x_count (asked (held s []) s.args.bytes.now)
-total-told s =
-    total-is s.args.xs (few s)
-    ∙ ap (λ (k : ℕ). 2 ^ k) (s.requires.xs_value ∙ sym (count-append (codes_of s.args.resets.now s.args.n.L) s.args.bytes.now))
-
 pub overflow_shl-total : goal.overflow_shl-total
-overflow_shl-total c = omega (arith, few c.before.before.before.before.before.before.before.before)
+overflow_shl-total c =
+    let few : c.args.xs ≤ 20 =
+    omega (arith, c.requires.holds.few, c.requires.xs_value) in
+    omega (arith, few)
 
 pub first_failing-failing-requires : goal.first_failing-failing-requires
 first_failing-failing-requires c =
-    let m = c.before in
-    let s = m.before.before.before.before.before.before.before.before.before in
-    record { holds = s.requires.holds; most_bound = omega (arith, m.lesser-most.ensures, total-is s.args.xs (few s), total-small s.args.xs (few s)); }
+    let few : c.args.xs ≤ 20 =
+    omega (arith, c.requires.holds.few, c.requires.xs_value) in
+    record { holds = c.requires.holds; most_bound = omega (arith, c.lesser-most.ensures, total-is c.args.xs (few), total-small c.args.xs (few)); }
 
 pub returns-then-failing-most : goal.returns-then-failing-most
 returns-then-failing-most c =
+    let held : List ℕ → Circuit =
+    λ inputs. let a = c.args in
+    circuit_of a.n (seven inputs a.latches.now a.outputs.now a.gates.now a.resets.now a.bads.now a.constraints.now) in
+    let few : c.args.xs ≤ 20 =
+    omega (arith, c.requires.holds.few, c.requires.xs_value) in
+    let total-told : (1 * 2 ^ c.args.xs) % 2 ^ 64 ≡ 2 ^ x_count (asked (held []) c.args.bytes.now) =
+    total-is c.args.xs (few)
+    ∙ ap (λ (k : ℕ). 2 ^ k) (c.requires.xs_value ∙ sym (count-append (codes_of c.args.resets.now c.args.n.L) c.args.bytes.now)) in
     λ inputs r.
-    let f = c.before.before.before in
-    let m = f.before.before in
-    let s = m.before.before.before.before.before.before.before.before.before in
-    found-no (filled_shows (held s inputs) s.args.number s.args.bytes.now) (x_count (asked (held s inputs) s.args.bytes.now))
-    s.args.allowance (total-told s) m.lesser-most.ensures (f.first_failing-failing.ensures inputs r) c.if-failing-most.true
+    found-no (filled_shows (held inputs) c.args.number c.args.bytes.now) (x_count (asked (held inputs) c.args.bytes.now))
+    c.args.allowance (total-told) c.lesser-most.ensures (c.first_failing-failing.ensures inputs r) c.if-failing-most.true
 
 pub returns-then-total-allowance : goal.returns-then-total-allowance
 returns-then-total-allowance c =
+    let held : List ℕ → Circuit =
+    λ inputs. let a = c.args in
+    circuit_of a.n (seven inputs a.latches.now a.outputs.now a.gates.now a.resets.now a.bads.now a.constraints.now) in
+    let few : c.args.xs ≤ 20 =
+    omega (arith, c.requires.holds.few, c.requires.xs_value) in
+    let total-told : (1 * 2 ^ c.args.xs) % 2 ^ 64 ≡ 2 ^ x_count (asked (held []) c.args.bytes.now) =
+    total-is c.args.xs (few)
+    ∙ ap (λ (k : ℕ). 2 ^ k) (c.requires.xs_value ∙ sym (count-append (codes_of c.args.resets.now c.args.n.L) c.args.bytes.now)) in
     λ inputs r.
-    let f = c.before.before.before.before in
-    let m = f.before.before in
-    let s = m.before.before.before.before.before.before.before.before.before in
-    found-yes (filled_shows (held s inputs) s.args.number s.args.bytes.now) (x_count (asked (held s inputs) s.args.bytes.now))
-    s.args.allowance (total-told s) m.lesser-most.ensures (f.first_failing-failing.ensures inputs r) c.if-failing-most.false c.if-total-allowance.true
+    found-yes (filled_shows (held inputs) c.args.number c.args.bytes.now) (x_count (asked (held inputs) c.args.bytes.now))
+    c.args.allowance (total-told) c.lesser-most.ensures (c.first_failing-failing.ensures inputs r) c.if-failing-most.false c.if-total-allowance.true
 
 pub returns : goal.returns
 returns c =
+    let held : List ℕ → Circuit =
+    λ inputs. let a = c.args in
+    circuit_of a.n (seven inputs a.latches.now a.outputs.now a.gates.now a.resets.now a.bads.now a.constraints.now) in
+    let few : c.args.xs ≤ 20 =
+    omega (arith, c.requires.holds.few, c.requires.xs_value) in
+    let total-told : (1 * 2 ^ c.args.xs) % 2 ^ 64 ≡ 2 ^ x_count (asked (held []) c.args.bytes.now) =
+    total-is c.args.xs (few)
+    ∙ ap (λ (k : ℕ). 2 ^ k) (c.requires.xs_value ∙ sym (count-append (codes_of c.args.resets.now c.args.n.L) c.args.bytes.now)) in
     λ inputs r.
-    let f = c.before.before.before.before in
-    let m = f.before.before in
-    let s = m.before.before.before.before.before.before.before.before.before in
-    found-cut (filled_shows (held s inputs) s.args.number s.args.bytes.now) (x_count (asked (held s inputs) s.args.bytes.now))
-    s.args.allowance (total-told s) m.lesser-most.ensures (f.first_failing-failing.ensures inputs r) c.if-failing-most.false c.if-total-allowance.false
+    found-cut (filled_shows (held inputs) c.args.number c.args.bytes.now) (x_count (asked (held inputs) c.args.bytes.now))
+    c.args.allowance (total-told) c.lesser-most.ensures (c.first_failing-failing.ensures inputs r) c.if-failing-most.false c.if-total-allowance.false

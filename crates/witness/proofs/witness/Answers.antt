@@ -25,13 +25,12 @@ use Rattle.witness.proofs.Words.{codes-length}
 use Rattle.step.proofs.Beyond.{refused-by, past-check}
 use Rattle.witness.proofs.Verdicts.{more, refused-filled, refused-list, refused-x, found-filled}
 use borrow.Author.Rules.{rules}
-use Rattle.witness.proofs.witness.Goals.{After-check_in_order, After-count_x, Else-not-whole_list, In-Good, Start}
 use Rattle.witness.proofs.witness.Goals as goal
 
--- what is handed over
-abbrev entry : Start → FilledEntry
-entry s =
-    let a = s.args in
+pub returns-then-not-whole_list : goal.returns-then-not-whole_list
+returns-then-not-whole_list c =
+    let entry : FilledEntry =
+    let a = c.args in
     record {
       list = record {
         circuit = record {
@@ -43,126 +42,206 @@ entry s =
         bytes = a.bytes.now;
       };
       allowance = a.allowance;
-    }
-
--- back to the start, where the tables are good, and what the check said there
-abbrev start : In-Good → Start
-start d = d.before.before.before.before.before.before.before.before.before.before.before.before.before.before.before
-
-abbrev checked : In-Good → After-check_in_order
-checked d = d.before.before.before.before
-
-told : (d : In-Good) → (checked d).check-in-order.result ≡ Good
-told d = d.in-Good.is
-
-says : (d : In-Good) → (checked d).check-in-order.result ≡ (check_in_order (entry (start d)).list.circuit).answer
-says d = ap (λ (x : CheckExit). x.answer) (checked d).check-in-order.ensures
-
--- scratch stays as long as it was, and is zero then
-same : (d : In-Good) → length (checked d).check-in-order.new.1.1.1.1.1.1.1.1.0 ≡ length (start d).args.scratch.now
-same d = d.check_in_order.auto.scratch
-
-blank : (d : In-Good) → (checked d).check-in-order.new.1.1.1.1.1.1.1.1.0 ≡ cleared (start d).args.scratch.now
-blank d = ap (λ (x : CheckExit). x.scratch) (checked d).check-in-order.ensures
-
--- the tables hold an accepted circuit, and scratch is long enough
-holds : (d : In-Good) → let g = (entry (start d)).list.circuit in Runs g.counts g.tables
-holds d = runs (entry (start d)).list.circuit none (says d) (told d)
-
-long : (d : In-Good) → Scratch (start d).args.n (checked d).check-in-order.new.1.1.1.1.1.1.1.1.0
-long d =
-    (room (entry (start d)).list.circuit none (says d) (told d) (checked d).check-in-order.new.1.1.1.1.1.1.1.1.0 (same d)
-    ).scratch-long
-
--- the list is good
-abbrev good : Else-not-whole_list → In-Good
-good f = f.before.before
-
-whole-told : (f : Else-not-whole_list) → let w = (entry (start (good f))).list in codes_in w.bytes (w.number * w.circuit.counts.I) ≡ true
-whole-told f = sym f.whole_list.ensures ∙ not-false _ f.if-not-whole_list.false-raw
-
--- both counts of x
-abbrev listed : After-count_x → Else-not-whole_list
-listed x = x.before.before
-
-counted : (x : After-count_x) → let a = (start (good (listed x))).args in x.count_resets.result + x.count_x.result ≡ x_count (codes_of a.resets.now a.n.L) + x_count a.bytes.now
-counted x = ap₂ (λ (i j : ℕ). i + j) x.count_resets.ensures x.count_x.ensures
-
-count-told : (x : After-count_x) → let w = (entry (start (good (listed x)))).list in x.count_resets.result + x.count_x.result ≡ x_count (asked (given_circuit w.circuit) w.bytes)
-count-told x =
-    let a = (start (good (listed x))).args in
-    counted x ∙ sym (count-append (codes_of a.resets.now a.n.L) a.bytes.now)
-
-pub returns-then-not-whole_list : goal.returns-then-not-whole_list
-returns-then-not-whole_list c =
-    let d = c.before.before in
-    let e = entry (start d) in
-    refused-list e _ (blank d) (past-check e.list.circuit (more e) (says d) (told d))
+    } in
+    let told : c.check_in_order.result ≡ Good =
+    c.in-Good.is in
+    let says : c.check_in_order.result ≡ (check_in_order (entry).list.circuit).answer =
+    ap (λ (x : CheckExit). x.answer) c.check_in_order.ensures in
+    let blank : c.check_in_order.new.scratch ≡ cleared c.args.scratch.now =
+    ap (λ (x : CheckExit). x.scratch) c.check_in_order.ensures in
+    let e = entry in
+    refused-list e _ (blank) (past-check e.list.circuit (more e) (says) (told))
     (sym c.whole_list.ensures ∙ not-true _ c.if-not-whole_list.true-raw)
 
 pub count_resets-requires : goal.count_resets-requires
-count_resets-requires c = (holds (good c)).fits.resets-long
+count_resets-requires c =
+    let entry : FilledEntry =
+    let a = c.args in
+    record {
+      list = record {
+        circuit = record {
+          counts = a.n;
+          tables = seven a.inputs.now a.latches.now a.outputs.now a.gates.now a.resets.now a.bads.now a.constraints.now;
+          scratch = a.scratch.now;
+        };
+        number = a.number;
+        bytes = a.bytes.now;
+      };
+      allowance = a.allowance;
+    } in
+    let told : c.check_in_order.result ≡ Good =
+    c.in-Good.is in
+    let says : c.check_in_order.result ≡ (check_in_order (entry).list.circuit).answer =
+    ap (λ (x : CheckExit). x.answer) c.check_in_order.ensures in
+    let holds : let g = (entry).list.circuit in Runs g.counts g.tables =
+    runs (entry).list.circuit none (says) (told) in
+    (holds).fits.resets-long
 
 pub overflow_add-xs : goal.overflow_add-xs
 overflow_add-xs c =
-    let d = good (listed c) in
-    let s = start d in
-    let a = s.args in
-    let f = (holds d).fits in
+    let entry : FilledEntry =
+    let a = c.args in
+    record {
+      list = record {
+        circuit = record {
+          counts = a.n;
+          tables = seven a.inputs.now a.latches.now a.outputs.now a.gates.now a.resets.now a.bads.now a.constraints.now;
+          scratch = a.scratch.now;
+        };
+        number = a.number;
+        bytes = a.bytes.now;
+      };
+      allowance = a.allowance;
+    } in
+    let told : c.check_in_order.result ≡ Good =
+    c.in-Good.is in
+    let says : c.check_in_order.result ≡ (check_in_order (entry).list.circuit).answer =
+    ap (λ (x : CheckExit). x.answer) c.check_in_order.ensures in
+    let holds : let g = (entry).list.circuit in Runs g.counts g.tables =
+    runs (entry).list.circuit none (says) (told) in
+    let counted : let a = c.args in c.count_resets.result + c.count_x.result ≡ x_count (codes_of a.resets.now a.n.L) + x_count a.bytes.now =
+    ap₂ (λ (i j : ℕ). i + j) c.count_resets.ensures c.count_x.ensures in
+    let a = c.args in
+    let f = (holds).fits in
     let codes = codes_of a.resets.now a.n.L in
     record {
       fits = omega (
         arith,
-        counted c,
+        counted,
         count_small codes,
         codes-length a.resets.now a.n.L f.resets-long,
         f.sum,
         f.most-M,
         count_small a.bytes.now,
-        s.good,
+        c.good,
       );
     }
 
 pub returns-then-xs-gt-MOST_X : goal.returns-then-xs-gt-MOST_X
 returns-then-xs-gt-MOST_X c =
-    let x = c.before in
-    let f = listed x in
-    let d = good f in
-    let e = entry (start d) in
-    refused-x e _ (blank d) (past-check e.list.circuit (more e) (says d) (told d)) (whole-told f) _ (count-told x) c.if-xs-gt-MOST_X.true
+    let entry : FilledEntry =
+    let a = c.args in
+    record {
+      list = record {
+        circuit = record {
+          counts = a.n;
+          tables = seven a.inputs.now a.latches.now a.outputs.now a.gates.now a.resets.now a.bads.now a.constraints.now;
+          scratch = a.scratch.now;
+        };
+        number = a.number;
+        bytes = a.bytes.now;
+      };
+      allowance = a.allowance;
+    } in
+    let told : c.check_in_order.result ≡ Good =
+    c.in-Good.is in
+    let says : c.check_in_order.result ≡ (check_in_order (entry).list.circuit).answer =
+    ap (λ (x : CheckExit). x.answer) c.check_in_order.ensures in
+    let blank : c.check_in_order.new.scratch ≡ cleared c.args.scratch.now =
+    ap (λ (x : CheckExit). x.scratch) c.check_in_order.ensures in
+    let whole-told : let w = (entry).list in codes_in w.bytes (w.number * w.circuit.counts.I) ≡ true =
+    sym c.whole_list.ensures ∙ not-false _ c.if-not-whole_list.false-raw in
+    let counted : let a = c.args in c.count_resets.result + c.count_x.result ≡ x_count (codes_of a.resets.now a.n.L) + x_count a.bytes.now =
+    ap₂ (λ (i j : ℕ). i + j) c.count_resets.ensures c.count_x.ensures in
+    let count-told : let w = (entry).list in c.count_resets.result + c.count_x.result ≡ x_count (asked (given_circuit w.circuit) w.bytes) =
+    let a = c.args in
+    counted ∙ sym (count-append (codes_of a.resets.now a.n.L) a.bytes.now) in
+    let e = entry in
+    refused-x e _ (blank) (past-check e.list.circuit (more e) (says) (told)) (whole-told) _ (count-told) c.if-xs-gt-MOST_X.true
 
 pub try_fillings-found-requires : goal.try_fillings-found-requires
 try_fillings-found-requires c =
-    let g = c.before in
-    let x = g.before in
-    let f = listed x in
-    let d = good f in
-    let s = start d in
-    let e = entry s in
+    let entry : FilledEntry =
+    let a = c.args in
+    record {
+      list = record {
+        circuit = record {
+          counts = a.n;
+          tables = seven a.inputs.now a.latches.now a.outputs.now a.gates.now a.resets.now a.bads.now a.constraints.now;
+          scratch = a.scratch.now;
+        };
+        number = a.number;
+        bytes = a.bytes.now;
+      };
+      allowance = a.allowance;
+    } in
+    let told : c.check_in_order.result ≡ Good =
+    c.in-Good.is in
+    let says : c.check_in_order.result ≡ (check_in_order (entry).list.circuit).answer =
+    ap (λ (x : CheckExit). x.answer) c.check_in_order.ensures in
+    let same : length c.check_in_order.new.scratch ≡ length c.args.scratch.now =
+    c.check_in_order.auto.scratch in
+    let holds : let g = (entry).list.circuit in Runs g.counts g.tables =
+    runs (entry).list.circuit none (says) (told) in
+    let long : Scratch c.args.n c.check_in_order.new.scratch =
+    (room (entry).list.circuit none (says) (told) c.check_in_order.new.scratch (same)
+    ).scratch-long in
+    let whole-told : let w = (entry).list in codes_in w.bytes (w.number * w.circuit.counts.I) ≡ true =
+    sym c.whole_list.ensures ∙ not-false _ c.if-not-whole_list.false-raw in
+    let counted : let a = c.args in c.count_resets.result + c.count_x.result ≡ x_count (codes_of a.resets.now a.n.L) + x_count a.bytes.now =
+    ap₂ (λ (i j : ℕ). i + j) c.count_resets.ensures c.count_x.ensures in
+    let e = entry in
     record { holds = record {
-        inputs = s.args.inputs.now;
-        runs = holds d;
-        scratch-long = long d;
-        whole = good-list e.list (whole-told f);
-        few = omega (arith, counted x, g.if-xs-gt-MOST_X.false);
-      }; xs_value = counted x; }
+        inputs = c.args.inputs.now;
+        runs = holds;
+        scratch-long = long;
+        whole = good-list e.list (whole-told);
+        few = omega (arith, counted, c.if-xs-gt-MOST_X.false);
+      }; xs_value = counted; }
 
 pub returns-in-Refused : goal.returns-in-Refused
 returns-in-Refused c =
-    let x = c.before.before.before.before.before in
-    let e = entry x.before.before.before.before.before.before.before.before.before.before.before in
-    let check = x.check_in_order.ensures in
+    let entry : FilledEntry =
+    let a = c.args in
+    record {
+      list = record {
+        circuit = record {
+          counts = a.n;
+          tables = seven a.inputs.now a.latches.now a.outputs.now a.gates.now a.resets.now a.bads.now a.constraints.now;
+          scratch = a.scratch.now;
+        };
+        number = a.number;
+        bytes = a.bytes.now;
+      };
+      allowance = a.allowance;
+    } in
+    let e = entry in
+    let check = c.check_in_order.ensures in
     refused-filled e _ (ap (λ (q : CheckExit). q.scratch) check) _
     (refused-by e.list.circuit (more e) (ap (λ (q : CheckExit). q.answer) check) _ c.in-Refused.is)
 
 pub returns-else-xs-gt-MOST_X : goal.returns-else-xs-gt-MOST_X
 returns-else-xs-gt-MOST_X c =
-    let t = c.before.before.before.before.before.before in
-    let g = t.before.before in
-    let x = g.before in
-    let f = listed x in
-    let d = good f in
-    let e = entry (start d) in
-    let zero = c.clear.ensures ∙ ap (λ (k : ℕ). replicate k 0) (c.try_fillings-found.auto.scratch ∙ same d) in
-    found-filled e _ zero (past-check e.list.circuit (more e) (says d) (told d)) (whole-told f)
-    (omega (arith, count-told x, g.if-xs-gt-MOST_X.false)) _ (t.try_fillings-found.ensures e.list.circuit.tables.inputs (holds d))
+    let entry : FilledEntry =
+    let a = c.args in
+    record {
+      list = record {
+        circuit = record {
+          counts = a.n;
+          tables = seven a.inputs.now a.latches.now a.outputs.now a.gates.now a.resets.now a.bads.now a.constraints.now;
+          scratch = a.scratch.now;
+        };
+        number = a.number;
+        bytes = a.bytes.now;
+      };
+      allowance = a.allowance;
+    } in
+    let told : c.check_in_order.result ≡ Good =
+    c.in-Good.is in
+    let says : c.check_in_order.result ≡ (check_in_order (entry).list.circuit).answer =
+    ap (λ (x : CheckExit). x.answer) c.check_in_order.ensures in
+    let same : length c.check_in_order.new.scratch ≡ length c.args.scratch.now =
+    c.check_in_order.auto.scratch in
+    let holds : let g = (entry).list.circuit in Runs g.counts g.tables =
+    runs (entry).list.circuit none (says) (told) in
+    let whole-told : let w = (entry).list in codes_in w.bytes (w.number * w.circuit.counts.I) ≡ true =
+    sym c.whole_list.ensures ∙ not-false _ c.if-not-whole_list.false-raw in
+    let counted : let a = c.args in c.count_resets.result + c.count_x.result ≡ x_count (codes_of a.resets.now a.n.L) + x_count a.bytes.now =
+    ap₂ (λ (i j : ℕ). i + j) c.count_resets.ensures c.count_x.ensures in
+    let count-told : let w = (entry).list in c.count_resets.result + c.count_x.result ≡ x_count (asked (given_circuit w.circuit) w.bytes) =
+    let a = c.args in
+    counted ∙ sym (count-append (codes_of a.resets.now a.n.L) a.bytes.now) in
+    let e = entry in
+    let zero = c.clear.ensures ∙ ap (λ (k : ℕ). replicate k 0) (c.try_fillings-found.auto.scratch ∙ same) in
+    found-filled e _ zero (past-check e.list.circuit (more e) (says) (told)) (whole-told)
+    (omega (arith, count-told, c.if-xs-gt-MOST_X.false)) _ (c.try_fillings-found.ensures e.list.circuit.tables.inputs (holds))

@@ -19,18 +19,14 @@ bounds-table-k-in-loop-i-2 c = simp length-set (omega arith)
 
 pub loop-i-preserved : goal.loop-i-preserved
 loop-i-preserved c =
-    let w = c.before.before in
-    let s = c.loop-i in
-    let d = c.before.before.before.before.before.before.before.before.before in
-    let a = d.args in
-    let v = a.first + s.i in
-    let l = lit_is w.at.result w.lit.result v (omega arith) w.at.ensures w.lit.ensures in
-    one-gated a.file.now a.at a.n a.first a.table.now s.table s.i s.invariant d.requires.n_in_bounds_2
+    let a = c.args in
+    let v = a.first + c.loop-i.i in
+    let l = lit_is c.at.result c.lit.result v (omega arith) c.at.ensures c.lit.ensures in
+    one-gated a.file.now a.at a.n a.first a.table.now c.loop-i.table c.loop-i.i c.loop-i.invariant c.requires.n_in_bounds_2
     c.loop-i-test.true _ _ _
-    (w.word.ensures ∙ l) c.word_at.ensures c.word_at-in-loop-i.ensures
+    (c.word.ensures ∙ l) c.word_at.ensures c.word_at-in-loop-i.ensures
 
 pub returns : goal.returns
 returns c =
-    let s = c.loop-i in
     let a = c.args in
-    all-gated a.file.now a.at a.n a.first a.table.now s.table s.i s.invariant c.loop-i-test.false
+    all-gated a.file.now a.at a.n a.first a.table.now c.loop-i.table c.loop-i.i c.loop-i.invariant c.loop-i-test.false

@@ -9,13 +9,10 @@ loop-i-init c = none-worded _ _ _ _
 
 pub loop-i-preserved : goal.loop-i-preserved
 loop-i-preserved c =
-    let s = c.loop-i in
-    let d = c.before.before.before.before.before in
-    let a = d.args in
-    one-worded a.file.now a.at a.n a.table.now s.table s.i s.invariant d.requires.n_in_bounds_2 c.loop-i-test.true _ c.word_at.ensures
+    let a = c.args in
+    one-worded a.file.now a.at a.n a.table.now c.loop-i.table c.loop-i.i c.loop-i.invariant c.requires.n_in_bounds_2 c.loop-i-test.true _ c.word_at.ensures
 
 pub returns : goal.returns
 returns c =
-    let s = c.loop-i in
     let a = c.args in
-    all-worded a.file.now a.at a.n a.table.now s.table s.i s.invariant c.loop-i-test.false
+    all-worded a.file.now a.at a.n a.table.now c.loop-i.table c.loop-i.i c.loop-i.invariant c.loop-i-test.false

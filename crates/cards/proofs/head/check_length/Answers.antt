@@ -4,18 +4,7 @@ use Rattle.plan.specs.declared.Refusal.TheVariants.{WrongByte}
 use Rattle.plan.specs.Cards.{card_bytes, bad_length}
 use Rattle.cards.proofs.head.Told.{found, nothing, too_small, ends-early, goes_on_lem, ends-right}
 use borrow.Author.Rules.{rules}
-use Rattle.cards.proofs.head.check_length.Goals.{After-bytes_asked-asked, Else-asked-size, Start, Then-asked-size}
 use Rattle.cards.proofs.head.check_length.Goals as goal
-
--- moments, each named by what happened there
-abbrev start-of : After-bytes_asked-asked → Start
-start-of c = c.before.before.before.before
-
-abbrev bytes-asked-of2 : Else-asked-size → After-bytes_asked-asked
-bytes-asked-of2 c = c.before.before
-
-abbrev bytes-asked-of : Then-asked-size → After-bytes_asked-asked
-bytes-asked-of c = c.before.before
 
 pub returns-then-size-lt22 : goal.returns-then-size-lt22
 returns-then-size-lt22 c =
@@ -27,14 +16,14 @@ bytes_asked-asked-requires c = c.counts_at.ensures.within
 
 pub returns-then-size-asked : goal.returns-then-size-asked
 returns-then-size-asked c =
-    let f = (start-of c.before).args.file.now in
+    let f = c.args.file.now in
     found WrongByte (bad_length f) _
     (ends-early f c.bytes_asked-asked.result (c.bytes_asked-asked.ensures ∙ ap card_bytes c.counts_at.ensures.value)
     c.if-size-lt22.false c.if-size-asked.true)
 
 pub returns-then-asked-size : goal.returns-then-asked-size
 returns-then-asked-size c =
-    let f = (start-of (bytes-asked-of c)).args.file.now in
+    let f = c.args.file.now in
     found WrongByte (bad_length f) _
     (goes_on_lem f c.bytes_asked-asked.result (c.bytes_asked-asked.ensures ∙ ap card_bytes
     c.counts_at.ensures.value) c.if-size-lt22.false
@@ -42,7 +31,7 @@ returns-then-asked-size c =
 
 pub returns : goal.returns
 returns c =
-    let f = (start-of (bytes-asked-of2 c)).args.file.now in
+    let f = c.args.file.now in
     nothing WrongByte (bad_length f)
     (ends-right f c.bytes_asked-asked.result (c.bytes_asked-asked.ensures ∙ ap card_bytes
     c.counts_at.ensures.value) c.if-size-lt22.false

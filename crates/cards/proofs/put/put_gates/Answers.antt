@@ -15,47 +15,37 @@ loop-i-init c = none-put _ _ (λ (k : ℕ). gates_cards k c.args.gates.now) _ re
 
 pub put_card-next-requires : goal.put_card-next-requires
 put_card-next-requires c =
-    let s = c.loop-i in
-    let d = c.before.before.before.before.before.before in
-    omega (arith, s.invariant.next-is, s.invariant.same, gates-size d.args.gates.now s.i, d.requires.n_in_bounds)
+    omega (arith, c.loop-i.invariant.next-is, c.loop-i.invariant.same, gates-size c.args.gates.now c.loop-i.i, c.requires.n_in_bounds)
 
 pub put_word-next-requires : goal.put_word-next-requires
 put_word-next-requires c =
-    let s = c.loop-i in
-    let d = c.before.before.before.before.before.before.before.before.before.before.before in
     omega (
       arith,
-      s.invariant.next-is,
-      s.invariant.same,
-      gates-size d.args.gates.now s.i,
-      d.requires.n_in_bounds,
+      c.loop-i.invariant.next-is,
+      c.loop-i.invariant.same,
+      gates-size c.args.gates.now c.loop-i.i,
+      c.requires.n_in_bounds,
       c.put_card-next.ensures.value,
       c.put_card-next.auto.out,
     )
 
 pub loop-i-preserved : goal.loop-i-preserved
 loop-i-preserved c =
-    let s = c.loop-i in
-    let d = c.before.before.before.before.before.before.before.before.before.before.before.before.before.before in
-    let a = d.args in
+    let a = c.args in
     let t = a.gates.now in
-    let r0 = get_or t (3 * s.i + 1) 0 in
-    let r1 = get_or t (3 * s.i + 2) 0 in
-    let first = c.put_card-next.ensures in
-    let second = c.put_word-next.ensures in
-    let room = gates-size t s.i in
-    let both = two-parts s.out _ _ (mark_bytes 65 ++ word_bytes r0) (word_bytes r1) s.next _ first.1 first.0 second.1
-    (omega (arith, s.invariant.next-is, s.invariant.same, room, d.requires.n_in_bounds)) in
-    one-put a.out.now a.at (λ (k : ℕ). gates_cards k t) a.n s.out s.next s.i s.invariant
+    let r0 = get_or t (3 * c.loop-i.i + 1) 0 in
+    let r1 = get_or t (3 * c.loop-i.i + 2) 0 in
+    let room = gates-size t c.loop-i.i in
+    let both = two-parts c.loop-i.out _ _ (mark_bytes 65 ++ word_bytes r0) (word_bytes r1) c.loop-i.next _ c.put_card-next.ensures.out_after c.put_card-next.ensures.value c.put_word-next.ensures.out_after
+    (omega (arith, c.loop-i.invariant.next-is, c.loop-i.invariant.same, room, c.requires.n_in_bounds)) in
+    one-put a.out.now a.at (λ (k : ℕ). gates_cards k t) a.n c.loop-i.out c.loop-i.next c.loop-i.i c.loop-i.invariant
     c.loop-i-test.true
-    (mark_bytes 65 ++ (word_bytes r0 ++ word_bytes r1)) (gates-more t s.i) (omega (arith, gates-size t (s.i + 1), d.requires.n_in_bounds)) _ _ both
-    (omega (arith, first.0, second.0)) (c.put_word-next.auto.out ∙ c.put_card-next.auto.out)
+    (mark_bytes 65 ++ (word_bytes r0 ++ word_bytes r1)) (gates-more t c.loop-i.i) (omega (arith, gates-size t (c.loop-i.i + 1), c.requires.n_in_bounds)) _ _ both
+    (omega (arith, c.put_card-next.ensures.value, c.put_word-next.ensures.value)) (c.put_word-next.auto.out ∙ c.put_card-next.auto.out)
 
 pub returns : goal.returns
 returns c =
-    let s = c.loop-i in
-    let d = c.before.before.before.before in
-    let a = d.args in
+    let a = c.args in
     let t = a.gates.now in
-    let all = all-put a.out.now a.at (λ (k : ℕ). gates_cards k t) a.n s.out s.next s.i s.invariant c.loop-i-test.false in
+    let all = all-put a.out.now a.at (λ (k : ℕ). gates_cards k t) a.n c.loop-i.out c.loop-i.next c.loop-i.i c.loop-i.invariant c.loop-i-test.false in
     record { value = omega (arith, all.0, gates-size t a.n); out_after = all.1; }

@@ -15,27 +15,20 @@ loop-i-init c = none-put _ _ (λ (k : ℕ). latch_cards k c.args.latches.now) _ 
 
 pub put_card-next-requires : goal.put_card-next-requires
 put_card-next-requires c =
-    let s = c.loop-i in
-    let d = c.before.before.before.before.before.before in
-    omega (arith, s.invariant.next-is, s.invariant.same, latches-size d.args.latches.now s.i, d.requires.n_in_bounds)
+    omega (arith, c.loop-i.invariant.next-is, c.loop-i.invariant.same, latches-size c.args.latches.now c.loop-i.i, c.requires.n_in_bounds)
 
 pub loop-i-preserved : goal.loop-i-preserved
 loop-i-preserved c =
-    let s = c.loop-i in
-    let d = c.before.before.before.before.before.before.before.before.before in
-    let a = d.args in
+    let a = c.args in
     let t = a.latches.now in
-    let bytes = mark_bytes 76 ++ word_bytes (get_or t (2 * s.i + 1) 0) in
-    let put = c.put_card-next.ensures in
-    one-put a.out.now a.at (λ (k : ℕ). latch_cards k t) a.n s.out s.next s.i s.invariant
+    let bytes = mark_bytes 76 ++ word_bytes (get_or t (2 * c.loop-i.i + 1) 0) in
+    one-put a.out.now a.at (λ (k : ℕ). latch_cards k t) a.n c.loop-i.out c.loop-i.next c.loop-i.i c.loop-i.invariant
     c.loop-i-test.true bytes
-    (latches-more t s.i) (omega (arith, latches-size t (s.i + 1), d.requires.n_in_bounds)) _ _ put.1 put.0 c.put_card-next.auto.out
+    (latches-more t c.loop-i.i) (omega (arith, latches-size t (c.loop-i.i + 1), c.requires.n_in_bounds)) _ _ c.put_card-next.ensures.out_after c.put_card-next.ensures.value c.put_card-next.auto.out
 
 pub returns : goal.returns
 returns c =
-    let s = c.loop-i in
-    let d = c.before.before.before.before in
-    let a = d.args in
+    let a = c.args in
     let t = a.latches.now in
-    let all = all-put a.out.now a.at (λ (k : ℕ). latch_cards k t) a.n s.out s.next s.i s.invariant c.loop-i-test.false in
+    let all = all-put a.out.now a.at (λ (k : ℕ). latch_cards k t) a.n c.loop-i.out c.loop-i.next c.loop-i.i c.loop-i.invariant c.loop-i-test.false in
     record { value = omega (arith, all.0, latches-size t a.n); out_after = all.1; }

@@ -15,27 +15,20 @@ loop-i-init c = none-put _ _ (λ (k : ℕ). output_cards k c.args.outputs.now) _
 
 pub put_card-next-requires : goal.put_card-next-requires
 put_card-next-requires c =
-    let s = c.loop-i in
-    let d = c.before.before.before.before.before.before in
-    omega (arith, s.invariant.next-is, s.invariant.same, outputs-size d.args.outputs.now s.i (omega arith), d.requires.n_in_bounds)
+    omega (arith, c.loop-i.invariant.next-is, c.loop-i.invariant.same, outputs-size c.args.outputs.now c.loop-i.i (omega arith), c.requires.n_in_bounds)
 
 pub loop-i-preserved : goal.loop-i-preserved
 loop-i-preserved c =
-    let s = c.loop-i in
-    let d = c.before.before.before.before.before.before.before.before.before in
-    let a = d.args in
+    let a = c.args in
     let t = a.outputs.now in
-    let bytes = mark_bytes 79 ++ word_bytes (get_or t s.i 0) in
-    let put = c.put_card-next.ensures in
-    one-put a.out.now a.at (λ (k : ℕ). output_cards k t) a.n s.out s.next s.i s.invariant
+    let bytes = mark_bytes 79 ++ word_bytes (get_or t c.loop-i.i 0) in
+    one-put a.out.now a.at (λ (k : ℕ). output_cards k t) a.n c.loop-i.out c.loop-i.next c.loop-i.i c.loop-i.invariant
     c.loop-i-test.true bytes
-    (outputs-more t s.i (omega arith)) (omega (arith, outputs-size t (s.i + 1) (omega arith), d.requires.n_in_bounds)) _ _ put.1 put.0 c.put_card-next.auto.out
+    (outputs-more t c.loop-i.i (omega arith)) (omega (arith, outputs-size t (c.loop-i.i + 1) (omega arith), c.requires.n_in_bounds)) _ _ c.put_card-next.ensures.out_after c.put_card-next.ensures.value c.put_card-next.auto.out
 
 pub returns : goal.returns
 returns c =
-    let s = c.loop-i in
-    let d = c.before.before.before.before in
-    let a = d.args in
+    let a = c.args in
     let t = a.outputs.now in
-    let all = all-put a.out.now a.at (λ (k : ℕ). output_cards k t) a.n s.out s.next s.i s.invariant c.loop-i-test.false in
-    record { value = omega (arith, all.0, outputs-size t a.n d.requires.n_in_bounds_2); out_after = all.1; }
+    let all = all-put a.out.now a.at (λ (k : ℕ). output_cards k t) a.n c.loop-i.out c.loop-i.next c.loop-i.i c.loop-i.invariant c.loop-i-test.false in
+    record { value = omega (arith, all.0, outputs-size t a.n c.requires.n_in_bounds_2); out_after = all.1; }

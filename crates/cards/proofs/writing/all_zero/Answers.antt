@@ -9,18 +9,11 @@ loop-i-init c = none_seen _ _
 
 pub returns-then-table-i-ne0 : goal.returns-then-table-i-ne0
 returns-then-table-i-ne0 c =
-    let s = c.loop-i in
-    let d = c.before.before.before.before in
-    not-zero d.args.table.now d.args.n s.i s.invariant d.requires c.loop-i-test.true c.if-table-i-ne0.true
+    not-zero c.args.table.now c.args.n c.loop-i.i c.loop-i.invariant c.requires c.loop-i-test.true c.if-table-i-ne0.true
 
 pub loop-i-preserved : goal.loop-i-preserved
 loop-i-preserved c =
-    let s = c.loop-i in
-    let d = c.before.before.before.before in
-    one_seen d.args.table.now d.args.n s.i s.invariant d.requires c.loop-i-test.true c.if-table-i-ne0.false
+    one_seen c.args.table.now c.args.n c.loop-i.i c.loop-i.invariant c.requires c.loop-i-test.true c.if-table-i-ne0.false
 
 pub returns : goal.returns
-returns c =
-    let s = c.loop-i in
-    let d = c.before.before in
-    all_seen d.args.table.now d.args.n s.i s.invariant d.requires c.loop-i-test.false
+returns c = all_seen c.args.table.now c.args.n c.loop-i.i c.loop-i.invariant c.requires c.loop-i-test.false

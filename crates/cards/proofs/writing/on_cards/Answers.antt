@@ -1,21 +1,7 @@
 -- The first thing that cards can't hold.
 use borrow.Author.Tests.{not-true, not-false}
 use Rattle.cards.proofs.writing.Holding.{has-tail, has-reset, has-bad, constraints-decide}
-use Rattle.cards.proofs.writing.on_cards.Goals.{After-all_zero, After-struct_known-2-1, Else-tail-ne0, Start, Then-n-ne0}
 use Rattle.cards.proofs.writing.on_cards.Goals as goal
-
--- moments, each named by what happened there
-abbrev start-of : After-all_zero → Start
-start-of c = c.before.before.before.before
-
-abbrev all-zero-of : Then-n-ne0 → After-all_zero
-all-zero-of c = c.before.before.before
-
-abbrev all-zero-of2 : After-struct_known-2-1 → After-all_zero
-all-zero-of2 c = c.before.before.before.before
-
-abbrev else1-of : After-struct_known-2-1 → Else-tail-ne0
-else1-of c = (all-zero-of2 c).before
 
 pub returns-then-tail-ne0 : goal.returns-then-tail-ne0
 returns-then-tail-ne0 c =
@@ -27,17 +13,17 @@ all_zero-requires c = c.requires
 
 pub returns-then-not-all_zero : goal.returns-then-not-all_zero
 returns-then-not-all_zero c =
-    let a = (start-of c.before).args in
+    let a = c.args in
     has-reset a.n a.resets.now a.tail.now c.if-tail-ne0.false _ c.all_zero.ensures (not-true _ c.if-not-all_zero.true-raw)
 
 pub returns-then-n-ne0 : goal.returns-then-n-ne0
 returns-then-n-ne0 c =
-    let a = (start-of (all-zero-of c)).args in
+    let a = c.args in
     has-bad a.n a.resets.now a.tail.now c.if-tail-ne0.false _ c.all_zero.ensures
     (not-false _ c.if-not-all_zero.false-raw) c.if-n-ne0.true
 
 pub returns : goal.returns
 returns c =
-    let a = (start-of (all-zero-of2 c)).args in
-    constraints-decide a.n a.resets.now a.tail.now (else1-of c).if1.false _ c.all_zero.ensures
+    let a = c.args in
+    constraints-decide a.n a.resets.now a.tail.now c.if-tail-ne0.false _ c.all_zero.ensures
     (not-false _ c.if-not-all_zero.false-raw) c.if-n-ne0.false

@@ -4,15 +4,16 @@ use native.Mathlib.Omega.{arith}
 use borrow.Author.Rules.{rules}
 use lib.ListN.{get_or}
 use Rattle.plan.specs.Literals.{var_of, word_of, index_of}
-use Rattle.convert.proofs.renumber.number_of.Goals.{After-index-v}
 use Rattle.convert.proofs.renumber.number_of.Goals as goal
 
--- the variable is the table's index
-var-is : (c : After-index-v) → c.index-v.result ≡ var_of (word_of c.args.l)
-var-is c = c.index-v.ensures ∙ ap index_of c.var.ensures
-
 pub bounds-t-v : goal.bounds-t-v
-bounds-t-v c = omega (arith, var-is c.before, c.requires.0)
+bounds-t-v c =
+    let var-is : c.index-v.result ≡ var_of (word_of c.args.l) =
+    c.index-v.ensures ∙ ap index_of c.var.ensures in
+    omega (arith, var-is, c.requires.0)
 
 pub returns : goal.returns
-returns c = ap (λ v. get_or c.args.t.now v 0) (var-is c.before)
+returns c =
+    let var-is : c.index-v.result ≡ var_of (word_of c.args.l) =
+    c.index-v.ensures ∙ ap index_of c.var.ensures in
+    ap (λ v. get_or c.args.t.now v 0) (var-is)

@@ -11,24 +11,18 @@ loop-i-init c = none-placed _ _ _ _ _
 
 pub place_gate-requires : goal.place_gate-requires
 place_gate-requires c =
-    let l = c.loop-i in
-    let s = c.before.before.before.before.before.before in
-    record { i_in_bounds = (omega arith, omega (arith, s.requires.a_in_bounds.1, l.invariant.same)); placeable = s.requires.by_index l.i c.loop-i-test.true; }
+    record { i_in_bounds = (omega arith, omega (arith, c.requires.a_in_bounds.1, c.loop-i.invariant.same)); placeable = c.requires.by_index c.loop-i.i c.loop-i-test.true; }
 
 pub loop-i-preserved : goal.loop-i-preserved
 loop-i-preserved c =
-    let d = c.before.before in
-    let l = d.loop-i in
-    let s = d.before.before.before.before.before.before.before in
-    let a = s.args in
-    one_placed a.gates.now a.t.now a.first a.a a.to.now s.requires.a_in_bounds.1 l.to l.i l.invariant
-    d.loop-i-test.true (s.requires.by_index l.i d.loop-i-test.true) _ d.place_gate.ensures
+    let a = c.args in
+    one_placed a.gates.now a.t.now a.first a.a a.to.now c.requires.a_in_bounds.1 c.loop-i.to c.loop-i.i c.loop-i.invariant
+    c.loop-i-test.true (c.requires.by_index c.loop-i.i c.loop-i-test.true) _ c.place_gate.ensures
 
 pub shape_of-to : goal.shape_of-to
 shape_of-to c = c.loop-i.invariant.same
 
 pub returns : goal.returns
 returns c =
-    let l = c.loop-i in
     let a = c.args in
-    all_placed a.gates.now a.t.now a.first a.a a.to.now l.to l.i l.invariant c.loop-i-test.false
+    all_placed a.gates.now a.t.now a.first a.a a.to.now c.loop-i.to c.loop-i.i c.loop-i.invariant c.loop-i-test.false

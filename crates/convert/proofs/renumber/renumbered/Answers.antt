@@ -7,7 +7,6 @@ use Rattle.convert.proofs.renumber.renumbered.Goals as goal
 
 pub returns : goal.returns
 returns c =
-    let s = c.before.before.before.before.before in
     let var = c.at.ensures ∙ ap var_at c.number_of.ensures in
     let lit = c.lit.ensures ∙ ap doubled var in
-    c.signed_as.ensures ∙ (ap (λ l. signed_as l s.args.l) lit ∙ by_number s.args.t.now s.args.l s.requires)
+    c.signed_as.ensures ∙ (ap (λ l. signed_as l c.args.l) lit ∙ by_number c.args.t.now c.args.l c.requires)

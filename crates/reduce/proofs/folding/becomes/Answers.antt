@@ -9,14 +9,11 @@ use borrow.Author.Rules.{rules}
 use Rattle.reduce.proofs.folding.becomes.Goals as goal
 
 pub bounds-became-v : goal.bounds-became-v
-bounds-became-v c =
-    let d = c.before.before in
-    omega (arith, c.index-v.ensures, ap index_of d.var.ensures, d.requires)
+bounds-became-v c = omega (arith, c.index-v.ensures, ap index_of c.var.ensures, c.requires)
 
 pub returns : goal.returns
 returns c =
-    let start = c.before.before.before.before.before.before in
-    let a = start.args in
+    let a = c.args in
     let at : c.index-v.result ≡ var_of (word_of a.l)
     = c.index-v.ensures ∙ ap index_of c.var.ensures in
     c.signed_as.ensures ∙ ap (λ (l : Lit). signed_as l a.l) c.at.ensures

@@ -17,13 +17,11 @@ loop-v-init c = (omega arith, refl, refl)
 
 pub loop-v-preserved : goal.loop-v-preserved
 loop-v-preserved c =
-    let s = c.before.before.before.before.before.before in
-    let l = c.loop-v in
-    let word : c.word.result ≡ lit_of l.v
-    = c.word.ensures ∙ ap word_of (c.lit.ensures ∙ ap doubled c.at.ensures) ∙ whole l.v (omega arith) in (
+    let word : c.word.result ≡ lit_of c.loop-v.v
+    = c.word.ensures ∙ ap word_of (c.lit.ensures ∙ ap doubled c.at.ensures) ∙ whole c.loop-v.v (omega arith) in (
       omega arith,
-      length-set l.scratch l.v c.word.result ∙ l.invariant.1,
-      ap₂ (λ (t : List ℕ) (x : ℕ). set t l.v x) l.invariant.2 word ∙ begin-more s.args.scratch.now l.v (omega arith),
+      length-set c.loop-v.scratch c.loop-v.v c.word.result ∙ c.loop-v.invariant.1,
+      ap₂ (λ (t : List ℕ) (x : ℕ). set t c.loop-v.v x) c.loop-v.invariant.2 word ∙ begin-more c.args.scratch.now c.loop-v.v (omega arith),
     )
 
 pub shape_of-scratch : goal.shape_of-scratch
@@ -31,7 +29,5 @@ shape_of-scratch c = c.loop-v.invariant.1
 
 pub returns : goal.returns
 returns c =
-    let l = c.loop-v in
-    let s = c.before.before.before in
-    let e : l.v ≡ s.args.n = omega arith in
-    l.invariant.2 ∙ ap (λ (v : ℕ). lits_from 0 v ++ drop v s.args.scratch.now) e
+    let e : c.loop-v.v ≡ c.args.n = omega arith in
+    c.loop-v.invariant.2 ∙ ap (λ (v : ℕ). lits_from 0 v ++ drop v c.args.scratch.now) e

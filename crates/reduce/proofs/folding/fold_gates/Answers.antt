@@ -10,61 +10,49 @@ use Rattle.reduce.proofs.folding.fold_gates.Goals as goal
 
 pub loop-k-init : goal.loop-k-init
 loop-k-init c =
-    let s = c.before.before.before.before.before.before.before in
-    let a = s.args in
-    let started = c.begin in (
+    let a = c.args in
+    (
       refl,
       record {
         within = omega arith;
         to-long = refl;
         scratch-long = refl;
-        held = begun-held a.gates.now a.to.now a.scratch.now _ a.base a.a s.requires.to-blank s.requires.scratch-blank
-            started.ensures;
+        held = begun-held a.gates.now a.to.now a.scratch.now _ a.base a.a c.requires.to-blank c.requires.scratch-blank
+            c.begin.ensures;
         past = refl;
       },
     )
 
 pub fold_gate-n-requires : goal.fold_gate-n-requires
 fold_gate-n-requires c =
-    let s = c.before.before.before.before.before.before.before.before.before.before.before in
-    let a = s.args in
-    let l = c.loop-k in
-    let g = l.invariant.1 in
+    let a = c.args in
+    let g = c.loop-k.invariant.1 in
     let size = c.begin.auto.scratch in
-    let h : l.k < a.a = c.loop-k-test.true in
+    let h : c.loop-k.k < a.a = c.loop-k-test.true in
     record { roomy = record {
-        leaf = s.requires.leaf;
+        leaf = c.requires.leaf;
         within = omega arith;
-        few = s.requires.few;
-        gates-long = omega (arith, s.requires.gates-long);
-        to-long = omega (arith, s.requires.to-long, g.to-long);
-        scratch-long = omega (arith, s.requires.scratch-long, g.scratch-long, size);
-        below = s.requires.below l.k h;
+        few = c.requires.few;
+        gates-long = omega (arith, c.requires.gates-long);
+        to-long = omega (arith, c.requires.to-long, g.to-long);
+        scratch-long = omega (arith, c.requires.scratch-long, g.scratch-long, size);
+        below = c.requires.below c.loop-k.k h;
       }; held = g.held; }
 
 pub loop-k-preserved : goal.loop-k-preserved
 loop-k-preserved c =
-    let l = c.loop-k in
-    let g = c.fold_gate-n in
-    let t = c.loop-k-test in
-    (refl, going_more t.true c.fold_gate-n.auto.to c.scratch-in-loop-k-1.given g.ensures l.invariant.1)
+    (refl, going_more c.loop-k-test.true c.fold_gate-n.auto.to c.scratch-in-loop-k-1.given c.fold_gate-n.ensures c.loop-k.invariant.1)
 
 pub name_gates-requires : goal.name_gates-requires
 name_gates-requires c =
-    let l = c.loop-k in
-    let s = c.before.before.before.before.before.before.before.before.before.before in
-    let g = l.invariant.1 in
-    (omega (arith, g.held.count, g.within, g.to-long, s.requires.to-long), omega (arith, g.held.count, g.within, s.requires.few))
+    let g = c.loop-k.invariant.1 in
+    (omega (arith, g.held.count, g.within, g.to-long, c.requires.to-long), omega (arith, g.held.count, g.within, c.requires.few))
 
 pub shape_of-to : goal.shape_of-to
 shape_of-to c = c.name_gates.auto.to ∙ c.loop-k.invariant.1.to-long
 
 pub shape_of-scratch : goal.shape_of-scratch
-shape_of-scratch c =
-    let l = c.before.before.before.before.before in
-    l.loop-k.invariant.1.scratch-long ∙ l.begin.auto.scratch
+shape_of-scratch c = c.loop-k.invariant.1.scratch-long ∙ c.begin.auto.scratch
 
 pub returns : goal.returns
-returns c =
-    let t = c.before.before.before.before in
-    going_end t.loop-k-test.false t.loop-k.invariant.1 c.name_gates.ensures
+returns c = going_end c.loop-k-test.false c.loop-k.invariant.1 c.name_gates.ensures

@@ -15,14 +15,11 @@ loop-i-init c = (omega arith, refl, refl)
 
 pub loop-i-preserved : goal.loop-i-preserved
 loop-i-preserved c =
-    let q = c.before.before in
-    let l = q.loop-i in
-    let s = q.before.before.before in
-    let a = s.args in (
+    let a = c.args in (
       omega arith,
-      length-set l.to (3 * l.i) c.word.result ∙ l.invariant.1,
-      ap₂ (λ (t : List ℕ) (x : ℕ). set t (3 * l.i) x) l.invariant.2 (c.word.ensures ∙ c.left_side.ensures)
-          ∙ name-more a.base a.to.now l.i (omega (arith, s.requires.0, q.loop-i-test.true)),
+      length-set c.loop-i.to (3 * c.loop-i.i) c.word.result ∙ c.loop-i.invariant.1,
+      ap₂ (λ (t : List ℕ) (x : ℕ). set t (3 * c.loop-i.i) x) c.loop-i.invariant.2 (c.word.ensures ∙ c.left_side.ensures)
+          ∙ name-more a.base a.to.now c.loop-i.i (omega (arith, c.requires.0, c.loop-i-test.true)),
     )
 
 pub shape_of-to : goal.shape_of-to
@@ -31,6 +28,5 @@ shape_of-to c = c.loop-i.invariant.1
 pub returns : goal.returns
 returns c =
     let a = c.args in
-    let l = c.loop-i in
-    let e : l.i ≡ a.n = omega arith in
-    l.invariant.2 ∙ ap (λ (i : ℕ). rows a.base a.to.now i ++ drop (3 * i) a.to.now) e ∙ named-all a.base a.to.now a.n
+    let e : c.loop-i.i ≡ a.n = omega arith in
+    c.loop-i.invariant.2 ∙ ap (λ (i : ℕ). rows a.base a.to.now i ++ drop (3 * i) a.to.now) e ∙ named-all a.base a.to.now a.n

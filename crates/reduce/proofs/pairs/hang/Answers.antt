@@ -6,12 +6,9 @@ use Rattle.reduce.specs.pairs.Pairs.{stored}
 use Rattle.reduce.proofs.pairs.hang.Goals as goal
 
 pub bounds-gates-n-2 : goal.bounds-gates-n-2
-bounds-gates-n-2 c =
-    let g = c.before.before.before.before.before in
-    simp length-set (omega (arith, g.set_slot.auto.gates, g.requires.room.gates-long))
+bounds-gates-n-2 c = simp length-set (omega (arith, c.set_slot.auto.gates, c.requires.room.gates-long))
 
 pub returns : goal.returns
 returns c =
-    let l = c.before.before.before.before.before.before in
-    let a = l.args in
-    (λ j. stored (l.set_slot.ensures.0 j) a.n (c.word.ensures j) (c.word-2.ensures j), l.set_slot.ensures.1)
+    let a = c.args in
+    (λ j. stored (c.set_slot.ensures.0 j) a.n (c.word.ensures j) (c.word-2.ensures j), c.set_slot.ensures.1)

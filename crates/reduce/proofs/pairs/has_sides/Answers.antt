@@ -17,6 +17,5 @@ returns-then-gates-i c =
 pub returns : goal.returns
 returns c =
     let a = c.args in
-    let e = c.before.before in
-    let first = eq-eqb (get_or a.gates.now (3 * a.i + 1) 0) (word_of a.x) (e.if-gates-i.false ∙ e.word.ensures) in
+    let first = eq-eqb (get_or a.gates.now (3 * a.i + 1) 0) (word_of a.x) (c.if-gates-i.false ∙ c.word.ensures) in
     rw first (ap (eqb (get_or a.gates.now (3 * a.i + 2) 0)) c.word-2.ensures)

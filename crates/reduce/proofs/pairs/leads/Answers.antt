@@ -6,13 +6,11 @@ use Rattle.reduce.proofs.pairs.leads.Goals as goal
 
 pub returns-then-bit-eq0 : goal.returns-then-bit-eq0
 returns-then-bit-eq0 c =
-    let s = c.before.before in
-    let a = s.args in
-    word-link a.gates.now a.scratch.now a.w a.i a.bit s.requires.w_bound.1 _ (λ e. refl)
+    let a = c.args in
+    word-link a.gates.now a.scratch.now a.w a.i a.bit c.requires.w_bound.1 _ (λ e. refl)
     (λ d. absurd (d c.if-bit-eq0.true))
 
 pub returns-else-bit-eq0 : goal.returns-else-bit-eq0
 returns-else-bit-eq0 c =
-    let s = c.before.before in
-    let a = s.args in
-    word-link a.gates.now a.scratch.now a.w a.i a.bit s.requires.w_bound.1 _ (λ e. absurd (c.if-bit-eq0.false e)) (λ d. refl)
+    let a = c.args in
+    word-link a.gates.now a.scratch.now a.w a.i a.bit c.requires.w_bound.1 _ (λ e. absurd (c.if-bit-eq0.false e)) (λ d. refl)

@@ -9,5 +9,4 @@ use Rattle.reduce.proofs.pairs.left_side.Goals as goal
 
 pub returns : goal.returns
 returns c =
-    let s = c.before.before in
-    ap word_of (c.lit.ensures ∙ ap doubled c.at.ensures) ∙ whole (s.args.base + s.args.i) (omega (arith, s.requires))
+    ap word_of (c.lit.ensures ∙ ap doubled c.at.ensures) ∙ whole (c.args.base + c.args.i) (omega (arith, c.requires))

@@ -11,6 +11,5 @@ returns-then-bit-eq0 c =
 
 pub returns : goal.returns
 returns c =
-    let s = c.before in
-    let a = s.args in
-    led-one a.gates.now a.scratch.now a.w a.n a.i a.bit (omega (arith, s.requires.room.fewer, s.requires.i_lt_n)) c.if-bit-eq0.false
+    let a = c.args in
+    led-one a.gates.now a.scratch.now a.w a.n a.i a.bit (omega (arith, c.requires.room.fewer, c.requires.i_lt_n)) c.if-bit-eq0.false

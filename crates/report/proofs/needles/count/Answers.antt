@@ -23,10 +23,9 @@ bounds-six-slot c = let p = c.requires in omega (arith, p.inside, p.coded, p.som
 
 pub overflow_add-six : goal.overflow_add-six
 overflow_add-six c =
-    let s = c.before.before in
-    let p = s.requires in
-    let j : s.args.value - 1 < 4 = omega (arith, p.coded) in
-    omega (arith, p.few (s.args.value - 1) j)
+    let p = c.requires in
+    let j : c.args.value - 1 < 4 = omega (arith, p.coded) in
+    omega (arith, p.few (c.args.value - 1) j)
 
 pub offset_bounds-six-slot-2 : goal.offset_bounds-six-slot-2
 offset_bounds-six-slot-2 c = let p = c.requires in omega (arith, p.inside, p.coded)
@@ -45,9 +44,8 @@ bounds-six-at c = let p = c.requires in simp length-set (omega (arith, p.inside)
 
 pub change-requires : goal.change-requires
 change-requires c =
-    let s = c.before.before.before in
-    let a = s.args in
-    let p = s.requires in (
+    let a = c.args in
+    let p = c.requires in (
       omega (
         arith,
         p.few 3 (omega arith),
@@ -68,9 +66,8 @@ bounds-six-at-2 c = let p = c.requires in simp length-set (omega (arith, p.insid
 
 pub returns : goal.returns
 returns c =
-    let s = c.before.before.before.before in
-    let a = s.args in
-    let p = s.requires in
+    let a = c.args in
+    let p = c.requires in
     let six : List ℕ = a.six.now in
     let w = a.value in
     let y : ℕ = get_or six (a.at + (w - 1)) 0 + 1 in

@@ -6,45 +6,32 @@ use lib.ListN.{get_or}
 use borrow.Author.Rules.{rules}
 use Rattle.report.specs.needles.Tally.{counted, row_from}
 use Rattle.report.proofs.needles.Looping.{Rowed, rowed-none, asks, counts-more, rowed-all}
-use Rattle.report.proofs.needles.count_all.Goals.{In-loop-i, Start}
 use Rattle.report.proofs.needles.count_all.Goals as goal
-
--- back to the start from a turn
-abbrev start : In-loop-i → Start
-start q = q.before.before.before.before
 
 pub loop-i-init : goal.loop-i-init
 loop-i-init c = (omega arith, rowed-none _ _ _)
 
 pub overflow_add-from : goal.overflow_add-from
-overflow_add-from c = omega (arith, (start c).requires.words_inside)
+overflow_add-from c = omega (arith, c.requires.words_inside)
 
 pub offset_bounds-t-from : goal.offset_bounds-t-from
-offset_bounds-t-from c = omega (arith, (start c).requires.words_inside)
+offset_bounds-t-from c = omega (arith, c.requires.words_inside)
 
 pub bounds-t-from : goal.bounds-t-from
-bounds-t-from c = omega (arith, (start c.before).pre.words_inside)
+bounds-t-from c = omega (arith, c.requires.words_inside)
 
 pub count-requires : goal.count-requires
-count-requires c =
-    let q = c.before.before in
-    let w = q.loop-i in
-    asks (start q).requires q.loop-i-test.true w.invariant.1
+count-requires c = asks c.requires c.loop-i-test.true c.loop-i.invariant.1
 
 pub overflow_add-row : goal.overflow_add-row
-overflow_add-row c =
-    let q = c.before.before.before.before.before in
-    let w = q.loop-i in
-    omega (arith, (start q).requires.rows_inside, w.invariant.1.here)
+overflow_add-row c = omega (arith, c.requires.rows_inside, c.loop-i.invariant.1.here)
 
 pub loop-i-preserved : goal.loop-i-preserved
 loop-i-preserved c =
-    let q = c.before.before.before.before.before in
-    let w = q.loop-i in
-    (omega arith, counts-more (start q).requires q.loop-i-test.true w.invariant.1 _ c.count.auto.six c.count.ensures)
+    (omega arith, counts-more c.requires c.loop-i-test.true c.loop-i.invariant.1 _ c.count.auto.six c.count.ensures)
 
 pub shape_of-six : goal.shape_of-six
 shape_of-six c = c.loop-i.invariant.1.as_long
 
 pub returns : goal.returns
-returns c = let w = c.loop-i in rowed-all w.invariant.0 c.loop-i-test.false w.invariant.1
+returns c = rowed-all c.loop-i.invariant.0 c.loop-i-test.false c.loop-i.invariant.1

@@ -14,45 +14,32 @@ loop-i-init c = (omega arith, omega arith, rowed-none _ _ _)
 
 pub offset_bounds-six-at : goal.offset_bounds-six-at
 offset_bounds-six-at c =
-    let q = c in
-    let w = q.loop-i in
-    omega (arith, w.invariant.1, w.invariant.2.as_long, q.requires, q.loop-i-test.true)
+    omega (arith, c.loop-i.invariant.1, c.loop-i.invariant.2.as_long, c.requires, c.loop-i-test.true)
 
 pub bounds-six-at : goal.bounds-six-at
-bounds-six-at c =
-    let q = c.before in
-    let w = q.loop-i in
-    omega (arith, w.invariant.1, w.invariant.2.as_long, q.requires, q.loop-i-test.true)
+bounds-six-at c = omega (arith, c.loop-i.invariant.1, c.loop-i.invariant.2.as_long, c.requires, c.loop-i-test.true)
 
 pub offset_bounds-six-at-in-loop-i : goal.offset_bounds-six-at-in-loop-i
 offset_bounds-six-at-in-loop-i c =
-    let q = c.before in
-    let w = q.loop-i in
-    omega (arith, w.invariant.1, w.invariant.2.as_long, q.requires, q.loop-i-test.true)
+    omega (arith, c.loop-i.invariant.1, c.loop-i.invariant.2.as_long, c.requires, c.loop-i-test.true)
 
 pub bounds-six-at-in-loop-i : goal.bounds-six-at-in-loop-i
 bounds-six-at-in-loop-i c =
-    let q = c.before in
-    let w = q.loop-i in
-    omega (arith, w.invariant.1, w.invariant.2.as_long, q.requires, q.loop-i-test.true)
+    omega (arith, c.loop-i.invariant.1, c.loop-i.invariant.2.as_long, c.requires, c.loop-i-test.true)
 
 pub overflow_add-at : goal.overflow_add-at
-overflow_add-at c =
-    let q = c.before in
-    let w = q.loop-i in
-    omega (arith, w.invariant.1, w.invariant.2.as_long, q.requires, q.loop-i-test.true)
+overflow_add-at c = omega (arith, c.loop-i.invariant.1, c.loop-i.invariant.2.as_long, c.requires, c.loop-i-test.true)
 
 pub loop-i-preserved : goal.loop-i-preserved
 loop-i-preserved c =
-    let q = c.before in
-    let w = q.loop-i in (
+    (
       omega arith,
-      omega (arith, w.invariant.1),
-      finish-next q.requires q.loop-i-test.true w.invariant.1 w.invariant.2 _ (length-set w.six w.at _) refl,
+      omega (arith, c.loop-i.invariant.1),
+      finish-next c.requires c.loop-i-test.true c.loop-i.invariant.1 c.loop-i.invariant.2 _ (length-set c.loop-i.six c.loop-i.at _) refl,
     )
 
 pub shape_of-six : goal.shape_of-six
 shape_of-six c = c.loop-i.invariant.2.as_long
 
 pub returns : goal.returns
-returns c = let w = c.loop-i in rowed-all w.invariant.0 c.loop-i-test.false w.invariant.2
+returns c = rowed-all c.loop-i.invariant.0 c.loop-i-test.false c.loop-i.invariant.2

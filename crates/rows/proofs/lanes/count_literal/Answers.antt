@@ -13,8 +13,7 @@ use Rattle.rows.proofs.lanes.count_literal.Goals as goal
 
 pub plane_of-zero-requires : goal.plane_of-zero-requires
 plane_of-zero-requires c =
-    let s = c.before.before.before.before in
-    subst (λ (x : Lit). There (word_of x) s.args.t.now) (sym c.negated.ensures) (omega (arith, s.requires.there))
+    subst (λ (x : Lit). There (word_of x) c.args.t.now) (sym c.negated.ensures) (omega (arith, c.requires.there))
 
 pub bounds-report-at-2 : goal.bounds-report-at-2
 bounds-report-at-2 c = simp length-set (omega arith)
@@ -24,11 +23,9 @@ bounds-report-at-3 c = simp length-set (omega arith)
 
 pub returns : goal.returns
 returns c =
-    let s = c.before.before.before.before.before.before.before.before in
-    let a = s.args in
-    let p = c.before.before.before in
-    three-put a.report.now a.at _ _ _ s.requires.at_in_bounds
+    let a = c.args in
+    three-put a.report.now a.at _ _ _ c.requires.at_in_bounds
     ∙ ap (put a.report.now a.at)
-    (literal-counts a.t.now a.mask (word_of a.l) _ _ _ _ _ p.plane_of-one.ensures
-    (p.plane_of-zero.ensures ∙ ap (λ (x : Lit). plane_at a.t.now (word_of x)) p.negated.ensures)
+    (literal-counts a.t.now a.mask (word_of a.l) _ _ _ _ _ c.plane_of-one.ensures
+    (c.plane_of-zero.ensures ∙ ap (λ (x : Lit). plane_at a.t.now (word_of x)) c.negated.ensures)
     c.rows_in.ensures c.rows_in-2.ensures c.rows_in-3.ensures)

@@ -13,35 +13,25 @@ use Rattle.judge.proofs.used.Walked.{one_word}
 use Rattle.rows.specs.lanes.Working.{There, counts_at, counts_of}
 use Rattle.rows.proofs.lanes.Turns.{rows_more}
 use borrow.Author.Rules.{rules}
-use Rattle.rows.proofs.lanes.count_rows.Goals.{In-loop-j, Start}
 use Rattle.rows.proofs.lanes.count_rows.Goals as goal
-
--- back to the start from a turn
-abbrev start : In-loop-j → Start
-start q = q.before.before.before.before.before.before
 
 pub loop-j-init : goal.loop-j-init
 loop-j-init c = (omega arith, omega arith, refl, sym (put-none c.args.report.now 0))
 
 pub offset_bounds-outputs-j : goal.offset_bounds-outputs-j
-offset_bounds-outputs-j c = omega (arith, (start c).requires.0.literals-long, c.loop-j-test.true)
+offset_bounds-outputs-j c = omega (arith, c.requires.shows.literals-long, c.loop-j-test.true)
 
 pub bounds-outputs-j : goal.bounds-outputs-j
-bounds-outputs-j c = omega (arith, (start c.before).pre.0.literals-long, c.loop-j-test.true)
+bounds-outputs-j c = omega (arith, c.requires.shows.literals-long, c.loop-j-test.true)
 
 pub count_literal-requires : goal.count_literal-requires
 count_literal-requires c =
-    let q = c.before.before.before in
-    let s = start q in
-    let w = q.loop-j in
-    record { there = subst (λ (x : Lit). There (word_of x) s.args.t.now) (sym c.at.ensures)
-          (subst (λ (l : ℕ). There l s.args.t.now) (sym (one_word s.args.outputs.now w.j))
-          (s.pre.0.inside w.j q.loop-j-test.true)); at_in_bounds = omega (arith, w.invariant.1, w.invariant.2, s.pre.1.1, q.loop-j-test.true); }
+    record { there = subst (λ (x : Lit). There (word_of x) c.args.t.now) (sym c.at.ensures)
+          (subst (λ (l : ℕ). There l c.args.t.now) (sym (one_word c.args.outputs.now c.loop-j.j))
+          (c.requires.shows.inside c.loop-j.j c.loop-j-test.true)); at_in_bounds = omega (arith, c.loop-j.invariant.1, c.loop-j.invariant.2, c.requires.n_in_bounds, c.loop-j-test.true); }
 
 pub overflow_add-at : goal.overflow_add-at
-overflow_add-at c =
-    let q = c.before.before.before.before.before.before in
-    omega (arith, q.loop-j.invariant.1, (start q).requires.1.1, q.loop-j-test.true)
+overflow_add-at c = omega (arith, c.loop-j.invariant.1, c.requires.n_in_bounds, c.loop-j-test.true)
 
 pub overflow_add-j : goal.overflow_add-j
 overflow_add-j c = omega (arith, c.loop-j-test.true)
@@ -51,18 +41,15 @@ loop-j-smaller c = omega (arith, c.loop-j-test.true)
 
 pub loop-j-preserved : goal.loop-j-preserved
 loop-j-preserved c =
-    let q = c.before.before.before.before.before.before in
-    let s = start q in
-    let a = s.args in
-    let w = q.loop-j in
-    let mask = q.mask_of-mask.result in (
-      omega (arith, q.loop-j-test.true),
-      omega (arith, w.invariant.1),
-      c.count_literal.auto.report ∙ w.invariant.2,
-      rows_more (λ i. counts_at a.t.now mask (get_or a.outputs.now i 0)) 3 (λ i. refl) w.j w.at a.report.now w.report _
-          w.invariant.1 (omega (arith, s.pre.1.1, q.loop-j-test.true)) w.invariant.3
+    let a = c.args in
+    let mask = c.mask_of-mask.result in (
+      omega (arith, c.loop-j-test.true),
+      omega (arith, c.loop-j.invariant.1),
+      c.count_literal.auto.report ∙ c.loop-j.invariant.2,
+      rows_more (λ i. counts_at a.t.now mask (get_or a.outputs.now i 0)) 3 (λ i. refl) c.loop-j.j c.loop-j.at a.report.now c.loop-j.report _
+          c.loop-j.invariant.1 (omega (arith, c.requires.n_in_bounds, c.loop-j-test.true)) c.loop-j.invariant.3
           (c.count_literal.ensures
-          ∙ ap (λ (x : Lit). put w.report w.at (counts_at a.t.now mask (word_of x))) c.at.ensures),
+          ∙ ap (λ (x : Lit). put c.loop-j.report c.loop-j.at (counts_at a.t.now mask (word_of x))) c.at.ensures),
     )
 
 pub shape_of-report : goal.shape_of-report
@@ -71,8 +58,7 @@ shape_of-report c = c.loop-j.invariant.2
 pub returns : goal.returns
 returns c =
     let a = c.args in
-    let w = c.loop-j in
-    let all : w.j ≡ a.n = omega arith in
-    w.invariant.3
+    let all : c.loop-j.j ≡ a.n = omega arith in
+    c.loop-j.invariant.3
     ∙ (ap (λ (k : ℕ). put a.report.now 0 (counts_of a.outputs.now k c.mask_of-mask.result a.t.now)) all
     ∙ ap (λ (m : ℕ). put a.report.now 0 (counts_of a.outputs.now a.n m a.t.now)) c.mask_of-mask.ensures)

@@ -10,45 +10,38 @@ use Rattle.step.proofs.sweep.Lookups.{next-at}
 use Rattle.rows.specs.lanes.Blocks.{Packed}
 use Rattle.rows.proofs.lanes.Loading.{loaded, packed_none, packed-room, packed_more}
 use borrow.Author.Rules.{rules}
-use Rattle.rows.proofs.lanes.load_block.Goals.{In-loop-k, Start}
 use Rattle.rows.proofs.lanes.load_block.Goals as goal
-
--- back to the start from a turn, and the room of its row
-abbrev start : In-loop-k → Start
-start q = q.before.before.before.before
-
-row_fits : (q : In-loop-k) → let a = (start q).args in a.n * q.loop-k.k + a.n ≤ length a.bytes.now
-row_fits q =
-    let a = (start q).args in
-    row_ends a.n a.rows q.loop-k.k a.bytes.now (start q).requires.0.whole q.loop-k-test.true
-
-lane : (q : In-loop-k) → q.loop-k.k < 64
-lane q = omega (arith, q.loop-k-test.true, (start q).requires.0.most)
 
 pub loop-k-init : goal.loop-k-init
 loop-k-init c =
-    let s = c.before.before in
-    let a = s.args in
-    (omega arith, omega (arith, mul-zero a.n), refl, packed_none a.code a.bytes.now a.from a.n a.w a.block.now s.requires.in_bounds.1)
+    let a = c.args in
+    (omega arith, omega (arith, mul-zero a.n), refl, packed_none a.code a.bytes.now a.from a.n a.w a.block.now c.requires.in_bounds.1)
 
 pub overflow_mul-k : goal.overflow_mul-k
-overflow_mul-k c = omega (arith, lane c)
+overflow_mul-k c =
+    let lane : c.loop-k.k < 64 =
+    omega (arith, c.loop-k-test.true, c.requires.block.most) in
+    omega (arith, lane)
 
 pub add_row-requires : goal.add_row-requires
 add_row-requires c =
-    let q = c.before in
-    let s = start q in
-    let a = s.args in
-    let w = q.loop-k in
+    let row_fits : let a = c.args in a.n * c.loop-k.k + a.n ≤ length a.bytes.now =
+    let a = c.args in
+    row_ends a.n a.rows c.loop-k.k a.bytes.now c.requires.block.whole c.loop-k-test.true in
+    let lane : c.loop-k.k < 64 =
+    omega (arith, c.loop-k-test.true, c.requires.block.most) in
+    let a = c.args in
     record { w_in_bounds = (
-        omega (arith, row_fits q, s.pre.0.inside, w.invariant.1),
-        omega (arith, lane q, s.pre.0.narrow, s.pre.1.0, w.invariant.2),
-      ); by_index = packed-room a.code a.bytes.now a.from a.n a.w w.k w.block w.invariant.3 (lane q); }
+        omega (arith, row_fits, c.requires.block.inside, c.loop-k.invariant.1),
+        omega (arith, lane, c.requires.block.narrow, c.requires.in_bounds.0, c.loop-k.invariant.2),
+      ); by_index = packed-room a.code a.bytes.now a.from a.n a.w c.loop-k.k c.loop-k.block c.loop-k.invariant.3 (lane); }
 
 pub overflow_add-at : goal.overflow_add-at
 overflow_add-at c =
-    let q = c.before.before.before.before in
-    omega (arith, row_fits q, (start q).requires.0.inside, q.loop-k.invariant.1)
+    let row_fits : let a = c.args in a.n * c.loop-k.k + a.n ≤ length a.bytes.now =
+    let a = c.args in
+    row_ends a.n a.rows c.loop-k.k a.bytes.now c.requires.block.whole c.loop-k-test.true in
+    omega (arith, row_fits, c.requires.block.inside, c.loop-k.invariant.1)
 
 pub overflow_add-k : goal.overflow_add-k
 overflow_add-k c = omega (arith, c.loop-k-test.true)
@@ -58,13 +51,14 @@ loop-k-smaller c = omega (arith, c.loop-k-test.true)
 
 pub loop-k-preserved : goal.loop-k-preserved
 loop-k-preserved c =
-    let q = c.before.before.before.before in
-    let a = (start q).args in
-    let w = q.loop-k in (
-      omega (arith, q.loop-k-test.true),
-      next-at a.n a.from w.k w.at w.invariant.1,
-      c.add_row.auto.block ∙ w.invariant.2,
-      packed_more a.code a.bytes.now a.from a.n a.w w.k w.block w.invariant.3 (lane q) (start q).requires.0.narrow w.at w.invariant.1
+    let lane : c.loop-k.k < 64 =
+    omega (arith, c.loop-k-test.true, c.requires.block.most) in
+    let a = c.args in
+    (
+      omega (arith, c.loop-k-test.true),
+      next-at a.n a.from c.loop-k.k c.loop-k.at c.loop-k.invariant.1,
+      c.add_row.auto.block ∙ c.loop-k.invariant.2,
+      packed_more a.code a.bytes.now a.from a.n a.w c.loop-k.k c.loop-k.block c.loop-k.invariant.3 (lane) c.requires.block.narrow c.loop-k.at c.loop-k.invariant.1
           _ c.add_row.ensures,
     )
 
@@ -74,6 +68,5 @@ shape_of-block c = c.loop-k.invariant.2
 pub returns : goal.returns
 returns c =
     let a = c.args in
-    let w = c.loop-k in
-    let all : w.k ≡ a.rows = omega arith in
-    subst (λ (m : ℕ). Packed (loaded a.code a.bytes.now a.from a.n a.w m) a.w w.block) all w.invariant.3
+    let all : c.loop-k.k ≡ a.rows = omega arith in
+    subst (λ (m : ℕ). Packed (loaded a.code a.bytes.now a.from a.n a.w m) a.w c.loop-k.block) all c.loop-k.invariant.3

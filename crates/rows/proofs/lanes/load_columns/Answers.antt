@@ -18,18 +18,13 @@ overflow_add-from c = omega (arith, c.requires.w_in_bounds)
 
 pub put_columns-requires : goal.put_columns-requires
 put_columns-requires c =
-    let s = c.before.before.before.before.before.before.before.before.before.before.before in
-    let d = c.before.before.before in
-    record { w_bound = (s.requires.block.narrow, omega (arith, d.load_block.auto.block), omega (arith, d.load_block-2.auto.block)); w_in_bounds = s.requires.w_in_bounds; }
+    record { w_bound = (c.requires.block.narrow, omega (arith, c.load_block.auto.block), omega (arith, c.load_block-2.auto.block)); w_in_bounds = c.requires.w_in_bounds; }
 
 pub returns : goal.returns
 returns c =
-    let s = c.before.before.before.before.before.before.before.before.before.before.before.before.before.before in
-    let a = s.args in
-    let ones = c.load_block in
-    let zeros = c.load_block-2 in
+    let a = c.args in
     grows_same (1 + a.from) _ _ (λ j. column 48 a.bytes.now (a.from + j) a.n a.rows) (λ j. column 49 a.bytes.now (a.from + j) a.n a.rows)
     a.w a.t.now _
-    (block-plane 48 a.bytes.now a.from a.n a.w a.rows s.requires.block.most ones.new.1.1.1.1.1.1.0 ones.ensures)
-    (block-plane 49 a.bytes.now a.from a.n a.w a.rows s.requires.block.most zeros.new.1.1.1.1.1.1.0 zeros.ensures)
+    (block-plane 48 a.bytes.now a.from a.n a.w a.rows c.requires.block.most c.load_block.new.block c.load_block.ensures)
+    (block-plane 49 a.bytes.now a.from a.n a.w a.rows c.requires.block.most c.load_block-2.new.block c.load_block-2.ensures)
     c.put_columns.ensures

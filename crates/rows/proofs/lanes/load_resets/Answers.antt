@@ -10,19 +10,11 @@ use Rattle.rows.specs.lanes.Words.{every_row}
 use Rattle.rows.specs.lanes.Working.{Grows}
 use Rattle.rows.proofs.lanes.Turns.{grows_none, grows-more, grows_all}
 use borrow.Author.Rules.{rules}
-use Rattle.rows.proofs.lanes.load_resets.Goals.{In-loop-j, Start}
 use Rattle.rows.proofs.lanes.load_resets.Goals as goal
 
 -- where latch j differs from a reset
 abbrev but : ℕ → List ℕ → ℕ → ℕ
 but code resets j = every_row (other code (get_or resets j 0))
-
--- back to the start from a turn, and the room of its planes
-abbrev start : In-loop-j → Start
-start q = q.before.before.before.before
-
-room : (q : In-loop-j) → q.loop-j.to + 4 ≤ length q.loop-j.t
-room q = omega (arith, q.loop-j.invariant.1, q.loop-j.invariant.2, (start q).requires.1, q.loop-j-test.true)
 
 pub loop-j-init : goal.loop-j-init
 loop-j-init c =
@@ -30,16 +22,22 @@ loop-j-init c =
     (omega arith, omega arith, refl, grows_none a.before (but 0 a.resets.now) (but 1 a.resets.now) a.t.now)
 
 pub offset_bounds-resets-j : goal.offset_bounds-resets-j
-offset_bounds-resets-j c = omega (arith, (start c).requires.0, c.loop-j-test.true)
+offset_bounds-resets-j c = omega (arith, c.requires.0, c.loop-j-test.true)
 
 pub bounds-resets-j : goal.bounds-resets-j
-bounds-resets-j c = omega (arith, (start c.before).pre.0, c.loop-j-test.true)
+bounds-resets-j c = omega (arith, c.requires.0, c.loop-j-test.true)
 
 pub put_planes-requires : goal.put_planes-requires
-put_planes-requires c = room c.before.before.before.before
+put_planes-requires c =
+    let room : c.loop-j.to + 4 ≤ length c.loop-j.t =
+    omega (arith, c.loop-j.invariant.1, c.loop-j.invariant.2, c.requires.1, c.loop-j-test.true) in
+    room
 
 pub overflow_add-to : goal.overflow_add-to
-overflow_add-to c = omega (arith, room c.before.before.before.before.before.before.before)
+overflow_add-to c =
+    let room : c.loop-j.to + 4 ≤ length c.loop-j.t =
+    omega (arith, c.loop-j.invariant.1, c.loop-j.invariant.2, c.requires.1, c.loop-j-test.true) in
+    omega (arith, room)
 
 pub overflow_add-j : goal.overflow_add-j
 overflow_add-j c = omega (arith, c.loop-j-test.true)
@@ -49,14 +47,15 @@ loop-j-smaller c = omega (arith, c.loop-j-test.true)
 
 pub loop-j-preserved : goal.loop-j-preserved
 loop-j-preserved c =
-    let q = c.before.before.before.before.before.before.before in
-    let a = (start q).args in
-    let w = q.loop-j in (
-      omega (arith, q.loop-j-test.true),
-      omega (arith, w.invariant.1),
-      c.put_planes.auto.t ∙ w.invariant.2,
-      grows-more a.before (but 0 a.resets.now) (but 1 a.resets.now) w.j a.t.now w.t w.invariant.3 w.to _ _ _ w.invariant.1
-          (room q) c.rows_but-one.ensures c.rows_but-zero.ensures
+    let room : c.loop-j.to + 4 ≤ length c.loop-j.t =
+    omega (arith, c.loop-j.invariant.1, c.loop-j.invariant.2, c.requires.1, c.loop-j-test.true) in
+    let a = c.args in
+    (
+      omega (arith, c.loop-j-test.true),
+      omega (arith, c.loop-j.invariant.1),
+      c.put_planes.auto.t ∙ c.loop-j.invariant.2,
+      grows-more a.before (but 0 a.resets.now) (but 1 a.resets.now) c.loop-j.j a.t.now c.loop-j.t c.loop-j.invariant.3 c.loop-j.to _ _ _ c.loop-j.invariant.1
+          (room) c.rows_but-one.ensures c.rows_but-zero.ensures
           c.put_planes.ensures,
     )
 
@@ -66,5 +65,4 @@ shape_of-t c = c.loop-j.invariant.2
 pub returns : goal.returns
 returns c =
     let a = c.args in
-    let w = c.loop-j in
-    grows_all a.before (but 0 a.resets.now) (but 1 a.resets.now) w.j a.n a.t.now w.t (omega arith) w.invariant.3
+    grows_all a.before (but 0 a.resets.now) (but 1 a.resets.now) c.loop-j.j a.n a.t.now c.loop-j.t (omega arith) c.loop-j.invariant.3

@@ -9,7 +9,6 @@ use Rattle.rows.specs.Planes.Planes.{column}
 use Rattle.rows.specs.lanes.Working.{Grows}
 use Rattle.rows.proofs.lanes.Turns.{grows_none, grows_all}
 use Rattle.rows.proofs.lanes.Loading.{grows-join}
-use Rattle.rows.proofs.lanes.load_rows.Goals.{In-loop-j, Start}
 use Rattle.rows.proofs.lanes.load_rows.Goals as goal
 
 -- the planes of input j
@@ -18,10 +17,6 @@ one bytes n rows j = column 48 bytes j n rows
 
 abbrev zero : List ℕ → ℕ → ℕ → ℕ → ℕ
 zero bytes n rows j = column 49 bytes j n rows
-
--- back to the start from a turn
-abbrev start : In-loop-j → Start
-start q = q.before.before.before.before
 
 pub loop-j-init : goal.loop-j-init
 loop-j-init c =
@@ -36,36 +31,31 @@ width-w-requires c = omega (arith, c.loop-j-test.true)
 
 pub load_columns-requires : goal.load_columns-requires
 load_columns-requires c =
-    let q = c.before.before in
-    let s = start q in
     let w = c.width-w.ensures in
     record { block = record {
         some = w.0;
-        inside = omega (arith, w.1, q.loop-j-test.true);
+        inside = omega (arith, w.1, c.loop-j-test.true);
         narrow = w.2;
-        most = s.pre.0;
-        whole = s.pre.1;
-      }; w_in_bounds = omega (arith, w.1, q.loop-j-test.true, q.loop-j.invariant.1, s.pre.2); }
+        most = c.requires.0;
+        whole = c.requires.1;
+      }; w_in_bounds = omega (arith, w.1, c.loop-j-test.true, c.loop-j.invariant.1, c.requires.2); }
 
 pub overflow_add-j : goal.overflow_add-j
-overflow_add-j c = let q =
-    c.before.before.before.before.before in omega (arith, c.width-w.ensures.1, q.loop-test.true)
+overflow_add-j c = omega (arith, c.width-w.ensures.1, c.loop-j-test.true)
 
 pub loop-j-smaller : goal.loop-j-smaller
 loop-j-smaller c =
-    let q = c.before.before.before.before.before in
     let w = c.width-w.ensures in
-    omega (arith, w.0, w.1, q.loop-j-test.true)
+    omega (arith, w.0, w.1, c.loop-j-test.true)
 
 pub loop-j-preserved : goal.loop-j-preserved
 loop-j-preserved c =
-    let q = c.before.before.before.before.before in
-    let a = (start q).args in
-    let w = q.loop-j in (
-      omega (arith, c.width-w.ensures.1, q.loop-j-test.true),
-      c.load_columns.auto.t ∙ w.invariant.1,
-      grows-join 1 (one a.bytes.now a.n a.rows) (zero a.bytes.now a.n a.rows) w.j c.width-w.result
-          a.t.now w.t _ w.invariant.2 c.load_columns.ensures,
+    let a = c.args in
+    (
+      omega (arith, c.width-w.ensures.1, c.loop-j-test.true),
+      c.load_columns.auto.t ∙ c.loop-j.invariant.1,
+      grows-join 1 (one a.bytes.now a.n a.rows) (zero a.bytes.now a.n a.rows) c.loop-j.j c.width-w.result
+          a.t.now c.loop-j.t _ c.loop-j.invariant.2 c.load_columns.ensures,
     )
 
 pub shape_of-t : goal.shape_of-t
@@ -74,5 +64,4 @@ shape_of-t c = c.loop-j.invariant.1
 pub returns : goal.returns
 returns c =
     let a = c.args in
-    let w = c.loop-j in
-    grows_all 1 (one a.bytes.now a.n a.rows) (zero a.bytes.now a.n a.rows) w.j a.n a.t.now w.t (omega arith) w.invariant.2
+    grows_all 1 (one a.bytes.now a.n a.rows) (zero a.bytes.now a.n a.rows) c.loop-j.j a.n a.t.now c.loop-j.t (omega arith) c.loop-j.invariant.2

@@ -4,17 +4,19 @@ use Prim.Native.Nat.{◌<◌}
 use native.Mathlib.Omega.{arith}
 use lib.Bits.{bit_xor}
 use Rattle.rows.proofs.lanes.Loading.{differs-fits, differs-is}
-use Rattle.rows.proofs.lanes.other_than.Goals.{Start}
 use Rattle.rows.proofs.lanes.other_than.Goals as goal
 
-fits : (c : Start) → bit_xor c.args.b c.args.code < 256
-fits c = differs-fits c.args.b c.args.code (omega arith) (omega arith)
-
 pub overflow_add-result : goal.overflow_add-result
-overflow_add-result c = omega (arith, fits c)
+overflow_add-result c =
+    let fits : bit_xor c.args.b c.args.code < 256 =
+    differs-fits c.args.b c.args.code (omega arith) (omega arith) in
+    omega (arith, fits)
 
 pub overflow_add-result-2 : goal.overflow_add-result-2
-overflow_add-result-2 c = omega (arith, fits c)
+overflow_add-result-2 c =
+    let fits : bit_xor c.args.b c.args.code < 256 =
+    differs-fits c.args.b c.args.code (omega arith) (omega arith) in
+    omega (arith, fits)
 
 pub returns : goal.returns
 returns c = differs-is c.args.b c.args.code (omega arith) (omega arith)

@@ -5,6 +5,4 @@ use borrow.Author.Rules.{rules}
 use Rattle.rows.proofs.lanes.plane_of.Goals as goal
 
 pub returns : goal.returns
-returns c =
-    let s = c.before.before.before.before.before in
-    c.joined.ensures ∙ ap (plane_at s.args.t.now) c.word.ensures
+returns c = c.joined.ensures ∙ ap (plane_at c.args.t.now) c.word.ensures

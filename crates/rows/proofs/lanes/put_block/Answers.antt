@@ -11,20 +11,10 @@ use Rattle.step.proofs.sweep.Lookups.{next-at}
 use Rattle.rows.specs.lanes.Words.{code_by}
 use Rattle.rows.specs.lanes.Blocks.{Blocked}
 use Rattle.rows.proofs.lanes.Storing.{blocked-none, blocked-more, blocked-all}
-use Rattle.rows.proofs.lanes.put_block.Goals.{In-loop-k, Start}
 use Rattle.rows.proofs.lanes.put_block.Goals as goal
 
 abbrev codes : List ℕ → List ℕ → ℕ → ℕ → ℕ
 codes ones boths k j = code_by (get_or ones (64 * (k / 8) + j) 0) (get_or boths (64 * (k / 8) + j) 0) (k % 8)
-
--- back to the start from a turn, and the room of its row
-abbrev start : In-loop-k → Start
-start q = q.before.before.before.before.before
-
-row_fits : (q : In-loop-k) → let a = (start q).args in a.n * q.loop-k.k + a.n ≤ length a.out.now
-row_fits q =
-    let a = (start q).args in
-    row_ends a.n a.rows q.loop-k.k a.out.now (start q).requires.0.whole q.loop-k-test.true
 
 pub loop-k-init : goal.loop-k-init
 loop-k-init c =
@@ -32,23 +22,25 @@ loop-k-init c =
     (omega arith, omega (arith, mul-zero a.n), blocked-none (codes a.ones.now a.boths.now) a.from a.w a.n a.out.now)
 
 pub overflow_mul-k : goal.overflow_mul-k
-overflow_mul-k c = omega (arith, c.loop-k-test.true, (start c).requires.0.most)
+overflow_mul-k c = omega (arith, c.loop-k-test.true, c.requires.block.most)
 
 pub put_codes-requires : goal.put_codes-requires
 put_codes-requires c =
-    let q = c.before in
-    let s = start q in
-    let w = q.loop-k in
+    let row_fits : let a = c.args in a.n * c.loop-k.k + a.n ≤ length a.out.now =
+    let a = c.args in
+    row_ends a.n a.rows c.loop-k.k a.out.now c.requires.block.whole c.loop-k-test.true in
     record { lane_bound = omega arith; w_in_bounds = (
-        omega (arith, q.loop-k-test.true, s.pre.0.most, s.pre.0.narrow, s.pre.1.0),
-        omega (arith, q.loop-k-test.true, s.pre.0.most, s.pre.0.narrow, s.pre.1.1),
-        omega (arith, row_fits q, s.pre.0.inside, w.invariant.1, w.invariant.2.same),
+        omega (arith, c.loop-k-test.true, c.requires.block.most, c.requires.block.narrow, c.requires.in_bounds.0),
+        omega (arith, c.loop-k-test.true, c.requires.block.most, c.requires.block.narrow, c.requires.in_bounds.1),
+        omega (arith, row_fits, c.requires.block.inside, c.loop-k.invariant.1, c.loop-k.invariant.2.same),
       ); }
 
 pub overflow_add-to : goal.overflow_add-to
 overflow_add-to c =
-    let q = c.before.before.before.before in
-    omega (arith, row_fits q, (start q).requires.0.inside, q.loop-k.invariant.1)
+    let row_fits : let a = c.args in a.n * c.loop-k.k + a.n ≤ length a.out.now =
+    let a = c.args in
+    row_ends a.n a.rows c.loop-k.k a.out.now c.requires.block.whole c.loop-k-test.true in
+    omega (arith, row_fits, c.requires.block.inside, c.loop-k.invariant.1)
 
 pub overflow_add-k : goal.overflow_add-k
 overflow_add-k c = omega (arith, c.loop-k-test.true)
@@ -58,12 +50,11 @@ loop-k-smaller c = omega (arith, c.loop-k-test.true)
 
 pub loop-k-preserved : goal.loop-k-preserved
 loop-k-preserved c =
-    let q = c.before.before.before.before in
-    let a = (start q).args in
-    let w = q.loop-k in (
-      omega (arith, q.loop-k-test.true),
-      next-at a.n a.from w.k w.to w.invariant.1,
-      blocked-more w.invariant.2 (start q).requires.0.inside w.to w.invariant.1 _ c.put_codes.ensures,
+    let a = c.args in
+    (
+      omega (arith, c.loop-k-test.true),
+      next-at a.n a.from c.loop-k.k c.loop-k.to c.loop-k.invariant.1,
+      blocked-more c.loop-k.invariant.2 c.requires.block.inside c.loop-k.to c.loop-k.invariant.1 _ c.put_codes.ensures,
     )
 
 pub shape_of-out : goal.shape_of-out

@@ -7,11 +7,7 @@ use Rattle.rows.specs.lanes.Words.{byte_of}
 use Rattle.rows.specs.lanes.Blocks.{Striped}
 use Rattle.rows.proofs.lanes.Storing.{striped-none, striped-more, striped-all, byte-none, byte_more}
 use borrow.Author.Rules.{rules}
-use Rattle.rows.proofs.lanes.put_bytes.Goals.{In-loop-g, Start}
 use Rattle.rows.proofs.lanes.put_bytes.Goals as goal
-
-abbrev start : In-loop-g → Start
-start q = q.before.before
 
 pub loop-g-init : goal.loop-g-init
 loop-g-init c =
@@ -20,21 +16,20 @@ loop-g-init c =
 
 pub bounds-block-at : goal.bounds-block-at
 bounds-block-at c =
-    let w = c.loop-g in
-    omega (arith, (start c).requires.0, (start c).requires.1, c.loop-g-test.true, w.invariant.1, w.invariant.3.same)
+    omega (arith, c.requires.0, c.requires.1, c.loop-g-test.true, c.loop-g.invariant.1, c.loop-g.invariant.3.same)
 
 pub overflow_add-at : goal.overflow_add-at
-overflow_add-at c = let w = c.loop-g in omega (arith, (start c).requires.0, c.loop-g-test.true, w.invariant.1)
+overflow_add-at c = omega (arith, c.requires.0, c.loop-g-test.true, c.loop-g.invariant.1)
 
 pub loop-g-preserved : goal.loop-g-preserved
 loop-g-preserved c =
-    let a = (start c).args in
-    let w = c.loop-g in (
+    let a = c.args in
+    (
       omega (arith, c.loop-g-test.true),
-      omega (arith, w.invariant.1),
-      byte_more a.plane w.g w.rest w.invariant.2,
-      striped-more w.invariant.3 (start c).requires.0 w.at _ w.invariant.1
-          (omega (arith, (start c).requires.0, (start c).requires.1, c.loop-g-test.true, w.invariant.1)) (ap (λ x. x % 256) w.invariant.2),
+      omega (arith, c.loop-g.invariant.1),
+      byte_more a.plane c.loop-g.g c.loop-g.rest c.loop-g.invariant.2,
+      striped-more c.loop-g.invariant.3 c.requires.0 c.loop-g.at _ c.loop-g.invariant.1
+          (omega (arith, c.requires.0, c.requires.1, c.loop-g-test.true, c.loop-g.invariant.1)) (ap (λ x. x % 256) c.loop-g.invariant.2),
     )
 
 pub shape_of-block : goal.shape_of-block

@@ -8,21 +8,7 @@ use Rattle.rows.specs.lanes.Words.{block_plane}
 use Rattle.rows.specs.lanes.Working.{Grows}
 use Rattle.rows.proofs.lanes.Turns.{grows_none, grows-more, grows_all}
 use borrow.Author.Rules.{rules}
-use Rattle.rows.proofs.lanes.put_columns.Goals.{In-loop-j, Start}
 use Rattle.rows.proofs.lanes.put_columns.Goals as goal
-
--- back to the start from a turn
-abbrev start : In-loop-j → Start
-start q = q.before.before.before.before.before
-
-room : (q : In-loop-j) → q.loop-j.to + 4 ≤ length q.loop-j.t
-room q = omega (arith, q.loop-j.invariant.1, q.loop-j.invariant.2, (start q).requires.1, q.loop-j-test.true)
-
-one_word : (q : In-loop-j) → q.loop-j.j + 256 + 192 < length (start q).args.ones.now
-one_word q = omega (arith, q.loop-j-test.true, (start q).requires.0.0, (start q).requires.0.1)
-
-zero_word : (q : In-loop-j) → q.loop-j.j + 256 + 192 < length (start q).args.zeros.now
-zero_word q = omega (arith, q.loop-j-test.true, (start q).requires.0.0, (start q).requires.0.2)
 
 pub overflow_mul-to : goal.overflow_mul-to
 overflow_mul-to c = omega (arith, c.requires.w_in_bounds)
@@ -33,28 +19,52 @@ loop-j-init c =
     (omega arith, omega arith, refl, grows_none a.before (block_plane a.ones.now) (block_plane a.zeros.now) a.t.now)
 
 pub word_of-requires : goal.word_of-requires
-word_of-requires c = omega (arith, one_word c)
+word_of-requires c =
+    let one_word : c.loop-j.j + 256 + 192 < length c.args.ones.now =
+    omega (arith, c.loop-j-test.true, c.requires.w_bound.0, c.requires.w_bound.1) in
+    omega (arith, one_word)
 
 pub overflow_add-j : goal.overflow_add-j
-overflow_add-j c = omega (arith, one_word c.before)
+overflow_add-j c =
+    let one_word : c.loop-j.j + 256 + 192 < length c.args.ones.now =
+    omega (arith, c.loop-j-test.true, c.requires.w_bound.0, c.requires.w_bound.1) in
+    omega (arith, one_word)
 
 pub word_of-requires-in-loop-j : goal.word_of-requires-in-loop-j
-word_of-requires-in-loop-j c = one_word c.before
+word_of-requires-in-loop-j c =
+    let one_word : c.loop-j.j + 256 + 192 < length c.args.ones.now =
+    omega (arith, c.loop-j-test.true, c.requires.w_bound.0, c.requires.w_bound.1) in
+    one_word
 
 pub word_of-requires-in-loop-j-2 : goal.word_of-requires-in-loop-j-2
-word_of-requires-in-loop-j-2 c = omega (arith, zero_word c.before.before.before)
+word_of-requires-in-loop-j-2 c =
+    let zero_word : c.loop-j.j + 256 + 192 < length c.args.zeros.now =
+    omega (arith, c.loop-j-test.true, c.requires.w_bound.0, c.requires.w_bound.2) in
+    omega (arith, zero_word)
 
 pub overflow_add-j-in-loop-j : goal.overflow_add-j-in-loop-j
-overflow_add-j-in-loop-j c = omega (arith, zero_word c.before.before.before.before)
+overflow_add-j-in-loop-j c =
+    let zero_word : c.loop-j.j + 256 + 192 < length c.args.zeros.now =
+    omega (arith, c.loop-j-test.true, c.requires.w_bound.0, c.requires.w_bound.2) in
+    omega (arith, zero_word)
 
 pub word_of-requires-in-loop-j-3 : goal.word_of-requires-in-loop-j-3
-word_of-requires-in-loop-j-3 c = zero_word c.before.before.before.before
+word_of-requires-in-loop-j-3 c =
+    let zero_word : c.loop-j.j + 256 + 192 < length c.args.zeros.now =
+    omega (arith, c.loop-j-test.true, c.requires.w_bound.0, c.requires.w_bound.2) in
+    zero_word
 
 pub put_planes-requires : goal.put_planes-requires
-put_planes-requires c = room c.before.before.before.before.before.before.before
+put_planes-requires c =
+    let room : c.loop-j.to + 4 ≤ length c.loop-j.t =
+    omega (arith, c.loop-j.invariant.1, c.loop-j.invariant.2, c.requires.w_in_bounds, c.loop-j-test.true) in
+    room
 
 pub overflow_add-to : goal.overflow_add-to
-overflow_add-to c = omega (arith, room c.before.before.before.before.before.before.before.before.before.before)
+overflow_add-to c =
+    let room : c.loop-j.to + 4 ≤ length c.loop-j.t =
+    omega (arith, c.loop-j.invariant.1, c.loop-j.invariant.2, c.requires.w_in_bounds, c.loop-j-test.true) in
+    omega (arith, room)
 
 pub overflow_add-j-in-loop-j-2 : goal.overflow_add-j-in-loop-j-2
 overflow_add-j-in-loop-j-2 c = omega (arith, c.loop-j-test.true)
@@ -64,17 +74,16 @@ loop-j-smaller c = omega (arith, c.loop-j-test.true)
 
 pub loop-j-preserved : goal.loop-j-preserved
 loop-j-preserved c =
-    let e = c.before.before.before.before in
-    let d = e.before.before.before in
-    let q = d.before.before.before in
-    let a = (start q).args in
-    let w = q.loop-j in (
-      omega (arith, q.loop-j-test.true),
-      omega (arith, w.invariant.1),
-      c.put_planes.auto.t ∙ w.invariant.2,
-      grows-more a.before (block_plane a.ones.now) (block_plane a.zeros.now) w.j a.t.now w.t w.invariant.3 w.to _ _ _ w.invariant.1 (room q)
-          (d.joined-one.ensures ∙ ap₂ (λ (x y : ℕ). x + y * 4294967296) d.word_of.ensures d.word_of-in-loop-j.ensures)
-          (e.joined-zero.ensures ∙ ap₂ (λ (x y : ℕ). x + y * 4294967296) e.word_of-in-loop-j-2.ensures e.word_of-in-loop-j-3.ensures)
+    let room : c.loop-j.to + 4 ≤ length c.loop-j.t =
+    omega (arith, c.loop-j.invariant.1, c.loop-j.invariant.2, c.requires.w_in_bounds, c.loop-j-test.true) in
+    let a = c.args in
+    (
+      omega (arith, c.loop-j-test.true),
+      omega (arith, c.loop-j.invariant.1),
+      c.put_planes.auto.t ∙ c.loop-j.invariant.2,
+      grows-more a.before (block_plane a.ones.now) (block_plane a.zeros.now) c.loop-j.j a.t.now c.loop-j.t c.loop-j.invariant.3 c.loop-j.to _ _ _ c.loop-j.invariant.1 (room)
+          (c.joined-one.ensures ∙ ap₂ (λ (x y : ℕ). x + y * 4294967296) c.word_of.ensures c.word_of-in-loop-j.ensures)
+          (c.joined-zero.ensures ∙ ap₂ (λ (x y : ℕ). x + y * 4294967296) c.word_of-in-loop-j-2.ensures c.word_of-in-loop-j-3.ensures)
           c.put_planes.ensures,
     )
 
@@ -84,5 +93,4 @@ shape_of-t c = c.loop-j.invariant.2
 pub returns : goal.returns
 returns c =
     let a = c.args in
-    let w = c.loop-j in
-    grows_all a.before (block_plane a.ones.now) (block_plane a.zeros.now) w.j a.w a.t.now w.t (omega arith) w.invariant.3
+    grows_all a.before (block_plane a.ones.now) (block_plane a.zeros.now) c.loop-j.j a.w a.t.now c.loop-j.t (omega arith) c.loop-j.invariant.3

@@ -14,23 +14,21 @@ use Rattle.rows.proofs.lanes.put_gate.Goals as goal
 
 pub plane_of-requires-3 : goal.plane_of-requires-3
 plane_of-requires-3 c =
-    let s = c.before.before.before.before.before.before.before in
-    subst (λ (x : Lit). There (word_of x) s.args.t.now) (sym c.negated.ensures) (omega (arith, s.requires.0))
+    subst (λ (x : Lit). There (word_of x) c.args.t.now) (sym c.negated.ensures) (omega (arith, c.requires.there))
 
 pub plane_of-requires-4 : goal.plane_of-requires-4
 plane_of-requires-4 c =
-    let s = c.before.before.before.before.before.before.before.before.before.before in
-    subst (λ (x : Lit). There (word_of x) s.args.t.now) (sym c.negated-2.ensures) (omega (arith, s.requires.1.0))
+    subst (λ (x : Lit). There (word_of x) c.args.t.now) (sym c.negated-2.ensures) (omega (arith, c.requires.there_2))
 
 pub returns : goal.returns
 returns c =
-    let a = c.before.before.before.before.before.before.before.before.before.before.before.before.before.before.before.args in
+    let a = c.args in
     c.put_planes.ensures
     ∙ ap (λ (l : List ℕ). put a.t.now a.to (plane_words l))
     (gate-planes a.t.now (word_of a.a) (word_of a.b) _ _ _ _
-    c.before.before.before.before.before.before.before.before.before.before.before.before.plane-of.ensures
-    c.before.before.before.before.before.before.before.before.before.before.plane-of2.ensures
-    (c.before.before.before.before.before.before.before.plane-of3.ensures
-    ∙ ap (λ (x : Lit). plane_at a.t.now (word_of x)) c.before.before.before.before.before.before.before.before.negated.ensures)
+    c.plane_of.ensures
+    c.plane_of-2.ensures
+    (c.plane_of-3.ensures
+    ∙ ap (λ (x : Lit). plane_at a.t.now (word_of x)) c.negated.ensures)
     (c.plane_of-4.ensures
     ∙ ap (λ (x : Lit). plane_at a.t.now (word_of x)) c.negated-2.ensures))

@@ -20,9 +20,8 @@ bounds-t-to-4 c = simp length-set (omega arith)
 
 pub returns : goal.returns
 returns c =
-    let s = c.before.before.before.before.before in
-    four-put s.args.t.now s.args.to _ _ _ _ s.requires
-    ∙ (ap₂ (λ (a b : ℕ). put s.args.t.now s.args.to (a ∷ b ∷ c.low-2.result ∷ c.high-2.result ∷ []))
+    four-put c.args.t.now c.args.to _ _ _ _ c.requires
+    ∙ (ap₂ (λ (a b : ℕ). put c.args.t.now c.args.to (a ∷ b ∷ c.low-2.result ∷ c.high-2.result ∷ []))
     c.low.ensures c.high.ensures
-    ∙ ap₂ (λ (a b : ℕ). put s.args.t.now s.args.to
-    (s.args.one % 4294967296 ∷ s.args.one / 4294967296 ∷ a ∷ b ∷ [])) c.low-2.ensures c.high-2.ensures)
+    ∙ ap₂ (λ (a b : ℕ). put c.args.t.now c.args.to
+    (c.args.one % 4294967296 ∷ c.args.one / 4294967296 ∷ a ∷ b ∷ [])) c.low-2.ensures c.high-2.ensures)

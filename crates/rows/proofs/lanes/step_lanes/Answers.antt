@@ -18,9 +18,6 @@ sweep_lanes-requires c =
 
 pub returns : goal.returns
 returns c =
-    let d = c.before.before.before.before.before.before.before.before in
-    let e = d.before.before.before.before.before in
-    let f = e.before.before.before.before in
-    holds f.requires f.put_planes.new.t e.load_rows.new.t
-    d.load_resets.new.t c.sweep_lanes.new.t f.put_planes.ensures e.load_rows.ensures
-    d.load_resets.ensures c.sweep_lanes.ensures
+    holds c.requires c.put_planes.new.t c.load_rows.new.t
+    c.load_resets.new.t c.sweep_lanes.new.t c.put_planes.ensures c.load_rows.ensures
+    c.load_resets.ensures c.sweep_lanes.ensures

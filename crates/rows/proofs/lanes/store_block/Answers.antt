@@ -9,22 +9,18 @@ use Rattle.rows.proofs.lanes.store_block.Goals as goal
 
 pub pack-requires : goal.pack-requires
 pack-requires c =
-    let s = c.before.before.before.before.before in
-    record { shows = s.requires.shows; w_nonzero = (s.requires.block.some, s.requires.block.narrow, omega arith, omega arith); }
+    record { shows = c.requires.shows; w_nonzero = (c.requires.block.some, c.requires.block.narrow, omega arith, omega arith); }
 
 pub put_block-requires : goal.put_block-requires
 put_block-requires c =
-    let s = c.before.before.before.before.before.before.before.before.before.before.before in
-    record { block = s.requires.block; in_bounds = (omega (arith, c.pack.auto.ones), omega (arith, c.pack.auto.boths)); }
+    record { block = c.requires.block; in_bounds = (omega (arith, c.pack.auto.ones), omega (arith, c.pack.auto.boths)); }
 
 pub returns : goal.returns
 returns c =
-    let s = c.before.before.before.before.before.before.before.before.before.before.before.before.before.before in
-    let a = s.args in
-    let packed = c.pack in
+    let a = c.args in
     blocked-same (λ k j h i.
     packed-code (λ j. plane_at a.t.now (literal_at a.table.now a.start a.stride (a.from + j)))
     (λ j. both_at a.t.now (literal_at a.table.now a.start a.stride (a.from + j))) a.w
-    packed.new.1.1.1.1.1.1.0 packed.new.1.1.1.1.1.1.1.0 packed.ensures.0 packed.ensures.1 k j
-    (omega (arith, h, s.requires.block.most)) i)
+    c.pack.new.ones c.pack.new.boths c.pack.ensures.packed c.pack.ensures.packed_2 k j
+    (omega (arith, h, c.requires.block.most)) i)
     c.put_block.ensures

@@ -8,16 +8,11 @@ use lib.ListN.{length}
 use Rattle.rows.specs.lanes.Words.{code_at}
 use Rattle.rows.specs.lanes.Working.{literal_at}
 use Rattle.rows.proofs.lanes.Storing.{shows-less, Below, below_none, below-block, rows_are}
-use Rattle.rows.proofs.lanes.store_rows.Goals.{In-loop-j, Start}
 use Rattle.rows.proofs.lanes.store_rows.Goals as goal
 
 -- the code of literal j in row k
 abbrev coded : List ℕ → ℕ → ℕ → List ℕ → ℕ → ℕ → ℕ
-coded table start stride t k j = code_at t k (literal_at table start stride j)
-
--- back to the start from a turn
-abbrev start : In-loop-j → Start
-start q = q.before.before.before.before.before
+coded table stride t k j = code_at t k (literal_at table stride j)
 
 pub loop-j-init : goal.loop-j-init
 loop-j-init c =
@@ -32,35 +27,30 @@ width-w-requires c = omega (arith, c.loop-j-test.true)
 
 pub store_block-requires : goal.store_block-requires
 store_block-requires c =
-    let q = c.before.before in
-    let s = start q in
     let w = c.width-w.ensures in
-    record { shows = shows-less s.pre.0 _ (omega (arith, w.1, q.loop-j-test.true)); block = record {
+    record { shows = shows-less c.requires.shows _ (omega (arith, w.1, c.loop-j-test.true)); block = record {
         some = w.0;
-        inside = omega (arith, w.1, q.loop-j-test.true);
+        inside = omega (arith, w.1, c.loop-j-test.true);
         narrow = w.2;
-        most = s.pre.1.0;
-        whole = omega (arith, q.loop-j.invariant.1, s.pre.1.1);
+        most = c.requires.rows_bound.0;
+        whole = omega (arith, c.loop-j.invariant.1, c.requires.rows_bound.1);
       }; }
 
 pub overflow_add-j : goal.overflow_add-j
-overflow_add-j c = let q =
-    c.before.before.before.before.before in omega (arith, c.width-w.ensures.1, q.loop-test.true)
+overflow_add-j c = omega (arith, c.width-w.ensures.1, c.loop-j-test.true)
 
 pub loop-j-smaller : goal.loop-j-smaller
 loop-j-smaller c =
-    let q = c.before.before.before.before.before in
     let w = c.width-w.ensures in
-    omega (arith, w.0, w.1, q.loop-j-test.true)
+    omega (arith, w.0, w.1, c.loop-j-test.true)
 
 pub loop-j-preserved : goal.loop-j-preserved
 loop-j-preserved c =
-    let q = c.before.before.before.before.before in
-    let a = (start q).args in
-    let w = q.loop-j in (
-      omega (arith, c.width-w.ensures.1, q.loop-j-test.true),
-      c.store_block.auto.out ∙ w.invariant.1,
-      below-block (coded a.table.now a.start a.stride a.t.now) a.n a.rows w.j _ w.out _ w.invariant.2
+    let a = c.args in
+    (
+      omega (arith, c.width-w.ensures.1, c.loop-j-test.true),
+      c.store_block.auto.out ∙ c.loop-j.invariant.1,
+      below-block (coded a.table.now a.start a.stride a.t.now) a.n a.rows c.loop-j.j _ c.loop-j.out _ c.loop-j.invariant.2
           c.store_block.ensures,
     )
 
@@ -69,9 +59,7 @@ shape_of-out c = c.loop-j.invariant.1
 
 pub returns : goal.returns
 returns c =
-    let s = c.before.before.before.before.before in
-    let a = s.args in
-    let w = c.loop-j in
-    let all : w.j ≡ a.n = omega arith in
-    rows_are (coded a.table.now a.start a.stride a.t.now) a.n a.rows w.out (w.invariant.1 ∙ s.requires.rows_bound.1)
-    (subst (λ (m : ℕ). Below (coded a.table.now a.start a.stride a.t.now) a.n a.rows m w.out) all w.invariant.2)
+    let a = c.args in
+    let all : c.loop-j.j ≡ a.n = omega arith in
+    rows_are (coded a.table.now a.start a.stride a.t.now) a.n a.rows c.loop-j.out (c.loop-j.invariant.1 ∙ c.requires.rows_bound.1)
+    (subst (λ (m : ℕ). Below (coded a.table.now a.start a.stride a.t.now) a.n a.rows m c.loop-j.out) all c.loop-j.invariant.2)

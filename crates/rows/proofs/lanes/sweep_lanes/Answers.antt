@@ -11,15 +11,7 @@ use Rattle.rows.specs.lanes.Words.{plane_words}
 use Rattle.rows.specs.lanes.Working.{Swept, There, gate_planes}
 use Rattle.rows.proofs.lanes.Turns.{swept_none, first-there, second-there, swept-more}
 use borrow.Author.Rules.{rules}
-use Rattle.rows.proofs.lanes.sweep_lanes.Goals.{In-loop-i, Start}
 use Rattle.rows.proofs.lanes.sweep_lanes.Goals as goal
-
--- back to the start from a turn, and a right side of its gate
-abbrev start : In-loop-i → Start
-start q = q.before.before.before.before
-
-side : (q : In-loop-i) (j : ℕ) (l : Lit) → let gates = (start q).args.gates.now in l ≡ lit_at (get_or gates (q.loop-i.at + j) 0) → l ≡ lit_at (get_or gates (3 * q.loop-i.i + j) 0)
-side q j l e = e ∙ ap (λ (k : ℕ). lit_at (get_or (start q).args.gates.now (k + j) 0)) q.loop-i.invariant.2
 
 pub loop-i-init : goal.loop-i-init
 loop-i-init c =
@@ -28,12 +20,11 @@ loop-i-init c =
 
 pub put_gate-requires : goal.put_gate-requires
 put_gate-requires c =
-    let q = c.before.before.before.before.before in
-    let s = start q in
-    let w = q.loop-i in
-    record { there = subst (λ (x : Lit). There (word_of x) w.t) (sym (side q 1 c.at.result c.at.ensures))
-          (first-there s.pre w.i q.loop-i-test.true w.t w.invariant.3); there_2 = subst (λ (x : Lit). There (word_of x) w.t) (sym (side q 2 c.at-in-loop-i.result c.at-in-loop-i.ensures))
-            (second-there s.pre w.i q.loop-i-test.true w.t w.invariant.3); to_in_bounds = omega (arith, w.invariant.1, w.invariant.3, s.pre.table-long, q.loop-i-test.true); }
+    let side : (j : ℕ) (l : Lit) → let gates = c.args.gates.now in l ≡ lit_at (get_or gates (c.loop-i.at + j) 0) → l ≡ lit_at (get_or gates (3 * c.loop-i.i + j) 0) =
+    λ j l e. e ∙ ap (λ (k : ℕ). lit_at (get_or c.args.gates.now (k + j) 0)) c.loop-i.invariant.2 in
+    record { there = subst (λ (x : Lit). There (word_of x) c.loop-i.t) (sym (side 1 c.at.result c.at.ensures))
+          (first-there c.requires c.loop-i.i c.loop-i-test.true c.loop-i.t c.loop-i.invariant.3); there_2 = subst (λ (x : Lit). There (word_of x) c.loop-i.t) (sym (side 2 c.at-in-loop-i.result c.at-in-loop-i.ensures))
+            (second-there c.requires c.loop-i.i c.loop-i-test.true c.loop-i.t c.loop-i.invariant.3); to_in_bounds = omega (arith, c.loop-i.invariant.1, c.loop-i.invariant.3, c.requires.table-long, c.loop-i-test.true); }
 
 pub overflow_add-i : goal.overflow_add-i
 overflow_add-i c = omega (arith, c.loop-i-test.true)
@@ -43,18 +34,18 @@ loop-i-smaller c = omega (arith, c.loop-i-test.true)
 
 pub loop-i-preserved : goal.loop-i-preserved
 loop-i-preserved c =
-    let q = c.before.before.before.before.before.before.before.before in
-    let s = start q in
-    let w = q.loop-i in (
-      omega (arith, q.loop-i-test.true),
-      omega (arith, w.invariant.1),
-      omega (arith, w.invariant.2),
-      c.put_gate.auto.t ∙ w.invariant.3,
-      swept-more s.pre w.i q.loop-i-test.true w.t w.invariant.3 w.invariant.4 w.to _ w.invariant.1
+    let side : (j : ℕ) (l : Lit) → let gates = c.args.gates.now in l ≡ lit_at (get_or gates (c.loop-i.at + j) 0) → l ≡ lit_at (get_or gates (3 * c.loop-i.i + j) 0) =
+    λ j l e. e ∙ ap (λ (k : ℕ). lit_at (get_or c.args.gates.now (k + j) 0)) c.loop-i.invariant.2 in
+    (
+      omega (arith, c.loop-i-test.true),
+      omega (arith, c.loop-i.invariant.1),
+      omega (arith, c.loop-i.invariant.2),
+      c.put_gate.auto.t ∙ c.loop-i.invariant.3,
+      swept-more c.requires c.loop-i.i c.loop-i-test.true c.loop-i.t c.loop-i.invariant.3 c.loop-i.invariant.4 c.loop-i.to _ c.loop-i.invariant.1
           (c.put_gate.ensures
-          ∙ ap₂ (λ (x y : Lit). put w.t w.to (plane_words (gate_planes w.t (word_of x) (word_of y))))
-          (side q 1 c.at.result c.at.ensures)
-          (side q 2 c.at-in-loop-i.result c.at-in-loop-i.ensures)),
+          ∙ ap₂ (λ (x y : Lit). put c.loop-i.t c.loop-i.to (plane_words (gate_planes c.loop-i.t (word_of x) (word_of y))))
+          (side 1 c.at.result c.at.ensures)
+          (side 2 c.at-in-loop-i.result c.at-in-loop-i.ensures)),
     )
 
 pub shape_of-t : goal.shape_of-t
@@ -63,6 +54,5 @@ shape_of-t c = c.loop-i.invariant.3
 pub returns : goal.returns
 returns c =
     let a = c.args in
-    let w = c.loop-i in
-    let all : w.i ≡ a.n = omega arith in
-    subst (λ (k : ℕ). Swept a.gates.now k a.before a.t.now w.t) all w.invariant.4
+    let all : c.loop-i.i ≡ a.n = omega arith in
+    subst (λ (k : ℕ). Swept a.gates.now k a.before a.t.now c.loop-i.t) all c.loop-i.invariant.4

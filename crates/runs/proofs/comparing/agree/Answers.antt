@@ -21,21 +21,15 @@ module _ (s : tie.Start) where
 
 pub returns-then-not-same_answer : goal.returns-then-not-same_answer
 returns-then-not-same_answer c =
-    let s = c.before.before.before.before.before.before in
-    first-fails (x s) (y s) (z s) (sym c.same_answer.ensures ∙ not-true _ c.if-not-same_answer.true-raw)
+    first-fails (x) (y) (z) (sym c.same_answer.ensures ∙ not-true _ c.if-not-same_answer.true-raw)
 
 pub returns-then-not-same : goal.returns-then-not-same
 returns-then-not-same c =
-    let i = c.before.before in
-    let s = i.before.before.before.before.before.before in
-    second-fails (x s) (y s) (z s) (sym i.same_answer.ensures ∙ not-false _ i.if-not-same_answer.false-raw)
+    second-fails (x) (y) (z) (sym c.same_answer.ensures ∙ not-false _ c.if-not-same_answer.false-raw)
     (sym (same-is _ _ _ c.same.ensures) ∙ not-true _ c.if-not-same.true-raw)
 
 pub returns : goal.returns
 returns c =
-    let k = c.before in
-    let i = k.before.before in
-    let s = i.before.before.before.before.before.before in
     same-is _ _ _ c.same-2.ensures
-    ∙ third-decides (x s) (y s) (z s) (sym i.same_answer.ensures ∙ not-false _ i.if-not-same_answer.false-raw)
-    (sym (same-is _ _ _ k.same.ensures) ∙ not-false _ k.if-not-same.false-raw)
+    ∙ third-decides (x) (y) (z) (sym c.same_answer.ensures ∙ not-false _ c.if-not-same_answer.false-raw)
+    (sym (same-is _ _ _ c.same.ensures) ∙ not-false _ c.if-not-same.false-raw)

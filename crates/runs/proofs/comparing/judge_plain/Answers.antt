@@ -12,21 +12,20 @@ use Rattle.plan.specs.Programs.{lines_in, all_vectors}
 use Rattle.runs.specs.stimulus.Scan.{ended}
 use Rattle.runs.specs.trace.Tracing.{judged}
 use borrow.Author.Rules.{rules}
-use Rattle.runs.proofs.comparing.judge_plain.Goals.{Start}
 use Rattle.runs.proofs.comparing.judge_plain.Goals as goal
 
--- what 24 decides
-abbrev by : Start → Bool → Traced
-by s t =
-    let a = s.args in
-    cond t (judged (eqb (length a.state.now) a.n.L && all_codes a.state.now)
-    (ended a.vectors.now && all_vectors a.n.I (lines_in a.vectors.now)) (length (lines_in a.vectors.now))) (Refused (ManyGates a.n.A))
-
 pub returns-then-n-gt-TEACHING : goal.returns-then-n-gt-TEACHING
-returns-then-n-gt-TEACHING c = let s =
-    c.before.before.before.before in sym (ap (by s) (lt-leb s.args.n.A 24 c.if-n-gt-TEACHING.true))
+returns-then-n-gt-TEACHING c =
+    let by : Bool → Traced =
+    λ t. let a = c.args in
+    cond t (judged (eqb (length a.state.now) a.n.L && all_codes a.state.now)
+    (ended a.vectors.now && all_vectors a.n.I (lines_in a.vectors.now)) (length (lines_in a.vectors.now))) (Refused (ManyGates a.n.A)) in
+    sym (ap (by) (lt-leb c.args.n.A 24 c.if-n-gt-TEACHING.true))
 
 pub returns : goal.returns
 returns c =
-    let s = c.before.before.before.before.before in
-    c.judge.ensures ∙ sym (ap (by s) (le-leb s.args.n.A 24 c.if-n-gt-TEACHING.false))
+    let by : Bool → Traced =
+    λ t. let a = c.args in
+    cond t (judged (eqb (length a.state.now) a.n.L && all_codes a.state.now)
+    (ended a.vectors.now && all_vectors a.n.I (lines_in a.vectors.now)) (length (lines_in a.vectors.now))) (Refused (ManyGates a.n.A)) in
+    c.judge.ensures ∙ sym (ap (by) (le-leb c.args.n.A 24 c.if-n-gt-TEACHING.false))

@@ -16,30 +16,13 @@ use Rattle.runs.proofs.trace.Running.{Lining, lining-first, lining-next, line-fi
 use Rattle.runs.specs.comparing.Lined.{Vector}
 use Rattle.runs.proofs.comparing.Running.{resting, rests, state-of, ins-vector, wrote, next-vector, all_left}
 use borrow.Author.Rules.{rules}
-use Rattle.runs.proofs.comparing.plain_lines.Goals.{In-loop-k, Start}
 use Rattle.runs.proofs.comparing.plain_lines.Goals as goal
-
--- back to the start from a turn, and the room for its line
-abbrev start : In-loop-k → Start
-start c = c.before.before.before.before.before.before.before.before.before
-
-inside : (c : In-loop-k) → c.loop-k.at + (start c).args.n.I + 1 ≤ length (start c).args.vectors.now
-inside c = line-inside c.loop-k.invariant.0 c.loop-k-test.true
-
-fits : (c : In-loop-k) → c.loop-k.to + line_width (start c).args.n ≤ length (start c).args.out.now
-fits c = line-fits (start c).requires.1.1 c.loop-k.k c.loop-k.to c.loop-k-test.true c.loop-k.invariant.1
-
-room : (c : In-loop-k) → let a = (start c).args in Room a.n a.latches.now a.outputs.now a.gates.now c.loop-k.scratch
-room c =
-    let b = (start c).requires.0 in
-    record { others = b.others; runs = b.runs; scratch-long = omega (arith, b.scratch-long, c.loop-k.invariant.2) }
 
 pub loop-k-init : goal.loop-k-init
 loop-k-init c =
-    let s = c.before.before.before.before.before.before.before in
-    let a = s.args in
-    let v = s.requires.vector in (
-      lining-first s.requires.listed,
+    let a = c.args in
+    let v = c.requires.vector in (
+      lining-first c.requires.listed,
       sym (mul-zero (line_width a.n)),
       refl,
       refl,
@@ -51,39 +34,45 @@ loop-k-init c =
     )
 
 pub overflow_add-end : goal.overflow_add-end
-overflow_add-end c = omega (arith, inside c.before)
+overflow_add-end c =
+    let inside : c.loop-k.at + c.args.n.I + 1 ≤ length c.args.vectors.now =
+    line-inside c.loop-k.invariant.0 c.loop-k-test.true in
+    omega (arith, inside)
 
 pub plain_line-to-requires : goal.plain_line-to-requires
 plain_line-to-requires c =
-    let i = c.before.before.before.before.before in
-    let w = i.loop-k in
-    record { room = room i; vector = w.invariant.5; vector_2 = ins-vector w.invariant.0 i.loop-k-test.true; n_in_bounds = omega (arith, fits i, w.invariant.3); }
+    let fits : c.loop-k.to + line_width c.args.n ≤ length c.args.out.now =
+    line-fits c.requires.listed c.loop-k.k c.loop-k.to c.loop-k-test.true c.loop-k.invariant.1 in
+    let room : let a = c.args in Room a.n a.latches.now a.outputs.now a.gates.now c.loop-k.scratch =
+    let b = c.requires.room in
+    record { others = b.others; runs = b.runs; scratch-long = omega (arith, b.scratch-long, c.loop-k.invariant.2) } in
+    record { room = room; vector = c.loop-k.invariant.5; vector_2 = ins-vector c.loop-k.invariant.0 c.loop-k-test.true; n_in_bounds = omega (arith, fits, c.loop-k.invariant.3); }
 
 pub overflow_add-at : goal.overflow_add-at
 overflow_add-at c =
-    let i = c.before.before.before.before.before.before.before.before.before.before.before.before in
-    omega (arith, inside i, (start i).well-formed)
+    let inside : c.loop-k.at + c.args.n.I + 1 ≤ length c.args.vectors.now =
+    line-inside c.loop-k.invariant.0 c.loop-k-test.true in
+    omega (arith, inside, c.well_formed)
 
 pub loop-k-preserved : goal.loop-k-preserved
 loop-k-preserved c =
-    let i = c.before.before.before.before.before.before.before.before.before.before.before.before in
-    let w = i.loop-k in
-    let a = (start i).args in
-    let line = c.plain_line-to in
+    let fits : c.loop-k.to + line_width c.args.n ≤ length c.args.out.now =
+    line-fits c.requires.listed c.loop-k.k c.loop-k.to c.loop-k-test.true c.loop-k.invariant.1 in
+    let a = c.args in
     let state = c.state-1.given in
-    let b = (start i).requires.0 in
-    let long = state ∙ w.invariant.5.long in (
-      lining-next w.invariant.0 i.loop-k-test.true,
-      line.ensures.0 ∙ next_row (line_width a.n) w.k w.to w.invariant.1,
-      c.plain_line-to.auto.scratch ∙ w.invariant.2,
-      c.out-1.given ∙ w.invariant.3,
-      state ∙ w.invariant.4,
-      next-vector a.n (line.ensures.1 b.others b.runs) long,
+    let b = c.requires.room in
+    let long = state ∙ c.loop-k.invariant.5.long in (
+      lining-next c.loop-k.invariant.0 c.loop-k-test.true,
+      c.plain_line-to.ensures.value ∙ next_row (line_width a.n) c.loop-k.k c.loop-k.to c.loop-k.invariant.1,
+      c.plain_line-to.auto.scratch ∙ c.loop-k.invariant.2,
+      c.out-1.given ∙ c.loop-k.invariant.3,
+      state ∙ c.loop-k.invariant.4,
+      next-vector a.n (c.plain_line-to.ensures.lined b.others b.runs) long,
       λ x r.
-          let g = w.invariant.6 x r in
-          going-at line.ensures.0
-          (going_on w.invariant.0 i.loop-k-test.true r g (fits i)
-          (wrote a.n (line.ensures.1 x r) long g.state (state-of a.n w.state g.state w.invariant.5.long g.rests))),
+          let g = c.loop-k.invariant.6 x r in
+          going-at c.plain_line-to.ensures.value
+          (going_on c.loop-k.invariant.0 c.loop-k-test.true r g (fits)
+          (wrote a.n (c.plain_line-to.ensures.lined x r) long g.state (state-of a.n c.loop-k.state g.state c.loop-k.invariant.5.long g.rests))),
     )
 
 pub shape_of-scratch : goal.shape_of-scratch
@@ -99,6 +88,5 @@ pub returns : goal.returns
 returns c =
     λ x r.
     let a = c.args in
-    let w = c.loop-k in
-    all_left a.n _ a.number a.vectors.now a.state.now a.out.now w.state w.out w.k w.at w.to
-    c.loop-k-test.false w.invariant.5 (w.invariant.6 x r)
+    all_left a.n _ a.number a.vectors.now a.state.now a.out.now c.loop-k.state c.loop-k.out c.loop-k.k c.loop-k.at c.loop-k.to
+    c.loop-k-test.false c.loop-k.invariant.5 (c.loop-k.invariant.6 x r)

@@ -10,7 +10,5 @@ use Rattle.runs.proofs.comparing.put_bytes.Goals as goal
 
 pub returns : goal.returns
 returns c =
-    let a = c.before.before in
-    let s = a.before.before.before.before in
-    record { value = omega (arith, a.append-end.ensures.value); out_after = ap₂ (λ (l : List ℕ) (k : ℕ). set l k s.args.last) a.append-end.ensures.out_after a.append-end.ensures.value
-          ∙ put_last s.args.out.now s.args.at s.args.bytes.now s.args.last s.requires; }
+    record { value = omega (arith, c.append-end.ensures.value); out_after = ap₂ (λ (l : List ℕ) (k : ℕ). set l k c.args.last) c.append-end.ensures.out_after c.append-end.ensures.value
+          ∙ put_last c.args.out.now c.args.at c.args.bytes.now c.args.last c.requires; }

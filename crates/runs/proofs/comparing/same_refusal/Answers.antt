@@ -17,9 +17,8 @@ returns-then-told_number c =
 
 pub returns : goal.returns
 returns c =
-    let n = c.before.before in
-    let a = n.args in
+    let a = c.args in
     ap₂ eqb c.told_place.ensures c.told_place-2.ensures
     ∙ sym (ap (λ (t : Bool). t && eqb (place_of a.r) (place_of a.s))
     (eq-eqb (number_of a.r) (number_of a.s)
-    (sym n.told_number.ensures ∙ (n.if-told_number.false ∙ n.told_number-2.ensures))))
+    (sym c.told_number.ensures ∙ (c.if-told_number.false ∙ c.told_number-2.ensures))))

@@ -11,8 +11,8 @@ use Rattle.runs.proofs.reporting.Packed.{kept-end, kept_byte}
 use Rattle.runs.proofs.reporting.keep.Goals as goal
 
 pub returns-then-b-eq10 : goal.returns-then-b-eq10
-returns-then-b-eq10 c = let a =
-    c.args in
+returns-then-b-eq10 c =
+    let a = c.args in
     let whole = kept-end a.b a.at a.out.now (eq-eqb a.b 10 c.if-b-eq10.true) in
     record { value = whole.0; out_after = whole.1; }
 

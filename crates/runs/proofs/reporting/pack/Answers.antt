@@ -20,25 +20,20 @@ pub loop-i-init : goal.loop-i-init
 loop-i-init c = (omega arith, packs-none _ _)
 
 pub bounds-lines-i : goal.bounds-lines-i
-bounds-lines-i c = left c.before
+bounds-lines-i c = left
 
 pub keep-n-requires : goal.keep-n-requires
-keep-n-requires c =
-    let w = c.loop-i in
-    omega (arith, w.invariant.1.few, w.invariant.1.size, room c.before.before)
+keep-n-requires c = omega (arith, c.loop-i.invariant.1.few, c.loop-i.invariant.1.size, room)
 
 pub loop-i-preserved : goal.loop-i-preserved
 loop-i-preserved c =
-    let q = c.before.before.before.before.before in
-    let k = c.keep-n in
-    (omega arith, packs-more q.loop-i.invariant.1 (left q) (room q) _ _ k.ensures.0 k.ensures.1 c.keep-n.auto.out)
+    (omega arith, packs-more c.loop-i.invariant.1 (left) (room) _ _ c.keep-n.ensures.value c.keep-n.ensures.out_after c.keep-n.auto.out)
 
 pub shape_of-out : goal.shape_of-out
 shape_of-out c = c.loop-i.invariant.1.size
 
 pub returns : goal.returns
 returns c =
-    let w = c.loop-i in
     let lesser = c.lesser-taken.ensures in
-    let all = packs-all w.invariant.1 (omega (arith, w.invariant.0, c.loop-i-test.false, lesser)) in
-    record { value = all.0; upper_bound = omega (arith, w.invariant.0, w.invariant.1.few, w.invariant.1.size, lesser); out_after = all.1; }
+    let all = packs-all c.loop-i.invariant.1 (omega (arith, c.loop-i.invariant.0, c.loop-i-test.false, lesser)) in
+    record { value = all.0; upper_bound = omega (arith, c.loop-i.invariant.0, c.loop-i.invariant.1.few, c.loop-i.invariant.1.size, lesser); out_after = all.1; }

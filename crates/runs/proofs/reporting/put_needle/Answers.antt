@@ -10,85 +10,98 @@ use Rattle.plan.specs.Bytes.{digits, line_of}
 use Rattle.plan.specs.Outcome.{put}
 use Rattle.codec.proofs.numbers.Length.{digits-twenty}
 use Rattle.runs.proofs.reporting.Lines.{Wrote, wrote-first, wrote-more, wrote-byte, line-parts, one_line, line-short}
-use Rattle.runs.proofs.reporting.put_needle.Goals.{After-slice_known-2-1, After-slice_known-3-1, Start}
 use Rattle.runs.proofs.reporting.put_needle.Goals as goal
 
--- the letter, the digits and the space
-abbrev start : After-slice_known-2-1 → Start
-start d = d.before.before.before.before.before.before
-
-few-digits : (s : Start) → length (digits s.args.number) ≤ 20
-few-digits s = digits-twenty s.args.number (omega (arith, s.well_formed))
-
-lettered : (s : Start) → let a = s.args in Wrote a.out.now a.at (a.letter ∷ []) (set a.out.now a.at a.letter) (a.at + 1)
-lettered s = let a = s.args in wrote-first a.out.now a.at a.letter (omega (arith, s.requires.at_in_bounds))
-
-numbered : (d : After-slice_known-2-1) → let a = (start d).args in Wrote a.out.now a.at ((a.letter ∷ []) ++ digits a.number) d.put_digits-end.new.out d.put_digits-end.result
-numbered d =
-    let s = start d in
-    let p = d.put_digits-end in
-    wrote-more (lettered s) (digits s.args.number) _ _ (omega (arith, few-digits s, s.pre.1)) p.ensures.1 p.ensures.0
-
-spaced : (d : After-slice_known-2-1) → let a = (start d).args in let p = d.put_digits-end in Wrote a.out.now a.at (((a.letter ∷ []) ++ digits a.number) ++ (32 ∷ [])) (set p.new.0 p.result 32) (p.result + 1)
-spaced d =
-    let s = start d in
-    wrote-byte (numbered d) 32 (omega (arith, few-digits s, s.pre.1, d.put_digits-end.ensures.value))
-
--- the numbers are short
-short : (d : After-slice_known-2-1) → length (line_of (start d).args.row.now) ≤ 44
-short d =
-    let a = (start d).args in
-    omega (arith, line-short a.row.now (λ i. omega (arith, d.type_inv.row i)), (start d).requires.0)
-
--- the line
-written : (c : After-slice_known-3-1) → let d = c.before.before.before.before in let a = (start d).args in let w = c.write_lines in Wrote a.out.now a.at ((((a.letter ∷ []) ++ digits a.number) ++ (32 ∷ [])) ++ line_of a.row.now) w.new.0 w.result
-written c =
-    let d = c.before.before.before.before in
-    let s = start d in
-    let w = c.write_lines in
-    let line = one_line s.args.row.now s.pre.0 in
-    wrote-more (spaced d) (line_of s.args.row.now) _ _
-    (omega (arith, short d, few-digits s, s.pre.1, d.put_digits-end.ensures.value))
-    (w.ensures.1 ∙ ap (put (set d.put_digits-end.new.out d.put_digits-end.result 32)
-    (d.put_digits-end.result + 1)) line)
-    (w.ensures.0 ∙ ap (λ (l : List ℕ). d.put_digits-end.result + 1 + length l) line)
-
 pub put_digits-end-requires : goal.put_digits-end-requires
-put_digits-end-requires c = let s =
-    c.before.before.before in omega (arith, few-digits s, (lettered s).size, s.requires.1)
+put_digits-end-requires c =
+    let few-digits : length (digits c.args.number) ≤ 20 =
+    digits-twenty c.args.number (omega (arith, c.well_formed)) in
+    let lettered : let a = c.args in Wrote a.out.now a.at (a.letter ∷ []) (set a.out.now a.at a.letter) (a.at + 1) =
+    let a = c.args in wrote-first a.out.now a.at a.letter (omega (arith, c.requires.at_in_bounds)) in
+    omega (arith, few-digits, (lettered).size, c.requires.at_in_bounds)
 
 pub bounds-out-end : goal.bounds-out-end
-bounds-out-end c = let s =
-    start c in omega (arith, few-digits s, s.pre.1, (numbered c).size, c.put_digits-end.ensures.value)
+bounds-out-end c =
+    let few-digits : length (digits c.args.number) ≤ 20 =
+    digits-twenty c.args.number (omega (arith, c.well_formed)) in
+    let lettered : let a = c.args in Wrote a.out.now a.at (a.letter ∷ []) (set a.out.now a.at a.letter) (a.at + 1) =
+    let a = c.args in wrote-first a.out.now a.at a.letter (omega (arith, c.requires.at_in_bounds)) in
+    let numbered : let a = c.args in Wrote a.out.now a.at ((a.letter ∷ []) ++ digits a.number) c.put_digits-end.new.out c.put_digits-end.result =
+    wrote-more (lettered) (digits c.args.number) _ _ (omega (arith, few-digits, c.requires.at_in_bounds)) c.put_digits-end.ensures.out_after c.put_digits-end.ensures.value in
+    omega (arith, few-digits, c.requires.at_in_bounds, (numbered).size, c.put_digits-end.ensures.value)
 
 pub overflow_add-end : goal.overflow_add-end
 overflow_add-end c =
-    let d = c.before in
-    let s = start d in
-    omega (arith, few-digits s, s.pre.1, d.put_digits-end.ensures.value, s.good)
+    let few-digits : length (digits c.args.number) ≤ 20 =
+    digits-twenty c.args.number (omega (arith, c.well_formed)) in
+    omega (arith, few-digits, c.requires.at_in_bounds, c.put_digits-end.ensures.value, c.before.good)
 
 pub write_lines-requires : goal.write_lines-requires
 write_lines-requires c =
-    let d = c.before in
-    let s = start d in
-    let size = ap length (one_line s.args.row.now s.pre.0) in
-    record { k_nonzero = omega arith; n_in_bounds = omega (arith, s.pre.0); n_bound = omega arith; table_in_bounds = omega (arith, size, short d, few-digits s, s.pre.1, d.put_digits-end.ensures.value, (spaced d).size); }
+    let few-digits : length (digits c.args.number) ≤ 20 =
+    digits-twenty c.args.number (omega (arith, c.well_formed)) in
+    let lettered : let a = c.args in Wrote a.out.now a.at (a.letter ∷ []) (set a.out.now a.at a.letter) (a.at + 1) =
+    let a = c.args in wrote-first a.out.now a.at a.letter (omega (arith, c.requires.at_in_bounds)) in
+    let numbered : let a = c.args in Wrote a.out.now a.at ((a.letter ∷ []) ++ digits a.number) c.put_digits-end.new.out c.put_digits-end.result =
+    wrote-more (lettered) (digits c.args.number) _ _ (omega (arith, few-digits, c.requires.at_in_bounds)) c.put_digits-end.ensures.out_after c.put_digits-end.ensures.value in
+    let spaced : let a = c.args in Wrote a.out.now a.at (((a.letter ∷ []) ++ digits a.number) ++ (32 ∷ [])) (set c.put_digits-end.new.out c.put_digits-end.result 32) (c.put_digits-end.result + 1) =
+    wrote-byte (numbered) 32 (omega (arith, few-digits, c.requires.at_in_bounds, c.put_digits-end.ensures.value)) in
+    let short : length (line_of c.args.row.now) ≤ 44 =
+    let a = c.args in
+    omega (arith, line-short a.row.now (λ i. omega (arith, c.type_inv.row i)), c.requires.row_len) in
+    let size = ap length (one_line c.args.row.now c.requires.row_len) in
+    record { k_nonzero = omega arith; n_in_bounds = omega (arith, c.requires.row_len); n_bound = omega arith; table_in_bounds = omega (arith, size, short, few-digits, c.requires.at_in_bounds, c.put_digits-end.ensures.value, (spaced).size); }
 
 pub shape_of-out : goal.shape_of-out
-shape_of-out c = (written c).size
+shape_of-out c =
+    let few-digits : length (digits c.args.number) ≤ 20 =
+    digits-twenty c.args.number (omega (arith, c.well_formed)) in
+    let lettered : let a = c.args in Wrote a.out.now a.at (a.letter ∷ []) (set a.out.now a.at a.letter) (a.at + 1) =
+    let a = c.args in wrote-first a.out.now a.at a.letter (omega (arith, c.requires.at_in_bounds)) in
+    let numbered : let a = c.args in Wrote a.out.now a.at ((a.letter ∷ []) ++ digits a.number) c.put_digits-end.new.out c.put_digits-end.result =
+    wrote-more (lettered) (digits c.args.number) _ _ (omega (arith, few-digits, c.requires.at_in_bounds)) c.put_digits-end.ensures.out_after c.put_digits-end.ensures.value in
+    let spaced : let a = c.args in Wrote a.out.now a.at (((a.letter ∷ []) ++ digits a.number) ++ (32 ∷ [])) (set c.put_digits-end.new.out c.put_digits-end.result 32) (c.put_digits-end.result + 1) =
+    wrote-byte (numbered) 32 (omega (arith, few-digits, c.requires.at_in_bounds, c.put_digits-end.ensures.value)) in
+    let short : length (line_of c.args.row.now) ≤ 44 =
+    let a = c.args in
+    omega (arith, line-short a.row.now (λ i. omega (arith, c.type_inv.row i)), c.requires.row_len) in
+    let written : let a = c.args in Wrote a.out.now a.at ((((a.letter ∷ []) ++ digits a.number) ++ (32 ∷ [])) ++ line_of a.row.now) c.write_lines.new.out c.write_lines.result =
+    let line = one_line c.args.row.now c.requires.row_len in
+    wrote-more (spaced) (line_of c.args.row.now) _ _
+    (omega (arith, short, few-digits, c.requires.at_in_bounds, c.put_digits-end.ensures.value))
+    (c.write_lines.ensures.out_after ∙ ap (put (set c.put_digits-end.new.out c.put_digits-end.result 32)
+    (c.put_digits-end.result + 1)) line)
+    (c.write_lines.ensures.value ∙ ap (λ (l : List ℕ). c.put_digits-end.result + 1 + length l) line) in
+    (written).size
 
 pub returns : goal.returns
 returns c =
-    let d = c.before.before.before.before in
-    let s = start d in
-    let a = s.args in
+    let few-digits : length (digits c.args.number) ≤ 20 =
+    digits-twenty c.args.number (omega (arith, c.well_formed)) in
+    let lettered : let a = c.args in Wrote a.out.now a.at (a.letter ∷ []) (set a.out.now a.at a.letter) (a.at + 1) =
+    let a = c.args in wrote-first a.out.now a.at a.letter (omega (arith, c.requires.at_in_bounds)) in
+    let numbered : let a = c.args in Wrote a.out.now a.at ((a.letter ∷ []) ++ digits a.number) c.put_digits-end.new.out c.put_digits-end.result =
+    wrote-more (lettered) (digits c.args.number) _ _ (omega (arith, few-digits, c.requires.at_in_bounds)) c.put_digits-end.ensures.out_after c.put_digits-end.ensures.value in
+    let spaced : let a = c.args in Wrote a.out.now a.at (((a.letter ∷ []) ++ digits a.number) ++ (32 ∷ [])) (set c.put_digits-end.new.out c.put_digits-end.result 32) (c.put_digits-end.result + 1) =
+    wrote-byte (numbered) 32 (omega (arith, few-digits, c.requires.at_in_bounds, c.put_digits-end.ensures.value)) in
+    let short : length (line_of c.args.row.now) ≤ 44 =
+    let a = c.args in
+    omega (arith, line-short a.row.now (λ i. omega (arith, c.type_inv.row i)), c.requires.row_len) in
+    let written : let a = c.args in Wrote a.out.now a.at ((((a.letter ∷ []) ++ digits a.number) ++ (32 ∷ [])) ++ line_of a.row.now) c.write_lines.new.out c.write_lines.result =
+    let line = one_line c.args.row.now c.requires.row_len in
+    wrote-more (spaced) (line_of c.args.row.now) _ _
+    (omega (arith, short, few-digits, c.requires.at_in_bounds, c.put_digits-end.ensures.value))
+    (c.write_lines.ensures.out_after ∙ ap (put (set c.put_digits-end.new.out c.put_digits-end.result 32)
+    (c.put_digits-end.result + 1)) line)
+    (c.write_lines.ensures.value ∙ ap (λ (l : List ℕ). c.put_digits-end.result + 1 + length l) line) in
+    let a = c.args in
     let line = line-parts a.letter a.number a.row.now in
-    record { value = (written c).place ∙ ap (λ (l : List ℕ). a.at + length l) line; upper_bound = omega (
+    record { value = (written).place ∙ ap (λ (l : List ℕ). a.at + length l) line; upper_bound = omega (
           arith,
           c.write_lines.ensures.value,
           ap length
-              (one_line a.row.now s.pre.0),
-          short d,
-          few-digits s,
-          d.put_digits-end.ensures.value,
-        ); out_after = (written c).filled ∙ ap (put a.out.now a.at) line; }
+              (one_line a.row.now c.requires.row_len),
+          short,
+          few-digits,
+          c.put_digits-end.ensures.value,
+        ); out_after = (written).filled ∙ ap (put a.out.now a.at) line; }

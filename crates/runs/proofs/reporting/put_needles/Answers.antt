@@ -10,11 +10,7 @@ use lib.Seq.{length-take-le}
 use Rattle.plan.specs.Outcome.{put}
 use Rattle.plan.specs.Reporter.{needle_line}
 use Rattle.runs.proofs.reporting.Lines.{Lined, lined-none, lined-more, lined-all}
-use Rattle.runs.proofs.reporting.put_needles.Goals.{In-loop-i, Start}
 use Rattle.runs.proofs.reporting.put_needles.Goals as goal
-
-abbrev start : In-loop-i → Start
-start q = q.before.before.before.before
 
 -- a row of four words
 row_is : (six : List ℕ) (row first i : ℕ) → row ≡ 4 * (first + i) → take (row + 4 - row) (drop row six) ≡ take 4 (drop (4 * (first + i)) six)
@@ -27,37 +23,36 @@ row-long six row h =
     let four : row + 4 - row ≡ 4 = omega arith in
     length-take-le (row + 4 - row) (drop row six) (omega (arith, length-drop row six)) ∙ four
 
-inside : (q : In-loop-i) → q.loop-i.row + 4 ≤ length (start q).args.six.now
-inside q = omega (arith, q.loop-i.invariant.1, (start q).requires.0, q.loop-i-test.true)
-
 pub loop-i-init : goal.loop-i-init
 loop-i-init c = (omega arith, omega arith, lined-none _ _ _)
 
 pub overflow_add-end : goal.overflow_add-end
-overflow_add-end c = omega (arith, inside c, (start c).well-formed)
+overflow_add-end c =
+    let inside : c.loop-i.row + 4 ≤ length c.args.six.now =
+    omega (arith, c.loop-i.invariant.1, c.requires.n_in_bounds, c.loop-i-test.true) in
+    omega (arith, inside, c.well_formed)
 
 pub offset_bounds-six-row : goal.offset_bounds-six-row
-offset_bounds-six-row c = omega (arith, inside c, (start c).well-formed)
+offset_bounds-six-row c =
+    let inside : c.loop-i.row + 4 ≤ length c.args.six.now =
+    omega (arith, c.loop-i.invariant.1, c.requires.n_in_bounds, c.loop-i-test.true) in
+    omega (arith, inside, c.well_formed)
 
 pub put_needle-next-requires : goal.put_needle-next-requires
 put_needle-next-requires c =
-    let q = c.before.before in
-    let w = q.loop-i in
-    record { row_len = row-long _ w.row (inside q); at_in_bounds = omega (arith, w.invariant.2.few, w.invariant.2.size, (start q).requires.1, q.loop-i-test.true); }
+    let inside : c.loop-i.row + 4 ≤ length c.args.six.now =
+    omega (arith, c.loop-i.invariant.1, c.requires.n_in_bounds, c.loop-i-test.true) in
+    record { row_len = row-long _ c.loop-i.row (inside); at_in_bounds = omega (arith, c.loop-i.invariant.2.few, c.loop-i.invariant.2.size, c.requires.n_in_bounds_2, c.loop-i-test.true); }
 
 pub loop-i-preserved : goal.loop-i-preserved
 loop-i-preserved c =
-    let q = c.before.before.before.before.before in
-    let s = start q in
-    let a = s.args in
-    let w = q.loop-i in
-    let k = c.put_needle-next in
-    let same = row_is a.six.now w.row a.first w.i w.invariant.1 in (
+    let a = c.args in
+    let same = row_is a.six.now c.loop-i.row a.first c.loop-i.i c.loop-i.invariant.1 in (
       omega arith,
-      omega (arith, w.invariant.1),
-      lined-more w.invariant.2 a.n q.loop-i-test.true s.pre.1 _ _
-          (k.ensures.0 ∙ ap (λ (r : List ℕ). w.next + length (needle_line a.letter w.i r)) same) k.ensures.1.0
-          (k.ensures.1.1 ∙ ap (λ (r : List ℕ). put w.out w.next (needle_line a.letter w.i r)) same) c.put_needle-next.auto.out,
+      omega (arith, c.loop-i.invariant.1),
+      lined-more c.loop-i.invariant.2 a.n c.loop-i-test.true c.requires.n_in_bounds_2 _ _
+          (c.put_needle-next.ensures.value ∙ ap (λ (r : List ℕ). c.loop-i.next + length (needle_line a.letter c.loop-i.i r)) same) c.put_needle-next.ensures.upper_bound
+          (c.put_needle-next.ensures.out_after ∙ ap (λ (r : List ℕ). put c.loop-i.out c.loop-i.next (needle_line a.letter c.loop-i.i r)) same) c.put_needle-next.auto.out,
     )
 
 pub shape_of-out : goal.shape_of-out
@@ -65,6 +60,5 @@ shape_of-out c = c.loop-i.invariant.2.size
 
 pub returns : goal.returns
 returns c =
-    let w = c.loop-i in
-    let all = lined-all c.args.n w.invariant.0 c.loop-i-test.false w.invariant.2 in
+    let all = lined-all c.args.n c.loop-i.invariant.0 c.loop-i-test.false c.loop-i.invariant.2 in
     record { value = all.place; upper_bound = all.few; out_after = all.so_far; }

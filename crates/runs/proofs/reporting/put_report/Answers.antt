@@ -12,7 +12,6 @@ use Rattle.report.proofs.needles.Rows.{same_turn}
 use Rattle.plan.specs.Reporter.{needle_line, needle_lines}
 use Rattle.runs.specs.reporting.Fitting.{rows_for, fitting_lines}
 use Rattle.runs.proofs.reporting.Lines.{two-parts}
-use Rattle.runs.proofs.reporting.put_report.Goals.{After-lesser-l, Start}
 use Rattle.runs.proofs.reporting.put_report.Goals as goal
 
 from-none : (six : List ℕ) (n : ℕ) → in_turn (λ i. needle_line 111 i (take 4 (drop (4 * (0 + i)) six))) n ≡ in_turn (λ i. needle_line 111 i (take 4 (drop (4 * i) six))) n
@@ -20,16 +19,12 @@ from-none six n =
     same_turn (λ i. needle_line 111 i (take 4 (drop (4 * (0 + i)) six))) (λ i. needle_line 111 i (take 4 (drop (4 * i) six))) n
     (λ i h. let e : 4 * (0 + i) ≡ 4 * i = omega arith in ap (λ (k : ℕ). needle_line 111 i (take 4 (drop k six))) e)
 
--- the needles that there is room for
-abbrev lessers : After-lesser-l → Start
-lessers l = l.before.before.before.before.before
-
 module _ (l : tie.After-lesser3) where
   abbrev six : List ℕ
-  six = (lessers l).args.six.now
+  six = l.args.six.now
 
   abbrev out : List ℕ
-  out = (lessers l).args.out.now
+  out = l.args.out.now
 
   -- their words and their bytes
   words : 4 * (l.before.lesser2.result + l.lesser3.result) ≤ length six
@@ -38,31 +33,26 @@ module _ (l : tie.After-lesser3) where
   bytes : 66 * (l.before.lesser2.result + l.lesser3.result) ≤ length out
   bytes = omega (arith, l.lesser3.ensures, l.before.lesser2.ensures, l.before.before.lesser.ensures)
 
-  lines : needle_lines l.before.lesser2.result l.lesser3.result six ≡ fitting_lines (lessers l).args.outputs (lessers l).args.latches six out
+  lines : needle_lines l.before.lesser2.result l.lesser3.result six ≡ fitting_lines l.args.outputs l.args.latches six out
   lines =
       let r : l.before.before.lesser.result ≡ rows_for six out = l.before.before.lesser.ensures in
-      let o : l.before.lesser2.result ≡ min (lessers l).args.outputs (rows_for six out)
-      = l.before.lesser2.ensures ∙ ap (min (lessers l).args.outputs) r in
+      let o : l.before.lesser2.result ≡ min l.args.outputs (rows_for six out)
+      = l.before.lesser2.ensures ∙ ap (min l.args.outputs) r in
       ap₂ (λ (n m : ℕ). needle_lines n m six) o
-      (l.lesser3.ensures ∙ ap₂ (λ (x y : ℕ). min (lessers l).args.latches (x - y)) r o)
+      (l.lesser3.ensures ∙ ap₂ (λ (x y : ℕ). min l.args.latches (x - y)) r o)
 
 pub overflow_sub-rows : goal.overflow_sub-rows
 overflow_sub-rows c = omega (arith, c.lesser-o.ensures)
 
 pub put_needles-next-requires : goal.put_needles-next-requires
-put_needles-next-requires c =
-    record { n_in_bounds = omega (arith, words c.before); n_in_bounds_2 = omega (arith, bytes c.before); }
+put_needles-next-requires c = record { n_in_bounds = omega (arith, words); n_in_bounds_2 = omega (arith, bytes); }
 
 pub put_needles-requires : goal.put_needles-requires
 put_needles-requires c =
-    let l = c.before.before.before.before.before in
-    record { n_in_bounds = words l; n_in_bounds_2 = omega (arith, bytes l, c.put_needles-next.ensures.upper_bound, c.put_needles-next.auto.out); }
+    record { n_in_bounds = words; n_in_bounds_2 = omega (arith, bytes, c.put_needles-next.ensures.upper_bound, c.put_needles-next.auto.out); }
 
 pub returns : goal.returns
 returns c =
-    let l = c.before.before.before.before.before.before.before.before in
-    let one = c.put_needles-next in
-    let two = c.put_needles in
-    let both = two-parts _ _ _ _ _ _ _ _ (from-none (six l) l.lesser-o.result) one.ensures.1.1 one.ensures.0
-    two.ensures.1.1 two.ensures.0 (omega (arith, one.ensures.1.0, two.ensures.1.0, bytes l)) in
-    record { value = both.0 ∙ ap length (lines l); out_after = both.1 ∙ ap (put (out l) 0) (lines l); }
+    let both = two-parts _ _ _ _ _ _ _ _ (from-none (six) c.lesser-o.result) c.put_needles-next.ensures.out_after c.put_needles-next.ensures.value
+    c.put_needles.ensures.out_after c.put_needles.ensures.value (omega (arith, c.put_needles-next.ensures.upper_bound, c.put_needles.ensures.upper_bound, bytes)) in
+    record { value = both.0 ∙ ap length (lines); out_after = both.1 ∙ ap (put (out) 0) (lines); }

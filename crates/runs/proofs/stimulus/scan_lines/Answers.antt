@@ -15,17 +15,14 @@ pub loop-i-init : goal.loop-i-init
 loop-i-init c = record { bound = omega arith; few = omega arith; narrow = omega arith; left = refl }
 
 pub returns-then-b-ne10 : goal.returns-then-b-ne10
-returns-then-b-ne10 c =
-    let i = c.before.before.before in
-    too_long i.loop-i.invariant i.loop-i-test.true c.if-column-width.true c.if-b-ne10.true
+returns-then-b-ne10 c = too_long c.loop-i.invariant c.loop-i-test.true c.if-column-width.true c.if-b-ne10.true
 
 pub overflow_add-number : goal.overflow_add-number
 overflow_add-number c = omega (arith, c.loop-i.invariant.few)
 
 pub returns-then-not-is_code : goal.returns-then-not-is_code
 returns-then-not-is_code c =
-    let i = c.before.before.before.before in
-    wrong-code i.loop-i.invariant i.loop-i-test.true c.if-column-width.false
+    wrong-code c.loop-i.invariant c.loop-i-test.true c.if-column-width.false
     (sym c.is_code.ensures ∙ not-true _ c.if-not-is_code.true-raw)
 
 pub overflow_add-column : goal.overflow_add-column

@@ -13,13 +13,11 @@ returns-then-not-codes_in c =
 pub returns-in-Lines : goal.returns-in-Lines
 returns-in-Lines c =
     let a = c.args in
-    let i = c.before.before.before.before in
-    let good = sym i.codes_in.ensures ∙ not-false _ i.if-not-codes_in.false-raw in
+    let good = sym c.codes_in.ensures ∙ not-false _ c.if-not-codes_in.false-raw in
     good-lines _ a.n.I a.vectors.now good c.whole_lines.ensures _ c.in-Lines.is
 
 pub returns-in-Refused : goal.returns-in-Refused
 returns-in-Refused c =
     let a = c.args in
-    let i = c.before.before.before in
-    let good = sym i.codes_in.ensures ∙ not-false _ i.if-not-codes_in.false-raw in
+    let good = sym c.codes_in.ensures ∙ not-false _ c.if-not-codes_in.false-raw in
     bad-lines _ a.n.I a.vectors.now good c.whole_lines.ensures _ c.in-Refused.is

@@ -14,21 +14,20 @@ pub loop-at-init : goal.loop-at-init
 loop-at-init c = let a = c.args in passing-first a.bytes.now a.from a.count _ c.lesser-at.ensures
 
 pub returns-then-left-eq0 : goal.returns-then-left-eq0
-returns-then-left-eq0 c = let w =
-    c.loop-at.invariant in
+returns-then-left-eq0 c =
+    let w = c.loop-at.invariant in
     record { value = past-lines w c.if-left-eq0.true; upper_bound = w.within; }
 
 pub loop-at-preserved : goal.loop-at-preserved
 loop-at-preserved c =
     let some = c.if-left-eq0.false in
-    let q = c.before.before.before in
-    let w = q.loop-at.invariant in
+    let w = c.loop-at.invariant in
     ⊎_elim
-    (λ t. past_end w q.loop-at-test.true _ (omega (arith, some, t.1)) (eq-eqb _ 10 t.0.taken))
-    (λ t. past-byte w q.loop-at-test.true some (ne_eqb _ 10 t.0.left) _ t.1)
+    (λ t. past_end w c.loop-at-test.true _ (omega (arith, some, t.1)) (eq-eqb _ 10 t.0.taken))
+    (λ t. past-byte w c.loop-at-test.true some (ne_eqb _ 10 t.0.left) _ t.1)
     c.if-bytes-at-eq10.branch
 
 pub returns : goal.returns
-returns c = let w =
-    c.loop-at.invariant in
+returns c =
+    let w = c.loop-at.invariant in
     record { value = past_bytes w c.loop-at-test.false; upper_bound = w.within; }

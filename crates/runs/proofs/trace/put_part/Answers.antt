@@ -6,12 +6,10 @@ use Rattle.runs.proofs.trace.put_part.Goals as goal
 
 pub store-requires : goal.store-requires
 store-requires c =
-    let s = c.before.before.before in
-    let a = s.args in
-    part-lent a.t.now a.out.now a.first a.count a.last a.at s.requires.count_in_bounds s.requires.count_in_bounds_2
+    let a = c.args in
+    part-lent a.t.now a.out.now a.first a.count a.last a.at c.requires.count_in_bounds c.requires.count_in_bounds_2
 
 pub returns : goal.returns
 returns c =
     let a = c.args in
-    let p = c.requires in
-    record { value = refl; out_after = part-put a.t.now a.out.now a.first a.count a.last a.at p.0 p.1 _ c.store.ensures; }
+    record { value = refl; out_after = part-put a.t.now a.out.now a.first a.count a.last a.at c.requires.count_in_bounds c.requires.count_in_bounds_2 _ c.store.ensures; }

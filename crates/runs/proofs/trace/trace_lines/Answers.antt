@@ -15,22 +15,30 @@ use Rattle.runs.specs.trace.Tracing.{Resting}
 use Rattle.runs.proofs.trace.Running.{Lining, lining-first, lining-next, line-fits, line-inside, ins-long}
 use Rattle.runs.proofs.trace.Running.{Going, going-first, going-at, going_on, all-gone}
 use borrow.Author.Rules.{rules}
-use Rattle.runs.proofs.trace.trace_lines.Goals.{In-loop-k, Start}
 use Rattle.runs.proofs.trace.trace_lines.Goals as goal
 
--- back to the start from a turn, and the room for its line
-abbrev start : In-loop-k → Start
-start c = c.before.before.before.before.before.before.before.before
+pub loop-k-init : goal.loop-k-init
+loop-k-init c =
+    let a = c.args in (
+      lining-first c.requires.listed,
+      sym (mul-zero (line_width a.n)),
+      refl,
+      refl,
+      λ others x r e rests. going-first a.n _ x a.number a.vectors.now a.scratch.now a.out.now e rests,
+    )
 
-inside : (c : In-loop-k) → c.loop-k.at + (start c).args.n.I + 1 ≤ length (start c).args.vectors.now
-inside c = line-inside c.loop-k.invariant.0 c.loop-k-test.true
+pub overflow_add-end : goal.overflow_add-end
+overflow_add-end c =
+    let inside : c.loop-k.at + c.args.n.I + 1 ≤ length c.args.vectors.now =
+    line-inside c.loop-k.invariant.0 c.loop-k-test.true in
+    omega (arith, inside)
 
-fits : (c : In-loop-k) → c.loop-k.to + line_width (start c).args.n ≤ length (start c).args.out.now
-fits c = line-fits (start c).requires.1 c.loop-k.k c.loop-k.to c.loop-k-test.true c.loop-k.invariant.1
-
-resting : (c : In-loop-k) → let a = (start c).args in Resting a.n a.latches.now a.outputs.now a.gates.now c.loop-k.scratch
-resting c =
-    let b = (start c).requires.0 in
+pub write_line-to-requires : goal.write_line-to-requires
+write_line-to-requires c =
+    let fits : c.loop-k.to + line_width c.args.n ≤ length c.args.out.now =
+    line-fits c.requires.listed c.loop-k.k c.loop-k.to c.loop-k-test.true c.loop-k.invariant.1 in
+    let resting : let a = c.args in Resting a.n a.latches.now a.outputs.now a.gates.now c.loop-k.scratch =
+    let b = c.requires.resting in
     let g = c.loop-k.invariant.4 b.others b.state b.runs b.state-length b.rests in
     record {
       others = b.others;
@@ -39,45 +47,28 @@ resting c =
       scratch-long = omega (arith, b.scratch-long, c.loop-k.invariant.2);
       state-length = g.state-length;
       rests = g.rests;
-    }
-
-pub loop-k-init : goal.loop-k-init
-loop-k-init c =
-    let s = c.before.before.before.before.before.before in
-    let a = s.args in (
-      lining-first s.requires.listed,
-      sym (mul-zero (line_width a.n)),
-      refl,
-      refl,
-      λ others x r e rests. going-first a.n _ x a.number a.vectors.now a.scratch.now a.out.now e rests,
-    )
-
-pub overflow_add-end : goal.overflow_add-end
-overflow_add-end c = omega (arith, inside c.before)
-
-pub write_line-to-requires : goal.write_line-to-requires
-write_line-to-requires c =
-    let i = c.before.before.before.before in
-    record { resting = resting i; ins_len = ins-long i.loop-k.invariant.0 i.loop-k-test.true; n_in_bounds = omega (arith, fits i, i.loop-k.invariant.3); }
+    } in
+    record { resting = resting; ins_len = ins-long c.loop-k.invariant.0 c.loop-k-test.true; n_in_bounds = omega (arith, fits, c.loop-k.invariant.3); }
 
 pub overflow_add-at : goal.overflow_add-at
 overflow_add-at c =
-    let i = c.before.before.before.before.before.before.before.before.before in
-    omega (arith, inside i, (start i).well-formed)
+    let inside : c.loop-k.at + c.args.n.I + 1 ≤ length c.args.vectors.now =
+    line-inside c.loop-k.invariant.0 c.loop-k-test.true in
+    omega (arith, inside, c.well_formed)
 
 pub loop-k-preserved : goal.loop-k-preserved
 loop-k-preserved c =
-    let i = c.before.before.before.before.before.before.before.before.before in
-    let w = i.loop-k in
-    let write = c.write_line-to in (
-      lining-next w.invariant.0 i.loop-k-test.true,
-      write.ensures.0 ∙ next_row (line_width (start i).args.n) w.k w.to w.invariant.1,
-      c.write_line-to.auto.scratch ∙ w.invariant.2,
-      c.out-1.given ∙ w.invariant.3,
+    let fits : c.loop-k.to + line_width c.args.n ≤ length c.args.out.now =
+    line-fits c.requires.listed c.loop-k.k c.loop-k.to c.loop-k-test.true c.loop-k.invariant.1 in
+    (
+      lining-next c.loop-k.invariant.0 c.loop-k-test.true,
+      c.write_line-to.ensures.value ∙ next_row (line_width c.args.n) c.loop-k.k c.loop-k.to c.loop-k.invariant.1,
+      c.write_line-to.auto.scratch ∙ c.loop-k.invariant.2,
+      c.out-1.given ∙ c.loop-k.invariant.3,
       λ others s r e rests.
-          let g = w.invariant.4 others s r e rests in
-          going-at write.ensures.0
-          (going_on w.invariant.0 i.loop-k-test.true r g (fits i) (write.ensures.1 others g.state r g.state-length g.rests)),
+          let g = c.loop-k.invariant.4 others s r e rests in
+          going-at c.write_line-to.ensures.value
+          (going_on c.loop-k.invariant.0 c.loop-k-test.true r g (fits) (c.write_line-to.ensures.wrote others g.state r g.state-length g.rests)),
     )
 
 pub shape_of-scratch : goal.shape_of-scratch
@@ -90,6 +81,5 @@ pub returns : goal.returns
 returns c =
     λ others s r e rests.
     let a = c.args in
-    let w = c.loop-k in
-    all-gone a.n _ s a.number a.vectors.now a.scratch.now a.out.now w.scratch w.out w.k w.at w.to
-    c.loop-k-test.false (w.invariant.4 others s r e rests)
+    all-gone a.n _ s a.number a.vectors.now a.scratch.now a.out.now c.loop-k.scratch c.loop-k.out c.loop-k.k c.loop-k.at c.loop-k.to
+    c.loop-k-test.false (c.loop-k.invariant.4 others s r e rests)

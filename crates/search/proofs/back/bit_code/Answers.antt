@@ -9,8 +9,8 @@ use Rattle.search.proofs.back.bit_code.Lts as lts
 use Rattle.search.proofs.back.bit_code.Goals as goal
 
 pub returns-then-bit-eq1 : goal.returns-then-bit-eq1
-returns-then-bit-eq1 c = let a =
-    c.args in code_one (a.k / 2 ^ a.i % 2) (sym (and_mask (a.k / 2 ^ a.i) 1) ∙ c.if-bit-eq1.true)
+returns-then-bit-eq1 c =
+    let a = c.args in code_one (a.k / 2 ^ a.i % 2) (sym (and_mask (a.k / 2 ^ a.i) 1) ∙ c.if-bit-eq1.true)
 
 pub returns : goal.returns
 returns c =

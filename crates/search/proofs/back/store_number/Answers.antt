@@ -19,17 +19,13 @@ pub overflow_add-t : goal.overflow_add-t
 overflow_add-t c = omega (arith, c.requires.1, c.loop-i-test.true)
 
 pub bounds-t-first : goal.bounds-t-first
-bounds-t-first c =
-    let w = c.before.before in
-    omega (arith, w.requires.1, c.loop-i-test.true, w.loop-i.invariant.1.same)
+bounds-t-first c = omega (arith, c.requires.1, c.loop-i-test.true, c.loop-i.invariant.1.same)
 
 pub loop-i-preserved : goal.loop-i-preserved
 loop-i-preserved c =
-    let w = c.before.before in
-    let s = w.before.before in
     let more = c.loop-i-test.true in (
       omega arith,
-      filled_more _ _ _ w.loop-i.i w.loop-i.t _ w.loop-i.invariant.1 (omega (arith, s.requires.1, more)) c.bit_code.ensures,
+      filled_more _ _ _ c.loop-i.i c.loop-i.t _ c.loop-i.invariant.1 (omega (arith, c.requires.1, more)) c.bit_code.ensures,
     )
 
 pub shape_of-t : goal.shape_of-t
@@ -37,7 +33,5 @@ shape_of-t c = c.loop-i.invariant.1.same
 
 pub returns : goal.returns
 returns c =
-    let w = c.before in
-    let s = w.before.before in
-    filled-all _ _ _ s.args.n w.loop-i.i w.loop-i.t w.loop-i.invariant.1 (omega arith)
-    ∙ ap (put s.args.t.now s.args.first) (bits-firsts code_of s.args.n s.args.k)
+    filled-all _ _ _ c.args.n c.loop-i.i c.loop-i.t c.loop-i.invariant.1 (omega arith)
+    ∙ ap (put c.args.t.now c.args.first) (bits-firsts code_of c.args.n c.args.k)

@@ -7,17 +7,15 @@ use Rattle.search.proofs.back.tell.Goals as goal
 
 pub overflow_mul-needed : goal.overflow_mul-needed
 overflow_mul-needed c =
-    let x = c.before.before.before.before in
-    let w = x.requires.2 in
+    let w = c.requires.2 in
     let t = c.steps_to-steps.ensures w.y w.ways w.rows w.there in
-    omega (arith, few_bytes c.steps_to-steps.result x.args.n.I (omega (arith, t.1, w.there, w.few)) x.requires.1, x.requires.0)
+    omega (arith, few_bytes c.steps_to-steps.result c.args.n.I (omega (arith, t.1, w.there, w.few)) c.requires.1, c.requires.0)
 
 pub overflow_add-needed : goal.overflow_add-needed
 overflow_add-needed c =
-    let x = c.before.before.before.before.before in
-    let w = x.requires.2 in
+    let w = c.requires.2 in
     let t = c.steps_to-steps.ensures w.y w.ways w.rows w.there in
-    omega (arith, few_bytes c.steps_to-steps.result x.args.n.I (omega (arith, t.1, w.there, w.few)) x.requires.1, x.requires.0)
+    omega (arith, few_bytes c.steps_to-steps.result c.args.n.I (omega (arith, t.1, w.there, w.few)) c.requires.1, c.requires.0)
 
 pub returns-then-out-needed : goal.returns-then-out-needed
 returns-then-out-needed c =

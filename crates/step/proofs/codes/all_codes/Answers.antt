@@ -10,20 +10,19 @@ use Rattle.plan.specs.Outcome.{all_codes}
 use Rattle.judge.proofs.binary_order.Steps.{test-fails, test-passes}
 use Rattle.step.proofs.codes.Codes.{codes-turn, codes-end}
 use borrow.Author.Rules.{rules}
-use Rattle.step.proofs.codes.all_codes.Goals.{In-loop-i}
 use Rattle.step.proofs.codes.all_codes.Goals as goal
-
--- what is left from this turn on: its byte, and the rest
-whole : (c : In-loop-i) → let bytes = c.args.bytes.now in let i = c.loop-i.i in all_codes bytes ≡ (is_code (get_or bytes i 0) && all_codes (drop (i + 1) bytes))
-whole c = codes-turn c.args.bytes.now c.loop-i.i c.loop-i-test.true c.loop-i.invariant.1
 
 pub returns-then-not-is_code : goal.returns-then-not-is_code
 returns-then-not-is_code c =
-    test-fails _ _ _ _ (whole c.before.before.before) c.is_code.ensures c.if-not-is_code.true-raw
+    let whole : let bytes = c.args.bytes.now in let i = c.loop-i.i in all_codes bytes ≡ (is_code (get_or bytes i 0) && all_codes (drop (i + 1) bytes)) =
+    codes-turn c.args.bytes.now c.loop-i.i c.loop-i-test.true c.loop-i.invariant.1 in
+    test-fails _ _ _ _ (whole) c.is_code.ensures c.if-not-is_code.true-raw
 
 pub loop-i-preserved : goal.loop-i-preserved
 loop-i-preserved c =
-    (omega arith, test-passes _ _ _ _ (whole c.before.before.before) c.is_code.ensures c.if-not-is_code.false-raw)
+    let whole : let bytes = c.args.bytes.now in let i = c.loop-i.i in all_codes bytes ≡ (is_code (get_or bytes i 0) && all_codes (drop (i + 1) bytes)) =
+    codes-turn c.args.bytes.now c.loop-i.i c.loop-i-test.true c.loop-i.invariant.1 in
+    (omega arith, test-passes _ _ _ _ (whole) c.is_code.ensures c.if-not-is_code.false-raw)
 
 pub returns : goal.returns
 returns c = codes-end c.args.bytes.now c.loop-i.i c.loop-i-test.false c.loop-i.invariant.1

@@ -6,15 +6,7 @@ use mathlib.Core.Bool.{true}
 use borrow.Author.Tests.{not-true, not-false, eq-eqb, ne_eqb}
 use Rattle.step.proofs.codes.Places.{codes_in, bad-state, bad-inputs, bad-outputs, none-bad}
 use borrow.Author.Rules.{rules}
-use Rattle.step.proofs.codes.bad_vector.Goals.{Else-not-codes_in, Else-not-codes_in-2}
 use Rattle.step.proofs.codes.bad_vector.Goals as goal
-
--- past the first test the state is good, past the second the inputs are
-good-state : (c : Else-not-codes_in) → let a = c.args in codes_in a.state.now a.n.L ≡ true
-good-state c = sym c.codes_in.ensures ∙ not-false _ c.if-not-codes_in.false-raw
-
-good-inputs : (c : Else-not-codes_in-2) → let a = c.args in codes_in a.ins.now a.n.I ≡ true
-good-inputs c = sym c.codes_in-2.ensures ∙ not-false _ c.if-not-codes_in-2.false-raw
 
 pub returns-then-not-codes_in : goal.returns-then-not-codes_in
 returns-then-not-codes_in c =
@@ -24,14 +16,24 @@ returns-then-not-codes_in c =
 
 pub returns-then-not-codes_in-2 : goal.returns-then-not-codes_in-2
 returns-then-not-codes_in-2 c =
+    let good-state : let a = c.args in codes_in a.state.now a.n.L ≡ true =
+    sym c.codes_in.ensures ∙ not-false _ c.if-not-codes_in.false-raw in
     let a = c.args in
-    bad-inputs _ _ (eqb a.outs a.n.O) (good-state c.before.before)
+    bad-inputs _ _ (eqb a.outs a.n.O) (good-state)
     (sym c.codes_in-2.ensures ∙ not-true _ c.if-not-codes_in-2.true-raw)
 
 pub returns-then-outs-n : goal.returns-then-outs-n
-returns-then-outs-n c = let d =
-    c.before.before in bad-outputs _ _ _ (good-state d.before.before) (good-inputs d) (ne_eqb _ _ c.if-outs-n.true)
+returns-then-outs-n c =
+    let good-state : let a = c.args in codes_in a.state.now a.n.L ≡ true =
+    sym c.codes_in.ensures ∙ not-false _ c.if-not-codes_in.false-raw in
+    let good-inputs : let a = c.args in codes_in a.ins.now a.n.I ≡ true =
+    sym c.codes_in-2.ensures ∙ not-false _ c.if-not-codes_in-2.false-raw in
+    bad-outputs _ _ _ (good-state) (good-inputs) (ne_eqb _ _ c.if-outs-n.true)
 
 pub returns : goal.returns
-returns c = let d =
-    c.before.before in none-bad _ _ _ (good-state d.before.before) (good-inputs d) (eq-eqb _ _ c.if-outs-n.false)
+returns c =
+    let good-state : let a = c.args in codes_in a.state.now a.n.L ≡ true =
+    sym c.codes_in.ensures ∙ not-false _ c.if-not-codes_in.false-raw in
+    let good-inputs : let a = c.args in codes_in a.ins.now a.n.I ≡ true =
+    sym c.codes_in-2.ensures ∙ not-false _ c.if-not-codes_in-2.false-raw in
+    none-bad _ _ _ (good-state) (good-inputs) (eq-eqb _ _ c.if-outs-n.false)

@@ -9,10 +9,7 @@ use Rattle.step.proofs.sweep.may_be_0.Goals as goal
 
 pub may_be_1-requires : goal.may_be_1-requires
 may_be_1-requires c =
-    let s = c.before.before in
-    subst (λ (l : Lit). s.args.lits + word_of l < length s.args.t.now) (sym c.negated.ensures) s.requires
+    subst (λ (l : Lit). c.args.lits + word_of l < length c.args.t.now) (sym c.negated.ensures) c.requires
 
 pub returns : goal.returns
-returns c =
-    let s = c.before.before.before in
-    c.may_be_1.ensures ∙ ap (λ (l : Lit). get_or s.args.t.now (s.args.lits + word_of l) 0) c.negated.ensures
+returns c = c.may_be_1.ensures ∙ ap (λ (l : Lit). get_or c.args.t.now (c.args.lits + word_of l) 0) c.negated.ensures

@@ -6,6 +6,4 @@ use borrow.Author.Rules.{rules}
 use Rattle.step.proofs.sweep.may_be_1.Goals as goal
 
 pub returns : goal.returns
-returns c =
-    let s = c.before.before.before in
-    ap (λ (k : ℕ). get_or s.args.t.now (s.args.lits + k) 0) c.word.ensures
+returns c = ap (λ (k : ℕ). get_or c.args.t.now (c.args.lits + k) 0) c.word.ensures

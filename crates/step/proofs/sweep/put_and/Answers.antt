@@ -15,10 +15,6 @@ bounds-t-to-2 c = simp length-set (omega arith)
 
 pub returns : goal.returns
 returns c =
-    let b = c.before.before in
-    let d = b.before.before in
-    let a = d.before.before in
-    let s = a.before.before.before in
-    two-put s.args.t.now s.args.to _ _ s.requires.1.1
-    ∙ ap₂ (λ (x y : ℕ). put s.args.t.now s.args.to (x ∷ y ∷ []))
-    (ap₂ bit_and a.may-be-1.ensures d.may-be-12.ensures) (ap₂ bit_or b.may-be-0.ensures c.may_be_0-2.ensures)
+    two-put c.args.t.now c.args.to _ _ c.requires.to_in_bounds
+    ∙ ap₂ (λ (x y : ℕ). put c.args.t.now c.args.to (x ∷ y ∷ []))
+    (ap₂ bit_and c.may_be_1.ensures c.may_be_1-2.ensures) (ap₂ bit_or c.may_be_0.ensures c.may_be_0-2.ensures)

@@ -6,30 +6,22 @@ use native.Mathlib.Omega.{arith}
 use Rattle.step.specs.values.Words.{values_at}
 use Rattle.step.proofs.sweep.Spreading.{Spread, leaves_none, leaf-coded, leaves-more, leaves_all}
 use borrow.Author.Rules.{rules}
-use Rattle.step.proofs.sweep.spread_leaves.Goals.{In-loop-v, Start}
 use Rattle.step.proofs.sweep.spread_leaves.Goals as goal
-
--- back to the start from a turn
-abbrev start : In-loop-v → Start
-start q = q.before.before.before
 
 pub loop-v-init : goal.loop-v-init
 loop-v-init c = (omega arith, omega arith, leaves_none c.requires)
 
 pub put_value-requires : goal.put_value-requires
 put_value-requires c =
-    let q = c.before.before in
-    let w = q.loop-v in
-    let coded = leaf-coded (start q).requires w.v w.to w.t q.loop-v-test.true w.invariant.1 w.invariant.2 in
-    record { coded = coded; to_in_bounds = omega (arith, w.invariant.2.same, (start q).requires.table-long); }
+    let coded = leaf-coded c.requires c.loop-v.v c.loop-v.to c.loop-v.t c.loop-v-test.true c.loop-v.invariant.1 c.loop-v.invariant.2 in
+    record { coded = coded; to_in_bounds = omega (arith, c.loop-v.invariant.2.same, c.requires.table-long); }
 
 pub loop-v-preserved : goal.loop-v-preserved
 loop-v-preserved c =
-    let q = c.before.before.before.before.before in
-    let w = q.loop-v in (
+    (
       omega arith,
       omega arith,
-      leaves-more (start q).requires w.v w.to w.t q.loop-v-test.true w.invariant.1 w.invariant.2 _ c.put_value.auto.t
+      leaves-more c.requires c.loop-v.v c.loop-v.to c.loop-v.t c.loop-v-test.true c.loop-v.invariant.1 c.loop-v.invariant.2 _ c.put_value.auto.t
           c.put_value.ensures,
     )
 
@@ -37,6 +29,4 @@ pub shape_of-t : goal.shape_of-t
 shape_of-t c = c.loop-v.invariant.2.same
 
 pub returns : goal.returns
-returns c =
-    let w = c.loop-v in
-    leaves_all c.requires w.v w.t w.invariant.2 (omega arith)
+returns c = leaves_all c.requires c.loop-v.v c.loop-v.t c.loop-v.invariant.2 (omega arith)

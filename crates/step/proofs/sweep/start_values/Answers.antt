@@ -7,21 +7,16 @@ use lib.Seq.{length-take-le}
 use Rattle.plan.specs.Step.{reset_value}
 use Rattle.step.proofs.sweep.Loading.{constant-set, rests-loaded}
 use borrow.Author.Rules.{rules}
-use Rattle.step.proofs.sweep.start_values.Goals.{After-slice_known-2-1, Start}
 use Rattle.step.proofs.sweep.start_values.Goals as goal
 
-abbrev start : After-slice_known-2-1 → Start
-start c = c.before.before.before.before.before.before.before
-
 pub shape_of-t : goal.shape_of-t
-shape_of-t c = c.load_resets.auto.t ∙ length-set (start c).args.t.now 0 1
+shape_of-t c = c.load_resets.auto.t ∙ length-set c.args.t.now 0 1
 
 pub returns : goal.returns
 returns c =
-    let s = start c in
-    let a = s.args in
+    let a = c.args in
     let first = map reset_value (take a.n.L a.resets.now) in
-    rests-loaded a.n (set a.t.now 0 1) first _ (constant-set a.t.now (omega (arith, s.pre.1)))
-    (omega (arith, s.pre.1, length-set a.t.now 0 1))
-    (length-map (take a.n.L a.resets.now) reset_value ∙ length-take-le a.n.L a.resets.now s.pre.0)
+    rests-loaded a.n (set a.t.now 0 1) first _ (constant-set a.t.now (omega (arith, c.requires.1)))
+    (omega (arith, c.requires.1, length-set a.t.now 0 1))
+    (length-map (take a.n.L a.resets.now) reset_value ∙ length-take-le a.n.L a.resets.now c.requires.0)
     c.load_resets.ensures

@@ -18,22 +18,16 @@ loop-i-init c =
 
 pub returns-then-t-first-eq-MAY1 : goal.returns-then-t-first-eq-MAY1
 returns-then-t-first-eq-MAY1 c =
-    let w = c.loop-i in
-    let s = c.before.before.before.before in
-    any_here s.args.t.now s.args.first s.args.n w.i s.requires c.loop-i-test.true
-    w.invariant.1 c.if-t-first-eq-MAY1.true
+    any_here c.args.t.now c.args.first c.args.n c.loop-i.i c.requires c.loop-i-test.true
+    c.loop-i.invariant.1 c.if-t-first-eq-MAY1.true
 
 pub loop-i-preserved : goal.loop-i-preserved
 loop-i-preserved c =
-    let w = c.loop-i in
-    let s = c.before.before.before.before in (
+    (
       omega arith,
-      any-later s.args.t.now s.args.first s.args.n w.i s.requires c.loop-i-test.true
-          w.invariant.1 c.if-t-first-eq-MAY1.false,
+      any-later c.args.t.now c.args.first c.args.n c.loop-i.i c.requires c.loop-i-test.true
+          c.loop-i.invariant.1 c.if-t-first-eq-MAY1.false,
     )
 
 pub returns : goal.returns
-returns c =
-    let w = c.loop-i in
-    let s = c.before.before in
-    any_none s.args.t.now s.args.first s.args.n w.i c.loop-i-test.false w.invariant.1
+returns c = any_none c.args.t.now c.args.first c.args.n c.loop-i.i c.loop-i-test.false c.loop-i.invariant.1

@@ -13,13 +13,11 @@ use Rattle.step.proofs.values.first_state.Goals as goal
 
 pub loop-i-preserved : goal.loop-i-preserved
 loop-i-preserved c =
-    let w = c.loop-i in
-    let x = c.before in
-    let r = x.reset_at in (
+    (
       omega arith,
-      filled-front _ _ w.i w.state _ w.invariant.1 (omega arith)
+      filled-front _ _ c.loop-i.i c.loop-i.state _ c.loop-i.invariant.1 (omega arith)
           (c.code_of.ensures
-          ∙ ap code_of (ap told x.word_of_reset.ensures ∙ (told-word (reset_value r.result) ∙ ap reset_value r.ensures))),
+          ∙ ap code_of (ap told c.word_of_reset.ensures ∙ (told-word (reset_value c.reset_at.result) ∙ ap reset_value c.reset_at.ensures))),
     )
 
 pub shape_of-state : goal.shape_of-state
@@ -27,7 +25,5 @@ shape_of-state c = c.loop-i.invariant.1.same
 
 pub returns : goal.returns
 returns c =
-    let w = c.loop-i in
-    let s = c.before.before.before.before in
-    filled-all _ _ _ (length s.args.state.now) w.i w.state w.invariant.1 (omega arith)
-    ∙ state-filled s.args.resets.now s.args.state.now
+    filled-all _ _ _ (length c.args.state.now) c.loop-i.i c.loop-i.state c.loop-i.invariant.1 (omega arith)
+    ∙ state-filled c.args.resets.now c.args.state.now

@@ -17,17 +17,13 @@ loop-i-init c = (omega arith, filled_none _ _ _)
 
 pub loop-i-preserved : goal.loop-i-preserved
 loop-i-preserved c =
-    let w = c.loop-i in
-    let s = c.before.before.before.before.before.before in
-    (omega arith, filled_more _ _ _ w.i w.t _ w.invariant.1 (omega (arith, s.requires.n_in_bounds_2)) c.word_of_reset.ensures)
+    (omega arith, filled_more _ _ _ c.loop-i.i c.loop-i.t _ c.loop-i.invariant.1 (omega (arith, c.requires.n_in_bounds_2)) c.word_of_reset.ensures)
 
 pub shape_of-t : goal.shape_of-t
 shape_of-t c = c.loop-i.invariant.1.same
 
 pub returns : goal.returns
 returns c =
-    let w = c.loop-i in
-    let s = c.before.before.before.before in
-    let a = s.args in
-    filled-all _ _ _ a.n w.i w.t w.invariant.1 (omega arith)
-    ∙ ap (put a.t.now a.first) (resets-loaded a.resets.now a.n s.requires.n_in_bounds)
+    let a = c.args in
+    filled-all _ _ _ a.n c.loop-i.i c.loop-i.t c.loop-i.invariant.1 (omega arith)
+    ∙ ap (put a.t.now a.first) (resets-loaded a.resets.now a.n c.requires.n_in_bounds)

@@ -13,15 +13,12 @@ use Rattle.step.proofs.values.store.Goals as goal
 
 pub loop-i-preserved : goal.loop-i-preserved
 loop-i-preserved c =
-    let w = c.loop-i in
-    (omega arith, filled-front _ _ w.i w.codes _ w.invariant.1 (omega arith) c.code_of.ensures)
+    (omega arith, filled-front _ _ c.loop-i.i c.loop-i.codes _ c.loop-i.invariant.1 (omega arith) c.code_of.ensures)
 
 pub shape_of-codes : goal.shape_of-codes
 shape_of-codes c = c.loop-i.invariant.1.same
 
 pub returns : goal.returns
 returns c =
-    let w = c.loop-i in
-    let s = c.before.before.before.before in
-    filled-all _ _ _ (length s.args.codes.now) w.i w.codes w.invariant.1 (omega arith)
-    ∙ stored s.args.t.now s.args.first (length s.args.codes.now) s.args.codes.now refl s.requires
+    filled-all _ _ _ (length c.args.codes.now) c.loop-i.i c.loop-i.codes c.loop-i.invariant.1 (omega arith)
+    ∙ stored c.args.t.now c.args.first (length c.args.codes.now) c.args.codes.now refl c.requires

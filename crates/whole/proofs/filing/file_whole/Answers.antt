@@ -7,104 +7,44 @@ use Rattle.plan.specs.Whole.{input_of}
 use Rattle.read.proofs.Loads.{same-cleared, all_same}
 use Rattle.plan.specs.Cards.{CardEntry, filed_cards}
 use Rattle.whole.proofs.filing.Moving.{all-zero}
-use Rattle.whole.proofs.filing.file_whole.Goals.{After-bads-1, After-bads-2-1, After-clear_all, After-constraints-1, After-constraints-2-1, After-file_cards-answer, After-gates-1, After-gates-2-1, After-inputs-1, After-inputs-2-1, After-latches-1, After-latches-2-1, After-out-1, After-outputs-1, After-outputs-2-1, After-resets-1, After-resets-2-1, After-scratch-1, After-slice_known-26-1, Start}
 use Rattle.whole.proofs.filing.file_whole.Goals as goal
 
--- moments, each named by what happened there
-abbrev constraints2-of : After-slice_known-26-1 → After-constraints-2-1
-constraints2-of c = c.before.before.before.before.before
-
-abbrev bads2-of : After-slice_known-26-1 → After-bads-2-1
-bads2-of c = (constraints2-of c).before.before
-
-abbrev resets2-of : After-slice_known-26-1 → After-resets-2-1
-resets2-of c = (bads2-of c).before.before
-
-abbrev gates2-of : After-slice_known-26-1 → After-gates-2-1
-gates2-of c = (resets2-of c).before.before
-
-abbrev outputs2-of : After-slice_known-26-1 → After-outputs-2-1
-outputs2-of c = (gates2-of c).before.before
-
-abbrev latches2-of : After-slice_known-26-1 → After-latches-2-1
-latches2-of c = (outputs2-of c).before.before
-
-abbrev inputs2-of : After-slice_known-26-1 → After-inputs-2-1
-inputs2-of c = (latches2-of c).before.before
-
-abbrev clear-all-of : After-slice_known-26-1 → After-clear_all
-clear-all-of c = (inputs2-of c).before
-
-abbrev out_of : After-slice_known-26-1 → After-out-1
-out_of c = (clear-all-of c).before.before.before.before.before.before.before.before.before
-
-abbrev scratch-of : After-slice_known-26-1 → After-scratch-1
-scratch-of c = (out_of c).before.before
-
-abbrev constraints-of : After-slice_known-26-1 → After-constraints-1
-constraints-of c = (scratch-of c).before.before
-
-abbrev bads-of : After-slice_known-26-1 → After-bads-1
-bads-of c = (constraints-of c).before.before
-
-abbrev resets-of : After-slice_known-26-1 → After-resets-1
-resets-of c = (bads-of c).before.before
-
-abbrev gates-of : After-slice_known-26-1 → After-gates-1
-gates-of c = (resets-of c).before.before
-
-abbrev outputs-of : After-slice_known-26-1 → After-outputs-1
-outputs-of c = (gates-of c).before.before
-
-abbrev latches-of : After-slice_known-26-1 → After-latches-1
-latches-of c = (outputs-of c).before.before
-
-abbrev inputs-of : After-slice_known-26-1 → After-inputs-1
-inputs-of c = (latches-of c).before.before
-
-abbrev file-cards-of : After-slice_known-26-1 → After-file_cards-answer
-file-cards-of c = (inputs-of c).before
-
-abbrev start-of : After-slice_known-26-1 → Start
-start-of c = (file-cards-of c).before.before.before.before.before.before.before.before.before.before.before.before.before.before.before.before.before.before.before.before
-
 pub shape_of-inputs : goal.shape_of-inputs
-shape_of-inputs c = (inputs2-of c).inputs2.given ∙ (inputs-of c).inputs.given
+shape_of-inputs c = c.clear_all.auto.inputs ∙ c.file_cards-answer.auto.inputs
 
 pub shape_of-latches : goal.shape_of-latches
-shape_of-latches c = (latches2-of c).latches2.given ∙ (latches-of c).latches.given
+shape_of-latches c = c.latches-2-1.given ∙ c.latches-1.given
 
 pub shape_of-outputs : goal.shape_of-outputs
-shape_of-outputs c = (outputs2-of c).outputs2.given ∙ (outputs-of c).outputs.given
+shape_of-outputs c = c.outputs-2-1.given ∙ c.outputs-1.given
 
 pub shape_of-gates : goal.shape_of-gates
-shape_of-gates c = (gates2-of c).gates2.given ∙ (gates-of c).gates.given
+shape_of-gates c = c.gates-2-1.given ∙ c.gates-1.given
 
 pub shape_of-resets : goal.shape_of-resets
-shape_of-resets c = (resets2-of c).resets2.given ∙ (resets-of c).resets.given
+shape_of-resets c = c.resets-2-1.given ∙ c.resets-1.given
 
 pub shape_of-bads : goal.shape_of-bads
-shape_of-bads c = (bads2-of c).bads2.given ∙ (bads-of c).bads.given
+shape_of-bads c = c.bads-2-1.given ∙ c.bads-1.given
 
 pub shape_of-constraints : goal.shape_of-constraints
-shape_of-constraints c = (constraints2-of c).constraints2.given ∙ (constraints-of c).constraints.given
+shape_of-constraints c = c.constraints-2-1.given ∙ c.constraints-1.given
 
 pub shape_of-scratch : goal.shape_of-scratch
-shape_of-scratch c = c.clear.auto.table ∙ (scratch-of c).scratch.given
+shape_of-scratch c = c.clear.auto.table ∙ c.scratch-1.given
 
 pub shape_of-out : goal.shape_of-out
-shape_of-out c = (out_of c).out.given
+shape_of-out c = c.out-1.given
 
 pub returns : goal.returns
 returns c =
-    let a = (start-of c).args in
+    let a = c.args in
     let t : Tables = seven a.inputs.now a.latches.now a.outputs.now a.gates.now a.resets.now a.bads.now a.constraints.now in
     let w : CardEntry = record { plan = input_of a.readable a.file.now; tables = t; scratch = a.scratch.now; out = a.out.now } in
-    let moved = (file-cards-of c).file-cards in
-    let t' : Tables = seven moved.last.1.1.0 moved.last.1.1.1.0 moved.last.1.1.1.1.0 moved.last.1.1.1.1.1.0
-    moved.last.1.1.1.1.1.1.0 moved.last.1.1.1.1.1.1.1.0 moved.last.1.1.1.1.1.1.1.1.0 in
-    let x : WriteExit = record { answer = moved.result; out = moved.last.1.1.1.1.1.1.1.1.1.1.0 } in
-    let back = all_same t' t (inputs-of c).inputs.given (latches-of c).latches.given (outputs-of c).outputs.given (gates-of c).gates.given
-    (resets-of c).resets.given (bads-of c).bads.given (constraints-of c).constraints.given in
-    all-zero w (filed_cards w) x moved.ensures _ _ ((clear-all-of c).clear-all.ensures ∙ back)
-    (c.clear.ensures ∙ same-cleared moved.last.1.1.1.1.1.1.1.1.1.0 a.scratch.now (scratch-of c).scratch.given)
+    let t' : Tables = seven c.file_cards-answer.last.1.1.0 c.file_cards-answer.last.1.1.1.0 c.file_cards-answer.last.1.1.1.1.0 c.file_cards-answer.last.1.1.1.1.1.0
+    c.file_cards-answer.last.1.1.1.1.1.1.0 c.file_cards-answer.last.1.1.1.1.1.1.1.0 c.file_cards-answer.last.1.1.1.1.1.1.1.1.0 in
+    let x : WriteExit = record { answer = c.file_cards-answer.result; out = c.file_cards-answer.last.1.1.1.1.1.1.1.1.1.1.0 } in
+    let back = all_same t' t c.file_cards-answer.auto.inputs c.latches-1.given c.outputs-1.given c.gates-1.given
+    c.resets-1.given c.bads-1.given c.constraints-1.given in
+    all-zero w (filed_cards w) x c.file_cards-answer.ensures _ _ (c.clear_all.ensures ∙ back)
+    (c.clear.ensures ∙ same-cleared c.file_cards-answer.last.1.1.1.1.1.1.1.1.1.0 a.scratch.now c.scratch-1.given)

@@ -13,10 +13,8 @@ loop-i-init c = let a = c.args in none-copied (words_of a.tail.now) (length a.ta
 
 pub loop-i-preserved : goal.loop-i-preserved
 loop-i-preserved c =
-    let start = c.before.before.before in
-    let a = start.args in
-    let s = c.loop-i in
-    one-copied (words_of a.tail.now) (length a.tail.now) a.out.now a.at start.requires s.out s.i s.invariant _ _ refl refl
+    let a = c.args in
+    one-copied (words_of a.tail.now) (length a.tail.now) a.out.now a.at c.requires c.loop-i.out c.loop-i.i c.loop-i.invariant _ _ refl refl
     c.loop-i-test.true
 
 pub shape_of-out : goal.shape_of-out
@@ -24,9 +22,7 @@ shape_of-out c = c.loop-i.invariant.size
 
 pub returns : goal.returns
 returns c =
-    let start = c.before.before in
-    let a = start.args in
-    let s = c.loop-i in
-    record { value = omega (arith, s.invariant.bound); out_after = all-copied (words_of a.tail.now) (length a.tail.now) a.out.now a.at start.requires s.out s.i s.invariant
+    let a = c.args in
+    record { value = omega (arith, c.loop-i.invariant.bound); out_after = all-copied (words_of a.tail.now) (length a.tail.now) a.out.now a.at c.requires c.loop-i.out c.loop-i.i c.loop-i.invariant
           c.loop-i-test.false
           ∙ ap (put a.out.now a.at) (all_words a.tail.now); }

@@ -5,17 +5,11 @@ use Rattle.write.specs.print.Latches.{latch_rows}
 use Rattle.write.specs.forms.Forms.{head_bytes, observed_bytes, gate_groups}
 use Rattle.write.proofs.forms.Filled.{four-parts}
 use borrow.Author.Rules.{rules}
-use Rattle.write.proofs.forms.binary_length.Goals.{After-gates_length, Start}
 use Rattle.write.proofs.forms.binary_length.Goals as goal
-
--- moments, each named by what happened there
-abbrev start-of : After-gates_length → Start
-start-of c = c.before.before.before.before.before.before.before.before.before.before
 
 pub returns : goal.returns
 returns c =
-    let start = start-of c in
-    let a = start.args in
+    let a = c.args in
     let n = a.n in
     let lats = lines_of (latch_rows true n.L a.latches.now a.resets.now) in
     let obs = observed_bytes n a.outputs.now a.bads.now a.constraints.now in

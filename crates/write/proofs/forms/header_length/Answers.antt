@@ -8,7 +8,6 @@ use Rattle.write.proofs.forms.header_length.Goals as goal
 
 pub returns : goal.returns
 returns c =
-    let told = c.counts_told-k in
-    let line = ap length (line-of-counts _ told.result c.args.n c.seven-words.ensures
-    told.ensures.1) in
+    let line = ap length (line-of-counts _ c.counts_told-k.result c.args.n c.seven-words.ensures
+    c.counts_told-k.ensures.n_value) in
     record { value = omega (arith, line); upper_bound = search rules; }

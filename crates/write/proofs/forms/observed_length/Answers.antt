@@ -7,11 +7,7 @@ use Rattle.write.proofs.forms.observed_length.Goals as goal
 
 pub returns : goal.returns
 returns c =
-    let start = c.before.before.before.before.before.before in
-    let a = start.args in
+    let a = c.args in
     let n = a.n in
-    let p = start.requires in
-    let o = c.lines_length.ensures in
-    let b = c.lines_length-2.ensures in
-    let l = c.lines_length-3.ensures in
-    record { value = three-parts (one_lines n.O a.outputs.now) (one_lines n.B a.bads.now) (one_lines n.C a.constraints.now) o.0 b.0 l.0; upper_bound = omega (arith, o.1, b.1, l.1, p.most-O, p.most-B, p.most-C); }
+    let p = c.requires in
+    record { value = three-parts (one_lines n.O a.outputs.now) (one_lines n.B a.bads.now) (one_lines n.C a.constraints.now) c.lines_length.ensures.value c.lines_length-2.ensures.value c.lines_length-3.ensures.value; upper_bound = omega (arith, c.lines_length.ensures.upper_bound, c.lines_length-2.ensures.upper_bound, c.lines_length-3.ensures.upper_bound, p.most-O, p.most-B, p.most-C); }

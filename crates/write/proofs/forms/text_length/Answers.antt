@@ -5,17 +5,11 @@ use Rattle.write.specs.print.Latches.{latch_rows}
 use Rattle.write.specs.forms.Forms.{head_bytes, one_lines, observed_bytes, gate_lines}
 use Rattle.write.proofs.forms.Filled.{five-parts}
 use borrow.Author.Rules.{rules}
-use Rattle.write.proofs.forms.text_length.Goals.{After-lines_length-2, Start}
 use Rattle.write.proofs.forms.text_length.Goals as goal
-
--- moments, each named by what happened there
-abbrev start-of : After-lines_length-2 → Start
-start-of c = c.before.before.before.before.before.before.before.before.before.before.before.before
 
 pub returns : goal.returns
 returns c =
-    let start = start-of c in
-    let a = start.args in
+    let a = c.args in
     let n = a.n in
     let ins = one_lines n.I a.inputs.now in
     let lats = lines_of (latch_rows false n.L a.latches.now a.resets.now) in

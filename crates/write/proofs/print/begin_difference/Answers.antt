@@ -8,11 +8,9 @@ use Rattle.write.proofs.print.begin_difference.Goals as goal
 
 pub put_three-requires : goal.put_three-requires
 put_three-requires c =
-    let start = c.before.before.before in
-    record { d_bound = c.if-d-lt2097152.true; at_in_bounds = omega (arith, start.requires, groups-some start.args.d); }
+    record { d_bound = c.if-d-lt2097152.true; at_in_bounds = omega (arith, c.requires, groups-some c.args.d); }
 
 pub returns : goal.returns
 returns c =
-    let wrote = c.put_groups in
     let a = c.args in
-    record { value = wrote.ensures.0; begun = begun-put a.out.now a.at (groups_of a.d) _ _ wrote.ensures.1 wrote.ensures.0; }
+    record { value = c.put_groups.ensures.value; begun = begun-put a.out.now a.at (groups_of a.d) _ _ c.put_groups.ensures.out_after c.put_groups.ensures.value; }

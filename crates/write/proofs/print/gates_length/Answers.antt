@@ -10,20 +10,15 @@ loop-i-init c = let a = c.args in none-counted a.gates.now a.n
 
 pub overflow_add-sum : goal.overflow_add-sum
 overflow_add-sum c =
-    let s = c.loop-i in
-    omega (arith, s.invariant.few, s.invariant.bound, c.gate_length-sum.ensures.upper_bound)
+    omega (arith, c.loop-i.invariant.few, c.loop-i.invariant.bound, c.gate_length-sum.ensures.upper_bound)
 
 pub loop-i-preserved : goal.loop-i-preserved
 loop-i-preserved c =
-    let test = c.before.before.before.before in
-    let s = test.loop-i in
-    let a = test.args in
-    let count = c.gate_length-sum in
-    one-counted a.gates.now a.n s.sum s.i count.result s.invariant test.loop-i-test.true count.ensures.0
-    count.ensures.1
+    let a = c.args in
+    one-counted a.gates.now a.n c.loop-i.sum c.loop-i.i c.gate_length-sum.result c.loop-i.invariant c.loop-i-test.true c.gate_length-sum.ensures.value
+    c.gate_length-sum.ensures.upper_bound
 
 pub returns : goal.returns
 returns c =
-    let s = c.loop-i in
     let a = c.args in
-    record { value = all-counted a.gates.now a.n s.sum s.i s.invariant c.loop-i-test.false; upper_bound = omega (arith, s.invariant.few, s.invariant.bound); }
+    record { value = all-counted a.gates.now a.n c.loop-i.sum c.loop-i.i c.loop-i.invariant c.loop-i-test.false; upper_bound = omega (arith, c.loop-i.invariant.few, c.loop-i.invariant.bound); }

@@ -15,30 +15,25 @@ overflow_cast-table c = record { fits = omega (arith, c.type_inv.table c.loop-i.
 
 pub overflow_add-sum : goal.overflow_add-sum
 overflow_add-sum c =
-    let s = c.loop-i in
     let a = c.args in
-    let few = digits-ten (get_or a.table.now s.i 0) (omega (arith, c.type_inv.table s.i)) in
-    omega (arith, few, s.invariant.few, s.invariant.bound, c.digits_in.ensures)
+    let few = digits-ten (get_or a.table.now c.loop-i.i 0) (omega (arith, c.type_inv.table c.loop-i.i)) in
+    omega (arith, few, c.loop-i.invariant.few, c.loop-i.invariant.bound, c.digits_in.ensures)
 
 pub overflow_add-sum-in-loop-i : goal.overflow_add-sum-in-loop-i
 overflow_add-sum-in-loop-i c =
-    let s = c.loop-i in
     let a = c.args in
-    let few = digits-ten (get_or a.table.now s.i 0) (omega (arith, c.type_inv.table s.i)) in
-    omega (arith, few, s.invariant.few, s.invariant.bound, c.digits_in.ensures)
+    let few = digits-ten (get_or a.table.now c.loop-i.i 0) (omega (arith, c.type_inv.table c.loop-i.i)) in
+    omega (arith, few, c.loop-i.invariant.few, c.loop-i.invariant.bound, c.digits_in.ensures)
 
 pub loop-i-preserved : goal.loop-i-preserved
 loop-i-preserved c =
-    let test = c.before.before in
-    let s = test.loop-i in
-    let a = test.args in
-    let few = digits-ten (get_or a.table.now s.i 0) (omega (arith, c.type_inv.table s.i)) in
-    one-counted a.table.now a.k a.n s.sum s.i c.digits_in.result s.invariant test.loop-i-test.true
+    let a = c.args in
+    let few = digits-ten (get_or a.table.now c.loop-i.i 0) (omega (arith, c.type_inv.table c.loop-i.i)) in
+    one-counted a.table.now a.k a.n c.loop-i.sum c.loop-i.i c.digits_in.result c.loop-i.invariant c.loop-i-test.true
     c.digits_in.ensures
     (omega (arith, few, c.digits_in.ensures))
 
 pub returns : goal.returns
 returns c =
-    let s = c.loop-i in
     let a = c.args in
-    record { value = all-counted a.table.now a.k a.n s.sum s.i s.invariant c.loop-i-test.false; upper_bound = omega (arith, s.invariant.few, s.invariant.bound); }
+    record { value = all-counted a.table.now a.k a.n c.loop-i.sum c.loop-i.i c.loop-i.invariant c.loop-i-test.false; upper_bound = omega (arith, c.loop-i.invariant.few, c.loop-i.invariant.bound); }

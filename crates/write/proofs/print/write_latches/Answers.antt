@@ -6,35 +6,28 @@ use Rattle.write.proofs.print.write_latches.Goals as goal
 
 pub loop-i-init : goal.loop-i-init
 loop-i-init c =
-    let start = c.before.before.before in
-    let a = start.args in
-    none-printed a.binary a.latches.now a.resets.now a.n a.out.now a.at start.requires.n_in_bounds_2 start.requires.resets_in_bounds
+    let a = c.args in
+    none-printed a.binary a.latches.now a.resets.now a.n a.out.now a.at c.requires.n_in_bounds_2 c.requires.resets_in_bounds
 
 pub write_latch-next-requires : goal.write_latch-next-requires
 write_latch-next-requires c =
-    let test = c.before.before.before.before in
-    let s = test.loop-i in
-    let a = test.args in
-    latch-fits a.binary a.latches.now a.resets.now a.n a.out.now a.at s.out s.next s.i s.invariant
-    test.loop-i-test.true
+    let a = c.args in
+    latch-fits a.binary a.latches.now a.resets.now a.n a.out.now a.at c.loop-i.out c.loop-i.next c.loop-i.i c.loop-i.invariant
+    c.loop-i-test.true
 
 pub loop-i-preserved : goal.loop-i-preserved
 loop-i-preserved c =
-    let wrote = c.before.before in
-    let test = wrote.before.before.before.before.before in
-    let s = test.loop-i in
-    let a = test.args in
-    one-printed a.binary a.latches.now a.resets.now a.n a.out.now a.at s.out s.next s.i s.invariant _ _
-    test.loop-i-test.true
-    wrote.write_latch-next.ensures.out_after wrote.write_latch-next.ensures.value
+    let a = c.args in
+    one-printed a.binary a.latches.now a.resets.now a.n a.out.now a.at c.loop-i.out c.loop-i.next c.loop-i.i c.loop-i.invariant _ _
+    c.loop-i-test.true
+    c.write_latch-next.ensures.out_after c.write_latch-next.ensures.value
 
 pub shape_of-out : goal.shape_of-out
 shape_of-out c = c.loop-i.invariant.fill.size
 
 pub returns : goal.returns
 returns c =
-    let s = c.loop-i in
     let a = c.args in
-    record { value = all-passed a.binary a.latches.now a.resets.now a.n a.out.now a.at s.out s.next s.i s.invariant
-          c.loop-i-test.false; out_after = all-printed a.binary a.latches.now a.resets.now a.n a.out.now a.at s.out s.next s.i s.invariant
+    record { value = all-passed a.binary a.latches.now a.resets.now a.n a.out.now a.at c.loop-i.out c.loop-i.next c.loop-i.i c.loop-i.invariant
+          c.loop-i-test.false; out_after = all-printed a.binary a.latches.now a.resets.now a.n a.out.now a.at c.loop-i.out c.loop-i.next c.loop-i.i c.loop-i.invariant
           c.loop-i-test.false; }

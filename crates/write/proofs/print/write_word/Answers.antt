@@ -2,49 +2,34 @@
 use native.Mathlib.Omega.{arith}
 use borrow.Author.Rules.{rules}
 use Rattle.write.proofs.print.Turns.{number_fits, word-ends, word-put}
-use Rattle.write.proofs.print.write_word.Goals.{After-end_of, After-put_digits-end, Start}
 use Rattle.write.proofs.print.write_word.Goals as goal
-
--- moments, each named by what happened there
-abbrev put-digits-of : After-end_of → After-put_digits-end
-put-digits-of c = c.before.before.before
-
-abbrev start-of : After-end_of → Start
-start-of c = (put-digits-of c).before.before.before
 
 pub put_digits-end-requires : goal.put_digits-end-requires
 put_digits-end-requires c =
-    let start = c.before.before in
-    let a = start.args in
-    number_fits a.out.now a.at a.left a.word start.requires
+    let a = c.args in
+    number_fits a.out.now a.at a.left a.word c.requires
 
 pub bounds-out-end : goal.bounds-out-end
 bounds-out-end c =
-    let wrote = (put-digits-of c).put-digits in
-    let start = start-of c in
-    let a = start.args in
+    let a = c.args in
     omega (
       arith,
-      start.pre,
-      word-ends a.out.now a.at a.left a.word start.pre wrote.last.0 wrote.result wrote.ensures.1 wrote.ensures.0,
+      c.requires,
+      word-ends a.out.now a.at a.left a.word c.requires c.put_digits-end.last.0 c.put_digits-end.result c.put_digits-end.ensures.out_after c.put_digits-end.ensures.value,
       c.put_digits-end.auto.out,
     )
 
 pub overflow_add-result : goal.overflow_add-result
 overflow_add-result c =
-    let wrote = (put-digits-of c).put-digits in
-    let start = start-of c in
-    let a = start.args in
+    let a = c.args in
     omega (
       arith,
-      start.pre,
-      word-ends a.out.now a.at a.left a.word start.pre wrote.last.0 wrote.result wrote.ensures.1 wrote.ensures.0,
+      c.requires,
+      word-ends a.out.now a.at a.left a.word c.requires c.put_digits-end.last.0 c.put_digits-end.result c.put_digits-end.ensures.out_after c.put_digits-end.ensures.value,
     )
 
 pub returns : goal.returns
 returns c =
-    let wrote = (put-digits-of c).put-digits in
-    let start = start-of c in
-    let a = start.args in
-    record { value = word-ends a.out.now a.at a.left a.word start.pre wrote.last.0 wrote.result wrote.ensures.1 wrote.ensures.0; out_after = word-put a.out.now a.at a.left a.word start.pre wrote.last.0 wrote.result wrote.ensures.1 wrote.ensures.0
+    let a = c.args in
+    record { value = word-ends a.out.now a.at a.left a.word c.requires c.put_digits-end.last.0 c.put_digits-end.result c.put_digits-end.ensures.out_after c.put_digits-end.ensures.value; out_after = word-put a.out.now a.at a.left a.word c.requires c.put_digits-end.last.0 c.put_digits-end.result c.put_digits-end.ensures.out_after c.put_digits-end.ensures.value
           _ c.end_of_lem.ensures; }
