@@ -9,7 +9,7 @@ use plan::{Refusal, Written};
 
 // The line "refused N at P", or 11 and nothing.
 pub fn tell_refusal(r: Refusal, out: &mut [u8]) -> Written
-    ensures* { λ answer. ⌜ record { answer = answer; out = out.new } ≡ tell_refusal r out.old ⌝ }
+    ensures { record { answer = result; out = out.new } ≡ tell_refusal r out.old }
 {
     let number = told_number(r) as usize;
     let place = told_place(r);

@@ -26,8 +26,8 @@ fill-requires c =
         tables = seven a.inputs.now a.latches.now a.outputs.now a.gates.now a.resets.now a.bads.now a.constraints.now;
         scratch = a.scratch.now;
       };
-      written = seven a.to-inputs.now a.to-latches.now a.to-outputs.now a.to-gates.now a.to-resets.now a.to-bads.now
-          a.to-constraints.now;
+      written = seven a.to_inputs.now a.to_latches.now a.to_outputs.now a.to_gates.now a.to_resets.now a.to_bads.now
+          a.to_constraints.now;
     } in
     let wiped : Tables =
     seven c.clear_all.new.inputs c.clear_all.new.latches c.clear_all.new.outputs c.clear_all.new.gates c.clear_all.new.resets c.clear_all.new.bads c.clear_all.new.constraints in
@@ -49,8 +49,8 @@ fill_last-requires c =
         tables = seven a.inputs.now a.latches.now a.outputs.now a.gates.now a.resets.now a.bads.now a.constraints.now;
         scratch = a.scratch.now;
       };
-      written = seven a.to-inputs.now a.to-latches.now a.to-outputs.now a.to-gates.now a.to-resets.now a.to-bads.now
-          a.to-constraints.now;
+      written = seven a.to_inputs.now a.to_latches.now a.to_outputs.now a.to_gates.now a.to_resets.now a.to_bads.now
+          a.to_constraints.now;
     } in
     let wiped : Tables =
     seven c.clear_all.new.inputs c.clear_all.new.latches c.clear_all.new.outputs c.clear_all.new.gates c.clear_all.new.resets c.clear_all.new.bads c.clear_all.new.constraints in
@@ -72,8 +72,8 @@ overflow_add-m c =
         tables = seven a.inputs.now a.latches.now a.outputs.now a.gates.now a.resets.now a.bads.now a.constraints.now;
         scratch = a.scratch.now;
       };
-      written = seven a.to-inputs.now a.to-latches.now a.to-outputs.now a.to-gates.now a.to-resets.now a.to-bads.now
-          a.to-constraints.now;
+      written = seven a.to_inputs.now a.to_latches.now a.to_outputs.now a.to_gates.now a.to_resets.now a.to_bads.now
+          a.to_constraints.now;
     } in
     let wiped : Tables =
     seven c.clear_all.new.inputs c.clear_all.new.latches c.clear_all.new.outputs c.clear_all.new.gates c.clear_all.new.resets c.clear_all.new.bads c.clear_all.new.constraints in
@@ -95,8 +95,8 @@ overflow_add-m-in-Good c =
         tables = seven a.inputs.now a.latches.now a.outputs.now a.gates.now a.resets.now a.bads.now a.constraints.now;
         scratch = a.scratch.now;
       };
-      written = seven a.to-inputs.now a.to-latches.now a.to-outputs.now a.to-gates.now a.to-resets.now a.to-bads.now
-          a.to-constraints.now;
+      written = seven a.to_inputs.now a.to_latches.now a.to_outputs.now a.to_gates.now a.to_resets.now a.to_bads.now
+          a.to_constraints.now;
     } in
     let wiped : Tables =
     seven c.clear_all.new.inputs c.clear_all.new.latches c.clear_all.new.outputs c.clear_all.new.gates c.clear_all.new.resets c.clear_all.new.bads c.clear_all.new.constraints in
@@ -130,8 +130,8 @@ returns-in-Refused c =
         tables = seven a.inputs.now a.latches.now a.outputs.now a.gates.now a.resets.now a.bads.now a.constraints.now;
         scratch = a.scratch.now;
       };
-      written = seven a.to-inputs.now a.to-latches.now a.to-outputs.now a.to-gates.now a.to-resets.now a.to-bads.now
-          a.to-constraints.now;
+      written = seven a.to_inputs.now a.to_latches.now a.to_outputs.now a.to_gates.now a.to_resets.now a.to_bads.now
+          a.to_constraints.now;
     } in
     let wiped : Tables =
     seven c.clear_all.new.inputs c.clear_all.new.latches c.clear_all.new.outputs c.clear_all.new.gates c.clear_all.new.resets c.clear_all.new.bads c.clear_all.new.constraints in
@@ -184,8 +184,8 @@ returns-in-Good c =
         tables = seven a.inputs.now a.latches.now a.outputs.now a.gates.now a.resets.now a.bads.now a.constraints.now;
         scratch = a.scratch.now;
       };
-      written = seven a.to-inputs.now a.to-latches.now a.to-outputs.now a.to-gates.now a.to-resets.now a.to-bads.now
-          a.to-constraints.now;
+      written = seven a.to_inputs.now a.to_latches.now a.to_outputs.now a.to_gates.now a.to_resets.now a.to_bads.now
+          a.to_constraints.now;
     } in
     let wiped : Tables =
     seven c.clear_all.new.inputs c.clear_all.new.latches c.clear_all.new.outputs c.clear_all.new.gates c.clear_all.new.resets c.clear_all.new.bads c.clear_all.new.constraints in

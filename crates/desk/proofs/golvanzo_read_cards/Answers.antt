@@ -38,10 +38,9 @@ shape_of-scratch c = c.scratch-1.given
 
 pub returns : goal.returns
 returns c =
-    let l = c.read_cards-r.last in
     let x : LoadExit = record {
       answer = c.read_cards-r.result;
-      tables = seven l.1.0 l.1.1.0 l.1.1.1.0 l.1.1.1.1.0 l.1.1.1.1.1.0 l.1.1.1.1.1.1.0 l.1.1.1.1.1.1.1.0;
-      scratch = l.1.1.1.1.1.1.1.1.0;
+      tables = seven c.read_cards-r.new.inputs c.read_cards-r.new.latches c.read_cards-r.new.outputs c.read_cards-r.new.gates c.read_cards-r.new.resets c.read_cards-r.new.bads c.read_cards-r.new.constraints;
+      scratch = c.read_cards-r.new.scratch;
     } in
     ap (λ (answer : List ℕ). told answer x) c.loaded.ensures ∙ ap (λ (y : LoadExit). told (loaded_values y.answer) y) c.read_cards-r.ensures

@@ -43,8 +43,8 @@ returns c =
     let a = c.args in
     let g : Given = given_at (counts_from a.counts.now) (seven a.inputs.now a.latches.now a.outputs.now a.gates.now
     a.resets.now a.bads.now a.constraints.now) a.scratch.now in
-    let t : Tables = seven a.to-inputs.now a.to-latches.now a.to-outputs.now a.to-gates.now
-    a.to-resets.now a.to-bads.now a.to-constraints.now in
+    let t : Tables = seven a.to_inputs.now a.to_latches.now a.to_outputs.now a.to_gates.now
+    a.to_resets.now a.to_bads.now a.to_constraints.now in
     let x : MakeExit = record {
       answer = c.reduce-r.result;
       written = seven c.reduce-r.new.to_inputs c.reduce-r.new.to_latches

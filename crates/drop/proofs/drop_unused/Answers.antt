@@ -26,7 +26,7 @@ retain_reached-retained-requires c =
     given c.args.scratch.now in
     let lent : Tables =
     let a = c.args in
-    seven a.to-inputs.now a.to-latches.now a.to-outputs.now a.to-gates.now a.to-resets.now a.to-bads.now a.to-constraints.now in
+    seven a.to_inputs.now a.to_latches.now a.to_outputs.now a.to_gates.now a.to_resets.now a.to_bads.now a.to_constraints.now in
     let wiped : Tables =
     seven c.clear_all.new.inputs c.clear_all.new.latches c.clear_all.new.outputs c.clear_all.new.gates c.clear_all.new.resets c.clear_all.new.bads c.clear_all.new.constraints in
     let all-wiped : wiped ≡ all_cleared (lent) =
@@ -50,7 +50,7 @@ overflow_mul-n c =
     given c.args.scratch.now in
     let lent : Tables =
     let a = c.args in
-    seven a.to-inputs.now a.to-latches.now a.to-outputs.now a.to-gates.now a.to-resets.now a.to-bads.now a.to-constraints.now in
+    seven a.to_inputs.now a.to_latches.now a.to_outputs.now a.to_gates.now a.to_resets.now a.to_bads.now a.to_constraints.now in
     let wiped : Tables =
     seven c.clear_all.new.inputs c.clear_all.new.latches c.clear_all.new.outputs c.clear_all.new.gates c.clear_all.new.resets c.clear_all.new.bads c.clear_all.new.constraints in
     let all-wiped : wiped ≡ all_cleared (lent) =
@@ -75,7 +75,7 @@ three_become-requires c =
     given c.args.scratch.now in
     let lent : Tables =
     let a = c.args in
-    seven a.to-inputs.now a.to-latches.now a.to-outputs.now a.to-gates.now a.to-resets.now a.to-bads.now a.to-constraints.now in
+    seven a.to_inputs.now a.to_latches.now a.to_outputs.now a.to_gates.now a.to_resets.now a.to_bads.now a.to_constraints.now in
     let wiped : Tables =
     seven c.clear_all.new.inputs c.clear_all.new.latches c.clear_all.new.outputs c.clear_all.new.gates c.clear_all.new.resets c.clear_all.new.bads c.clear_all.new.constraints in
     let all-wiped : wiped ≡ all_cleared (lent) =
@@ -102,7 +102,7 @@ three_become-requires-in-Good c =
     given c.args.scratch.now in
     let lent : Tables =
     let a = c.args in
-    seven a.to-inputs.now a.to-latches.now a.to-outputs.now a.to-gates.now a.to-resets.now a.to-bads.now a.to-constraints.now in
+    seven a.to_inputs.now a.to_latches.now a.to_outputs.now a.to_gates.now a.to_resets.now a.to_bads.now a.to_constraints.now in
     let wiped : Tables =
     seven c.clear_all.new.inputs c.clear_all.new.latches c.clear_all.new.outputs c.clear_all.new.gates c.clear_all.new.resets c.clear_all.new.bads c.clear_all.new.constraints in
     let all-wiped : wiped ≡ all_cleared (lent) =
@@ -129,7 +129,7 @@ overflow_add-result c =
     given c.args.scratch.now in
     let lent : Tables =
     let a = c.args in
-    seven a.to-inputs.now a.to-latches.now a.to-outputs.now a.to-gates.now a.to-resets.now a.to-bads.now a.to-constraints.now in
+    seven a.to_inputs.now a.to_latches.now a.to_outputs.now a.to_gates.now a.to_resets.now a.to_bads.now a.to_constraints.now in
     let wiped : Tables =
     seven c.clear_all.new.inputs c.clear_all.new.latches c.clear_all.new.outputs c.clear_all.new.gates c.clear_all.new.resets c.clear_all.new.bads c.clear_all.new.constraints in
     let all-wiped : wiped ≡ all_cleared (lent) =
@@ -164,7 +164,7 @@ overflow_add-result-in-Good c =
     given c.args.scratch.now in
     let lent : Tables =
     let a = c.args in
-    seven a.to-inputs.now a.to-latches.now a.to-outputs.now a.to-gates.now a.to-resets.now a.to-bads.now a.to-constraints.now in
+    seven a.to_inputs.now a.to_latches.now a.to_outputs.now a.to_gates.now a.to_resets.now a.to_bads.now a.to_constraints.now in
     let wiped : Tables =
     seven c.clear_all.new.inputs c.clear_all.new.latches c.clear_all.new.outputs c.clear_all.new.gates c.clear_all.new.resets c.clear_all.new.bads c.clear_all.new.constraints in
     let all-wiped : wiped ≡ all_cleared (lent) =
@@ -223,7 +223,7 @@ returns-in-Refused c =
     given c.args.scratch.now in
     let lent : Tables =
     let a = c.args in
-    seven a.to-inputs.now a.to-latches.now a.to-outputs.now a.to-gates.now a.to-resets.now a.to-bads.now a.to-constraints.now in
+    seven a.to_inputs.now a.to_latches.now a.to_outputs.now a.to_gates.now a.to_resets.now a.to_bads.now a.to_constraints.now in
     let wiped : Tables =
     seven c.clear_all.new.inputs c.clear_all.new.latches c.clear_all.new.outputs c.clear_all.new.gates c.clear_all.new.resets c.clear_all.new.bads c.clear_all.new.constraints in
     let all-wiped : wiped ≡ all_cleared (lent) =
@@ -237,50 +237,34 @@ returns-in-Refused c =
 
 pub shape_of-to_inputs-in-Good : goal.shape_of-to_inputs-in-Good
 shape_of-to_inputs-in-Good c =
-    let k = after-check-to-make in
-    let d = k in
     c.three_become.auto.to_a
-    ∙ d.to-inputs.given
+    ∙ c.clear_all.auto.inputs
 
 pub shape_of-to_latches-in-Good : goal.shape_of-to_latches-in-Good
 shape_of-to_latches-in-Good c =
-    let k = after-check-to-make in
-    let d = k in
     c.to_latches-in-Good-1.given
-    ∙ d.to-latches.given
+    ∙ c.to_latches-1.given
 
 pub shape_of-to_outputs-in-Good : goal.shape_of-to_outputs-in-Good
 shape_of-to_outputs-in-Good c =
-    let k = after-check-to-make in
-    let d = k in
     c.to_outputs-in-Good-1.given
-    ∙ d.to-outputs.given
+    ∙ c.to_outputs-1.given
 
 pub shape_of-to_gates-in-Good : goal.shape_of-to_gates-in-Good
 shape_of-to_gates-in-Good c =
-    let k = after-check-to-make in
-    let d = k in
     c.retain_reached-retained.auto.to
-    ∙ d.to-gates.given
+    ∙ c.to_gates-1.given
 
 pub shape_of-to_resets-in-Good : goal.shape_of-to_resets-in-Good
 shape_of-to_resets-in-Good c =
-    let k = after-check-to-make in
-    let d = k in
     c.three_become-in-Good.auto.to_a
-    ∙ d.before.before.before.before.to-resets.given
+    ∙ c.to_resets-1.given
 
 pub shape_of-to_bads-in-Good : goal.shape_of-to_bads-in-Good
-shape_of-to_bads-in-Good c =
-    let k = after-check-to-make in
-    let d = k in
-    c.to_bads-in-Good-1.given ∙ d.before.before.to-bads.given
+shape_of-to_bads-in-Good c = c.to_bads-in-Good-1.given ∙ c.to_bads-1.given
 
 pub shape_of-to_constraints-in-Good : goal.shape_of-to_constraints-in-Good
-shape_of-to_constraints-in-Good c =
-    let k = after-check-to-make in
-    let d = k in
-    c.to_constraints-in-Good-1.given ∙ d.to-constraints.given
+shape_of-to_constraints-in-Good c = c.to_constraints-in-Good-1.given ∙ c.to_constraints-1.given
 
 pub shape_of-scratch-in-Good : goal.shape_of-scratch-in-Good
 shape_of-scratch-in-Good c = c.clear.auto.table ∙ c.scratch-in-Good-1.given ∙ c.check_to_make.auto.scratch
@@ -295,7 +279,7 @@ returns-in-Good c =
     given c.args.scratch.now in
     let lent : Tables =
     let a = c.args in
-    seven a.to-inputs.now a.to-latches.now a.to-outputs.now a.to-gates.now a.to-resets.now a.to-bads.now a.to-constraints.now in
+    seven a.to_inputs.now a.to_latches.now a.to_outputs.now a.to_gates.now a.to_resets.now a.to_bads.now a.to_constraints.now in
     let wiped : Tables =
     seven c.clear_all.new.inputs c.clear_all.new.latches c.clear_all.new.outputs c.clear_all.new.gates c.clear_all.new.resets c.clear_all.new.bads c.clear_all.new.constraints in
     let all-wiped : wiped ≡ all_cleared (lent) =
@@ -313,12 +297,12 @@ returns-in-Good c =
     made-fewer (given (blank)) (wiped) (core) in
     let became : List ℕ =
     c.retain_reached-retained.new.t in
-    let left = seven c.three_become.last.1.1.1.1.1.1.1.0 c.three_become.last.1.1.1.1.1.1.1.1.0 c.three_become.last.1.1.1.1.1.1.1.1.1.0
-    c.retain_reached-retained.last.1.1.1.1.1.1.0
-    c.three_become-in-Good.last.1.1.1.1.1.1.1.0 c.three_become-in-Good.last.1.1.1.1.1.1.1.1.0 c.three_become-in-Good.last.1.1.1.1.1.1.1.1.1.0 in
+    let left = seven c.three_become.new.to_a c.three_become.new.to_b c.three_become.new.to_c
+    c.retain_reached-retained.new.to
+    c.three_become-in-Good.new.to_a c.three_become-in-Good.new.to_b c.three_become-in-Good.new.to_c in
     accepted (circuit) (lent) c.check_to_make.result (blank) (judged) c.in-Good.is (made) (fewer)
     (counts-drop (circuit_of (circuit).counts (circuit).tables)) (wiped) left c.retain_reached-retained.result (all-wiped)
-    (written (given (blank)) (wiped) (core) c.retain_reached-retained.last.1.1.1.1.1.1.0 (became) c.retain_reached-retained.result c.retain_reached-retained.ensures left c.three_become.ensures.to_a_after
+    (written (given (blank)) (wiped) (core) c.retain_reached-retained.new.to (became) c.retain_reached-retained.result c.retain_reached-retained.ensures left c.three_become.ensures.to_a_after
     c.three_become.ensures.to_b_after
     c.three_become.ensures.to_c_after refl c.three_become-in-Good.ensures.to_a_after c.three_become-in-Good.ensures.to_b_after c.three_become-in-Good.ensures.to_c_after)
     (length (became)) _ c.scratch-in-Good-1.given c.clear.ensures

@@ -62,8 +62,8 @@ returns c =
     let read =
     seven a.inputs.now a.latches.now a.outputs.now a.gates.now a.resets.now a.bads.now a.constraints.now in
     let made =
-    seven a.made-inputs.now a.made-latches.now a.made-outputs.now a.made-gates.now a.made-resets.now a.made-bads.now
-    a.made-constraints.now in
+    seven a.made_inputs.now a.made_latches.now a.made_outputs.now a.made_gates.now a.made_resets.now a.made_bads.now
+    a.made_constraints.now in
     let w : WholeEntry = record {
       plan = input_of a.readable a.file.now;
       read = read;
@@ -71,15 +71,14 @@ returns c =
       scratch = a.scratch.now;
       out = a.out.now;
     } in
-    let l = c.make_file-answer.last in
     let k = c.make_file-answer.kept in
     let read' =
-    seven l.1.1.1.1.0 l.1.1.1.1.1.0 l.1.1.1.1.1.1.0 l.1.1.1.1.1.1.1.0 l.1.1.1.1.1.1.1.1.0
-    l.1.1.1.1.1.1.1.1.1.0 l.1.1.1.1.1.1.1.1.1.1.0 in
+    seven c.make_file-answer.new.inputs c.make_file-answer.new.latches c.make_file-answer.new.outputs c.make_file-answer.new.gates c.make_file-answer.new.resets
+    c.make_file-answer.new.bads c.make_file-answer.new.constraints in
     let made' =
-    seven l.1.1.1.1.1.1.1.1.1.1.1.0 l.1.1.1.1.1.1.1.1.1.1.1.1.0 l.1.1.1.1.1.1.1.1.1.1.1.1.1.0
-    l.1.1.1.1.1.1.1.1.1.1.1.1.1.1.0 l.1.1.1.1.1.1.1.1.1.1.1.1.1.1.1.0
-    l.1.1.1.1.1.1.1.1.1.1.1.1.1.1.1.1.0 l.1.1.1.1.1.1.1.1.1.1.1.1.1.1.1.1.1.0 in
+    seven c.make_file-answer.new.made_inputs c.make_file-answer.new.made_latches c.make_file-answer.new.made_outputs
+    c.make_file-answer.new.made_gates c.make_file-answer.new.made_resets
+    c.make_file-answer.new.made_bads c.make_file-answer.new.made_constraints in
     all-zero w (made_file a.reduced a.dropped w) _ c.make_file-answer.ensures _ _ _
     (c.clear_all.ensures
     ∙ all_same read' read k.1.1.1.1.0 k.1.1.1.1.1.0 k.1.1.1.1.1.1.0 k.1.1.1.1.1.1.1.0
@@ -89,5 +88,5 @@ returns c =
     k.1.1.1.1.1.1.1.1.1.1.1.1.1.0 k.1.1.1.1.1.1.1.1.1.1.1.1.1.1.0
     k.1.1.1.1.1.1.1.1.1.1.1.1.1.1.1.0 k.1.1.1.1.1.1.1.1.1.1.1.1.1.1.1.1.0
     k.1.1.1.1.1.1.1.1.1.1.1.1.1.1.1.1.1.0)
-    (c.clear.ensures ∙ same-cleared l.1.1.1.1.1.1.1.1.1.1.1.1.1.1.1.1.1.1.0 a.scratch.now
+    (c.clear.ensures ∙ same-cleared c.make_file-answer.new.scratch a.scratch.now
     k.1.1.1.1.1.1.1.1.1.1.1.1.1.1.1.1.1.1.0)

@@ -19,8 +19,7 @@ scratch_to_read-needed-requires c =
 
 pub too_short-short-requires : goal.too_short-short-requires
 too_short-short-requires c =
-    let head = accepted c.args.version c.args.file.now _ _ _ (sym c.in-Accepted.is ∙ (read-header-of
-).read-header.ensures) in
+    let head = accepted c.args.version c.args.file.now _ _ _ (sym c.in-Accepted.is ∙ c.read_header.ensures) in
     let m = head.small in
     (m.1.1.0, m.1.1.1.1.0)
 
@@ -28,8 +27,7 @@ pub returns-then-short-ne0 : goal.returns-then-short-ne0
 returns-then-short-ne0 c =
     let a = c.args in
     let t : Tables = seven a.inputs.now a.latches.now a.outputs.now a.gates.now a.resets.now a.bads.now a.constraints.now in
-    let head = accepted c.args.version c.args.file.now _ _ _ (sym c.in-Accepted.is ∙ (read-header-of
-).read-header.ensures) in
+    let head = accepted c.args.version c.args.file.now _ _ _ (sym c.in-Accepted.is ∙ c.read_header.ensures) in
     short-told a.version a.file.now t t a.scratch.now _ _ _ head.head _ (some-table _ _ c.if-short-ne0.true (c.too_short-short.ensures
     ∙ ap₂ (λ (k : ℕ) (x : Sizes). least_short (against 1 (words_with k c.in-Accepted.n) (lengths_in x (length
     a.scratch.now)))) c.scratch_to_read-needed.ensures c.lengths-to.ensures))
@@ -38,8 +36,7 @@ pub rest_of-requires : goal.rest_of-requires
 rest_of-requires c =
     let a = c.args in
     let t : Tables = seven a.inputs.now a.latches.now a.outputs.now a.gates.now a.resets.now a.bads.now a.constraints.now in
-    let head = accepted c.args.version c.args.file.now _ _ _ (sym c.in-Accepted.is ∙ (read-header-of
-).read-header.ensures) in
+    let head = accepted c.args.version c.args.file.now _ _ _ (sym c.in-Accepted.is ∙ c.read_header.ensures) in
     record { room = room_for _ _ t a.scratch.now head.small (no_table _ _ c.if-short-ne0.false (c.too_short-short.ensures ∙ ap₂ (λ (k : ℕ)
           (x : Sizes). least_short (against 1 (words_with k c.in-Accepted.n) (lengths_in x (length a.scratch.now))))
           c.scratch_to_read-needed.ensures c.lengths-to.ensures)) c.requires; n_value = head.sum; }
@@ -79,15 +76,12 @@ pub returns-in-Refused-rest_of : goal.returns-in-Refused-rest_of
 returns-in-Refused-rest_of c =
     let a = c.args in
     let t : Tables = seven a.inputs.now a.latches.now a.outputs.now a.gates.now a.resets.now a.bads.now a.constraints.now in
-    let t' : Tables = seven c.rest_of.last.1.1.1.1.1.0 c.rest_of.last.1.1.1.1.1.1.0 c.rest_of.last.1.1.1.1.1.1.1.0
-    c.rest_of.last.1.1.1.1.1.1.1.1.0 c.rest_of.last.1.1.1.1.1.1.1.1.1.0 c.rest_of.last.1.1.1.1.1.1.1.1.1.1.0
-    c.rest_of.last.1.1.1.1.1.1.1.1.1.1.1.0 in
-    let head = accepted c.args.version c.args.file.now _ _ _ (sym c.in-Accepted.is ∙ (read-header-of
-).read-header.ensures) in
+    let t' : Tables = seven c.rest_of.new.inputs c.rest_of.new.latches c.rest_of.new.outputs
+    c.rest_of.new.gates c.rest_of.new.resets c.rest_of.new.bads
+    c.rest_of.new.constraints in
+    let head = accepted c.args.version c.args.file.now _ _ _ (sym c.in-Accepted.is ∙ c.read_header.ensures) in
     rest-refused a.version a.file.now t t' a.scratch.now _ _ _ head.head (no_table _ _ c.if-short-ne0.false
-    (c.too_short-short.ensures ∙ ap₂ (λ (k : ℕ) (x : Sizes). least_short (against 1 (words_with k (binary-of
-).binary.given.0.1.0) (lengths_in x (length a.scratch.now)))) (scratch-to-read-of
-).scratch-to-read.ensures c.lengths-to.ensures)) _ _ c.rest_of.ensures c.in-Refused-rest_of.is
+    (c.too_short-short.ensures ∙ ap₂ (λ (k : ℕ) (x : Sizes). least_short (against 1 (words_with k c.in-Accepted.n) (lengths_in x (length a.scratch.now)))) c.scratch_to_read-needed.ensures c.lengths-to.ensures)) _ _ c.rest_of.ensures c.in-Refused-rest_of.is
 
 pub shape_of-inputs-in-To : goal.shape_of-inputs-in-To
 shape_of-inputs-in-To c = c.rest_of.auto.inputs
@@ -117,13 +111,10 @@ pub returns-in-To : goal.returns-in-To
 returns-in-To c =
     let a = c.args in
     let t : Tables = seven a.inputs.now a.latches.now a.outputs.now a.gates.now a.resets.now a.bads.now a.constraints.now in
-    let t' : Tables = seven c.rest_of.last.1.1.1.1.1.0 c.rest_of.last.1.1.1.1.1.1.0 c.rest_of.last.1.1.1.1.1.1.1.0
-    c.rest_of.last.1.1.1.1.1.1.1.1.0 c.rest_of.last.1.1.1.1.1.1.1.1.1.0 c.rest_of.last.1.1.1.1.1.1.1.1.1.1.0
-    c.rest_of.last.1.1.1.1.1.1.1.1.1.1.1.0 in
-    let head = accepted c.args.version c.args.file.now _ _ _ (sym c.in-Accepted.is ∙ (read-header-of
-).read-header.ensures) in
+    let t' : Tables = seven c.rest_of.new.inputs c.rest_of.new.latches c.rest_of.new.outputs
+    c.rest_of.new.gates c.rest_of.new.resets c.rest_of.new.bads
+    c.rest_of.new.constraints in
+    let head = accepted c.args.version c.args.file.now _ _ _ (sym c.in-Accepted.is ∙ c.read_header.ensures) in
     rest-accepted a.version a.file.now t t' a.scratch.now _ _ _ head.head (no_table _ _ c.if-short-ne0.false
-    (c.too_short-short.ensures ∙ ap₂ (λ (k : ℕ) (x : Sizes). least_short (against 1 (words_with k (binary-of
-).binary.given.0.1.0) (lengths_in x (length a.scratch.now)))) (scratch-to-read-of
-).scratch-to-read.ensures c.lengths-to.ensures)) _ _
+    (c.too_short-short.ensures ∙ ap₂ (λ (k : ℕ) (x : Sizes). least_short (against 1 (words_with k c.in-Accepted.n) (lengths_in x (length a.scratch.now)))) c.scratch_to_read-needed.ensures c.lengths-to.ensures)) _ _
     (λ k. (c.type_inv.file k).fits) head.sum c.rest_of.ensures c.in-To.is

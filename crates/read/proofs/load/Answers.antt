@@ -48,17 +48,17 @@ returns-in-Refused c =
     let a = c.args in
     let t : Tables = seven a.inputs.now a.latches.now a.outputs.now a.gates.now a.resets.now a.bads.now a.constraints.now in
     let e : ReadEntry = record { file = a.file.now; tables = t; scratch = a.scratch.now } in
-    let T : Tables = seven c.clear_all.last.0 c.clear_all.last.1.0 c.clear_all.last.1.1.0 c.clear_all.last.1.1.1.0 c.clear_all.last.1.1.1.1.0
-    c.clear_all.last.1.1.1.1.1.0 c.clear_all.last.1.1.1.1.1.1.0 in
-    let t' : Tables = seven c.fill-read.last.1.1.0 c.fill-read.last.1.1.1.0 c.fill-read.last.1.1.1.1.0 c.fill-read.last.1.1.1.1.1.0
-    c.fill-read.last.1.1.1.1.1.1.0 c.fill-read.last.1.1.1.1.1.1.1.0 c.fill-read.last.1.1.1.1.1.1.1.1.0 in
-    let S = c.clear.last.0 in
-    let wide : length c.fill-read.last.1.1.1.1.1.1.1.1.1.0 ≡ length a.scratch.now = c.fill-read.auto.scratch ∙ c.clear.auto.table in
+    let T : Tables = seven c.clear_all.new.inputs c.clear_all.new.latches c.clear_all.new.outputs c.clear_all.new.gates c.clear_all.new.resets
+    c.clear_all.new.bads c.clear_all.new.constraints in
+    let t' : Tables = seven c.fill-read.new.inputs c.fill-read.new.latches c.fill-read.new.outputs c.fill-read.new.gates
+    c.fill-read.new.resets c.fill-read.new.bads c.fill-read.new.constraints in
+    let S = c.clear.new.table in
+    let wide : length c.fill-read.new.scratch ≡ length a.scratch.now = c.fill-read.auto.scratch ∙ c.clear.auto.table in
     let back = all_same t' e.tables (c.fill-read.auto.inputs ∙ c.clear_all.auto.inputs) (c.fill-read.auto.latches ∙ c.clear_all.auto.latches) (c.fill-read.auto.outputs
     ∙ c.clear_all.auto.outputs) (c.fill-read.auto.gates ∙ c.clear_all.auto.gates) (c.fill-read.auto.resets ∙ c.clear_all.auto.resets)
     (c.fill-read.auto.bads ∙ c.clear_all.auto.bads) (c.fill-read.auto.constraints ∙ c.clear_all.auto.constraints) in
     load-refused a.version e T t' S _ c.clear_all.ensures c.clear.ensures c.fill-read.ensures _
-    (c.clear-2.ensures ∙ same-cleared c.fill-read.last.1.1.1.1.1.1.1.1.1.0 a.scratch.now wide) _
+    (c.clear-2.ensures ∙ same-cleared c.fill-read.new.scratch a.scratch.now wide) _
     c.in-Refused.is _ (c.clear_all-in-Refused.ensures ∙ back)
 
 pub shape_of-inputs : goal.shape_of-inputs
@@ -90,11 +90,11 @@ returns c =
     let a = c.args in
     let t : Tables = seven a.inputs.now a.latches.now a.outputs.now a.gates.now a.resets.now a.bads.now a.constraints.now in
     let e : ReadEntry = record { file = a.file.now; tables = t; scratch = a.scratch.now } in
-    let T : Tables = seven c.clear_all.last.0 c.clear_all.last.1.0 c.clear_all.last.1.1.0 c.clear_all.last.1.1.1.0 c.clear_all.last.1.1.1.1.0
-    c.clear_all.last.1.1.1.1.1.0 c.clear_all.last.1.1.1.1.1.1.0 in
-    let t' : Tables = seven c.fill-read.last.1.1.0 c.fill-read.last.1.1.1.0 c.fill-read.last.1.1.1.1.0 c.fill-read.last.1.1.1.1.1.0
-    c.fill-read.last.1.1.1.1.1.1.0 c.fill-read.last.1.1.1.1.1.1.1.0 c.fill-read.last.1.1.1.1.1.1.1.1.0 in
-    let S = c.clear.last.0 in
-    let wide : length c.fill-read.last.1.1.1.1.1.1.1.1.1.0 ≡ length a.scratch.now = c.fill-read.auto.scratch ∙ c.clear.auto.table in
+    let T : Tables = seven c.clear_all.new.inputs c.clear_all.new.latches c.clear_all.new.outputs c.clear_all.new.gates c.clear_all.new.resets
+    c.clear_all.new.bads c.clear_all.new.constraints in
+    let t' : Tables = seven c.fill-read.new.inputs c.fill-read.new.latches c.fill-read.new.outputs c.fill-read.new.gates
+    c.fill-read.new.resets c.fill-read.new.bads c.fill-read.new.constraints in
+    let S = c.clear.new.table in
+    let wide : length c.fill-read.new.scratch ≡ length a.scratch.now = c.fill-read.auto.scratch ∙ c.clear.auto.table in
     load-accepted a.version e T t' S _ c.clear_all.ensures c.clear.ensures c.fill-read.ensures _
-    (c.clear-2.ensures ∙ same-cleared c.fill-read.last.1.1.1.1.1.1.1.1.1.0 a.scratch.now wide) _ _ c.in_default.is
+    (c.clear-2.ensures ∙ same-cleared c.fill-read.new.scratch a.scratch.now wide) _ _ c.in_default.is

@@ -13,9 +13,9 @@ slice_bounds-result-count c =
     let a = c.args in
     let t : Tables = seven a.inputs.now a.latches.now a.outputs.now a.gates.now a.resets.now a.bads.now a.constraints.now in
     let e : ReadEntry = record { file = a.file.now; tables = t; scratch = a.scratch.now } in
-    let t' : Tables = seven c.load.last.1.1.0 c.load.last.1.1.1.0 c.load.last.1.1.1.1.0 c.load.last.1.1.1.1.1.0
-    c.load.last.1.1.1.1.1.1.0 c.load.last.1.1.1.1.1.1.1.0 c.load.last.1.1.1.1.1.1.1.1.0 in
-    let x : LoadExit = record { answer = c.load.result; tables = t'; scratch = c.load.last.1.1.1.1.1.1.1.1.1.0 } in
+    let t' : Tables = seven c.load.new.inputs c.load.new.latches c.load.new.outputs c.load.new.gates
+    c.load.new.resets c.load.new.bads c.load.new.constraints in
+    let x : LoadExit = record { answer = c.load.result; tables = t'; scratch = c.load.new.scratch } in
     let said = c.load.ensures in
     omega (arith, starts-within a.version e x said _ _ c.in-Accepted.is)
 
@@ -48,9 +48,9 @@ returns-in-Accepted c =
     let a = c.args in
     let t : Tables = seven a.inputs.now a.latches.now a.outputs.now a.gates.now a.resets.now a.bads.now a.constraints.now in
     let e : ReadEntry = record { file = a.file.now; tables = t; scratch = a.scratch.now } in
-    let t' : Tables = seven c.load.last.1.1.0 c.load.last.1.1.1.0 c.load.last.1.1.1.1.0 c.load.last.1.1.1.1.1.0
-    c.load.last.1.1.1.1.1.1.0 c.load.last.1.1.1.1.1.1.1.0 c.load.last.1.1.1.1.1.1.1.1.0 in
-    let x : LoadExit = record { answer = c.load.result; tables = t'; scratch = c.load.last.1.1.1.1.1.1.1.1.1.0 } in
+    let t' : Tables = seven c.load.new.inputs c.load.new.latches c.load.new.outputs c.load.new.gates
+    c.load.new.resets c.load.new.bads c.load.new.constraints in
+    let x : LoadExit = record { answer = c.load.result; tables = t'; scratch = c.load.new.scratch } in
     let said = c.load.ensures in
     read_by a.version e x said _ _ (c.tell.ensures ∙ ap loaded_values (sym c.in-Accepted.is)) (part-from _ a.file.now
     ∙ ap (tail_of a.file.now) (sym c.in-Accepted.is))
@@ -84,9 +84,9 @@ returns-in-Refused c =
     let a = c.args in
     let t : Tables = seven a.inputs.now a.latches.now a.outputs.now a.gates.now a.resets.now a.bads.now a.constraints.now in
     let e : ReadEntry = record { file = a.file.now; tables = t; scratch = a.scratch.now } in
-    let t' : Tables = seven c.load.last.1.1.0 c.load.last.1.1.1.0 c.load.last.1.1.1.1.0 c.load.last.1.1.1.1.1.0
-    c.load.last.1.1.1.1.1.1.0 c.load.last.1.1.1.1.1.1.1.0 c.load.last.1.1.1.1.1.1.1.1.0 in
-    let x : LoadExit = record { answer = c.load.result; tables = t'; scratch = c.load.last.1.1.1.1.1.1.1.1.1.0 } in
+    let t' : Tables = seven c.load.new.inputs c.load.new.latches c.load.new.outputs c.load.new.gates
+    c.load.new.resets c.load.new.bads c.load.new.constraints in
+    let x : LoadExit = record { answer = c.load.result; tables = t'; scratch = c.load.new.scratch } in
     let said = c.load.ensures in
     let refused = c.in-Refused.is in
     read_by a.version e x said _ _

@@ -40,8 +40,8 @@ pub returns-then-binary : goal.returns-then-binary
 returns-then-binary c =
     let a = c.args in
     let t : Tables = seven a.inputs.now a.latches.now a.outputs.now a.gates.now a.resets.now a.bads.now a.constraints.now in
-    let t' : Tables = seven c.rest_of_binary.last.1.1.1.1.0 c.rest_of_binary.last.1.1.1.1.1.0 c.rest_of_binary.last.1.1.1.1.1.1.0 c.rest_of_binary.last.1.1.1.1.1.1.1.0
-    c.rest_of_binary.last.1.1.1.1.1.1.1.1.0 c.rest_of_binary.last.1.1.1.1.1.1.1.1.1.0 c.rest_of_binary.last.1.1.1.1.1.1.1.1.1.1.0 in
+    let t' : Tables = seven c.rest_of_binary.new.inputs c.rest_of_binary.new.latches c.rest_of_binary.new.outputs c.rest_of_binary.new.gates
+    c.rest_of_binary.new.resets c.rest_of_binary.new.bads c.rest_of_binary.new.constraints in
     as-binary a.version a.file.now a.n a.at t t' _ a.binary c.if-binary.true c.rest_of_binary.ensures
 
 pub rest_of_text-requires : goal.rest_of_text-requires
@@ -78,6 +78,6 @@ pub returns : goal.returns
 returns c =
     let a = c.args in
     let t : Tables = seven a.inputs.now a.latches.now a.outputs.now a.gates.now a.resets.now a.bads.now a.constraints.now in
-    let t' : Tables = seven c.rest_of_text.last.1.1.1.1.0 c.rest_of_text.last.1.1.1.1.1.0 c.rest_of_text.last.1.1.1.1.1.1.0 c.rest_of_text.last.1.1.1.1.1.1.1.0
-    c.rest_of_text.last.1.1.1.1.1.1.1.1.0 c.rest_of_text.last.1.1.1.1.1.1.1.1.1.0 c.rest_of_text.last.1.1.1.1.1.1.1.1.1.1.0 in
+    let t' : Tables = seven c.rest_of_text.new.inputs c.rest_of_text.new.latches c.rest_of_text.new.outputs c.rest_of_text.new.gates
+    c.rest_of_text.new.resets c.rest_of_text.new.bads c.rest_of_text.new.constraints in
     as-text a.version a.file.now a.n a.at t t' _ a.binary c.if-binary.false c.rest_of_text.ensures

@@ -47,7 +47,7 @@ fill-requires c =
     let e = entry in runs e.circuit none (tables-good e (found)) refl in
     let rest : List ℕ =
     let n = c.args.n in replicate (length c.args.six.now - 4 * (n.O + n.L)) 0 in
-    let held : c.blank.last.0 ≡ tally c.args.n [] ++ rest =
+    let held : c.blank.new.six ≡ tally c.args.n [] ++ rest =
     blank ∙ blank-tally c.args.n c.args.six.now (six-long (entry) (found)) in
     let e = entry in
     let t = e.circuit.tables in
@@ -119,7 +119,7 @@ returns-in-Good c =
     let e = entry in runs e.circuit none (tables-good e (found)) refl in
     let rest : List ℕ =
     let n = c.args.n in replicate (length c.args.six.now - 4 * (n.O + n.L)) 0 in
-    let held : c.blank.last.0 ≡ tally c.args.n [] ++ rest =
+    let held : c.blank.new.six ≡ tally c.args.n [] ++ rest =
     blank ∙ blank-tally c.args.n c.args.six.now (six-long (entry) (found)) in
     let e = entry in
     let n = c.args.n in

@@ -9,7 +9,7 @@ use Rattle.cards.proofs.reading.read_cards.Goals as goal
 
 pub take_cards-read-requires : goal.take_cards-read-requires
 take_cards-read-requires c =
-    stays-cleared c.args.resets.now c.clear_all.last.1.1.1.1.0 (ap (λ (t : Tables). t.resets) c.clear_all.ensures)
+    stays-cleared c.args.resets.now c.clear_all.new.resets (ap (λ (t : Tables). t.resets) c.clear_all.ensures)
 
 pub shape_of-inputs-in-Refused : goal.shape_of-inputs-in-Refused
 shape_of-inputs-in-Refused c =
@@ -42,17 +42,15 @@ returns-in-Refused c =
     let a = c.args in
     let t : Tables = seven a.inputs.now a.latches.now a.outputs.now a.gates.now a.resets.now a.bads.now a.constraints.now in
     let e : ReadEntry = record { file = a.file.now; tables = t; scratch = a.scratch.now } in
-    let T : Tables = seven c.clear_all.last.0 c.clear_all.last.1.0 c.clear_all.last.1.1.0 c.clear_all.last.1.1.1.0 c.clear_all.last.1.1.1.1.0
-    c.clear_all.last.1.1.1.1.1.0 c.clear_all.last.1.1.1.1.1.1.0 in
-    let t' : Tables = seven c.take_cards-read.last.1.0 c.take_cards-read.last.1.1.0 c.take_cards-read.last.1.1.1.0 c.take_cards-read.last.1.1.1.1.0
-    c.take_cards-read.last.1.1.1.1.1.0 c.take_cards-read.last.1.1.1.1.1.1.0 c.take_cards-read.last.1.1.1.1.1.1.1.0 in
-    let back = all_same t' t (c.take_cards-read.auto.inputs ∙ c.clear_all.auto.inputs) ((latches2-of
-).latches2.given ∙ c.latches-1.given) (c.outputs-2-1.given
+    let T : Tables = seven c.clear_all.new.inputs c.clear_all.new.latches c.clear_all.new.outputs c.clear_all.new.gates c.clear_all.new.resets
+    c.clear_all.new.bads c.clear_all.new.constraints in
+    let t' : Tables = seven c.take_cards-read.new.inputs c.take_cards-read.new.latches c.take_cards-read.new.outputs c.take_cards-read.new.gates
+    c.take_cards-read.new.resets c.take_cards-read.new.bads c.take_cards-read.new.constraints in
+    let back = all_same t' t (c.take_cards-read.auto.inputs ∙ c.clear_all.auto.inputs) (c.latches-2-1.given ∙ c.latches-1.given) (c.outputs-2-1.given
     ∙ c.outputs-1.given) (c.gates-2-1.given ∙ c.gates-1.given)
     (c.resets-2-1.given ∙ c.resets-1.given) (c.bads-2-1.given
     ∙ c.bads-1.given) (c.constraints-2-1.given ∙ c.constraints-1.given) in
-    load-refused e t' _ T _ c.clear_all.ensures c.clear.auto.table c.take_cards-read.ensures _ (clear_of
-).clear.ensures _ c.in-Refused.is _
+    load-refused e t' _ T _ c.clear_all.ensures c.clear.auto.table c.take_cards-read.ensures _ c.clear.ensures _ c.in-Refused.is _
     (c.clear_all-in-Refused.ensures ∙ back)
 
 pub shape_of-inputs : goal.shape_of-inputs
@@ -84,9 +82,8 @@ returns c =
     let a = c.args in
     let t : Tables = seven a.inputs.now a.latches.now a.outputs.now a.gates.now a.resets.now a.bads.now a.constraints.now in
     let e : ReadEntry = record { file = a.file.now; tables = t; scratch = a.scratch.now } in
-    let T : Tables = seven c.clear_all.last.0 c.clear_all.last.1.0 c.clear_all.last.1.1.0 c.clear_all.last.1.1.1.0 c.clear_all.last.1.1.1.1.0
-    c.clear_all.last.1.1.1.1.1.0 c.clear_all.last.1.1.1.1.1.1.0 in
-    let t' : Tables = seven c.take_cards-read.last.1.0 c.take_cards-read.last.1.1.0 c.take_cards-read.last.1.1.1.0 c.take_cards-read.last.1.1.1.1.0
-    c.take_cards-read.last.1.1.1.1.1.0 c.take_cards-read.last.1.1.1.1.1.1.0 c.take_cards-read.last.1.1.1.1.1.1.1.0 in
-    load-accepted e t' _ T _ c.clear_all.ensures c.clear.auto.table c.take_cards-read.ensures _ (clear_of
-).clear.ensures _ _ c.in_default.is
+    let T : Tables = seven c.clear_all.new.inputs c.clear_all.new.latches c.clear_all.new.outputs c.clear_all.new.gates c.clear_all.new.resets
+    c.clear_all.new.bads c.clear_all.new.constraints in
+    let t' : Tables = seven c.take_cards-read.new.inputs c.take_cards-read.new.latches c.take_cards-read.new.outputs c.take_cards-read.new.gates
+    c.take_cards-read.new.resets c.take_cards-read.new.bads c.take_cards-read.new.constraints in
+    load-accepted e t' _ T _ c.clear_all.ensures c.clear.auto.table c.take_cards-read.ensures _ c.clear.ensures _ _ c.in_default.is

@@ -39,10 +39,9 @@ returns-in-Refused c =
     given_in a.n a.inputs.now a.latches.now a.outputs.now a.gates.now a.resets.now a.bads.now a.constraints.now a.scratch.now in
     let into : Tables =
     let a = c.args in
-    seven a.to-inputs.now a.to-latches.now a.to-outputs.now a.to-gates.now a.to-resets.now a.to-bads.now a.to-constraints.now in
+    seven a.to_inputs.now a.to_latches.now a.to_outputs.now a.to_gates.now a.to_resets.now a.to_bads.now a.to_constraints.now in
     let a = c.args in
-    absurd (not-refused _ _ a.tail.now (drops (circuit) (into) a.tail.now c.requires.stands_ready c.requires.in_order) _ (drop-unused-of
-).drop-unused.ensures _ c.in-Refused.is)
+    absurd (not-refused _ _ a.tail.now (drops (circuit) (into) a.tail.now c.requires.stands_ready c.requires.in_order) _ c.drop_unused.ensures _ c.in-Refused.is)
 
 pub shape_of-to_inputs-in-Accepted : goal.shape_of-to_inputs-in-Accepted
 shape_of-to_inputs-in-Accepted c = c.drop_unused.auto.to_inputs
@@ -78,8 +77,7 @@ returns-in-Accepted c =
     given_in a.n a.inputs.now a.latches.now a.outputs.now a.gates.now a.resets.now a.bads.now a.constraints.now a.scratch.now in
     let into : Tables =
     let a = c.args in
-    seven a.to-inputs.now a.to-latches.now a.to-outputs.now a.to-gates.now a.to-resets.now a.to-bads.now a.to-constraints.now in
+    seven a.to_inputs.now a.to_latches.now a.to_outputs.now a.to_gates.now a.to_resets.now a.to_bads.now a.to_constraints.now in
     let a = c.args in
-    made-put _ _ a.tail.now (drops (circuit) (into) a.tail.now c.requires.stands_ready c.requires.in_order) _ (drop-unused-of
-).drop-unused.ensures _ c.in-Accepted.is
+    made-put _ _ a.tail.now (drops (circuit) (into) a.tail.now c.requires.stands_ready c.requires.in_order) _ c.drop_unused.ensures _ c.in-Accepted.is
     a.out.now _ c.write_binary.ensures

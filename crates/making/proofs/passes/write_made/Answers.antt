@@ -56,7 +56,7 @@ write_reduced-requires c =
     given_in a.n a.inputs.now a.latches.now a.outputs.now a.gates.now a.resets.now a.bads.now a.constraints.now a.scratch.now in
     let into : Tables =
     let a = c.args in
-    seven a.to-inputs.now a.to-latches.now a.to-outputs.now a.to-gates.now a.to-resets.now a.to-bads.now a.to-constraints.now in
+    seven a.to_inputs.now a.to_latches.now a.to_outputs.now a.to_gates.now a.to_resets.now a.to_bads.now a.to_constraints.now in
     let a = c.args in
     let m = c.in-Accepted.is in
     record { stands_ready = converted-ready (circuit) (into) a.tail.now c.requires _ c.convert.ensures _ m; in_order = made-in-order _ _ a.tail.now (converts (circuit) (into) a.tail.now c.requires) _ c.convert.ensures _ m; }
@@ -116,15 +116,14 @@ returns-then-reduced c =
     given_in a.n a.inputs.now a.latches.now a.outputs.now a.gates.now a.resets.now a.bads.now a.constraints.now a.scratch.now in
     let into : Tables =
     let a = c.args in
-    seven a.to-inputs.now a.to-latches.now a.to-outputs.now a.to-gates.now a.to-resets.now a.to-bads.now a.to-constraints.now in
+    seven a.to_inputs.now a.to_latches.now a.to_outputs.now a.to_gates.now a.to_resets.now a.to_bads.now a.to_constraints.now in
     let a = c.args in
     c.write_reduced.ensures
     ∙ (ap (λ (d : Circuit). put_bytes a.out.now 0 (binary_of (lessened a.dropped d) ++ a.tail.now))
     (made-is _ _ a.tail.now (converts (circuit) (into) a.tail.now c.requires) _ c.convert.ensures _
     c.in-Accepted.is)
     ∙ (ap (λ (b : Bool). put_bytes a.out.now 0 (bytes_of false b a.dropped (given_circuit (circuit)) ++ a.tail.now)) (sym c.if-reduced.true)
-    ∙ ap (λ (b : Bool). put_bytes a.out.now 0 (bytes_of b a.reduced a.dropped (given_circuit (circuit)) ++ a.tail.now)) (sym (else1-of
-).if1.left)))
+    ∙ ap (λ (b : Bool). put_bytes a.out.now 0 (bytes_of b a.reduced a.dropped (given_circuit (circuit)) ++ a.tail.now)) (sym c.if-text.false)))
 
 pub shape_of-inputs-in-Refused : goal.shape_of-inputs-in-Refused
 shape_of-inputs-in-Refused c = refl
@@ -178,10 +177,9 @@ returns-in-Refused c =
     given_in a.n a.inputs.now a.latches.now a.outputs.now a.gates.now a.resets.now a.bads.now a.constraints.now a.scratch.now in
     let into : Tables =
     let a = c.args in
-    seven a.to-inputs.now a.to-latches.now a.to-outputs.now a.to-gates.now a.to-resets.now a.to-bads.now a.to-constraints.now in
+    seven a.to_inputs.now a.to_latches.now a.to_outputs.now a.to_gates.now a.to_resets.now a.to_bads.now a.to_constraints.now in
     let a = c.args in
-    absurd (not-refused _ _ a.tail.now (converts (circuit) (into) a.tail.now c.requires) _ (convert-of
-).convert.ensures _ c.in-Refused.is)
+    absurd (not-refused _ _ a.tail.now (converts (circuit) (into) a.tail.now c.requires) _ c.convert.ensures _ c.in-Refused.is)
 
 pub shape_of-inputs-else-reduced : goal.shape_of-inputs-else-reduced
 shape_of-inputs-else-reduced c = refl
@@ -238,11 +236,10 @@ returns-else-reduced c =
     given_in a.n a.inputs.now a.latches.now a.outputs.now a.gates.now a.resets.now a.bads.now a.constraints.now a.scratch.now in
     let into : Tables =
     let a = c.args in
-    seven a.to-inputs.now a.to-latches.now a.to-outputs.now a.to-gates.now a.to-resets.now a.to-bads.now a.to-constraints.now in
+    seven a.to_inputs.now a.to_latches.now a.to_outputs.now a.to_gates.now a.to_resets.now a.to_bads.now a.to_constraints.now in
     let a = c.args in
     made-put _ _ a.tail.now (converts (circuit) (into) a.tail.now c.requires) _ c.convert.ensures _
     c.in-Accepted.is
     a.out.now _ c.write_binary.ensures
     ∙ (ap (λ (b : Bool). put_bytes a.out.now 0 (bytes_of false b a.dropped (given_circuit (circuit)) ++ a.tail.now)) (sym c.if-reduced.false)
-    ∙ ap (λ (b : Bool). put_bytes a.out.now 0 (bytes_of b a.reduced a.dropped (given_circuit (circuit)) ++ a.tail.now)) (sym (else1-of
-).if1.left))
+    ∙ ap (λ (b : Bool). put_bytes a.out.now 0 (bytes_of b a.reduced a.dropped (given_circuit (circuit)) ++ a.tail.now)) (sym c.if-text.false))

@@ -22,7 +22,7 @@ write_dropped-requires c =
     given_in a.n a.inputs.now a.latches.now a.outputs.now a.gates.now a.resets.now a.bads.now a.constraints.now a.scratch.now in
     let into : Tables =
     let a = c.args in
-    seven a.to-inputs.now a.to-latches.now a.to-outputs.now a.to-gates.now a.to-resets.now a.to-bads.now a.to-constraints.now in
+    seven a.to_inputs.now a.to_latches.now a.to_outputs.now a.to_gates.now a.to_resets.now a.to_bads.now a.to_constraints.now in
     let a = c.args in
     let m = c.in-Accepted.is in
     record { stands_ready = reduced-ready (circuit) (into) a.tail.now c.requires.stands_ready c.requires.in_order _ c.reduce.ensures _ m; in_order = made-in-order _ _ a.tail.now (reduces (circuit) (into) a.tail.now c.requires.stands_ready c.requires.in_order) _ c.reduce.ensures _ m; }
@@ -82,12 +82,11 @@ returns-then-dropped c =
     given_in a.n a.inputs.now a.latches.now a.outputs.now a.gates.now a.resets.now a.bads.now a.constraints.now a.scratch.now in
     let into : Tables =
     let a = c.args in
-    seven a.to-inputs.now a.to-latches.now a.to-outputs.now a.to-gates.now a.to-resets.now a.to-bads.now a.to-constraints.now in
+    seven a.to_inputs.now a.to_latches.now a.to_outputs.now a.to_gates.now a.to_resets.now a.to_bads.now a.to_constraints.now in
     let a = c.args in
     c.write_dropped.ensures
     ∙ (ap (λ (d : Circuit). put_bytes a.out.now 0 (binary_of (drop_unused d) ++ a.tail.now))
-    (made-is _ _ a.tail.now (reduces (circuit) (into) a.tail.now c.requires.stands_ready c.requires.in_order) _ (reduce-of
-).reduce.ensures _ c.in-Accepted.is)
+    (made-is _ _ a.tail.now (reduces (circuit) (into) a.tail.now c.requires.stands_ready c.requires.in_order) _ c.reduce.ensures _ c.in-Accepted.is)
     ∙ ap (λ (b : Bool). put_bytes a.out.now 0 (binary_of (lessened b (given_circuit (circuit))) ++ a.tail.now)) (sym c.if-dropped.true))
 
 pub shape_of-inputs-in-Refused : goal.shape_of-inputs-in-Refused
@@ -142,10 +141,9 @@ returns-in-Refused c =
     given_in a.n a.inputs.now a.latches.now a.outputs.now a.gates.now a.resets.now a.bads.now a.constraints.now a.scratch.now in
     let into : Tables =
     let a = c.args in
-    seven a.to-inputs.now a.to-latches.now a.to-outputs.now a.to-gates.now a.to-resets.now a.to-bads.now a.to-constraints.now in
+    seven a.to_inputs.now a.to_latches.now a.to_outputs.now a.to_gates.now a.to_resets.now a.to_bads.now a.to_constraints.now in
     let a = c.args in
-    absurd (not-refused _ _ a.tail.now (reduces (circuit) (into) a.tail.now c.requires.stands_ready c.requires.in_order) _ (reduce-of
-).reduce.ensures _ c.in-Refused.is)
+    absurd (not-refused _ _ a.tail.now (reduces (circuit) (into) a.tail.now c.requires.stands_ready c.requires.in_order) _ c.reduce.ensures _ c.in-Refused.is)
 
 pub shape_of-inputs-else-dropped : goal.shape_of-inputs-else-dropped
 shape_of-inputs-else-dropped c = refl
@@ -202,9 +200,8 @@ returns-else-dropped c =
     given_in a.n a.inputs.now a.latches.now a.outputs.now a.gates.now a.resets.now a.bads.now a.constraints.now a.scratch.now in
     let into : Tables =
     let a = c.args in
-    seven a.to-inputs.now a.to-latches.now a.to-outputs.now a.to-gates.now a.to-resets.now a.to-bads.now a.to-constraints.now in
+    seven a.to_inputs.now a.to_latches.now a.to_outputs.now a.to_gates.now a.to_resets.now a.to_bads.now a.to_constraints.now in
     let a = c.args in
-    made-put _ _ a.tail.now (reduces (circuit) (into) a.tail.now c.requires.stands_ready c.requires.in_order) _ (reduce-of
-).reduce.ensures _ c.in-Accepted.is
+    made-put _ _ a.tail.now (reduces (circuit) (into) a.tail.now c.requires.stands_ready c.requires.in_order) _ c.reduce.ensures _ c.in-Accepted.is
     a.out.now _ c.write_binary.ensures
     ∙ ap (λ (b : Bool). put_bytes a.out.now 0 (binary_of (lessened b (given_circuit (circuit))) ++ a.tail.now)) (sym c.if-dropped.false)

@@ -55,8 +55,8 @@ pub returns-in_default : goal.returns-in_default
 returns-in_default c =
     let a = c.args in
     let t : Tables = seven a.inputs.now a.latches.now a.outputs.now a.gates.now a.resets.now a.bads.now a.constraints.now in
-    let t' : Tables = seven c.read_binary-read.last.1.1.1.1.0 c.read_binary-read.last.1.1.1.1.1.0 c.read_binary-read.last.1.1.1.1.1.1.0 c.read_binary-read.last.1.1.1.1.1.1.1.0
-    c.read_binary-read.last.1.1.1.1.1.1.1.1.0 c.read_binary-read.last.1.1.1.1.1.1.1.1.1.0 c.read_binary-read.last.1.1.1.1.1.1.1.1.1.1.0 in
+    let t' : Tables = seven c.read_binary-read.new.inputs c.read_binary-read.new.latches c.read_binary-read.new.outputs c.read_binary-read.new.gates
+    c.read_binary-read.new.resets c.read_binary-read.new.bads c.read_binary-read.new.constraints in
     let body = binary_body a.version a.file.now a.n a.at in
     stops a.version a.file.now a.n body t t' _ c.read_binary-read.ensures _ c.in_default.is
 
@@ -66,7 +66,7 @@ check-requires c =
     let room = c.requires.room in
     let base = a.n.I + a.n.L + a.n.O + a.n.B + a.n.C in
     let s = a.scratch.now in
-    let ys = c.read_binary-read.last.1.1.1.1.1.1.1.1.1.1.1.0 in
+    let ys = c.read_binary-read.new.marks in
     let fits : base ≤ length s = omega (arith, room.words, room.most-M, c.requires.a_value) in
     record { holds = record {
         most-I = room.most-I;
@@ -104,10 +104,10 @@ shape_of-scratch-in-Refused c =
     let room = c.requires.room in
     let base = a.n.I + a.n.L + a.n.O + a.n.B + a.n.C in
     let s = a.scratch.now in
-    let ys = c.read_binary-read.last.1.1.1.1.1.1.1.1.1.1.1.0 in
+    let ys = c.read_binary-read.new.marks in
     let fits : base ≤ length s = omega (arith, room.words, room.most-M, c.requires.a_value) in
     let ys-long : length ys ≡ length (mid_of base (length s - base) s) = c.read_binary-read.auto.marks in
-    let zs = c.check.last.1.1.1.1.0 in
+    let zs = c.check.new.marks in
     let zs-long : length zs ≡ length (mid_of 0 (base - 0) (second base s ys fits)) = c.check.auto.marks in
     same_len_mid 0 (base - 0) (second base s ys fits) zs zs-long ∙ second-length base s ys fits ys-long
 
@@ -115,11 +115,10 @@ pub returns-in-Refused : goal.returns-in-Refused
 returns-in-Refused c =
     let a = c.args in
     let t : Tables = seven a.inputs.now a.latches.now a.outputs.now a.gates.now a.resets.now a.bads.now a.constraints.now in
-    let t' : Tables = seven c.read_binary-read.last.1.1.1.1.0 c.read_binary-read.last.1.1.1.1.1.0 c.read_binary-read.last.1.1.1.1.1.1.0 c.read_binary-read.last.1.1.1.1.1.1.1.0
-    c.read_binary-read.last.1.1.1.1.1.1.1.1.0 c.read_binary-read.last.1.1.1.1.1.1.1.1.1.0 c.read_binary-read.last.1.1.1.1.1.1.1.1.1.1.0 in
+    let t' : Tables = seven c.read_binary-read.new.inputs c.read_binary-read.new.latches c.read_binary-read.new.outputs c.read_binary-read.new.gates
+    c.read_binary-read.new.resets c.read_binary-read.new.bads c.read_binary-read.new.constraints in
     let body = binary_body a.version a.file.now a.n a.at in
-    tail-told a.version a.file.now a.n body t t' _ c.read_binary-read.ensures _ c.in-To.is _ (check-of
-).check.ensures _ c.in-Refused.is
+    tail-told a.version a.file.now a.n body t t' _ c.read_binary-read.ensures _ c.in-To.is _ c.check.ensures _ c.in-Refused.is
 
 pub shape_of-inputs-in-Good : goal.shape_of-inputs-in-Good
 shape_of-inputs-in-Good c = c.read_binary-read.auto.inputs
@@ -148,10 +147,10 @@ shape_of-scratch-in-Good c =
     let room = c.requires.room in
     let base = a.n.I + a.n.L + a.n.O + a.n.B + a.n.C in
     let s = a.scratch.now in
-    let ys = c.read_binary-read.last.1.1.1.1.1.1.1.1.1.1.1.0 in
+    let ys = c.read_binary-read.new.marks in
     let fits : base ≤ length s = omega (arith, room.words, room.most-M, c.requires.a_value) in
     let ys-long : length ys ≡ length (mid_of base (length s - base) s) = c.read_binary-read.auto.marks in
-    let zs = c.check.last.1.1.1.1.0 in
+    let zs = c.check.new.marks in
     let zs-long : length zs ≡ length (mid_of 0 (base - 0) (second base s ys fits)) = c.check.auto.marks in
     same_len_mid 0 (base - 0) (second base s ys fits) zs zs-long ∙ second-length base s ys fits ys-long
 
@@ -159,10 +158,9 @@ pub returns-in-Good : goal.returns-in-Good
 returns-in-Good c =
     let a = c.args in
     let t : Tables = seven a.inputs.now a.latches.now a.outputs.now a.gates.now a.resets.now a.bads.now a.constraints.now in
-    let t' : Tables = seven c.read_binary-read.last.1.1.1.1.0 c.read_binary-read.last.1.1.1.1.1.0 c.read_binary-read.last.1.1.1.1.1.1.0 c.read_binary-read.last.1.1.1.1.1.1.1.0
-    c.read_binary-read.last.1.1.1.1.1.1.1.1.0 c.read_binary-read.last.1.1.1.1.1.1.1.1.1.0 c.read_binary-read.last.1.1.1.1.1.1.1.1.1.1.0 in
+    let t' : Tables = seven c.read_binary-read.new.inputs c.read_binary-read.new.latches c.read_binary-read.new.outputs c.read_binary-read.new.gates
+    c.read_binary-read.new.resets c.read_binary-read.new.bads c.read_binary-read.new.constraints in
     let body = binary_body a.version a.file.now a.n a.at in
-    good a.version a.file.now a.n body t t' _ c.read_binary-read.ensures _ c.in-To.is _ (check-of
-).check.ensures c.in-Good.is
+    good a.version a.file.now a.n body t t' _ c.read_binary-read.ensures _ c.in-To.is _ c.check.ensures c.in-Good.is
     (λ d e. let k = no-six-seven-eight a.file.now (λ k. (c.type_inv.file k).fits) a.version a.n a.at d _
     c.requires.a_value e in (k.1, k.2))

@@ -62,8 +62,8 @@ pub returns-in_default : goal.returns-in_default
 returns-in_default c =
     let a = c.args in
     let t : Tables = seven a.inputs.now a.latches.now a.outputs.now a.gates.now a.resets.now a.bads.now a.constraints.now in
-    let t' : Tables = seven c.read_text-read.last.1.1.1.1.0 c.read_text-read.last.1.1.1.1.1.0 c.read_text-read.last.1.1.1.1.1.1.0 c.read_text-read.last.1.1.1.1.1.1.1.0
-    c.read_text-read.last.1.1.1.1.1.1.1.1.0 c.read_text-read.last.1.1.1.1.1.1.1.1.1.0 c.read_text-read.last.1.1.1.1.1.1.1.1.1.1.0 in
+    let t' : Tables = seven c.read_text-read.new.inputs c.read_text-read.new.latches c.read_text-read.new.outputs c.read_text-read.new.gates
+    c.read_text-read.new.resets c.read_text-read.new.bads c.read_text-read.new.constraints in
     let body = text_body a.version a.file.now a.n a.at in
     stops a.version a.file.now a.n body t t' _ c.read_text-read.ensures.body _ c.in_default.is
 
@@ -73,7 +73,7 @@ check-requires c =
     let room = c.requires.room in
     let base = a.n.I + a.n.L + a.n.O + a.n.B + a.n.C in
     let s = a.scratch.now in
-    let ys = c.read_text-read.last.1.1.1.1.1.1.1.1.1.1.1.0 in
+    let ys = c.read_text-read.new.marks in
     let fits : base ≤ length s = omega (arith, room.words, room.most-M, c.requires.a_bound) in
     record { holds = record {
         most-I = room.most-I;
@@ -88,23 +88,21 @@ pub check-requires-in-Good : goal.check-requires-in-Good
 check-requires-in-Good c =
     let a = c.args in
     let t : Tables = seven a.inputs.now a.latches.now a.outputs.now a.gates.now a.resets.now a.bads.now a.constraints.now in
-    let t' : Tables = seven c.read_text-read.last.1.1.1.1.0 c.read_text-read.last.1.1.1.1.1.0 c.read_text-read.last.1.1.1.1.1.1.0 c.read_text-read.last.1.1.1.1.1.1.1.0
-    c.read_text-read.last.1.1.1.1.1.1.1.1.0 c.read_text-read.last.1.1.1.1.1.1.1.1.1.0 c.read_text-read.last.1.1.1.1.1.1.1.1.1.1.0 in
+    let t' : Tables = seven c.read_text-read.new.inputs c.read_text-read.new.latches c.read_text-read.new.outputs c.read_text-read.new.gates
+    c.read_text-read.new.resets c.read_text-read.new.bads c.read_text-read.new.constraints in
     let body = text_body a.version a.file.now a.n a.at in
     let p = read_as a.version a.file.now a.n body t t' _ c.read_text-read.ensures.body _ c.in-To.is in
     let room = c.requires.room in
     let base = a.n.I + a.n.L + a.n.O + a.n.B + a.n.C in
     let s = a.scratch.now in
-    let ys = c.read_text-read.last.1.1.1.1.1.1.1.1.1.1.1.0 in
+    let ys = c.read_text-read.new.marks in
     let fits : base ≤ length s = omega (arith, room.words, room.most-M, c.requires.a_bound) in
-    let zs = c.check.last.1.1.1.1.0 in
+    let zs = c.check.new.marks in
     let ys-long : length ys ≡ length (mid_of base (length s - base) s) = c.read_text-read.auto.marks in
     let zs-long : length zs ≡ length (mid_of 0 (base - 0) (second base s ys fits)) = c.check.auto.marks in
     text-read a.version a.file.now a.n a.at t t' p.0 _ p.1 p.2 s (put_mid 0 (base - 0) (second base s ys fits) zs) ys base room
     c.requires.a_bound refl
-    c.read_text-read.auto.inputs c.latches-1.given (outputs-of
-).outputs.given c.gates-1.given c.bads-1.given (constraints-of
-).constraints.given
+    c.read_text-read.auto.inputs c.latches-1.given c.outputs-1.given c.gates-1.given c.bads-1.given c.constraints-1.given
     (same_len_mid 0 (base - 0) (second base s ys fits) zs zs-long ∙ second-length base s ys fits ys-long) (second-part base s ys fits zs ys-long zs-long)
     (c.read_text-read.ensures.marked p.0 _ p.1)
 
@@ -135,10 +133,10 @@ shape_of-scratch-in-Refused c =
     let room = c.requires.room in
     let base = a.n.I + a.n.L + a.n.O + a.n.B + a.n.C in
     let s = a.scratch.now in
-    let ys = c.read_text-read.last.1.1.1.1.1.1.1.1.1.1.1.0 in
+    let ys = c.read_text-read.new.marks in
     let fits : base ≤ length s = omega (arith, room.words, room.most-M, c.requires.a_bound) in
     let ys-long : length ys ≡ length (mid_of base (length s - base) s) = c.read_text-read.auto.marks in
-    let zs = c.check.last.1.1.1.1.0 in
+    let zs = c.check.new.marks in
     let zs-long : length zs ≡ length (mid_of 0 (base - 0) (second base s ys fits)) = c.check.auto.marks in
     same_len_mid 0 (base - 0) (second base s ys fits) zs zs-long ∙ second-length base s ys fits ys-long
 
@@ -146,11 +144,10 @@ pub returns-in-Refused : goal.returns-in-Refused
 returns-in-Refused c =
     let a = c.args in
     let t : Tables = seven a.inputs.now a.latches.now a.outputs.now a.gates.now a.resets.now a.bads.now a.constraints.now in
-    let t' : Tables = seven c.read_text-read.last.1.1.1.1.0 c.read_text-read.last.1.1.1.1.1.0 c.read_text-read.last.1.1.1.1.1.1.0 c.read_text-read.last.1.1.1.1.1.1.1.0
-    c.read_text-read.last.1.1.1.1.1.1.1.1.0 c.read_text-read.last.1.1.1.1.1.1.1.1.1.0 c.read_text-read.last.1.1.1.1.1.1.1.1.1.1.0 in
+    let t' : Tables = seven c.read_text-read.new.inputs c.read_text-read.new.latches c.read_text-read.new.outputs c.read_text-read.new.gates
+    c.read_text-read.new.resets c.read_text-read.new.bads c.read_text-read.new.constraints in
     let body = text_body a.version a.file.now a.n a.at in
-    tail-told a.version a.file.now a.n body t t' _ c.read_text-read.ensures.body _ c.in-To.is _ (check-of
-).check.ensures _ c.in-Refused.is
+    tail-told a.version a.file.now a.n body t t' _ c.read_text-read.ensures.body _ c.in-To.is _ c.check.ensures _ c.in-Refused.is
 
 pub shape_of-inputs-in-Refused-check : goal.shape_of-inputs-in-Refused-check
 shape_of-inputs-in-Refused-check c = c.read_text-read.auto.inputs
@@ -177,12 +174,11 @@ pub returns-in-Refused-check : goal.returns-in-Refused-check
 returns-in-Refused-check c =
     let a = c.args in
     let t : Tables = seven a.inputs.now a.latches.now a.outputs.now a.gates.now a.resets.now a.bads.now a.constraints.now in
-    let t' : Tables = seven c.read_text-read.last.1.1.1.1.0 c.read_text-read.last.1.1.1.1.1.0 c.read_text-read.last.1.1.1.1.1.1.0 c.read_text-read.last.1.1.1.1.1.1.1.0
-    c.read_text-read.last.1.1.1.1.1.1.1.1.0 c.read_text-read.last.1.1.1.1.1.1.1.1.1.0 c.read_text-read.last.1.1.1.1.1.1.1.1.1.1.0 in
+    let t' : Tables = seven c.read_text-read.new.inputs c.read_text-read.new.latches c.read_text-read.new.outputs c.read_text-read.new.gates
+    c.read_text-read.new.resets c.read_text-read.new.bads c.read_text-read.new.constraints in
     let body = text_body a.version a.file.now a.n a.at in
     let p = read_as a.version a.file.now a.n body t t' _ c.read_text-read.ensures.body _ c.in-To.is in
-    closing-told a.version a.file.now a.n body t t' _ c.read_text-read.ensures.body _ c.in-To.is _ (check-of
-).check.ensures c.in-Good.is _
+    closing-told a.version a.file.now a.n body t t' _ c.read_text-read.ensures.body _ c.in-To.is _ c.check.ensures c.in-Good.is _
     (sym c.in-Refused-check.is ∙ (c.check-in-Good.ensures.by_index t'.resets ∙ ap (λ (x : Circuit). checked_by (closed x)) (same-circuit
     a.version a.file.now a.n a.at t t' p.0 _ p.1 p.2)))
 
@@ -211,11 +207,10 @@ pub returns-in-Good-check : goal.returns-in-Good-check
 returns-in-Good-check c =
     let a = c.args in
     let t : Tables = seven a.inputs.now a.latches.now a.outputs.now a.gates.now a.resets.now a.bads.now a.constraints.now in
-    let t' : Tables = seven c.read_text-read.last.1.1.1.1.0 c.read_text-read.last.1.1.1.1.1.0 c.read_text-read.last.1.1.1.1.1.1.0 c.read_text-read.last.1.1.1.1.1.1.1.0
-    c.read_text-read.last.1.1.1.1.1.1.1.1.0 c.read_text-read.last.1.1.1.1.1.1.1.1.1.0 c.read_text-read.last.1.1.1.1.1.1.1.1.1.1.0 in
+    let t' : Tables = seven c.read_text-read.new.inputs c.read_text-read.new.latches c.read_text-read.new.outputs c.read_text-read.new.gates
+    c.read_text-read.new.resets c.read_text-read.new.bads c.read_text-read.new.constraints in
     let body = text_body a.version a.file.now a.n a.at in
     let p = read_as a.version a.file.now a.n body t t' _ c.read_text-read.ensures.body _ c.in-To.is in
     let shut = closing-good p.0 (sym c.in-Good-check.is ∙ (c.check-in-Good.ensures.by_index t'.resets ∙ ap (λ
     (x : Circuit). checked_by (closed x)) (same-circuit a.version a.file.now a.n a.at t t' p.0 _ p.1 p.2))) in
-    accepted-as a.version a.file.now a.n body t t' _ c.read_text-read.ensures.body _ c.in-To.is _ (check-of
-).check.ensures c.in-Good.is shut.0 shut.1
+    accepted-as a.version a.file.now a.n body t t' _ c.read_text-read.ensures.body _ c.in-To.is _ c.check.ensures c.in-Good.is shut.0 shut.1

@@ -18,8 +18,8 @@ use borrow.Author.Rules.{rules}
 use Rattle.rows.proofs.lanes.pack.Given as goal
 
 abbrev pub invariant-loop-j : goal.invariant-loop-j
-invariant-loop-j l = (l.j ≤ l.w) × (l.at ≡ l.stride * (l.from + l.j) + start) × (length l.ones ≡ length l.initial.ones) × (length l.boths ≡ length l.initial.boths)
-    × Packed (one l.table l.stride l.from l.t) l.j l.ones × Packed (both l.table l.stride l.from l.t) l.j l.boths
+invariant-loop-j l = (l.j ≤ l.w) × (l.at ≡ l.stride * (l.from + l.j) + l.start) × (length l.ones ≡ length l.initial.ones) × (length l.boths ≡ length l.initial.boths)
+    × Packed (one l.table l.start l.stride l.from l.t) l.j l.ones × Packed (both l.table l.start l.stride l.from l.t) l.j l.boths
 
 abbrev pub decreases-loop-j : goal.decreases-loop-j
 decreases-loop-j l = l.w - l.j

@@ -11,7 +11,7 @@ use Rattle.rows.proofs.lanes.Storing.{shows-less, Below, below_none, below-block
 use Rattle.rows.proofs.lanes.store_rows.Given as goal
 
 abbrev pub invariant-loop-j : goal.invariant-loop-j
-invariant-loop-j l = (l.j ≤ l.n) × (length l.out ≡ length l.initial.out) × Below (coded l.table l.stride l.t) l.n l.rows l.j l.out
+invariant-loop-j l = (l.j ≤ l.n) × (length l.out ≡ length l.initial.out) × Below (coded l.table l.start l.stride l.t) l.n l.rows l.j l.out
 
 abbrev pub decreases-loop-j : goal.decreases-loop-j
 decreases-loop-j l = l.n - l.j

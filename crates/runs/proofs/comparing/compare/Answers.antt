@@ -32,9 +32,9 @@ returns-then-not-agree c =
     let stepped : TraceExit =
     record {
       answer = c.trace-part.result;
-      scratch = c.trace-part.last.1.1.1.1.1.1.1.1.0;
-      state = c.trace-part.last.1.1.1.1.1.1.1.1.1.0;
-      out = c.trace-part.last.1.1.1.1.1.1.1.1.1.1.1.0;
+      scratch = c.trace-part.new.scratch;
+      state = c.trace-part.new.state;
+      out = c.trace-part.new.out;
     } in
     let plain : TraceExit =
     record {
@@ -70,9 +70,9 @@ returns-in-Lines c =
     let stepped : TraceExit =
     record {
       answer = c.trace-part.result;
-      scratch = c.trace-part.last.1.1.1.1.1.1.1.1.0;
-      state = c.trace-part.last.1.1.1.1.1.1.1.1.1.0;
-      out = c.trace-part.last.1.1.1.1.1.1.1.1.1.1.1.0;
+      scratch = c.trace-part.new.scratch;
+      state = c.trace-part.new.state;
+      out = c.trace-part.new.out;
     } in
     let plain : TraceExit =
     record {
@@ -109,9 +109,9 @@ returns-in-Refused c =
     let stepped : TraceExit =
     record {
       answer = c.trace-part.result;
-      scratch = c.trace-part.last.1.1.1.1.1.1.1.1.0;
-      state = c.trace-part.last.1.1.1.1.1.1.1.1.1.0;
-      out = c.trace-part.last.1.1.1.1.1.1.1.1.1.1.1.0;
+      scratch = c.trace-part.new.scratch;
+      state = c.trace-part.new.state;
+      out = c.trace-part.new.out;
     } in
     let plain : TraceExit =
     record {

@@ -28,9 +28,9 @@ value_of-requires c =
 
 pub returns-then-value_of-eq-MAY1 : goal.returns-then-value_of-eq-MAY1
 returns-then-value_of-eq-MAY1 c =
-    let value-is : let a = c.args in c.value_of_lem.result ≡ word_at a.lits a.t.now (get_or a.table.now c.loop-i.i 0) =
+    let value-is : let a = c.args in c.value_of.result ≡ word_at a.lits a.t.now (get_or a.table.now c.loop-i.i 0) =
     let a = c.args in
-    c.value_of_lem.ensures ∙ ap (λ (l : Lit). word_at a.lits a.t.now (word_of l)) c.at.ensures in
+    c.value_of.ensures ∙ ap (λ (l : Lit). word_at a.lits a.t.now (word_of l)) c.at.ensures in
     let a = c.args in
     let long = c.requires.literals-long in
     any_here a.table.now a.t.now a.n a.lits long c.loop-i.i c.loop-i-test.true _ (value-is)
@@ -38,9 +38,9 @@ returns-then-value_of-eq-MAY1 c =
 
 pub loop-i-preserved : goal.loop-i-preserved
 loop-i-preserved c =
-    let value-is : let a = c.args in c.value_of_lem.result ≡ word_at a.lits a.t.now (get_or a.table.now c.loop-i.i 0) =
+    let value-is : let a = c.args in c.value_of.result ≡ word_at a.lits a.t.now (get_or a.table.now c.loop-i.i 0) =
     let a = c.args in
-    c.value_of_lem.ensures ∙ ap (λ (l : Lit). word_at a.lits a.t.now (word_of l)) c.at.ensures in
+    c.value_of.ensures ∙ ap (λ (l : Lit). word_at a.lits a.t.now (word_of l)) c.at.ensures in
     let a = c.args in
     let long = c.requires.literals-long in (
       omega arith,

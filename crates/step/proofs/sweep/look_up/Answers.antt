@@ -63,7 +63,7 @@ loop-i-preserved c =
       omega arith,
       next-at c.args.stride c.args.start c.loop-i.i c.loop-i.at c.loop-i.invariant.1,
       next-looked c.requires c.loop-i.i c.loop-i.at c.loop-i.t c.loop-i-test.true c.loop-i.invariant.1 c.loop-i.invariant.2 _
-          (c.value_of_lem.ensures ∙ ap (λ (l : Lit). word_at c.args.lits c.loop-i.t (word_of l)) c.at.ensures),
+          (c.value_of.ensures ∙ ap (λ (l : Lit). word_at c.args.lits c.loop-i.t (word_of l)) c.at.ensures),
     )
 
 pub shape_of-t : goal.shape_of-t

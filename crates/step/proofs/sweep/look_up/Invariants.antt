@@ -14,7 +14,7 @@ use borrow.Author.Rules.{rules}
 use Rattle.step.proofs.sweep.look_up.Given as goal
 
 abbrev pub invariant-loop-i : goal.invariant-loop-i
-invariant-loop-i l = (l.i ≤ l.n) × (l.at ≡ l.stride * l.i + start) × Filled l.initial.t l.first (literal_word l.table l.stride l.lits l.initial.t) l.i l.t
+invariant-loop-i l = (l.i ≤ l.n) × (l.at ≡ l.stride * l.i + l.start) × Filled l.initial.t l.first (literal_word l.table l.start l.stride l.lits l.initial.t) l.i l.t
 
 abbrev pub decreases-loop-i : goal.decreases-loop-i
 decreases-loop-i l = l.n - l.i

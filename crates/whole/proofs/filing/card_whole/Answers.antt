@@ -41,10 +41,10 @@ returns c =
     let a = c.args in
     let t : Tables = seven a.inputs.now a.latches.now a.outputs.now a.gates.now a.resets.now a.bads.now a.constraints.now in
     let w : CardEntry = record { plan = input_of a.readable a.file.now; tables = t; scratch = a.scratch.now; out = a.out.now } in
-    let t' : Tables = seven c.card_file-answer.last.1.1.0 c.card_file-answer.last.1.1.1.0 c.card_file-answer.last.1.1.1.1.0 c.card_file-answer.last.1.1.1.1.1.0
-    c.card_file-answer.last.1.1.1.1.1.1.0 c.card_file-answer.last.1.1.1.1.1.1.1.0 c.card_file-answer.last.1.1.1.1.1.1.1.1.0 in
-    let x : WriteExit = record { answer = c.card_file-answer.result; out = c.card_file-answer.last.1.1.1.1.1.1.1.1.1.1.0 } in
+    let t' : Tables = seven c.card_file-answer.new.inputs c.card_file-answer.new.latches c.card_file-answer.new.outputs c.card_file-answer.new.gates
+    c.card_file-answer.new.resets c.card_file-answer.new.bads c.card_file-answer.new.constraints in
+    let x : WriteExit = record { answer = c.card_file-answer.result; out = c.card_file-answer.new.out } in
     let back = all_same t' t c.card_file-answer.auto.inputs c.latches-1.given c.outputs-1.given c.gates-1.given
     c.resets-1.given c.bads-1.given c.constraints-1.given in
     all-zero w (carded_file w) x c.card_file-answer.ensures _ _ (c.clear_all.ensures ∙ back)
-    (c.clear.ensures ∙ same-cleared c.card_file-answer.last.1.1.1.1.1.1.1.1.1.0 a.scratch.now c.scratch-1.given)
+    (c.clear.ensures ∙ same-cleared c.card_file-answer.new.scratch a.scratch.now c.scratch-1.given)

@@ -89,8 +89,7 @@ returns-in-Refused c =
     let a = c.args in
     sym (ap (λ (p : Parse Circuit). told_by a.out.now (p then λ k _. fitting_in a.out.now (binary_of k)))
     (cards-refused (entry) (left) c.read_cards.ensures _ c.in-Refused.is))
-    ∙ was_read a.file.now a.out.now (filed) a.readable (not-false _ c.if-not-readable.false-raw) (else2-of
-).if2.left
+    ∙ was_read a.file.now a.out.now (filed) a.readable (not-false _ c.if-not-readable.false-raw) c.if-file-gt-LONGEST.false
 
 pub shape_of-inputs-in-Accepted : goal.shape_of-inputs-in-Accepted
 shape_of-inputs-in-Accepted c = c.read_cards.auto.inputs
@@ -137,5 +136,4 @@ returns-in-Accepted c =
     let a = c.args in
     cards-filed (entry) (left) c.read_cards.ensures c.in-Accepted.n c.in-Accepted.end c.in-Accepted.is
     _ a.out.now refl _ c.write_binary.ensures
-    ∙ was_read a.file.now a.out.now (filed) a.readable (not-false _ c.if-not-readable.false-raw) (else2-of
-).if2.left
+    ∙ was_read a.file.now a.out.now (filed) a.readable (not-false _ c.if-not-readable.false-raw) c.if-file-gt-LONGEST.false

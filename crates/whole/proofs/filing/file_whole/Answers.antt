@@ -41,10 +41,10 @@ returns c =
     let a = c.args in
     let t : Tables = seven a.inputs.now a.latches.now a.outputs.now a.gates.now a.resets.now a.bads.now a.constraints.now in
     let w : CardEntry = record { plan = input_of a.readable a.file.now; tables = t; scratch = a.scratch.now; out = a.out.now } in
-    let t' : Tables = seven c.file_cards-answer.last.1.1.0 c.file_cards-answer.last.1.1.1.0 c.file_cards-answer.last.1.1.1.1.0 c.file_cards-answer.last.1.1.1.1.1.0
-    c.file_cards-answer.last.1.1.1.1.1.1.0 c.file_cards-answer.last.1.1.1.1.1.1.1.0 c.file_cards-answer.last.1.1.1.1.1.1.1.1.0 in
-    let x : WriteExit = record { answer = c.file_cards-answer.result; out = c.file_cards-answer.last.1.1.1.1.1.1.1.1.1.1.0 } in
+    let t' : Tables = seven c.file_cards-answer.new.inputs c.file_cards-answer.new.latches c.file_cards-answer.new.outputs c.file_cards-answer.new.gates
+    c.file_cards-answer.new.resets c.file_cards-answer.new.bads c.file_cards-answer.new.constraints in
+    let x : WriteExit = record { answer = c.file_cards-answer.result; out = c.file_cards-answer.new.out } in
     let back = all_same t' t c.file_cards-answer.auto.inputs c.latches-1.given c.outputs-1.given c.gates-1.given
     c.resets-1.given c.bads-1.given c.constraints-1.given in
     all-zero w (filed_cards w) x c.file_cards-answer.ensures _ _ (c.clear_all.ensures ∙ back)
-    (c.clear.ensures ∙ same-cleared c.file_cards-answer.last.1.1.1.1.1.1.1.1.1.0 a.scratch.now c.scratch-1.given)
+    (c.clear.ensures ∙ same-cleared c.file_cards-answer.new.scratch a.scratch.now c.scratch-1.given)

@@ -36,8 +36,8 @@ returns-in-Refused c =
     seven a.inputs.now a.latches.now a.outputs.now a.gates.now a.resets.now a.bads.now a.constraints.now in
     let lent : Tables =
     let a = c.args in
-    seven a.made-inputs.now a.made-latches.now a.made-outputs.now a.made-gates.now
-    a.made-resets.now a.made-bads.now a.made-constraints.now in
+    seven a.made_inputs.now a.made_latches.now a.made_outputs.now a.made_gates.now
+    a.made_resets.now a.made_bads.now a.made_constraints.now in
     let entry : OpenEntry =
     let a = c.args in
     record { readable = a.readable; file = a.file.now; tables = read; scratch = a.scratch.now; made = sizes_of (lent) } in
@@ -109,8 +109,8 @@ returns-in-Accepted c =
     seven a.inputs.now a.latches.now a.outputs.now a.gates.now a.resets.now a.bads.now a.constraints.now in
     let lent : Tables =
     let a = c.args in
-    seven a.made-inputs.now a.made-latches.now a.made-outputs.now a.made-gates.now
-    a.made-resets.now a.made-bads.now a.made-constraints.now in
+    seven a.made_inputs.now a.made_latches.now a.made_outputs.now a.made_gates.now
+    a.made_resets.now a.made_bads.now a.made_constraints.now in
     let entry : OpenEntry =
     let a = c.args in
     record { readable = a.readable; file = a.file.now; tables = read; scratch = a.scratch.now; made = sizes_of (lent) } in

@@ -80,13 +80,12 @@ pub returns : goal.returns
 returns c =
     let a = c.args in
     let read : Tables = seven a.inputs.now a.latches.now a.outputs.now a.gates.now a.resets.now a.bads.now a.constraints.now in
-    let lent : Tables = seven a.made-inputs.now a.made-latches.now a.made-outputs.now a.made-gates.now
-    a.made-resets.now a.made-bads.now a.made-constraints.now in
+    let lent : Tables = seven a.made_inputs.now a.made_latches.now a.made_outputs.now a.made_gates.now
+    a.made_resets.now a.made_bads.now a.made_constraints.now in
     let w : WholeEntry = record { plan = input_of a.readable a.file.now; read = read; made = lent; scratch = a.scratch.now; out = [] } in
-    let l = c.open_made-answer.last in
     let k = c.open_made-answer.kept in
-    let read' : Tables = seven l.1.1.0 l.1.1.1.0 l.1.1.1.1.0 l.1.1.1.1.1.0
-    l.1.1.1.1.1.1.0 l.1.1.1.1.1.1.1.0 l.1.1.1.1.1.1.1.1.0 in
+    let read' : Tables = seven c.open_made-answer.new.inputs c.open_made-answer.new.latches c.open_made-answer.new.outputs c.open_made-answer.new.gates
+    c.open_made-answer.new.resets c.open_made-answer.new.bads c.open_made-answer.new.constraints in
     closed w _ c.open_made-answer.ensures _
     (c.clear_all.ensures ∙ all_same read' read k.1.1.0 k.1.1.1.0 k.1.1.1.1.0 k.1.1.1.1.1.0
     k.1.1.1.1.1.1.0 k.1.1.1.1.1.1.1.0 k.1.1.1.1.1.1.1.1.0)

@@ -22,6 +22,9 @@ use Rattle.witness.proofs.three.Verdicts.{good-list, refused-witness, refused-li
 use borrow.Author.Rules.{rules}
 use Rattle.witness.proofs.three.witness3.Goals as goal
 
+-- the list is whole-told : (f : tie.Else1) → let e = entry f.before.before in codes_in e.bytes (e.number * e.circuit.counts.I) ≡ true
+whole-told f = sym f.before.whole-list.ensures ∙ not-false _ f.if1.false
+
 pub returns-then-not-whole_list : goal.returns-then-not-whole_list
 returns-then-not-whole_list c =
     let entry : WitnessEntry =
@@ -91,8 +94,6 @@ shows_one-shown-requires c =
     ap (λ (x : CheckExit). x.answer) c.check_in_order.ensures in
     let same : length c.check_in_order.new.scratch ≡ length c.args.scratch.now =
     c.check_in_order.auto.scratch in
-    let whole-told : let e = entry in codes_in e.bytes (e.number * e.circuit.counts.I) ≡ true =
-    sym c.whole_list.ensures ∙ not-false _ c.if-not-whole_list.false-raw in
     let holds : let g = (entry).circuit in Runs g.counts g.tables =
     let e = entry in runs e.circuit (list_stage e) (says) (told) in
     let long : Scratch c.args.n c.check_in_order.new.scratch =
@@ -133,14 +134,12 @@ returns-then-shown c =
     ap (λ (x : CheckExit). x.answer) c.check_in_order.ensures in
     let same : length c.check_in_order.new.scratch ≡ length c.args.scratch.now =
     c.check_in_order.auto.scratch in
-    let whole-told : let e = entry in codes_in e.bytes (e.number * e.circuit.counts.I) ≡ true =
-    sym c.whole_list.ensures ∙ not-false _ c.if-not-whole_list.false-raw in
     let holds : let g = (entry).circuit in Runs g.counts g.tables =
     let e = entry in runs e.circuit (list_stage e) (says) (told) in
     let state-long : let g = (entry).circuit in length (first_state (given_circuit g)) ≡ g.counts.L =
     let g = (entry).circuit in
     first-length (given_circuit g) (holds).formed ∙ ap (λ (m : Counts). m.L) (holds).counts in
-    let zero : c.clear.new.table ≡ cleared (start).args.scratch.now =
+    let zero : c.clear.new.table ≡ cleared c.args.scratch.now =
     c.clear.ensures ∙ ap (λ (k : ℕ). replicate k 0) (c.shows_one-shown.auto.scratch ∙ c.start_values.auto.t ∙ same) in
     let shown : let e = entry in c.shows_one-shown.result ≡ witnessed (given_circuit e.circuit) e.number e.bytes =
     let t = (entry).circuit.tables in
@@ -186,14 +185,12 @@ returns-else-shown c =
     ap (λ (x : CheckExit). x.answer) c.check_in_order.ensures in
     let same : length c.check_in_order.new.scratch ≡ length c.args.scratch.now =
     c.check_in_order.auto.scratch in
-    let whole-told : let e = entry in codes_in e.bytes (e.number * e.circuit.counts.I) ≡ true =
-    sym c.whole_list.ensures ∙ not-false _ c.if-not-whole_list.false-raw in
     let holds : let g = (entry).circuit in Runs g.counts g.tables =
     let e = entry in runs e.circuit (list_stage e) (says) (told) in
     let state-long : let g = (entry).circuit in length (first_state (given_circuit g)) ≡ g.counts.L =
     let g = (entry).circuit in
     first-length (given_circuit g) (holds).formed ∙ ap (λ (m : Counts). m.L) (holds).counts in
-    let zero : c.clear.new.table ≡ cleared (start).args.scratch.now =
+    let zero : c.clear.new.table ≡ cleared c.args.scratch.now =
     c.clear.ensures ∙ ap (λ (k : ℕ). replicate k 0) (c.shows_one-shown.auto.scratch ∙ c.start_values.auto.t ∙ same) in
     let shown : let e = entry in c.shows_one-shown.result ≡ witnessed (given_circuit e.circuit) e.number e.bytes =
     let t = (entry).circuit.tables in

@@ -17,7 +17,7 @@ begin_difference-requires c =
 pub returns : goal.returns
 returns c =
     let a = c.args in
-    record { value = begun-end a.out.now a.at a.lhs a.rhs0 a.rhs1 c.requires c.above.result c.above-2.result c.above.ensures c.above-2.ensures c.begin_difference-middle.last.0
-          c.begin_difference-middle.result c.begin_difference-middle.auto.out c.begin_difference-middle.ensures.value c.begin_difference.new.out c.begin_difference.result c.begin_difference.ensures.value; begun = begun-sides a.out.now a.at a.lhs a.rhs0 a.rhs1 c.requires c.above.result c.above-2.result c.above.ensures c.above-2.ensures c.begin_difference-middle.last.0
+    record { value = begun-end a.out.now a.at a.lhs a.rhs0 a.rhs1 c.requires c.above.result c.above-2.result c.above.ensures c.above-2.ensures c.begin_difference-middle.new.out
+          c.begin_difference-middle.result c.begin_difference-middle.auto.out c.begin_difference-middle.ensures.value c.begin_difference.new.out c.begin_difference.result c.begin_difference.ensures.value; begun = begun-sides a.out.now a.at a.lhs a.rhs0 a.rhs1 c.requires c.above.result c.above-2.result c.above.ensures c.above-2.ensures c.begin_difference-middle.new.out
           c.begin_difference-middle.result c.begin_difference-middle.auto.out c.begin_difference-middle.ensures.value c.begin_difference.new.out c.begin_difference.result c.begin_difference.ensures.value
           c.begin_difference-middle.ensures.begun c.begin_difference.ensures.begun; }

@@ -15,7 +15,7 @@ bounds-out-end c =
     omega (
       arith,
       c.requires,
-      word-ends a.out.now a.at a.left a.word c.requires c.put_digits-end.last.0 c.put_digits-end.result c.put_digits-end.ensures.out_after c.put_digits-end.ensures.value,
+      word-ends a.out.now a.at a.left a.word c.requires c.put_digits-end.new.out c.put_digits-end.result c.put_digits-end.ensures.out_after c.put_digits-end.ensures.value,
       c.put_digits-end.auto.out,
     )
 
@@ -25,11 +25,11 @@ overflow_add-result c =
     omega (
       arith,
       c.requires,
-      word-ends a.out.now a.at a.left a.word c.requires c.put_digits-end.last.0 c.put_digits-end.result c.put_digits-end.ensures.out_after c.put_digits-end.ensures.value,
+      word-ends a.out.now a.at a.left a.word c.requires c.put_digits-end.new.out c.put_digits-end.result c.put_digits-end.ensures.out_after c.put_digits-end.ensures.value,
     )
 
 pub returns : goal.returns
 returns c =
     let a = c.args in
-    record { value = word-ends a.out.now a.at a.left a.word c.requires c.put_digits-end.last.0 c.put_digits-end.result c.put_digits-end.ensures.out_after c.put_digits-end.ensures.value; out_after = word-put a.out.now a.at a.left a.word c.requires c.put_digits-end.last.0 c.put_digits-end.result c.put_digits-end.ensures.out_after c.put_digits-end.ensures.value
-          _ c.end_of_lem.ensures; }
+    record { value = word-ends a.out.now a.at a.left a.word c.requires c.put_digits-end.new.out c.put_digits-end.result c.put_digits-end.ensures.out_after c.put_digits-end.ensures.value; out_after = word-put a.out.now a.at a.left a.word c.requires c.put_digits-end.new.out c.put_digits-end.result c.put_digits-end.ensures.out_after c.put_digits-end.ensures.value
+          _ c.end_of.ensures; }

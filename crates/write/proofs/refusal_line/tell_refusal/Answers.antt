@@ -42,11 +42,11 @@ shape_of-out c =
     ).append in
     let t1 = more-told out [] out 0 (nothing-told out) (bytes_of "refused ") first.last.0 first.result
     (omega (arith, enough)) first.ensures.1 first.ensures.0 in
-    let t2 = more-told out (bytes_of "refused ") first.last.0 first.result t1 (digits n) c.put_digits-number_end.last.0 c.put_digits-number_end.result
+    let t2 = more-told out (bytes_of "refused ") first.last.0 first.result t1 (digits n) c.put_digits-number_end.new.out c.put_digits-number_end.result
     (omega (arith, enough, number, first.ensures.0)) c.put_digits-number_end.ensures.out_after c.put_digits-number_end.ensures.value in
-    let t3 = more-told out (bytes_of "refused " ++ digits n) c.put_digits-number_end.last.0 c.put_digits-number_end.result t2 (bytes_of " at ") c.append-place_at.last.0
+    let t3 = more-told out (bytes_of "refused " ++ digits n) c.put_digits-number_end.new.out c.put_digits-number_end.result t2 (bytes_of " at ") c.append-place_at.new.out
     c.append-place_at.result (omega (arith, enough, number, first.ensures.0, c.put_digits-number_end.ensures.value)) c.append-place_at.ensures.out_after c.append-place_at.ensures.value in
-    more-told out ((bytes_of "refused " ++ digits n) ++ bytes_of " at ") c.append-place_at.last.0 c.append-place_at.result t3 (digits p) c.put_digits-end.new.out
+    more-told out ((bytes_of "refused " ++ digits n) ++ bytes_of " at ") c.append-place_at.new.out c.append-place_at.result t3 (digits p) c.put_digits-end.new.out
     c.put_digits-end.result (omega (arith, enough, number, place, first.ensures.0, c.put_digits-number_end.ensures.value, c.append-place_at.ensures.value))
     c.put_digits-end.ensures.out_after c.put_digits-end.ensures.value in
     let room : c.put_digits-end.result + 1 ≤ length c.args.out.now =
@@ -76,11 +76,11 @@ returns c =
     ).append in
     let t1 = more-told out [] out 0 (nothing-told out) (bytes_of "refused ") first.last.0 first.result
     (omega (arith, enough)) first.ensures.1 first.ensures.0 in
-    let t2 = more-told out (bytes_of "refused ") first.last.0 first.result t1 (digits n) c.put_digits-number_end.last.0 c.put_digits-number_end.result
+    let t2 = more-told out (bytes_of "refused ") first.last.0 first.result t1 (digits n) c.put_digits-number_end.new.out c.put_digits-number_end.result
     (omega (arith, enough, number, first.ensures.0)) c.put_digits-number_end.ensures.out_after c.put_digits-number_end.ensures.value in
-    let t3 = more-told out (bytes_of "refused " ++ digits n) c.put_digits-number_end.last.0 c.put_digits-number_end.result t2 (bytes_of " at ") c.append-place_at.last.0
+    let t3 = more-told out (bytes_of "refused " ++ digits n) c.put_digits-number_end.new.out c.put_digits-number_end.result t2 (bytes_of " at ") c.append-place_at.new.out
     c.append-place_at.result (omega (arith, enough, number, first.ensures.0, c.put_digits-number_end.ensures.value)) c.append-place_at.ensures.out_after c.append-place_at.ensures.value in
-    more-told out ((bytes_of "refused " ++ digits n) ++ bytes_of " at ") c.append-place_at.last.0 c.append-place_at.result t3 (digits p) c.put_digits-end.new.out
+    more-told out ((bytes_of "refused " ++ digits n) ++ bytes_of " at ") c.append-place_at.new.out c.append-place_at.result t3 (digits p) c.put_digits-end.new.out
     c.put_digits-end.result (omega (arith, enough, number, place, first.ensures.0, c.put_digits-number_end.ensures.value, c.append-place_at.ensures.value))
     c.put_digits-end.ensures.out_after c.put_digits-end.ensures.value in
     let room : c.put_digits-end.result + 1 ≤ length c.args.out.now =
