@@ -112,13 +112,13 @@ pub shape_of-to_inputs-in-Refused : goal.shape_of-to_inputs-in-Refused
 shape_of-to_inputs-in-Refused c = c.clear_all.auto.inputs
 
 pub shape_of-to_latches-in-Refused : goal.shape_of-to_latches-in-Refused
-shape_of-to_latches-in-Refused c = c.to_latches-1.given
+shape_of-to_latches-in-Refused c = c.clear_all.auto.latches
 
 pub shape_of-to_outputs-in-Refused : goal.shape_of-to_outputs-in-Refused
-shape_of-to_outputs-in-Refused c = c.to_outputs-1.given
+shape_of-to_outputs-in-Refused c = c.clear_all.auto.outputs
 
 pub shape_of-to_gates-in-Refused : goal.shape_of-to_gates-in-Refused
-shape_of-to_gates-in-Refused c = c.to_gates-1.given
+shape_of-to_gates-in-Refused c = c.clear_all.auto.gates
 
 pub returns-in-Refused : goal.returns-in-Refused
 returns-in-Refused c =
@@ -149,27 +149,27 @@ shape_of-to_inputs-in-Good c =
 
 pub shape_of-to_latches-in-Good : goal.shape_of-to_latches-in-Good
 shape_of-to_latches-in-Good c =
-    c.to_latches-in-Good-1.given
-    ∙ c.to_latches-1.given
+    c.fill.auto.to_latches
+    ∙ c.clear_all.auto.latches
 
 pub shape_of-to_outputs-in-Good : goal.shape_of-to_outputs-in-Good
 shape_of-to_outputs-in-Good c =
-    c.to_outputs-in-Good-1.given
-    ∙ c.to_outputs-1.given
+    c.fill.auto.to_outputs
+    ∙ c.clear_all.auto.outputs
 
 pub shape_of-to_gates-in-Good : goal.shape_of-to_gates-in-Good
-shape_of-to_gates-in-Good c = c.to_gates-in-Good-1.given ∙ c.to_gates-1.given
+shape_of-to_gates-in-Good c = c.fill.auto.to_gates ∙ c.clear_all.auto.gates
 
 pub shape_of-to_resets-in-Good : goal.shape_of-to_resets-in-Good
-shape_of-to_resets-in-Good c = c.fill_last.auto.to_resets ∙ c.to_resets-1.given
+shape_of-to_resets-in-Good c = c.fill_last.auto.to_resets ∙ c.clear_all.auto.resets
 
 pub shape_of-to_bads-in-Good : goal.shape_of-to_bads-in-Good
-shape_of-to_bads-in-Good c = c.to_bads-in-Good-1.given ∙ c.to_bads-1.given
+shape_of-to_bads-in-Good c = c.fill_last.auto.to_bads ∙ c.clear_all.auto.bads
 
 pub shape_of-to_constraints-in-Good : goal.shape_of-to_constraints-in-Good
 shape_of-to_constraints-in-Good c =
-    c.to_constraints-in-Good-1.given
-    ∙ c.to_constraints-1.given
+    c.fill_last.auto.to_constraints
+    ∙ c.clear_all.auto.constraints
 
 pub shape_of-scratch-in-Good : goal.shape_of-scratch-in-Good
 shape_of-scratch-in-Good c = c.clear.auto.table ∙ c.number.auto.scratch

@@ -14,7 +14,7 @@ pub shape_of-scratch : goal.shape_of-scratch
 shape_of-scratch c = omega (arith, c.explain-r.auto.scratch)
 
 pub shape_of-marks : goal.shape_of-marks
-shape_of-marks c = omega (arith, c.marks-1.given)
+shape_of-marks c = omega (arith, c.explain-r.auto.marks)
 
 pub returns : goal.returns
 returns c =

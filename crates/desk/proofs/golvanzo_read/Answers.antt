@@ -33,25 +33,25 @@ shape_of-inputs c =
 )
 
 pub shape_of-latches : goal.shape_of-latches
-shape_of-latches c = omega (arith, c.latches-1.given)
+shape_of-latches c = omega (arith, c.read-tail.auto.latches)
 
 pub shape_of-outputs : goal.shape_of-outputs
-shape_of-outputs c = omega (arith, c.outputs-1.given)
+shape_of-outputs c = omega (arith, c.read-tail.auto.outputs)
 
 pub shape_of-gates : goal.shape_of-gates
-shape_of-gates c = omega (arith, c.gates-1.given)
+shape_of-gates c = omega (arith, c.read-tail.auto.gates)
 
 pub shape_of-resets : goal.shape_of-resets
-shape_of-resets c = omega (arith, c.resets-1.given)
+shape_of-resets c = omega (arith, c.read-tail.auto.resets)
 
 pub shape_of-bads : goal.shape_of-bads
-shape_of-bads c = omega (arith, c.bads-1.given)
+shape_of-bads c = omega (arith, c.read-tail.auto.bads)
 
 pub shape_of-constraints : goal.shape_of-constraints
-shape_of-constraints c = omega (arith, c.constraints-1.given)
+shape_of-constraints c = omega (arith, c.read-tail.auto.constraints)
 
 pub shape_of-scratch : goal.shape_of-scratch
-shape_of-scratch c = omega (arith, c.scratch-1.given)
+shape_of-scratch c = omega (arith, c.read-tail.auto.scratch)
 
 pub returns : goal.returns
 returns c =

@@ -17,26 +17,26 @@ pub shape_of-to_latches : goal.shape_of-to_latches
 shape_of-to_latches c =
     omega (
   arith,
-  c.to_latches-1.given,
+  c.reduce-r.auto.to_latches,
 )
 
 pub shape_of-to_outputs : goal.shape_of-to_outputs
-shape_of-to_outputs c = omega (arith, c.to_outputs-1.given)
+shape_of-to_outputs c = omega (arith, c.reduce-r.auto.to_outputs)
 
 pub shape_of-to_gates : goal.shape_of-to_gates
-shape_of-to_gates c = omega (arith, c.to_gates-1.given)
+shape_of-to_gates c = omega (arith, c.reduce-r.auto.to_gates)
 
 pub shape_of-to_resets : goal.shape_of-to_resets
-shape_of-to_resets c = omega (arith, c.to_resets-1.given)
+shape_of-to_resets c = omega (arith, c.reduce-r.auto.to_resets)
 
 pub shape_of-to_bads : goal.shape_of-to_bads
-shape_of-to_bads c = omega (arith, c.to_bads-1.given)
+shape_of-to_bads c = omega (arith, c.reduce-r.auto.to_bads)
 
 pub shape_of-to_constraints : goal.shape_of-to_constraints
-shape_of-to_constraints c = omega (arith, c.to_constraints-1.given)
+shape_of-to_constraints c = omega (arith, c.reduce-r.auto.to_constraints)
 
 pub shape_of-scratch : goal.shape_of-scratch
-shape_of-scratch c = omega (arith, c.scratch-1.given)
+shape_of-scratch c = omega (arith, c.reduce-r.auto.scratch)
 
 pub returns : goal.returns
 returns c =

@@ -13,7 +13,7 @@ pub shape_of-scratch : goal.shape_of-scratch
 shape_of-scratch c = omega (arith, c.report-r.auto.scratch)
 
 pub shape_of-six : goal.shape_of-six
-shape_of-six c = omega (arith, c.six-1.given)
+shape_of-six c = omega (arith, c.report-r.auto.six)
 
 pub returns : goal.returns
 returns c =

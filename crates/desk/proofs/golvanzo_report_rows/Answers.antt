@@ -13,7 +13,7 @@ pub shape_of-scratch : goal.shape_of-scratch
 shape_of-scratch c = omega (arith, c.report_rows-r.auto.scratch)
 
 pub shape_of-report : goal.shape_of-report
-shape_of-report c = omega (arith, c.report-1.given)
+shape_of-report c = omega (arith, c.report_rows-r.auto.report)
 
 pub returns : goal.returns
 returns c =

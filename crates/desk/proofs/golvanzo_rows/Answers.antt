@@ -13,10 +13,10 @@ pub shape_of-scratch : goal.shape_of-scratch
 shape_of-scratch c = omega (arith, c.step_rows-r.auto.scratch)
 
 pub shape_of-nexts : goal.shape_of-nexts
-shape_of-nexts c = omega (arith, c.nexts-1.given)
+shape_of-nexts c = omega (arith, c.step_rows-r.auto.nexts)
 
 pub shape_of-outs : goal.shape_of-outs
-shape_of-outs c = omega (arith, c.outs-1.given)
+shape_of-outs c = omega (arith, c.step_rows-r.auto.outs)
 
 pub returns : goal.returns
 returns c =

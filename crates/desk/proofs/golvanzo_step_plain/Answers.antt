@@ -14,10 +14,10 @@ pub shape_of-scratch : goal.shape_of-scratch
 shape_of-scratch c = omega (arith, c.step_plain-r.auto.scratch)
 
 pub shape_of-state : goal.shape_of-state
-shape_of-state c = omega (arith, c.state-1.given)
+shape_of-state c = omega (arith, c.step_plain-r.auto.state)
 
 pub shape_of-outs : goal.shape_of-outs
-shape_of-outs c = omega (arith, c.outs-1.given)
+shape_of-outs c = omega (arith, c.step_plain-r.auto.outs)
 
 pub returns : goal.returns
 returns c =

@@ -13,7 +13,7 @@ pub shape_of-scratch : goal.shape_of-scratch
 shape_of-scratch c = omega (arith, c.write_text-r.auto.scratch)
 
 pub shape_of-out : goal.shape_of-out
-shape_of-out c = omega (arith, c.out-1.given)
+shape_of-out c = omega (arith, c.write_text-r.auto.out)
 
 pub returns : goal.returns
 returns c =

@@ -89,7 +89,7 @@ three_become-requires c =
     ready (circuit) (lent) c.check_to_make.result (blank) (judged) c.in-Good.is (wiped) (all-wiped) in
     let became : List ℕ =
     c.retain_reached-retained.new.t in
-    let size = c.scratch-in-Good-1.given in
+    let size = c.retain_reached-retained.auto.t in
     record { replaceable = inputs_in (given (blank)) (wiped) (core) (became) size; replaceable_2 = latches-in (given (blank)) (wiped) (core) (became) size; replaceable_3 = outputs-in (given (blank)) (wiped) (core) (became) size; }
 
 pub three_become-requires-in-Good : goal.three_become-requires-in-Good
@@ -116,7 +116,7 @@ three_become-requires-in-Good c =
     ready (circuit) (lent) c.check_to_make.result (blank) (judged) c.in-Good.is (wiped) (all-wiped) in
     let became : List ℕ =
     c.retain_reached-retained.new.t in
-    let size = c.scratch-in-Good-1.given in
+    let size = c.retain_reached-retained.auto.t in
     record { replaceable = resets-in (given (blank)) (wiped) (core) (became) size; replaceable_2 = bads-in (given (blank)) (wiped) (core) (became) size; replaceable_3 = constraints-in (given (blank)) (wiped) (core) (became) size; }
 
 pub overflow_add-result : goal.overflow_add-result
@@ -193,22 +193,22 @@ pub shape_of-to_inputs-in-Refused : goal.shape_of-to_inputs-in-Refused
 shape_of-to_inputs-in-Refused c = c.clear_all.auto.inputs
 
 pub shape_of-to_latches-in-Refused : goal.shape_of-to_latches-in-Refused
-shape_of-to_latches-in-Refused c = c.to_latches-1.given
+shape_of-to_latches-in-Refused c = c.clear_all.auto.latches
 
 pub shape_of-to_outputs-in-Refused : goal.shape_of-to_outputs-in-Refused
-shape_of-to_outputs-in-Refused c = c.to_outputs-1.given
+shape_of-to_outputs-in-Refused c = c.clear_all.auto.outputs
 
 pub shape_of-to_gates-in-Refused : goal.shape_of-to_gates-in-Refused
-shape_of-to_gates-in-Refused c = c.to_gates-1.given
+shape_of-to_gates-in-Refused c = c.clear_all.auto.gates
 
 pub shape_of-to_resets-in-Refused : goal.shape_of-to_resets-in-Refused
-shape_of-to_resets-in-Refused c = c.to_resets-1.given
+shape_of-to_resets-in-Refused c = c.clear_all.auto.resets
 
 pub shape_of-to_bads-in-Refused : goal.shape_of-to_bads-in-Refused
-shape_of-to_bads-in-Refused c = c.to_bads-1.given
+shape_of-to_bads-in-Refused c = c.clear_all.auto.bads
 
 pub shape_of-to_constraints-in-Refused : goal.shape_of-to_constraints-in-Refused
-shape_of-to_constraints-in-Refused c = c.to_constraints-1.given
+shape_of-to_constraints-in-Refused c = c.clear_all.auto.constraints
 
 pub shape_of-scratch-in-Refused : goal.shape_of-scratch-in-Refused
 shape_of-scratch-in-Refused c = c.check_to_make.auto.scratch
@@ -242,32 +242,32 @@ shape_of-to_inputs-in-Good c =
 
 pub shape_of-to_latches-in-Good : goal.shape_of-to_latches-in-Good
 shape_of-to_latches-in-Good c =
-    c.to_latches-in-Good-1.given
-    ∙ c.to_latches-1.given
+    c.three_become.auto.to_b
+    ∙ c.clear_all.auto.latches
 
 pub shape_of-to_outputs-in-Good : goal.shape_of-to_outputs-in-Good
 shape_of-to_outputs-in-Good c =
-    c.to_outputs-in-Good-1.given
-    ∙ c.to_outputs-1.given
+    c.three_become.auto.to_c
+    ∙ c.clear_all.auto.outputs
 
 pub shape_of-to_gates-in-Good : goal.shape_of-to_gates-in-Good
 shape_of-to_gates-in-Good c =
     c.retain_reached-retained.auto.to
-    ∙ c.to_gates-1.given
+    ∙ c.clear_all.auto.gates
 
 pub shape_of-to_resets-in-Good : goal.shape_of-to_resets-in-Good
 shape_of-to_resets-in-Good c =
     c.three_become-in-Good.auto.to_a
-    ∙ c.to_resets-1.given
+    ∙ c.clear_all.auto.resets
 
 pub shape_of-to_bads-in-Good : goal.shape_of-to_bads-in-Good
-shape_of-to_bads-in-Good c = c.to_bads-in-Good-1.given ∙ c.to_bads-1.given
+shape_of-to_bads-in-Good c = c.three_become-in-Good.auto.to_b ∙ c.clear_all.auto.bads
 
 pub shape_of-to_constraints-in-Good : goal.shape_of-to_constraints-in-Good
-shape_of-to_constraints-in-Good c = c.to_constraints-in-Good-1.given ∙ c.to_constraints-1.given
+shape_of-to_constraints-in-Good c = c.three_become-in-Good.auto.to_c ∙ c.clear_all.auto.constraints
 
 pub shape_of-scratch-in-Good : goal.shape_of-scratch-in-Good
-shape_of-scratch-in-Good c = c.clear.auto.table ∙ c.scratch-in-Good-1.given ∙ c.check_to_make.auto.scratch
+shape_of-scratch-in-Good c = c.clear.auto.table ∙ c.retain_reached-retained.auto.t ∙ c.check_to_make.auto.scratch
 
 pub returns-in-Good : goal.returns-in-Good
 returns-in-Good c =
@@ -305,4 +305,4 @@ returns-in-Good c =
     (written (given (blank)) (wiped) (core) c.retain_reached-retained.new.to (became) c.retain_reached-retained.result c.retain_reached-retained.ensures left c.three_become.ensures.to_a_after
     c.three_become.ensures.to_b_after
     c.three_become.ensures.to_c_after refl c.three_become-in-Good.ensures.to_a_after c.three_become-in-Good.ensures.to_b_after c.three_become-in-Good.ensures.to_c_after)
-    (length (became)) _ c.scratch-in-Good-1.given c.clear.ensures
+    (length (became)) _ c.retain_reached-retained.auto.t c.clear.ensures

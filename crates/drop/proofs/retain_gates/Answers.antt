@@ -21,7 +21,7 @@ retain_gate-n-requires c = going-room c.requires c.run_on.auto.table c.loop-k-te
 pub loop-k-preserved : goal.loop-k-preserved
 loop-k-preserved c =
     let s = c.retain_gate-n.ensures in
-    going_more c.loop-k-test.true c.retain_gate-n.auto.to c.t-in-loop-k-1.given s c.loop-k.invariant
+    going_more c.loop-k-test.true c.retain_gate-n.auto.to c.retain_gate-n.auto.t s c.loop-k.invariant
 
 pub shape_of-to : goal.shape_of-to
 shape_of-to c = c.loop-k.invariant.to-long

@@ -47,7 +47,7 @@ pub shape_of-t : goal.shape_of-t
 shape_of-t c =
     let marked-size : length c.mark_column-4.new.t ≡ length c.args.t.now =
     c.mark_column-4.auto.t ∙ c.mark_column-3.auto.t ∙ c.mark_column-2.auto.t ∙ c.mark_column.auto.t in
-    c.t-6-1.given ∙ c.reach.auto.t ∙ marked-size
+    c.retain_gates.auto.t ∙ c.reach.auto.t ∙ marked-size
 
 pub returns : goal.returns
 returns c =

@@ -12,49 +12,49 @@ pub shape_of-inputs : goal.shape_of-inputs
 shape_of-inputs c = c.clear_all.auto.inputs ∙ c.make_file-answer.auto.inputs
 
 pub shape_of-latches : goal.shape_of-latches
-shape_of-latches c = c.latches-2-1.given ∙ c.latches-1.given
+shape_of-latches c = c.clear_all.auto.latches ∙ c.make_file-answer.auto.latches
 
 pub shape_of-outputs : goal.shape_of-outputs
-shape_of-outputs c = c.outputs-2-1.given ∙ c.outputs-1.given
+shape_of-outputs c = c.clear_all.auto.outputs ∙ c.make_file-answer.auto.outputs
 
 pub shape_of-gates : goal.shape_of-gates
-shape_of-gates c = c.gates-2-1.given ∙ c.gates-1.given
+shape_of-gates c = c.clear_all.auto.gates ∙ c.make_file-answer.auto.gates
 
 pub shape_of-resets : goal.shape_of-resets
-shape_of-resets c = c.resets-2-1.given ∙ c.resets-1.given
+shape_of-resets c = c.clear_all.auto.resets ∙ c.make_file-answer.auto.resets
 
 pub shape_of-bads : goal.shape_of-bads
-shape_of-bads c = c.bads-2-1.given ∙ c.bads-1.given
+shape_of-bads c = c.clear_all.auto.bads ∙ c.make_file-answer.auto.bads
 
 pub shape_of-constraints : goal.shape_of-constraints
-shape_of-constraints c = c.constraints-2-1.given ∙ c.constraints-1.given
+shape_of-constraints c = c.clear_all.auto.constraints ∙ c.make_file-answer.auto.constraints
 
 pub shape_of-made_inputs : goal.shape_of-made_inputs
-shape_of-made_inputs c = c.clear_all-2.auto.inputs ∙ c.made_inputs-1.given
+shape_of-made_inputs c = c.clear_all-2.auto.inputs ∙ c.make_file-answer.auto.made_inputs
 
 pub shape_of-made_latches : goal.shape_of-made_latches
-shape_of-made_latches c = c.made_latches-2-1.given ∙ c.made_latches-1.given
+shape_of-made_latches c = c.clear_all-2.auto.latches ∙ c.make_file-answer.auto.made_latches
 
 pub shape_of-made_outputs : goal.shape_of-made_outputs
-shape_of-made_outputs c = c.made_outputs-2-1.given ∙ c.made_outputs-1.given
+shape_of-made_outputs c = c.clear_all-2.auto.outputs ∙ c.make_file-answer.auto.made_outputs
 
 pub shape_of-made_gates : goal.shape_of-made_gates
-shape_of-made_gates c = c.made_gates-2-1.given ∙ c.made_gates-1.given
+shape_of-made_gates c = c.clear_all-2.auto.gates ∙ c.make_file-answer.auto.made_gates
 
 pub shape_of-made_resets : goal.shape_of-made_resets
-shape_of-made_resets c = c.made_resets-2-1.given ∙ c.made_resets-1.given
+shape_of-made_resets c = c.clear_all-2.auto.resets ∙ c.make_file-answer.auto.made_resets
 
 pub shape_of-made_bads : goal.shape_of-made_bads
-shape_of-made_bads c = c.made_bads-2-1.given ∙ c.made_bads-1.given
+shape_of-made_bads c = c.clear_all-2.auto.bads ∙ c.make_file-answer.auto.made_bads
 
 pub shape_of-made_constraints : goal.shape_of-made_constraints
-shape_of-made_constraints c = c.made_constraints-2-1.given ∙ c.made_constraints-1.given
+shape_of-made_constraints c = c.clear_all-2.auto.constraints ∙ c.make_file-answer.auto.made_constraints
 
 pub shape_of-scratch : goal.shape_of-scratch
-shape_of-scratch c = c.clear.auto.table ∙ c.scratch-1.given
+shape_of-scratch c = c.clear.auto.table ∙ c.make_file-answer.auto.scratch
 
 pub shape_of-out : goal.shape_of-out
-shape_of-out c = c.out-1.given
+shape_of-out c = c.make_file-answer.auto.out
 
 pub returns : goal.returns
 returns c =

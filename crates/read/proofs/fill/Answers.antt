@@ -52,25 +52,25 @@ pub shape_of-inputs-in-Refused-rest_of : goal.shape_of-inputs-in-Refused-rest_of
 shape_of-inputs-in-Refused-rest_of c = c.rest_of.auto.inputs
 
 pub shape_of-latches-in-Refused-rest_of : goal.shape_of-latches-in-Refused-rest_of
-shape_of-latches-in-Refused-rest_of c = c.latches-1.given
+shape_of-latches-in-Refused-rest_of c = c.rest_of.auto.latches
 
 pub shape_of-outputs-in-Refused-rest_of : goal.shape_of-outputs-in-Refused-rest_of
-shape_of-outputs-in-Refused-rest_of c = c.outputs-1.given
+shape_of-outputs-in-Refused-rest_of c = c.rest_of.auto.outputs
 
 pub shape_of-gates-in-Refused-rest_of : goal.shape_of-gates-in-Refused-rest_of
-shape_of-gates-in-Refused-rest_of c = c.gates-1.given
+shape_of-gates-in-Refused-rest_of c = c.rest_of.auto.gates
 
 pub shape_of-resets-in-Refused-rest_of : goal.shape_of-resets-in-Refused-rest_of
-shape_of-resets-in-Refused-rest_of c = c.resets-1.given
+shape_of-resets-in-Refused-rest_of c = c.rest_of.auto.resets
 
 pub shape_of-bads-in-Refused-rest_of : goal.shape_of-bads-in-Refused-rest_of
-shape_of-bads-in-Refused-rest_of c = c.bads-1.given
+shape_of-bads-in-Refused-rest_of c = c.rest_of.auto.bads
 
 pub shape_of-constraints-in-Refused-rest_of : goal.shape_of-constraints-in-Refused-rest_of
-shape_of-constraints-in-Refused-rest_of c = c.constraints-1.given
+shape_of-constraints-in-Refused-rest_of c = c.rest_of.auto.constraints
 
 pub shape_of-scratch-in-Refused-rest_of : goal.shape_of-scratch-in-Refused-rest_of
-shape_of-scratch-in-Refused-rest_of c = c.scratch-1.given
+shape_of-scratch-in-Refused-rest_of c = c.rest_of.auto.scratch
 
 pub returns-in-Refused-rest_of : goal.returns-in-Refused-rest_of
 returns-in-Refused-rest_of c =
@@ -87,25 +87,25 @@ pub shape_of-inputs-in-To : goal.shape_of-inputs-in-To
 shape_of-inputs-in-To c = c.rest_of.auto.inputs
 
 pub shape_of-latches-in-To : goal.shape_of-latches-in-To
-shape_of-latches-in-To c = c.latches-1.given
+shape_of-latches-in-To c = c.rest_of.auto.latches
 
 pub shape_of-outputs-in-To : goal.shape_of-outputs-in-To
-shape_of-outputs-in-To c = c.outputs-1.given
+shape_of-outputs-in-To c = c.rest_of.auto.outputs
 
 pub shape_of-gates-in-To : goal.shape_of-gates-in-To
-shape_of-gates-in-To c = c.gates-1.given
+shape_of-gates-in-To c = c.rest_of.auto.gates
 
 pub shape_of-resets-in-To : goal.shape_of-resets-in-To
-shape_of-resets-in-To c = c.resets-1.given
+shape_of-resets-in-To c = c.rest_of.auto.resets
 
 pub shape_of-bads-in-To : goal.shape_of-bads-in-To
-shape_of-bads-in-To c = c.bads-1.given
+shape_of-bads-in-To c = c.rest_of.auto.bads
 
 pub shape_of-constraints-in-To : goal.shape_of-constraints-in-To
-shape_of-constraints-in-To c = c.constraints-1.given
+shape_of-constraints-in-To c = c.rest_of.auto.constraints
 
 pub shape_of-scratch-in-To : goal.shape_of-scratch-in-To
-shape_of-scratch-in-To c = c.scratch-1.given
+shape_of-scratch-in-To c = c.rest_of.auto.scratch
 
 pub returns-in-To : goal.returns-in-To
 returns-in-To c =

@@ -19,29 +19,40 @@ slice_bounds-result-count c =
     let said = c.load.ensures in
     omega (arith, starts-within a.version e x said _ _ c.in-Accepted.is)
 
+pub slice_bounds-result-start : goal.slice_bounds-result-start
+slice_bounds-result-start c =
+    let a = c.args in
+    let t : Tables = seven a.inputs.now a.latches.now a.outputs.now a.gates.now a.resets.now a.bads.now a.constraints.now in
+    let e : ReadEntry = record { file = a.file.now; tables = t; scratch = a.scratch.now } in
+    let t' : Tables = seven c.load.new.inputs c.load.new.latches c.load.new.outputs c.load.new.gates
+    c.load.new.resets c.load.new.bads c.load.new.constraints in
+    let x : LoadExit = record { answer = c.load.result; tables = t'; scratch = c.load.new.scratch } in
+    let said = c.load.ensures in
+    starts-within a.version e x said _ _ c.n.given.1
+
 pub shape_of-inputs-in-Accepted : goal.shape_of-inputs-in-Accepted
 shape_of-inputs-in-Accepted c = c.load.auto.inputs
 
 pub shape_of-latches-in-Accepted : goal.shape_of-latches-in-Accepted
-shape_of-latches-in-Accepted c = c.latches-1.given
+shape_of-latches-in-Accepted c = c.load.auto.latches
 
 pub shape_of-outputs-in-Accepted : goal.shape_of-outputs-in-Accepted
-shape_of-outputs-in-Accepted c = c.outputs-1.given
+shape_of-outputs-in-Accepted c = c.load.auto.outputs
 
 pub shape_of-gates-in-Accepted : goal.shape_of-gates-in-Accepted
-shape_of-gates-in-Accepted c = c.gates-1.given
+shape_of-gates-in-Accepted c = c.load.auto.gates
 
 pub shape_of-resets-in-Accepted : goal.shape_of-resets-in-Accepted
-shape_of-resets-in-Accepted c = c.resets-1.given
+shape_of-resets-in-Accepted c = c.load.auto.resets
 
 pub shape_of-bads-in-Accepted : goal.shape_of-bads-in-Accepted
-shape_of-bads-in-Accepted c = c.bads-1.given
+shape_of-bads-in-Accepted c = c.load.auto.bads
 
 pub shape_of-constraints-in-Accepted : goal.shape_of-constraints-in-Accepted
-shape_of-constraints-in-Accepted c = c.constraints-1.given
+shape_of-constraints-in-Accepted c = c.load.auto.constraints
 
 pub shape_of-scratch-in-Accepted : goal.shape_of-scratch-in-Accepted
-shape_of-scratch-in-Accepted c = c.scratch-1.given
+shape_of-scratch-in-Accepted c = c.load.auto.scratch
 
 pub returns-in-Accepted : goal.returns-in-Accepted
 returns-in-Accepted c =
@@ -59,25 +70,25 @@ pub shape_of-inputs-in-Refused : goal.shape_of-inputs-in-Refused
 shape_of-inputs-in-Refused c = c.load.auto.inputs
 
 pub shape_of-latches-in-Refused : goal.shape_of-latches-in-Refused
-shape_of-latches-in-Refused c = c.latches-1.given
+shape_of-latches-in-Refused c = c.load.auto.latches
 
 pub shape_of-outputs-in-Refused : goal.shape_of-outputs-in-Refused
-shape_of-outputs-in-Refused c = c.outputs-1.given
+shape_of-outputs-in-Refused c = c.load.auto.outputs
 
 pub shape_of-gates-in-Refused : goal.shape_of-gates-in-Refused
-shape_of-gates-in-Refused c = c.gates-1.given
+shape_of-gates-in-Refused c = c.load.auto.gates
 
 pub shape_of-resets-in-Refused : goal.shape_of-resets-in-Refused
-shape_of-resets-in-Refused c = c.resets-1.given
+shape_of-resets-in-Refused c = c.load.auto.resets
 
 pub shape_of-bads-in-Refused : goal.shape_of-bads-in-Refused
-shape_of-bads-in-Refused c = c.bads-1.given
+shape_of-bads-in-Refused c = c.load.auto.bads
 
 pub shape_of-constraints-in-Refused : goal.shape_of-constraints-in-Refused
-shape_of-constraints-in-Refused c = c.constraints-1.given
+shape_of-constraints-in-Refused c = c.load.auto.constraints
 
 pub shape_of-scratch-in-Refused : goal.shape_of-scratch-in-Refused
-shape_of-scratch-in-Refused c = c.scratch-1.given
+shape_of-scratch-in-Refused c = c.load.auto.scratch
 
 pub returns-in-Refused : goal.returns-in-Refused
 returns-in-Refused c =

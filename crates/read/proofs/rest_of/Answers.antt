@@ -16,25 +16,25 @@ pub shape_of-inputs-then-binary : goal.shape_of-inputs-then-binary
 shape_of-inputs-then-binary c = c.rest_of_binary.auto.inputs
 
 pub shape_of-latches-then-binary : goal.shape_of-latches-then-binary
-shape_of-latches-then-binary c = c.latches-1.given
+shape_of-latches-then-binary c = c.rest_of_binary.auto.latches
 
 pub shape_of-outputs-then-binary : goal.shape_of-outputs-then-binary
-shape_of-outputs-then-binary c = c.outputs-1.given
+shape_of-outputs-then-binary c = c.rest_of_binary.auto.outputs
 
 pub shape_of-gates-then-binary : goal.shape_of-gates-then-binary
-shape_of-gates-then-binary c = c.gates-1.given
+shape_of-gates-then-binary c = c.rest_of_binary.auto.gates
 
 pub shape_of-resets-then-binary : goal.shape_of-resets-then-binary
-shape_of-resets-then-binary c = c.resets-1.given
+shape_of-resets-then-binary c = c.rest_of_binary.auto.resets
 
 pub shape_of-bads-then-binary : goal.shape_of-bads-then-binary
-shape_of-bads-then-binary c = c.bads-1.given
+shape_of-bads-then-binary c = c.rest_of_binary.auto.bads
 
 pub shape_of-constraints-then-binary : goal.shape_of-constraints-then-binary
-shape_of-constraints-then-binary c = c.constraints-1.given
+shape_of-constraints-then-binary c = c.rest_of_binary.auto.constraints
 
 pub shape_of-scratch-then-binary : goal.shape_of-scratch-then-binary
-shape_of-scratch-then-binary c = c.scratch-1.given
+shape_of-scratch-then-binary c = c.rest_of_binary.auto.scratch
 
 pub returns-then-binary : goal.returns-then-binary
 returns-then-binary c =
@@ -54,25 +54,25 @@ pub shape_of-inputs : goal.shape_of-inputs
 shape_of-inputs c = c.rest_of_text.auto.inputs
 
 pub shape_of-latches : goal.shape_of-latches
-shape_of-latches c = c.latches-2-1.given
+shape_of-latches c = c.rest_of_text.auto.latches
 
 pub shape_of-outputs : goal.shape_of-outputs
-shape_of-outputs c = c.outputs-2-1.given
+shape_of-outputs c = c.rest_of_text.auto.outputs
 
 pub shape_of-gates : goal.shape_of-gates
-shape_of-gates c = c.gates-2-1.given
+shape_of-gates c = c.rest_of_text.auto.gates
 
 pub shape_of-resets : goal.shape_of-resets
-shape_of-resets c = c.resets-2-1.given
+shape_of-resets c = c.rest_of_text.auto.resets
 
 pub shape_of-bads : goal.shape_of-bads
-shape_of-bads c = c.bads-2-1.given
+shape_of-bads c = c.rest_of_text.auto.bads
 
 pub shape_of-constraints : goal.shape_of-constraints
-shape_of-constraints c = c.constraints-2-1.given
+shape_of-constraints c = c.rest_of_text.auto.constraints
 
 pub shape_of-scratch : goal.shape_of-scratch
-shape_of-scratch c = c.scratch-2-1.given
+shape_of-scratch c = c.rest_of_text.auto.scratch
 
 pub returns : goal.returns
 returns c =

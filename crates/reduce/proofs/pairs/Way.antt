@@ -117,3 +117,9 @@ module _ {gates scratch : List ℕ} {w n x y : ℕ} (tree : Tree gates scratch w
       → word gates scratch w (slot_of w (suc i) (key % 2)) ≡ suc j → i < j
   unfolding way_next
   way-after v e s z = way-rises (way_next v e s) z
+
+-- the search has come to gate i, by way of a slot that leads to it
+pub record Come (gates scratch : List ℕ) (w n x y i key : ℕ) : Type 0 where
+  pub slot : ℕ
+  pub way : Way gates w n x y slot key
+  pub leads : word gates scratch w slot ≡ suc i

@@ -44,7 +44,7 @@ tally-requires c =
 pub finish-requires : goal.finish-requires
 finish-requires c =
     let p = c.requires in
-    omega (arith, ap length p.held ∙ length-append (tally c.args.n []) p.rest, tally-long c.args.n [], c.six-1.given)
+    omega (arith, ap length p.held ∙ length-append (tally c.args.n []) p.rest, tally-long c.args.n [], c.tally.auto.six)
 
 pub returns : goal.returns
 returns c =

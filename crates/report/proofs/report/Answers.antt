@@ -92,7 +92,7 @@ returns-in-Refused c =
 
 pub shape_of-six-in-Good : goal.shape_of-six-in-Good
 shape_of-six-in-Good c =
-    c.six-in-Good-1.given
+    c.fill.auto.six
     ∙ c.blank.auto.six
 
 pub returns-in-Good : goal.returns-in-Good

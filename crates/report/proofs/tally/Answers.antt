@@ -26,6 +26,12 @@ overflow_add-end c =
     record { whole = c.requires.whole; here = c.loop-k.invariant.1; more = c.loop-k-test.true } in
     omega (arith, vector-ends (vector), c.before.good)
 
+pub slice_bounds-turn-end : goal.slice_bounds-turn-end
+slice_bounds-turn-end c =
+    let vector : Vector c.args.n c.args.number c.args.bytes.now c.loop-k.k c.loop-k.at =
+    record { whole = c.requires.whole; here = c.loop-k.invariant.1; more = c.loop-k-test.true } in
+    omega (arith, vector-ends (vector))
+
 pub turn-requires : goal.turn-requires
 turn-requires c =
     let vector : Vector c.args.n c.args.number c.args.bytes.now c.loop-k.k c.loop-k.at =
@@ -59,7 +65,7 @@ loop-k-preserved c =
       omega arith,
       next_row c.args.n.I c.loop-k.k c.loop-k.at c.loop-k.invariant.1,
       c.turn.auto.scratch ∙ c.loop-k.invariant.2,
-      c.six-1.given ∙ c.loop-k.invariant.3,
+      c.turn.auto.six ∙ c.loop-k.invariant.3,
       λ x v rest r l z held.
           let g = c.loop-k.invariant.4 x v rest r l z held in
           going_on (vector) r g (c.turn.ensures x g.state g.done rest r g.state-length g.rests g.held),

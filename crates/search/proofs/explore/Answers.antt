@@ -82,10 +82,10 @@ pub shape_of-scratch-in_default : goal.shape_of-scratch-in_default
 shape_of-scratch-in_default c = c.take_turn.auto.scratch ∙ c.loop-tries.invariant.1
 
 pub shape_of-met-in_default : goal.shape_of-met-in_default
-shape_of-met-in_default c = c.met-1.given ∙ c.loop-tries.invariant.2
+shape_of-met-in_default c = c.take_turn.auto.met ∙ c.loop-tries.invariant.2
 
 pub shape_of-marks-in_default : goal.shape_of-marks-in_default
-shape_of-marks-in_default c = c.marks-1.given ∙ c.loop-tries.invariant.3
+shape_of-marks-in_default c = c.take_turn.auto.marks ∙ c.loop-tries.invariant.3
 
 pub returns-in_default : goal.returns-in_default
 returns-in_default c =
@@ -114,8 +114,8 @@ loop-tries-preserved c =
     (
       omega (arith, c.loop-tries-test.true),
       c.take_turn.auto.scratch ∙ c.loop-tries.invariant.1,
-      c.met-1.given ∙ c.loop-tries.invariant.2,
-      c.marks-1.given ∙ c.loop-tries.invariant.3,
+      c.take_turn.auto.met ∙ c.loop-tries.invariant.2,
+      c.take_turn.auto.marks ∙ c.loop-tries.invariant.3,
       λ split inputs resets r sd e.
           let ex = c.loop-tries.invariant.4 split inputs resets r sd e in
           let em = c.power-moves.ensures in

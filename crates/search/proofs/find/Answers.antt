@@ -34,7 +34,7 @@ tell-requires c =
           c.watch_states-reach.result c.in-Shown.is p.few-latches (omega (
             arith,
             p.met-long,
-            c.met-1.given,
+            c.watch_states-reach.auto.met,
           )) (c.watch_states-reach.ensures p.inputs p.runs),
     )
 

@@ -25,4 +25,4 @@ returns c =
       out = a.out.now;
     } in
     searched-clear (entry) _ _ _ _ _ c.ask-answer.ensures (c.clear.ensures ∙ ap (λ (k : ℕ). replicate k 0) c.ask-answer.auto.scratch)
-    (c.clear-2.ensures ∙ ap (λ (k : ℕ). replicate k 0) c.met-1.given) (c.clear-3.ensures ∙ ap (λ (k : ℕ). replicate k 0) c.marks-1.given)
+    (c.clear-2.ensures ∙ ap (λ (k : ℕ). replicate k 0) c.ask-answer.auto.met) (c.clear-3.ensures ∙ ap (λ (k : ℕ). replicate k 0) c.ask-answer.auto.marks)

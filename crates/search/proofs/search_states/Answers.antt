@@ -50,8 +50,8 @@ explore-requires c =
       scratch-long = omega (arith, p.scratch-long, c.begin_rows.auto.scratch);
       few-latches = p.few-latches;
       few-inputs = p.few-inputs;
-      met-long = omega (arith, p.met-long, c.met-1.given);
-      marks-long = omega (arith, p.marks-long, c.marks-1.given);
+      met-long = omega (arith, p.met-long, c.begin_rows.auto.met);
+      marks-long = omega (arith, p.marks-long, c.begin_rows.auto.marks);
       begun = begun-searched p.runs _ _ _ _ c.count_both-xs.ensures c.power-total.ensures c.begin_rows.ensures;
       count = begun-count c.args.split c.args.n (tables_of p.inputs) _ _ c.count_both-xs.ensures c.power-total.ensures;
     }

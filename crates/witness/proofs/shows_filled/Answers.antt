@@ -60,6 +60,18 @@ overflow_add-end c =
     omega (arith, vector-ends (turn), filled-long) in
     omega (arith, ends, c.before.good)
 
+pub slice_bounds-load_filled-end : goal.slice_bounds-load_filled-end
+slice_bounds-load_filled-end c =
+    let filled : List ℕ =
+    fill_from c.args.which c.args.first c.args.bytes.now in
+    let filled-long : length (filled) ≡ length c.args.bytes.now =
+    fill-length c.args.which c.args.first c.args.bytes.now in
+    let turn : Turn c.args.n c.args.number (filled) c.loop-k.k c.loop-k.at =
+    record { whole = filled-long ∙ c.requires.bytes_len; here = c.loop-k.invariant.1; more = c.loop-k-test.true } in
+    let ends : c.loop-k.at + c.args.n.I ≤ length c.args.bytes.now =
+    omega (arith, vector-ends (turn), filled-long) in
+    omega (arith, ends)
+
 pub load_filled-x-requires : goal.load_filled-x-requires
 load_filled-x-requires c =
     let room : Scratch c.args.n c.loop-k.scratch =

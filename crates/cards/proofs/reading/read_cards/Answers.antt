@@ -16,23 +16,27 @@ shape_of-inputs-in-Refused c =
     c.clear_all-in-Refused.auto.inputs ∙ (c.take_cards-read.auto.inputs ∙ c.clear_all.auto.inputs)
 
 pub shape_of-latches-in-Refused : goal.shape_of-latches-in-Refused
-shape_of-latches-in-Refused c = c.latches-in-Refused-1.given ∙ (c.latches-2-1.given ∙ c.latches-1.given)
+shape_of-latches-in-Refused c =
+    c.clear_all-in-Refused.auto.latches ∙ (c.take_cards-read.auto.latches ∙ c.clear_all.auto.latches)
 
 pub shape_of-outputs-in-Refused : goal.shape_of-outputs-in-Refused
-shape_of-outputs-in-Refused c = c.outputs-in-Refused-1.given ∙ (c.outputs-2-1.given ∙ c.outputs-1.given)
+shape_of-outputs-in-Refused c =
+    c.clear_all-in-Refused.auto.outputs ∙ (c.take_cards-read.auto.outputs ∙ c.clear_all.auto.outputs)
 
 pub shape_of-gates-in-Refused : goal.shape_of-gates-in-Refused
-shape_of-gates-in-Refused c = c.gates-in-Refused-1.given ∙ (c.gates-2-1.given ∙ c.gates-1.given)
+shape_of-gates-in-Refused c =
+    c.clear_all-in-Refused.auto.gates ∙ (c.take_cards-read.auto.gates ∙ c.clear_all.auto.gates)
 
 pub shape_of-resets-in-Refused : goal.shape_of-resets-in-Refused
-shape_of-resets-in-Refused c = c.resets-in-Refused-1.given ∙ (c.resets-2-1.given ∙ c.resets-1.given)
+shape_of-resets-in-Refused c =
+    c.clear_all-in-Refused.auto.resets ∙ (c.take_cards-read.auto.resets ∙ c.clear_all.auto.resets)
 
 pub shape_of-bads-in-Refused : goal.shape_of-bads-in-Refused
-shape_of-bads-in-Refused c = c.bads-in-Refused-1.given ∙ (c.bads-2-1.given ∙ c.bads-1.given)
+shape_of-bads-in-Refused c = c.clear_all-in-Refused.auto.bads ∙ (c.take_cards-read.auto.bads ∙ c.clear_all.auto.bads)
 
 pub shape_of-constraints-in-Refused : goal.shape_of-constraints-in-Refused
 shape_of-constraints-in-Refused c =
-    c.constraints-in-Refused-1.given ∙ (c.constraints-2-1.given ∙ c.constraints-1.given)
+    c.clear_all-in-Refused.auto.constraints ∙ (c.take_cards-read.auto.constraints ∙ c.clear_all.auto.constraints)
 
 pub shape_of-scratch-in-Refused : goal.shape_of-scratch-in-Refused
 shape_of-scratch-in-Refused c = c.clear.auto.table
@@ -46,10 +50,10 @@ returns-in-Refused c =
     c.clear_all.new.bads c.clear_all.new.constraints in
     let t' : Tables = seven c.take_cards-read.new.inputs c.take_cards-read.new.latches c.take_cards-read.new.outputs c.take_cards-read.new.gates
     c.take_cards-read.new.resets c.take_cards-read.new.bads c.take_cards-read.new.constraints in
-    let back = all_same t' t (c.take_cards-read.auto.inputs ∙ c.clear_all.auto.inputs) (c.latches-2-1.given ∙ c.latches-1.given) (c.outputs-2-1.given
-    ∙ c.outputs-1.given) (c.gates-2-1.given ∙ c.gates-1.given)
-    (c.resets-2-1.given ∙ c.resets-1.given) (c.bads-2-1.given
-    ∙ c.bads-1.given) (c.constraints-2-1.given ∙ c.constraints-1.given) in
+    let back = all_same t' t (c.take_cards-read.auto.inputs ∙ c.clear_all.auto.inputs) (c.take_cards-read.auto.latches ∙ c.clear_all.auto.latches) (c.take_cards-read.auto.outputs
+    ∙ c.clear_all.auto.outputs) (c.take_cards-read.auto.gates ∙ c.clear_all.auto.gates)
+    (c.take_cards-read.auto.resets ∙ c.clear_all.auto.resets) (c.take_cards-read.auto.bads
+    ∙ c.clear_all.auto.bads) (c.take_cards-read.auto.constraints ∙ c.clear_all.auto.constraints) in
     load-refused e t' _ T _ c.clear_all.ensures c.clear.auto.table c.take_cards-read.ensures _ c.clear.ensures _ c.in-Refused.is _
     (c.clear_all-in-Refused.ensures ∙ back)
 
@@ -57,22 +61,22 @@ pub shape_of-inputs : goal.shape_of-inputs
 shape_of-inputs c = c.take_cards-read.auto.inputs ∙ c.clear_all.auto.inputs
 
 pub shape_of-latches : goal.shape_of-latches
-shape_of-latches c = c.latches-2-1.given ∙ c.latches-1.given
+shape_of-latches c = c.take_cards-read.auto.latches ∙ c.clear_all.auto.latches
 
 pub shape_of-outputs : goal.shape_of-outputs
-shape_of-outputs c = c.outputs-2-1.given ∙ c.outputs-1.given
+shape_of-outputs c = c.take_cards-read.auto.outputs ∙ c.clear_all.auto.outputs
 
 pub shape_of-gates : goal.shape_of-gates
-shape_of-gates c = c.gates-2-1.given ∙ c.gates-1.given
+shape_of-gates c = c.take_cards-read.auto.gates ∙ c.clear_all.auto.gates
 
 pub shape_of-resets : goal.shape_of-resets
-shape_of-resets c = c.resets-2-1.given ∙ c.resets-1.given
+shape_of-resets c = c.take_cards-read.auto.resets ∙ c.clear_all.auto.resets
 
 pub shape_of-bads : goal.shape_of-bads
-shape_of-bads c = c.bads-2-1.given ∙ c.bads-1.given
+shape_of-bads c = c.take_cards-read.auto.bads ∙ c.clear_all.auto.bads
 
 pub shape_of-constraints : goal.shape_of-constraints
-shape_of-constraints c = c.constraints-2-1.given ∙ c.constraints-1.given
+shape_of-constraints c = c.take_cards-read.auto.constraints ∙ c.clear_all.auto.constraints
 
 pub shape_of-scratch : goal.shape_of-scratch
 shape_of-scratch c = c.clear.auto.table

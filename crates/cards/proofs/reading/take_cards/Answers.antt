@@ -90,8 +90,8 @@ judge-requires c =
     c.scratch_to_work-needed.ensures c.lengths-to.ensures in
     let long : least_short (against 1 (words_to_work (counts)) (lengths_in (sizes_of (tables)) c.args.words)) ≡ none =
     no_table _ _ c.if-short-ne0.false (shorts) in
-    fits c.args.file.now (tables) c.args.words (counts) _ (head) (long) _ _ _ _ c.fill.auto.inputs c.latches-1.given
-    c.outputs-1.given c.gates-1.given
+    fits c.args.file.now (tables) c.args.words (counts) _ (head) (long) _ _ _ _ c.fill.auto.inputs c.fill.auto.latches
+    c.fill.auto.outputs c.fill.auto.gates
 
 pub returns-in-Refused : goal.returns-in-Refused
 returns-in-Refused c =

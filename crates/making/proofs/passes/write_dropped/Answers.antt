@@ -12,25 +12,25 @@ pub shape_of-to_inputs-in-Refused : goal.shape_of-to_inputs-in-Refused
 shape_of-to_inputs-in-Refused c = c.drop_unused.auto.to_inputs
 
 pub shape_of-to_latches-in-Refused : goal.shape_of-to_latches-in-Refused
-shape_of-to_latches-in-Refused c = c.to_latches-1.given
+shape_of-to_latches-in-Refused c = c.drop_unused.auto.to_latches
 
 pub shape_of-to_outputs-in-Refused : goal.shape_of-to_outputs-in-Refused
-shape_of-to_outputs-in-Refused c = c.to_outputs-1.given
+shape_of-to_outputs-in-Refused c = c.drop_unused.auto.to_outputs
 
 pub shape_of-to_gates-in-Refused : goal.shape_of-to_gates-in-Refused
-shape_of-to_gates-in-Refused c = c.to_gates-1.given
+shape_of-to_gates-in-Refused c = c.drop_unused.auto.to_gates
 
 pub shape_of-to_resets-in-Refused : goal.shape_of-to_resets-in-Refused
-shape_of-to_resets-in-Refused c = c.to_resets-1.given
+shape_of-to_resets-in-Refused c = c.drop_unused.auto.to_resets
 
 pub shape_of-to_bads-in-Refused : goal.shape_of-to_bads-in-Refused
-shape_of-to_bads-in-Refused c = c.to_bads-1.given
+shape_of-to_bads-in-Refused c = c.drop_unused.auto.to_bads
 
 pub shape_of-to_constraints-in-Refused : goal.shape_of-to_constraints-in-Refused
-shape_of-to_constraints-in-Refused c = c.to_constraints-1.given
+shape_of-to_constraints-in-Refused c = c.drop_unused.auto.to_constraints
 
 pub shape_of-scratch-in-Refused : goal.shape_of-scratch-in-Refused
-shape_of-scratch-in-Refused c = c.scratch-1.given
+shape_of-scratch-in-Refused c = c.drop_unused.auto.scratch
 
 pub returns-in-Refused : goal.returns-in-Refused
 returns-in-Refused c =
@@ -47,28 +47,28 @@ pub shape_of-to_inputs-in-Accepted : goal.shape_of-to_inputs-in-Accepted
 shape_of-to_inputs-in-Accepted c = c.drop_unused.auto.to_inputs
 
 pub shape_of-to_latches-in-Accepted : goal.shape_of-to_latches-in-Accepted
-shape_of-to_latches-in-Accepted c = c.to_latches-1.given
+shape_of-to_latches-in-Accepted c = c.drop_unused.auto.to_latches
 
 pub shape_of-to_outputs-in-Accepted : goal.shape_of-to_outputs-in-Accepted
-shape_of-to_outputs-in-Accepted c = c.to_outputs-1.given
+shape_of-to_outputs-in-Accepted c = c.drop_unused.auto.to_outputs
 
 pub shape_of-to_gates-in-Accepted : goal.shape_of-to_gates-in-Accepted
-shape_of-to_gates-in-Accepted c = c.to_gates-1.given
+shape_of-to_gates-in-Accepted c = c.drop_unused.auto.to_gates
 
 pub shape_of-to_resets-in-Accepted : goal.shape_of-to_resets-in-Accepted
-shape_of-to_resets-in-Accepted c = c.to_resets-1.given
+shape_of-to_resets-in-Accepted c = c.drop_unused.auto.to_resets
 
 pub shape_of-to_bads-in-Accepted : goal.shape_of-to_bads-in-Accepted
-shape_of-to_bads-in-Accepted c = c.to_bads-1.given
+shape_of-to_bads-in-Accepted c = c.drop_unused.auto.to_bads
 
 pub shape_of-to_constraints-in-Accepted : goal.shape_of-to_constraints-in-Accepted
-shape_of-to_constraints-in-Accepted c = c.to_constraints-1.given
+shape_of-to_constraints-in-Accepted c = c.drop_unused.auto.to_constraints
 
 pub shape_of-scratch-in-Accepted : goal.shape_of-scratch-in-Accepted
-shape_of-scratch-in-Accepted c = c.write_binary.auto.scratch ∙ c.scratch-1.given
+shape_of-scratch-in-Accepted c = c.write_binary.auto.scratch ∙ c.drop_unused.auto.scratch
 
 pub shape_of-out : goal.shape_of-out
-shape_of-out c = c.out-1.given
+shape_of-out c = c.write_binary.auto.out
 
 pub returns-in-Accepted : goal.returns-in-Accepted
 returns-in-Accepted c =

@@ -38,7 +38,7 @@ pub shape_of-scratch-then-text : goal.shape_of-scratch-then-text
 shape_of-scratch-then-text c = c.write_text.auto.scratch
 
 pub shape_of-out-then-text : goal.shape_of-out-then-text
-shape_of-out-then-text c = c.out-1.given
+shape_of-out-then-text c = c.write_text.auto.out
 
 pub returns-then-text : goal.returns-then-text
 returns-then-text c =
@@ -62,52 +62,52 @@ write_reduced-requires c =
     record { stands_ready = converted-ready (circuit) (into) a.tail.now c.requires _ c.convert.ensures _ m; in_order = made-in-order _ _ a.tail.now (converts (circuit) (into) a.tail.now c.requires) _ c.convert.ensures _ m; }
 
 pub shape_of-inputs-then-reduced : goal.shape_of-inputs-then-reduced
-shape_of-inputs-then-reduced c = c.inputs-1.given
+shape_of-inputs-then-reduced c = c.write_reduced.auto.to_inputs
 
 pub shape_of-latches-then-reduced : goal.shape_of-latches-then-reduced
-shape_of-latches-then-reduced c = c.latches-1.given
+shape_of-latches-then-reduced c = c.write_reduced.auto.to_latches
 
 pub shape_of-outputs-then-reduced : goal.shape_of-outputs-then-reduced
-shape_of-outputs-then-reduced c = c.outputs-1.given
+shape_of-outputs-then-reduced c = c.write_reduced.auto.to_outputs
 
 pub shape_of-gates-then-reduced : goal.shape_of-gates-then-reduced
-shape_of-gates-then-reduced c = c.gates-1.given
+shape_of-gates-then-reduced c = c.write_reduced.auto.to_gates
 
 pub shape_of-resets-then-reduced : goal.shape_of-resets-then-reduced
-shape_of-resets-then-reduced c = c.resets-1.given
+shape_of-resets-then-reduced c = c.write_reduced.auto.to_resets
 
 pub shape_of-bads-then-reduced : goal.shape_of-bads-then-reduced
-shape_of-bads-then-reduced c = c.bads-1.given
+shape_of-bads-then-reduced c = c.write_reduced.auto.to_bads
 
 pub shape_of-constraints-then-reduced : goal.shape_of-constraints-then-reduced
-shape_of-constraints-then-reduced c = c.constraints-1.given
+shape_of-constraints-then-reduced c = c.write_reduced.auto.to_constraints
 
 pub shape_of-to_inputs-then-reduced : goal.shape_of-to_inputs-then-reduced
 shape_of-to_inputs-then-reduced c = c.write_reduced.auto.inputs ∙ c.convert.auto.to_inputs
 
 pub shape_of-to_latches-then-reduced : goal.shape_of-to_latches-then-reduced
-shape_of-to_latches-then-reduced c = c.to_latches-then-reduced-1.given ∙ c.to_latches-1.given
+shape_of-to_latches-then-reduced c = c.write_reduced.auto.latches ∙ c.convert.auto.to_latches
 
 pub shape_of-to_outputs-then-reduced : goal.shape_of-to_outputs-then-reduced
-shape_of-to_outputs-then-reduced c = c.to_outputs-then-reduced-1.given ∙ c.to_outputs-1.given
+shape_of-to_outputs-then-reduced c = c.write_reduced.auto.outputs ∙ c.convert.auto.to_outputs
 
 pub shape_of-to_gates-then-reduced : goal.shape_of-to_gates-then-reduced
-shape_of-to_gates-then-reduced c = c.to_gates-then-reduced-1.given ∙ c.to_gates-1.given
+shape_of-to_gates-then-reduced c = c.write_reduced.auto.gates ∙ c.convert.auto.to_gates
 
 pub shape_of-to_resets-then-reduced : goal.shape_of-to_resets-then-reduced
-shape_of-to_resets-then-reduced c = c.to_resets-then-reduced-1.given ∙ c.to_resets-1.given
+shape_of-to_resets-then-reduced c = c.write_reduced.auto.resets ∙ c.convert.auto.to_resets
 
 pub shape_of-to_bads-then-reduced : goal.shape_of-to_bads-then-reduced
-shape_of-to_bads-then-reduced c = c.to_bads-then-reduced-1.given ∙ c.to_bads-1.given
+shape_of-to_bads-then-reduced c = c.write_reduced.auto.bads ∙ c.convert.auto.to_bads
 
 pub shape_of-to_constraints-then-reduced : goal.shape_of-to_constraints-then-reduced
-shape_of-to_constraints-then-reduced c = c.to_constraints-then-reduced-1.given ∙ c.to_constraints-1.given
+shape_of-to_constraints-then-reduced c = c.write_reduced.auto.constraints ∙ c.convert.auto.to_constraints
 
 pub shape_of-scratch-then-reduced : goal.shape_of-scratch-then-reduced
-shape_of-scratch-then-reduced c = c.scratch-then-reduced-1.given ∙ c.scratch-2-1.given
+shape_of-scratch-then-reduced c = c.write_reduced.auto.scratch ∙ c.convert.auto.scratch
 
 pub shape_of-out-then-reduced : goal.shape_of-out-then-reduced
-shape_of-out-then-reduced c = c.out-then-reduced-1.given
+shape_of-out-then-reduced c = c.write_reduced.auto.out
 
 pub returns-then-reduced : goal.returns-then-reduced
 returns-then-reduced c =
@@ -150,25 +150,25 @@ pub shape_of-to_inputs-in-Refused : goal.shape_of-to_inputs-in-Refused
 shape_of-to_inputs-in-Refused c = c.convert.auto.to_inputs
 
 pub shape_of-to_latches-in-Refused : goal.shape_of-to_latches-in-Refused
-shape_of-to_latches-in-Refused c = c.to_latches-1.given
+shape_of-to_latches-in-Refused c = c.convert.auto.to_latches
 
 pub shape_of-to_outputs-in-Refused : goal.shape_of-to_outputs-in-Refused
-shape_of-to_outputs-in-Refused c = c.to_outputs-1.given
+shape_of-to_outputs-in-Refused c = c.convert.auto.to_outputs
 
 pub shape_of-to_gates-in-Refused : goal.shape_of-to_gates-in-Refused
-shape_of-to_gates-in-Refused c = c.to_gates-1.given
+shape_of-to_gates-in-Refused c = c.convert.auto.to_gates
 
 pub shape_of-to_resets-in-Refused : goal.shape_of-to_resets-in-Refused
-shape_of-to_resets-in-Refused c = c.to_resets-1.given
+shape_of-to_resets-in-Refused c = c.convert.auto.to_resets
 
 pub shape_of-to_bads-in-Refused : goal.shape_of-to_bads-in-Refused
-shape_of-to_bads-in-Refused c = c.to_bads-1.given
+shape_of-to_bads-in-Refused c = c.convert.auto.to_bads
 
 pub shape_of-to_constraints-in-Refused : goal.shape_of-to_constraints-in-Refused
-shape_of-to_constraints-in-Refused c = c.to_constraints-1.given
+shape_of-to_constraints-in-Refused c = c.convert.auto.to_constraints
 
 pub shape_of-scratch-in-Refused : goal.shape_of-scratch-in-Refused
-shape_of-scratch-in-Refused c = c.scratch-2-1.given
+shape_of-scratch-in-Refused c = c.convert.auto.scratch
 
 pub returns-in-Refused : goal.returns-in-Refused
 returns-in-Refused c =
@@ -206,28 +206,28 @@ pub shape_of-to_inputs-else-reduced : goal.shape_of-to_inputs-else-reduced
 shape_of-to_inputs-else-reduced c = c.convert.auto.to_inputs
 
 pub shape_of-to_latches-else-reduced : goal.shape_of-to_latches-else-reduced
-shape_of-to_latches-else-reduced c = c.to_latches-1.given
+shape_of-to_latches-else-reduced c = c.convert.auto.to_latches
 
 pub shape_of-to_outputs-else-reduced : goal.shape_of-to_outputs-else-reduced
-shape_of-to_outputs-else-reduced c = c.to_outputs-1.given
+shape_of-to_outputs-else-reduced c = c.convert.auto.to_outputs
 
 pub shape_of-to_gates-else-reduced : goal.shape_of-to_gates-else-reduced
-shape_of-to_gates-else-reduced c = c.to_gates-1.given
+shape_of-to_gates-else-reduced c = c.convert.auto.to_gates
 
 pub shape_of-to_resets-else-reduced : goal.shape_of-to_resets-else-reduced
-shape_of-to_resets-else-reduced c = c.to_resets-1.given
+shape_of-to_resets-else-reduced c = c.convert.auto.to_resets
 
 pub shape_of-to_bads-else-reduced : goal.shape_of-to_bads-else-reduced
-shape_of-to_bads-else-reduced c = c.to_bads-1.given
+shape_of-to_bads-else-reduced c = c.convert.auto.to_bads
 
 pub shape_of-to_constraints-else-reduced : goal.shape_of-to_constraints-else-reduced
-shape_of-to_constraints-else-reduced c = c.to_constraints-1.given
+shape_of-to_constraints-else-reduced c = c.convert.auto.to_constraints
 
 pub shape_of-scratch-else-reduced : goal.shape_of-scratch-else-reduced
-shape_of-scratch-else-reduced c = c.write_binary.auto.scratch ∙ c.scratch-2-1.given
+shape_of-scratch-else-reduced c = c.write_binary.auto.scratch ∙ c.convert.auto.scratch
 
 pub shape_of-out : goal.shape_of-out
-shape_of-out c = c.out-in-Accepted-1.given
+shape_of-out c = c.write_binary.auto.out
 
 pub returns-else-reduced : goal.returns-else-reduced
 returns-else-reduced c =

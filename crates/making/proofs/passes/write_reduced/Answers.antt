@@ -31,49 +31,49 @@ pub shape_of-inputs-then-dropped : goal.shape_of-inputs-then-dropped
 shape_of-inputs-then-dropped c = c.write_dropped.auto.to_inputs
 
 pub shape_of-latches-then-dropped : goal.shape_of-latches-then-dropped
-shape_of-latches-then-dropped c = c.latches-1.given
+shape_of-latches-then-dropped c = c.write_dropped.auto.to_latches
 
 pub shape_of-outputs-then-dropped : goal.shape_of-outputs-then-dropped
-shape_of-outputs-then-dropped c = c.outputs-1.given
+shape_of-outputs-then-dropped c = c.write_dropped.auto.to_outputs
 
 pub shape_of-gates-then-dropped : goal.shape_of-gates-then-dropped
-shape_of-gates-then-dropped c = c.gates-1.given
+shape_of-gates-then-dropped c = c.write_dropped.auto.to_gates
 
 pub shape_of-resets-then-dropped : goal.shape_of-resets-then-dropped
-shape_of-resets-then-dropped c = c.resets-1.given
+shape_of-resets-then-dropped c = c.write_dropped.auto.to_resets
 
 pub shape_of-bads-then-dropped : goal.shape_of-bads-then-dropped
-shape_of-bads-then-dropped c = c.bads-1.given
+shape_of-bads-then-dropped c = c.write_dropped.auto.to_bads
 
 pub shape_of-constraints-then-dropped : goal.shape_of-constraints-then-dropped
-shape_of-constraints-then-dropped c = c.constraints-1.given
+shape_of-constraints-then-dropped c = c.write_dropped.auto.to_constraints
 
 pub shape_of-to_inputs-then-dropped : goal.shape_of-to_inputs-then-dropped
 shape_of-to_inputs-then-dropped c = c.reduce.auto.to_inputs
 
 pub shape_of-to_latches-then-dropped : goal.shape_of-to_latches-then-dropped
-shape_of-to_latches-then-dropped c = c.to_latches-1.given
+shape_of-to_latches-then-dropped c = c.reduce.auto.to_latches
 
 pub shape_of-to_outputs-then-dropped : goal.shape_of-to_outputs-then-dropped
-shape_of-to_outputs-then-dropped c = c.to_outputs-1.given
+shape_of-to_outputs-then-dropped c = c.reduce.auto.to_outputs
 
 pub shape_of-to_gates-then-dropped : goal.shape_of-to_gates-then-dropped
-shape_of-to_gates-then-dropped c = c.to_gates-1.given
+shape_of-to_gates-then-dropped c = c.reduce.auto.to_gates
 
 pub shape_of-to_resets-then-dropped : goal.shape_of-to_resets-then-dropped
-shape_of-to_resets-then-dropped c = c.to_resets-1.given
+shape_of-to_resets-then-dropped c = c.reduce.auto.to_resets
 
 pub shape_of-to_bads-then-dropped : goal.shape_of-to_bads-then-dropped
-shape_of-to_bads-then-dropped c = c.to_bads-1.given
+shape_of-to_bads-then-dropped c = c.reduce.auto.to_bads
 
 pub shape_of-to_constraints-then-dropped : goal.shape_of-to_constraints-then-dropped
-shape_of-to_constraints-then-dropped c = c.to_constraints-1.given
+shape_of-to_constraints-then-dropped c = c.reduce.auto.to_constraints
 
 pub shape_of-scratch-then-dropped : goal.shape_of-scratch-then-dropped
-shape_of-scratch-then-dropped c = c.scratch-then-dropped-1.given ∙ c.scratch-1.given
+shape_of-scratch-then-dropped c = c.write_dropped.auto.scratch ∙ c.reduce.auto.scratch
 
 pub shape_of-out-then-dropped : goal.shape_of-out-then-dropped
-shape_of-out-then-dropped c = c.out-1.given
+shape_of-out-then-dropped c = c.write_dropped.auto.out
 
 pub returns-then-dropped : goal.returns-then-dropped
 returns-then-dropped c =
@@ -114,25 +114,25 @@ pub shape_of-to_inputs-in-Refused : goal.shape_of-to_inputs-in-Refused
 shape_of-to_inputs-in-Refused c = c.reduce.auto.to_inputs
 
 pub shape_of-to_latches-in-Refused : goal.shape_of-to_latches-in-Refused
-shape_of-to_latches-in-Refused c = c.to_latches-1.given
+shape_of-to_latches-in-Refused c = c.reduce.auto.to_latches
 
 pub shape_of-to_outputs-in-Refused : goal.shape_of-to_outputs-in-Refused
-shape_of-to_outputs-in-Refused c = c.to_outputs-1.given
+shape_of-to_outputs-in-Refused c = c.reduce.auto.to_outputs
 
 pub shape_of-to_gates-in-Refused : goal.shape_of-to_gates-in-Refused
-shape_of-to_gates-in-Refused c = c.to_gates-1.given
+shape_of-to_gates-in-Refused c = c.reduce.auto.to_gates
 
 pub shape_of-to_resets-in-Refused : goal.shape_of-to_resets-in-Refused
-shape_of-to_resets-in-Refused c = c.to_resets-1.given
+shape_of-to_resets-in-Refused c = c.reduce.auto.to_resets
 
 pub shape_of-to_bads-in-Refused : goal.shape_of-to_bads-in-Refused
-shape_of-to_bads-in-Refused c = c.to_bads-1.given
+shape_of-to_bads-in-Refused c = c.reduce.auto.to_bads
 
 pub shape_of-to_constraints-in-Refused : goal.shape_of-to_constraints-in-Refused
-shape_of-to_constraints-in-Refused c = c.to_constraints-1.given
+shape_of-to_constraints-in-Refused c = c.reduce.auto.to_constraints
 
 pub shape_of-scratch-in-Refused : goal.shape_of-scratch-in-Refused
-shape_of-scratch-in-Refused c = c.scratch-1.given
+shape_of-scratch-in-Refused c = c.reduce.auto.scratch
 
 pub returns-in-Refused : goal.returns-in-Refused
 returns-in-Refused c =
@@ -170,28 +170,28 @@ pub shape_of-to_inputs-else-dropped : goal.shape_of-to_inputs-else-dropped
 shape_of-to_inputs-else-dropped c = c.reduce.auto.to_inputs
 
 pub shape_of-to_latches-else-dropped : goal.shape_of-to_latches-else-dropped
-shape_of-to_latches-else-dropped c = c.to_latches-1.given
+shape_of-to_latches-else-dropped c = c.reduce.auto.to_latches
 
 pub shape_of-to_outputs-else-dropped : goal.shape_of-to_outputs-else-dropped
-shape_of-to_outputs-else-dropped c = c.to_outputs-1.given
+shape_of-to_outputs-else-dropped c = c.reduce.auto.to_outputs
 
 pub shape_of-to_gates-else-dropped : goal.shape_of-to_gates-else-dropped
-shape_of-to_gates-else-dropped c = c.to_gates-1.given
+shape_of-to_gates-else-dropped c = c.reduce.auto.to_gates
 
 pub shape_of-to_resets-else-dropped : goal.shape_of-to_resets-else-dropped
-shape_of-to_resets-else-dropped c = c.to_resets-1.given
+shape_of-to_resets-else-dropped c = c.reduce.auto.to_resets
 
 pub shape_of-to_bads-else-dropped : goal.shape_of-to_bads-else-dropped
-shape_of-to_bads-else-dropped c = c.to_bads-1.given
+shape_of-to_bads-else-dropped c = c.reduce.auto.to_bads
 
 pub shape_of-to_constraints-else-dropped : goal.shape_of-to_constraints-else-dropped
-shape_of-to_constraints-else-dropped c = c.to_constraints-1.given
+shape_of-to_constraints-else-dropped c = c.reduce.auto.to_constraints
 
 pub shape_of-scratch-else-dropped : goal.shape_of-scratch-else-dropped
-shape_of-scratch-else-dropped c = c.write_binary.auto.scratch ∙ c.scratch-1.given
+shape_of-scratch-else-dropped c = c.write_binary.auto.scratch ∙ c.reduce.auto.scratch
 
 pub shape_of-out : goal.shape_of-out
-shape_of-out c = c.out-in-Accepted-1.given
+shape_of-out c = c.write_binary.auto.out
 
 pub returns-else-dropped : goal.returns-else-dropped
 returns-else-dropped c =

@@ -34,22 +34,22 @@ pub shape_of-inputs-in_default : goal.shape_of-inputs-in_default
 shape_of-inputs-in_default c = c.read_binary-read.auto.inputs
 
 pub shape_of-latches-in_default : goal.shape_of-latches-in_default
-shape_of-latches-in_default c = c.latches-1.given
+shape_of-latches-in_default c = c.read_binary-read.auto.latches
 
 pub shape_of-outputs-in_default : goal.shape_of-outputs-in_default
-shape_of-outputs-in_default c = c.outputs-1.given
+shape_of-outputs-in_default c = c.read_binary-read.auto.outputs
 
 pub shape_of-gates-in_default : goal.shape_of-gates-in_default
-shape_of-gates-in_default c = c.gates-1.given
+shape_of-gates-in_default c = c.read_binary-read.auto.gates
 
 pub shape_of-resets-in_default : goal.shape_of-resets-in_default
-shape_of-resets-in_default c = c.resets-1.given
+shape_of-resets-in_default c = c.read_binary-read.auto.resets
 
 pub shape_of-bads-in_default : goal.shape_of-bads-in_default
-shape_of-bads-in_default c = c.bads-1.given
+shape_of-bads-in_default c = c.read_binary-read.auto.bads
 
 pub shape_of-constraints-in_default : goal.shape_of-constraints-in_default
-shape_of-constraints-in_default c = c.constraints-1.given
+shape_of-constraints-in_default c = c.read_binary-read.auto.constraints
 
 pub returns-in_default : goal.returns-in_default
 returns-in_default c =
@@ -59,6 +59,17 @@ returns-in_default c =
     c.read_binary-read.new.resets c.read_binary-read.new.bads c.read_binary-read.new.constraints in
     let body = binary_body a.version a.file.now a.n a.at in
     stops a.version a.file.now a.n body t t' _ c.read_binary-read.ensures _ c.in_default.is
+
+pub slice_bounds-check-end : goal.slice_bounds-check-end
+slice_bounds-check-end c =
+    let a = c.args in
+    let room = c.requires.room in
+    let base = a.n.I + a.n.L + a.n.O + a.n.B + a.n.C in
+    let s = a.scratch.now in
+    let ys = c.read_binary-read.new.marks in
+    let fits : base ≤ length s = omega (arith, room.words, room.most-M, c.requires.a_value) in
+    let ys-long : length ys ≡ length (mid_of base (length s - base) s) = c.read_binary-read.auto.marks in
+    omega (arith, second-length base s ys fits ys-long, room.words, room.most-M, c.requires.a_value)
 
 pub check-requires : goal.check-requires
 check-requires c =
@@ -81,22 +92,22 @@ pub shape_of-inputs-in-Refused : goal.shape_of-inputs-in-Refused
 shape_of-inputs-in-Refused c = c.read_binary-read.auto.inputs
 
 pub shape_of-latches-in-Refused : goal.shape_of-latches-in-Refused
-shape_of-latches-in-Refused c = c.latches-1.given
+shape_of-latches-in-Refused c = c.read_binary-read.auto.latches
 
 pub shape_of-outputs-in-Refused : goal.shape_of-outputs-in-Refused
-shape_of-outputs-in-Refused c = c.outputs-1.given
+shape_of-outputs-in-Refused c = c.read_binary-read.auto.outputs
 
 pub shape_of-gates-in-Refused : goal.shape_of-gates-in-Refused
-shape_of-gates-in-Refused c = c.gates-1.given
+shape_of-gates-in-Refused c = c.read_binary-read.auto.gates
 
 pub shape_of-resets-in-Refused : goal.shape_of-resets-in-Refused
-shape_of-resets-in-Refused c = c.resets-1.given
+shape_of-resets-in-Refused c = c.read_binary-read.auto.resets
 
 pub shape_of-bads-in-Refused : goal.shape_of-bads-in-Refused
-shape_of-bads-in-Refused c = c.bads-1.given
+shape_of-bads-in-Refused c = c.read_binary-read.auto.bads
 
 pub shape_of-constraints-in-Refused : goal.shape_of-constraints-in-Refused
-shape_of-constraints-in-Refused c = c.constraints-1.given
+shape_of-constraints-in-Refused c = c.read_binary-read.auto.constraints
 
 pub shape_of-scratch-in-Refused : goal.shape_of-scratch-in-Refused
 shape_of-scratch-in-Refused c =
@@ -124,22 +135,22 @@ pub shape_of-inputs-in-Good : goal.shape_of-inputs-in-Good
 shape_of-inputs-in-Good c = c.read_binary-read.auto.inputs
 
 pub shape_of-latches-in-Good : goal.shape_of-latches-in-Good
-shape_of-latches-in-Good c = c.latches-1.given
+shape_of-latches-in-Good c = c.read_binary-read.auto.latches
 
 pub shape_of-outputs-in-Good : goal.shape_of-outputs-in-Good
-shape_of-outputs-in-Good c = c.outputs-1.given
+shape_of-outputs-in-Good c = c.read_binary-read.auto.outputs
 
 pub shape_of-gates-in-Good : goal.shape_of-gates-in-Good
-shape_of-gates-in-Good c = c.gates-1.given
+shape_of-gates-in-Good c = c.read_binary-read.auto.gates
 
 pub shape_of-resets-in-Good : goal.shape_of-resets-in-Good
-shape_of-resets-in-Good c = c.resets-1.given
+shape_of-resets-in-Good c = c.read_binary-read.auto.resets
 
 pub shape_of-bads-in-Good : goal.shape_of-bads-in-Good
-shape_of-bads-in-Good c = c.bads-1.given
+shape_of-bads-in-Good c = c.read_binary-read.auto.bads
 
 pub shape_of-constraints-in-Good : goal.shape_of-constraints-in-Good
-shape_of-constraints-in-Good c = c.constraints-1.given
+shape_of-constraints-in-Good c = c.read_binary-read.auto.constraints
 
 pub shape_of-scratch-in-Good : goal.shape_of-scratch-in-Good
 shape_of-scratch-in-Good c =

@@ -41,22 +41,22 @@ pub shape_of-inputs-in_default : goal.shape_of-inputs-in_default
 shape_of-inputs-in_default c = c.read_text-read.auto.inputs
 
 pub shape_of-latches-in_default : goal.shape_of-latches-in_default
-shape_of-latches-in_default c = c.latches-1.given
+shape_of-latches-in_default c = c.read_text-read.auto.latches
 
 pub shape_of-outputs-in_default : goal.shape_of-outputs-in_default
-shape_of-outputs-in_default c = c.outputs-1.given
+shape_of-outputs-in_default c = c.read_text-read.auto.outputs
 
 pub shape_of-gates-in_default : goal.shape_of-gates-in_default
-shape_of-gates-in_default c = c.gates-1.given
+shape_of-gates-in_default c = c.read_text-read.auto.gates
 
 pub shape_of-resets-in_default : goal.shape_of-resets-in_default
-shape_of-resets-in_default c = c.resets-1.given
+shape_of-resets-in_default c = c.read_text-read.auto.resets
 
 pub shape_of-bads-in_default : goal.shape_of-bads-in_default
-shape_of-bads-in_default c = c.bads-1.given
+shape_of-bads-in_default c = c.read_text-read.auto.bads
 
 pub shape_of-constraints-in_default : goal.shape_of-constraints-in_default
-shape_of-constraints-in_default c = c.constraints-1.given
+shape_of-constraints-in_default c = c.read_text-read.auto.constraints
 
 pub returns-in_default : goal.returns-in_default
 returns-in_default c =
@@ -66,6 +66,17 @@ returns-in_default c =
     c.read_text-read.new.resets c.read_text-read.new.bads c.read_text-read.new.constraints in
     let body = text_body a.version a.file.now a.n a.at in
     stops a.version a.file.now a.n body t t' _ c.read_text-read.ensures.body _ c.in_default.is
+
+pub slice_bounds-check-end : goal.slice_bounds-check-end
+slice_bounds-check-end c =
+    let a = c.args in
+    let room = c.requires.room in
+    let base = a.n.I + a.n.L + a.n.O + a.n.B + a.n.C in
+    let s = a.scratch.now in
+    let ys = c.read_text-read.new.marks in
+    let fits : base ≤ length s = omega (arith, room.words, room.most-M, c.requires.a_bound) in
+    let ys-long : length ys ≡ length (mid_of base (length s - base) s) = c.read_text-read.auto.marks in
+    omega (arith, second-length base s ys fits ys-long, room.words, room.most-M, c.requires.a_bound)
 
 pub check-requires : goal.check-requires
 check-requires c =
@@ -102,7 +113,7 @@ check-requires-in-Good c =
     let zs-long : length zs ≡ length (mid_of 0 (base - 0) (second base s ys fits)) = c.check.auto.marks in
     text-read a.version a.file.now a.n a.at t t' p.0 _ p.1 p.2 s (put_mid 0 (base - 0) (second base s ys fits) zs) ys base room
     c.requires.a_bound refl
-    c.read_text-read.auto.inputs c.latches-1.given c.outputs-1.given c.gates-1.given c.bads-1.given c.constraints-1.given
+    c.read_text-read.auto.inputs c.read_text-read.auto.latches c.read_text-read.auto.outputs c.read_text-read.auto.gates c.read_text-read.auto.bads c.read_text-read.auto.constraints
     (same_len_mid 0 (base - 0) (second base s ys fits) zs zs-long ∙ second-length base s ys fits ys-long) (second-part base s ys fits zs ys-long zs-long)
     (c.read_text-read.ensures.marked p.0 _ p.1)
 
@@ -110,22 +121,22 @@ pub shape_of-inputs-in-Refused : goal.shape_of-inputs-in-Refused
 shape_of-inputs-in-Refused c = c.read_text-read.auto.inputs
 
 pub shape_of-latches-in-Refused : goal.shape_of-latches-in-Refused
-shape_of-latches-in-Refused c = c.latches-1.given
+shape_of-latches-in-Refused c = c.read_text-read.auto.latches
 
 pub shape_of-outputs-in-Refused : goal.shape_of-outputs-in-Refused
-shape_of-outputs-in-Refused c = c.outputs-1.given
+shape_of-outputs-in-Refused c = c.read_text-read.auto.outputs
 
 pub shape_of-gates-in-Refused : goal.shape_of-gates-in-Refused
-shape_of-gates-in-Refused c = c.gates-1.given
+shape_of-gates-in-Refused c = c.read_text-read.auto.gates
 
 pub shape_of-resets-in-Refused : goal.shape_of-resets-in-Refused
-shape_of-resets-in-Refused c = c.resets-1.given
+shape_of-resets-in-Refused c = c.read_text-read.auto.resets
 
 pub shape_of-bads-in-Refused : goal.shape_of-bads-in-Refused
-shape_of-bads-in-Refused c = c.bads-1.given
+shape_of-bads-in-Refused c = c.read_text-read.auto.bads
 
 pub shape_of-constraints-in-Refused : goal.shape_of-constraints-in-Refused
-shape_of-constraints-in-Refused c = c.constraints-1.given
+shape_of-constraints-in-Refused c = c.read_text-read.auto.constraints
 
 pub shape_of-scratch-in-Refused : goal.shape_of-scratch-in-Refused
 shape_of-scratch-in-Refused c =
@@ -153,22 +164,22 @@ pub shape_of-inputs-in-Refused-check : goal.shape_of-inputs-in-Refused-check
 shape_of-inputs-in-Refused-check c = c.read_text-read.auto.inputs
 
 pub shape_of-latches-in-Refused-check : goal.shape_of-latches-in-Refused-check
-shape_of-latches-in-Refused-check c = c.latches-1.given
+shape_of-latches-in-Refused-check c = c.read_text-read.auto.latches
 
 pub shape_of-outputs-in-Refused-check : goal.shape_of-outputs-in-Refused-check
-shape_of-outputs-in-Refused-check c = c.outputs-1.given
+shape_of-outputs-in-Refused-check c = c.read_text-read.auto.outputs
 
 pub shape_of-gates-in-Refused-check : goal.shape_of-gates-in-Refused-check
-shape_of-gates-in-Refused-check c = c.gates-1.given
+shape_of-gates-in-Refused-check c = c.read_text-read.auto.gates
 
 pub shape_of-resets-in-Refused-check : goal.shape_of-resets-in-Refused-check
-shape_of-resets-in-Refused-check c = c.resets-1.given
+shape_of-resets-in-Refused-check c = c.read_text-read.auto.resets
 
 pub shape_of-bads-in-Refused-check : goal.shape_of-bads-in-Refused-check
-shape_of-bads-in-Refused-check c = c.bads-1.given
+shape_of-bads-in-Refused-check c = c.read_text-read.auto.bads
 
 pub shape_of-constraints-in-Refused-check : goal.shape_of-constraints-in-Refused-check
-shape_of-constraints-in-Refused-check c = c.constraints-1.given
+shape_of-constraints-in-Refused-check c = c.read_text-read.auto.constraints
 
 pub returns-in-Refused-check : goal.returns-in-Refused-check
 returns-in-Refused-check c =
@@ -186,22 +197,22 @@ pub shape_of-inputs-in-Good-check : goal.shape_of-inputs-in-Good-check
 shape_of-inputs-in-Good-check c = c.read_text-read.auto.inputs
 
 pub shape_of-latches-in-Good-check : goal.shape_of-latches-in-Good-check
-shape_of-latches-in-Good-check c = c.latches-1.given
+shape_of-latches-in-Good-check c = c.read_text-read.auto.latches
 
 pub shape_of-outputs-in-Good-check : goal.shape_of-outputs-in-Good-check
-shape_of-outputs-in-Good-check c = c.outputs-1.given
+shape_of-outputs-in-Good-check c = c.read_text-read.auto.outputs
 
 pub shape_of-gates-in-Good-check : goal.shape_of-gates-in-Good-check
-shape_of-gates-in-Good-check c = c.gates-1.given
+shape_of-gates-in-Good-check c = c.read_text-read.auto.gates
 
 pub shape_of-resets-in-Good-check : goal.shape_of-resets-in-Good-check
-shape_of-resets-in-Good-check c = c.resets-1.given
+shape_of-resets-in-Good-check c = c.read_text-read.auto.resets
 
 pub shape_of-bads-in-Good-check : goal.shape_of-bads-in-Good-check
-shape_of-bads-in-Good-check c = c.bads-1.given
+shape_of-bads-in-Good-check c = c.read_text-read.auto.bads
 
 pub shape_of-constraints-in-Good-check : goal.shape_of-constraints-in-Good-check
-shape_of-constraints-in-Good-check c = c.constraints-1.given
+shape_of-constraints-in-Good-check c = c.read_text-read.auto.constraints
 
 pub returns-in-Good-check : goal.returns-in-Good-check
 returns-in-Good-check c =

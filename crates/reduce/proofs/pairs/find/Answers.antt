@@ -12,14 +12,8 @@ use Rattle.reduce.specs.pairs.Tree.{slot_of}
 use Rattle.reduce.specs.pairs.Pairs.{word, Sought}
 use Rattle.reduce.proofs.pairs.Roots.{root-low}
 use Rattle.reduce.proofs.pairs.Words.{word-scratch}
-use Rattle.reduce.proofs.pairs.Way.{Way, way-start, way_out, way-low, way-found, way_next, way-after}
+use Rattle.reduce.proofs.pairs.Way.{Way, Come, way-start, way_out, way-low, way-found, way_next, way-after}
 use Rattle.reduce.proofs.pairs.find.Goals as goal
-
--- the search has come to gate i, by way of a slot that leads to it
-record Come (gates scratch : List ℕ) (w n x y i key : ℕ) : Type 0 where
-  pub slot : ℕ
-  pub way : Way gates w n x y slot key
-  pub leads : word gates scratch w slot ≡ suc i
 
 pub root-requires : goal.root-requires
 root-requires c = (omega (arith, c.requires.rooted.larger), c.requires.room.few)

@@ -12,7 +12,7 @@ use Rattle.reduce.specs.pairs.Tree.{slot_of}
 use Rattle.reduce.specs.pairs.Pairs.{word, Sought}
 use Rattle.reduce.proofs.pairs.Roots.{root-low}
 use Rattle.reduce.proofs.pairs.Words.{word-scratch}
-use Rattle.reduce.proofs.pairs.Way.{Way, way-start, way_out, way-low, way-found, way_next, way-after}
+use Rattle.reduce.proofs.pairs.Way.{Way, Come, way-start, way_out, way-low, way-found, way_next, way-after}
 use Rattle.reduce.proofs.pairs.find.Given as goal
 
 abbrev pub invariant-loop-x : goal.invariant-loop-x

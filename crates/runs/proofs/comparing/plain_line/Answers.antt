@@ -35,7 +35,7 @@ bounds-out-end c =
     c.put_bytes-outputs_at.auto.out ∙ c.put_bytes-inputs_at.auto.out in
     let inside : c.put_bytes-outputs_at.result + c.args.n.O < length c.put_bytes-outputs_at.new.out =
     omega (arith, room, same) in
-    omega (arith, inside, c.out-3-1.given)
+    omega (arith, inside, c.plain_vectors.auto.outs)
 
 pub overflow_add-end-2 : goal.overflow_add-end-2
 overflow_add-end-2 c =
@@ -53,8 +53,8 @@ put_bytes-requires c =
       arith,
       room,
       same,
-      c.out-3-1.given,
-      c.state-1.given,
+      c.plain_vectors.auto.outs,
+      c.plain_vectors.auto.state,
       c.requires.vector.long,
     ))
 
@@ -66,7 +66,7 @@ shape_of-out c =
     let size : ℕ = at + c.args.n.O - at in
     let out = c.put_bytes-outputs_at.new.out in
     let outs = c.plain_vectors.new.outs in
-    let back : length (put_mid at size out outs) ≡ length out = c.out-3-1.given.1 in
+    let back : length (put_mid at size out outs) ≡ length out = c.plain_vectors.auto.outs.1 in
     c.put_bytes.auto.out ∙ (length-set (put_mid at size out outs) (at + c.args.n.O) 32 ∙ (back ∙ same))
 
 pub returns : goal.returns
@@ -84,7 +84,7 @@ returns c =
         c.put_bytes-outputs_at.ensures.value,
         c.put_bytes-inputs_at.ensures.value,
         c.put_bytes.ensures.value,
-        c.state-1.given,
+        c.plain_vectors.auto.state,
       ); lined = λ x r.
           let l = c.plain_vectors.ensures x r in
           line-lined r c.requires.vector c.requires.vector_2 l c.args.out.now c.args.at c.requires.n_in_bounds

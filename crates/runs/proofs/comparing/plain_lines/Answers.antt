@@ -39,6 +39,12 @@ overflow_add-end c =
     line-inside c.loop-k.invariant.0 c.loop-k-test.true in
     omega (arith, inside)
 
+pub slice_bounds-plain_line-end : goal.slice_bounds-plain_line-end
+slice_bounds-plain_line-end c =
+    let inside : c.loop-k.at + c.args.n.I + 1 ≤ length c.args.vectors.now =
+    line-inside c.loop-k.invariant.0 c.loop-k-test.true in
+    omega (arith, inside)
+
 pub plain_line-to-requires : goal.plain_line-to-requires
 plain_line-to-requires c =
     let fits : c.loop-k.to + line_width c.args.n ≤ length c.args.out.now =
@@ -59,13 +65,13 @@ loop-k-preserved c =
     let fits : c.loop-k.to + line_width c.args.n ≤ length c.args.out.now =
     line-fits c.requires.listed c.loop-k.k c.loop-k.to c.loop-k-test.true c.loop-k.invariant.1 in
     let a = c.args in
-    let state = c.state-1.given in
+    let state = c.plain_line-to.auto.state in
     let b = c.requires.room in
     let long = state ∙ c.loop-k.invariant.5.long in (
       lining-next c.loop-k.invariant.0 c.loop-k-test.true,
       c.plain_line-to.ensures.value ∙ next_row (line_width a.n) c.loop-k.k c.loop-k.to c.loop-k.invariant.1,
       c.plain_line-to.auto.scratch ∙ c.loop-k.invariant.2,
-      c.out-1.given ∙ c.loop-k.invariant.3,
+      c.plain_line-to.auto.out ∙ c.loop-k.invariant.3,
       state ∙ c.loop-k.invariant.4,
       next-vector a.n (c.plain_line-to.ensures.lined b.others b.runs) long,
       λ x r.

@@ -38,6 +38,12 @@ offset_bounds-six-row c =
     omega (arith, c.loop-i.invariant.1, c.requires.n_in_bounds, c.loop-i-test.true) in
     omega (arith, inside, c.well_formed)
 
+pub slice_bounds-put_needle-end : goal.slice_bounds-put_needle-end
+slice_bounds-put_needle-end c =
+    let inside : c.loop-i.row + 4 ≤ length c.args.six.now =
+    omega (arith, c.loop-i.invariant.1, c.requires.n_in_bounds, c.loop-i-test.true) in
+    omega (arith, inside)
+
 pub put_needle-next-requires : goal.put_needle-next-requires
 put_needle-next-requires c =
     let inside : c.loop-i.row + 4 ≤ length c.args.six.now =

@@ -33,6 +33,12 @@ overflow_add-end c =
     line-inside c.loop-k.invariant.0 c.loop-k-test.true in
     omega (arith, inside)
 
+pub slice_bounds-write_line-end : goal.slice_bounds-write_line-end
+slice_bounds-write_line-end c =
+    let inside : c.loop-k.at + c.args.n.I + 1 ≤ length c.args.vectors.now =
+    line-inside c.loop-k.invariant.0 c.loop-k-test.true in
+    omega (arith, inside)
+
 pub write_line-to-requires : goal.write_line-to-requires
 write_line-to-requires c =
     let fits : c.loop-k.to + line_width c.args.n ≤ length c.args.out.now =
@@ -64,7 +70,7 @@ loop-k-preserved c =
       lining-next c.loop-k.invariant.0 c.loop-k-test.true,
       c.write_line-to.ensures.value ∙ next_row (line_width c.args.n) c.loop-k.k c.loop-k.to c.loop-k.invariant.1,
       c.write_line-to.auto.scratch ∙ c.loop-k.invariant.2,
-      c.out-1.given ∙ c.loop-k.invariant.3,
+      c.write_line-to.auto.out ∙ c.loop-k.invariant.3,
       λ others s r e rests.
           let g = c.loop-k.invariant.4 others s r e rests in
           going-at c.write_line-to.ensures.value

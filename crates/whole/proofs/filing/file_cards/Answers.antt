@@ -47,29 +47,45 @@ slice_bounds-write_binary-count c =
     let end = cards-end (entry) (left) c.read_cards.ensures c.in-Accepted.n c.in-Accepted.end c.in-Accepted.is in
     omega arith
 
+pub slice_bounds-write_binary-start : goal.slice_bounds-write_binary-start
+slice_bounds-write_binary-start c =
+    let tables : Tables =
+    let a = c.args in seven a.inputs.now a.latches.now a.outputs.now a.gates.now a.resets.now a.bads.now a.constraints.now in
+    let entry : ReadEntry =
+    record { file = c.args.file.now; tables = tables; scratch = c.args.scratch.now } in
+    let left : LoadExit =
+    record {
+      answer = c.read_cards.result;
+      tables = seven c.read_cards.new.inputs c.read_cards.new.latches c.read_cards.new.outputs c.read_cards.new.gates
+          c.read_cards.new.resets c.read_cards.new.bads c.read_cards.new.constraints;
+      scratch = c.read_cards.new.scratch;
+    } in
+    let end = cards-end (entry) (left) c.read_cards.ensures c.in-Accepted.n c.in-Accepted.end c.in-Accepted.is in
+    omega arith
+
 pub shape_of-inputs-in-Refused : goal.shape_of-inputs-in-Refused
 shape_of-inputs-in-Refused c = c.read_cards.auto.inputs
 
 pub shape_of-latches-in-Refused : goal.shape_of-latches-in-Refused
-shape_of-latches-in-Refused c = c.latches-1.given
+shape_of-latches-in-Refused c = c.read_cards.auto.latches
 
 pub shape_of-outputs-in-Refused : goal.shape_of-outputs-in-Refused
-shape_of-outputs-in-Refused c = c.outputs-1.given
+shape_of-outputs-in-Refused c = c.read_cards.auto.outputs
 
 pub shape_of-gates-in-Refused : goal.shape_of-gates-in-Refused
-shape_of-gates-in-Refused c = c.gates-1.given
+shape_of-gates-in-Refused c = c.read_cards.auto.gates
 
 pub shape_of-resets-in-Refused : goal.shape_of-resets-in-Refused
-shape_of-resets-in-Refused c = c.resets-1.given
+shape_of-resets-in-Refused c = c.read_cards.auto.resets
 
 pub shape_of-bads-in-Refused : goal.shape_of-bads-in-Refused
-shape_of-bads-in-Refused c = c.bads-1.given
+shape_of-bads-in-Refused c = c.read_cards.auto.bads
 
 pub shape_of-constraints-in-Refused : goal.shape_of-constraints-in-Refused
-shape_of-constraints-in-Refused c = c.constraints-1.given
+shape_of-constraints-in-Refused c = c.read_cards.auto.constraints
 
 pub shape_of-scratch-in-Refused : goal.shape_of-scratch-in-Refused
-shape_of-scratch-in-Refused c = c.scratch-1.given
+shape_of-scratch-in-Refused c = c.read_cards.auto.scratch
 
 pub returns-in-Refused : goal.returns-in-Refused
 returns-in-Refused c =
@@ -95,28 +111,28 @@ pub shape_of-inputs-in-Accepted : goal.shape_of-inputs-in-Accepted
 shape_of-inputs-in-Accepted c = c.read_cards.auto.inputs
 
 pub shape_of-latches-in-Accepted : goal.shape_of-latches-in-Accepted
-shape_of-latches-in-Accepted c = c.latches-1.given
+shape_of-latches-in-Accepted c = c.read_cards.auto.latches
 
 pub shape_of-outputs-in-Accepted : goal.shape_of-outputs-in-Accepted
-shape_of-outputs-in-Accepted c = c.outputs-1.given
+shape_of-outputs-in-Accepted c = c.read_cards.auto.outputs
 
 pub shape_of-gates-in-Accepted : goal.shape_of-gates-in-Accepted
-shape_of-gates-in-Accepted c = c.gates-1.given
+shape_of-gates-in-Accepted c = c.read_cards.auto.gates
 
 pub shape_of-resets-in-Accepted : goal.shape_of-resets-in-Accepted
-shape_of-resets-in-Accepted c = c.resets-1.given
+shape_of-resets-in-Accepted c = c.read_cards.auto.resets
 
 pub shape_of-bads-in-Accepted : goal.shape_of-bads-in-Accepted
-shape_of-bads-in-Accepted c = c.bads-1.given
+shape_of-bads-in-Accepted c = c.read_cards.auto.bads
 
 pub shape_of-constraints-in-Accepted : goal.shape_of-constraints-in-Accepted
-shape_of-constraints-in-Accepted c = c.constraints-1.given
+shape_of-constraints-in-Accepted c = c.read_cards.auto.constraints
 
 pub shape_of-scratch-in-Accepted : goal.shape_of-scratch-in-Accepted
-shape_of-scratch-in-Accepted c = c.write_binary.auto.scratch ∙ c.scratch-1.given
+shape_of-scratch-in-Accepted c = c.write_binary.auto.scratch ∙ c.read_cards.auto.scratch
 
 pub shape_of-out : goal.shape_of-out
-shape_of-out c = c.out-1.given
+shape_of-out c = c.write_binary.auto.out
 
 pub returns-in-Accepted : goal.returns-in-Accepted
 returns-in-Accepted c =

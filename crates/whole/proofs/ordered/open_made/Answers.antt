@@ -20,12 +20,12 @@ shape_of-inputs-in-Refused c =
 
 pub shape_of-latches-in-Refused : goal.shape_of-latches-in-Refused
 shape_of-latches-in-Refused c =
-    let p0 = c.latches-1.given in
+    let p0 = c.open_file.auto.latches in
     omega (arith, p0)
 
 pub shape_of-scratch-in-Refused : goal.shape_of-scratch-in-Refused
 shape_of-scratch-in-Refused c =
-    let p0 = c.scratch-1.given in
+    let p0 = c.open_file.auto.scratch in
     let p1 = c.clear.auto.table in
     omega (arith, p0, p1)
 
@@ -68,38 +68,38 @@ shape_of-inputs-in-Accepted c =
 
 pub shape_of-latches-in-Accepted : goal.shape_of-latches-in-Accepted
 shape_of-latches-in-Accepted c =
-    let p0 = c.latches-1.given in
+    let p0 = c.open_file.auto.latches in
     omega (arith, p0)
 
 pub shape_of-outputs-in-Accepted : goal.shape_of-outputs-in-Accepted
 shape_of-outputs-in-Accepted c =
-    let p0 = c.outputs-1.given in
+    let p0 = c.open_file.auto.outputs in
     omega (arith, p0)
 
 pub shape_of-gates-in-Accepted : goal.shape_of-gates-in-Accepted
 shape_of-gates-in-Accepted c =
-    let p0 = c.gates-1.given in
+    let p0 = c.open_file.auto.gates in
     omega (arith, p0)
 
 pub shape_of-resets-in-Accepted : goal.shape_of-resets-in-Accepted
 shape_of-resets-in-Accepted c =
-    let p0 = c.resets-1.given in
+    let p0 = c.open_file.auto.resets in
     omega (arith, p0)
 
 pub shape_of-bads-in-Accepted : goal.shape_of-bads-in-Accepted
 shape_of-bads-in-Accepted c =
-    let p0 = c.bads-1.given in
+    let p0 = c.open_file.auto.bads in
     omega (arith, p0)
 
 pub shape_of-constraints-in-Accepted : goal.shape_of-constraints-in-Accepted
 shape_of-constraints-in-Accepted c =
-    let p0 = c.constraints-1.given in
+    let p0 = c.open_file.auto.constraints in
     omega (arith, p0)
 
 pub shape_of-scratch-in-Accepted : goal.shape_of-scratch-in-Accepted
 shape_of-scratch-in-Accepted c =
-    let p0 = c.scratch-1.given in
-    let p1 = c.scratch-in-Accepted-1.given in
+    let p0 = c.open_file.auto.scratch in
+    let p1 = c.convert.auto.scratch in
     omega (arith, p0, p1)
 
 pub returns-in-Accepted : goal.returns-in-Accepted

@@ -17,63 +17,63 @@ shape_of-inputs c =
 
 pub shape_of-latches : goal.shape_of-latches
 shape_of-latches c =
-    let p0 = c.latches-1.given in
-    let p1 = c.latches-2-1.given in
+    let p0 = c.open_made-answer.auto.latches in
+    let p1 = c.clear_all.auto.latches in
     omega (arith, p0, p1)
 
 pub shape_of-outputs : goal.shape_of-outputs
 shape_of-outputs c =
-    let p0 = c.outputs-1.given in
-    let p1 = c.outputs-2-1.given in
+    let p0 = c.open_made-answer.auto.outputs in
+    let p1 = c.clear_all.auto.outputs in
     omega (arith, p0, p1)
 
 pub shape_of-gates : goal.shape_of-gates
 shape_of-gates c =
-    let p0 = c.gates-1.given in
-    let p1 = c.gates-2-1.given in
+    let p0 = c.open_made-answer.auto.gates in
+    let p1 = c.clear_all.auto.gates in
     omega (arith, p0, p1)
 
 pub shape_of-resets : goal.shape_of-resets
 shape_of-resets c =
-    let p0 = c.resets-1.given in
-    let p1 = c.resets-2-1.given in
+    let p0 = c.open_made-answer.auto.resets in
+    let p1 = c.clear_all.auto.resets in
     omega (arith, p0, p1)
 
 pub shape_of-bads : goal.shape_of-bads
 shape_of-bads c =
-    let p0 = c.bads-1.given in
-    let p1 = c.bads-2-1.given in
+    let p0 = c.open_made-answer.auto.bads in
+    let p1 = c.clear_all.auto.bads in
     omega (arith, p0, p1)
 
 pub shape_of-constraints : goal.shape_of-constraints
 shape_of-constraints c =
-    let p0 = c.constraints-1.given in
-    let p1 = c.constraints-2-1.given in
+    let p0 = c.open_made-answer.auto.constraints in
+    let p1 = c.clear_all.auto.constraints in
     omega (arith, p0, p1)
 
 pub shape_of-made_inputs : goal.shape_of-made_inputs
 shape_of-made_inputs c =
-    let p0 = c.made_inputs-1.given in
+    let p0 = c.open_made-answer.auto.made_inputs in
     omega (arith, p0)
 
 pub shape_of-made_latches : goal.shape_of-made_latches
 shape_of-made_latches c =
-    let p0 = c.made_latches-1.given in
+    let p0 = c.open_made-answer.auto.made_latches in
     omega (arith, p0)
 
 pub shape_of-made_outputs : goal.shape_of-made_outputs
 shape_of-made_outputs c =
-    let p0 = c.made_outputs-1.given in
+    let p0 = c.open_made-answer.auto.made_outputs in
     omega (arith, p0)
 
 pub shape_of-made_gates : goal.shape_of-made_gates
 shape_of-made_gates c =
-    let p0 = c.made_gates-1.given in
+    let p0 = c.open_made-answer.auto.made_gates in
     omega (arith, p0)
 
 pub shape_of-made_resets : goal.shape_of-made_resets
 shape_of-made_resets c =
-    let p0 = c.made_resets-1.given in
+    let p0 = c.open_made-answer.auto.made_resets in
     omega (arith, p0)
 
 pub returns : goal.returns

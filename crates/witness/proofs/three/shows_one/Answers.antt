@@ -46,6 +46,12 @@ overflow_add-end c =
     record { whole = c.requires.bytes_len; here = c.loop-k.invariant.1; more = c.loop-k-test.true } in
     omega (arith, vector-ends (turn), c.before.good)
 
+pub slice_bounds-load-end : goal.slice_bounds-load-end
+slice_bounds-load-end c =
+    let turn : Turn c.args.n c.args.number c.args.bytes.now c.loop-k.k c.loop-k.at =
+    record { whole = c.requires.bytes_len; here = c.loop-k.invariant.1; more = c.loop-k-test.true } in
+    omega (arith, vector-ends (turn))
+
 pub load-requires : goal.load-requires
 load-requires c =
     let room : Scratch c.args.n c.loop-k.scratch =

@@ -38,16 +38,14 @@ shape_of-out c =
     let enough = c.if-out-line.false in
     let number = c.digits_in.ensures in
     let place = c.digits_in-2.ensures in
-    let first = (@P
-    ).append in
-    let t1 = more-told out [] out 0 (nothing-told out) (bytes_of "refused ") first.last.0 first.result
-    (omega (arith, enough)) first.ensures.1 first.ensures.0 in
-    let t2 = more-told out (bytes_of "refused ") first.last.0 first.result t1 (digits n) c.put_digits-number_end.new.out c.put_digits-number_end.result
-    (omega (arith, enough, number, first.ensures.0)) c.put_digits-number_end.ensures.out_after c.put_digits-number_end.ensures.value in
+    let t1 = more-told out [] out 0 (nothing-told out) (bytes_of "refused ") c.append-number_at.new.out c.append-number_at.result
+    (omega (arith, enough)) c.append-number_at.ensures.out_after c.append-number_at.ensures.value in
+    let t2 = more-told out (bytes_of "refused ") c.append-number_at.new.out c.append-number_at.result t1 (digits n) c.put_digits-number_end.new.out c.put_digits-number_end.result
+    (omega (arith, enough, number, c.append-number_at.ensures.value)) c.put_digits-number_end.ensures.out_after c.put_digits-number_end.ensures.value in
     let t3 = more-told out (bytes_of "refused " ++ digits n) c.put_digits-number_end.new.out c.put_digits-number_end.result t2 (bytes_of " at ") c.append-place_at.new.out
-    c.append-place_at.result (omega (arith, enough, number, first.ensures.0, c.put_digits-number_end.ensures.value)) c.append-place_at.ensures.out_after c.append-place_at.ensures.value in
+    c.append-place_at.result (omega (arith, enough, number, c.append-number_at.ensures.value, c.put_digits-number_end.ensures.value)) c.append-place_at.ensures.out_after c.append-place_at.ensures.value in
     more-told out ((bytes_of "refused " ++ digits n) ++ bytes_of " at ") c.append-place_at.new.out c.append-place_at.result t3 (digits p) c.put_digits-end.new.out
-    c.put_digits-end.result (omega (arith, enough, number, place, first.ensures.0, c.put_digits-number_end.ensures.value, c.append-place_at.ensures.value))
+    c.put_digits-end.result (omega (arith, enough, number, place, c.append-number_at.ensures.value, c.put_digits-number_end.ensures.value, c.append-place_at.ensures.value))
     c.put_digits-end.ensures.out_after c.put_digits-end.ensures.value in
     let room : c.put_digits-end.result + 1 ≤ length c.args.out.now =
     let enough = c.if-out-line.false in
@@ -72,16 +70,14 @@ returns c =
     let enough = c.if-out-line.false in
     let number = c.digits_in.ensures in
     let place = c.digits_in-2.ensures in
-    let first = (@P
-    ).append in
-    let t1 = more-told out [] out 0 (nothing-told out) (bytes_of "refused ") first.last.0 first.result
-    (omega (arith, enough)) first.ensures.1 first.ensures.0 in
-    let t2 = more-told out (bytes_of "refused ") first.last.0 first.result t1 (digits n) c.put_digits-number_end.new.out c.put_digits-number_end.result
-    (omega (arith, enough, number, first.ensures.0)) c.put_digits-number_end.ensures.out_after c.put_digits-number_end.ensures.value in
+    let t1 = more-told out [] out 0 (nothing-told out) (bytes_of "refused ") c.append-number_at.new.out c.append-number_at.result
+    (omega (arith, enough)) c.append-number_at.ensures.out_after c.append-number_at.ensures.value in
+    let t2 = more-told out (bytes_of "refused ") c.append-number_at.new.out c.append-number_at.result t1 (digits n) c.put_digits-number_end.new.out c.put_digits-number_end.result
+    (omega (arith, enough, number, c.append-number_at.ensures.value)) c.put_digits-number_end.ensures.out_after c.put_digits-number_end.ensures.value in
     let t3 = more-told out (bytes_of "refused " ++ digits n) c.put_digits-number_end.new.out c.put_digits-number_end.result t2 (bytes_of " at ") c.append-place_at.new.out
-    c.append-place_at.result (omega (arith, enough, number, first.ensures.0, c.put_digits-number_end.ensures.value)) c.append-place_at.ensures.out_after c.append-place_at.ensures.value in
+    c.append-place_at.result (omega (arith, enough, number, c.append-number_at.ensures.value, c.put_digits-number_end.ensures.value)) c.append-place_at.ensures.out_after c.append-place_at.ensures.value in
     more-told out ((bytes_of "refused " ++ digits n) ++ bytes_of " at ") c.append-place_at.new.out c.append-place_at.result t3 (digits p) c.put_digits-end.new.out
-    c.put_digits-end.result (omega (arith, enough, number, place, first.ensures.0, c.put_digits-number_end.ensures.value, c.append-place_at.ensures.value))
+    c.put_digits-end.result (omega (arith, enough, number, place, c.append-number_at.ensures.value, c.put_digits-number_end.ensures.value, c.append-place_at.ensures.value))
     c.put_digits-end.ensures.out_after c.put_digits-end.ensures.value in
     let room : c.put_digits-end.result + 1 ≤ length c.args.out.now =
     let enough = c.if-out-line.false in
