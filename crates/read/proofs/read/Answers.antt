@@ -28,7 +28,7 @@ slice_bounds-result-start c =
     c.load.new.resets c.load.new.bads c.load.new.constraints in
     let x : LoadExit = record { answer = c.load.result; tables = t'; scratch = c.load.new.scratch } in
     let said = c.load.ensures in
-    starts-within a.version e x said _ _ c.n.given.1
+    omega (arith, starts-within a.version e x said _ _ c.in-Accepted.is)
 
 pub shape_of-inputs-in-Accepted : goal.shape_of-inputs-in-Accepted
 shape_of-inputs-in-Accepted c = c.load.auto.inputs
