@@ -19,19 +19,6 @@ use Rattle.explain.proofs.Answers.{not_there, is_x, too_short, marked}
 use borrow.Author.Rules.{rules}
 use Rattle.explain.proofs.explain_output.Goals as goal
 
-module _ (d : tie.After-scratch) (x : Tables) (t : List ℕ)
-    (r : let a = d.args in Runs a.n (these x a.latches.now a.outputs.now a.gates.now)) where
-  settled : let a = d.args in
-      Settled a.n (circuit_of a.n (these x a.latches.now a.outputs.now a.gates.now)) (map value_of a.state.now)
-      (map value_of a.ins.now) (words d)
-  settled = d.before.settle.ensures x r
-
-  told : let a = d.args in get_or (words d) (a.n.M + 1 + a.output) 0 ≡ word (value_asked (entry d x t))
-  told = output-word r d.args.output (there d) settled
-
-  long : let a = d.args in length (marks_asked (entry d x t)) ≡ a.n.L + a.n.I
-  long = let e = entry d x t in marks-long r (state_of e) (inputs_of e) (asked e)
-
 pub returns-then-output-n : goal.returns-then-output-n
 returns-then-output-n c =
     let entry : Tables → List ℕ → ExplainEntry =
@@ -62,8 +49,14 @@ returns-then-value c =
       output = a.output;
       marks = a.marks.now;
     } in
+    let words : List ℕ =
+    c.settle.new.scratch in
     let there : c.args.output < c.args.n.O =
     omega (arith, c.if-output-n.false) in
+    let settled : (x : Tables) (t : List ℕ) (r : let a = c.args in Runs a.n (these x a.latches.now a.outputs.now a.gates.now)) → let a = c.args in Settled a.n (circuit_of a.n (these x a.latches.now a.outputs.now a.gates.now)) (map value_of a.state.now) (map value_of a.ins.now) (words) =
+    λ x t r. c.settle.ensures x r in
+    let told : (x : Tables) (t : List ℕ) (r : let a = c.args in Runs a.n (these x a.latches.now a.outputs.now a.gates.now)) → let a = c.args in get_or (words) (a.n.M + 1 + a.output) 0 ≡ word (value_asked (entry x t)) =
+    λ x t r. output-word r c.args.output (there) (settled x t r) in
     λ x t r.
     is_x (entry x t) (there) (x-word (value_asked (entry x t)) (sym (told x t r) ∙ c.if-value.true))
 
@@ -78,8 +71,16 @@ returns-then-marks-needed c =
       output = a.output;
       marks = a.marks.now;
     } in
+    let words : List ℕ =
+    c.settle.new.scratch in
     let there : c.args.output < c.args.n.O =
     omega (arith, c.if-output-n.false) in
+    let settled : (x : Tables) (t : List ℕ) (r : let a = c.args in Runs a.n (these x a.latches.now a.outputs.now a.gates.now)) → let a = c.args in Settled a.n (circuit_of a.n (these x a.latches.now a.outputs.now a.gates.now)) (map value_of a.state.now) (map value_of a.ins.now) (words) =
+    λ x t r. c.settle.ensures x r in
+    let told : (x : Tables) (t : List ℕ) (r : let a = c.args in Runs a.n (these x a.latches.now a.outputs.now a.gates.now)) → let a = c.args in get_or (words) (a.n.M + 1 + a.output) 0 ≡ word (value_asked (entry x t)) =
+    λ x t r. output-word r c.args.output (there) (settled x t r) in
+    let long : (x : Tables) (t : List ℕ) (r : let a = c.args in Runs a.n (these x a.latches.now a.outputs.now a.gates.now)) → let a = c.args in length (marks_asked (entry x t)) ≡ a.n.L + a.n.I =
+    λ x t r. let e = entry x t in marks-long r (state_of e) (inputs_of e) (asked e) in
     λ x t r.
     let f = r.fits in
     too_short (entry x t) (there) (λ q. c.if-value.false (told x t r ∙ ap word q)) _ (long x t r)
@@ -125,8 +126,16 @@ returns c =
       output = a.output;
       marks = a.marks.now;
     } in
+    let words : List ℕ =
+    c.settle.new.scratch in
     let there : c.args.output < c.args.n.O =
     omega (arith, c.if-output-n.false) in
+    let settled : (x : Tables) (t : List ℕ) (r : let a = c.args in Runs a.n (these x a.latches.now a.outputs.now a.gates.now)) → let a = c.args in Settled a.n (circuit_of a.n (these x a.latches.now a.outputs.now a.gates.now)) (map value_of a.state.now) (map value_of a.ins.now) (words) =
+    λ x t r. c.settle.ensures x r in
+    let told : (x : Tables) (t : List ℕ) (r : let a = c.args in Runs a.n (these x a.latches.now a.outputs.now a.gates.now)) → let a = c.args in get_or (words) (a.n.M + 1 + a.output) 0 ≡ word (value_asked (entry x t)) =
+    λ x t r. output-word r c.args.output (there) (settled x t r) in
+    let long : (x : Tables) (t : List ℕ) (r : let a = c.args in Runs a.n (these x a.latches.now a.outputs.now a.gates.now)) → let a = c.args in length (marks_asked (entry x t)) ≡ a.n.L + a.n.I =
+    λ x t r. let e = entry x t in marks-long r (state_of e) (inputs_of e) (asked e) in
     λ x t r.
     let a = c.args in
     let l = ap word_of c.at.ensures ∙ sym (literal-is r a.output (there)) in

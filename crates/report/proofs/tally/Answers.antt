@@ -24,7 +24,7 @@ pub overflow_add-end : goal.overflow_add-end
 overflow_add-end c =
     let vector : Vector c.args.n c.args.number c.args.bytes.now c.loop-k.k c.loop-k.at =
     record { whole = c.requires.whole; here = c.loop-k.invariant.1; more = c.loop-k-test.true } in
-    omega (arith, vector-ends (vector), c.before.good)
+    omega (arith, vector-ends (vector), c.well_formed)
 
 pub slice_bounds-turn-end : goal.slice_bounds-turn-end
 slice_bounds-turn-end c =

@@ -65,7 +65,7 @@ scratch_to_work-needed-requires c =
     let fits : length (entry).file ≤ 65536 =
     c.if-file-gt-LONGEST.false in
     let bytes : Bytes (entry).file =
-    (c.type_inv.file k).fits in
+    λ k. (c.type_inv.file k).fits in
     let m = limits (entry) (readable) (fits) (exit) c.load.ensures (bytes) _ _ c.in-Accepted.is in
     (m.0, m.1.1.1.0, m.1.1.1.1.1.0, m.1.1.1.1.1.1.0)
 
@@ -93,7 +93,7 @@ too_short-short-requires c =
     let fits : length (entry).file ≤ 65536 =
     c.if-file-gt-LONGEST.false in
     let bytes : Bytes (entry).file =
-    (c.type_inv.file k).fits in
+    λ k. (c.type_inv.file k).fits in
     let m = limits (entry) (readable) (fits) (exit) c.load.ensures (bytes) _ _ c.in-Accepted.is in
     (m.1.1.0, m.1.1.1.1.0)
 
@@ -121,7 +121,7 @@ returns-then-short-ne0 c =
     let fits : length (entry).file ≤ 65536 =
     c.if-file-gt-LONGEST.false in
     let bytes : Bytes (entry).file =
-    (c.type_inv.file k).fits in
+    λ k. (c.type_inv.file k).fits in
     made-short (entry) (readable) (fits) (exit) c.load.ensures (bytes) _ _ c.in-Accepted.is _
     c.scratch_to_work-needed.ensures _ c.too_short-short.ensures c.if-short-ne0.true
 
@@ -174,6 +174,6 @@ returns-else-short-ne0 c =
     let fits : length (entry).file ≤ 65536 =
     c.if-file-gt-LONGEST.false in
     let bytes : Bytes (entry).file =
-    (c.type_inv.file k).fits in
+    λ k. (c.type_inv.file k).fits in
     made-long (entry) (readable) (fits) (exit) c.load.ensures (bytes) _ _ c.in-Accepted.is _
     c.scratch_to_work-needed.ensures _ c.too_short-short.ensures c.if-short-ne0.false

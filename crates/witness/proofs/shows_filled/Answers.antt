@@ -58,7 +58,7 @@ overflow_add-end c =
     record { whole = filled-long ∙ c.requires.bytes_len; here = c.loop-k.invariant.1; more = c.loop-k-test.true } in
     let ends : c.loop-k.at + c.args.n.I ≤ length c.args.bytes.now =
     omega (arith, vector-ends (turn), filled-long) in
-    omega (arith, ends, c.before.good)
+    omega (arith, ends, c.well_formed)
 
 pub slice_bounds-load_filled-end : goal.slice_bounds-load_filled-end
 slice_bounds-load_filled-end c =
@@ -129,7 +129,7 @@ returns-then-not-all_lits c =
     let x = c.args in
     filled-vector x.first c.loop-k.at x.n.I c.loop-k.x x.bytes.now c.loop-k.invariant.3 x.which c.loop-k.scratch _ c.load_filled-x.ensures.t_after in
     let after : (inputs resets : List ℕ) (s : List Value) → let n = c.args.n in (r : Runs n (tables_of inputs resets)) (l : length s ≡ n.L) (z : Rests n s c.args.scratch.now) → Stepped n (circuit_of n (tables_of inputs resets)) (c.loop-k.invariant.4 inputs resets s r l z).state (vector_of (turn)) c.step_values.new.t =
-    λ inputs resets s r. c.step_values.ensures (tables_of inputs resets) _ _ r
+    λ inputs resets s r l z. c.step_values.ensures (tables_of inputs resets) _ _ r
     (vector-stands (turn) r (room) (c.loop-k.invariant.4 inputs resets s r l z) (vector)) in
     λ inputs resets s r l z.
     none-counts (turn) r (room) (c.loop-k.invariant.4 inputs resets s r l z) (after inputs resets s r l z) _
@@ -166,14 +166,14 @@ returns-then-shown c =
     let x = c.args in
     filled-vector x.first c.loop-k.at x.n.I c.loop-k.x x.bytes.now c.loop-k.invariant.3 x.which c.loop-k.scratch _ c.load_filled-x.ensures.t_after in
     let after : (inputs resets : List ℕ) (s : List Value) → let n = c.args.n in (r : Runs n (tables_of inputs resets)) (l : length s ≡ n.L) (z : Rests n s c.args.scratch.now) → Stepped n (circuit_of n (tables_of inputs resets)) (c.loop-k.invariant.4 inputs resets s r l z).state (vector_of (turn)) c.step_values.new.t =
-    λ inputs resets s r. c.step_values.ensures (tables_of inputs resets) _ _ r
+    λ inputs resets s r l z. c.step_values.ensures (tables_of inputs resets) _ _ r
     (vector-stands (turn) r (room) (c.loop-k.invariant.4 inputs resets s r l z) (vector)) in
     λ inputs resets s r l z.
     found-one (turn) r (room) (c.loop-k.invariant.4 inputs resets s r l z) (after inputs resets s r l z) _
     c.all_lits.ensures (not-false _ c.if-not-all_lits.false-raw) _ c.shown.ensures c.if-shown.true
 
 pub overflow_add-k : goal.overflow_add-k
-overflow_add-k c = omega (arith, c.loop-k-test.true, c.before.before.before.before.before.before.before.good)
+overflow_add-k c = omega (arith, c.loop-k-test.true, c.well_formed)
 
 pub loop-k-preserved : goal.loop-k-preserved
 loop-k-preserved c =
@@ -194,7 +194,7 @@ loop-k-preserved c =
     let x = c.args in
     filled-vector x.first c.loop-k.at x.n.I c.loop-k.x x.bytes.now c.loop-k.invariant.3 x.which c.loop-k.scratch _ c.load_filled-x.ensures.t_after in
     let after : (inputs resets : List ℕ) (s : List Value) → let n = c.args.n in (r : Runs n (tables_of inputs resets)) (l : length s ≡ n.L) (z : Rests n s c.args.scratch.now) → Stepped n (circuit_of n (tables_of inputs resets)) (c.loop-k.invariant.4 inputs resets s r l z).state (vector_of (turn)) c.step_values.new.t =
-    λ inputs resets s r. c.step_values.ensures (tables_of inputs resets) _ _ r
+    λ inputs resets s r l z. c.step_values.ensures (tables_of inputs resets) _ _ r
     (vector-stands (turn) r (room) (c.loop-k.invariant.4 inputs resets s r l z) (vector)) in
     (
       omega arith,

@@ -113,7 +113,7 @@ overflow_add-xs c =
         f.sum,
         f.most-M,
         count_small a.bytes.now,
-        c.good,
+        c.well_formed,
       );
     }
 

@@ -8,28 +8,35 @@ use Rattle.runs.proofs.comparing.Parting.{same-is, first-fails, second-fails, th
 use borrow.Author.Rules.{rules}
 use Rattle.runs.proofs.comparing.agree.Goals as goal
 
--- the three tests
-module _ (s : tie.Start) where
-  abbrev x : Bool
-  x = same_answer s.args.part s.args.plain
-
-  abbrev y : Bool
-  y = same_bytes s.args.state.now s.args.twin.now
-
-  abbrev z : Bool
-  z = same_bytes s.args.out.now s.args.again.now
-
 pub returns-then-not-same_answer : goal.returns-then-not-same_answer
 returns-then-not-same_answer c =
+    let x : Bool =
+    same_answer c.args.part c.args.plain in
+    let y : Bool =
+    same_bytes c.args.state.now c.args.twin.now in
+    let z : Bool =
+    same_bytes c.args.out.now c.args.again.now in
     first-fails (x) (y) (z) (sym c.same_answer.ensures ∙ not-true _ c.if-not-same_answer.true-raw)
 
 pub returns-then-not-same : goal.returns-then-not-same
 returns-then-not-same c =
+    let x : Bool =
+    same_answer c.args.part c.args.plain in
+    let y : Bool =
+    same_bytes c.args.state.now c.args.twin.now in
+    let z : Bool =
+    same_bytes c.args.out.now c.args.again.now in
     second-fails (x) (y) (z) (sym c.same_answer.ensures ∙ not-false _ c.if-not-same_answer.false-raw)
     (sym (same-is _ _ _ c.same.ensures) ∙ not-true _ c.if-not-same.true-raw)
 
 pub returns : goal.returns
 returns c =
+    let x : Bool =
+    same_answer c.args.part c.args.plain in
+    let y : Bool =
+    same_bytes c.args.state.now c.args.twin.now in
+    let z : Bool =
+    same_bytes c.args.out.now c.args.again.now in
     same-is _ _ _ c.same-2.ensures
     ∙ third-decides (x) (y) (z) (sym c.same_answer.ensures ∙ not-false _ c.if-not-same_answer.false-raw)
     (sym (same-is _ _ _ c.same.ensures) ∙ not-false _ c.if-not-same.false-raw)

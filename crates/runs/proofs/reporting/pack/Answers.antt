@@ -8,25 +8,27 @@ use lib.ListN.{length}
 use Rattle.runs.proofs.reporting.Packed.{Packs, packs-none, packs-more, packs-all}
 use Rattle.runs.proofs.reporting.pack.Goals as goal
 
--- in the loop a byte is left, and room for it
-module _ (q : tie.In-loop invariant-loop decreases-loop) where
-  left : q.before.loop.i < length q.before.before.before.before.before.args.lines.now
-  left = omega (arith, q.before.before.lesser.ensures, q.loop-test.true)
-
-  room : q.before.loop.i < length q.before.before.before.before.before.args.out.now
-  room = omega (arith, q.before.before.lesser.ensures, q.loop-test.taken)
-
 pub loop-i-init : goal.loop-i-init
 loop-i-init c = (omega arith, packs-none _ _)
 
 pub bounds-lines-i : goal.bounds-lines-i
-bounds-lines-i c = left
+bounds-lines-i c =
+    let left : c.loop-i.i < length c.args.lines.now =
+    omega (arith, c.lesser-taken.ensures, c.loop-i-test.true) in
+    left
 
 pub keep-n-requires : goal.keep-n-requires
-keep-n-requires c = omega (arith, c.loop-i.invariant.1.few, c.loop-i.invariant.1.size, room)
+keep-n-requires c =
+    let room : c.loop-i.i < length c.args.out.now =
+    omega (arith, c.lesser-taken.ensures, c.loop-i-test.true) in
+    omega (arith, c.loop-i.invariant.1.few, c.loop-i.invariant.1.size, room)
 
 pub loop-i-preserved : goal.loop-i-preserved
 loop-i-preserved c =
+    let left : c.loop-i.i < length c.args.lines.now =
+    omega (arith, c.lesser-taken.ensures, c.loop-i-test.true) in
+    let room : c.loop-i.i < length c.args.out.now =
+    omega (arith, c.lesser-taken.ensures, c.loop-i-test.true) in
     (omega arith, packs-more c.loop-i.invariant.1 (left) (room) _ _ c.keep-n.ensures.value c.keep-n.ensures.out_after c.keep-n.auto.out)
 
 pub shape_of-out : goal.shape_of-out

@@ -34,7 +34,7 @@ pub overflow_add-end : goal.overflow_add-end
 overflow_add-end c =
     let few-digits : length (digits c.args.number) ≤ 20 =
     digits-twenty c.args.number (omega (arith, c.well_formed)) in
-    omega (arith, few-digits, c.requires.at_in_bounds, c.put_digits-end.ensures.value, c.before.good)
+    omega (arith, few-digits, c.requires.at_in_bounds, c.put_digits-end.ensures.value, c.well_formed)
 
 pub write_lines-requires : goal.write_lines-requires
 write_lines-requires c =

@@ -44,7 +44,7 @@ pub overflow_add-end : goal.overflow_add-end
 overflow_add-end c =
     let turn : Turn c.args.n c.args.number c.args.bytes.now c.loop-k.k c.loop-k.at =
     record { whole = c.requires.bytes_len; here = c.loop-k.invariant.1; more = c.loop-k-test.true } in
-    omega (arith, vector-ends (turn), c.before.good)
+    omega (arith, vector-ends (turn), c.well_formed)
 
 pub slice_bounds-load-end : goal.slice_bounds-load-end
 slice_bounds-load-end c =
@@ -93,7 +93,7 @@ returns-then-not-all_lits c =
     λ inputs resets. let a = c.args in
     seven inputs a.latches.now a.outputs.now a.gates.now resets a.bads.now a.constraints.now in
     let after : (inputs resets : List ℕ) (s : List Value) → let n = c.args.n in (r : Runs n (tables_of inputs resets)) (l : length s ≡ n.L) (z : Rests n s c.args.scratch.now) → Stepped n (circuit_of n (tables_of inputs resets)) (c.loop-k.invariant.3 inputs resets s r l z).state (vector_of (turn)) c.step_values.new.t =
-    λ inputs resets s r. c.step_values.ensures (tables_of inputs resets) _ _ r
+    λ inputs resets s r l z. c.step_values.ensures (tables_of inputs resets) _ _ r
     (vector-stands (turn) r (room) (c.loop-k.invariant.3 inputs resets s r l z) c.load.ensures) in
     λ inputs resets s r l z.
     none-counts (turn) r (room) (c.loop-k.invariant.3 inputs resets s r l z) (after inputs resets s r l z) _
@@ -123,14 +123,14 @@ returns-then-shown c =
     λ inputs resets. let a = c.args in
     seven inputs a.latches.now a.outputs.now a.gates.now resets a.bads.now a.constraints.now in
     let after : (inputs resets : List ℕ) (s : List Value) → let n = c.args.n in (r : Runs n (tables_of inputs resets)) (l : length s ≡ n.L) (z : Rests n s c.args.scratch.now) → Stepped n (circuit_of n (tables_of inputs resets)) (c.loop-k.invariant.3 inputs resets s r l z).state (vector_of (turn)) c.step_values.new.t =
-    λ inputs resets s r. c.step_values.ensures (tables_of inputs resets) _ _ r
+    λ inputs resets s r l z. c.step_values.ensures (tables_of inputs resets) _ _ r
     (vector-stands (turn) r (room) (c.loop-k.invariant.3 inputs resets s r l z) c.load.ensures) in
     λ inputs resets s r l z.
     found-one (turn) r (room) (c.loop-k.invariant.3 inputs resets s r l z) (after inputs resets s r l z) _
     c.all_lits.ensures (not-false _ c.if-not-all_lits.false-raw) _ c.shown.ensures c.if-shown.true
 
 pub overflow_add-k : goal.overflow_add-k
-overflow_add-k c = omega (arith, c.loop-k-test.true, c.before.before.before.before.before.before.before.good)
+overflow_add-k c = omega (arith, c.loop-k-test.true, c.well_formed)
 
 pub loop-k-preserved : goal.loop-k-preserved
 loop-k-preserved c =
@@ -144,7 +144,7 @@ loop-k-preserved c =
     let same : length c.step_values.new.t ≡ length c.args.scratch.now =
     c.step_values.auto.t ∙ c.load.auto.t ∙ c.loop-k.invariant.2 in
     let after : (inputs resets : List ℕ) (s : List Value) → let n = c.args.n in (r : Runs n (tables_of inputs resets)) (l : length s ≡ n.L) (z : Rests n s c.args.scratch.now) → Stepped n (circuit_of n (tables_of inputs resets)) (c.loop-k.invariant.3 inputs resets s r l z).state (vector_of (turn)) c.step_values.new.t =
-    λ inputs resets s r. c.step_values.ensures (tables_of inputs resets) _ _ r
+    λ inputs resets s r l z. c.step_values.ensures (tables_of inputs resets) _ _ r
     (vector-stands (turn) r (room) (c.loop-k.invariant.3 inputs resets s r l z) c.load.ensures) in
     (
       omega arith,

@@ -22,9 +22,6 @@ use Rattle.witness.proofs.three.Verdicts.{good-list, refused-witness, refused-li
 use borrow.Author.Rules.{rules}
 use Rattle.witness.proofs.three.witness3.Goals as goal
 
--- the list is whole-told : (f : tie.Else1) → let e = entry f.before.before in codes_in e.bytes (e.number * e.circuit.counts.I) ≡ true
-whole-told f = sym f.before.whole-list.ensures ∙ not-false _ f.if1.false
-
 pub returns-then-not-whole_list : goal.returns-then-not-whole_list
 returns-then-not-whole_list c =
     let entry : WitnessEntry =
@@ -72,7 +69,7 @@ start_values-requires c =
     let long : Scratch c.args.n c.check_in_order.new.scratch =
     let e = entry in
     (room e.circuit (list_stage e) (says) (told) c.check_in_order.new.scratch (same)).scratch-long in
-    let f = (holds).ranges in
+    let f = (holds).fits in
     (f.resets-long, omega (arith, long, f.sum))
 
 pub shows_one-shown-requires : goal.shows_one-shown-requires
@@ -94,6 +91,8 @@ shows_one-shown-requires c =
     ap (λ (x : CheckExit). x.answer) c.check_in_order.ensures in
     let same : length c.check_in_order.new.scratch ≡ length c.args.scratch.now =
     c.check_in_order.auto.scratch in
+    let whole-told : let e = entry in codes_in e.bytes (e.number * e.circuit.counts.I) ≡ true =
+    sym c.whole_list.ensures ∙ not-false _ c.if-not-whole_list.false-raw in
     let holds : let g = (entry).circuit in Runs g.counts g.tables =
     let e = entry in runs e.circuit (list_stage e) (says) (told) in
     let long : Scratch c.args.n c.check_in_order.new.scratch =
@@ -134,6 +133,8 @@ returns-then-shown c =
     ap (λ (x : CheckExit). x.answer) c.check_in_order.ensures in
     let same : length c.check_in_order.new.scratch ≡ length c.args.scratch.now =
     c.check_in_order.auto.scratch in
+    let whole-told : let e = entry in codes_in e.bytes (e.number * e.circuit.counts.I) ≡ true =
+    sym c.whole_list.ensures ∙ not-false _ c.if-not-whole_list.false-raw in
     let holds : let g = (entry).circuit in Runs g.counts g.tables =
     let e = entry in runs e.circuit (list_stage e) (says) (told) in
     let state-long : let g = (entry).circuit in length (first_state (given_circuit g)) ≡ g.counts.L =
@@ -185,6 +186,8 @@ returns-else-shown c =
     ap (λ (x : CheckExit). x.answer) c.check_in_order.ensures in
     let same : length c.check_in_order.new.scratch ≡ length c.args.scratch.now =
     c.check_in_order.auto.scratch in
+    let whole-told : let e = entry in codes_in e.bytes (e.number * e.circuit.counts.I) ≡ true =
+    sym c.whole_list.ensures ∙ not-false _ c.if-not-whole_list.false-raw in
     let holds : let g = (entry).circuit in Runs g.counts g.tables =
     let e = entry in runs e.circuit (list_stage e) (says) (told) in
     let state-long : let g = (entry).circuit in length (first_state (given_circuit g)) ≡ g.counts.L =
