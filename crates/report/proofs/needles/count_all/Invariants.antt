@@ -9,7 +9,7 @@ use Rattle.report.proofs.needles.Looping.{Rowed, rowed-none, asks, counts-more, 
 use Rattle.report.proofs.needles.count_all.Given as goal
 
 abbrev pub invariant-loop-i : goal.invariant-loop-i
-invariant-loop-i l = (l.i ≤ l.n) × Rowed (λ l.i. counted (row_from l.initial.six l.at l.i) (get_or l.t (l.from + l.i) 0)) l.at l.initial.six l.i l.row l.six
+invariant-loop-i l = (l.i ≤ l.n) × Rowed (λ k. counted (row_from l.initial.six l.at k) (get_or l.t (l.from + k) 0)) l.at l.initial.six l.i l.row l.six
 
 abbrev pub decreases-loop-i : goal.decreases-loop-i
 decreases-loop-i l = l.n - l.i

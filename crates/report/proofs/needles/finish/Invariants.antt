@@ -10,7 +10,7 @@ use Rattle.report.proofs.needles.Looping.{Rowed, rowed-none, finish-next, rowed-
 use Rattle.report.proofs.needles.finish.Given as goal
 
 abbrev pub invariant-loop-i : goal.invariant-loop-i
-invariant-loop-i l = (l.i ≤ l.n) × (l.at ≡ 4 * l.i + 3) × Rowed (λ l.i. finished (row_from l.initial.six 0 l.i)) 0 l.initial.six l.i (4 * l.i) l.six
+invariant-loop-i l = (l.i ≤ l.n) × (l.at ≡ 4 * l.i + 3) × Rowed (λ k. finished (row_from l.initial.six 0 k)) 0 l.initial.six l.i (4 * l.i) l.six
 
 abbrev pub decreases-loop-i : goal.decreases-loop-i
 decreases-loop-i l = l.n - l.i

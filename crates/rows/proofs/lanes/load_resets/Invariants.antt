@@ -12,6 +12,10 @@ use Rattle.rows.proofs.lanes.Turns.{grows_none, grows-more, grows_all}
 use borrow.Author.Rules.{rules}
 use Rattle.rows.proofs.lanes.load_resets.Given as goal
 
+-- where latch j differs from a reset
+abbrev but : ℕ → List ℕ → ℕ → ℕ
+but code resets j = every_row (other code (get_or resets j 0))
+
 abbrev pub invariant-loop-j : goal.invariant-loop-j
 invariant-loop-j l = (l.j ≤ l.n) × (l.to ≡ 4 * (l.before + l.j)) × (length l.t ≡ length l.initial.t) × Grows l.before (but 0 l.resets) (but 1 l.resets) l.j l.initial.t l.t
 

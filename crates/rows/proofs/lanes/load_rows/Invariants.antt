@@ -11,6 +11,13 @@ use Rattle.rows.proofs.lanes.Turns.{grows_none, grows_all}
 use Rattle.rows.proofs.lanes.Loading.{grows-join}
 use Rattle.rows.proofs.lanes.load_rows.Given as goal
 
+-- the planes of input j
+abbrev one : List ℕ → ℕ → ℕ → ℕ → ℕ
+one bytes n rows j = column 48 bytes j n rows
+
+abbrev zero : List ℕ → ℕ → ℕ → ℕ → ℕ
+zero bytes n rows j = column 49 bytes j n rows
+
 abbrev pub invariant-loop-j : goal.invariant-loop-j
 invariant-loop-j l = (l.j ≤ l.n) × (length l.t ≡ length l.initial.t) × Grows 1 (one l.bytes l.n l.rows) (zero l.bytes l.n l.rows) l.j l.initial.t l.t
 

@@ -19,10 +19,10 @@ use Rattle.rows.proofs.lanes.pack.Goals as goal
 
 -- the planes of column j
 abbrev one : List ℕ → ℕ → ℕ → ℕ → List ℕ → ℕ → ℕ
-one table stride from t j = plane_at t (literal_at table stride (from + j))
+one table start stride from t j = plane_at t (literal_at table start stride (from + j))
 
 abbrev both : List ℕ → ℕ → ℕ → ℕ → List ℕ → ℕ → ℕ
-both table stride from t j = both_at t (literal_at table stride (from + j))
+both table start stride from t j = both_at t (literal_at table start stride (from + j))
 
 pub overflow_mul-at : goal.overflow_mul-at
 overflow_mul-at c =

@@ -17,6 +17,13 @@ use Rattle.rows.proofs.lanes.Storing.{below_none, below_more}
 use borrow.Author.Rules.{rules}
 use Rattle.rows.proofs.lanes.pack.Given as goal
 
+-- the planes of column j
+abbrev one : List ℕ → ℕ → ℕ → ℕ → List ℕ → ℕ → ℕ
+one table start stride from t j = plane_at t (literal_at table start stride (from + j))
+
+abbrev both : List ℕ → ℕ → ℕ → ℕ → List ℕ → ℕ → ℕ
+both table start stride from t j = both_at t (literal_at table start stride (from + j))
+
 abbrev pub invariant-loop-j : goal.invariant-loop-j
 invariant-loop-j l = (l.j ≤ l.w) × (l.at ≡ l.stride * (l.from + l.j) + l.start) × (length l.ones ≡ length l.initial.ones) × (length l.boths ≡ length l.initial.boths)
     × Packed (one l.table l.start l.stride l.from l.t) l.j l.ones × Packed (both l.table l.start l.stride l.from l.t) l.j l.boths

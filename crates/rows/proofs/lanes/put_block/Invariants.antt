@@ -13,6 +13,9 @@ use Rattle.rows.specs.lanes.Blocks.{Blocked}
 use Rattle.rows.proofs.lanes.Storing.{blocked-none, blocked-more, blocked-all}
 use Rattle.rows.proofs.lanes.put_block.Given as goal
 
+abbrev codes : List ℕ → List ℕ → ℕ → ℕ → ℕ
+codes ones boths k j = code_by (get_or ones (64 * (k / 8) + j) 0) (get_or boths (64 * (k / 8) + j) 0) (k % 8)
+
 abbrev pub invariant-loop-k : goal.invariant-loop-k
 invariant-loop-k l = (l.k ≤ l.rows) × (l.to ≡ l.n * l.k + l.from) × Blocked (codes l.ones l.boths) l.from l.w l.n l.k l.initial.out l.out
 

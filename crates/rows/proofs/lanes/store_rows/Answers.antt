@@ -12,7 +12,7 @@ use Rattle.rows.proofs.lanes.store_rows.Goals as goal
 
 -- the code of literal j in row k
 abbrev coded : List ℕ → ℕ → ℕ → List ℕ → ℕ → ℕ → ℕ
-coded table stride t k j = code_at t k (literal_at table stride j)
+coded table start stride t k j = code_at t k (literal_at table start stride j)
 
 pub loop-j-init : goal.loop-j-init
 loop-j-init c =

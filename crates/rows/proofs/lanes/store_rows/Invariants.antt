@@ -10,6 +10,10 @@ use Rattle.rows.specs.lanes.Working.{literal_at}
 use Rattle.rows.proofs.lanes.Storing.{shows-less, Below, below_none, below-block, rows_are}
 use Rattle.rows.proofs.lanes.store_rows.Given as goal
 
+-- the code of literal j in row k
+abbrev coded : List ℕ → ℕ → ℕ → List ℕ → ℕ → ℕ → ℕ
+coded table start stride t k j = code_at t k (literal_at table start stride j)
+
 abbrev pub invariant-loop-j : goal.invariant-loop-j
 invariant-loop-j l = (l.j ≤ l.n) × (length l.out ≡ length l.initial.out) × Below (coded l.table l.start l.stride l.t) l.n l.rows l.j l.out
 
