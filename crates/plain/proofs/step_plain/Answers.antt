@@ -86,8 +86,12 @@ plain_vectors-requires c =
     c.judge_in_order.auto.scratch in
     let e = entry in
     let none-bad = no_table _ _ c.if-bad-ne0.false c.bad_vector-bad.ensures in
-    let whole = (room e.circuit (step_stage e) (says) (told) _ (same), (good-vectors e none-bad, good-codes e none-bad)) in
-    record { room = whole.0; vectors = whole.1.0; state_value = whole.1.1.0; ins_value = whole.1.1.1; }
+    record {
+      room = room e.circuit (step_stage e) says told _ same;
+      vectors = good-vectors e none-bad;
+      state_value = (good-codes e none-bad).0;
+      ins_value = (good-codes e none-bad).1;
+    }
 
 pub returns-in-Refused : goal.returns-in-Refused
 returns-in-Refused c =

@@ -95,7 +95,7 @@ returns-in-Refused-fits c =
     let says : c.check_in_order.result ≡ (check_in_order (entry).circuit).answer =
     ap (λ (x : CheckExit). x.answer) c.check_in_order.ensures in
     let e = entry in
-    asks-early e (past-check e.circuit (search_stages e) (says) (told)) _ c.fit-fits.ensures _ c.before.fits2.given.1
+    asks-early e (past-check e.circuit (search_stages e) (says) (told)) _ c.fit-fits.ensures _ c.in-Refused-fits.is
 
 pub returns-in-Good-fits : goal.returns-in-Good-fits
 returns-in-Good-fits c =

@@ -13,7 +13,7 @@ use Rattle.runs.proofs.reporting.Lines.{Lined, lined-none, lined-more, lined-all
 use Rattle.runs.proofs.reporting.put_needles.Given as goal
 
 abbrev pub invariant-loop-i : goal.invariant-loop-i
-invariant-loop-i l = (l.i ≤ l.n) × (l.row ≡ 4 * (l.first + l.i)) × Lined (λ l.i. needle_line l.letter l.i (take 4 (drop (4 * (l.first + l.i)) l.six))) l.initial.out l.at l.i l.next l.out
+invariant-loop-i l = (l.i ≤ l.n) × (l.row ≡ 4 * (l.first + l.i)) × Lined (λ k. needle_line l.letter k (take 4 (drop (4 * (l.first + k)) l.six))) l.initial.out l.at l.i l.next l.out
 
 abbrev pub decreases-loop-i : goal.decreases-loop-i
 decreases-loop-i l = l.n - l.i
