@@ -3,7 +3,7 @@
 use Prim.Native.Nat.{ℕ, ◌+◌, ◌-◌, ◌≤◌, ◌<◌}
 use mathlib.Core.Path.{◌≡◌, refl, ◌∙◌}
 use native.Mathlib.Omega.{arith}
-use borrow.Rule.Slice.PartMut.{put_mid}
+use borrow.Rule.Slice.PartMut.{same_len_mid, put_mid}
 use lib.ListN.{length, length-set}
 use Rattle.runs.proofs.comparing.Parts.{part-long, part-last}
 use Rattle.runs.proofs.comparing.Lines.{outs-long, line-lined}
@@ -66,7 +66,7 @@ shape_of-out c =
     let size : ℕ = at + c.args.n.O - at in
     let out = c.put_bytes-outputs_at.new.out in
     let outs = c.plain_vectors.new.outs in
-    let back : length (put_mid at size out outs) ≡ length out = c.plain_vectors.auto.outs.1 in
+    let back : length (put_mid at size out outs) ≡ length out = same_len_mid at size out outs c.plain_vectors.auto.outs in
     c.put_bytes.auto.out ∙ (length-set (put_mid at size out outs) (at + c.args.n.O) 32 ∙ (back ∙ same))
 
 pub returns : goal.returns

@@ -8,6 +8,7 @@ use borrow.Author.Rules.{rules}
 use borrow.Author.Tests.{eq-eqb, ne_eqb}
 use lib.ListN.{length}
 use Rattle.runs.proofs.trace.Passing.{Passing, passing-first, past-lines, past_bytes, past_end, past-byte}
+use Rattle.runs.proofs.trace.past.Goals.{then-bytes-at-eq10, else-bytes-at-eq10}
 use Rattle.runs.proofs.trace.past.Goals as goal
 
 pub loop-at-init : goal.loop-at-init
@@ -22,10 +23,10 @@ pub loop-at-preserved : goal.loop-at-preserved
 loop-at-preserved c =
     let some = c.if-left-eq0.false in
     let w = c.loop-at.invariant in
-    ⊎_elim
-    (λ t. past_end w c.loop-at-test.true _ (omega (arith, some, t.1)) (eq-eqb _ 10 t.0.taken))
-    (λ t. past-byte w c.loop-at-test.true some (ne_eqb _ 10 t.0.left) _ t.1)
-    c.if-bytes-at-eq10.branch
+    elim c.if-bytes-at-eq10.branch [
+      then-bytes-at-eq10 t ↦ past_end w c.loop-at-test.true _ (omega (arith, some, t.left-is)) (eq-eqb _ 10 t.if-bytes-at-eq10.true)
+    | else-bytes-at-eq10 t ↦ past-byte w c.loop-at-test.true some (ne_eqb _ 10 t.if-bytes-at-eq10.false) _ t.left-is
+    ]
 
 pub returns : goal.returns
 returns c =
