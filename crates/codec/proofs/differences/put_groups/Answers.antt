@@ -3,7 +3,7 @@ use mathlib.Core.Path.{refl}
 use native.Mathlib.Omega.{arith}
 use lib.ListN.{length-set}
 use Rattle.codec.proofs.differences.Bits.{high7}
-use Rattle.codec.proofs.differences.Groups.{Putting, in-room, next-group, last_end, last-group}
+use Rattle.codec.proofs.differences.Groups.{in-room, next-group, last_end, last-group}
 use Rattle.codec.proofs.differences.put_groups.Goals as goal
 
 pub loop-x-init : goal.loop-x-init

@@ -1,7 +1,6 @@
 -- Each arm of the match says what the number is by the class of its first byte.
 use mathlib.Core.Path.{sym, ◌∙◌}
 use native.Mathlib.Omega.{arith}
-use borrow.Author.Rules.{rules}
 use Rattle.plan.specs.declared.Class.TheVariants.{Line, Space, Zero, Print, Rest}
 use Rattle.codec.proofs.numbers.Scan.{past_end, starting}
 use Rattle.codec.proofs.numbers.read_number.Goals as goal
