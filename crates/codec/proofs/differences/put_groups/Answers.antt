@@ -38,4 +38,4 @@ shape_of-out c = simp length-set c.loop-x.invariant.size
 
 pub returns : goal.returns
 returns c =
-    record { value = last_end c.loop-x.invariant c.loop-x-test.false; out_after = last-group c.loop-x.invariant c.loop-x-test.false; }
+    record { value = last_end c.loop-x.invariant c.loop-x-test.false; out_after = last-group c.loop-x.invariant c.loop-x-test.false }

@@ -33,4 +33,4 @@ shape_of-out c = simp length-set (wide c.loop-rest.invariant)
 pub returns : goal.returns
 returns c =
     let a = c.args in
-    record { value = ap (λ (k : ℕ). a.at + k) c.digits_in.ensures; out_after = ends c.loop-rest.invariant c.loop-rest-test.false; }
+    record { value = ap (λ (k : ℕ). a.at + k) c.digits_in.ensures; out_after = ends c.loop-rest.invariant c.loop-rest-test.false }

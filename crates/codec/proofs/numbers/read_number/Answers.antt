@@ -12,7 +12,7 @@ returns-then-file-at c =
 
 pub read_digits-requires : goal.read_digits-requires
 read_digits-requires c =
-    record { at_in_bounds = omega (arith, c.if-file-at.false); at_value = sym c.class_of.ensures ∙ c.in-Digit.is; }
+    record { at_in_bounds = omega (arith, c.if-file-at.false); at_value = sym c.class_of.ensures ∙ c.in-Digit.is }
 
 pub returns-in-Zero : goal.returns-in-Zero
 returns-in-Zero c =
