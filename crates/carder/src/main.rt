@@ -3,11 +3,12 @@
 // whole::filing.
 #![tactic(auto)]
 
+use std::io;
 use whole::filing;
 
-fn main() {
+fn main(rt: HostRuntime) -> io::Result<()> {
     let mut file = [0u8; 65537];
-    let plan = office::read_plan(&mut file);
+    let plan = office::read_plan(&rt, &mut file);
     let n = office::size(plan);
     let mut inputs = [0u32; 4096];
     let mut latches = [0u32; 4096];
@@ -31,5 +32,5 @@ fn main() {
         &mut scratch,
         &mut out,
     );
-    office::print_written(answer, &out);
+    office::print_written(&mut rt.stdout(), answer, &out)
 }

@@ -7,21 +7,23 @@
 use plan::{Counts, Made, Refusal, Traced};
 use runs::comparing::Compared;
 use runs::{comparing, stimulus, trace};
+use std::io::{self, Read, Write};
 use step::values;
 use whole::ordered;
 
 // What is said in place of lines.
-fn say(part: Compared) {
+fn say<W: Write>(to: &mut W, part: Compared) -> io::Result<()> {
     match part {
-        Compared::Lines(_) => {}
-        Compared::Differ => office::print(b"differ\n", 7),
-        Compared::Refused(r) => office::refuse(r),
+        Compared::Lines(_) => Ok(()),
+        Compared::Differ => office::print(to, b"differ\n", 7),
+        Compared::Refused(r) => office::refuse(to, r),
     }
 }
 
 // The steps of all lines by both engines, printed in parts of as many lines as fit into `out`, each once they agree
 // on it. A part has a line at least, so there are no more parts than lines.
-fn compare_all(
+fn compare_all<W: Write>(
+    to: &mut W,
     n: Counts,
     inputs: &[u32],
     latches: &[u32],
@@ -37,10 +39,9 @@ fn compare_all(
     out: &mut [u8],
     twin: &mut [u8],
     again: &mut [u8],
-) {
+) -> io::Result<()> {
     let mut at = 0;
-    let mut parts = lines;
-    while 0 < parts {
+    for _ in 0..lines {
         let part = comparing::compare(
             n,
             inputs,
@@ -58,20 +59,20 @@ fn compare_all(
             again,
         );
         let Compared::Lines(k) = part else {
-            say(part);
-            return;
+            return say(to, part);
         };
-        office::print(out, trace::past(out, 0, k));
+        office::print(to, out, trace::past(out, 0, k))?;
         at = trace::past(vectors, at, k);
         if at == vectors.len() {
-            return;
+            return Ok(());
         }
-        parts -= 1;
     }
+    Ok(())
 }
 
 // The same from the resets.
-fn compare_first(
+fn compare_first<W: Write>(
+    to: &mut W,
     n: Counts,
     inputs: &[u32],
     latches: &[u32],
@@ -87,10 +88,11 @@ fn compare_first(
     out: &mut [u8],
     twin: &mut [u8],
     again: &mut [u8],
-) {
+) -> io::Result<()> {
     values::first_state(resets, state);
     values::first_state(resets, twin);
     compare_all(
+        to,
         n,
         inputs,
         latches,
@@ -106,12 +108,14 @@ fn compare_first(
         out,
         twin,
         again,
-    );
+    )
 }
 
 // Standard input, and all of its lines checked before the first is printed. The plain engine has a state and a
 // buffer of its own.
-fn compare_input(
+fn compare_input<R: Read, W: Write>(
+    from: &mut R,
+    to: &mut W,
     n: Counts,
     inputs: &[u32],
     latches: &[u32],
@@ -122,17 +126,18 @@ fn compare_input(
     constraints: &[u32],
     scratch: &mut [u32],
     out: &mut [u8],
-) {
+) -> io::Result<()> {
     let mut bytes = [0u8; 65537];
-    let input = office::read_input(0, &mut bytes);
+    let input = office::read_input(from, &mut bytes);
     let size = office::size(input);
     let mut state = [b'0'; 4096];
     let mut twin = [b'0'; 4096];
     let mut again = [0u8; 65536];
     let wide = tables::lesser(n.L, 4096);
     match stimulus::count_lines(office::readable(input), &bytes[0..size], n.I) {
-        Traced::Refused(r) => office::refuse(r),
+        Traced::Refused(r) => office::refuse(to, r),
         Traced::Lines(lines) => compare_first(
+            to,
             n,
             inputs,
             latches,
@@ -153,7 +158,9 @@ fn compare_input(
 }
 
 // Teaching circuits only: 24 is the last refusal of plan.in.
-fn compare_few(
+fn compare_few<R: Read, W: Write>(
+    from: &mut R,
+    to: &mut W,
     n: Counts,
     inputs: &[u32],
     latches: &[u32],
@@ -164,12 +171,13 @@ fn compare_few(
     constraints: &[u32],
     scratch: &mut [u32],
     out: &mut [u8],
-) {
+) -> io::Result<()> {
     if plain::TEACHING < n.A {
-        office::refuse(Refusal::ManyGates(n.A));
-        return;
+        return office::refuse(to, Refusal::ManyGates(n.A));
     }
     compare_input(
+        from,
+        to,
         n,
         inputs,
         latches,
@@ -180,12 +188,12 @@ fn compare_few(
         constraints,
         scratch,
         out,
-    );
+    )
 }
 
-fn main() {
+fn main(rt: HostRuntime) -> io::Result<()> {
     let mut file = [0u8; 65537];
-    let plan = office::read_plan(&mut file);
+    let plan = office::read_plan(&rt, &mut file);
     let size = office::size(plan);
     let mut inputs = [0u32; 4096];
     let mut latches = [0u32; 4096];
@@ -222,8 +230,10 @@ fn main() {
         &mut made_constraints,
         &mut scratch,
     ) {
-        Made::Refused(r) => office::refuse(r),
+        Made::Refused(r) => office::refuse(&mut rt.stdout(), r),
         Made::Accepted(n) => compare_few(
+            &mut rt.stdin(),
+            &mut rt.stdout(),
             n,
             &made_inputs,
             &made_latches,

@@ -2,11 +2,12 @@
 // cards and programs). 14, 13, the refusals of the reader of cards and 11 are decided by whole::filing.
 #![tactic(auto)]
 
+use std::io;
 use whole::filing;
 
-fn main() {
+fn main(rt: HostRuntime) -> io::Result<()> {
     let mut file = [0u8; 65537];
-    let plan = office::read_plan(&mut file);
+    let plan = office::read_plan(&rt, &mut file);
     let n = office::size(plan);
     let mut inputs = [0u32; 4096];
     let mut latches = [0u32; 4096];
@@ -30,5 +31,5 @@ fn main() {
         &mut scratch,
         &mut out,
     );
-    office::print_written(answer, &out);
+    office::print_written(&mut rt.stdout(), answer, &out)
 }

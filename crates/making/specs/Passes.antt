@@ -1,7 +1,6 @@
 -- What is made of a circuit between reading and writing: converted, then reduced, then without its unused gates, as
 -- far as is wanted.
 use Rattle.std.specs.Prelude.{ℕ, ◌≡◌, Bool, true, false, List, ◌++◌}
-use Rattle.std.specs.Borrow.{Bor}
 use Rattle.plan.specs.declared.Counts.{Counts}
 use Rattle.plan.specs.declared.Headed.{Headed}
 use Rattle.plan.specs.declared.Written.{Written}
@@ -12,7 +11,6 @@ use Rattle.plan.specs.Given.{given_circuit}
 use Rattle.plan.specs.Convert.{convert}
 use Rattle.plan.specs.Reduce.{reduce}
 use Rattle.plan.specs.Drop.{drop_unused}
-use Rattle.plan.specs.Lent.{Slice, Seven, to_check}
 use Rattle.plan.specs.Outcome.{put_bytes}
 use Rattle.tables.specs.Lengths.{sizes_of}
 use Rattle.write.specs.Judged.{given_in}
@@ -35,9 +33,9 @@ abbrev pub as_text : Bool → Headed → Bool
 as_text true h = false
 as_text false h = binary_by h
 
--- a slice as it is handed over
+-- the items of a slice as it is handed over
 abbrev pub Part : Type 0
-Part = Bor (List ℕ)
+Part = List ℕ
 
 abbrev pub Parts : Type 1 → Type 1
 Parts T = Part → Part → Part → Part → Part → Part → Part → T
@@ -45,18 +43,15 @@ Parts T = Part → Part → Part → Part → Part → Part → Part → T
 -- the tables of a circuit that no check refuses, with its tail, beside tables that are long enough to make a circuit in
 abbrev pub StandsReady : Counts → Parts (Parts (Part → Part → Type 0))
 StandsReady n i l o a r b c i' l' o' a' r' b' c' s tail =
-    Ready (given_in n i.now l.now o.now a.now r.now b.now c.now s.now) tail.now
-    (sizes_of (seven i'.now l'.now o'.now a'.now r'.now b'.now c'.now))
+    Ready (given_in n i l o a r b c s) tail (sizes_of (seven i' l' o' a' r' b' c'))
 
 abbrev pub InOrder : Counts → Parts (Part → Type 0)
-InOrder n i l o a r b c s =
-    binary_order (given_circuit (given_in n i.now l.now o.now a.now r.now b.now c.now s.now)) ≡ true
+InOrder n i l o a r b c s = binary_order (given_circuit (given_in n i l o a r b c s)) ≡ true
 
--- the bytes of the circuit and then the tail are put into the buffer, or 11
-abbrev pub Puts : (Circuit → List ℕ) → Counts → Seven (Slice → Slice → Slice → Written → Type 0)
-Puts bytes n i l o a r b c s tail out answer =
-    record { answer = answer; out = out.exit.now }
-    ≡ put_bytes out.entry.now 0 (bytes (given_circuit (to_check n i l o a r b c s)) ++ tail.entry.now)
+-- the bytes of the circuit and then the tail are put into the buffer, or 11: the buffer before, and after
+abbrev pub Puts : (Circuit → List ℕ) → Counts → Parts (Part → Part → Part → Part → Written → Type 0)
+Puts bytes n i l o a r b c s tail out out' answer =
+    record { answer = answer; out = out' } ≡ put_bytes out 0 (bytes (given_circuit (given_in n i l o a r b c s)) ++ tail)
 
-abbrev pub PutsBinary : (Circuit → Circuit) → Counts → Seven (Slice → Slice → Slice → Written → Type 0)
-PutsBinary made n i l o a r b c s tail out answer = Puts (λ d. binary_of (made d)) n i l o a r b c s tail out answer
+abbrev pub PutsBinary : (Circuit → Circuit) → Counts → Parts (Part → Part → Part → Part → Written → Type 0)
+PutsBinary made n i l o a r b c s tail out out' answer = Puts (λ d. binary_of (made d)) n i l o a r b c s tail out out' answer

@@ -2,11 +2,14 @@
 // refusal, is printed. A buffer of one byte more than an input may have shows that it has too many.
 #![tactic(auto)]
 
-ghost use Rattle.std.specs.Prelude.{◌≡◌, ◌≤◌, length};
-ghost use Rattle.office.specs.Came.{could_be_read, came};
+ghost use Rattle.std.specs.Prelude.{◌≡◌, ◌<◌, ◌≤◌, length, take, OnOk};
+ghost use Rattle.std.specs.Io.KnownBytes.{Appends, Consumes, IsAtEnd};
+ghost use Rattle.office.specs.Came.{could_be_read, came, IfRead, line_shown, shown};
 
-use libc::STDOUT_FILENO;
 use plan::{Refusal, Written};
+use std::io::{Read, Write};
+use std::rt::Files;
+use std::{fs, io};
 use tables::lesser;
 use write::refusal_line::tell_refusal;
 
@@ -17,36 +20,40 @@ pub enum Input {
 }
 
 // The bytes of an input from the start of a buffer on. A read that fails, also after others that did not, makes it
-// unreadable: a folder can be opened, and then no byte of it can be read.
-pub fn read_input(fd: i32, buf: &mut [u8]) -> Input
-    ensures { came result ≤ length buf.new }
+// unreadable: a folder can be opened, and then no byte of it can be read. Where it is known which bytes a reader has,
+// those are the ones that came, and all of them unless the buffer is full.
+pub fn read_input<R: Read>(reader: &mut R, buf: &mut [u8]) -> Input
+    ensures in_bounds { came result ≤ length buf.new }
+    ensures bytes { IfRead result (λ n.
+        Consumes (R.remaining reader.old) (R.remaining reader.new) (take n buf.new)) }
+    ensures end { IfRead result (λ n. n < length buf.new → IsAtEnd (R.remaining reader.new)) }
 {
-    if fd < 0 {
-        return Input::Unreadable;
-    }
     let mut n = 0;
     while n < buf.len() {
-        let got = libc::read(fd, &mut buf[n..]);
-        if got < 0 {
-            return Input::Unreadable;
+        match reader.read(&mut buf[n..]) {
+            Err(_) => return Input::Unreadable,
+            Ok(0) => return Input::Bytes(n),
+            Ok(more) => n += more,
         }
-        let more = io::count(got, &buf[n..]);
-        if more == 0 {
-            return Input::Bytes(n);
-        }
-        n += more;
     }
     Input::Bytes(n)
 }
 
-// The input whose name is plan.in, in the folder that a program is run in.
-pub fn read_plan(buf: &mut [u8]) -> Input
+// The same of the file that a path names. One that can't be opened is unreadable.
+pub fn read_file<R: Files>(rt: &R, path: &str, buf: &mut [u8]) -> Input
     ensures { came result ≤ length buf.new }
 {
-    let fd = os::open_read(b"plan.in");
-    let input = read_input(fd, buf);
-    libc::close(fd);
-    input
+    match fs::open(rt, path) {
+        Ok(mut file) => read_input(&mut file, buf),
+        Err(_) => Input::Unreadable,
+    }
+}
+
+// The input whose name is plan.in, in the folder that a program is run in.
+pub fn read_plan<R: Files>(rt: &R, buf: &mut [u8]) -> Input
+    ensures { came result ≤ length buf.new }
+{
+    read_file(rt, "plan.in", buf)
 }
 
 // Whether an input could be read.
@@ -69,24 +76,31 @@ pub fn size(input: Input) -> usize
     }
 }
 
-// The first n bytes of a buffer, to standard output.
-pub fn print(out: &[u8], n: usize) {
+// Writes the first n bytes of a buffer.
+pub fn print<W: Write>(to: &mut W, out: &[u8], n: usize) -> io::Result<()>
+    ensures { OnOk result (Appends (W.contents to.old) (W.contents to.new) (take n out.now)) }
+{
     let k = lesser(n, out.len());
-    io::write_all(STDOUT_FILENO, &out[0..k]);
+    to.write_all(&out[0..k])
 }
 
-// The line of a refusal, to standard output.
-pub fn refuse(r: Refusal) {
+// Writes the line of a refusal.
+pub fn refuse<W: Write>(to: &mut W, r: Refusal) -> io::Result<()>
+    ensures { OnOk result (Appends (W.contents to.old) (W.contents to.new) (line_shown r)) }
+{
     let mut line = [0u8; 64];
-    if let Written::Bytes(n) = tell_refusal(r, &mut line) {
-        print(&line, n);
+    match tell_refusal(r, &mut line) {
+        Written::Bytes(n) => print(to, &line, n),
+        Written::Refused(_) => Ok(()),
     }
 }
 
 // What was written, or the line of the refusal.
-pub fn print_written(answer: Written, out: &[u8]) {
+pub fn print_written<W: Write>(to: &mut W, answer: Written, out: &[u8]) -> io::Result<()>
+    ensures { OnOk result (Appends (W.contents to.old) (W.contents to.new) (shown answer out.now)) }
+{
     match answer {
-        Written::Bytes(n) => print(out, n),
-        Written::Refused(r) => refuse(r),
+        Written::Bytes(n) => print(to, out, n),
+        Written::Refused(r) => refuse(to, r),
     }
 }

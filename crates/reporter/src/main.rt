@@ -5,19 +5,27 @@
 
 use plan::{Counts, Made, Refusal, Stepped, Traced};
 use runs::{reporting, stimulus};
+use std::io::{self, Read, Write};
 use whole::ordered;
 
 // The words of table 6.
 const SIX: usize = 16384;
 
 // The lines of a report.
-fn print_report(outputs: usize, latches: usize, six: &[u32], out: &mut [u8]) {
+fn print_report<W: Write>(
+    to: &mut W,
+    outputs: usize,
+    latches: usize,
+    six: &[u32],
+    out: &mut [u8],
+) -> io::Result<()> {
     let size = reporting::put_report(outputs, latches, six, out);
-    office::print(out, size);
+    office::print(to, out, size)
 }
 
 // The vectors of whole lines without their ends, and the report on them.
-fn report_lines(
+fn report_lines<W: Write>(
+    to: &mut W,
     n: Counts,
     inputs: &[u32],
     latches: &[u32],
@@ -32,7 +40,7 @@ fn report_lines(
     packed: &mut [u8],
     six: &mut [u32],
     out: &mut [u8],
-) {
+) -> io::Result<()> {
     let size = reporting::pack(bytes, packed);
     let answer = report::report(
         n,
@@ -49,13 +57,15 @@ fn report_lines(
         six,
     );
     match answer {
-        Stepped::Refused(r) => office::refuse(r),
-        Stepped::Done => print_report(n.O, n.L, six, out),
+        Stepped::Refused(r) => office::refuse(to, r),
+        Stepped::Done => print_report(to, n.O, n.L, six, out),
     }
 }
 
 // Standard input, and all of its lines checked before the first step.
-fn report_input(
+fn report_input<R: Read, W: Write>(
+    from: &mut R,
+    to: &mut W,
     n: Counts,
     inputs: &[u32],
     latches: &[u32],
@@ -67,14 +77,15 @@ fn report_input(
     scratch: &mut [u32],
     six: &mut [u32],
     out: &mut [u8],
-) {
+) -> io::Result<()> {
     let mut bytes = [0u8; 65537];
     let mut packed = [0u8; 65537];
-    let input = office::read_input(0, &mut bytes);
+    let input = office::read_input(from, &mut bytes);
     let size = office::size(input);
     match stimulus::count_lines(office::readable(input), &bytes[0..size], n.I) {
-        Traced::Refused(r) => office::refuse(r),
+        Traced::Refused(r) => office::refuse(to, r),
         Traced::Lines(lines) => report_lines(
+            to,
             n,
             inputs,
             latches,
@@ -94,7 +105,9 @@ fn report_input(
 }
 
 // 4 at table 6 is judged before standard input is read.
-fn report_opened(
+fn report_opened<R: Read, W: Write>(
+    from: &mut R,
+    to: &mut W,
     n: Counts,
     inputs: &[u32],
     latches: &[u32],
@@ -106,12 +119,13 @@ fn report_opened(
     scratch: &mut [u32],
     six: &mut [u32],
     out: &mut [u8],
-) {
+) -> io::Result<()> {
     if report::too_few(SIX, n) {
-        office::refuse(Refusal::ShortTable(6));
-        return;
+        return office::refuse(to, Refusal::ShortTable(6));
     }
     report_input(
+        from,
+        to,
         n,
         inputs,
         latches,
@@ -123,12 +137,12 @@ fn report_opened(
         scratch,
         six,
         out,
-    );
+    )
 }
 
-fn main() {
+fn main(rt: HostRuntime) -> io::Result<()> {
     let mut file = [0u8; 65537];
-    let plan = office::read_plan(&mut file);
+    let plan = office::read_plan(&rt, &mut file);
     let size = office::size(plan);
     let mut inputs = [0u32; 4096];
     let mut latches = [0u32; 4096];
@@ -166,8 +180,10 @@ fn main() {
         &mut made_constraints,
         &mut scratch,
     ) {
-        Made::Refused(r) => office::refuse(r),
+        Made::Refused(r) => office::refuse(&mut rt.stdout(), r),
         Made::Accepted(n) => report_opened(
+            &mut rt.stdin(),
+            &mut rt.stdout(),
             n,
             &made_inputs,
             &made_latches,

@@ -5,12 +5,14 @@
 
 use plan::{Counts, Made, Traced};
 use runs::{stimulus, trace};
+use std::io::{self, Read, Write};
 use step::values;
 use whole::ordered;
 
 // The steps of all lines, printed in parts of as many lines as fit into `out`. A part has a line at least, so there
 // are no more parts than lines.
-fn trace_all(
+fn trace_all<W: Write>(
+    to: &mut W,
     n: Counts,
     inputs: &[u32],
     latches: &[u32],
@@ -24,10 +26,9 @@ fn trace_all(
     vectors: &[u8],
     lines: usize,
     out: &mut [u8],
-) {
+) -> io::Result<()> {
     let mut at = 0;
-    let mut parts = lines;
-    while 0 < parts {
+    for _ in 0..lines {
         let part = trace::trace(
             n,
             inputs,
@@ -43,19 +44,20 @@ fn trace_all(
             out,
         );
         let Traced::Lines(k) = part else {
-            return;
+            return Ok(());
         };
-        office::print(out, trace::past(out, 0, k));
+        office::print(to, out, trace::past(out, 0, k))?;
         at = trace::past(vectors, at, k);
         if at == vectors.len() {
-            return;
+            return Ok(());
         }
-        parts -= 1;
     }
+    Ok(())
 }
 
 // The same from the resets.
-fn trace_first(
+fn trace_first<W: Write>(
+    to: &mut W,
     n: Counts,
     inputs: &[u32],
     latches: &[u32],
@@ -69,9 +71,10 @@ fn trace_first(
     vectors: &[u8],
     lines: usize,
     out: &mut [u8],
-) {
+) -> io::Result<()> {
     values::first_state(resets, state);
     trace_all(
+        to,
         n,
         inputs,
         latches,
@@ -85,11 +88,13 @@ fn trace_first(
         vectors,
         lines,
         out,
-    );
+    )
 }
 
 // Standard input, and all of its lines checked before the first is printed. The first state is that of the resets.
-fn trace_input(
+fn trace_input<R: Read, W: Write>(
+    from: &mut R,
+    to: &mut W,
     n: Counts,
     inputs: &[u32],
     latches: &[u32],
@@ -100,15 +105,16 @@ fn trace_input(
     constraints: &[u32],
     scratch: &mut [u32],
     out: &mut [u8],
-) {
+) -> io::Result<()> {
     let mut bytes = [0u8; 65537];
-    let input = office::read_input(0, &mut bytes);
+    let input = office::read_input(from, &mut bytes);
     let size = office::size(input);
     let mut state = [b'0'; 4096];
     let wide = tables::lesser(n.L, 4096);
     match stimulus::count_lines(office::readable(input), &bytes[0..size], n.I) {
-        Traced::Refused(r) => office::refuse(r),
+        Traced::Refused(r) => office::refuse(to, r),
         Traced::Lines(lines) => trace_first(
+            to,
             n,
             inputs,
             latches,
@@ -126,9 +132,9 @@ fn trace_input(
     }
 }
 
-fn main() {
+fn main(rt: HostRuntime) -> io::Result<()> {
     let mut file = [0u8; 65537];
-    let plan = office::read_plan(&mut file);
+    let plan = office::read_plan(&rt, &mut file);
     let size = office::size(plan);
     let mut inputs = [0u32; 4096];
     let mut latches = [0u32; 4096];
@@ -165,8 +171,10 @@ fn main() {
         &mut made_constraints,
         &mut scratch,
     ) {
-        Made::Refused(r) => office::refuse(r),
+        Made::Refused(r) => office::refuse(&mut rt.stdout(), r),
         Made::Accepted(n) => trace_input(
+            &mut rt.stdin(),
+            &mut rt.stdout(),
             n,
             &made_inputs,
             &made_latches,

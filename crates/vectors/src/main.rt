@@ -5,10 +5,13 @@
 ghost use Rattle.std.specs.Prelude.{◌≤◌, length};
 
 use codec::differences;
-use libc::STDOUT_FILENO;
 use making::{convert_whole, reduce_whole};
 use plan::{Counts, Difference, Loaded, Made, Refusal, Traced, Version, Written};
 use runs::trace;
+use std::env::FillError;
+use std::io::{self, Write};
+use std::rt::{Env, Files};
+use std::str;
 use step::values;
 use tables::lesser;
 use whole::ordered;
@@ -16,83 +19,80 @@ use whole::ordered;
 // No table and no list of examples here is longer.
 const MOST: usize = 1000;
 
-fn say(text: &[u8]) {
-    io::write_all(STDOUT_FILENO, text);
+fn say<W: Write>(to: &mut W, text: &[u8]) -> io::Result<()> {
+    to.write_all(text)
 }
 
-fn say_number(n: u64) {
-    say(b" ");
-    io::print_decimal(STDOUT_FILENO, n);
+fn say_number<W: Write>(to: &mut W, n: u64) -> io::Result<()> {
+    write!(to, " {n}")
 }
 
-fn say_word(x: u32) {
-    say_number(x as u64);
+fn say_word<W: Write>(to: &mut W, x: u32) -> io::Result<()> {
+    say_number(to, x as u64)
 }
 
-fn say_byte(x: u8) {
-    say(b" ");
-    io::print_hex(STDOUT_FILENO, x as u64, 2);
+fn say_byte<W: Write>(to: &mut W, x: u8) -> io::Result<()> {
+    write!(to, " {x:02x}")
 }
 
 // The first n words of a table.
-fn say_table(t: &[u32], n: usize) {
-    let mut i = 0;
-    while i < t.len() {
-        if i == n {
-            return;
-        }
-        say_word(t[i]);
-        i += 1;
+fn say_table<W: Write>(to: &mut W, t: &[u32], n: usize) -> io::Result<()> {
+    for word in t.iter().take(n) {
+        say_word(to, *word)?;
     }
+    Ok(())
 }
 
 // The first n bytes of a buffer, in hexadecimal.
-fn say_bytes(bytes: &[u8], n: usize) {
-    let mut i = 0;
-    while i < bytes.len() {
-        if i == n {
-            return;
-        }
-        say_byte(bytes[i]);
-        i += 1;
+fn say_bytes<W: Write>(to: &mut W, bytes: &[u8], n: usize) -> io::Result<()> {
+    for byte in bytes.iter().take(n) {
+        say_byte(to, *byte)?;
     }
+    Ok(())
 }
 
-fn say_written(answer: Written, out: &[u8]) {
+fn say_written<W: Write>(to: &mut W, answer: Written, out: &[u8]) -> io::Result<()> {
     match answer {
-        Written::Refused(r) => office::refuse(r),
+        Written::Refused(r) => office::refuse(to, r),
         Written::Bytes(n) => {
-            say(b"bytes");
-            say_bytes(out, n);
-            say(b"\n");
+            say(to, b"bytes")?;
+            say_bytes(to, out, n)?;
+            say(to, b"\n")
         }
     }
 }
 
-fn say_counts(n: Counts) {
-    say_number(n.M as u64);
-    say_number(n.I as u64);
-    say_number(n.L as u64);
-    say_number(n.O as u64);
-    say_number(n.A as u64);
+fn say_counts<W: Write>(to: &mut W, n: Counts) -> io::Result<()> {
+    say_number(to, n.M as u64)?;
+    say_number(to, n.I as u64)?;
+    say_number(to, n.L as u64)?;
+    say_number(to, n.O as u64)?;
+    say_number(to, n.A as u64)
 }
 
 // Tables 1 to 4 of a circuit.
-fn say_circuit(n: Counts, inputs: &[u32], latches: &[u32], outputs: &[u32], gates: &[u32]) {
+fn say_circuit<W: Write>(
+    to: &mut W,
+    n: Counts,
+    inputs: &[u32],
+    latches: &[u32],
+    outputs: &[u32],
+    gates: &[u32],
+) -> io::Result<()> {
     let l = lesser(n.L, MOST);
     let a = lesser(n.A, MOST);
-    say(b" inputs");
-    say_table(inputs, n.I);
-    say(b" latches");
-    say_table(latches, l + l);
-    say(b" outputs");
-    say_table(outputs, n.O);
-    say(b" gates");
-    say_table(gates, a + a + a);
+    say(to, b" inputs")?;
+    say_table(to, inputs, n.I)?;
+    say(to, b" latches")?;
+    say_table(to, latches, l + l)?;
+    say(to, b" outputs")?;
+    say_table(to, outputs, n.O)?;
+    say(to, b" gates")?;
+    say_table(to, gates, a + a + a)
 }
 
 // What the reader leaves: M I L O A, tables 1 to 4, and where the tail starts; the examples are those of 2007.
-fn show_tables(file: &[u8]) {
+fn show_tables<W: Write>(to: &mut W, file: &[u8]) -> io::Result<()> {
     let mut inputs = [0u32; 64];
     let mut latches = [0u32; 64];
     let mut outputs = [0u32; 64];
@@ -113,20 +113,20 @@ fn show_tables(file: &[u8]) {
         &mut constraints,
         &mut scratch,
     ) {
-        Loaded::Refused(r) => office::refuse(r),
+        Loaded::Refused(r) => office::refuse(to, r),
         Loaded::Accepted(n, tail) => {
-            say(b"accepted");
-            say_counts(n);
-            say_circuit(n, &inputs, &latches, &outputs, &gates);
-            say(b" tail");
-            say_number(tail as u64);
-            say(b"\n");
+            say(to, b"accepted")?;
+            say_counts(to, n)?;
+            say_circuit(to, n, &inputs, &latches, &outputs, &gates)?;
+            say(to, b" tail")?;
+            say_number(to, tail as u64)?;
+            say(to, b"\n")
         }
     }
 }
 
 // The bytes of the file's other form.
-fn show_converted(file: &[u8]) {
+fn show_converted<W: Write>(to: &mut W, file: &[u8]) -> io::Result<()> {
     let mut inputs = [0u32; 64];
     let mut latches = [0u32; 64];
     let mut outputs = [0u32; 64];
@@ -163,11 +163,11 @@ fn show_converted(file: &[u8]) {
         &mut scratch,
         &mut out,
     );
-    say_written(answer, &out);
+    say_written(to, answer, &out)
 }
 
 // The bytes of the file reduced.
-fn show_reduced(file: &[u8]) {
+fn show_reduced<W: Write>(to: &mut W, file: &[u8]) -> io::Result<()> {
     let mut inputs = [0u32; 64];
     let mut latches = [0u32; 64];
     let mut outputs = [0u32; 64];
@@ -204,19 +204,17 @@ fn show_reduced(file: &[u8]) {
         &mut scratch,
         &mut out,
     );
-    say_written(answer, &out);
+    say_written(to, answer, &out)
 }
 
 // The bytes before the first zero, which is in no line of a trace.
 fn before_zero(bytes: &[u8]) -> usize {
-    let mut i = 0;
-    while i < bytes.len() {
-        if bytes[i] == 0 {
+    for (i, byte) in bytes.iter().enumerate() {
+        if *byte == 0 {
             return i;
         }
-        i += 1;
     }
-    i
+    bytes.len()
 }
 
 // A part of a run from the resets.
@@ -252,7 +250,8 @@ fn trace_first(
 }
 
 // The lines of a converted circuit's steps, from the resets.
-fn say_lines(
+fn say_lines<W: Write>(
+    to: &mut W,
     n: Counts,
     inputs: &[u32],
     latches: &[u32],
@@ -263,7 +262,7 @@ fn say_lines(
     constraints: &[u32],
     scratch: &mut [u32],
     vectors: &[u8],
-) {
+) -> io::Result<()> {
     let mut state = [b'0'; 64];
     let mut out = [0u8; 512];
     let l = lesser(n.L, 64);
@@ -281,15 +280,15 @@ fn say_lines(
         vectors,
         &mut out,
     ) {
-        Traced::Refused(r) => office::refuse(r),
+        Traced::Refused(r) => office::refuse(to, r),
         Traced::Lines(_) => {
-            say(b"steps\n");
-            office::print(&out, before_zero(&out));
+            say(to, b"steps\n")?;
+            office::print(to, &out, before_zero(&out))
         }
     }
 }
 
-fn show_lines(file: &[u8], vectors: &[u8]) {
+fn show_lines<W: Write>(to: &mut W, file: &[u8], vectors: &[u8]) -> io::Result<()> {
     let mut inputs = [0u32; 64];
     let mut latches = [0u32; 64];
     let mut outputs = [0u32; 64];
@@ -324,8 +323,9 @@ fn show_lines(file: &[u8], vectors: &[u8]) {
         &mut made_constraints,
         &mut scratch,
     ) {
-        Made::Refused(r) => office::refuse(r),
+        Made::Refused(r) => office::refuse(to, r),
         Made::Accepted(n) => say_lines(
+            to,
             n,
             &made_inputs,
             &made_latches,
@@ -341,71 +341,91 @@ fn show_lines(file: &[u8], vectors: &[u8]) {
 }
 
 // A difference's value, and its bytes as they are written.
-fn show_difference(bytes: &[u8]) {
+fn show_difference<W: Write>(to: &mut W, bytes: &[u8]) -> io::Result<()> {
     match differences::read_difference(bytes, 0) {
-        Difference::Ends(at) => office::refuse(Refusal::WrongByte(at)),
-        Difference::Bad(at) => office::refuse(Refusal::LongDifference(at)),
+        Difference::Ends(at) => office::refuse(to, Refusal::WrongByte(at)),
+        Difference::Bad(at) => office::refuse(to, Refusal::LongDifference(at)),
         Difference::Value(d, _) => {
             let mut out = [0u8; 8];
-            say(b"value");
-            say_word(d);
-            say(b" ");
+            say(to, b"value")?;
+            say_word(to, d)?;
+            say(to, b" ")?;
             let answer = differences::write_difference(&mut out, 0, d);
-            say_written(answer, &out);
+            say_written(to, answer, &out)
         }
     }
 }
 
 // What is asked is told by the first letter of its word.
-fn show(asked: u8, file: &[u8], vectors: &[u8]) {
+fn show<W: Write>(to: &mut W, asked: u8, file: &[u8], vectors: &[u8]) -> io::Result<()> {
     match asked {
-        b't' => show_tables(file),
-        b'c' => show_converted(file),
-        b'r' => show_reduced(file),
-        b'l' => show_lines(file, vectors),
-        _ => show_difference(file),
+        b't' => show_tables(to, file),
+        b'c' => show_converted(to, file),
+        b'r' => show_reduced(to, file),
+        b'l' => show_lines(to, file, vectors),
+        _ => show_difference(to, file),
     }
 }
 
 // The bytes of the file that an argument names, as far as the buffer goes.
-fn read_named(at: usize, bytes: &mut [u8]) -> usize
+fn read_named<R: Env + Files>(rt: &R, at: usize, bytes: &mut [u8]) -> usize
     ensures { result ≤ length bytes.new }
 {
     let mut name = [0u8; 64];
-    let n = os::arg(at, &mut name);
-    let fd = os::open_read(&name[..n]);
-    let input = office::read_input(fd, bytes);
-    libc::close(fd);
-    office::size(input)
+    let n = argument(rt, at, &mut name);
+    match str::from_utf8(&name[..n]) {
+        Ok(path) => office::size(office::read_file(rt, path, bytes)),
+        Err(_) => 0,
+    }
+}
+
+// How many bytes an argument puts at the start of a buffer: none if it is missing or has no room.
+fn argument<R: Env>(rt: &R, at: usize, word: &mut [u8]) -> usize
+    ensures { result ≤ length word.new }
+{
+    match rt.arg(at, word) {
+        Ok(n) => n,
+        Err(_) => 0,
+    }
+}
+
+// How many arguments there are with the program's name, as far as the examples go.
+fn count_arguments<R: Env>(rt: &R) -> usize {
+    let mut word = [0u8; 64];
+    for at in 0..MOST * 3 {
+        if let Err(FillError::NotPresent) = rt.arg(at, &mut word) {
+            return at;
+        }
+    }
+    MOST * 3
 }
 
 // An argument, and what stands after it; its first letter.
-fn say_argument(at: usize, after: &[u8]) -> u8 {
+fn say_argument<R: Env, W: Write>(rt: &R, to: &mut W, at: usize, after: &[u8]) -> io::Result<u8> {
     let mut word = [0u8; 64];
-    let n = os::arg(at, &mut word);
-    say(&word[..n]);
-    say(after);
-    word[0]
+    let n = argument(rt, at, &mut word);
+    say(to, &word[..n])?;
+    say(to, after)?;
+    Ok(word[0])
 }
 
-fn example(k: usize)
+fn example<R: Env + Files, W: Write>(rt: &R, to: &mut W, k: usize) -> io::Result<()>
     requires { k ≤ 1000 }
 {
     let at = k + k + k + 1;
     let mut file = [0u8; 512];
     let mut vectors = [0u8; 512];
-    let asked = say_argument(at, b" ");
-    say_argument(at + 1, b": ");
-    let n = read_named(at + 1, &mut file);
-    let m = read_named(at + 2, &mut vectors);
-    show(asked, &file[0..n], &vectors[0..m]);
+    let asked = say_argument(rt, to, at, b" ")?;
+    say_argument(rt, to, at + 1, b": ")?;
+    let n = read_named(rt, at + 1, &mut file);
+    let m = read_named(rt, at + 2, &mut vectors);
+    show(to, asked, &file[0..n], &vectors[0..m])
 }
 
-fn main() {
-    let count = lesser(os::arg_count() / 3, MOST);
-    let mut k = 0;
-    while k < count {
-        example(k);
-        k += 1;
+fn main(rt: HostRuntime) -> io::Result<()> {
+    let count = lesser(count_arguments(&rt) / 3, MOST);
+    for k in 0..count {
+        example(&rt, &mut rt.stdout(), k)?;
     }
+    Ok(())
 }

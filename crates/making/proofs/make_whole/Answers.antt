@@ -1,6 +1,5 @@
 -- The answer of the file, and then all tables zero: each is as long as it was, and was cleared.
 use mathlib.Core.Path.{◌∙◌}
-use borrow.Author.Rules.{rules}
 use Rattle.plan.specs.Circuit.{seven}
 use Rattle.plan.specs.Whole.{WholeEntry, input_of}
 use Rattle.read.proofs.Loads.{same-cleared, all_same}
@@ -71,7 +70,6 @@ returns c =
       scratch = a.scratch.now;
       out = a.out.now;
     } in
-    let k = c.make_file-answer.kept in
     let read' =
     seven c.make_file-answer.new.inputs c.make_file-answer.new.latches c.make_file-answer.new.outputs c.make_file-answer.new.gates c.make_file-answer.new.resets
     c.make_file-answer.new.bads c.make_file-answer.new.constraints in
@@ -81,12 +79,12 @@ returns c =
     c.make_file-answer.new.made_bads c.make_file-answer.new.made_constraints in
     all-zero w (made_file a.reduced a.dropped w) _ c.make_file-answer.ensures _ _ _
     (c.clear_all.ensures
-    ∙ all_same read' read k.1.1.1.1.0 k.1.1.1.1.1.0 k.1.1.1.1.1.1.0 k.1.1.1.1.1.1.1.0
-    k.1.1.1.1.1.1.1.1.0 k.1.1.1.1.1.1.1.1.1.0 k.1.1.1.1.1.1.1.1.1.1.0)
+    ∙ all_same read' read c.make_file-answer.auto.inputs c.make_file-answer.auto.latches c.make_file-answer.auto.outputs c.make_file-answer.auto.gates
+    c.make_file-answer.auto.resets c.make_file-answer.auto.bads c.make_file-answer.auto.constraints)
     (c.clear_all-2.ensures
-    ∙ all_same made' made k.1.1.1.1.1.1.1.1.1.1.1.0 k.1.1.1.1.1.1.1.1.1.1.1.1.0
-    k.1.1.1.1.1.1.1.1.1.1.1.1.1.0 k.1.1.1.1.1.1.1.1.1.1.1.1.1.1.0
-    k.1.1.1.1.1.1.1.1.1.1.1.1.1.1.1.0 k.1.1.1.1.1.1.1.1.1.1.1.1.1.1.1.1.0
-    k.1.1.1.1.1.1.1.1.1.1.1.1.1.1.1.1.1.0)
+    ∙ all_same made' made c.make_file-answer.auto.made_inputs c.make_file-answer.auto.made_latches
+    c.make_file-answer.auto.made_outputs c.make_file-answer.auto.made_gates
+    c.make_file-answer.auto.made_resets c.make_file-answer.auto.made_bads
+    c.make_file-answer.auto.made_constraints)
     (c.clear.ensures ∙ same-cleared c.make_file-answer.new.scratch a.scratch.now
-    k.1.1.1.1.1.1.1.1.1.1.1.1.1.1.1.1.1.1.0)
+    c.make_file-answer.auto.scratch)

@@ -1,11 +1,8 @@
--- The bytes of an input from the start of a buffer on. The loop keeps `Kept n buf₀ buf`; the measure is `length buf₀ - n`.
-use Prim.Native.Nat.{◌-◌}
-use mathlib.Core.Path.{refl}
-use native.Mathlib.Omega.{arith}
-use borrow.Author.Rules.{rules}
-use lib.ListN.{length}
-use Rattle.office.proofs.Within.{Kept}
+-- Each read adds the bytes that it gave.
+use Rattle.std.proofs.Common.{rules}
+use Rattle.office.proofs.Filled.{Consumes-behind}
 use Rattle.office.proofs.read_input.Goals as goal
 
-pub loop-n-init : goal.loop-n-init
-loop-n-init c = record { bound = omega arith; same = refl }
+pub loop-n-preserved : goal.loop-n-preserved
+loop-n-preserved g c =
+    (search rules, Consumes-behind _ _ _ _ _ _ _ _ c.loop-n.invariant.0 c.in-Ok.ensures.bound.0 c.loop-n.invariant.1 c.in-Ok.ensures.bytes.0)

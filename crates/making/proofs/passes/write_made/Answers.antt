@@ -3,7 +3,6 @@
 use mathlib.Core.Path.{refl, sym, ap, ◌∙◌}
 use mathlib.Core.Bool.{Bool, false}
 use mathlib.Core.List.{◌++◌}
-use borrow.Author.Rules.{rules}
 use Rattle.plan.specs.Circuit.{Circuit, Tables, seven}
 use Rattle.plan.specs.Binary.{binary_of}
 use Rattle.plan.specs.Given.{Given, given_circuit}
@@ -59,7 +58,7 @@ write_reduced-requires c =
     seven a.to_inputs.now a.to_latches.now a.to_outputs.now a.to_gates.now a.to_resets.now a.to_bads.now a.to_constraints.now in
     let a = c.args in
     let m = c.in-Accepted.is in
-    record { stands_ready = converted-ready (circuit) (into) a.tail.now c.requires _ c.convert.ensures _ m; in_order = made-in-order _ _ a.tail.now (converts (circuit) (into) a.tail.now c.requires) _ c.convert.ensures _ m; }
+    record { stands_ready = converted-ready (circuit) (into) a.tail.now c.requires _ c.convert.ensures _ m; in_order = made-in-order _ _ a.tail.now (converts (circuit) (into) a.tail.now c.requires) _ c.convert.ensures _ m }
 
 pub shape_of-inputs-then-reduced : goal.shape_of-inputs-then-reduced
 shape_of-inputs-then-reduced c = c.write_reduced.auto.to_inputs

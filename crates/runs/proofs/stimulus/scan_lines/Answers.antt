@@ -3,12 +3,10 @@
 -- `too_long`, `wrong-code` and `all-scanned` give the answer.
 use Prim.Native.Nat.{◌-◌}
 use mathlib.Core.Path.{refl, sym, ◌∙◌}
-use mathlib.Core.Logic.{⊎_elim}
 use native.Mathlib.Omega.{arith}
 use borrow.Author.Tests.{not-true, not-false}
-use lib.ListN.{length}
-use Rattle.runs.proofs.stimulus.Scanning.{Scans, line-next, too_long, code-next, wrong-code, all-scanned, scans-at}
-use borrow.Author.Rules.{rules}
+use Rattle.runs.proofs.stimulus.Scanning.{line-next, too_long, code-next, wrong-code, all-scanned, scans-at}
+use Rattle.runs.proofs.stimulus.scan_lines.Goals.{then-column-width+else-b-ne10, else-column-width+else-not-is_code}
 use Rattle.runs.proofs.stimulus.scan_lines.Goals as goal
 
 pub loop-i-init : goal.loop-i-init
@@ -32,10 +30,11 @@ pub loop-i-preserved : goal.loop-i-preserved
 loop-i-preserved c =
     let s = c.loop-i.invariant in
     let h = c.loop-i-test.true in
-    ⊎_elim
-    (λ w. scans-at w.2 w.3 (line-next s h w.0.taken w.1.left))
-    (λ w. scans-at w.3 w.4 (code-next s h w.0.left (sym w.1.ensures ∙ not-false _ w.2.left)))
-    c.if-column-width.branch
+    elim c.if-column-width.branch [
+      | then-column-width+else-b-ne10 w ↦ scans-at w.column-is w.number-is (line-next s h w.if-column-width.true w.if-b-ne10.false)
+      | else-column-width+else-not-is_code w ↦
+          scans-at w.column-is w.number-is (code-next s h w.if-column-width.false (sym w.is_code.ensures ∙ not-false _ w.if-not-is_code.false-raw))
+    ]
 
 pub returns : goal.returns
 returns c = all-scanned c.loop-i.invariant c.loop-i-test.false

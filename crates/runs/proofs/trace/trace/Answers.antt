@@ -10,18 +10,7 @@ use Rattle.plan.specs.Outcome.{check_in_order}
 use Rattle.plan.specs.Whole.{TraceEntry, trace_stage}
 use Rattle.step.proofs.Checks.{refused-by, past-check, runs, room}
 use Rattle.runs.proofs.trace.Answers.{state-long, listed, refused-trace, refused-vectors, done-trace}
-use borrow.Author.Rules.{rules}
 use Rattle.runs.proofs.trace.trace.Goals as goal
-
-told : (d : tie.After-judge-arg) → d.judge-in-order.result ≡ Good
-told d = d.before.enum_told.given.1
-
-says : (d : tie.After-judge-arg) → d.judge-in-order.result ≡ (check_in_order (entry d).circuit).answer
-says d = d.judge-in-order.ensures.0
-
--- scratch stays as long as it was
-same : (d : tie.After-judge-arg) → length d.judge-in-order.new.1.1.1.1.1.1.1.1.0 ≡ length d.args.scratch.now
-same d = d.before.before.before.before.scratch.given
 
 pub fitting-number-requires : goal.fitting-number-requires
 fitting-number-requires c =
@@ -37,6 +26,10 @@ fitting-number-requires c =
       vectors = a.vectors.now;
       out = a.out.now;
     } in
+    let told : c.judge_in_order.result ≡ Good =
+    c.in-Good.is in
+    let says : c.judge_in_order.result ≡ (check_in_order (entry).circuit).answer =
+    c.judge_in_order.ensures.value in
     let e = entry in
     let f = (runs e.circuit (trace_stage e) (says) (told)).fits in
     (omega (arith, f.sum, f.most-M), f.most-O)
@@ -55,10 +48,16 @@ trace_from-requires c =
       vectors = a.vectors.now;
       out = a.out.now;
     } in
+    let told : c.judge_in_order.result ≡ Good =
+    c.in-Good.is in
+    let says : c.judge_in_order.result ≡ (check_in_order (entry).circuit).answer =
+    c.judge_in_order.ensures.value in
+    let same : length c.judge_in_order.new.scratch ≡ length c.args.scratch.now =
+    c.judge_in_order.auto.scratch in
     let e = entry in
     let judged = c.judge.ensures in
     let lines = c.in-Lines.is in
-    record { room = room e.circuit (trace_stage e) (says) (told) _ (same); state_len = state-long e _ judged _ lines; listed = listed e _ judged _ lines _ c.fitting-number.ensures; }
+    record { room = room e.circuit (trace_stage e) (says) (told) _ (same); state_len = state-long e _ judged _ lines; listed = listed e _ judged _ lines _ c.fitting-number.ensures }
 
 pub returns-in-Refused : goal.returns-in-Refused
 returns-in-Refused c =
@@ -93,6 +92,12 @@ returns-in-Refused-judge c =
       vectors = a.vectors.now;
       out = a.out.now;
     } in
+    let told : c.judge_in_order.result ≡ Good =
+    c.in-Good.is in
+    let says : c.judge_in_order.result ≡ (check_in_order (entry).circuit).answer =
+    c.judge_in_order.ensures.value in
+    let same : length c.judge_in_order.new.scratch ≡ length c.args.scratch.now =
+    c.judge_in_order.auto.scratch in
     let e = entry in
     let zero = c.clear.ensures ∙ ap (λ (k : ℕ). replicate k 0) (same) in
     refused-vectors e _ c.judge.ensures _ zero (past-check e.circuit (trace_stage e) (says) (told)) _
@@ -112,6 +117,12 @@ returns-in-Lines c =
       vectors = a.vectors.now;
       out = a.out.now;
     } in
+    let told : c.judge_in_order.result ≡ Good =
+    c.in-Good.is in
+    let says : c.judge_in_order.result ≡ (check_in_order (entry).circuit).answer =
+    c.judge_in_order.ensures.value in
+    let same : length c.judge_in_order.new.scratch ≡ length c.args.scratch.now =
+    c.judge_in_order.auto.scratch in
     let e = entry in
     let zero = c.clear-in-Lines.ensures ∙ ap (λ (k : ℕ). replicate k 0) (c.trace_from.auto.scratch ∙ same) in
     let left = c.trace_from.ensures e.circuit.tables (runs e.circuit (trace_stage e) (says) (told)) in

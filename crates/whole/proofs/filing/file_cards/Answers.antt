@@ -3,7 +3,6 @@ use Prim.Native.Nat.{ℕ}
 use mathlib.Core.Path.{refl, sym, ap, ◌∙◌}
 use mathlib.Core.List.{List}
 use native.Mathlib.Omega.{arith}
-use borrow.Author.Rules.{rules}
 use borrow.Author.Tests.{not-true, not-false}
 use Rattle.plan.specs.Refusals.{Parse, ◌then◌}
 use Rattle.plan.specs.Circuit.{Circuit, Tables, seven, lengths_of}
@@ -20,7 +19,7 @@ returns-then-not-readable c =
     let tables : Tables =
     let a = c.args in seven a.inputs.now a.latches.now a.outputs.now a.gates.now a.resets.now a.bads.now a.constraints.now in
     let filed : List ℕ → Parse (List ℕ) =
-    λ file. read_cards file (lengths_of (tables) c.args.scratch.now) then λ c _. fitting_in c.args.out.now (binary_of c) in
+    λ file. read_cards file (lengths_of (tables) c.args.scratch.now) then λ x _. fitting_in c.args.out.now (binary_of x) in
     unreadable c.args.file.now c.args.out.now (filed) c.args.readable (not-true _ c.if-not-readable.true-raw)
 
 pub returns-then-file-gt-LONGEST : goal.returns-then-file-gt-LONGEST
@@ -28,7 +27,7 @@ returns-then-file-gt-LONGEST c =
     let tables : Tables =
     let a = c.args in seven a.inputs.now a.latches.now a.outputs.now a.gates.now a.resets.now a.bads.now a.constraints.now in
     let filed : List ℕ → Parse (List ℕ) =
-    λ file. read_cards file (lengths_of (tables) c.args.scratch.now) then λ c _. fitting_in c.args.out.now (binary_of c) in
+    λ file. read_cards file (lengths_of (tables) c.args.scratch.now) then λ x _. fitting_in c.args.out.now (binary_of x) in
     too_long c.args.file.now c.args.out.now (filed) c.args.readable (not-false _ c.if-not-readable.false-raw) c.if-file-gt-LONGEST.true
 
 pub slice_bounds-write_binary-count : goal.slice_bounds-write_binary-count
@@ -92,7 +91,7 @@ returns-in-Refused c =
     let tables : Tables =
     let a = c.args in seven a.inputs.now a.latches.now a.outputs.now a.gates.now a.resets.now a.bads.now a.constraints.now in
     let filed : List ℕ → Parse (List ℕ) =
-    λ file. read_cards file (lengths_of (tables) c.args.scratch.now) then λ c _. fitting_in c.args.out.now (binary_of c) in
+    λ file. read_cards file (lengths_of (tables) c.args.scratch.now) then λ x _. fitting_in c.args.out.now (binary_of x) in
     let entry : ReadEntry =
     record { file = c.args.file.now; tables = tables; scratch = c.args.scratch.now } in
     let left : LoadExit =
@@ -139,7 +138,7 @@ returns-in-Accepted c =
     let tables : Tables =
     let a = c.args in seven a.inputs.now a.latches.now a.outputs.now a.gates.now a.resets.now a.bads.now a.constraints.now in
     let filed : List ℕ → Parse (List ℕ) =
-    λ file. read_cards file (lengths_of (tables) c.args.scratch.now) then λ c _. fitting_in c.args.out.now (binary_of c) in
+    λ file. read_cards file (lengths_of (tables) c.args.scratch.now) then λ x _. fitting_in c.args.out.now (binary_of x) in
     let entry : ReadEntry =
     record { file = c.args.file.now; tables = tables; scratch = c.args.scratch.now } in
     let left : LoadExit =

@@ -1,2 +1,0 @@
--- What the proofs of the comparer use.
-pub mod Within

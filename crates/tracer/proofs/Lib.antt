@@ -1,2 +1,0 @@
--- What the proofs of the tracer use.
-pub mod Within
