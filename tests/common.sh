@@ -103,7 +103,7 @@ crates_under() {
             if (all || name in changed) print name
         }
         { sub(/#.*/, "") }
-        split($0, part, ":") == 2 { gsub(/[ \t]/, "", part[1]); needs[part[1]] = part[2] }
+        split($0, part, ":") == 2 && split(part[1], word, " ") { needs[word[1]] = part[2] }
         END {
             for (k = split(list, given, " "); k > 0; k--) changed[given[k]] = 1
             visit(top)
