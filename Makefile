@@ -3,8 +3,8 @@
 #   make install            below PREFIX, which is /usr/local; DESTDIR goes before every path
 #   make uninstall          takes out what install put there
 #   make deb                target/make/golvanzo_VERSION_ARCHITECTURE.deb
-# The library is the proved archive if `rt staticlib desk` made it since the crates changed. Else it is compiled now
-# from the same sources, without proving them (tools/quick).
+# The library is the proved archive, which tools/prove makes where the crates changed since. A toolchain that can compile
+# them in seconds without proving them does that instead (tools/quick); today's can't.
 
 VERSION := $(shell cat VERSION)
 SONAME := libgolvanzo.so.$(firstword $(subst ., ,$(VERSION)))
@@ -45,14 +45,19 @@ PYTHON := $(wildcard python/golvanzo/*.py python/golvanzo/py.typed)
 all: $(BUILD)/plan $(LIBRARIES) $(BUILD)/texts
 	@echo "make: $(BUILD) has plan, libgolvanzo.a and libgolvanzo.so.$(VERSION), $$(cat $(BUILD)/made-of)"
 
-$(BUILD)/libdesk.a: crates.txt tools/quick $(shell find crates -name '*.rt') $(wildcard $(PROVED))
+$(BUILD)/libdesk.a: crates.txt $(shell find crates/*/src -name '*.rt') $(wildcard $(PROVED))
 	@mkdir -p $(BUILD)
 	@if [ "$$(uname -m)" != x86_64 ]; then \
 	    ports/library "$$(uname -m)" $@ && echo "for $$(uname -m), whose back end nothing compares" >$(BUILD)/made-of; \
-	elif grep -qsa 'rattle logic=' $(PROVED) && [ -z "$$(find crates crates.txt -newer $(PROVED) -print -quit)" ]; then \
+	elif bash -c '. tests/common.sh && archive_is_built'; then \
 	    cp $(PROVED) $@ && echo "of the archive that was proved here" >$(BUILD)/made-of; \
 	else \
-	    tools/quick $@ && echo "compiled without proving the sources again" >$(BUILD)/made-of; \
+	    tools/quick $@ 2>$(BUILD)/quick.log; \
+	    case $$? in \
+	    0) echo "compiled without proving the sources again" ;; \
+	    3) tools/prove && cp $(PROVED) $@ && echo "of the archive that was proved here" ;; \
+	    *) cat $(BUILD)/quick.log >&2; false ;; \
+	    esac >$(BUILD)/made-of; \
 	fi
 
 $(BUILD)/%.o: c/%.c $(HEADERS) VERSION | $(BUILD)/libdesk.a

@@ -19,4 +19,4 @@ choose_target() {
 }
 
 # The toolchain's clang, which is its linkers too, by other names.
-tools=$(dirname "$(dirname "$(rt doc)")")/on/$(uname -m)/toolchain/bin
+tools=$(dirname "$(rt doc)")/toolchain/bin

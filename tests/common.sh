@@ -56,6 +56,12 @@ is_younger() {
     [ -f "$file" ] && [ -z "$(find "$@" -newer "$file" -print -quit)" ]
 }
 
+# of_crates FILE: the same of what is built from the crates. What rt keeps in a crate's out/ is left out, and so is the
+# date of a crate's own folder, which says when out/ came; what is moved into that counts from then on.
+of_crates() {
+    [ -f "$1" ] && [ -z "$(find crates.txt crates/*/* -regex 'crates/[^/]*/out' -prune -o -cnewer "$1" -print -quit)" ]
+}
+
 # The proved archive, which serves all; where what is built over it goes. `./plan` alone may choose another.
 proved=target/staticlib/libdesk.a
 archive=$proved
@@ -73,14 +79,14 @@ dated() {
     return $status
 }
 
-# Whether it is proved stands in an archive's .comment: "rattle logic=.." or "rattle unproved".
+# An archive's .comment names the logic in which it is proved: "rattle logic=..".
 is_proved() {
     grep -qa 'rattle logic=' "$1"
 }
 
 # The archive is built again only where something of the crates changed since.
 archive_is_built() {
-    is_younger "$proved" crates crates.txt && is_proved "$proved"
+    of_crates "$proved" && is_proved "$proved"
 }
 
 # crates_under NAME [CHANGED]: what a crate is made of, by crates.txt, itself last and each after what it needs; with a
@@ -97,23 +103,27 @@ crates_under() {
             if (all || name in changed) print name
         }
         { sub(/#.*/, "") }
-        split($0, part, ":") == 2 { gsub(/[ \t]/, "", part[1]); needs[part[1]] = part[2] }
+        split($0, part, ":") == 2 && split(part[1], word, " ") { needs[word[1]] = part[2] }
         END {
             for (k = split(list, given, " "); k > 0; k--) changed[given[k]] = 1
             visit(top)
         }' crates.txt
 }
 
-# on_proofs COMMAND..: an `rt` over the repository, while no other is: two would write over each other's words on what is proved.
-on_proofs() {
-    mkdir -p target
-    if command -v flock >/dev/null; then flock target/proofs-lock "$@"; else "$@"; fi
+# Proves crate desk and all that it needs, and puts the archive in its place.
+prove_archive() {
+    (cd crates/desk && rt lib) && place crates/desk/out/libdesk.a "$proved"
+}
+
+# place FILE TO: a copy, which is there whole or not at all.
+place() {
+    mkdir -p "${2%/*}" && cp "$1" "$2.new" && mv "$2.new" "$2"
 }
 
 build_archive() {
     mkdir -p target/desk
     archive_is_built && return
-    dated "$proved" on_proofs rt staticlib desk >target/desk/archive.log 2>&1 || {
+    dated "$proved" prove_archive >target/desk/archive.log 2>&1 || {
         cat target/desk/archive.log
         give_up "the archive isn't built"
     }
@@ -130,19 +140,22 @@ build_over_desk() {
 
 # build_programs NAME..: target/bin/NAME, proved unless nothing changed since it was.
 build_programs() {
+    local name
     mkdir -p target
-    on_proofs rt check "$@" >target/programs.log 2>&1 || {
-        cat target/programs.log
-        give_up "$* not built"
-    }
+    for name in "$@"; do
+        of_crates "target/bin/$name" && continue
+        dated "target/bin/$name" prove_program "$name" >target/programs.log 2>&1 || {
+            cat target/programs.log
+            give_up "$name isn't built"
+        }
+    done
 }
 
-# Prints the words that start a program of target/bin: its code is x86-64's, and the kit brings the loader, and the emulator
-# where the machine is another.
-starter() {
-    local tools emulator
-    tools=$(dirname "$(dirname "$(rt doc)")")/on/$(uname -m)/toolchain
-    emulator=$tools/bin/qemu-x86_64
-    [ -x "$emulator" ] || emulator=
-    echo "${emulator:+$emulator }$tools/lib/ld-linux-x86-64.so.2 --library-path $tools/lib"
+# prove_program NAME: `rt run` proves a program, builds it, and runs it, which is not asked for here: what it makes of
+# nothing, and how it ends, is thrown away. It has a stamp if no source changed meanwhile, and rt says when it starts it.
+prove_program() {
+    local said
+    said=$(cd "crates/$1" && rt run </dev/null 2>&1 >/dev/null)
+    printf '%s\n' "$said"
+    grep -q "^rt: running out/$1;" <<<"$said" && [ -f "crates/$1/out/$1.stamp" ] && place "crates/$1/out/$1" "target/bin/$1"
 }

@@ -20,26 +20,25 @@ make_archives() {
     "$objcopy" --update-section .text.golvanzo_words="$room/words" "$room/unproved.a" "$room/different.a"
 }
 
-# rt proves two crates, of which one is unchanged, and then desk; the compiler wants nothing but where its archive goes.
+# rt is silent of a crate that is unchanged, proves another, and then desk; the compiler, which today's kit lacks, wants
+# nothing but where its archive goes.
 make_kit() {
     mkdir -p "$compilers/bin" "$room/bin"
     cat >"$room/bin/rt" <<END_OF_RT
 #!/bin/sh
-case \$* in
-doc) echo "$kit/docs/START-HERE.md" ;;
-"check plan room")
-    echo "rt: plan proved (unchanged since it was last proved)"
+case "\${PWD##*/} \$*" in
+*" doc") echo "$kit/docs/START-HERE.md" ;;
+"plan lib") ;;
+"room lib")
     echo "fn room::write: proved"
-    [ ! -f crates/unproved ] || { echo "rt: room NOT PROVED (exit 1, 7 s)"; exit 1; }
-    [ ! -f "$room/meddle" ] || touch crates/room/src/lib.rt
-    echo "rt: room proved (7 s)"
-    echo "rt: ok, 2 crates proved"
+    [ ! -f src/unproved ] || { echo "fn room::read: not proved"; exit 1; }
+    [ ! -f "$room/meddle" ] || touch src/lib.rt
+    echo "logic=proved functions=1"
     ;;
-"staticlib desk")
-    echo "rt: room proved (unchanged since it was last proved)"
-    mkdir -p target/staticlib
-    cp "$room/proved.a" target/staticlib/libdesk.a
-    echo "rt: target/staticlib/libdesk.a has the functions of desk"
+"desk lib")
+    mkdir -p out
+    cp "$room/proved.a" out/libdesk.a
+    echo "logic=proved functions=1"
     ;;
 *) exit 2 ;;
 esac
@@ -48,7 +47,7 @@ END_OF_RT
 #!/bin/sh
 [ "\$1 \$2 \$3" = "--toolchain $compilers/toolchain --staticlib" ] || exit 2
 [ \$# -gt 3 ] || { echo "usage: rattle-cases --toolchain DIR --staticlib OUT WORDS..." >&2; exit 2; }
-[ ! -f crates/wrong ] || { echo "rattle-cases: the library is not compiled" >&2; exit 2; }
+[ ! -f crates/room/src/wrong ] || { echo "rattle-cases: the library is not compiled" >&2; exit 2; }
 shift 3
 [ "\${*#* }" = "crates/desk/src/lib.rt --crate-name desk --lib std=$kit/libs/std/src/lib.rt \
 --lib plan=\$PWD/crates/plan/src/lib.rt --lib room=\$PWD/crates/room/src/lib.rt" ] || exit 2
@@ -69,7 +68,7 @@ copy_project() {
         echo "// $name" >"$project/crates/$name/src/lib.rt"
     done
     printf '%s\n' '# Leaves' plan: 'room: plan' '# Others' 'unused: plan room' \
-        'desk: room # and not unused' 'program: desk unused' >"$project/crates.txt"
+        'desk staticlib: room # and not unused' 'program: desk unused' >"$project/crates.txt"
     cp "$room/unproved.a" "$room/quick.a"
 }
 
@@ -77,7 +76,7 @@ copy_project() {
 run_plan() {
     (cd "$room" && PATH="$room/bin:$PATH" project/plan "$@" >"$room/out" 2>"$room/error")
     echo $? >"$room/status"
-    sed -i 's/about [0-9]* s left/about some s left/; s/[0-9]* s$/some s/' "$room/error"
+    sed -i 's/about [0-9]* s left/about some s left/; s/room, [0-9]* s/room, some s/; s/[0-9]* s$/some s/' "$room/error"
 }
 
 # used NAME ERROR: the command answers, and this is all that is said beside.
@@ -112,12 +111,12 @@ without_proof() {
     changed room
     beside_another
     used "use after that" ""
-    touch "$project/crates/wrong"
+    touch "$project/crates/room/src/wrong"
     run_plan convert "$top/examples/toggle.aag"
     expect "use after a wrong change" 2 /dev/null "rattle-cases: the library is not compiled
 tools/quick: the sources are refused
 plan: the library isn't built"
-    rm "$project/crates/wrong"
+    rm "$project/crates/room/src/wrong"
     used "use after it is put right" "$unproved"
     touch "$project/command/main.c"
     used "use after a change of the command" "$unproved"
@@ -143,7 +142,7 @@ $unproved"
 
 proving="plan: proving the library, which takes some minutes
 plan: 1 of 3, plan, unchanged, about some s left
-plan: 2 of 3, room, 7 s, about some s left
+plan: 2 of 3, room, some s, about some s left
 plan: 3 of 3, desk, some s
 plan: the library is proved: some s"
 
@@ -162,9 +161,9 @@ plan: compiled without a proof its code is the same: "
     run_plan prove
     expect "prove again" 0 /dev/null "plan: proving the library, which takes some minutes; the last time it took "
     used "use of what is proved again" ""
-    touch "$project/crates/unproved"
+    touch "$project/crates/room/src/unproved"
     run_plan prove
-    expect "prove after a wrong change" 2 /dev/null "rt: room NOT PROVED (exit 1, 7 s)
+    expect "prove after a wrong change" 2 /dev/null "fn room::read: not proved
 plan: the library isn't proved"
     versions "after a wrong change" "$not_proved"
     used "use after a wrong change of what is proved" "$unproved"

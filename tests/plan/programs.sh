@@ -4,7 +4,7 @@
 # program NAME FILE VECTORS: runs a program in a folder where FILE is plan.in.
 program() {
     cp "$2" "$room/in/plan.in"
-    (cd "$room/in" && $starts "$top/target/bin/$1") <"$3" >"$room/program" 2>/dev/null
+    (cd "$room/in" && ${emulator}"$top/target/bin/$1") <"$3" >"$room/program" 2>/dev/null
 }
 
 # agrees NAME FILE VECTORS WORD..: the command writes what the program writes, or refuses with its number and place. What a
@@ -89,7 +89,6 @@ on_cards() {
     for damaged in "$room/damaged"/*; do agrees filer "$damaged" /dev/null file "$damaged"; done
 }
 
-starts=$(starter)
 mkdir "$room/in"
 build_programs converter reducer tracer comparer reporter filer carder
 on_whole
