@@ -27,9 +27,13 @@ fn write_dropped(
     tail: &[u8],
     out: &mut [u8],
 ) -> Written
-    requires stands_ready { StandsReady n inputs.now latches.now outputs.now gates.now resets.now bads.now constraints.now to_inputs.old to_latches.old to_outputs.old to_gates.old to_resets.old to_bads.old to_constraints.old scratch.old tail.now }
-    requires in_order { InOrder n inputs.now latches.now outputs.now gates.now resets.now bads.now constraints.now scratch.old }
-    ensures { PutsBinary drop_unused n inputs.now latches.now outputs.now gates.now resets.now bads.now constraints.now scratch.old tail.now out.old out.new result }
+    requires stands_ready { StandsReady n inputs.now latches.now outputs.now gates.now resets.now bads.now
+        constraints.now to_inputs.old to_latches.old to_outputs.old to_gates.old to_resets.old to_bads.old
+        to_constraints.old scratch.old tail.now }
+    requires in_order { InOrder n inputs.now latches.now outputs.now gates.now resets.now bads.now
+        constraints.now scratch.old }
+    ensures { PutsBinary drop_unused n inputs.now latches.now outputs.now gates.now resets.now bads.now
+        constraints.now scratch.old tail.now out.old out.new result }
 {
     match drop::drop_unused(
         n,
@@ -88,9 +92,13 @@ fn write_reduced(
     tail: &[u8],
     out: &mut [u8],
 ) -> Written
-    requires stands_ready { StandsReady n inputs.old latches.old outputs.old gates.old resets.old bads.old constraints.old to_inputs.old to_latches.old to_outputs.old to_gates.old to_resets.old to_bads.old to_constraints.old scratch.old tail.now }
-    requires in_order { InOrder n inputs.old latches.old outputs.old gates.old resets.old bads.old constraints.old scratch.old }
-    ensures { PutsBinary (lessened dropped) n inputs.old latches.old outputs.old gates.old resets.old bads.old constraints.old scratch.old tail.now out.old out.new result }
+    requires stands_ready { StandsReady n inputs.old latches.old outputs.old gates.old resets.old bads.old
+        constraints.old to_inputs.old to_latches.old to_outputs.old to_gates.old to_resets.old to_bads.old
+        to_constraints.old scratch.old tail.now }
+    requires in_order { InOrder n inputs.old latches.old outputs.old gates.old resets.old bads.old
+        constraints.old scratch.old }
+    ensures { PutsBinary (lessened dropped) n inputs.old latches.old outputs.old gates.old resets.old bads.old
+        constraints.old scratch.old tail.now out.old out.new result }
 {
     match reduce::reduce(
         n,
@@ -175,8 +183,11 @@ pub fn write_made(
     tail: &[u8],
     out: &mut [u8],
 ) -> Written
-    requires { StandsReady n inputs.old latches.old outputs.old gates.old resets.old bads.old constraints.old to_inputs.old to_latches.old to_outputs.old to_gates.old to_resets.old to_bads.old to_constraints.old scratch.old tail.now }
-    ensures { Puts (bytes_of text reduced dropped) n inputs.old latches.old outputs.old gates.old resets.old bads.old constraints.old scratch.old tail.now out.old out.new result }
+    requires { StandsReady n inputs.old latches.old outputs.old gates.old resets.old bads.old constraints.old
+        to_inputs.old to_latches.old to_outputs.old to_gates.old to_resets.old to_bads.old to_constraints.old
+        scratch.old tail.now }
+    ensures { Puts (bytes_of text reduced dropped) n inputs.old latches.old outputs.old gates.old resets.old
+        bads.old constraints.old scratch.old tail.now out.old out.new result }
 {
     if text {
         return write_text(

@@ -1,12 +1,12 @@
 -- The search on small circuits, computed, and two plans compared.
 use Prim.Native.Nat.{ℕ}
 use mathlib.Core.Path.{◌≡◌, refl}
-use mathlib.Core.Bool.{true, false}
+use mathlib.Core.Bool.{true}
 use mathlib.Core.List.{List, [], ◌∷◌, ◌++◌, map}
 use lib.ListN.{replicate}
 use Rattle.plan.specs.Circuit.{Circuit, seven}
 use Rattle.plan.specs.Binary.{binary_order}
-use Rattle.plan.specs.Search.{Found, never, happens, undecided, watched, can_happen, SearchEntry, happening_values, search}
+use Rattle.plan.specs.Search.{never, happens, undecided, watched, can_happen, SearchEntry, happening_values, search}
 use Rattle.plan.specs.Product.{product}
 
 -- two latches in a row behind an input; bad where both are 1

@@ -1,15 +1,14 @@
 -- What each answer of the search says, that an allowance for all tries decides, and that a larger one changes no answer.
 use Prim.Native.Nat.{ℕ, zero, suc, ◌+◌, ◌*◌, ◌/◌, ◌%◌, ◌≤◌, ◌<◌}
 use mathlib.Core.Path.{◌≡◌, refl, sym, ap, ap₂, ◌∙◌, subst}
-use mathlib.Core.Bool.{Bool, true, false, cond, not, ◌&&◌, ◌||◌, false≢true}
+use mathlib.Core.Bool.{Bool, true, false, ◌&&◌, ◌||◌}
 use mathlib.Core.List.{List, [], ◌∷◌, ◌++◌, map}
-use native.Mathlib.Nat.{mod-lt, mul-le-mul_right, suc-mul, div-lt_iff_lt-mul, le-div_iff_mul-le}
+use native.Mathlib.Nat.{mod-lt, div-lt_iff_lt-mul, le-div_iff_mul-le}
 use native.Mathlib.Decide.{dec_le}
 use native.Mathlib.Omega.{arith}
-use borrow.Author.Tests.{ltb-true, ltb-false}
 use lib.ListN.{length, get_or, length-append, get_or-map}
 use Rattle.plan.specs.Circuit.{has}
-use Rattle.laws.proofs.Reading.Members.{distinct, pigeon}
+use Rattle.laws.proofs.Reading.Members.{distinct}
 use Rattle.laws.proofs.Running.Lists.{has-at}
 use Rattle.plan.specs.Search.{System, shows_by, Leads, AllMoves, Reached, Way, begin, state_of, onward, Tried, past, shown, left, try_at, Found, never, happens, undecided, at_end, go_on, search_from, search_all}
 use Rattle.search.specs.Rows.{at, depth, Sits, Sound, Met}

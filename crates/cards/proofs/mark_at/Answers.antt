@@ -1,5 +1,4 @@
 -- Another first byte, or the second decides.
-use borrow.Author.Rules.{rules}
 use borrow.Author.Tests.{ne_eqb}
 use Rattle.cards.proofs.Words.{other-first, second-decides}
 use Rattle.cards.proofs.mark_at.Goals as goal

@@ -1,7 +1,6 @@
 -- Two stores in a row.
 use mathlib.Core.Path.{refl}
 use native.Mathlib.Omega.{arith}
-use borrow.Author.Rules.{rules}
 use lib.ListN.{length-set}
 use Rattle.cards.proofs.Words.{two-put}
 use Rattle.cards.proofs.put_mark.Goals as goal
@@ -12,4 +11,4 @@ bounds-out-at-2 c = simp length-set (omega arith)
 pub returns : goal.returns
 returns c =
     let a = c.args in
-    record { value = refl; out_after = two-put a.out.now a.at _ _ c.requires; }
+    record { value = refl; out_after = two-put a.out.now a.at _ _ c.requires }

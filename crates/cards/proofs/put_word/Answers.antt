@@ -2,7 +2,6 @@
 use Prim.Native.Nat.{◌/◌}
 use mathlib.Core.Path.{refl}
 use native.Mathlib.Omega.{arith}
-use borrow.Author.Rules.{rules}
 use lib.Bits.{mask_lt}
 use lib.ListN.{length-set}
 use Rattle.cards.proofs.Words.{word-put}
@@ -32,4 +31,4 @@ bounds-out-at-4 c = simp length-set (omega arith)
 pub returns : goal.returns
 returns c =
     let a = c.args in
-    record { value = refl; out_after = word-put a.out.now a.at a.word c.requires _ _ _ _ refl refl refl refl; }
+    record { value = refl; out_after = word-put a.out.now a.at a.word c.requires _ _ _ _ refl refl refl refl }

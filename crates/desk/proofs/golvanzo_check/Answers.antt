@@ -1,6 +1,5 @@
 -- Whether given tables hold a circuit that a reader could have accepted: number (0: they do) and place. Each answer is given by `check-told`.
 use native.Mathlib.Omega.{arith}
-use borrow.Author.Rules.{rules}
 use Rattle.plan.specs.Circuit.{seven}
 use Rattle.plan.specs.Header.{counts_from}
 use Rattle.plan.specs.Given.{Given}

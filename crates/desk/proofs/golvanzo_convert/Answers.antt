@@ -1,7 +1,6 @@
 -- Converts the circuit in given tables into written ones: number (0: converted), place and the counts M, I, L, O, A, B, C. Each answer is given by
 -- `made_told`.
 use native.Mathlib.Omega.{arith}
-use borrow.Author.Rules.{rules}
 use Rattle.plan.specs.Circuit.{seven}
 use Rattle.plan.specs.Circuit.{Tables}
 use Rattle.plan.specs.Header.{counts_from}
@@ -17,9 +16,9 @@ shape_of-to_inputs c = omega (arith, c.convert-r.auto.to_inputs)
 pub shape_of-to_latches : goal.shape_of-to_latches
 shape_of-to_latches c =
     omega (
-  arith,
-  c.convert-r.auto.to_latches,
-)
+      arith,
+      c.convert-r.auto.to_latches,
+    )
 
 pub shape_of-to_outputs : goal.shape_of-to_outputs
 shape_of-to_outputs c = omega (arith, c.convert-r.auto.to_outputs)

@@ -1,7 +1,6 @@
 -- What made an output 0 or 1 in a step of given tables, which are in binary order: number (0: explained) and place. Each answer is given by
 -- `explain-told`.
 use native.Mathlib.Omega.{arith}
-use borrow.Author.Rules.{rules}
 use Rattle.plan.specs.Circuit.{seven}
 use Rattle.plan.specs.Header.{counts_from}
 use Rattle.plan.specs.Given.{Given}

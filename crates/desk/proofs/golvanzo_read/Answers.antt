@@ -1,7 +1,6 @@
 -- Reads a file of AIGER 1.9 into the tables; where its tail starts, which after a refusal is the file's length. Each answer is given by
 -- `tail-starts`.
 use native.Mathlib.Omega.{arith}
-use borrow.Author.Rules.{rules}
 use Rattle.plan.specs.declared.Version.TheVariants.{V19}
 use Rattle.plan.specs.Circuit.{seven}
 use Rattle.plan.specs.Outcome.{ReadEntry, ReadExit}
@@ -28,9 +27,9 @@ overflow_sub-result c =
 pub shape_of-inputs : goal.shape_of-inputs
 shape_of-inputs c =
     omega (
-  arith,
-  c.read-tail.auto.inputs,
-)
+      arith,
+      c.read-tail.auto.inputs,
+    )
 
 pub shape_of-latches : goal.shape_of-latches
 shape_of-latches c = omega (arith, c.read-tail.auto.latches)

@@ -1,6 +1,5 @@
 -- The same by the report of 2007: resets are 0, and there are no bad states and no constraints. Each answer is given by `tail-starts`.
 use native.Mathlib.Omega.{arith}
-use borrow.Author.Rules.{rules}
 use Rattle.plan.specs.declared.Version.TheVariants.{V2007}
 use Rattle.plan.specs.Circuit.{seven}
 use Rattle.plan.specs.Outcome.{ReadEntry, ReadExit}
@@ -27,9 +26,9 @@ overflow_sub-result c =
 pub shape_of-inputs : goal.shape_of-inputs
 shape_of-inputs c =
     omega (
-  arith,
-  c.read-tail.auto.inputs,
-)
+      arith,
+      c.read-tail.auto.inputs,
+    )
 
 pub shape_of-latches : goal.shape_of-latches
 shape_of-latches c = omega (arith, c.read-tail.auto.latches)

@@ -1,6 +1,5 @@
 -- The needle report of a list of vectors: number (0: reported) and place; the numbers go to table 6. Each answer is given by `report-told`.
 use native.Mathlib.Omega.{arith}
-use borrow.Author.Rules.{rules}
 use Rattle.plan.specs.Circuit.{seven}
 use Rattle.plan.specs.Header.{counts_from}
 use Rattle.plan.specs.Given.{Given}

@@ -1,6 +1,5 @@
 -- The row report of up to 64 rows, into table 6: number (0: reported) and place. Each answer is given by `report-told`.
 use native.Mathlib.Omega.{arith}
-use borrow.Author.Rules.{rules}
 use Rattle.plan.specs.Circuit.{seven}
 use Rattle.plan.specs.Header.{counts_from}
 use Rattle.plan.specs.Given.{Given}

@@ -1,6 +1,5 @@
 -- The right sides of one gate of given tables, which are in binary order, with the values of a step: number (0: rewired) and place. Each answer is
 -- given by `rewire-told`.
-use borrow.Author.Rules.{rules}
 use Rattle.plan.specs.Circuit.{seven}
 use Rattle.plan.specs.Header.{counts_from}
 use Rattle.plan.specs.Given.{Given}

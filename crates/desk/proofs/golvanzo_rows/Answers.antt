@@ -1,6 +1,5 @@
 -- Up to 64 rows, each stepped once from the resets: number (0: stepped) and place. Each answer is given by `rows_told`.
 use native.Mathlib.Omega.{arith}
-use borrow.Author.Rules.{rules}
 use Rattle.plan.specs.Circuit.{seven}
 use Rattle.plan.specs.Header.{counts_from}
 use Rattle.plan.specs.Given.{Given}

@@ -1,6 +1,5 @@
 -- One step of the circuit in given tables, which are in binary order: number (0: stepped) and place. Each answer is given by `step-told`.
 use native.Mathlib.Omega.{arith}
-use borrow.Author.Rules.{rules}
 use Rattle.plan.specs.Circuit.{seven}
 use Rattle.plan.specs.Header.{counts_from}
 use Rattle.plan.specs.Given.{Given}

@@ -1,7 +1,6 @@
 -- The witness question by fillings, of which at most `allowance` are tried: number (0: answered), place, 1 for yes, 0 for no or 2 for undecided, and
 -- how many were tried. Each answer is given by `witness-told`.
 use native.Mathlib.Omega.{arith}
-use borrow.Author.Rules.{rules}
 use Rattle.plan.specs.Circuit.{seven}
 use Rattle.plan.specs.Header.{counts_from}
 use Rattle.plan.specs.Given.{Given}

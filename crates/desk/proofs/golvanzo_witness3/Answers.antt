@@ -1,7 +1,6 @@
 -- The witness question in three values, in which nothing is filled: number (0: answered), place, and 1 for yes or 0 for no. Each answer is given by
 -- `witness3-told`.
 use native.Mathlib.Omega.{arith}
-use borrow.Author.Rules.{rules}
 use Rattle.plan.specs.Circuit.{seven}
 use Rattle.plan.specs.Header.{counts_from}
 use Rattle.plan.specs.Given.{Given}

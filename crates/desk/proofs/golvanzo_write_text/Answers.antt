@@ -1,6 +1,5 @@
 -- Writes the text form of given tables and the tail: number (0: written), place and the number of bytes. Each answer is given by `file-told`.
 use native.Mathlib.Omega.{arith}
-use borrow.Author.Rules.{rules}
 use Rattle.plan.specs.Circuit.{seven}
 use Rattle.plan.specs.Header.{counts_from}
 use Rattle.plan.specs.Given.{Given}

@@ -1,6 +1,5 @@
 -- What a reader answers, as numbers: the refusal's number (0: none), its place, and the counts. Each answer is given by `refusal-told`.
 use mathlib.Core.Path.{sym, ap, ◌∙◌}
-use borrow.Author.Rules.{rules}
 use Rattle.plan.specs.Outcome.{loaded_values}
 use Rattle.answers.proofs.numbers.Refused.{refusal-told}
 use Rattle.desk.proofs.loaded.Goals as goal

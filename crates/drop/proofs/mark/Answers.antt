@@ -7,7 +7,6 @@ use lib.ListN.{set}
 use Rattle.plan.specs.Literals.{var_of, word_of, index_of}
 use Rattle.drop.specs.Marks.{Marked}
 use Rattle.drop.proofs.Marking.{mark-one}
-use borrow.Author.Rules.{rules}
 use Rattle.drop.proofs.mark.Goals as goal
 
 pub bounds-t-v : goal.bounds-t-v

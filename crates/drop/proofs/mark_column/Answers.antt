@@ -1,6 +1,5 @@
 -- Marks the variables of n words of a table, from `start` on by `stride`. The loop keeps `Column table stride first n t₀ t at i`; the measure is `n -
 -- i`. `column-turn` carries it from turn to turn, and `firsts` gives the answer.
-use borrow.Author.Rules.{rules}
 use Prim.Native.Nat.{ℕ, ◌+◌, ◌-◌, ◌*◌, ◌≤◌}
 use mathlib.Core.Path.{◌≡◌, ap, ◌∙◌, subst}
 use mathlib.Core.List.{◌++◌}
@@ -9,7 +8,7 @@ use lib.ListN.{length, get_or}
 use Rattle.plan.specs.Literals.{var_of, word_of}
 use Rattle.laws.proofs.Tables.{firsts, row_ends}
 use Rattle.drop.specs.Marks.{Marked, var_at}
-use Rattle.drop.proofs.Marking.{Column, column-start, column-turn}
+use Rattle.drop.proofs.Marking.{column-start, column-turn}
 use Rattle.drop.proofs.mark_column.Goals as goal
 
 pub loop-i-init : goal.loop-i-init

@@ -1,12 +1,7 @@
 -- From the last gate to the first: in binary order a gate is marked, if at all, before it is come to. The loop keeps `Walking gates a t₀ t k`; the
 -- measure is `k`. `walking-more` carries it from turn to turn, and `walking-end` gives the answer.
-use borrow.Author.Rules.{rules}
-use Prim.Native.Nat.{ℕ, ◌-◌, ◌<◌}
-use mathlib.Core.Path.{sym, subst}
-use native.Mathlib.Omega.{arith}
-use Rattle.laws.proofs.Tables.{gate_at}
-use Rattle.drop.specs.Marks.{Below}
-use Rattle.drop.proofs.Marking.{Walking, walking_start, walking-more, walking-end}
+use Prim.Native.Nat.{◌-◌}
+use Rattle.drop.proofs.Marking.{Walking}
 use Rattle.drop.proofs.reach.Given as goal
 
 abbrev pub invariant-loop-k : goal.invariant-loop-k

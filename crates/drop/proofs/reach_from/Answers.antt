@@ -9,7 +9,6 @@ use Rattle.plan.specs.Literals.{var_of, word_of, index_of}
 use Rattle.laws.proofs.Tables.{gate_at}
 use Rattle.drop.specs.Marks.{Marked}
 use Rattle.drop.proofs.Marking.{not-reached, both-reached}
-use borrow.Author.Rules.{rules}
 use Rattle.drop.proofs.reach_from.Goals as goal
 
 pub bounds-t-v : goal.bounds-t-v

@@ -7,7 +7,6 @@ use Rattle.plan.specs.declared.Lit.{Lit}
 use Rattle.plan.specs.Literals.{var_of, word_of}
 use Rattle.plan.specs.Reduce.{becomes}
 use Rattle.drop.proofs.Retaining.{drops, retains}
-use borrow.Author.Rules.{rules}
 use Rattle.drop.proofs.retain_gate.Goals as goal
 
 pub returns-then-t-base-eq0 : goal.returns-then-t-base-eq0

@@ -1,16 +1,15 @@
 -- The gates of marked variables, in order, and their number; first in t, where the marks stood, what each variable became. The loop keeps `Going
 -- gates to₀ t₀ to t base a k n`; the measure is `a - k`. `going_more` carries it from turn to turn, and `going_end` and `begun` give the answer.
-use borrow.Author.Rules.{rules}
 use Prim.Native.Nat.{◌-◌}
 use mathlib.Core.Path.{◌∙◌}
 use native.Mathlib.Omega.{arith}
-use Rattle.drop.proofs.Retaining.{begun, Going, going_start, going-room, going_more, going_end}
+use Rattle.drop.proofs.Retaining.{begun, going_start, going-room, going_more, going_end}
 use Rattle.drop.proofs.retain_gates.Goals as goal
 
 pub run_on-requires : goal.run_on-requires
 run_on-requires c =
     let p = c.requires in
-    record { n_in_bounds = omega (arith, p.t-long); n_bound = omega (arith, p.few); }
+    record { n_in_bounds = omega (arith, p.t-long); n_bound = omega (arith, p.few) }
 
 pub loop-k-init : goal.loop-k-init
 loop-k-init c = going_start _ _ _ _ _

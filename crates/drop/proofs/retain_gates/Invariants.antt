@@ -1,10 +1,7 @@
 -- The gates of marked variables, in order, and their number; first in t, where the marks stood, what each variable became. The loop keeps `Going
 -- gates to₀ t₀ to t base a k n`; the measure is `a - k`. `going_more` carries it from turn to turn, and `going_end` and `begun` give the answer.
-use borrow.Author.Rules.{rules}
 use Prim.Native.Nat.{◌-◌}
-use mathlib.Core.Path.{◌∙◌}
-use native.Mathlib.Omega.{arith}
-use Rattle.drop.proofs.Retaining.{begun, Going, going_start, going-room, going_more, going_end}
+use Rattle.drop.proofs.Retaining.{Going}
 use Rattle.drop.proofs.retain_gates.Given as goal
 
 abbrev pub invariant-loop-k : goal.invariant-loop-k

@@ -2,34 +2,33 @@
 use mathlib.Core.Path.{◌≡◌, ◌∙◌}
 use mathlib.Core.List.{[], ◌++◌}
 use native.Mathlib.Omega.{arith}
-use borrow.Author.Rules.{rules}
 use lib.ListN.{length}
 use Rattle.drop.specs.Reached.{column, reached_in}
 use Rattle.drop.proofs.Reaching.{marking-same, retainable-same, gates-below, blank-marked}
 use Rattle.drop.proofs.retain_reached.Goals as goal
 
 pub mark_column-requires : goal.mark_column-requires
-mark_column-requires c = record { start_lt_stride = omega arith; marking = c.requires.from-constraints; }
+mark_column-requires c = record { start_lt_stride = omega arith; marking = c.requires.from-constraints }
 
 pub mark_column-requires-2 : goal.mark_column-requires-2
 mark_column-requires-2 c =
-    record { start_lt_stride = omega arith; marking = marking-same _ _ _ _ _ _ c.mark_column.auto.t c.requires.from-bads; }
+    record { start_lt_stride = omega arith; marking = marking-same _ _ _ _ _ _ c.mark_column.auto.t c.requires.from-bads }
 
 pub mark_column-requires-3 : goal.mark_column-requires-3
 mark_column-requires-3 c =
-    record { start_lt_stride = omega arith; marking = marking-same _ _ _ _ _ _ (c.mark_column-2.auto.t ∙ c.mark_column.auto.t) c.requires.from-outputs; }
+    record { start_lt_stride = omega arith; marking = marking-same _ _ _ _ _ _ (c.mark_column-2.auto.t ∙ c.mark_column.auto.t) c.requires.from-outputs }
 
 pub mark_column-requires-4 : goal.mark_column-requires-4
 mark_column-requires-4 c =
     let size = c.mark_column-3.auto.t ∙ c.mark_column-2.auto.t ∙ c.mark_column.auto.t in
-    record { start_lt_stride = omega arith; marking = marking-same _ _ _ _ _ _ size c.requires.from-nexts; }
+    record { start_lt_stride = omega arith; marking = marking-same _ _ _ _ _ _ size c.requires.from-nexts }
 
 pub reach-requires : goal.reach-requires
 reach-requires c =
     let marked-size : length c.mark_column-4.new.t ≡ length c.args.t.now =
     c.mark_column-4.auto.t ∙ c.mark_column-3.auto.t ∙ c.mark_column-2.auto.t ∙ c.mark_column.auto.t in
     let p = c.requires in
-    record { a_in_bounds = p.through-gates.gates-long; by_index = gates-below _ _ _ _ _ p.through-gates _ (marked-size); }
+    record { a_in_bounds = p.through-gates.gates-long; by_index = gates-below _ _ _ _ _ p.through-gates _ (marked-size) }
 
 pub overflow_add-n : goal.overflow_add-n
 overflow_add-n c = record { fits = omega (arith, c.requires.through-gates.few) }

@@ -1,9 +1,8 @@
 -- From the last gate to the first: in binary order a gate is marked, if at all, before it is come to. The loop keeps `Walking gates a lits m n t₀ t
 -- k`; the measure is `k`. `walking-more` carries it from turn to turn, and `walking-end` gives the answer.
-use borrow.Author.Rules.{rules}
 use Prim.Native.Nat.{◌-◌, ◌<◌}
 use native.Mathlib.Omega.{arith}
-use Rattle.explain.proofs.Blaming.{Walking, walking_start, walking-more, walking-end}
+use Rattle.explain.proofs.Blaming.{walking_start, walking-more, walking-end}
 use Rattle.explain.proofs.blame.Goals as goal
 
 pub loop-k-init : goal.loop-k-init
@@ -13,7 +12,7 @@ pub blame_from-requires : goal.blame_from-requires
 blame_from-requires c =
     let lt : c.loop-k.k - 1 < c.args.a = omega (arith, c.loop-k-test.true, c.loop-k.invariant.within) in
     let space = c.requires.space in
-    record { k_in_bounds = omega (arith, c.requires.a_in_bounds); below = c.requires.by_index (c.loop-k.k - 1) lt; space = record { apart = space.apart; long = omega (arith, space.long, c.loop-k.invariant.size) }; }
+    record { k_in_bounds = omega (arith, c.requires.a_in_bounds); below = c.requires.by_index (c.loop-k.k - 1) lt; space = record { apart = space.apart; long = omega (arith, space.long, c.loop-k.invariant.size) } }
 
 pub loop-k-preserved : goal.loop-k-preserved
 loop-k-preserved c =

@@ -1,9 +1,7 @@
 -- From the last gate to the first: in binary order a gate is marked, if at all, before it is come to. The loop keeps `Walking gates a lits m n t₀ t
 -- k`; the measure is `k`. `walking-more` carries it from turn to turn, and `walking-end` gives the answer.
-use borrow.Author.Rules.{rules}
-use Prim.Native.Nat.{◌-◌, ◌<◌}
-use native.Mathlib.Omega.{arith}
-use Rattle.explain.proofs.Blaming.{Walking, walking_start, walking-more, walking-end}
+use Prim.Native.Nat.{◌-◌}
+use Rattle.explain.proofs.Blaming.{Walking}
 use Rattle.explain.proofs.blame.Given as goal
 
 abbrev pub invariant-loop-k : goal.invariant-loop-k

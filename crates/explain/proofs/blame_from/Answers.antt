@@ -11,7 +11,6 @@ use Rattle.drop.specs.Marks.{Below}
 use Rattle.explain.specs.Known.{Space, Known}
 use Rattle.explain.proofs.Words.{uncut, not-word}
 use Rattle.explain.proofs.Blaming.{not-come, at_x, at_1, side-below, side-0}
-use borrow.Author.Rules.{rules}
 use Rattle.explain.proofs.blame_from.Goals as goal
 
 pub bounds-t-m : goal.bounds-t-m

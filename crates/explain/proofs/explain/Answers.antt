@@ -11,7 +11,6 @@ use Rattle.judge.specs.Judged.{given_at}
 use Rattle.step.proofs.Checks.{runs, room}
 use Rattle.plan.specs.Explain.{ExplainEntry, vectors_stage}
 use Rattle.explain.proofs.Answers.{bad-is, good-vectors, refused-tables, refused-vector, answered}
-use borrow.Author.Rules.{rules}
 use Rattle.explain.proofs.explain.Goals as goal
 
 pub returns-then-bad-ne0 : goal.returns-then-bad-ne0
@@ -55,7 +54,7 @@ explain_output-answer-requires c =
     let same : length c.judge_in_order.new.scratch ≡ length c.args.scratch.now =
     c.judge_in_order.auto.scratch in
     let e = entry in
-    record { room = room e.circuit (vectors_stage e) (says) (told) _ (same); vectors = good-vectors e (sym (bad-is e) ∙ no_table _ _ c.if-bad-ne0.false c.bad_vector-bad.ensures); }
+    record { room = room e.circuit (vectors_stage e) (says) (told) _ (same); vectors = good-vectors e (sym (bad-is e) ∙ no_table _ _ c.if-bad-ne0.false c.bad_vector-bad.ensures) }
 
 pub returns-in-Refused : goal.returns-in-Refused
 returns-in-Refused c =

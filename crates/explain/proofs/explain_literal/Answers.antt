@@ -2,7 +2,6 @@
 use mathlib.Core.Path.{◌∙◌}
 use native.Mathlib.Omega.{arith}
 use Rattle.explain.proofs.Explaining.{explained}
-use borrow.Author.Rules.{rules}
 use Rattle.explain.proofs.explain_literal.Goals as goal
 
 pub blame-requires : goal.blame-requires
@@ -10,7 +9,7 @@ blame-requires c =
     let p = c.requires in
     let one = c.mark.auto.t in
     let two = c.unmark.auto.t in
-    record { a_in_bounds = p.gates-long; by_index = p.below; space = record { apart = omega arith; long = omega (arith, p.scratch, one, two) }; }
+    record { a_in_bounds = p.gates-long; by_index = p.below; space = record { apart = omega arith; long = omega (arith, p.scratch, one, two) } }
 
 pub returns : goal.returns
 returns c =

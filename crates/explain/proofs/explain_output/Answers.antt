@@ -16,7 +16,6 @@ use Rattle.plan.specs.Explain.{ExplainEntry, state_of, inputs_of, asked, value_a
 use Rattle.explain.specs.Asked.{Settled}
 use Rattle.explain.proofs.Outputs.{x-word, gates-below, literal-is, literal-low, output-word, marks-long}
 use Rattle.explain.proofs.Answers.{not_there, is_x, too_short, marked}
-use borrow.Author.Rules.{rules}
 use Rattle.explain.proofs.explain_output.Goals as goal
 
 pub returns-then-output-n : goal.returns-then-output-n

@@ -7,7 +7,6 @@ use lib.ListN.{set}
 use Rattle.plan.specs.Literals.{var_of, word_of, index_of}
 use Rattle.explain.specs.Known.{Known}
 use Rattle.explain.proofs.Blaming.{mark-more}
-use borrow.Author.Rules.{rules}
 use Rattle.explain.proofs.mark.Goals as goal
 
 pub bounds-t-m : goal.bounds-t-m

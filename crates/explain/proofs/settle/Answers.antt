@@ -4,7 +4,6 @@ use native.Mathlib.Omega.{arith}
 use lib.ListN.{length-set}
 use Rattle.step.proofs.Buffers.{stands, ready}
 use Rattle.explain.proofs.Outputs.{with-outputs}
-use borrow.Author.Rules.{rules}
 use Rattle.explain.proofs.settle.Goals as goal
 
 pub load-requires : goal.load-requires

@@ -1,6 +1,5 @@
 -- The codes of `count` words from `first` on go into a part of a buffer. Each answer is given by `part-put`.
 use Rattle.explain.proofs.Cleared.{part-put}
-use borrow.Author.Rules.{rules}
 use Rattle.explain.proofs.show.Goals as goal
 
 pub returns : goal.returns

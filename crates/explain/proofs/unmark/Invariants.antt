@@ -1,9 +1,7 @@
 -- No variable is marked. The loop keeps `Clearing m n t₀ t v`; the measure is `n - v`. `clearing-more` carries it from turn to turn, and
 -- `clearing-end` gives the answer.
-use borrow.Author.Rules.{rules}
 use Prim.Native.Nat.{◌-◌}
-use native.Mathlib.Omega.{arith}
-use Rattle.explain.proofs.Cleared.{Clearing, clearing-start, clearing-more, clearing-end}
+use Rattle.explain.proofs.Cleared.{Clearing}
 use Rattle.explain.proofs.unmark.Given as goal
 
 abbrev pub invariant-loop-v : goal.invariant-loop-v

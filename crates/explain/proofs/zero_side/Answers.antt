@@ -5,7 +5,6 @@ use borrow.Author.Tests.{eq-eqb, ne_eqb}
 use lib.ListN.{get_or}
 use Prim.Native.Nat.{ℕ, ◌+◌}
 use Rattle.plan.specs.Literals.{word_of}
-use borrow.Author.Rules.{rules}
 use Rattle.explain.proofs.zero_side.Goals as goal
 
 pub returns-then-t-at-eq0 : goal.returns-then-t-at-eq0

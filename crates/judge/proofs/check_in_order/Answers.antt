@@ -1,5 +1,4 @@
 -- The given tables' own sizes.
-use borrow.Author.Rules.{rules}
 use mathlib.Core.Path.{◌∙◌}
 use mathlib.Core.Bool.{true}
 use Rattle.plan.specs.Circuit.{Tables, seven}

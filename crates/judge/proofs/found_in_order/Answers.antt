@@ -1,5 +1,4 @@
 -- Whether the tables are found to be in binary order. The answers are given by `not-looked` and `looked`.
-use borrow.Author.Rules.{rules}
 use mathlib.Core.Path.{◌∙◌}
 use Rattle.judge.proofs.Judging.{not-looked, looked}
 use Rattle.judge.proofs.found_in_order.Goals as goal

@@ -1,5 +1,4 @@
 -- Tables in binary order; 5; 6; then 7, 8 and 15.
-use borrow.Author.Rules.{rules}
 use mathlib.Core.Path.{◌≡◌, sym, ap, ◌∙◌}
 use mathlib.Core.Bool.{not, false≢true}
 use mathlib.Core.Option.{none}

@@ -1,6 +1,5 @@
 -- 2, 3, then 4: the least of lent tables of these sizes, with scratch, that is too short. The answers are given by `at-two`, `some-table` and
 -- `no_table`.
-use borrow.Author.Rules.{rules}
 use Prim.Native.Nat.{ℕ}
 use mathlib.Core.Path.{◌≡◌, sym, ap, ◌∙◌}
 use borrow.Author.Tests.{not-true, not-false}

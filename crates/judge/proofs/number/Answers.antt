@@ -1,5 +1,4 @@
 -- Numbers stay where nothing is refused; else scratch is cleared.
-use borrow.Author.Rules.{rules}
 use Prim.Native.Nat.{ℕ}
 use mathlib.Core.Path.{refl, sym, ap, ◌∙◌}
 use mathlib.Core.Bool.{false}

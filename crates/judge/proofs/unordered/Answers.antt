@@ -1,6 +1,5 @@
 -- A refusal stays, and binary order is asked last.
 use mathlib.Core.Path.{sym, ap, ap₂}
-use borrow.Author.Rules.{rules}
 use Rattle.plan.specs.declared.Checked.{Checked}
 use Rattle.judge.specs.Judged.{unordered}
 use Rattle.judge.proofs.unordered.Goals as goal

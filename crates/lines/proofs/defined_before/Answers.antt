@@ -1,6 +1,5 @@
 -- Marks the variable of a literal that defines; whether it was marked already. The answers are given by `unasked`, `was-marked` and `now-marked`.
 use Prim.Native.Nat.{◌<◌}
-use borrow.Author.Rules.{rules}
 use mathlib.Core.Path.{◌≡◌, ap, ◌∙◌}
 use native.Mathlib.Omega.{arith}
 use borrow.Author.Tests.{not-true, not-false}

@@ -1,5 +1,4 @@
 -- Whether a number of a line ends here: with a new line after the last, with a space before the next. The answers are given by `past_end` and `told`.
-use borrow.Author.Rules.{rules}
 use lib.ListN.{get_or, get_or-eq_default}
 use Rattle.lines.proofs.EndBytes.{told, past_end}
 use Rattle.lines.proofs.ends.Goals as goal

@@ -1,5 +1,4 @@
 -- What stands after a number, where more of them must follow or may. The answers are given by `past_end` and `told`.
-use borrow.Author.Rules.{rules}
 use mathlib.Core.Path.{ap, sym, ◌∙◌}
 use mathlib.Core.Bool.{Bool, cond}
 use lib.ListN.{get_or, get_or-eq_default}

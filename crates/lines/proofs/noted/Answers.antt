@@ -1,5 +1,4 @@
 -- What was found first. Each answer is rewritten with the tests that led to it.
-use borrow.Author.Rules.{rules}
 use Rattle.lines.proofs.noted.Goals as goal
 
 pub returns-in-At : goal.returns-in-At

@@ -12,7 +12,7 @@ use Rattle.plan.specs.Circuit.{literal_of}
 use Rattle.lines.specs.Rows.{row, marked, marking}
 use Rattle.lines.proofs.OneLine.{row-var}
 use Rattle.lines.proofs.Marks.{marks-less}
-use Rattle.lines.proofs.LinesLoop.{Loop, begins, fits, stops, passed_to, twice-told, turns, ends-here, line_word}
+use Rattle.lines.proofs.LinesLoop.{begins, fits, stops, passed_to, twice-told, turns, ends-here, line_word}
 use Rattle.lines.proofs.read_lines.Goals as goal
 
 pub loop-i-init : goal.loop-i-init

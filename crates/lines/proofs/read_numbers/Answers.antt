@@ -4,10 +4,9 @@
 use Prim.Native.Nat.{◌+◌, ◌-◌}
 use mathlib.Core.Path.{sym, ◌∙◌}
 use native.Mathlib.Omega.{arith}
-use borrow.Author.Rules.{rules}
 use lib.Dec.{ltb}
 use lib.ListN.{length-set}
-use Rattle.lines.proofs.Numbers.{Scan, begins, wide, wide-places, wrong-number, wrong-end, stops, turns, ends-here, stop-inner, on-inner}
+use Rattle.lines.proofs.Numbers.{begins, wide, wide-places, wrong-number, wrong-end, stops, turns, ends-here, stop-inner, on-inner}
 use Rattle.lines.proofs.read_numbers.Goals as goal
 
 pub loop-j-init : goal.loop-j-init

@@ -1,13 +1,8 @@
 -- A line of numbers, of which some must stand there and no more than some may: their words and their places from `base` on, by 1. The loop keeps
 -- `Scan file must may at base words₀ places₀ words places pos j`; the measure is `may - j`. `turns` carries it from turn to turn, and `wrong-number`,
 -- `wrong-end` and `stops` give the answer.
-use Prim.Native.Nat.{◌+◌, ◌-◌}
-use mathlib.Core.Path.{sym, ◌∙◌}
-use native.Mathlib.Omega.{arith}
-use borrow.Author.Rules.{rules}
-use lib.Dec.{ltb}
-use lib.ListN.{length-set}
-use Rattle.lines.proofs.Numbers.{Scan, begins, wide, wide-places, wrong-number, wrong-end, stops, turns, ends-here, stop-inner, on-inner}
+use Prim.Native.Nat.{◌-◌}
+use Rattle.lines.proofs.Numbers.{Scan}
 use Rattle.lines.proofs.read_numbers.Given as goal
 
 abbrev pub invariant-loop-j : goal.invariant-loop-j

@@ -4,13 +4,12 @@
 use Prim.Native.Nat.{◌+◌, ◌-◌, ◌≤◌}
 use mathlib.Core.Path.{refl, sym, ap, ◌∙◌}
 use native.Mathlib.Omega.{arith}
-use borrow.Author.Rules.{rules}
 use borrow.Author.Tests.{not-true, not-false}
 use lib.Dec.{eqb}
 use Rattle.lines.specs.Rows.{found_of, row}
 use Rattle.plan.specs.declared.Lit.{Lit}
 use Rattle.plan.specs.Literals.{in_range, word_of}
-use Rattle.lines.proofs.RowLoop.{Scan, begins, inner, wide, wrong-number, wrong-end, turns, all-fine, one_out, held, not-accepted}
+use Rattle.lines.proofs.RowLoop.{begins, inner, wide, wrong-number, wrong-end, turns, all-fine, one_out, held, not-accepted}
 use Rattle.lines.proofs.read_row.Goals as goal
 
 pub loop-j-init : goal.loop-j-init

@@ -1,16 +1,8 @@
 -- One line of k literals, of which the first defines or not, into the table from `base` on: by 1 over the whole line, then 5. The loop keeps `Scan
 -- file k defines m at table₀ base table pos d bad j`; the measure is `k - j`. `turns` carries it from turn to turn, and `wrong-number`,
 -- `not-accepted` and `wrong-end` give the answer.
-use Prim.Native.Nat.{◌+◌, ◌-◌, ◌≤◌}
-use mathlib.Core.Path.{refl, sym, ap, ◌∙◌}
-use native.Mathlib.Omega.{arith}
-use borrow.Author.Rules.{rules}
-use borrow.Author.Tests.{not-true, not-false}
-use lib.Dec.{eqb}
-use Rattle.lines.specs.Rows.{found_of, row}
-use Rattle.plan.specs.declared.Lit.{Lit}
-use Rattle.plan.specs.Literals.{in_range, word_of}
-use Rattle.lines.proofs.RowLoop.{Scan, begins, inner, wide, wrong-number, wrong-end, turns, all-fine, one_out, held, not-accepted}
+use Prim.Native.Nat.{◌-◌}
+use Rattle.lines.proofs.RowLoop.{Scan}
 use Rattle.lines.proofs.read_row.Given as goal
 
 abbrev pub invariant-loop-j : goal.invariant-loop-j

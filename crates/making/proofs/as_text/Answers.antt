@@ -1,7 +1,6 @@
 -- No text where a circuit is reduced; else the header that was read says whether the file is binary.
 use mathlib.Core.Path.{sym, ap, ◌∙◌}
 use mathlib.Core.Bool.{Bool}
-use borrow.Author.Rules.{rules}
 use Rattle.plan.specs.declared.Version.TheVariants.{V19}
 use Rattle.plan.specs.Header.{header}
 use Rattle.plan.specs.Outcome.{headed_by}

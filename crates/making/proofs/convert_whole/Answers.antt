@@ -1,6 +1,4 @@
 -- The other form: what `make_whole` answers where nothing is reduced.
-use mathlib.Core.Path.{◌∙◌}
-use borrow.Author.Rules.{rules}
 use Rattle.making.proofs.convert_whole.Goals as goal
 
 pub shape_of-inputs : goal.shape_of-inputs

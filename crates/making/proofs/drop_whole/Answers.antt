@@ -1,6 +1,4 @@
 -- The reduced form without unused gates: what `make_whole` answers where both are asked.
-use mathlib.Core.Path.{◌∙◌}
-use borrow.Author.Rules.{rules}
 use Rattle.making.proofs.drop_whole.Goals as goal
 
 pub shape_of-inputs : goal.shape_of-inputs

@@ -1,6 +1,5 @@
 -- The answer of the file, and then all tables zero: each is as long as it was, and was cleared.
 use mathlib.Core.Path.{◌∙◌}
-use borrow.Author.Rules.{rules}
 use Rattle.plan.specs.Circuit.{seven}
 use Rattle.plan.specs.Whole.{WholeEntry, input_of}
 use Rattle.read.proofs.Loads.{same-cleared, all_same}

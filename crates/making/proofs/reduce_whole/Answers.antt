@@ -1,6 +1,4 @@
 -- The reduced form: what `make_whole` answers where no gate is dropped.
-use mathlib.Core.Path.{◌∙◌}
-use borrow.Author.Rules.{rules}
 use Rattle.making.proofs.reduce_whole.Goals as goal
 
 pub shape_of-inputs : goal.shape_of-inputs

@@ -1,15 +1,13 @@
 -- The outputs' values go into their buffer. The loop keeps `Filled`; the measure is `n.O - i`. `filled-front` carries it from turn to turn, and
 -- `filled-all` and `filled-whole` give the answer.
-use Prim.Native.Nat.{ℕ, ◌-◌, ◌≤◌}
+use Prim.Native.Nat.{ℕ, ◌-◌}
 use mathlib.Core.Path.{ap, ◌∙◌}
 use native.Mathlib.Omega.{arith}
-use lib.ListN.{get_or}
 use Rattle.plan.specs.Literals.{word_of}
 use Rattle.plan.specs.Step.{code_of, lit}
-use Rattle.step.proofs.values.Filling.{Filled, filled_none, filled-front, filled-all}
+use Rattle.step.proofs.values.Filling.{filled_none, filled-front, filled-all}
 use Rattle.plain.specs.Asked.{variable_in}
 use Rattle.plain.proofs.Filling.{filled-whole}
-use borrow.Author.Rules.{rules}
 use Rattle.plain.proofs.literal_value.Reads as literal-value-reads
 use Rattle.plan.proofs.Lit.at.Reads as at_reads
 use Rattle.plain.proofs.give_outputs.Goals as goal
@@ -20,7 +18,7 @@ loop-i-init c = (omega arith, filled_none _ _ _)
 pub literal_value-requires : goal.literal_value-requires
 literal_value-requires c =
     let e = ap word_of c.at.ensures in
-    record { teaches = c.requires.teaches; l_bound = omega (arith, e, c.requires.outs.up c.loop-i.i c.loop-i-test.true); }
+    record { teaches = c.requires.teaches; l_bound = omega (arith, e, c.requires.outs.up c.loop-i.i c.loop-i-test.true) }
 
 pub bounds-outs-i : goal.bounds-outs-i
 bounds-outs-i c = omega (arith, c.loop-i.invariant.1.same, c.requires.outs.room, c.loop-i-test.true)

@@ -1,15 +1,10 @@
 -- The outputs' values go into their buffer. The loop keeps `Filled`; the measure is `n.O - i`. `filled-front` carries it from turn to turn, and
 -- `filled-all` and `filled-whole` give the answer.
-use Prim.Native.Nat.{ℕ, ◌-◌, ◌≤◌}
-use mathlib.Core.Path.{ap, ◌∙◌}
-use native.Mathlib.Omega.{arith}
+use Prim.Native.Nat.{◌-◌, ◌≤◌}
 use lib.ListN.{get_or}
-use Rattle.plan.specs.Literals.{word_of}
 use Rattle.plan.specs.Step.{code_of, lit}
-use Rattle.step.proofs.values.Filling.{Filled, filled_none, filled-front, filled-all}
+use Rattle.step.proofs.values.Filling.{Filled}
 use Rattle.plain.specs.Asked.{variable_in}
-use Rattle.plain.proofs.Filling.{filled-whole}
-use borrow.Author.Rules.{rules}
 use Rattle.plain.proofs.literal_value.Reads as literal-value-reads
 use Rattle.plan.proofs.Lit.at.Reads as at_reads
 use Rattle.plain.proofs.give_outputs.Given as goal

@@ -1,14 +1,12 @@
 -- The next states go into the first words of a table, as the state is asked for until the last of them is known. The loop keeps `Filled`; the measure
 -- is `n.L - i`. `filled-front` carries it from turn to turn, and `filled-all` gives the answer.
-use Prim.Native.Nat.{ℕ, ◌+◌, ◌*◌, ◌-◌, ◌≤◌}
+use Prim.Native.Nat.{ℕ, ◌-◌}
 use mathlib.Core.Path.{ap, ◌∙◌}
 use native.Mathlib.Omega.{arith}
-use lib.ListN.{get_or}
 use Rattle.plan.specs.Literals.{word_of}
 use Rattle.plan.specs.Step.{code_of, lit}
-use Rattle.step.proofs.values.Filling.{Filled, filled_none, filled-front, filled-all}
+use Rattle.step.proofs.values.Filling.{filled_none, filled-front, filled-all}
 use Rattle.plain.specs.Asked.{variable_in}
-use borrow.Author.Rules.{rules}
 use Rattle.plain.proofs.literal_value.Reads as literal-value-reads
 use Rattle.plan.proofs.Lit.at.Reads as at_reads
 use Rattle.plain.proofs.hold_next.Goals as goal
@@ -19,7 +17,7 @@ loop-i-init c = (omega arith, filled_none _ _ _)
 pub literal_value-requires : goal.literal_value-requires
 literal_value-requires c =
     let e = ap word_of c.at.ensures in
-    record { teaches = c.requires.teaches; l_bound = omega (arith, e, c.requires.nexts.up c.loop-i.i c.loop-i-test.true); }
+    record { teaches = c.requires.teaches; l_bound = omega (arith, e, c.requires.nexts.up c.loop-i.i c.loop-i-test.true) }
 
 pub bounds-t-i : goal.bounds-t-i
 bounds-t-i c = omega (arith, c.loop-i.invariant.1.same, c.requires.nexts.room, c.loop-i-test.true)

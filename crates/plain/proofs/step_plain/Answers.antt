@@ -11,7 +11,6 @@ use Rattle.step.proofs.Checks.{past-check, runs, room}
 use Rattle.step.proofs.Answers.{good-vectors, refused-vector, done-step}
 use Rattle.plain.proofs.Beyond.{refused-tables, refused-gates}
 use Rattle.plain.proofs.Answers.{same-engine, refused-plain, good-codes}
-use borrow.Author.Rules.{rules}
 use Rattle.plain.proofs.step_plain.Goals as goal
 
 pub returns-then-n-gt-TEACHING : goal.returns-then-n-gt-TEACHING

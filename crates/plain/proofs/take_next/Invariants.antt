@@ -1,13 +1,8 @@
 -- All latches take their next values at once. The loop keeps `(i ≤ length state₀) × Filled state₀ 0 (λ k. get_or t k 0) i state`; the measure is
 -- `length state₀ - i`. `filled-front` carries it from turn to turn, and `filled-all`, `filled-whole` and `words_take` give the answer.
 use Prim.Native.Nat.{◌-◌, ◌≤◌}
-use mathlib.Core.Path.{refl, sym, ◌∙◌}
-use native.Mathlib.Omega.{arith}
 use lib.ListN.{length, get_or}
-use Rattle.laws.proofs.Tables.{words_take}
-use Rattle.step.proofs.values.Filling.{Filled, filled_none, filled-front, filled-all}
-use Rattle.plain.proofs.Filling.{filled-whole}
-use borrow.Author.Rules.{rules}
+use Rattle.step.proofs.values.Filling.{Filled}
 use Rattle.plain.proofs.take_next.Given as goal
 
 abbrev pub invariant-loop-i : goal.invariant-loop-i

@@ -1,5 +1,4 @@
 -- The header by 1, 2, 21, 3, then 4, then the file in order, then 7, then 8. The answers are given by `accepted`, `short-told` and `some-table`.
-use borrow.Author.Rules.{rules}
 use Prim.Native.Nat.{ℕ}
 use mathlib.Core.Path.{sym, ap₂, ◌∙◌}
 use lib.ListN.{length}
@@ -15,7 +14,7 @@ pub scratch_to_read-needed-requires : goal.scratch_to_read-needed-requires
 scratch_to_read-needed-requires c =
     let head = accepted c.args.version c.args.file.now _ _ _ (sym c.in-Accepted.is ∙ c.read_header.ensures) in
     let m = head.small in
-    record { m_le_most = (m.0, m.1.1.1.0, m.1.1.1.1.1.0, m.1.1.1.1.1.1.0); i_le_most = (m.1.0, m.1.1.0); }
+    record { m_le_most = (m.0, m.1.1.1.0, m.1.1.1.1.1.0, m.1.1.1.1.1.1.0); i_le_most = (m.1.0, m.1.1.0) }
 
 pub too_short-short-requires : goal.too_short-short-requires
 too_short-short-requires c =
@@ -37,9 +36,12 @@ rest_of-requires c =
     let a = c.args in
     let t : Tables = seven a.inputs.now a.latches.now a.outputs.now a.gates.now a.resets.now a.bads.now a.constraints.now in
     let head = accepted c.args.version c.args.file.now _ _ _ (sym c.in-Accepted.is ∙ c.read_header.ensures) in
-    record { room = room_for _ _ t a.scratch.now head.small (no_table _ _ c.if-short-ne0.false (c.too_short-short.ensures ∙ ap₂ (λ (k : ℕ)
+    record {
+      room = room_for _ _ t a.scratch.now head.small (no_table _ _ c.if-short-ne0.false (c.too_short-short.ensures ∙ ap₂ (λ (k : ℕ)
           (x : Sizes). least_short (against 1 (words_with k c.in-Accepted.n) (lengths_in x (length a.scratch.now))))
-          c.scratch_to_read-needed.ensures c.lengths-to.ensures)) c.requires; n_value = head.sum; }
+          c.scratch_to_read-needed.ensures c.lengths-to.ensures)) c.requires;
+      n_value = head.sum;
+    }
 
 pub returns-in-Refused : goal.returns-in-Refused
 returns-in-Refused c =

@@ -1,6 +1,5 @@
 -- Reads a file by a version of the report into tables 1 to 4 and 7 to 9, whatever they hold on entry: the counts and where the tail starts, or a
 -- refusal. The answers are given by `all_same`, `load-refused` and `same-cleared`.
-use borrow.Author.Rules.{rules}
 use Prim.Native.Nat.{ℕ}
 use mathlib.Core.Path.{◌≡◌, ap, ◌∙◌}
 use mathlib.Core.List.{List}

@@ -1,5 +1,4 @@
 -- The answers are given by `read_by`, `part-from` and `refusal-told`.
-use borrow.Author.Rules.{rules}
 use mathlib.Core.Path.{sym, ap, ◌∙◌}
 use native.Mathlib.Omega.{arith}
 use Rattle.plan.specs.Circuit.{Tables, seven}

@@ -10,7 +10,7 @@ pub rest_of_binary-requires : goal.rest_of_binary-requires
 rest_of_binary-requires c =
     let a = c.args in
     let is = c.if-binary.true in
-    record { room = room_of binary a.n _ _ a.binary (ap form_of is) c.requires.room; a_value = binary-sum a.n a.binary is c.requires.n_value; }
+    record { room = room_of binary a.n _ _ a.binary (ap form_of is) c.requires.room; a_value = binary-sum a.n a.binary is c.requires.n_value }
 
 pub shape_of-inputs-then-binary : goal.shape_of-inputs-then-binary
 shape_of-inputs-then-binary c = c.rest_of_binary.auto.inputs
@@ -48,7 +48,7 @@ pub rest_of_text-requires : goal.rest_of_text-requires
 rest_of_text-requires c =
     let a = c.args in
     let is = c.if-binary.false in
-    record { room = room_of text a.n _ _ a.binary (ap form_of is) c.requires.room; a_bound = text-sum a.n a.binary is c.requires.n_value; }
+    record { room = room_of text a.n _ _ a.binary (ap form_of is) c.requires.room; a_bound = text-sum a.n a.binary is c.requires.n_value }
 
 pub shape_of-inputs : goal.shape_of-inputs
 shape_of-inputs c = c.rest_of_text.auto.inputs

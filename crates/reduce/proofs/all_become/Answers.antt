@@ -1,10 +1,9 @@
 -- The first n literals of a table, each replaced by what it became. The loop keeps `(i ≤ n) × (length to ≡ length to₀) × (to ≡ done table became to₀
 -- i)`; the measure is `n - i`. `one_more` carries it from turn to turn, and `done` gives the answer.
-use Prim.Native.Nat.{ℕ, ◌-◌, ◌≤◌}
+use Prim.Native.Nat.{ℕ, ◌-◌}
 use mathlib.Core.Path.{◌≡◌, refl, ap, ap₂, ◌∙◌}
 use mathlib.Core.List.{List}
 use native.Mathlib.Omega.{arith}
-use borrow.Author.Rules.{rules}
 use lib.ListN.{length, get_or, set, take, length-set}
 use lib.Seq.{get_or-take, length-take-le}
 use Rattle.plan.specs.declared.Lit.{Lit}

@@ -3,7 +3,6 @@ use Prim.Native.Nat.{ℕ, ◌+◌, ◌≤◌}
 use mathlib.Core.Path.{◌≡◌, refl, ◌∙◌}
 use mathlib.Core.List.{List}
 use native.Mathlib.Omega.{arith}
-use borrow.Author.Rules.{rules}
 use lib.ListN.{length}
 use Rattle.plan.specs.Literals.{most}
 use Rattle.plan.specs.Circuit.{Circuit, Tables, seven, circuit_of, all_cleared}
@@ -138,7 +137,7 @@ three_become-requires c =
     let became : List ℕ =
     c.fold_gates-retained.new.scratch in
     let size = c.scratch-in-Good-1.given in
-    record { replaceable = inputs_in (given (blank)) (wiped) (core) (became) size; replaceable_2 = latches-in (given (blank)) (wiped) (core) (became) size; replaceable_3 = outputs-in (given (blank)) (wiped) (core) (became) size; }
+    record { replaceable = inputs_in (given (blank)) (wiped) (core) (became) size; replaceable_2 = latches-in (given (blank)) (wiped) (core) (became) size; replaceable_3 = outputs-in (given (blank)) (wiped) (core) (became) size }
 
 pub three_become-requires-in-Good : goal.three_become-requires-in-Good
 three_become-requires-in-Good c =
@@ -165,7 +164,7 @@ three_become-requires-in-Good c =
     let became : List ℕ =
     c.fold_gates-retained.new.scratch in
     let size = c.scratch-in-Good-1.given in
-    record { replaceable = resets-in (given (blank)) (wiped) (core) (became) size; replaceable_2 = bads-in (given (blank)) (wiped) (core) (became) size; replaceable_3 = constraints-in (given (blank)) (wiped) (core) (became) size; }
+    record { replaceable = resets-in (given (blank)) (wiped) (core) (became) size; replaceable_2 = bads-in (given (blank)) (wiped) (core) (became) size; replaceable_3 = constraints-in (given (blank)) (wiped) (core) (became) size }
 
 pub overflow_add-result : goal.overflow_add-result
 overflow_add-result c =

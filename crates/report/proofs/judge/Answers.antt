@@ -3,7 +3,6 @@
 use Prim.Native.Nat.{ℕ, ◌+◌, ◌*◌}
 use mathlib.Core.Path.{◌≡◌, sym, ap, ◌∙◌}
 use mathlib.Core.List.{List}
-use borrow.Author.Rules.{rules}
 use borrow.Author.Tests.{not-true, not-false, ltb-true, ltb-false}
 use lib.Dec.{ltb}
 use lib.ListN.{length}
@@ -34,7 +33,7 @@ returns-then-long c =
     let few : (six : List ℕ) → c.args.words ≡ length six → c.too_few-short.result ≡ ltb (length six) (4 * (c.args.n.O + c.args.n.L)) =
     λ six q. c.too_few-short.ensures ∙ ap (λ (k : ℕ). ltb k (4 * (c.args.n.O + c.args.n.L))) q in
     let long = ltb-true _ _ c.if-long.true-raw in
-    record { by_index = λ six q. refused-long (entry six) (told six) (few six q) c.with_sixth.ensures c.in-Good.is long; scratch_after = blank; }
+    record { by_index = λ six q. refused-long (entry six) (told six) (few six q) c.with_sixth.ensures c.in-Good.is long; scratch_after = blank }
 
 pub returns-then-broken : goal.returns-then-broken
 returns-then-broken c =
@@ -57,9 +56,12 @@ returns-then-broken c =
     let few : (six : List ℕ) → c.args.words ≡ length six → c.too_few-short.result ≡ ltb (length six) (4 * (c.args.n.O + c.args.n.L)) =
     λ six q. c.too_few-short.ensures ∙ ap (λ (k : ℕ). ltb k (4 * (c.args.n.O + c.args.n.L))) q in
     let few' = ltb-false _ _ c.if-long.false-raw in
-    record { by_index = λ six q.
+    record {
+      by_index = λ six q.
           refused-list (entry six) (told six) (few six q) c.with_sixth.ensures c.in-Good.is few'
-          (sym c.whole_list-broken.ensures ∙ not-true _ c.if-broken.true-raw); scratch_after = blank; }
+          (sym c.whole_list-broken.ensures ∙ not-true _ c.if-broken.true-raw);
+      scratch_after = blank;
+    }
 
 pub returns-in-Refused : goal.returns-in-Refused
 returns-in-Refused c =
@@ -81,7 +83,7 @@ returns-in-Refused c =
     ap (λ (x : CheckExit). x.scratch) c.check_in_order-checked.ensures in
     let few : (six : List ℕ) → c.args.words ≡ length six → c.too_few-short.result ≡ ltb (length six) (4 * (c.args.n.O + c.args.n.L)) =
     λ six q. c.too_few-short.ensures ∙ ap (λ (k : ℕ). ltb k (4 * (c.args.n.O + c.args.n.L))) q in
-    record { by_index = λ six q. refused-first (entry six) (told six) (few six q) c.with_sixth.ensures _ c.in-Refused.is; scratch_after = blank; }
+    record { by_index = λ six q. refused-first (entry six) (told six) (few six q) c.with_sixth.ensures _ c.in-Refused.is; scratch_after = blank }
 
 pub returns-else-broken : goal.returns-else-broken
 returns-else-broken c =
@@ -104,6 +106,9 @@ returns-else-broken c =
     let few : (six : List ℕ) → c.args.words ≡ length six → c.too_few-short.result ≡ ltb (length six) (4 * (c.args.n.O + c.args.n.L)) =
     λ six q. c.too_few-short.ensures ∙ ap (λ (k : ℕ). ltb k (4 * (c.args.n.O + c.args.n.L))) q in
     let few' = ltb-false _ _ c.if-long.false-raw in
-    record { by_index = λ six q.
+    record {
+      by_index = λ six q.
           nothing-found (entry six) (told six) (few six q) c.with_sixth.ensures c.in-Good.is few'
-          (sym c.whole_list-broken.ensures ∙ not-false _ c.if-broken.false-raw); scratch_after = blank; }
+          (sym c.whole_list-broken.ensures ∙ not-false _ c.if-broken.false-raw);
+      scratch_after = blank;
+    }

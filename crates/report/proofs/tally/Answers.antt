@@ -1,17 +1,12 @@
 -- All vectors of a list, whose bytes are good, from the state that scratch holds. The loop keeps `Tables`; the measure is `number - k`. `next_row`
 -- and `going_on` carry it from turn to turn, and `all-gone` gives the answer.
-use Prim.Native.Nat.{ℕ, ◌+◌, ◌*◌, ◌-◌, ◌≤◌}
-use mathlib.Core.Path.{◌≡◌, refl, sym, ◌∙◌}
-use mathlib.Core.List.{List, [], ◌++◌}
+use Prim.Native.Nat.{◌-◌}
+use mathlib.Core.Path.{refl, sym, ◌∙◌}
 use native.Mathlib.Nat.{mul-zero}
 use native.Mathlib.Omega.{arith}
-use lib.ListN.{length}
-use borrow.Author.Rules.{rules}
-use Rattle.plan.specs.Circuit.{Tables, circuit_of}
-use Rattle.plan.specs.Step.{Value}
+use Rattle.plan.specs.Circuit.{circuit_of}
 use Rattle.laws.proofs.Tables.{next_row}
-use Rattle.step.specs.sweep.Running.{these, Runs, Rests}
-use Rattle.report.specs.Tallying.{tally}
+use Rattle.step.specs.sweep.Running.{these}
 use Rattle.report.proofs.Listing.{Vector, Going, vector-ends, vector-length, going_on, going-first, all-gone}
 use Rattle.report.proofs.tally.Goals as goal
 
@@ -60,8 +55,7 @@ overflow_add-k c = omega (arith, c.loop-k-test.true, c.well_formed)
 pub loop-k-preserved : goal.loop-k-preserved
 loop-k-preserved c =
     let vector : Vector c.args.n c.args.number c.args.bytes.now c.loop-k.k c.loop-k.at =
-    record { whole = c.requires.whole; here = c.loop-k.invariant.1; more = c.loop-k-test.true } in
-    (
+    record { whole = c.requires.whole; here = c.loop-k.invariant.1; more = c.loop-k-test.true } in (
       omega arith,
       next_row c.args.n.I c.loop-k.k c.loop-k.at c.loop-k.invariant.1,
       c.turn.auto.scratch ∙ c.loop-k.invariant.2,

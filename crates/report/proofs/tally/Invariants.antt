@@ -1,18 +1,14 @@
 -- All vectors of a list, whose bytes are good, from the state that scratch holds. The loop keeps `Tables`; the measure is `number - k`. `next_row`
 -- and `going_on` carry it from turn to turn, and `all-gone` gives the answer.
 use Prim.Native.Nat.{ℕ, ◌+◌, ◌*◌, ◌-◌, ◌≤◌}
-use mathlib.Core.Path.{◌≡◌, refl, sym, ◌∙◌}
+use mathlib.Core.Path.{◌≡◌}
 use mathlib.Core.List.{List, [], ◌++◌}
-use native.Mathlib.Nat.{mul-zero}
-use native.Mathlib.Omega.{arith}
 use lib.ListN.{length}
-use borrow.Author.Rules.{rules}
 use Rattle.plan.specs.Circuit.{Tables, circuit_of}
 use Rattle.plan.specs.Step.{Value}
-use Rattle.laws.proofs.Tables.{next_row}
 use Rattle.step.specs.sweep.Running.{these, Runs, Rests}
 use Rattle.report.specs.Tallying.{tally}
-use Rattle.report.proofs.Listing.{Vector, Going, vector-ends, vector-length, going_on, going-first, all-gone}
+use Rattle.report.proofs.Listing.{Going}
 use Rattle.report.proofs.tally.Given as goal
 
 abbrev pub invariant-loop-k : goal.invariant-loop-k

@@ -4,7 +4,6 @@ use mathlib.Core.Path.{◌≡◌, refl, ◌∙◌}
 use mathlib.Core.List.{List, map}
 use native.Mathlib.Omega.{arith}
 use lib.ListN.{length, length-map}
-use borrow.Author.Rules.{rules}
 use Rattle.plan.specs.Circuit.{Tables, Circuit, circuit_of}
 use Rattle.plan.specs.Step.{Value, value_of, step_of}
 use Rattle.step.specs.sweep.Running.{these, Runs, Rests, Stepped}

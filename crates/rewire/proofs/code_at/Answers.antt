@@ -5,7 +5,6 @@ use native.Mathlib.Omega.{arith}
 use lib.ListN.{get_or}
 use Rattle.plan.specs.Literals.{var_of, word_of, index_of}
 use Rattle.plan.specs.Step.{code_of, signed_value}
-use borrow.Author.Rules.{rules}
 use Rattle.rewire.proofs.code_at.Goals as goal
 
 pub bounds-values-v : goal.bounds-values-v

@@ -6,7 +6,6 @@ use Rattle.plan.specs.declared.Lit.{Lit}
 use Rattle.plan.specs.Literals.{var_of, sign_of, word_of}
 use Rattle.plan.specs.Step.{code_of, signed_value, lit}
 use Rattle.laws.proofs.Tables.{gate_at}
-use borrow.Author.Rules.{rules}
 use Rattle.rewire.proofs.gate_code.Goals as goal
 
 pub code_at-x-requires : goal.code_at-x-requires

@@ -8,7 +8,6 @@ use lib.Dec.{ltb}
 use Rattle.plan.specs.Literals.{word_of, in_range, doubled}
 use Rattle.plan.specs.Rewire.{left_at}
 use Rattle.rewire.proofs.Sides.{left_word, no-gate, out_first, out-second, high-first, high-second, wrong-length, all_pass}
-use borrow.Author.Rules.{rules}
 use Rattle.rewire.proofs.judge_sides.Goals as goal
 
 pub returns-then-gate-n : goal.returns-then-gate-n

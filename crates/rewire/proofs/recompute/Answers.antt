@@ -8,7 +8,7 @@ use Rattle.plan.specs.Literals.{var_of}
 use Rattle.laws.proofs.Tables.{gate_at}
 use Rattle.laws.proofs.Running.Sides.{sides-below}
 use Rattle.rewire.specs.Shown.{Shows, Ordered}
-use Rattle.rewire.proofs.Codes.{Going, going_start, going_more}
+use Rattle.rewire.proofs.Codes.{going_start, going_more}
 use Rattle.rewire.proofs.Wrong.{row_at}
 use Rattle.rewire.proofs.recompute.Goals as goal
 

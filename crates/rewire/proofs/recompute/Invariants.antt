@@ -1,15 +1,7 @@
 -- The values of gates k to a - 1, whose variables run on from `base`, in order: what lies below the rewired gate stays. The loop keeps `Going gates k
 -- a base values₀ values j`; the measure is `a - j`. `sides-below`, `going_more` and `gate_at` carry it from turn to turn.
-use Prim.Native.Nat.{ℕ, ◌+◌, ◌-◌, ◌<◌}
-use mathlib.Core.Path.{◌≡◌, subst}
-use native.Mathlib.Omega.{arith}
-use lib.ListN.{length, length-set}
-use Rattle.plan.specs.Literals.{var_of}
-use Rattle.laws.proofs.Tables.{gate_at}
-use Rattle.laws.proofs.Running.Sides.{sides-below}
-use Rattle.rewire.specs.Shown.{Shows, Ordered}
-use Rattle.rewire.proofs.Codes.{Going, going_start, going_more}
-use Rattle.rewire.proofs.Wrong.{row_at}
+use Prim.Native.Nat.{◌-◌}
+use Rattle.rewire.proofs.Codes.{Going}
 use Rattle.rewire.proofs.recompute.Given as goal
 
 abbrev pub invariant-loop-j : goal.invariant-loop-j

@@ -14,7 +14,6 @@ use Rattle.judge.specs.Judged.{given_at}
 use Rattle.plan.specs.Rewire.{edit_stages, RewireEntry}
 use Rattle.rewire.specs.Shown.{Counted}
 use Rattle.rewire.proofs.Answers.{refused-tables, counted, refused-sides, ordered, refused-value, row_fits, gate-there, ordered-again, done}
-use borrow.Author.Rules.{rules}
 use Rattle.rewire.proofs.rewire.Goals as goal
 
 pub judge_sides-sides-requires : goal.judge_sides-sides-requires
@@ -111,7 +110,7 @@ wrong_value-shown-requires c =
     c.judge_sides-sides.ensures
     ∙ ap₂ (λ (x y : Lit). checked_by (first_of (edit_stages a.n a.gate (word_of x) (word_of y) (length a.values.now))))
     c.at-a.ensures c.at-b.ensures in
-    record { ordered = ordered (entry) _ _ (said) c.in-Good.is _ (sides-told) c.in_default.is; le_base = omega arith; }
+    record { ordered = ordered (entry) _ _ (said) c.in-Good.is _ (sides-told) c.in_default.is; le_base = omega arith }
 
 pub returns-in-Refused-shown : goal.returns-in-Refused-shown
 returns-in-Refused-shown c =
@@ -183,8 +182,11 @@ recompute-requires c =
     c.at-a.ensures c.at-b.ensures in
     let there = gate-there (entry) _ _ (said) c.in-Good.is _ (sides-told) c.in_default.is _ c.wrong_value-shown.ensures
     c.in_default-shown.is in
-    record { ordered = ordered-again (entry) _ _ (said) c.in-Good.is _ (sides-told) c.in_default.is _ c.wrong_value-shown.ensures
-          c.in_default-shown.is _ (stored); k_le_a = omega arith; }
+    record {
+      ordered = ordered-again (entry) _ _ (said) c.in-Good.is _ (sides-told) c.in_default.is _ c.wrong_value-shown.ensures
+          c.in_default-shown.is _ (stored);
+      k_le_a = omega arith;
+    }
 
 pub returns-in-Refused : goal.returns-in-Refused
 returns-in-Refused c =

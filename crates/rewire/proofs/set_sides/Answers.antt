@@ -7,7 +7,6 @@ use lib.ListN.{length-set}
 use Rattle.plan.specs.Literals.{word_of}
 use Rattle.plan.specs.Outcome.{put}
 use Rattle.laws.proofs.Rewiring.Rows.{two-stores}
-use borrow.Author.Rules.{rules}
 use Rattle.rewire.proofs.set_sides.Goals as goal
 
 pub bounds-gates-gate-2 : goal.bounds-gates-gate-2

@@ -5,7 +5,7 @@ use Prim.Native.Nat.{◌+◌, ◌-◌, ◌<◌}
 use native.Mathlib.Omega.{arith}
 use lib.ListN.{length}
 use Rattle.laws.proofs.Tables.{gates_at}
-use Rattle.rewire.proofs.Wrong.{Gating, gating-start, gating-turn, gating-stop, row_at, judging-end}
+use Rattle.rewire.proofs.Wrong.{gating-start, gating-turn, gating-stop, row_at, judging-end}
 use Rattle.rewire.proofs.wrong_gate.Goals as goal
 
 pub loop-j-init : goal.loop-j-init

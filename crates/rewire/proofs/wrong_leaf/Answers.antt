@@ -1,13 +1,12 @@
 -- 23 among the first n variables, which are no gates': the constant, inputs and latches. The loop keeps `(1 ≤ v) × Judging [] values 0 n v`; the
 -- measure is `n - v`. `judging-turn` and `leaf-right` carry it from turn to turn, and `judging-stop`, `judging-start` and `leaf-wrong` give the
 -- answer.
-use borrow.Author.Rules.{rules}
-use Prim.Native.Nat.{◌-◌, ◌≤◌}
+use Prim.Native.Nat.{◌-◌}
 use mathlib.Core.Path.{sym, ◌∙◌}
 use mathlib.Core.List.{[]}
 use native.Mathlib.Omega.{arith}
 use borrow.Author.Tests.{not-true, not-false}
-use Rattle.rewire.proofs.Wrong.{Judging, judging-start, judging-turn, judging-stop, judging-end, leaf-right, leaf-wrong}
+use Rattle.rewire.proofs.Wrong.{judging-start, judging-turn, judging-stop, judging-end, leaf-right, leaf-wrong}
 use Rattle.rewire.proofs.wrong_leaf.Goals as goal
 
 pub bounds-values-0 : goal.bounds-values-0
@@ -18,12 +17,11 @@ returns-then-values-ne48 c =
     judging-stop [] c.args.values.now 0 c.args.n 0 (judging-start [] c.args.values.now 0 c.args.n) (omega (arith, c.requires.le_n)) c.if-values-ne48.true
 
 pub loop-v-init : goal.loop-v-init
-loop-v-init c =
-    (
-      omega arith,
-      judging-turn [] c.args.values.now 0 c.args.n 0 (judging-start [] c.args.values.now 0 c.args.n) (omega (arith, c.requires.le_n))
-          c.if-values-ne48.false,
-    )
+loop-v-init c = (
+  omega arith,
+  judging-turn [] c.args.values.now 0 c.args.n 0 (judging-start [] c.args.values.now 0 c.args.n) (omega (arith, c.requires.le_n))
+      c.if-values-ne48.false,
+)
 
 pub bounds-values-v : goal.bounds-values-v
 bounds-values-v c = omega (arith, c.requires.n_in_bounds, c.loop-v-test.true)
@@ -40,12 +38,11 @@ pub loop-v-smaller : goal.loop-v-smaller
 loop-v-smaller c = omega (arith, c.loop-v-test.true)
 
 pub loop-v-preserved : goal.loop-v-preserved
-loop-v-preserved c =
-    (
-      omega (arith, c.loop-v.invariant.0),
-      judging-turn [] c.args.values.now 0 c.args.n c.loop-v.v c.loop-v.invariant.1 (omega (arith, c.loop-v-test.true))
-          (leaf-right c.args.values.now c.loop-v.v c.loop-v.invariant.0 (sym c.is_code.ensures ∙ not-false _ c.if-not-is_code.false-raw)),
-    )
+loop-v-preserved c = (
+  omega (arith, c.loop-v.invariant.0),
+  judging-turn [] c.args.values.now 0 c.args.n c.loop-v.v c.loop-v.invariant.1 (omega (arith, c.loop-v-test.true))
+      (leaf-right c.args.values.now c.loop-v.v c.loop-v.invariant.0 (sym c.is_code.ensures ∙ not-false _ c.if-not-is_code.false-raw)),
+)
 
 pub returns : goal.returns
 returns c =

@@ -1,13 +1,9 @@
 -- 23 among the first n variables, which are no gates': the constant, inputs and latches. The loop keeps `(1 ≤ v) × Judging [] values 0 n v`; the
 -- measure is `n - v`. `judging-turn` and `leaf-right` carry it from turn to turn, and `judging-stop`, `judging-start` and `leaf-wrong` give the
 -- answer.
-use borrow.Author.Rules.{rules}
 use Prim.Native.Nat.{◌-◌, ◌≤◌}
-use mathlib.Core.Path.{sym, ◌∙◌}
 use mathlib.Core.List.{[]}
-use native.Mathlib.Omega.{arith}
-use borrow.Author.Tests.{not-true, not-false}
-use Rattle.rewire.proofs.Wrong.{Judging, judging-start, judging-turn, judging-stop, judging-end, leaf-right, leaf-wrong}
+use Rattle.rewire.proofs.Wrong.{Judging}
 use Rattle.rewire.proofs.wrong_leaf.Given as goal
 
 abbrev pub invariant-loop-v : goal.invariant-loop-v

@@ -1,7 +1,6 @@
 -- 23: the least variable whose value is wrong. The answers are given by `leaf-refused` and `leaves-good`.
 use mathlib.Core.Path.{sym, ◌∙◌}
 use Rattle.rewire.proofs.Wrong.{leaf-refused, leaves-good, leaves-shown}
-use borrow.Author.Rules.{rules}
 use Rattle.rewire.proofs.wrong_value.Goals as goal
 
 pub returns-in-Refused : goal.returns-in-Refused
@@ -11,7 +10,7 @@ returns-in-Refused c =
 
 pub wrong_gate-requires : goal.wrong_gate-requires
 wrong_gate-requires c =
-    record { ordered = c.requires.ordered; shows = leaves-shown _ _ (sym c.in_default.is ∙ c.wrong_leaf-leaf.ensures); }
+    record { ordered = c.requires.ordered; shows = leaves-shown _ _ (sym c.in_default.is ∙ c.wrong_leaf-leaf.ensures) }
 
 pub returns : goal.returns
 returns c =

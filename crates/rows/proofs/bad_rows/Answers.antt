@@ -19,7 +19,7 @@ returns-then-nexts-rows c =
     (ne_eqb _ _ c.if-nexts-rows.true)
 
 pub whole_rows-requires : goal.whole_rows-requires
-whole_rows-requires c = record { rows_bound = c.requires.rows_bound; each_le_most = c.requires.i_le_most.0; }
+whole_rows-requires c = record { rows_bound = c.requires.rows_bound; each_le_most = c.requires.i_le_most.0 }
 
 pub returns-then-not-whole_rows : goal.returns-then-not-whole_rows
 returns-then-not-whole_rows c =

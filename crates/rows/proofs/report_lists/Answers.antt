@@ -8,7 +8,6 @@ use Rattle.plan.specs.Circuit.{filled}
 use Rattle.rows.specs.lanes.Working.{these, counts_of}
 use Rattle.rows.proofs.lanes.Rows.{report-is}
 use Rattle.rows.proofs.Reports.{report-ready, report-shows, put-cleared}
-use borrow.Author.Rules.{rules}
 use Rattle.rows.proofs.report_lists.Goals as goal
 
 pub step_lanes-requires : goal.step_lanes-requires
@@ -17,7 +16,7 @@ step_lanes-requires c = report-ready c.requires
 pub count_rows-requires : goal.count_rows-requires
 count_rows-requires c =
     let p = c.requires in
-    record { shows = report-shows p _ c.step_lanes.auto.t; rows_bound = p.most; n_in_bounds = omega (arith, p.report-long, c.clear.auto.table); }
+    record { shows = report-shows p _ c.step_lanes.auto.t; rows_bound = p.most; n_in_bounds = omega (arith, p.report-long, c.clear.auto.table) }
 
 pub returns : goal.returns
 returns c =

@@ -13,7 +13,6 @@ use Rattle.plan.specs.Refusals.{first_of}
 use Rattle.plan.specs.Circuit.{seven}
 use Rattle.plan.specs.Rows.{RowReportEntry, row_report_stage}
 use Rattle.rows.proofs.Reports.{reply, third, many, wrong, right, refused-six, past-six, runs, reports, refused-report, done-report, late}
-use borrow.Author.Rules.{rules}
 use Rattle.rows.proofs.report_rows.Goals as goal
 
 pub returns-then-rows-gt64 : goal.returns-then-rows-gt64
@@ -63,7 +62,7 @@ whole_rows-requires c =
     third (length c.args.report.now) c.args.n.O in
     let good = runs (entry) _ _ (short) c.judge_in_order-answer.ensures.value (is-short) c.with_sixth.ensures
     c.in-Good.is in
-    record { rows_bound = omega (arith, c.if-rows-gt64.false); each_le_most = omega (arith, good.fits.sum, good.fits.most-M); }
+    record { rows_bound = omega (arith, c.if-rows-gt64.false); each_le_most = omega (arith, good.fits.sum, good.fits.most-M) }
 
 pub returns-then-not-whole_rows : goal.returns-then-not-whole_rows
 returns-then-not-whole_rows c =

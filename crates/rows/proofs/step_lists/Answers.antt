@@ -3,7 +3,6 @@ use mathlib.Core.Path.{◌∙◌}
 use Rattle.rows.specs.lanes.Working.{these}
 use Rattle.rows.proofs.lanes.Rows.{outputs-are, nexts-are}
 use Rattle.rows.proofs.Lists.{ready, shows-nexts, shows-outputs, nexts-room, outs-room}
-use borrow.Author.Rules.{rules}
 use Rattle.rows.proofs.step_lists.Goals as goal
 
 pub step_lanes-requires : goal.step_lanes-requires
@@ -11,11 +10,11 @@ step_lanes-requires c = ready c.requires.room c.requires.lists
 
 pub store_rows-requires : goal.store_rows-requires
 store_rows-requires c =
-    record { shows = shows-nexts c.requires.room c.requires.lists _ c.step_lanes.auto.t; rows_bound = (c.requires.lists.most, nexts-room c.requires.room c.requires.lists); }
+    record { shows = shows-nexts c.requires.room c.requires.lists _ c.step_lanes.auto.t; rows_bound = (c.requires.lists.most, nexts-room c.requires.room c.requires.lists) }
 
 pub store_rows-requires-2 : goal.store_rows-requires-2
 store_rows-requires-2 c =
-    record { shows = shows-outputs c.requires.room c.requires.lists _ c.step_lanes.auto.t; rows_bound = (c.requires.lists.most, outs-room c.requires.room c.requires.lists); }
+    record { shows = shows-outputs c.requires.room c.requires.lists _ c.step_lanes.auto.t; rows_bound = (c.requires.lists.most, outs-room c.requires.room c.requires.lists) }
 
 pub returns : goal.returns
 returns c =

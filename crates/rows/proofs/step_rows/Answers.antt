@@ -11,7 +11,6 @@ use Rattle.tables.proofs.Told.{some-table, no_table}
 use Rattle.step.proofs.Checks.{refused-by, past-check, runs, room}
 use Rattle.plan.specs.Rows.{RowsEntry, row_stage}
 use Rattle.rows.proofs.Lists.{good-lists, too_many, few-bad, few-good, refused-rows, refused-late, done-rows}
-use borrow.Author.Rules.{rules}
 use Rattle.rows.proofs.step_rows.Goals as goal
 
 pub returns-then-rows-gt64 : goal.returns-then-rows-gt64
@@ -60,7 +59,7 @@ bad_rows-bad-requires c =
     c.judge_in_order.ensures.value in
     let e = entry in
     let f = (runs e.circuit (row_stage e) (says) (told)).fits in
-    record { rows_bound = omega (arith, c.if-rows-gt64.false); i_le_most = (omega (arith, f.sum, f.most-M), omega (arith, f.sum, f.most-M), f.most-O); }
+    record { rows_bound = omega (arith, c.if-rows-gt64.false); i_le_most = (omega (arith, f.sum, f.most-M), omega (arith, f.sum, f.most-M), f.most-O) }
 
 pub returns-then-bad-ne0 : goal.returns-then-bad-ne0
 returns-then-bad-ne0 c =
@@ -111,12 +110,15 @@ step_lists-requires c =
     let same : length c.judge_in_order.new.scratch ≡ length c.args.scratch.now =
     c.judge_in_order.auto.scratch in
     let e = entry in
-    record { room = record {
+    record {
+      room = record {
         others = e.circuit.tables;
         runs = runs e.circuit (row_stage e) (says) (told);
         scratch-long = (room e.circuit (row_stage e) (says) (told) c.judge_in_order.new.scratch (same)).scratch-long;
-      }; lists = good-lists e (omega (arith, c.if-rows-gt64.false))
-          (no_table _ _ c.if-bad-ne0.false c.bad_rows-bad.ensures); }
+      };
+      lists = good-lists e (omega (arith, c.if-rows-gt64.false))
+          (no_table _ _ c.if-bad-ne0.false c.bad_rows-bad.ensures);
+    }
 
 pub returns-in-Refused : goal.returns-in-Refused
 returns-in-Refused c =

@@ -1,7 +1,6 @@
 -- Whether the inputs are `rows` vectors of `each` codes. The answers are given by `whole-not` and `whole_is`.
 use mathlib.Core.Path.{◌∙◌}
 use Rattle.rows.proofs.Lists.{product_small, whole-not, whole_is}
-use borrow.Author.Rules.{rules}
 use Rattle.rows.proofs.whole_rows.Goals as goal
 
 pub overflow_mul-rows : goal.overflow_mul-rows

@@ -1,6 +1,5 @@
 use mathlib.Core.Path.{◌≡◌, sym, ap, ◌∙◌}
 use mathlib.Core.Option.{none}
-use native.Mathlib.Omega.{arith}
 use lib.ListN.{length}
 use Rattle.plan.specs.declared.Checked.TheVariants.{Good}
 use Rattle.plan.specs.Circuit.{seven}
@@ -10,8 +9,7 @@ use Rattle.tables.specs.Held.{Scratch}
 use Rattle.step.specs.sweep.Running.{Runs}
 use Rattle.step.proofs.Checks.{runs, room}
 use Rattle.step.proofs.Beyond.{refused-by, past-check}
-use Rattle.search.proofs.Answering.{Fitting, fitting, asks-refused, asks-early, asks-found}
-use borrow.Author.Rules.{rules}
+use Rattle.search.proofs.Answering.{fitting, asks-refused, asks-early, asks-found}
 use Rattle.search.proofs.ask.Goals as goal
 
 pub find-requires : goal.find-requires

@@ -1,10 +1,9 @@
-use Prim.Native.Nat.{ℕ, ◌+◌, ◌-◌, ◌*◌, ◌<◌, ◌≤◌}
-use mathlib.Core.Path.{◌≡◌, refl, sym, ap, ◌∙◌, subst}
+use Prim.Native.Nat.{ℕ, ◌+◌, ◌-◌, ◌*◌, ◌≤◌}
+use mathlib.Core.Path.{◌≡◌, refl, ◌∙◌, subst}
 use native.Mathlib.Omega.{arith}
-use lib.ListN.{length, set, length-set}
+use lib.ListN.{length, length-set}
 use Rattle.search.specs.Starting.{Started}
 use Rattle.search.proofs.Beginning.{start-marked, started_none, started-more, total-few}
-use borrow.Author.Rules.{rules}
 use Rattle.search.proofs.begin_rows.Goals as goal
 
 pub loop-k-init : goal.loop-k-init
@@ -46,31 +45,31 @@ overflow_mul-row c =
     let few : c.args.total ≤ 1048576 =
     total-few c.args.n.L c.args.total c.requires.few c.requires.numbers.few-latches in
     omega (
-  arith,
-  few,
-  c.loop-k-test.true,
-)
+      arith,
+      few,
+      c.loop-k-test.true,
+    )
 
 pub offset_bounds-met-row : goal.offset_bounds-met-row
 offset_bounds-met-row c =
     let few : c.args.total ≤ 1048576 =
     total-few c.args.n.L c.args.total c.requires.few c.requires.numbers.few-latches in
     omega (
-  arith,
-  few,
-  c.loop-k-test.true,
-)
+      arith,
+      few,
+      c.loop-k-test.true,
+    )
 
 pub bounds-met-row : goal.bounds-met-row
 bounds-met-row c =
     let room : 3 * c.loop-k.k + 3 ≤ length c.loop-k.met =
     omega (
-  arith,
-  c.loop-k-test.true,
-  c.requires.few,
-  c.requires.met-long,
-  c.loop-k.invariant.2,
-) in
+      arith,
+      c.loop-k-test.true,
+      c.requires.few,
+      c.requires.met-long,
+      c.loop-k.invariant.2,
+    ) in
     omega (arith, room)
 
 pub overflow_add-met : goal.overflow_add-met
@@ -78,31 +77,31 @@ overflow_add-met c =
     let few : c.args.total ≤ 1048576 =
     total-few c.args.n.L c.args.total c.requires.few c.requires.numbers.few-latches in
     omega (
-  arith,
-  few,
-  c.loop-k-test.true,
-)
+      arith,
+      few,
+      c.loop-k-test.true,
+    )
 
 pub offset_bounds-met-row-in-loop-k : goal.offset_bounds-met-row-in-loop-k
 offset_bounds-met-row-in-loop-k c =
     let few : c.args.total ≤ 1048576 =
     total-few c.args.n.L c.args.total c.requires.few c.requires.numbers.few-latches in
     omega (
-  arith,
-  few,
-  c.loop-k-test.true,
-)
+      arith,
+      few,
+      c.loop-k-test.true,
+    )
 
 pub bounds-met-row-in-loop-k : goal.bounds-met-row-in-loop-k
 bounds-met-row-in-loop-k c =
     let room : 3 * c.loop-k.k + 3 ≤ length c.loop-k.met =
     omega (
-  arith,
-  c.loop-k-test.true,
-  c.requires.few,
-  c.requires.met-long,
-  c.loop-k.invariant.2,
-) in
+      arith,
+      c.loop-k-test.true,
+      c.requires.few,
+      c.requires.met-long,
+      c.loop-k.invariant.2,
+    ) in
     simp length-set (omega (arith, room))
 
 pub overflow_add-met-in-loop-k : goal.overflow_add-met-in-loop-k
@@ -110,31 +109,31 @@ overflow_add-met-in-loop-k c =
     let few : c.args.total ≤ 1048576 =
     total-few c.args.n.L c.args.total c.requires.few c.requires.numbers.few-latches in
     omega (
-  arith,
-  few,
-  c.loop-k-test.true,
-)
+      arith,
+      few,
+      c.loop-k-test.true,
+    )
 
 pub offset_bounds-met-row-in-loop-k-2 : goal.offset_bounds-met-row-in-loop-k-2
 offset_bounds-met-row-in-loop-k-2 c =
     let few : c.args.total ≤ 1048576 =
     total-few c.args.n.L c.args.total c.requires.few c.requires.numbers.few-latches in
     omega (
-  arith,
-  few,
-  c.loop-k-test.true,
-)
+      arith,
+      few,
+      c.loop-k-test.true,
+    )
 
 pub bounds-met-row-in-loop-k-2 : goal.bounds-met-row-in-loop-k-2
 bounds-met-row-in-loop-k-2 c =
     let room : 3 * c.loop-k.k + 3 ≤ length c.loop-k.met =
     omega (
-  arith,
-  c.loop-k-test.true,
-  c.requires.few,
-  c.requires.met-long,
-  c.loop-k.invariant.2,
-) in
+      arith,
+      c.loop-k-test.true,
+      c.requires.few,
+      c.requires.met-long,
+      c.loop-k.invariant.2,
+    ) in
     simp length-set (omega (arith, room))
 
 pub overflow_add-k : goal.overflow_add-k
@@ -142,10 +141,10 @@ overflow_add-k c =
     let few : c.args.total ≤ 1048576 =
     total-few c.args.n.L c.args.total c.requires.few c.requires.numbers.few-latches in
     omega (
-  arith,
-  few,
-  c.loop-k-test.true,
-)
+      arith,
+      few,
+      c.loop-k-test.true,
+    )
 
 pub loop-k-smaller : goal.loop-k-smaller
 loop-k-smaller c = omega (arith, c.loop-k-test.true)
@@ -154,13 +153,12 @@ pub loop-k-preserved : goal.loop-k-preserved
 loop-k-preserved c =
     let room : 3 * c.loop-k.k + 3 ≤ length c.loop-k.met =
     omega (
-  arith,
-  c.loop-k-test.true,
-  c.requires.few,
-  c.requires.met-long,
-  c.loop-k.invariant.2,
-) in
-    (
+      arith,
+      c.loop-k-test.true,
+      c.requires.few,
+      c.requires.met-long,
+      c.loop-k.invariant.2,
+    ) in (
       omega (arith, c.loop-k-test.true),
       c.start_number-s.auto.scratch ∙ c.loop-k.invariant.1,
       simp length-set c.loop-k.invariant.2,

@@ -1,10 +1,7 @@
-use Prim.Native.Nat.{ℕ, ◌+◌, ◌-◌, ◌*◌, ◌<◌, ◌≤◌}
-use mathlib.Core.Path.{◌≡◌, refl, sym, ap, ◌∙◌, subst}
-use native.Mathlib.Omega.{arith}
-use lib.ListN.{length, set, length-set}
+use Prim.Native.Nat.{◌-◌, ◌≤◌}
+use mathlib.Core.Path.{◌≡◌}
+use lib.ListN.{length}
 use Rattle.search.specs.Starting.{Started}
-use Rattle.search.proofs.Beginning.{start-marked, started_none, started-more, total-few}
-use borrow.Author.Rules.{rules}
 use Rattle.search.proofs.begin_rows.Given as goal
 
 abbrev pub invariant-loop-k : goal.invariant-loop-k

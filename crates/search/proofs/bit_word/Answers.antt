@@ -1,5 +1,4 @@
 use Rattle.search.proofs.Numbers.{bit-fits, bit-word-is}
-use borrow.Author.Rules.{rules}
 use Rattle.search.proofs.bit_word.Goals as goal
 
 pub overflow_add-result : goal.overflow_add-result

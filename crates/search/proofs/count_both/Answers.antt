@@ -1,6 +1,5 @@
 use native.Mathlib.Omega.{arith}
 use Rattle.search.proofs.Beginning.{part-rest, more-first, more-second}
-use borrow.Author.Rules.{rules}
 use Rattle.search.proofs.count_both.Reads as reads
 use Rattle.search.proofs.count_both.Lts as lts
 use Rattle.tables.proofs.lesser.Reads as lesser-reads

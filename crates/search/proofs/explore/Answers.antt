@@ -1,14 +1,9 @@
-use Prim.Native.Nat.{ℕ, ◌+◌, ◌-◌, ◌*◌, ◌/◌, ◌%◌, ◌<◌, ◌≤◌}
-use mathlib.Core.Path.{◌≡◌, refl, sym, ap, ◌∙◌, subst}
-use mathlib.Core.List.{List, map}
+use Prim.Native.Nat.{◌-◌}
+use mathlib.Core.Path.{refl, ◌∙◌}
 use native.Mathlib.Omega.{arith}
-use lib.ListN.{length}
-use Rattle.plan.specs.Circuit.{Tables, circuit_of, seven}
-use Rattle.step.specs.sweep.Running.{Runs}
-use Rattle.plan.specs.Search.{begin, system_of}
-use Rattle.search.specs.Exploring.{Searched, Exploring}
-use Rattle.search.proofs.Looping.{some-moves, move-small, exploring-first, place_is, move-is, reached-few, reached-most, never_here, out-here, found_here, left_here}
-use borrow.Author.Rules.{rules}
+use Rattle.plan.specs.Circuit.{seven}
+use Rattle.search.specs.Exploring.{Exploring}
+use Rattle.search.proofs.Looping.{move-small, exploring-first, place_is, move-is, reached-few, reached-most, never_here, out-here, found_here, left_here}
 use Rattle.search.proofs.explore.Goals as goal
 
 pub power-moves-requires : goal.power-moves-requires
@@ -37,9 +32,9 @@ returns-then-reached-place c =
 pub overflow_cast-m : goal.overflow_cast-m
 overflow_cast-m c =
     omega (
-  arith,
-  move-small _ c.loop-tries.tries _ c.requires.few-inputs c.power-moves.ensures,
-)
+      arith,
+      move-small _ c.loop-tries.tries _ c.requires.few-inputs c.power-moves.ensures,
+    )
 
 pub take_turn-requires : goal.take_turn-requires
 take_turn-requires c =
@@ -73,10 +68,10 @@ take_turn-requires c =
 pub overflow_add-result : goal.overflow_add-result
 overflow_add-result c =
     omega (
-  arith,
-  c.loop-tries-test.true,
-  c.well_formed,
-)
+      arith,
+      c.loop-tries-test.true,
+      c.well_formed,
+    )
 
 pub shape_of-scratch-in_default : goal.shape_of-scratch-in_default
 shape_of-scratch-in_default c = c.take_turn.auto.scratch ∙ c.loop-tries.invariant.1
@@ -101,30 +96,29 @@ returns-in_default c =
 pub overflow_add-tries : goal.overflow_add-tries
 overflow_add-tries c =
     omega (
-  arith,
-  c.loop-tries-test.true,
-  c.well_formed,
-)
+      arith,
+      c.loop-tries-test.true,
+      c.well_formed,
+    )
 
 pub loop-tries-smaller : goal.loop-tries-smaller
 loop-tries-smaller c = omega (arith, c.loop-tries-test.true)
 
 pub loop-tries-preserved : goal.loop-tries-preserved
-loop-tries-preserved c =
-    (
-      omega (arith, c.loop-tries-test.true),
-      c.take_turn.auto.scratch ∙ c.loop-tries.invariant.1,
-      c.take_turn.auto.met ∙ c.loop-tries.invariant.2,
-      c.take_turn.auto.marks ∙ c.loop-tries.invariant.3,
-      λ split inputs resets r sd e.
-          let ex = c.loop-tries.invariant.4 split inputs resets r sd e in
-          let em = c.power-moves.ensures in
-          left_here r _ c.loop-tries.tries c.loop-tries.reached _ c.loop-tries.met c.loop-tries.marks ex em c.loop-tries-test.true _ _ _
-          (c.take_turn.ensures split inputs resets c.loop-tries.tries ex.ways r
-          ex.searched ex.count
-          (place_is r _ c.loop-tries.tries c.loop-tries.reached _ c.loop-tries.met c.loop-tries.marks ex em) (move-is r _ c.loop-tries.tries c.loop-tries.reached _ c.loop-tries.met c.loop-tries.marks ex em))
-          _ c.in-Left.is,
-    )
+loop-tries-preserved c = (
+  omega (arith, c.loop-tries-test.true),
+  c.take_turn.auto.scratch ∙ c.loop-tries.invariant.1,
+  c.take_turn.auto.met ∙ c.loop-tries.invariant.2,
+  c.take_turn.auto.marks ∙ c.loop-tries.invariant.3,
+  λ split inputs resets r sd e.
+      let ex = c.loop-tries.invariant.4 split inputs resets r sd e in
+      let em = c.power-moves.ensures in
+      left_here r _ c.loop-tries.tries c.loop-tries.reached _ c.loop-tries.met c.loop-tries.marks ex em c.loop-tries-test.true _ _ _
+      (c.take_turn.ensures split inputs resets c.loop-tries.tries ex.ways r
+      ex.searched ex.count
+      (place_is r _ c.loop-tries.tries c.loop-tries.reached _ c.loop-tries.met c.loop-tries.marks ex em) (move-is r _ c.loop-tries.tries c.loop-tries.reached _ c.loop-tries.met c.loop-tries.marks ex em))
+      _ c.in-Left.is,
+)
 
 pub shape_of-scratch-then-reached-tries : goal.shape_of-scratch-then-reached-tries
 shape_of-scratch-then-reached-tries c = c.loop-tries.invariant.1

@@ -1,14 +1,11 @@
-use Prim.Native.Nat.{ℕ, ◌+◌, ◌-◌, ◌*◌, ◌/◌, ◌%◌, ◌<◌, ◌≤◌}
-use mathlib.Core.Path.{◌≡◌, refl, sym, ap, ◌∙◌, subst}
+use Prim.Native.Nat.{ℕ, ◌-◌, ◌≤◌}
+use mathlib.Core.Path.{◌≡◌}
 use mathlib.Core.List.{List, map}
-use native.Mathlib.Omega.{arith}
 use lib.ListN.{length}
-use Rattle.plan.specs.Circuit.{Tables, circuit_of, seven}
+use Rattle.plan.specs.Circuit.{circuit_of, seven}
 use Rattle.step.specs.sweep.Running.{Runs}
 use Rattle.plan.specs.Search.{begin, system_of}
 use Rattle.search.specs.Exploring.{Searched, Exploring}
-use Rattle.search.proofs.Looping.{some-moves, move-small, exploring-first, place_is, move-is, reached-few, reached-most, never_here, out-here, found_here, left_here}
-use borrow.Author.Rules.{rules}
 use Rattle.search.proofs.explore.Given as goal
 
 abbrev pub invariant-loop-tries : goal.invariant-loop-tries

@@ -1,10 +1,9 @@
-use Prim.Native.Nat.{◌+◌, ◌*◌, ◌^◌, ◌≤◌}
+use Prim.Native.Nat.{◌^◌}
 use native.Mathlib.Omega.{arith}
 use lib.ListN.{length}
 use Rattle.plan.specs.Circuit.{circuit_of, seven}
 use Rattle.plan.specs.Search.{watched, system_of}
 use Rattle.search.proofs.Answering.{cleared-blank, shown-walks, told-never, told-undecided, told-shown}
-use borrow.Author.Rules.{rules}
 use Rattle.search.proofs.find.Goals as goal
 
 pub watch_states-reach-requires : goal.watch_states-reach-requires
@@ -26,8 +25,7 @@ watch_states-reach-requires c =
 
 pub tell-requires : goal.tell-requires
 tell-requires c =
-    let p = c.requires in
-    (
+    let p = c.requires in (
       p.few-latches,
       p.few-inputs,
       shown-walks (system_of c.args.split (watched c.args.watch (circuit_of c.args.n (seven p.inputs c.args.latches.now c.args.outputs.now c.args.gates.now c.args.resets.now c.args.bads.now c.args.constraints.now)))) c.args.n.L c.args.allowance _ _ _ c.watch_states-reach.new.met

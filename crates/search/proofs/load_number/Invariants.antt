@@ -1,12 +1,7 @@
-use Prim.Native.Nat.{ℕ, ◌+◌, ◌-◌, ◌/◌, ◌%◌, ◌^◌, ◌≤◌}
-use mathlib.Core.Path.{◌∙◌, ap}
-use native.Mathlib.Omega.{arith}
-use Rattle.plan.specs.Outcome.{put}
+use Prim.Native.Nat.{◌-◌, ◌/◌, ◌%◌, ◌^◌, ◌≤◌}
 use Rattle.step.specs.values.Words.{word}
-use Rattle.step.proofs.values.Filling.{Filled, filled_none, filled_more, filled-all}
+use Rattle.step.proofs.values.Filling.{Filled}
 use Rattle.plan.specs.Search.{bit_value}
-use Rattle.search.proofs.Numbers.{bits-firsts}
-use borrow.Author.Rules.{rules}
 use Rattle.search.proofs.load_number.Given as goal
 
 abbrev pub invariant-loop-i : goal.invariant-loop-i

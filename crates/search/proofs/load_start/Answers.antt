@@ -1,7 +1,6 @@
-use Prim.Native.Nat.{◌+◌, ◌-◌, ◌≤◌}
+use Prim.Native.Nat.{◌+◌, ◌-◌}
 use native.Mathlib.Omega.{arith}
 use Rattle.search.proofs.Beginning.{part-rest, both-loaded, first-asks, second-asks}
-use borrow.Author.Rules.{rules}
 use Rattle.search.proofs.load_start.Reads as reads
 use Rattle.search.proofs.load_start.Lts as lts
 use Rattle.tables.proofs.lesser.Reads as lesser-reads
@@ -13,14 +12,14 @@ load_resets_filled-requires c =
     let a = c.args in
     let whole = first-asks a.split a.n.L _ a.resets.now c.requires.resets-long c.lesser-first.ensures (1 + a.n.I) a.scratch.now
     c.requires.few-latches c.requires.room in
-    record { n_in_bounds = whole.0; loads = whole.1; }
+    record { n_in_bounds = whole.0; loads = whole.1 }
 
 pub load_resets_filled-requires-2 : goal.load_resets_filled-requires-2
 load_resets_filled-requires-2 c =
     let a = c.args in
     let whole = second-asks a.split a.n.L _ a.resets.now c.requires.resets-long c.lesser-first.ensures _ (part-rest _ a.resets.now)
     (1 + a.n.I) _ c.requires.few-latches (omega (arith, c.requires.room, c.load_resets_filled.auto.t)) in
-    record { n_in_bounds = whole.0; loads = whole.1; }
+    record { n_in_bounds = whole.0; loads = whole.1 }
 
 pub returns : goal.returns
 returns c =

@@ -3,7 +3,6 @@ use mathlib.Core.Path.{sym, ◌∙◌}
 use native.Mathlib.Omega.{arith}
 use lib.ListN.{length, length-set}
 use Rattle.search.proofs.Meeting.{meet-on, meet-off}
-use borrow.Author.Rules.{rules}
 use Rattle.search.proofs.meet.Goals as goal
 
 pub returns-then-is_on : goal.returns-then-is_on

@@ -1,9 +1,7 @@
-use Prim.Native.Nat.{ℕ, ◌+◌, ◌-◌, ◌*◌, ◌≤◌}
-use mathlib.Core.Path.{◌≡◌}
+use Prim.Native.Nat.{◌+◌, ◌-◌}
 use native.Mathlib.Omega.{arith}
 use lib.ListN.{get_or}
-use Rattle.search.proofs.Numbers.{number_from, number-none, number_more, number-low, number-all, one-small}
-use borrow.Author.Rules.{rules}
+use Rattle.search.proofs.Numbers.{number-none, number_more, number-low, number-all, one-small}
 use Rattle.search.proofs.number_in.Goals as goal
 
 pub loop-j-init : goal.loop-j-init
@@ -29,13 +27,12 @@ overflow_add-s c =
     )
 
 pub loop-j-preserved : goal.loop-j-preserved
-loop-j-preserved c =
-    (
-      omega arith,
-      number_more c.args.t.now c.args.first c.args.n c.loop-j.j c.loop-j.s _ c.loop-j-test.true c.loop-j.invariant.0
-          c.requires.1
-          c.loop-j.invariant.1 c.one_of.ensures,
-    )
+loop-j-preserved c = (
+  omega arith,
+  number_more c.args.t.now c.args.first c.args.n c.loop-j.j c.loop-j.s _ c.loop-j-test.true c.loop-j.invariant.0
+      c.requires.1
+      c.loop-j.invariant.1 c.one_of.ensures,
+)
 
 pub returns : goal.returns
 returns c = number-all c.args.t.now c.args.first c.args.n c.loop-j.j c.loop-j.s (omega arith) c.loop-j.invariant.1

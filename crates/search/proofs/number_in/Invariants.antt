@@ -1,9 +1,6 @@
-use Prim.Native.Nat.{ℕ, ◌+◌, ◌-◌, ◌*◌, ◌≤◌}
+use Prim.Native.Nat.{◌-◌, ◌≤◌}
 use mathlib.Core.Path.{◌≡◌}
-use native.Mathlib.Omega.{arith}
-use lib.ListN.{get_or}
-use Rattle.search.proofs.Numbers.{number_from, number-none, number_more, number-low, number-all, one-small}
-use borrow.Author.Rules.{rules}
+use Rattle.search.proofs.Numbers.{number_from}
 use Rattle.search.proofs.number_in.Given as goal
 
 abbrev pub invariant-loop-j : goal.invariant-loop-j

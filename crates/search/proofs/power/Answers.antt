@@ -1,5 +1,4 @@
 use Rattle.search.proofs.Numbers.{power-is}
-use borrow.Author.Rules.{rules}
 use Rattle.search.proofs.power.Goals as goal
 
 pub returns : goal.returns

@@ -4,7 +4,6 @@ use lib.ListN.{replicate}
 use Rattle.plan.specs.Circuit.{seven}
 use Rattle.plan.specs.Search.{SearchEntry}
 use Rattle.search.proofs.Answering.{searched-clear}
-use borrow.Author.Rules.{rules}
 use Rattle.search.proofs.search.Goals as goal
 
 pub returns : goal.returns

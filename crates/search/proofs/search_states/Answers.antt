@@ -1,11 +1,8 @@
-use Prim.Native.Nat.{ℕ, ◌+◌, ◌*◌, ◌≤◌}
-use mathlib.Core.Path.{◌≡◌, refl, sym, ap, ◌∙◌}
+use Prim.Native.Nat.{ℕ}
 use mathlib.Core.List.{List}
 use native.Mathlib.Omega.{arith}
-use lib.ListN.{length}
 use Rattle.plan.specs.Circuit.{Tables, seven}
 use Rattle.search.proofs.Beginning.{resets-few, starts-few, begun-searched, begun-count}
-use borrow.Author.Rules.{rules}
 use Rattle.search.proofs.search_states.Goals as goal
 
 pub count_both-xs-requires : goal.count_both-xs-requires

@@ -6,7 +6,6 @@ use Rattle.plan.specs.Step.{value_of}
 use Rattle.plan.specs.Search.{fill_both}
 use Rattle.witness.specs.Asked.{codes_of}
 use Rattle.search.proofs.Beginning.{number-filled, filled-length}
-use borrow.Author.Rules.{rules}
 use Rattle.search.proofs.start_number.Goals as goal
 
 pub returns : goal.returns

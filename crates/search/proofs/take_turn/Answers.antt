@@ -1,39 +1,36 @@
-use Prim.Native.Nat.{ℕ, ◌+◌, ◌*◌, ◌<◌, ◌≤◌}
-use mathlib.Core.Path.{◌≡◌, refl, sym, ap, ◌∙◌, subst}
+use Prim.Native.Nat.{ℕ}
+use mathlib.Core.Path.{refl, sym, ◌∙◌, subst}
 use mathlib.Core.List.{List}
 use native.Mathlib.Omega.{arith}
-use lib.ListN.{length}
-use Rattle.tables.specs.bitmap.Bitmap.{is_on}
 use Rattle.plan.specs.Circuit.{Tables, seven}
-use Rattle.search.specs.declared.Attempt.TheVariants.{Barred, Seen, To}
+use Rattle.search.specs.declared.Attempt.TheVariants.{Barred, Seen}
 use Rattle.search.specs.Exploring.{LeftBy}
 use Rattle.search.proofs.Turning.{found-seen, tells, left-barred, meets-to, left-to}
-use borrow.Author.Rules.{rules}
 use Rattle.search.proofs.take_turn.Goals as goal
 
 pub overflow_mul-s : goal.overflow_mul-s
 overflow_mul-s c =
     omega (
-  arith,
-  c.requires.few,
-  c.requires.there,
-)
+      arith,
+      c.requires.few,
+      c.requires.there,
+    )
 
 pub offset_bounds-met-place : goal.offset_bounds-met-place
 offset_bounds-met-place c =
     omega (
-  arith,
-  c.requires.few,
-  c.requires.there,
-)
+      arith,
+      c.requires.few,
+      c.requires.there,
+    )
 
 pub bounds-met-place : goal.bounds-met-place
 bounds-met-place c =
     omega (
-  arith,
-  c.requires.rows_long,
-  c.requires.there,
-)
+      arith,
+      c.requires.rows_long,
+      c.requires.there,
+    )
 
 pub meet-requires : goal.meet-requires
 meet-requires c =

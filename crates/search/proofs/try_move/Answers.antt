@@ -1,17 +1,16 @@
 use Prim.Native.Nat.{ℕ, ◌+◌, ◌≤◌}
-use mathlib.Core.Path.{◌≡◌, refl, sym, ap, ◌∙◌, subst}
+use mathlib.Core.Path.{◌≡◌, ◌∙◌}
 use mathlib.Core.List.{List}
 use native.Mathlib.Omega.{arith}
 use borrow.Author.Tests.{not-true, not-false}
-use lib.ListN.{length, set, length-set}
+use lib.ListN.{length, length-set}
 use Rattle.plan.specs.Circuit.{Tables, circuit_of, seven}
 use Rattle.tables.specs.Held.{Scratch}
-use Rattle.step.specs.sweep.Running.{Runs, Stands, Stepped}
+use Rattle.step.specs.sweep.Running.{Runs, Stepped}
 use Rattle.step.proofs.sweep.Seeing.{sees-constraints}
 use Rattle.witness.proofs.three.Listing.{shown-asks}
 use Rattle.plan.specs.Search.{bits}
 use Rattle.search.proofs.Attempts.{try-stands, is-barred, is_seen, is-to}
-use borrow.Author.Rules.{rules}
 use Rattle.search.proofs.try_move.Goals as goal
 
 pub bounds-scratch-0 : goal.bounds-scratch-0

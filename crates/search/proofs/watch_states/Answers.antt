@@ -1,9 +1,8 @@
-use Prim.Native.Nat.{ℕ, zero, suc, ◌+◌, ◌-◌, ◌≤◌}
+use Prim.Native.Nat.{ℕ, zero, suc, ◌+◌, ◌-◌}
 use mathlib.Core.Path.{◌≡◌, refl}
 use native.Mathlib.Omega.{arith}
 use Rattle.search.proofs.Beginning.{part-rest}
 use Rattle.search.proofs.Watching.{all-searches, one-searches, all-watched, one-watched}
-use borrow.Author.Rules.{rules}
 use Rattle.search.proofs.watch_states.Goals as goal
 
 before : (w : ℕ) → (w ≡ 0 → ⊥) → w - 1 + 1 ≡ w

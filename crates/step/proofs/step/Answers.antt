@@ -9,7 +9,6 @@ use Rattle.plan.specs.Outcome.{StepEntry, check_in_order, step_stage}
 use Rattle.tables.proofs.Told.{some-table, no_table}
 use Rattle.step.proofs.Checks.{refused-by, past-check, runs, room}
 use Rattle.step.proofs.Answers.{good-vectors, refused-step, refused-vector, done-step}
-use borrow.Author.Rules.{rules}
 use Rattle.step.proofs.step.Goals as goal
 
 pub returns-then-bad-ne0 : goal.returns-then-bad-ne0
@@ -58,7 +57,7 @@ step_vectors-requires c =
     let same : length c.judge_in_order.new.scratch ≡ length c.args.scratch.now =
     c.judge_in_order.auto.scratch in
     let e = entry in
-    record { room = room e.circuit (step_stage e) (says) (told) _ (same); vectors = good-vectors e (no_table _ _ c.if-bad-ne0.false c.bad_vector-bad.ensures); }
+    record { room = room e.circuit (step_stage e) (says) (told) _ (same); vectors = good-vectors e (no_table _ _ c.if-bad-ne0.false c.bad_vector-bad.ensures) }
 
 pub returns-in-Refused : goal.returns-in-Refused
 returns-in-Refused c =

@@ -7,7 +7,6 @@ use Rattle.plan.specs.Step.{value_of}
 use Rattle.plan.specs.Circuit.{circuit_of}
 use Rattle.step.specs.sweep.Running.{these, Stands, Ready}
 use Rattle.step.proofs.Buffers.{stands, ready, stored}
-use borrow.Author.Rules.{rules}
 use Rattle.step.proofs.step_vectors.Goals as goal
 
 pub bounds-scratch-0 : goal.bounds-scratch-0

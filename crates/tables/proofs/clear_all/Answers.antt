@@ -1,5 +1,4 @@
 -- Tables 1 to 4 and 7 to 9, zero throughout. The answer is that of the call below it.
-use borrow.Author.Rules.{rules}
 use Rattle.tables.proofs.clear_all.Goals as goal
 
 pub returns : goal.returns

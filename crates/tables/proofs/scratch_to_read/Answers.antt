@@ -1,7 +1,6 @@
 -- The words of table 5 to read a file: in binary those of the marks of symbols alone. The answer is that of the call below it.
 use mathlib.Core.Path.{sym, ap, ◌∙◌}
 use mathlib.Core.Bool.{Bool}
-use borrow.Author.Rules.{rules}
 use Rattle.plan.specs.Header.{scratch_to_read}
 use Rattle.plan.specs.Outcome.{form_of}
 use Rattle.tables.proofs.scratch_to_read.Goals as goal

@@ -1,5 +1,4 @@
 -- Of two tables that bear one number the shorter. The answer is that of the call below it.
-use borrow.Author.Rules.{rules}
 use Rattle.tables.proofs.shorter.Goals as goal
 
 pub returns : goal.returns

@@ -1,6 +1,5 @@
 -- Refusal 4: the least of tables 1 to 5 and 7 to 9 that is shorter than the counts ask and, for table 5, than `needed`, or 0. The answers are given
 -- by `table1`, `table2` and `table3`.
-use borrow.Author.Rules.{rules}
 use Rattle.tables.proofs.Least.{table1, table2, table3, table4, table5, table7, table8, table9, no_table}
 use Rattle.tables.proofs.too_short.Goals as goal
 

@@ -9,7 +9,6 @@ use Rattle.plan.specs.Outcome.{LoadExit}
 use Rattle.laws.proofs.Reading.Differences.{Bytes}
 use Rattle.whole.specs.Opening.{OpenEntry}
 use Rattle.whole.proofs.Opened.{not-readable, too_long, not-read, limits, made-short, made-long}
-use borrow.Author.Rules.{rules}
 use Rattle.whole.proofs.open_file.Goals as goal
 
 pub returns-then-not-readable : goal.returns-then-not-readable

@@ -1,12 +1,9 @@
 -- How many x a list has. The loop keeps `(i ≤ length bytes) × (n ≡ x_count (take i bytes)) × (n ≤ i)`; the measure is `length bytes - i`. `count-more`
 -- and `x-small` carry it from turn to turn, and `count-all` gives the answer.
 use Prim.Native.Nat.{◌-◌, ◌≤◌}
-use mathlib.Core.Path.{◌≡◌, refl, ◌∙◌}
-use native.Mathlib.Omega.{arith}
-use lib.ListN.{length, get_or, take}
+use mathlib.Core.Path.{◌≡◌}
+use lib.ListN.{length, take}
 use Rattle.plan.specs.Fillings.{x_count}
-use Rattle.laws.proofs.Fillings.Counting.{count-more, count-all, x-small}
-use borrow.Author.Rules.{rules}
 use Rattle.witness.proofs.count_x.Given as goal
 
 abbrev pub invariant-loop-i : goal.invariant-loop-i

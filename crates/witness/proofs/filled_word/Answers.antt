@@ -1,7 +1,6 @@
 -- The word of a place of filling number k, where an x has the number x: bit x of k, 0 or 1 more than the word of 0. The answers are given by
 -- `word-0`, `word-1` and `word-bit`.
 use Rattle.witness.proofs.Words.{word-0, word-1, bit-fits, word-bit, word-other}
-use borrow.Author.Rules.{rules}
 use Rattle.witness.proofs.filled_word.Goals as goal
 
 pub returns-then-code-eq48 : goal.returns-then-code-eq48

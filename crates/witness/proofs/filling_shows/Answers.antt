@@ -29,7 +29,8 @@ shows_filled-requires c =
     let state-long : length (state_of) ≡ c.args.n.L =
     start-length c.args.resets.now c.args.n.L c.args.which c.requires.runs.fits.resets-long in
     let p = c.requires in
-    record { starts = record {
+    record {
+      starts = record {
         inputs = p.inputs;
         resets = c.args.resets.now;
         state = state_of;
@@ -37,7 +38,10 @@ shows_filled-requires c =
         scratch-long = omega (arith, p.scratch-long, c.start_filled-first.auto.t);
         state-length = state-long;
         rests = c.start_filled-first.ensures.rests;
-      }; bytes_len = p.whole; bytes_bound = omega (arith, p.few, c.start_filled-first.ensures.value); }
+      };
+      bytes_len = p.whole;
+      bytes_bound = omega (arith, p.few, c.start_filled-first.ensures.value);
+    }
 
 pub shape_of-scratch : goal.shape_of-scratch
 shape_of-scratch c = c.shows_filled.auto.scratch ∙ c.start_filled-first.auto.t

@@ -1,18 +1,12 @@
 -- Fillings are tried from 0 up, `most` of them: the number of the first that shows no 1, or `most`. The loop keeps `List`; the measure is `most -
 -- tried`.
-use Prim.Native.Nat.{ℕ, ◌-◌, ◌≤◌, ◌<◌}
-use mathlib.Core.Path.{◌≡◌, refl, sym, ◌∙◌}
+use Prim.Native.Nat.{◌-◌}
+use mathlib.Core.Path.{refl, sym, ◌∙◌}
 use mathlib.Core.Bool.{true}
-use mathlib.Core.List.{List}
 use native.Mathlib.Omega.{arith}
 use borrow.Author.Count.{below_more}
 use borrow.Author.Tests.{not-true, not-false}
-use lib.ListN.{length}
-use Rattle.plan.specs.Circuit.{circuit_of, seven}
-use Rattle.step.specs.sweep.Running.{Runs}
-use Rattle.plan.specs.Fillings.{filled_shows}
 use Rattle.witness.proofs.Attempts.{holds-again}
-use borrow.Author.Rules.{rules}
 use Rattle.witness.proofs.first_failing.Goals as goal
 
 pub loop-tried-init : goal.loop-tried-init
@@ -21,12 +15,12 @@ loop-tried-init c = (omega arith, refl, λ inputs r i h. absurd (omega arith))
 pub overflow_cast-tried : goal.overflow_cast-tried
 overflow_cast-tried c =
     record {
-  fits = omega (
-    arith,
-    c.requires.most_bound,
-    c.loop-tried-test.true,
-  );
-}
+      fits = omega (
+        arith,
+        c.requires.most_bound,
+        c.loop-tried-test.true,
+      );
+    }
 
 pub filling_shows-requires : goal.filling_shows-requires
 filling_shows-requires c =
@@ -46,12 +40,11 @@ returns-then-not-filling_shows c =
     }
 
 pub loop-tried-preserved : goal.loop-tried-preserved
-loop-tried-preserved c =
-    (
-      omega arith,
-      c.filling_shows.auto.scratch ∙ c.loop-tried.invariant.1,
-      λ inputs r. below_more _ _ (c.loop-tried.invariant.2 inputs r) (sym (c.filling_shows.ensures inputs r) ∙ not-false _ c.if-not-filling_shows.false-raw),
-    )
+loop-tried-preserved c = (
+  omega arith,
+  c.filling_shows.auto.scratch ∙ c.loop-tried.invariant.1,
+  λ inputs r. below_more _ _ (c.loop-tried.invariant.2 inputs r) (sym (c.filling_shows.ensures inputs r) ∙ not-false _ c.if-not-filling_shows.false-raw),
+)
 
 pub shape_of-scratch : goal.shape_of-scratch
 shape_of-scratch c = c.loop-tried.invariant.1

@@ -1,18 +1,13 @@
 -- Fillings are tried from 0 up, `most` of them: the number of the first that shows no 1, or `most`. The loop keeps `List`; the measure is `most -
 -- tried`.
 use Prim.Native.Nat.{ℕ, ◌-◌, ◌≤◌, ◌<◌}
-use mathlib.Core.Path.{◌≡◌, refl, sym, ◌∙◌}
+use mathlib.Core.Path.{◌≡◌}
 use mathlib.Core.Bool.{true}
 use mathlib.Core.List.{List}
-use native.Mathlib.Omega.{arith}
-use borrow.Author.Count.{below_more}
-use borrow.Author.Tests.{not-true, not-false}
 use lib.ListN.{length}
 use Rattle.plan.specs.Circuit.{circuit_of, seven}
 use Rattle.step.specs.sweep.Running.{Runs}
 use Rattle.plan.specs.Fillings.{filled_shows}
-use Rattle.witness.proofs.Attempts.{holds-again}
-use borrow.Author.Rules.{rules}
 use Rattle.witness.proofs.first_failing.Given as goal
 
 abbrev pub invariant-loop-tried : goal.invariant-loop-tried

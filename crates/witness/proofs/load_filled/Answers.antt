@@ -1,18 +1,14 @@
 -- A vector of filling number k goes into words from `first` on; x is the number of its first x. The loop keeps `Filled`; the measure is `length codes
 -- - i`. `count-more`, `filled_more` and `filled_word` carry it from turn to turn, and `filled-all`, `filled-words` and `count-all` give the answer.
-use Prim.Native.Nat.{ℕ, ◌+◌, ◌-◌, ◌≤◌}
-use mathlib.Core.Path.{◌≡◌, sym, ap, ◌∙◌}
+use Prim.Native.Nat.{ℕ, ◌+◌, ◌-◌}
+use mathlib.Core.Path.{sym, ap, ◌∙◌}
 use native.Mathlib.Nat.{add-zero}
 use native.Mathlib.Omega.{arith}
-use lib.ListN.{length, get_or, take}
-use Rattle.plan.specs.Step.{value_of}
-use Rattle.plan.specs.Fillings.{x_count, fill_from}
+use lib.ListN.{length, get_or}
 use Rattle.plan.specs.Outcome.{put}
-use Rattle.step.specs.values.Words.{word}
-use Rattle.step.proofs.values.Filling.{Filled, filled_none, filled_more, filled-all}
+use Rattle.step.proofs.values.Filling.{filled_none, filled_more, filled-all}
 use Rattle.laws.proofs.Fillings.Counting.{count-more, count-all, count-take, x-small}
 use Rattle.witness.proofs.Words.{filled_word, filled-word-at, filled-words}
-use borrow.Author.Rules.{rules}
 use Rattle.witness.proofs.load_filled.Goals as goal
 
 pub loop-i-init : goal.loop-i-init
@@ -56,5 +52,8 @@ shape_of-t c = c.loop-i.invariant.2.same
 
 pub returns : goal.returns
 returns c =
-    record { t_after = filled-all _ _ _ (length c.args.codes.now) c.loop-i.i c.loop-i.t c.loop-i.invariant.2 (omega arith)
-          ∙ ap (put c.args.t.now c.args.first) (filled-words c.args.k c.args.x c.args.codes.now); value = c.loop-i.invariant.1 ∙ ap (λ (n : ℕ). c.args.x + n) (count-all c.args.codes.now c.loop-i.i c.loop-i-test.false); }
+    record {
+      t_after = filled-all _ _ _ (length c.args.codes.now) c.loop-i.i c.loop-i.t c.loop-i.invariant.2 (omega arith)
+          ∙ ap (put c.args.t.now c.args.first) (filled-words c.args.k c.args.x c.args.codes.now);
+      value = c.loop-i.invariant.1 ∙ ap (λ (n : ℕ). c.args.x + n) (count-all c.args.codes.now c.loop-i.i c.loop-i-test.false);
+    }

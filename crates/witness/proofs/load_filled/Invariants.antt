@@ -1,18 +1,12 @@
 -- A vector of filling number k goes into words from `first` on; x is the number of its first x. The loop keeps `Filled`; the measure is `length codes
 -- - i`. `count-more`, `filled_more` and `filled_word` carry it from turn to turn, and `filled-all`, `filled-words` and `count-all` give the answer.
-use Prim.Native.Nat.{ℕ, ◌+◌, ◌-◌, ◌≤◌}
-use mathlib.Core.Path.{◌≡◌, sym, ap, ◌∙◌}
-use native.Mathlib.Nat.{add-zero}
-use native.Mathlib.Omega.{arith}
+use Prim.Native.Nat.{◌+◌, ◌-◌, ◌≤◌}
+use mathlib.Core.Path.{◌≡◌}
 use lib.ListN.{length, get_or, take}
 use Rattle.plan.specs.Step.{value_of}
 use Rattle.plan.specs.Fillings.{x_count, fill_from}
-use Rattle.plan.specs.Outcome.{put}
 use Rattle.step.specs.values.Words.{word}
-use Rattle.step.proofs.values.Filling.{Filled, filled_none, filled_more, filled-all}
-use Rattle.laws.proofs.Fillings.Counting.{count-more, count-all, count-take, x-small}
-use Rattle.witness.proofs.Words.{filled_word, filled-word-at, filled-words}
-use borrow.Author.Rules.{rules}
+use Rattle.step.proofs.values.Filling.{Filled}
 use Rattle.witness.proofs.load_filled.Given as goal
 
 abbrev pub invariant-loop-i : goal.invariant-loop-i

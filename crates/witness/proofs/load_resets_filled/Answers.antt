@@ -1,20 +1,17 @@
 -- The same of n resets, whose x are numbered from 0. The loop keeps `Filled`; the measure is `n - i`. `code_at`, `count-more` and `codes-length`
 -- carry it from turn to turn, and `filled-all`, `codes-length` and `filled-words` give the answer.
-use Prim.Native.Nat.{ℕ, ◌+◌, ◌-◌, ◌≤◌}
+use Prim.Native.Nat.{ℕ, ◌-◌}
 use mathlib.Core.Path.{◌≡◌, refl, ap, ◌∙◌}
 use mathlib.Core.List.{List}
 use native.Mathlib.Nat.{zero-add}
 use native.Mathlib.Omega.{arith}
-use lib.ListN.{length, get_or, take}
-use Rattle.plan.specs.Step.{value_of}
+use lib.ListN.{length, get_or}
 use Rattle.plan.specs.Outcome.{put}
-use Rattle.step.specs.values.Words.{word}
-use Rattle.step.proofs.values.Filling.{Filled, filled_none, filled_more, filled-all}
-use Rattle.plan.specs.Fillings.{x_of, x_count, filling}
+use Rattle.step.proofs.values.Filling.{filled_none, filled_more, filled-all}
+use Rattle.plan.specs.Fillings.{x_of}
 use Rattle.laws.proofs.Fillings.Counting.{count-more, count-all, count-take, x-small}
 use Rattle.witness.specs.Asked.{codes_of}
 use Rattle.witness.proofs.Words.{filled_word, codes-length, code_at, filled-word-at, filled-words}
-use borrow.Author.Rules.{rules}
 use Rattle.witness.proofs.load_resets_filled.Goals as goal
 
 pub loop-i-init : goal.loop-i-init
@@ -93,5 +90,8 @@ returns c =
     let long : length (codes) ≡ c.args.n =
     codes-length c.args.resets.now c.args.n c.requires.n_in_bounds in
     let left = c.loop-i-test.false in
-    record { t_after = filled-all _ _ _ (length (codes)) c.loop-i.i c.loop-i.t c.loop-i.invariant.2 (omega (arith, long, left, c.loop-i.invariant.0))
-          ∙ ap (put c.args.t.now c.args.first) (filled-words c.args.k 0 (codes)); value = c.loop-i.invariant.1 ∙ (zero-add _ ∙ count-all (codes) c.loop-i.i (omega (arith, long, left))); }
+    record {
+      t_after = filled-all _ _ _ (length (codes)) c.loop-i.i c.loop-i.t c.loop-i.invariant.2 (omega (arith, long, left, c.loop-i.invariant.0))
+          ∙ ap (put c.args.t.now c.args.first) (filled-words c.args.k 0 (codes));
+      value = c.loop-i.invariant.1 ∙ (zero-add _ ∙ count-all (codes) c.loop-i.i (omega (arith, long, left)));
+    }

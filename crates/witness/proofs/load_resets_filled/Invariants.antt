@@ -1,20 +1,13 @@
 -- The same of n resets, whose x are numbered from 0. The loop keeps `Filled`; the measure is `n - i`. `code_at`, `count-more` and `codes-length`
 -- carry it from turn to turn, and `filled-all`, `codes-length` and `filled-words` give the answer.
-use Prim.Native.Nat.{ℕ, ◌+◌, ◌-◌, ◌≤◌}
-use mathlib.Core.Path.{◌≡◌, refl, ap, ◌∙◌}
-use mathlib.Core.List.{List}
-use native.Mathlib.Nat.{zero-add}
-use native.Mathlib.Omega.{arith}
-use lib.ListN.{length, get_or, take}
+use Prim.Native.Nat.{◌+◌, ◌-◌, ◌≤◌}
+use mathlib.Core.Path.{◌≡◌}
+use lib.ListN.{get_or, take}
 use Rattle.plan.specs.Step.{value_of}
-use Rattle.plan.specs.Outcome.{put}
 use Rattle.step.specs.values.Words.{word}
-use Rattle.step.proofs.values.Filling.{Filled, filled_none, filled_more, filled-all}
-use Rattle.plan.specs.Fillings.{x_of, x_count, filling}
-use Rattle.laws.proofs.Fillings.Counting.{count-more, count-all, count-take, x-small}
+use Rattle.step.proofs.values.Filling.{Filled}
+use Rattle.plan.specs.Fillings.{x_count, filling}
 use Rattle.witness.specs.Asked.{codes_of}
-use Rattle.witness.proofs.Words.{filled_word, codes-length, code_at, filled-word-at, filled-words}
-use borrow.Author.Rules.{rules}
 use Rattle.witness.proofs.load_resets_filled.Given as goal
 
 abbrev pub invariant-loop-i : goal.invariant-loop-i

@@ -1,7 +1,7 @@
 -- Whether filling number `which` of a list, whose bytes are good and whose first x has the number `first`, shows 1 on some output or bad state from
 -- the state that scratch holds, every constraint being 1 there and at all steps before. The loop keeps `List`; the measure is `number - k`.
 -- `next_row`, `next-x` and `going_on` carry it from turn to turn, and `none-counts`, `fill-length` and `vector-stands` give the answer.
-use Prim.Native.Nat.{ℕ, ◌+◌, ◌*◌, ◌-◌, ◌≤◌}
+use Prim.Native.Nat.{ℕ, ◌+◌, ◌-◌, ◌≤◌}
 use mathlib.Core.Path.{◌≡◌, refl, sym, ◌∙◌}
 use mathlib.Core.List.{List, map}
 use native.Mathlib.Nat.{mul-zero, add-zero}
@@ -16,12 +16,11 @@ use Rattle.tables.specs.Held.{Scratch}
 use Rattle.step.specs.values.Words.{words}
 use Rattle.step.specs.sweep.Running.{Runs, Rests, Stepped}
 use Rattle.step.proofs.sweep.Seeing.{sees-constraints}
-use Rattle.witness.proofs.three.Listing.{Turn, Going, part-short, vector_of, going-first, vector-ends, vector-stands, vector-ready}
+use Rattle.witness.proofs.three.Listing.{Turn, part-short, vector_of, going-first, vector-ends, vector-stands, vector-ready}
 use Rattle.witness.proofs.three.Listing.{shown-asks, none-counts, found-one, going_on, none-shown}
-use Rattle.plan.specs.Fillings.{x_count, fill_from}
+use Rattle.plan.specs.Fillings.{fill_from}
 use Rattle.laws.proofs.Fillings.Numbering.{fill-length}
 use Rattle.witness.proofs.Vectors.{filled-vector, next-x, few-x}
-use borrow.Author.Rules.{rules}
 use Rattle.witness.proofs.shows_filled.Goals as goal
 
 pub overflow_add-lits : goal.overflow_add-lits
@@ -195,8 +194,7 @@ loop-k-preserved c =
     filled-vector x.first c.loop-k.at x.n.I c.loop-k.x x.bytes.now c.loop-k.invariant.3 x.which c.loop-k.scratch _ c.load_filled-x.ensures.t_after in
     let after : (inputs resets : List ℕ) (s : List Value) → let n = c.args.n in (r : Runs n (tables_of inputs resets)) (l : length s ≡ n.L) (z : Rests n s c.args.scratch.now) → Stepped n (circuit_of n (tables_of inputs resets)) (c.loop-k.invariant.4 inputs resets s r l z).state (vector_of (turn)) c.step_values.new.t =
     λ inputs resets s r l z. c.step_values.ensures (tables_of inputs resets) _ _ r
-    (vector-stands (turn) r (room) (c.loop-k.invariant.4 inputs resets s r l z) (vector)) in
-    (
+    (vector-stands (turn) r (room) (c.loop-k.invariant.4 inputs resets s r l z) (vector)) in (
       omega arith,
       next_row c.args.n.I c.loop-k.k c.loop-k.at c.loop-k.invariant.1,
       same,

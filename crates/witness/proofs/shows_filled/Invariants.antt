@@ -2,26 +2,14 @@
 -- the state that scratch holds, every constraint being 1 there and at all steps before. The loop keeps `List`; the measure is `number - k`.
 -- `next_row`, `next-x` and `going_on` carry it from turn to turn, and `none-counts`, `fill-length` and `vector-stands` give the answer.
 use Prim.Native.Nat.{ℕ, ◌+◌, ◌*◌, ◌-◌, ◌≤◌}
-use mathlib.Core.Path.{◌≡◌, refl, sym, ◌∙◌}
-use mathlib.Core.List.{List, map}
-use native.Mathlib.Nat.{mul-zero, add-zero}
-use native.Mathlib.Omega.{arith}
-use borrow.Author.Tests.{not-true, not-false}
-use lib.ListN.{length, take, drop}
-use Rattle.plan.specs.Circuit.{Tables, circuit_of, seven}
-use Rattle.plan.specs.Step.{Value, value_of}
-use Rattle.plan.specs.Outcome.{put}
-use Rattle.laws.proofs.Tables.{next_row}
-use Rattle.tables.specs.Held.{Scratch}
-use Rattle.step.specs.values.Words.{words}
-use Rattle.step.specs.sweep.Running.{Runs, Rests, Stepped}
-use Rattle.step.proofs.sweep.Seeing.{sees-constraints}
-use Rattle.witness.proofs.three.Listing.{Turn, Going, part-short, vector_of, going-first, vector-ends, vector-stands, vector-ready}
-use Rattle.witness.proofs.three.Listing.{shown-asks, none-counts, found-one, going_on, none-shown}
+use mathlib.Core.Path.{◌≡◌}
+use mathlib.Core.List.{List}
+use lib.ListN.{length, take}
+use Rattle.plan.specs.Circuit.{circuit_of, seven}
+use Rattle.plan.specs.Step.{Value}
+use Rattle.step.specs.sweep.Running.{Runs, Rests}
+use Rattle.witness.proofs.three.Listing.{Going}
 use Rattle.plan.specs.Fillings.{x_count, fill_from}
-use Rattle.laws.proofs.Fillings.Numbering.{fill-length}
-use Rattle.witness.proofs.Vectors.{filled-vector, next-x, few-x}
-use borrow.Author.Rules.{rules}
 use Rattle.witness.proofs.shows_filled.Given as goal
 
 abbrev pub invariant-loop-k : goal.invariant-loop-k

@@ -20,10 +20,13 @@ overflow_add-n c = omega (arith, c.requires.room)
 pub load_resets_filled-requires : goal.load_resets_filled-requires
 load_resets_filled-requires c =
     let a = c.args in
-    record { n_in_bounds = c.requires.resets-long; loads = record {
+    record {
+      n_in_bounds = c.requires.resets-long;
+      loads = record {
         room = omega (arith, c.requires.room, codes-length a.resets.now a.n.L c.requires.resets-long, length-set a.t.now 0 1);
         few = omega (arith, c.requires.few);
-      }; }
+      };
+    }
 
 pub shape_of-t : goal.shape_of-t
 shape_of-t c = c.load_resets_filled.auto.t ∙ length-set c.args.t.now 0 1
@@ -31,6 +34,9 @@ shape_of-t c = c.load_resets_filled.auto.t ∙ length-set c.args.t.now 0 1
 pub returns : goal.returns
 returns c =
     let a = c.args in
-    record { rests = rests-loaded a.n (set a.t.now 0 1) (map value_of (filling a.k (codes_of a.resets.now a.n.L))) _
+    record {
+      rests = rests-loaded a.n (set a.t.now 0 1) (map value_of (filling a.k (codes_of a.resets.now a.n.L))) _
           (constant-set a.t.now (omega (arith, c.requires.room))) (omega (arith, c.requires.room, length-set a.t.now 0 1))
-          (start-length a.resets.now a.n.L a.k c.requires.resets-long) c.load_resets_filled.ensures.t_after; value = c.load_resets_filled.ensures.value; }
+          (start-length a.resets.now a.n.L a.k c.requires.resets-long) c.load_resets_filled.ensures.t_after;
+      value = c.load_resets_filled.ensures.value;
+    }

@@ -9,7 +9,6 @@ use Rattle.plan.specs.Fillings.{x_count, asked, filled_shows}
 use Rattle.laws.proofs.Fillings.Numbering.{count-append}
 use Rattle.witness.specs.Asked.{codes_of}
 use Rattle.witness.proofs.Attempts.{total-is, total-small, found-no, found-yes, found-cut}
-use borrow.Author.Rules.{rules}
 use Rattle.witness.proofs.try_fillings.Goals as goal
 
 pub overflow_shl-total : goal.overflow_shl-total
@@ -22,7 +21,7 @@ pub first_failing-failing-requires : goal.first_failing-failing-requires
 first_failing-failing-requires c =
     let few : c.args.xs ≤ 20 =
     omega (arith, c.requires.holds.few, c.requires.xs_value) in
-    record { holds = c.requires.holds; most_bound = omega (arith, c.lesser-most.ensures, total-is c.args.xs (few), total-small c.args.xs (few)); }
+    record { holds = c.requires.holds; most_bound = omega (arith, c.lesser-most.ensures, total-is c.args.xs (few), total-small c.args.xs (few)) }
 
 pub returns-then-failing-most : goal.returns-then-failing-most
 returns-then-failing-most c =

@@ -24,7 +24,6 @@ use Rattle.witness.specs.Asked.{codes_of}
 use Rattle.witness.proofs.Words.{codes-length}
 use Rattle.step.proofs.Beyond.{refused-by, past-check}
 use Rattle.witness.proofs.Verdicts.{more, refused-filled, refused-list, refused-x, found-filled}
-use borrow.Author.Rules.{rules}
 use Rattle.witness.proofs.witness.Goals as goal
 
 pub returns-then-not-whole_list : goal.returns-then-not-whole_list
@@ -181,13 +180,16 @@ try_fillings-found-requires c =
     let counted : let a = c.args in c.count_resets.result + c.count_x.result ≡ x_count (codes_of a.resets.now a.n.L) + x_count a.bytes.now =
     ap₂ (λ (i j : ℕ). i + j) c.count_resets.ensures c.count_x.ensures in
     let e = entry in
-    record { holds = record {
+    record {
+      holds = record {
         inputs = c.args.inputs.now;
         runs = holds;
         scratch-long = long;
         whole = good-list e.list (whole-told);
         few = omega (arith, counted, c.if-xs-gt-MOST_X.false);
-      }; xs_value = counted; }
+      };
+      xs_value = counted;
+    }
 
 pub returns-in-Refused : goal.returns-in-Refused
 returns-in-Refused c =

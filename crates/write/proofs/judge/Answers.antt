@@ -6,7 +6,6 @@ use Rattle.plan.specs.Given.{tail_stage}
 use Rattle.plan.specs.Outcome.{checked_by}
 use Rattle.write.specs.Judged.{given_in, table_stages}
 use Rattle.write.proofs.Judging.{refused-before, good-before, good-tables, marks-hold, marks-blank}
-use borrow.Author.Rules.{rules}
 use Rattle.write.proofs.judge.Goals as goal
 
 pub check-answer-requires : goal.check-answer-requires
@@ -17,7 +16,7 @@ check-answer-requires c =
     let says = c.check_tables.ensures.value in
     let blank = c.check_tables.ensures.scratch_after in
     let good = good-tables a.ordered g says c.in-Good.is in
-    record { holds = marks-hold a.ordered g good _ blank; blank = marks-blank a.ordered g good _ blank; }
+    record { holds = marks-hold a.ordered g good _ blank; blank = marks-blank a.ordered g good _ blank }
 
 pub returns-in-Refused : goal.returns-in-Refused
 returns-in-Refused c =
@@ -26,7 +25,7 @@ returns-in-Refused c =
     a.scratch.now in
     let says = c.check_tables.ensures.value in
     let blank = c.check_tables.ensures.scratch_after in
-    record { value = sym (ap checked_by (refused-before (table_stages a.ordered g) (tail_stage g a.tail.now) says _ c.in-Refused.is)); scratch_after = blank; }
+    record { value = sym (ap checked_by (refused-before (table_stages a.ordered g) (tail_stage g a.tail.now) says _ c.in-Refused.is)); scratch_after = blank }
 
 pub returns-in-Good : goal.returns-in-Good
 returns-in-Good c =
@@ -35,6 +34,9 @@ returns-in-Good c =
     a.scratch.now in
     let says = c.check_tables.ensures.value in
     let blank = c.check_tables.ensures.scratch_after in
-    record { value = c.check-answer.ensures
-          ∙ sym (ap checked_by (good-before (table_stages a.ordered g) (tail_stage g a.tail.now) says c.in-Good.is)); scratch_after = c.clear.ensures ∙ ap (λ (k : ℕ). replicate k 0)
-          (c.check-answer.auto.marks ∙ c.check_tables.auto.scratch); }
+    record {
+      value = c.check-answer.ensures
+          ∙ sym (ap checked_by (good-before (table_stages a.ordered g) (tail_stage g a.tail.now) says c.in-Good.is));
+      scratch_after = c.clear.ensures ∙ ap (λ (k : ℕ). replicate k 0)
+          (c.check-answer.auto.marks ∙ c.check_tables.auto.scratch);
+    }

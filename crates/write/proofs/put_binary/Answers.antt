@@ -2,7 +2,6 @@
 use borrow.Author.Tests.{not-true, not-false}
 use Rattle.write.specs.forms.Forms.{binary_bytes}
 use Rattle.write.proofs.Answers.{no_room, form-fits, tail-fits, all-put}
-use borrow.Author.Rules.{rules}
 use Rattle.write.proofs.put_binary.Goals as goal
 
 pub returns-then-not-holds : goal.returns-then-not-holds
@@ -18,7 +17,7 @@ fill_binary-end-requires c =
     let bytes = binary_bytes a.n a.latches.now a.outputs.now a.gates.now a.resets.now a.bads.now a.constraints.now in
     let fits = form-fits bytes a.tail.now a.out.now c.binary_length-binary.ensures c.holds.ensures
     (not-false _ c.if-not-holds.false-raw) in
-    record { printable = c.requires; constraints_in_bounds = fits; }
+    record { printable = c.requires; constraints_in_bounds = fits }
 
 pub append-requires : goal.append-requires
 append-requires c =

@@ -10,7 +10,6 @@ use Rattle.write.specs.Judged.{given_in, writer_stages}
 use Rattle.write.proofs.Parts.{printable, binary-parts}
 use Rattle.write.proofs.Judging.{refused-before, good-before, good-judged}
 use Rattle.write.proofs.Writing.{refused-file, written-file}
-use borrow.Author.Rules.{rules}
 use Rattle.write.proofs.write_binary.Goals as goal
 
 pub put_binary-requires : goal.put_binary-requires

@@ -1,6 +1,5 @@
 -- The values are 1 for yes, 0 for no or 2 for undecided, and how many fillings were tried. Each answer is given by `refusal-told`.
 use mathlib.Core.Path.{refl, sym, ap, ◌∙◌}
-use borrow.Author.Rules.{rules}
 use Rattle.plan.specs.Outcome.{finding_values}
 use Rattle.answers.proofs.numbers.Refused.{refusal-told}
 use Rattle.answers.proofs.findings.finding.Goals as goal

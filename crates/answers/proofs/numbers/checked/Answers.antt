@@ -1,6 +1,5 @@
 -- Each answer is given by `refusal-told`.
 use mathlib.Core.Path.{refl, sym, ap, ◌∙◌}
-use borrow.Author.Rules.{rules}
 use Rattle.plan.specs.Outcome.{checked_values}
 use Rattle.answers.proofs.numbers.Refused.{refusal-told}
 use Rattle.answers.proofs.numbers.checked.Goals as goal

@@ -1,6 +1,5 @@
 -- The values are M, I, L, O, A, B, C of the circuit made. Each answer is given by `refusal-told`.
 use mathlib.Core.Path.{sym, ap, ◌∙◌}
-use borrow.Author.Rules.{rules}
 use Rattle.plan.specs.Outcome.{made_values}
 use Rattle.answers.proofs.numbers.Refused.{refusal-told}
 use Rattle.answers.proofs.numbers.made.Goals as goal

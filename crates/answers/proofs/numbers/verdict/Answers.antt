@@ -1,6 +1,5 @@
 -- The value is 1 for yes, 0 for no. Each answer is given by `refusal-told`.
 use mathlib.Core.Path.{refl, sym, ap, ◌∙◌}
-use borrow.Author.Rules.{rules}
 use Rattle.plan.specs.Outcome.{verdict_values}
 use Rattle.answers.proofs.numbers.Refused.{refusal-told}
 use Rattle.answers.proofs.numbers.verdict.Goals as goal

@@ -1,6 +1,5 @@
 -- The value is the number of bytes written. Each answer is given by `refusal-told`.
 use mathlib.Core.Path.{refl, sym, ap, ◌∙◌}
-use borrow.Author.Rules.{rules}
 use Rattle.plan.specs.Outcome.{written_values}
 use Rattle.answers.proofs.numbers.Refused.{refusal-told}
 use Rattle.answers.proofs.numbers.written.Goals as goal

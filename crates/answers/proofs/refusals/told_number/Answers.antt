@@ -1,6 +1,5 @@
 use mathlib.Core.Path.{sym, ap}
 use Rattle.plan.specs.Refusals.{number_of}
-use borrow.Author.Rules.{rules}
 use Rattle.answers.proofs.refusals.told_number.Goals as goal
 
 pub returns-in-WrongByte : goal.returns-in-WrongByte

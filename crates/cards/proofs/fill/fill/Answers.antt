@@ -1,5 +1,4 @@
 -- Each table in turn; next states are spread to latches.
-use borrow.Author.Rules.{rules}
 use Prim.Native.Nat.{ℕ, ◌+◌}
 use mathlib.Core.Path.{ap, ◌∙◌}
 use mathlib.Core.List.{map}
@@ -30,7 +29,7 @@ overflow_cast-n-2 c = let p = c.requires in omega (arith, p.most-M, p.sum)
 pub fill_gates-requires : goal.fill_gates-requires
 fill_gates-requires c =
     let p = c.requires in
-    record { n_in_bounds = omega (arith, p.size, c.gates_at.ensures); n_in_bounds_2 = p.gates-long; n_bound = omega (arith, p.most-M, p.sum); }
+    record { n_in_bounds = omega (arith, p.size, c.gates_at.ensures); n_in_bounds_2 = p.gates-long; n_bound = omega (arith, p.most-M, p.sum) }
 
 pub shape_of-inputs : goal.shape_of-inputs
 shape_of-inputs c = c.run_on.auto.table

@@ -1,11 +1,10 @@
 -- A turn adds one gate.
-use borrow.Author.Rules.{rules}
 use Prim.Native.Nat.{◌+◌, ◌-◌}
 use mathlib.Core.Path.{◌∙◌}
 use native.Mathlib.Omega.{arith}
 use lib.ListN.{length-set}
 use Rattle.lines.proofs.gates.Words.{lit_is}
-use Rattle.cards.proofs.fill.Filling.{Gated, none-gated, one-gated, all-gated}
+use Rattle.cards.proofs.fill.Filling.{none-gated, one-gated, all-gated}
 use Rattle.cards.proofs.fill.fill_gates.Goals as goal
 
 pub loop-i-init : goal.loop-i-init

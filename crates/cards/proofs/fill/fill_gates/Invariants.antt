@@ -1,11 +1,6 @@
 -- A turn adds one gate.
-use borrow.Author.Rules.{rules}
-use Prim.Native.Nat.{◌+◌, ◌-◌}
-use mathlib.Core.Path.{◌∙◌}
-use native.Mathlib.Omega.{arith}
-use lib.ListN.{length-set}
-use Rattle.lines.proofs.gates.Words.{lit_is}
-use Rattle.cards.proofs.fill.Filling.{Gated, none-gated, one-gated, all-gated}
+use Prim.Native.Nat.{◌-◌}
+use Rattle.cards.proofs.fill.Filling.{Gated}
 use Rattle.cards.proofs.fill.fill_gates.Given as goal
 
 abbrev pub invariant-loop-i : goal.invariant-loop-i

@@ -1,7 +1,6 @@
 -- A turn adds one number.
-use borrow.Author.Rules.{rules}
 use Prim.Native.Nat.{◌-◌}
-use Rattle.cards.proofs.fill.Filling.{Worded, none-worded, one-worded, all-worded}
+use Rattle.cards.proofs.fill.Filling.{Worded}
 use Rattle.cards.proofs.fill.fill_words.Given as goal
 
 abbrev pub invariant-loop-i : goal.invariant-loop-i

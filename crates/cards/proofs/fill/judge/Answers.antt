@@ -14,7 +14,7 @@ in_binary_order-in_order-requires c = long-tables c.requires
 pub out_of_range-out-requires : goal.out_of_range-out-requires
 out_of_range-out-requires c =
     let a = c.args in
-    record { fits = c.requires; constraints_value = λ e. sym (c.in_binary_order-in_order.ensures a.outputs.now a.resets.now a.bads.now a.constraints.now) ∙ e; }
+    record { fits = c.requires; constraints_value = λ e. sym (c.in_binary_order-in_order.ensures a.outputs.now a.resets.now a.bads.now a.constraints.now) ∙ e }
 
 pub returns-then-out-ne0 : goal.returns-then-out-ne0
 returns-then-out-ne0 c =

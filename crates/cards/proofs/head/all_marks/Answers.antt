@@ -1,5 +1,4 @@
 -- The first of the four parts that has a wrong mark.
-use borrow.Author.Rules.{rules}
 use mathlib.Core.Path.{sym, ◌∙◌}
 use Rattle.plan.specs.Cards.{outputs_at, gates_at}
 use Rattle.cards.proofs.head.Told.{part-told, in_head, in-latches, in-outputs, in-gates}

@@ -3,7 +3,6 @@ use mathlib.Core.Path.{ap, ◌∙◌}
 use Rattle.plan.specs.declared.Refusal.TheVariants.{WrongByte}
 use Rattle.plan.specs.Cards.{card_bytes, bad_length}
 use Rattle.cards.proofs.head.Told.{found, nothing, too_small, ends-early, goes_on_lem, ends-right}
-use borrow.Author.Rules.{rules}
 use Rattle.cards.proofs.head.check_length.Goals as goal
 
 pub returns-then-size-lt22 : goal.returns-then-size-lt22

@@ -16,7 +16,6 @@ use Rattle.tables.proofs.Told.{some-table, no_table}
 use Rattle.plan.specs.Cards.{counts_at, counts_placed, card_bytes, bad_length, wrong_marks}
 use Rattle.cards.proofs.Laws.Exactly.{length_none}
 use Rattle.cards.proofs.head.Told.{was-nothing, head-1, head-18, head-2, head-3, head-good, large-placed, none-large}
-use borrow.Author.Rules.{rules}
 use Rattle.cards.proofs.head.read_head.Goals as goal
 
 pub returns-in-Refused : goal.returns-in-Refused
@@ -34,7 +33,7 @@ pub all_marks-marks-requires : goal.all_marks-marks-requires
 all_marks-marks-requires c =
     let f = c.args.file.now in
     let e = length_none f (was-nothing WrongByte (bad_length f) (sym c.check_length-length.ensures ∙ c.in_default.is)) in
-    record { within = c.counts_at-n.ensures.within; file_len = e ∙ ap card_bytes (sym c.counts_at-n.ensures.value); }
+    record { within = c.counts_at-n.ensures.within; file_len = e ∙ ap card_bytes (sym c.counts_at-n.ensures.value) }
 
 pub returns-in-Refused-marks : goal.returns-in-Refused-marks
 returns-in-Refused-marks c =

@@ -1,5 +1,4 @@
 -- The head, then the three parts, each after the one before.
-use borrow.Author.Rules.{rules}
 use mathlib.Core.Path.{◌≡◌, ap, ◌∙◌}
 use mathlib.Core.List.{◌++◌, append_assoc}
 use native.Mathlib.Omega.{arith}
@@ -12,18 +11,22 @@ use Rattle.cards.proofs.put.fill_cards.Goals as goal
 
 pub put_outputs-first_gate-requires : goal.put_outputs-first_gate-requires
 put_outputs-first_gate-requires c =
-    record { n_in_bounds = omega (
+    record {
+      n_in_bounds = omega (
         arith,
         c.requires.n_in_bounds,
         c.put_head-first_latch.ensures.value,
         c.put_latches-first_output.ensures.value,
         c.put_head-first_latch.auto.out,
         c.put_latches-first_output.auto.out,
-      ); n_in_bounds_2 = c.requires.cardable.outputs-long; }
+      );
+      n_in_bounds_2 = c.requires.cardable.outputs-long;
+    }
 
 pub put_gates-requires : goal.put_gates-requires
 put_gates-requires c =
-    record { n_in_bounds = omega (
+    record {
+      n_in_bounds = omega (
         arith,
         c.requires.n_in_bounds,
         c.put_head-first_latch.ensures.value,
@@ -32,7 +35,9 @@ put_gates-requires c =
         c.put_head-first_latch.auto.out,
         c.put_latches-first_output.auto.out,
         c.put_outputs-first_gate.auto.out,
-      ); n_in_bounds_2 = c.requires.cardable.gates-long; }
+      );
+      n_in_bounds_2 = c.requires.cardable.gates-long;
+    }
 
 pub returns : goal.returns
 returns c =
@@ -64,4 +69,4 @@ returns c =
     (omega arith) in
     let grouped : ((head_card n ++ lats) ++ outs) ++ gs ≡ head_card n ++ (lats ++ (outs ++ gs))
     = append_assoc (head_card n ++ lats) outs gs ∙ append_assoc (head_card n) lats (outs ++ gs) in
-    record { value = omega (arith, c.put_head-first_latch.ensures.value, c.put_latches-first_output.ensures.value, c.put_outputs-first_gate.ensures.value, c.put_gates.ensures.value); out_after = e4 ∙ ap (put a.out.now 0) grouped; }
+    record { value = omega (arith, c.put_head-first_latch.ensures.value, c.put_latches-first_output.ensures.value, c.put_outputs-first_gate.ensures.value, c.put_gates.ensures.value); out_after = e4 ∙ ap (put a.out.now 0) grouped }

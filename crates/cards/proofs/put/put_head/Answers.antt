@@ -3,7 +3,6 @@ use mathlib.Core.List.{◌++◌}
 use native.Mathlib.Omega.{arith}
 use Rattle.plan.specs.Cards.{mark_bytes, word_bytes}
 use Rattle.cards.proofs.put.Putting.{two-parts}
-use borrow.Author.Rules.{rules}
 use Rattle.cards.proofs.put.put_head.Goals as goal
 
 pub returns : goal.returns
@@ -20,4 +19,4 @@ returns c =
     let e4 = two-parts out _ _ b3 (word_bytes a.o) 0 c.put_word-third.result e3 (omega (arith, c.put_card-first.ensures.value, c.put_word-second.ensures.value, c.put_word-third.ensures.value)) c.put_word-fourth.ensures.out_after (omega arith) in
     let e5 = two-parts out _ _ b4 (word_bytes a.a) 0 c.put_word-fourth.result e4 (omega (arith, c.put_card-first.ensures.value, c.put_word-second.ensures.value, c.put_word-third.ensures.value, c.put_word-fourth.ensures.value)) c.put_word.ensures.out_after
     (omega arith) in
-    record { value = omega (arith, c.put_card-first.ensures.value, c.put_word-second.ensures.value, c.put_word-third.ensures.value, c.put_word-fourth.ensures.value, c.put_word.ensures.value); out_after = e5; }
+    record { value = omega (arith, c.put_card-first.ensures.value, c.put_word-second.ensures.value, c.put_word-third.ensures.value, c.put_word-fourth.ensures.value, c.put_word.ensures.value); out_after = e5 }

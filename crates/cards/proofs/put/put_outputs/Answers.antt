@@ -1,5 +1,4 @@
 -- A turn puts one record.
-use borrow.Author.Rules.{rules}
 use Prim.Native.Nat.{ℕ, ◌+◌, ◌-◌}
 use mathlib.Core.Path.{refl}
 use mathlib.Core.List.{◌++◌}
@@ -7,7 +6,7 @@ use native.Mathlib.Omega.{arith}
 use lib.ListN.{get_or}
 use Rattle.plan.specs.Cards.{mark_bytes, word_bytes}
 use Rattle.cards.specs.put.Parts.{output_cards}
-use Rattle.cards.proofs.put.Putting.{Put, none-put, one-put, all-put, outputs-more, outputs-size}
+use Rattle.cards.proofs.put.Putting.{none-put, one-put, all-put, outputs-more, outputs-size}
 use Rattle.cards.proofs.put.put_outputs.Goals as goal
 
 pub loop-i-init : goal.loop-i-init
@@ -31,4 +30,4 @@ returns c =
     let a = c.args in
     let t = a.outputs.now in
     let all = all-put a.out.now a.at (λ (k : ℕ). output_cards k t) a.n c.loop-i.out c.loop-i.next c.loop-i.i c.loop-i.invariant c.loop-i-test.false in
-    record { value = omega (arith, all.0, outputs-size t a.n c.requires.n_in_bounds_2); out_after = all.1; }
+    record { value = omega (arith, all.0, outputs-size t a.n c.requires.n_in_bounds_2); out_after = all.1 }

@@ -1,13 +1,7 @@
 -- A turn puts one record.
-use borrow.Author.Rules.{rules}
-use Prim.Native.Nat.{ℕ, ◌+◌, ◌-◌}
-use mathlib.Core.Path.{refl}
-use mathlib.Core.List.{◌++◌}
-use native.Mathlib.Omega.{arith}
-use lib.ListN.{get_or}
-use Rattle.plan.specs.Cards.{mark_bytes, word_bytes}
+use Prim.Native.Nat.{ℕ, ◌-◌}
 use Rattle.cards.specs.put.Parts.{output_cards}
-use Rattle.cards.proofs.put.Putting.{Put, none-put, one-put, all-put, outputs-more, outputs-size}
+use Rattle.cards.proofs.put.Putting.{Put}
 use Rattle.cards.proofs.put.put_outputs.Given as goal
 
 abbrev pub invariant-loop-i : goal.invariant-loop-i

@@ -1,5 +1,4 @@
 -- Cleared, filled, and cleared again after a refusal.
-use borrow.Author.Rules.{rules}
 use mathlib.Core.Path.{ap, ◌∙◌}
 use Rattle.plan.specs.Circuit.{Tables, seven}
 use Rattle.plan.specs.Outcome.{ReadEntry}

@@ -1,5 +1,4 @@
 -- The head, 4, the filled tables, and what they are judged by.
-use borrow.Author.Rules.{rules}
 use Prim.Native.Nat.{ℕ}
 use mathlib.Core.Path.{◌≡◌, sym, ap₂, ◌∙◌}
 use mathlib.Core.Option.{none}

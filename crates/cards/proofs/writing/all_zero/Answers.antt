@@ -1,7 +1,6 @@
 -- A turn passes one word.
-use borrow.Author.Rules.{rules}
 use Prim.Native.Nat.{◌-◌}
-use Rattle.cards.proofs.writing.Holding.{Zeros, none_seen, not-zero, one_seen, all_seen}
+use Rattle.cards.proofs.writing.Holding.{none_seen, not-zero, one_seen, all_seen}
 use Rattle.cards.proofs.writing.all_zero.Goals as goal
 
 pub loop-i-init : goal.loop-i-init

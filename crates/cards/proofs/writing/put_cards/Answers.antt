@@ -1,5 +1,4 @@
 -- The length needed, or the cards.
-use borrow.Author.Rules.{rules}
 use borrow.Author.Tests.{not-true, not-false}
 use Rattle.cards.proofs.writing.Holding.{within, no_room, enough, with-cards}
 use Rattle.cards.proofs.writing.put_cards.Goals as goal
@@ -16,8 +15,11 @@ returns-then-not-holds c =
 pub fill_cards-requires : goal.fill_cards-requires
 fill_cards-requires c =
     let a = c.args in
-    record { cardable = c.requires; n_in_bounds = enough a.n a.latches.now a.outputs.now a.gates.now c.requires a.out.now _ c.bytes_asked-size.ensures _ c.holds.ensures
-          (not-false _ c.if-not-holds.false-raw); }
+    record {
+      cardable = c.requires;
+      n_in_bounds = enough a.n a.latches.now a.outputs.now a.gates.now c.requires a.out.now _ c.bytes_asked-size.ensures _ c.holds.ensures
+          (not-false _ c.if-not-holds.false-raw);
+    }
 
 pub returns : goal.returns
 returns c =

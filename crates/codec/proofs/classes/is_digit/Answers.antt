@@ -1,5 +1,4 @@
 -- Each arm says of the byte what the class of the byte with its lowest bit set is.
-use borrow.Author.Rules.{rules}
 use Rattle.codec.proofs.classes.Odd.{odd-says}
 use Rattle.codec.proofs.classes.is_digit.Goals as goal
 

@@ -1,7 +1,6 @@
 -- Past the end the byte 0 is read.
 use Prim.Native.Nat.{ℕ}
 use mathlib.Core.Path.{sym, ap}
-use borrow.Author.Rules.{rules}
 use lib.Dec.{eqb}
 use lib.ListN.{get_or-eq_default}
 use Rattle.codec.proofs.classes.stands.Goals as goal

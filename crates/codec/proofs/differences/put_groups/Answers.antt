@@ -3,7 +3,7 @@ use mathlib.Core.Path.{refl}
 use native.Mathlib.Omega.{arith}
 use lib.ListN.{length-set}
 use Rattle.codec.proofs.differences.Bits.{high7}
-use Rattle.codec.proofs.differences.Groups.{Putting, in-room, next-group, last_end, last-group}
+use Rattle.codec.proofs.differences.Groups.{in-room, next-group, last_end, last-group}
 use Rattle.codec.proofs.differences.put_groups.Goals as goal
 
 pub loop-x-init : goal.loop-x-init
@@ -38,4 +38,4 @@ shape_of-out c = simp length-set c.loop-x.invariant.size
 
 pub returns : goal.returns
 returns c =
-    record { value = last_end c.loop-x.invariant c.loop-x-test.false; out_after = last-group c.loop-x.invariant c.loop-x-test.false; }
+    record { value = last_end c.loop-x.invariant c.loop-x-test.false; out_after = last-group c.loop-x.invariant c.loop-x-test.false }

@@ -1,9 +1,5 @@
 -- Each turn puts one group, and what is left completes what was to be put.
-use mathlib.Core.Path.{refl}
-use native.Mathlib.Omega.{arith}
-use lib.ListN.{length-set}
-use Rattle.codec.proofs.differences.Bits.{high7}
-use Rattle.codec.proofs.differences.Groups.{Putting, in-room, next-group, last_end, last-group}
+use Rattle.codec.proofs.differences.Groups.{Putting}
 use Rattle.codec.proofs.differences.put_groups.Given as goal
 
 abbrev pub invariant-loop-x : goal.invariant-loop-x

@@ -1,5 +1,4 @@
 -- With room the groups stand in the buffer, without it the buffer is as it was.
-use borrow.Author.Rules.{rules}
 use Rattle.plan.specs.Difference.{groups_of}
 use Rattle.laws.proofs.Asked.{fits, refused, written}
 use Rattle.codec.proofs.differences.write_difference.Goals as goal

@@ -1,8 +1,7 @@
 -- Each turn takes one digit off what is left; the measure is what is left.
 use native.Mathlib.Omega.{arith}
-use borrow.Author.Rules.{rules}
 use Rattle.codec.proofs.numbers.Length.{digits-twenty}
-use Rattle.codec.proofs.numbers.Count.{Counting, begins, turn, all-counted}
+use Rattle.codec.proofs.numbers.Count.{begins, turn, all-counted}
 use Rattle.codec.proofs.numbers.count_digits.Goals as goal
 
 pub loop-rest-init : goal.loop-rest-init

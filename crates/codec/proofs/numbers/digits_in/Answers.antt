@@ -1,5 +1,4 @@
 -- Each test splits at a power of ten; more than seven digits are counted.
-use borrow.Author.Rules.{rules}
 use Rattle.codec.proofs.numbers.Length.{one, many}
 use Rattle.codec.proofs.numbers.digits_in.Goals as goal
 

@@ -2,9 +2,8 @@
 use mathlib.Core.Path.{ap}
 use Prim.Native.Nat.{ℕ, ◌+◌}
 use native.Mathlib.Omega.{arith}
-use borrow.Author.Rules.{rules}
 use lib.ListN.{length-set}
-use Rattle.codec.proofs.numbers.Filling.{Filling, starts, wide, begun, inside, step, ends}
+use Rattle.codec.proofs.numbers.Filling.{starts, wide, begun, inside, step, ends}
 use Rattle.codec.proofs.numbers.put_digits.Goals as goal
 
 pub overflow_add-end : goal.overflow_add-end
@@ -34,4 +33,4 @@ shape_of-out c = simp length-set (wide c.loop-rest.invariant)
 pub returns : goal.returns
 returns c =
     let a = c.args in
-    record { value = ap (λ (k : ℕ). a.at + k) c.digits_in.ensures; out_after = ends c.loop-rest.invariant c.loop-rest-test.false; }
+    record { value = ap (λ (k : ℕ). a.at + k) c.digits_in.ensures; out_after = ends c.loop-rest.invariant c.loop-rest-test.false }

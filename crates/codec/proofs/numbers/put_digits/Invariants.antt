@@ -1,10 +1,5 @@
 -- The loop keeps the digits of the whole number; the measure is what is left of it.
-use mathlib.Core.Path.{ap}
-use Prim.Native.Nat.{ℕ, ◌+◌}
-use native.Mathlib.Omega.{arith}
-use borrow.Author.Rules.{rules}
-use lib.ListN.{length-set}
-use Rattle.codec.proofs.numbers.Filling.{Filling, starts, wide, begun, inside, step, ends}
+use Rattle.codec.proofs.numbers.Filling.{Filling}
 use Rattle.codec.proofs.numbers.put_digits.Given as goal
 
 abbrev pub invariant-loop-rest : goal.invariant-loop-rest

@@ -1,13 +1,10 @@
 -- The loop keeps the value and the end of the whole number; the measure is what is left of the file.
-use Prim.Native.Nat.{◌-◌}
 use mathlib.Core.Path.{sym, ap, ◌∙◌}
 use native.Mathlib.Omega.{arith}
-use borrow.Author.Rules.{rules}
 use borrow.Author.Tests.{not-true, not-false}
-use lib.ListN.{length, get_or}
 use Rattle.plan.specs.Bytes.{digit_class}
 use Rattle.laws.proofs.Reading.Spans.{span_none, span-past}
-use Rattle.codec.proofs.numbers.Scan.{Scan, at_least, step, done, starts}
+use Rattle.codec.proofs.numbers.Scan.{at_least, step, done, starts}
 use Rattle.codec.proofs.numbers.read_digits.Goals as goal
 
 pub overflow_sub-file : goal.overflow_sub-file

@@ -1,7 +1,6 @@
 -- Each arm of the match says what the number is by the class of its first byte.
 use mathlib.Core.Path.{sym, ◌∙◌}
 use native.Mathlib.Omega.{arith}
-use borrow.Author.Rules.{rules}
 use Rattle.plan.specs.declared.Class.TheVariants.{Line, Space, Zero, Print, Rest}
 use Rattle.codec.proofs.numbers.Scan.{past_end, starting}
 use Rattle.codec.proofs.numbers.read_number.Goals as goal
@@ -13,7 +12,7 @@ returns-then-file-at c =
 
 pub read_digits-requires : goal.read_digits-requires
 read_digits-requires c =
-    record { at_in_bounds = omega (arith, c.if-file-at.false); at_value = sym c.class_of.ensures ∙ c.in-Digit.is; }
+    record { at_in_bounds = omega (arith, c.if-file-at.false); at_value = sym c.class_of.ensures ∙ c.in-Digit.is }
 
 pub returns-in-Zero : goal.returns-in-Zero
 returns-in-Zero c =

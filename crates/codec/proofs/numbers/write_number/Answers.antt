@@ -1,5 +1,4 @@
 -- With room the digits stand in the buffer, without it the buffer is as it was.
-use borrow.Author.Rules.{rules}
 use Rattle.plan.specs.Bytes.{digits}
 use Rattle.laws.proofs.Asked.{fits, refused, written}
 use Rattle.codec.proofs.numbers.write_number.Goals as goal

@@ -1,7 +1,6 @@
 -- The number of a literal's variable. The answers hold by computing.
 use mathlib.Core.Path.{◌≡◌, ap, ◌∙◌}
 use native.Mathlib.Omega.{arith}
-use borrow.Author.Rules.{rules}
 use lib.ListN.{get_or}
 use Rattle.plan.specs.Literals.{var_of, word_of, index_of}
 use Rattle.convert.proofs.renumber.number_of.Goals as goal

@@ -2,8 +2,7 @@
 -- measure is `a - i`. `one_placed` carries it from turn to turn, and `all_placed` gives the answer.
 use Prim.Native.Nat.{◌-◌}
 use native.Mathlib.Omega.{arith}
-use borrow.Author.Rules.{rules}
-use Rattle.convert.proofs.renumber.Placing.{Placed, none-placed, one_placed, all_placed}
+use Rattle.convert.proofs.renumber.Placing.{none-placed, one_placed, all_placed}
 use Rattle.convert.proofs.renumber.place_gates.Goals as goal
 
 pub loop-i-init : goal.loop-i-init
@@ -11,7 +10,7 @@ loop-i-init c = none-placed _ _ _ _ _
 
 pub place_gate-requires : goal.place_gate-requires
 place_gate-requires c =
-    record { i_in_bounds = (omega arith, omega (arith, c.requires.a_in_bounds.1, c.loop-i.invariant.same)); placeable = c.requires.by_index c.loop-i.i c.loop-i-test.true; }
+    record { i_in_bounds = (omega arith, omega (arith, c.requires.a_in_bounds.1, c.loop-i.invariant.same)); placeable = c.requires.by_index c.loop-i.i c.loop-i-test.true }
 
 pub loop-i-preserved : goal.loop-i-preserved
 loop-i-preserved c =

@@ -1,9 +1,7 @@
 -- Gates in file order, each to its row, so that they stand in the order of their numbers. The loop keeps `Placed gates t first a to₀ to i`; the
 -- measure is `a - i`. `one_placed` carries it from turn to turn, and `all_placed` gives the answer.
 use Prim.Native.Nat.{◌-◌}
-use native.Mathlib.Omega.{arith}
-use borrow.Author.Rules.{rules}
-use Rattle.convert.proofs.renumber.Placing.{Placed, none-placed, one_placed, all_placed}
+use Rattle.convert.proofs.renumber.Placing.{Placed}
 use Rattle.convert.proofs.renumber.place_gates.Given as goal
 
 abbrev pub invariant-loop-i : goal.invariant-loop-i

@@ -4,12 +4,11 @@ use Prim.Native.Nat.{ℕ, ◌+◌, ◌-◌, ◌*◌, ◌≤◌}
 use mathlib.Core.Path.{◌≡◌, refl, sym, ap, ◌∙◌, subst}
 use native.Mathlib.Nat.{mul-zero}
 use native.Mathlib.Omega.{arith}
-use borrow.Author.Rules.{rules}
 use lib.ListN.{length, get_or}
 use Rattle.plan.specs.Literals.{lit_at, word_of}
 use Rattle.laws.proofs.Tables.{row_ends, next_row}
 use Rattle.convert.specs.renumber.Renumbered.{literal_by, Known, word_at, column_by}
-use Rattle.convert.proofs.renumber.Columns.{Written, none_written, one_written, all-written}
+use Rattle.convert.proofs.renumber.Columns.{none_written, one_written, all-written}
 use Rattle.convert.proofs.renumber.renumber_column.Goals as goal
 
 pub loop-i-init : goal.loop-i-init

@@ -1,6 +1,5 @@
 -- A literal under its variable's number. Each answer is given by `by_number`.
 use mathlib.Core.Path.{ap, ◌∙◌}
-use borrow.Author.Rules.{rules}
 use Rattle.plan.specs.Literals.{var_at, doubled, signed_as}
 use Rattle.convert.proofs.renumber.Literals.{by_number}
 use Rattle.convert.proofs.renumber.renumbered.Goals as goal

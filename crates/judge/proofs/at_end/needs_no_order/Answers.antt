@@ -2,7 +2,6 @@
 -- it.
 use mathlib.Core.Path.{sym, ◌∙◌}
 use mathlib.Core.Bool.{false≢true}
-use borrow.Author.Rules.{rules}
 use Rattle.judge.proofs.at_end.needs_no_order.Goals as goal
 
 pub returns-then-numbers : goal.returns-then-numbers

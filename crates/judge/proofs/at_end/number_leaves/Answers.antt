@@ -1,7 +1,6 @@
 -- Inputs get the numbers from 1 on, in list order, and latches the next; the constant has 0, and so has what is no leaf (the paper, conversion). Each
 -- answer is given by `leaves-numbered`.
 use native.Mathlib.Omega.{arith}
-use borrow.Author.Rules.{rules}
 use Rattle.judge.proofs.at_end.Leaving.{input-below, latch-below, leaves-numbered}
 use Rattle.judge.proofs.at_end.number_leaves.Goals as goal
 

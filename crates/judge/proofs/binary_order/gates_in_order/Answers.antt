@@ -1,11 +1,10 @@
 -- The same of n gates, whose variables run from `first` on: one pass. The loop keeps what `Inv-loop` says; the measure is `n - i`. `test-passes` and
 -- `order-turn` carry it from turn to turn, and `test-fails`, `order-turn` and `order_left` give the answer.
-use Prim.Native.Nat.{ℕ, ◌+◌, ◌*◌, ◌-◌, ◌≤◌}
+use Prim.Native.Nat.{ℕ, ◌+◌, ◌-◌}
 use mathlib.Core.Path.{◌≡◌, sym, ap, ◌∙◌}
 use mathlib.Core.Bool.{◌&&◌}
 use mathlib.Core.List.{map}
 use native.Mathlib.Omega.{arith}
-use borrow.Author.Rules.{rules}
 use lib.Dec.{eqb}
 use lib.ListN.{get_or}
 use Rattle.plan.specs.Literals.{lit_of}

@@ -1,17 +1,12 @@
 -- The same of n gates, whose variables run from `first` on: one pass. The loop keeps what `Inv-loop` says; the measure is `n - i`. `test-passes` and
 -- `order-turn` carry it from turn to turn, and `test-fails`, `order-turn` and `order_left` give the answer.
-use Prim.Native.Nat.{ℕ, ◌+◌, ◌*◌, ◌-◌, ◌≤◌}
-use mathlib.Core.Path.{◌≡◌, sym, ap, ◌∙◌}
+use Prim.Native.Nat.{◌+◌, ◌*◌, ◌-◌, ◌≤◌}
+use mathlib.Core.Path.{◌≡◌}
 use mathlib.Core.Bool.{◌&&◌}
 use mathlib.Core.List.{map}
-use native.Mathlib.Omega.{arith}
-use borrow.Author.Rules.{rules}
-use lib.Dec.{eqb}
-use lib.ListN.{get_or}
-use Rattle.plan.specs.Literals.{lit_of}
 use Rattle.plan.specs.Circuit.{gate_of, rows_of}
 use Rattle.plan.specs.Binary.{runs, falls}
-use Rattle.judge.proofs.binary_order.Steps.{gate_test, order_left, order-turn, test-fails, test-passes}
+use Rattle.judge.proofs.binary_order.Steps.{order_left}
 use Rattle.judge.proofs.binary_order.gates_in_order.Given as goal
 
 abbrev pub invariant-loop-i : goal.invariant-loop-i

@@ -1,19 +1,11 @@
 -- Whether n rows, of `stride` words of which the first defines, define the variables from `first` on, in this order. The loop keeps what `Inv-loop`
 -- says; the measure is `n - i`. `next_row`, `test-passes` and `runs-turn` carry it from turn to turn, and `test-fails`, `runs-turn` and `runs_left`
 -- give the answer.
-use Prim.Native.Nat.{ℕ, ◌+◌, ◌*◌, ◌-◌, ◌≤◌}
-use mathlib.Core.Path.{◌≡◌, sym, ap, ◌∙◌}
-use mathlib.Core.Bool.{◌&&◌}
-use native.Mathlib.Nat.{mul-zero}
-use native.Mathlib.Omega.{arith}
-use borrow.Author.Rules.{rules}
-use lib.Dec.{eqb}
-use lib.ListN.{length, get_or}
-use Rattle.plan.specs.Literals.{lit_of}
+use Prim.Native.Nat.{◌+◌, ◌*◌, ◌-◌, ◌≤◌}
+use mathlib.Core.Path.{◌≡◌}
 use Rattle.plan.specs.Circuit.{rows_of}
 use Rattle.plan.specs.Binary.{runs}
-use Rattle.laws.proofs.Tables.{row_ends, next_row}
-use Rattle.judge.proofs.binary_order.Steps.{runs_left, runs-turn, test-fails, test-passes}
+use Rattle.judge.proofs.binary_order.Steps.{runs_left}
 use Rattle.judge.proofs.binary_order.runs_on.Given as goal
 
 abbrev pub invariant-loop-i : goal.invariant-loop-i

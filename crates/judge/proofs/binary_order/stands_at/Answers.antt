@@ -1,6 +1,5 @@
 -- Whether a gate is that of variable v and keeps this. The answers are given by `test-fails` and `test-passes`.
 use mathlib.Core.Path.{refl, sym, ◌∙◌}
-use borrow.Author.Rules.{rules}
 use Rattle.judge.proofs.binary_order.Steps.{test-fails, test-passes}
 use Rattle.judge.proofs.binary_order.stands_at.Goals as goal
 

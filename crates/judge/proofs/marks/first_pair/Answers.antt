@@ -2,7 +2,6 @@
 use Prim.Native.Nat.{ℕ, ◌/◌, ◌+◌}
 use mathlib.Core.Path.{◌≡◌, subst}
 use native.Mathlib.Omega.{arith}
-use borrow.Author.Rules.{rules}
 use Rattle.judge.specs.marks.Levels.{p0, p1, p2, p3}
 use Rattle.judge.proofs.marks.Finding.{FirstOn, first-in, first-down, first-top, none-marked, pair_found, pair-past}
 use Rattle.judge.proofs.marks.first_pair.Goals as goal

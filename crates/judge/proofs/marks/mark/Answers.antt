@@ -2,7 +2,6 @@
 use Prim.Native.Nat.{ℕ, ◌/◌}
 use mathlib.Core.Path.{ap, ◌∙◌}
 use mathlib.Core.List.{List}
-use borrow.Author.Rules.{rules}
 use Rattle.tables.specs.bitmap.Bitmap.{raised}
 use Rattle.judge.specs.marks.Levels.{p1, p2, p3, marked}
 use Rattle.judge.proofs.marks.mark.Goals as goal

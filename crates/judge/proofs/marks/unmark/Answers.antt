@@ -1,5 +1,4 @@
 -- The marks above go with the last of a word.
-use borrow.Author.Rules.{rules}
 use Rattle.judge.proofs.marks.Marking.{taken-off}
 use Rattle.judge.proofs.marks.unmark.Goals as goal
 

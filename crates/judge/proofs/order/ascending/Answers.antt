@@ -1,11 +1,7 @@
 -- Every gate passed rises.
-use Prim.Native.Nat.{◌-◌, ◌≤◌}
-use mathlib.Core.Bool.{true}
-use mathlib.Core.Path.{◌≡◌, sym}
+use mathlib.Core.Path.{sym}
 use native.Mathlib.Omega.{arith}
-use borrow.Author.Rules.{rules}
-use Rattle.laws.proofs.Running.Ascending.{ascends}
-use Rattle.laws.proofs.Tables.{gate_at, gates_at}
+use Rattle.laws.proofs.Tables.{gate_at}
 use Rattle.judge.proofs.order.Rising.{rises, falls-first, falls-second, rises-more, rises-all, falls-all}
 use Rattle.judge.proofs.order.ascending.Goals as goal
 

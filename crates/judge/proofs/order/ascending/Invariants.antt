@@ -1,12 +1,9 @@
 -- Every gate passed rises.
 use Prim.Native.Nat.{◌-◌, ◌≤◌}
 use mathlib.Core.Bool.{true}
-use mathlib.Core.Path.{◌≡◌, sym}
-use native.Mathlib.Omega.{arith}
-use borrow.Author.Rules.{rules}
+use mathlib.Core.Path.{◌≡◌}
 use Rattle.laws.proofs.Running.Ascending.{ascends}
-use Rattle.laws.proofs.Tables.{gate_at, gates_at}
-use Rattle.judge.proofs.order.Rising.{rises, falls-first, falls-second, rises-more, rises-all, falls-all}
+use Rattle.laws.proofs.Tables.{gates_at}
 use Rattle.judge.proofs.order.ascending.Given as goal
 
 abbrev pub invariant-loop-i : goal.invariant-loop-i

@@ -1,13 +1,8 @@
 -- Every gate passed has a number.
-use Prim.Native.Nat.{ℕ, ◌-◌, ◌≤◌, ◌<◌}
-use mathlib.Core.Bool.{true}
-use mathlib.Core.Path.{◌≡◌, sym, ◌∙◌}
+use mathlib.Core.Path.{sym, ◌∙◌}
 use native.Mathlib.Omega.{arith}
 use borrow.Author.Count.{below_more}
 use borrow.Author.Tests.{not-true, not-false}
-use Rattle.plan.specs.Literals.{var_of}
-use Rattle.laws.proofs.Tables.{gate_at}
-use Rattle.judge.specs.order.Waiting.{numbered_v}
 use Rattle.judge.proofs.order.first_out.Goals as goal
 
 pub loop-i-init : goal.loop-i-init

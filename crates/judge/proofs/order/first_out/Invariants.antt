@@ -1,10 +1,7 @@
 -- Every gate passed has a number.
 use Prim.Native.Nat.{ℕ, ◌-◌, ◌≤◌, ◌<◌}
 use mathlib.Core.Bool.{true}
-use mathlib.Core.Path.{◌≡◌, sym, ◌∙◌}
-use native.Mathlib.Omega.{arith}
-use borrow.Author.Count.{below_more}
-use borrow.Author.Tests.{not-true, not-false}
+use mathlib.Core.Path.{◌≡◌}
 use Rattle.plan.specs.Literals.{var_of}
 use Rattle.laws.proofs.Tables.{gate_at}
 use Rattle.judge.specs.order.Waiting.{numbered_v}

@@ -2,7 +2,6 @@
 use mathlib.Core.Path.{◌≡◌, sym, ◌∙◌}
 use mathlib.Core.Bool.{true, false}
 use native.Mathlib.Omega.{arith}
-use borrow.Author.Rules.{rules}
 use borrow.Author.Tests.{not-true, not-false}
 use Rattle.plan.specs.Circuit.{rows_of, all_inside}
 use Rattle.judge.proofs.ranges.Named.{table1, table2, table3, table4, no_table, inputs-known, gates-known}

@@ -1,6 +1,5 @@
 -- The same, unless it is known. All that is left is found by search.
 use mathlib.Core.Path.{sym}
-use borrow.Author.Rules.{rules}
 use Rattle.judge.proofs.ranges.known_within.Goals as goal
 
 pub returns-then-known : goal.returns-then-known

@@ -1,5 +1,4 @@
 -- The first of tables 7 to 9 with a reset that is none or a literal out of its range, or 0. The answers are given by `table7`, `table8` and `table9`.
-use borrow.Author.Rules.{rules}
 use mathlib.Core.Path.{◌≡◌, sym, ◌∙◌}
 use mathlib.Core.Bool.{true, false}
 use mathlib.Core.List.{map}

@@ -1,6 +1,5 @@
 -- The first of the tables with a literal out of its range, or 0, in the order of their numbers. The answers are given by `some-table`, `by_first` and
 -- `by_last`.
-use borrow.Author.Rules.{rules}
 use mathlib.Core.Path.{◌∙◌}
 use Rattle.plan.specs.Circuit.{Circuit}
 use Rattle.tables.specs.Held.{circuit_in}

@@ -1,11 +1,9 @@
 -- Whether the first n latches have a reset each. The loop keeps what `Inv-loop` says; the measure is `left`. `reset-inside` carries it from turn to
 -- turn, and `reset-outside` and `resets_from` give the answer.
-use Prim.Native.Nat.{ℕ, ◌+◌, ◌*◌, ◌≤◌}
+use Prim.Native.Nat.{ℕ}
 use mathlib.Core.Path.{◌≡◌, refl, sym, ap, ◌∙◌}
 use native.Mathlib.Omega.{arith}
-use borrow.Author.Rules.{rules}
 use borrow.Author.Tests.{not-true, not-false}
-use lib.ListN.{length}
 use Rattle.judge.proofs.ranges.Steps.{resets_from, reset-inside, reset-outside}
 use Rattle.judge.proofs.ranges.resets_within.Goals as goal
 

@@ -1,11 +1,10 @@
 -- Whether the k words of the row that starts at `start` are in their ranges. The loop keeps what `Inv-loop` says; the measure is `left`.
 -- `word-inside` carries it from turn to turn, and `word-outside` gives the answer.
-use Prim.Native.Nat.{ℕ, ◌+◌, ◌≤◌}
+use Prim.Native.Nat.{ℕ}
 use mathlib.Core.Path.{◌≡◌, refl, sym, ap, ◌∙◌}
 use native.Mathlib.Omega.{arith}
-use borrow.Author.Rules.{rules}
 use borrow.Author.Tests.{not-true, not-false}
-use lib.ListN.{length, take, drop}
+use lib.ListN.{take, drop}
 use Rattle.plan.specs.Circuit.{inside}
 use Rattle.judge.proofs.ranges.Steps.{word-inside, word-outside}
 use Rattle.judge.proofs.ranges.row_within.Goals as goal

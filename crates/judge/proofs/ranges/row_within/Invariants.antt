@@ -1,13 +1,9 @@
 -- Whether the k words of the row that starts at `start` are in their ranges. The loop keeps what `Inv-loop` says; the measure is `left`.
 -- `word-inside` carries it from turn to turn, and `word-outside` gives the answer.
-use Prim.Native.Nat.{ℕ, ◌+◌, ◌≤◌}
-use mathlib.Core.Path.{◌≡◌, refl, sym, ap, ◌∙◌}
-use native.Mathlib.Omega.{arith}
-use borrow.Author.Rules.{rules}
-use borrow.Author.Tests.{not-true, not-false}
+use Prim.Native.Nat.{◌+◌, ◌≤◌}
+use mathlib.Core.Path.{◌≡◌}
 use lib.ListN.{length, take, drop}
 use Rattle.plan.specs.Circuit.{inside}
-use Rattle.judge.proofs.ranges.Steps.{word-inside, word-outside}
 use Rattle.judge.proofs.ranges.row_within.Given as goal
 
 abbrev pub invariant-loop-left : goal.invariant-loop-left

@@ -1,13 +1,9 @@
 -- Whether the first n rows of k words are in their ranges, the first word of each as one that defines or not. The loop keeps what `Inv-loop` says;
 -- the measure is `left`. `row_room` and `row_inside` carry it from turn to turn, and `row-outside` gives the answer.
-use Prim.Native.Nat.{ℕ, ◌+◌, ◌*◌, ◌-◌, ◌≤◌}
-use mathlib.Core.Path.{◌≡◌, refl, sym, ap, ◌∙◌}
-use native.Mathlib.Omega.{arith}
-use borrow.Author.Rules.{rules}
-use borrow.Author.Tests.{not-true, not-false}
+use Prim.Native.Nat.{◌+◌, ◌*◌, ◌≤◌}
+use mathlib.Core.Path.{◌≡◌}
 use lib.ListN.{length, drop}
 use Rattle.plan.specs.Circuit.{all_inside, rows_of}
-use Rattle.judge.proofs.ranges.Steps.{row_inside, row-outside, row_room}
 use Rattle.judge.proofs.ranges.rows_within.Given as goal
 
 abbrev pub invariant-loop-left : goal.invariant-loop-left

@@ -1,5 +1,4 @@
 -- Whether a table's word is in its range. The answer is that of the call below it.
-use borrow.Author.Rules.{rules}
 use mathlib.Core.Path.{ap, ◌∙◌}
 use Rattle.plan.specs.declared.Lit.{Lit}
 use Rattle.plan.specs.Literals.{word_of, in_range}

@@ -1,7 +1,6 @@
 -- The table, 1, 2 or 4, of the first definition of a variable that is defined before it, in the order of the tables; 0 if there is none. The answers
 -- are given by `told-inputs`, `told-latches` and `told-gates`.
 use native.Mathlib.Omega.{arith}
-use borrow.Author.Rules.{rules}
 use Rattle.laws.proofs.Ranges.{input-in, latch-in, gate-in}
 use Rattle.judge.proofs.twice.Marking.{told-inputs, told-latches, told-gates, told_none}
 use Rattle.judge.proofs.twice.defined_twice.Goals as goal

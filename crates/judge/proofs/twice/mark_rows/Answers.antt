@@ -1,13 +1,12 @@
 -- Marks the variables of n rows, of `stride` words of which the first defines; whether one was marked already. The loop keeps `Loop table stride n
 -- marks₀ marks at i`; the measure is `n - i`. `turns` and `var-at` carry it from turn to turn, and `stops`, `var-at` and `ends` give the answer.
-use Prim.Native.Nat.{◌+◌, ◌-◌, ◌<◌, ◌≤◌}
+use Prim.Native.Nat.{◌+◌, ◌<◌, ◌≤◌}
 use mathlib.Core.Path.{◌≡◌, sym, ap, ◌∙◌}
 use native.Mathlib.Omega.{arith}
-use borrow.Author.Rules.{rules}
 use lib.ListN.{length}
 use Rattle.plan.specs.Literals.{index_of, halved}
 use Rattle.laws.proofs.Tables.{head_at, row_ends}
-use Rattle.judge.proofs.twice.Rows.{Loop, begins, var-at, stops, turns, ends}
+use Rattle.judge.proofs.twice.Rows.{begins, var-at, stops, turns, ends}
 use Rattle.judge.proofs.twice.mark_rows.Goals as goal
 
 pub loop-i-init : goal.loop-i-init

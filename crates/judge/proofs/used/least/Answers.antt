@@ -1,9 +1,8 @@
 -- The same over n words of a table, from `start` on by `stride`. The loop keeps what `Inv-loop` says; the measure is `n - i`. `next_word` and
 -- `next_low` carry it from turn to turn.
-use Prim.Native.Nat.{ℕ, ◌+◌, ◌*◌, ◌-◌, ◌≤◌}
+use Prim.Native.Nat.{ℕ, ◌+◌, ◌*◌, ◌≤◌}
 use mathlib.Core.Path.{◌≡◌, ap, ◌∙◌}
 use native.Mathlib.Omega.{arith}
-use borrow.Author.Rules.{rules}
 use lib.ListN.{length}
 use Rattle.laws.proofs.Tables.{row_ends}
 use Rattle.judge.specs.used.Least.{every, lowest}

@@ -1,13 +1,8 @@
 -- The same over n words of a table, from `start` on by `stride`. The loop keeps what `Inv-loop` says; the measure is `n - i`. `next_word` and
 -- `next_low` carry it from turn to turn.
-use Prim.Native.Nat.{ℕ, ◌+◌, ◌*◌, ◌-◌, ◌≤◌}
-use mathlib.Core.Path.{◌≡◌, ap, ◌∙◌}
-use native.Mathlib.Omega.{arith}
-use borrow.Author.Rules.{rules}
-use lib.ListN.{length}
-use Rattle.laws.proofs.Tables.{row_ends}
+use Prim.Native.Nat.{◌+◌, ◌*◌, ◌-◌, ◌≤◌}
+use mathlib.Core.Path.{◌≡◌}
 use Rattle.judge.specs.used.Least.{every, lowest}
-use Rattle.judge.proofs.used.Steps.{next_word, in-marks, next_low}
 use Rattle.judge.proofs.used.least.Given as goal
 
 abbrev pub invariant-loop-i : goal.invariant-loop-i

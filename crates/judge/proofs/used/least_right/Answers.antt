@@ -1,9 +1,8 @@
 -- The same over both right sides of n gates. The loop keeps `(i ≤ n) × (low ≡ lowest marks before (rights (gates_at gates i)))`; the measure is `n -
 -- i`. `next-right` carries it from turn to turn, and `gates_at` gives the answer.
-use Prim.Native.Nat.{ℕ, ◌-◌, ◌≤◌}
+use Prim.Native.Nat.{ℕ}
 use mathlib.Core.Path.{◌≡◌, ap, ◌∙◌}
 use native.Mathlib.Omega.{arith}
-use borrow.Author.Rules.{rules}
 use Rattle.plan.specs.Circuit.{rights}
 use Rattle.laws.proofs.Tables.{gates_at}
 use Rattle.judge.specs.used.Least.{lowest}

@@ -1,13 +1,10 @@
 -- The same over both right sides of n gates. The loop keeps `(i ≤ n) × (low ≡ lowest marks before (rights (gates_at gates i)))`; the measure is `n -
 -- i`. `next-right` carries it from turn to turn, and `gates_at` gives the answer.
-use Prim.Native.Nat.{ℕ, ◌-◌, ◌≤◌}
-use mathlib.Core.Path.{◌≡◌, ap, ◌∙◌}
-use native.Mathlib.Omega.{arith}
-use borrow.Author.Rules.{rules}
+use Prim.Native.Nat.{◌-◌, ◌≤◌}
+use mathlib.Core.Path.{◌≡◌}
 use Rattle.plan.specs.Circuit.{rights}
 use Rattle.laws.proofs.Tables.{gates_at}
 use Rattle.judge.specs.used.Least.{lowest}
-use Rattle.judge.proofs.used.Steps.{next-right}
 use Rattle.judge.proofs.used.least_right.Given as goal
 
 abbrev pub invariant-loop-i : goal.invariant-loop-i

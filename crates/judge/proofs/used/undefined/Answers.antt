@@ -1,6 +1,5 @@
 -- The least variable of a next state, of what is observed or of a right side that is not defined, from marks of those that are. The answers are given
 -- by `nothing-missing` and `one-missing`.
-use borrow.Author.Rules.{rules}
 use native.Mathlib.Omega.{arith}
 use Rattle.judge.proofs.used.Walked.{nothing-missing, one-missing}
 use Rattle.judge.proofs.used.undefined.Goals as goal

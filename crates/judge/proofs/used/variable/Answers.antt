@@ -1,5 +1,4 @@
 -- The variable of a table's word. The answer is that of the call below it.
-use borrow.Author.Rules.{rules}
 use mathlib.Core.Path.{ap, ◌∙◌}
 use Rattle.plan.specs.Literals.{index_of, halved}
 use Rattle.judge.proofs.used.variable.Goals as goal

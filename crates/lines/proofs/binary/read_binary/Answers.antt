@@ -12,7 +12,6 @@ use Rattle.lines.proofs.outputs.Answers.{was_read, was-refused}
 use Rattle.lines.proofs.outputs.Lists.{AllHeld, observed-told}
 use Rattle.lines.proofs.binary.Parts.{LatchesHeld, few, latches-told, gates-told}
 use Rattle.lines.proofs.binary.Body.{latches-refused, observed-refused, gates-last}
-use borrow.Author.Rules.{rules}
 use Rattle.lines.proofs.binary.read_binary.Goals as goal
 
 pub overflow_add-first : goal.overflow_add-first

@@ -2,7 +2,6 @@
 use mathlib.Core.Path.{sym, ◌∙◌}
 use Rattle.plan.specs.Literals.{word_of}
 use Rattle.lines.proofs.gates.Sides.{of-variable, first-refused, second-refused, both-taken}
-use borrow.Author.Rules.{rules}
 use Rattle.lines.proofs.gates.gate_at.Goals as goal
 
 pub returns-in-Refused : goal.returns-in-Refused

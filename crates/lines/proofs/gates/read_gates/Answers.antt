@@ -1,5 +1,4 @@
 -- Half of the gates, then the others.
-use borrow.Author.Rules.{rules}
 use Prim.Native.Nat.{◌+◌, ◌-◌, ◌/◌}
 use native.Mathlib.Omega.{arith}
 use Rattle.lines.proofs.gates.Runs.{first-refused, both_say}

@@ -1,10 +1,9 @@
 -- A turn adds one literal.
-use borrow.Author.Rules.{rules}
 use native.Mathlib.Omega.{arith}
 use Prim.Native.Nat.{◌+◌, ◌-◌}
 use mathlib.Core.Path.{◌∙◌}
 use Rattle.lines.proofs.gates.Words.{lit_is}
-use Rattle.lines.proofs.gates.RunOn.{RunsOn, none_written, one_written, all-written}
+use Rattle.lines.proofs.gates.RunOn.{none_written, one_written, all-written}
 use Rattle.lines.proofs.gates.run_on.Goals as goal
 
 pub loop-i-init : goal.loop-i-init

@@ -1,10 +1,6 @@
 -- A turn adds one literal.
-use borrow.Author.Rules.{rules}
-use native.Mathlib.Omega.{arith}
-use Prim.Native.Nat.{◌+◌, ◌-◌}
-use mathlib.Core.Path.{◌∙◌}
-use Rattle.lines.proofs.gates.Words.{lit_is}
-use Rattle.lines.proofs.gates.RunOn.{RunsOn, none_written, one_written, all-written}
+use Prim.Native.Nat.{◌-◌}
+use Rattle.lines.proofs.gates.RunOn.{RunsOn}
 use Rattle.lines.proofs.gates.run_on.Given as goal
 
 abbrev pub invariant-loop-i : goal.invariant-loop-i

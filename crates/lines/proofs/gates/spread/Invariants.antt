@@ -1,11 +1,6 @@
 -- A turn makes one latch below those that were made.
-use borrow.Author.Rules.{rules}
-use native.Mathlib.Omega.{arith}
-use Prim.Native.Nat.{◌+◌, ◌-◌}
-use mathlib.Core.Path.{◌∙◌}
-use lib.ListN.{length-set}
-use Rattle.lines.proofs.gates.Words.{lit_is}
-use Rattle.lines.proofs.gates.Spreading.{Spread, none-spread, one-spread, all-spread}
+use Prim.Native.Nat.{◌-◌}
+use Rattle.lines.proofs.gates.Spreading.{Spread}
 use Rattle.lines.proofs.gates.spread.Given as goal
 
 abbrev pub invariant-loop-i : goal.invariant-loop-i

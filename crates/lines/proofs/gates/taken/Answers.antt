@@ -1,14 +1,12 @@
 -- Each return is one of the ways through a difference that is taken from a literal.
 use Prim.Native.Nat.{◌<◌, ◌≤◌}
 use mathlib.Core.Bool.{false, ◌&&◌}
-use mathlib.Core.Logic.{⊎_elim}
 use mathlib.Core.Path.{◌≡◌, sym, ◌∙◌}
 use native.Mathlib.Omega.{arith}
 use lib.Dec.{eqb}
 use Rattle.plan.specs.declared.Difference.TheVariants.{Ends, Bad}
 use Rattle.plan.specs.Literals.{word_of}
 use Rattle.lines.proofs.gates.Sides.{as-judged, not-zero, not_first, zero-refused, large-refused, good-taken}
-use borrow.Author.Rules.{rules}
 use Rattle.lines.proofs.gates.taken.Goals.{then-first+else-d-eq0, else-first}
 use Rattle.lines.proofs.gates.taken.Goals as goal
 

@@ -1,6 +1,5 @@
 -- Each test is one byte.
 use mathlib.Core.Path.{sym, ◌∙◌}
-use borrow.Author.Rules.{rules}
 use borrow.Author.Tests.{not-true, not-false}
 use Rattle.lines.proofs.header.end_of_magic.Goals as goal
 

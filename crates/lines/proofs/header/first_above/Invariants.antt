@@ -1,10 +1,7 @@
 -- The first of nine counts, from one on, that is above a limit; 9 if none is. The loop keeps `(i ≤ 9) × (from ≤ i) × ((k : ℕ) → from ≤ k → k < i →
 -- get_or words k 0 ≤ limit)`; the measure is `9 - i`. `more-passed` carries it from turn to turn.
 use Prim.Native.Nat.{ℕ, ◌-◌, ◌≤◌, ◌<◌}
-use native.Mathlib.Omega.{arith}
-use borrow.Author.Rules.{rules}
 use lib.ListN.{get_or}
-use Rattle.lines.proofs.header.Counted.{more-passed}
 use Rattle.lines.proofs.header.first_above.Given as goal
 
 abbrev pub invariant-loop-i : goal.invariant-loop-i

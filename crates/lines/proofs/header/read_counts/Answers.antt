@@ -9,7 +9,6 @@ use Rattle.plan.specs.Literals.{most}
 use Rattle.plan.specs.Outcome.{form_of}
 use Rattle.laws.proofs.Reading.Headers.{counts-at-most}
 use Rattle.lines.proofs.header.Counted.{Line, stops, line_read, large, just, counts-small, sum-wrong, sum-right}
-use borrow.Author.Rules.{rules}
 use Rattle.lines.proofs.header.read_counts.Goals as goal
 
 pub overflow_add-more : goal.overflow_add-more

@@ -1,6 +1,5 @@
 -- The header is its first four bytes and then its counts.
 use mathlib.Core.Path.{sym, ◌∙◌}
-use borrow.Author.Rules.{rules}
 use Rattle.lines.proofs.header.FourBytes.{by-magic}
 use Rattle.lines.proofs.header.read_header.Goals as goal
 

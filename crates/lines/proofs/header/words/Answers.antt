@@ -1,6 +1,5 @@
 -- An accepted header has counts at most the limit, so no sum is too large.
 use mathlib.Core.Path.{sym, ap, ◌∙◌}
-use borrow.Author.Rules.{rules}
 use Rattle.plan.specs.declared.Version.TheVariants.{V19}
 use Rattle.plan.specs.Header.{words_by}
 use Rattle.lines.proofs.header.Accepted.{accepted, not-accepted}

@@ -4,7 +4,6 @@ use mathlib.Core.Bool.{true, false}
 use borrow.Author.Tests.{not-true, not-false}
 use Rattle.plan.specs.declared.Lit.{Lit}
 use Rattle.plan.specs.Literals.{word_of, in_range, is_reset}
-use borrow.Author.Rules.{rules}
 use Rattle.lines.proofs.latches.judge.Goals as goal
 
 pub returns-then-not-within : goal.returns-then-not-within

@@ -8,7 +8,6 @@ use Prim.Native.Nat.{ℕ}
 use lib.ListN.{length, set, length-set}
 use Rattle.plan.specs.Literals.{lit_of, word_of, doubled}
 use Rattle.lines.proofs.latches.Frame.{in-text, in-binary}
-use borrow.Author.Rules.{rules}
 use Rattle.lines.proofs.latches.read_frame.Goals as goal
 
 pub overflow_add-more : goal.overflow_add-more

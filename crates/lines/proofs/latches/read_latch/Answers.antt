@@ -5,7 +5,6 @@ use native.Mathlib.Omega.{arith}
 use lib.ListN.{length-set}
 use Rattle.lines.specs.Rows.{found_of}
 use Rattle.lines.proofs.latches.OneLatch.{line_refused, out_of_range, all-fine}
-use borrow.Author.Rules.{rules}
 use Rattle.lines.proofs.latches.read_latch.Goals as goal
 
 pub overflow_add-table : goal.overflow_add-table

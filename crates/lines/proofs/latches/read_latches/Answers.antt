@@ -4,14 +4,13 @@ use Prim.Native.Nat.{ℕ, ◌+◌, ◌-◌, ◌≤◌}
 use mathlib.Core.Path.{◌≡◌, sym, ap, ap₂, ◌∙◌}
 use mathlib.Core.Bool.{Bool, false}
 use native.Mathlib.Omega.{arith}
-use borrow.Author.Rules.{rules}
 use Rattle.plan.specs.Literals.{var_of, word_of}
 use Rattle.lines.specs.Rows.{marked, marking}
 use Rattle.lines.proofs.Marks.{marks-less}
 use Rattle.lines.proofs.LinesLoop.{passed_to}
 use Rattle.lines.specs.latches.Latches.{latch_row, latch_in}
 use Rattle.lines.proofs.latches.OneLatch.{latch-var, same-mark, same-marking, own-word}
-use Rattle.lines.proofs.latches.LatchLoop.{Loop, begins, own_at, fits, fits-resets, stops, twice-told, turns, ends-here}
+use Rattle.lines.proofs.latches.LatchLoop.{begins, own_at, fits, fits-resets, stops, twice-told, turns, ends-here}
 use Rattle.lines.proofs.latches.read_latches.Goals as goal
 
 pub loop-i-init : goal.loop-i-init

@@ -5,7 +5,6 @@ use native.Mathlib.Omega.{arith}
 use Rattle.plan.specs.Bytes.{lines}
 use Rattle.lines.proofs.outputs.Answers.{was_read, was-refused}
 use Rattle.lines.proofs.outputs.Lists.{ListHeld, list-told, outputs-refused, bads-refused, constraints-last}
-use borrow.Author.Rules.{rules}
 use Rattle.lines.proofs.outputs.read_observed.Goals as goal
 
 pub returns-in_default : goal.returns-in_default

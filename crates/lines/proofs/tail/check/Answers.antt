@@ -1,10 +1,8 @@
 -- The loop keeps the answer from here on, with the symbols seen; the measure is what is left of the file.
 use Prim.Native.Nat.{◌-◌}
 use mathlib.Core.Path.{sym, ◌∙◌}
-use borrow.Author.Rules.{rules}
 use borrow.Author.Tests.{not-true, not-false}
-use lib.ListN.{length}
-use Rattle.lines.proofs.tail.Turns.{Turn, starts, ends, remarks, stops, falls, turns}
+use Rattle.lines.proofs.tail.Turns.{starts, ends, remarks, stops, falls, turns}
 use Rattle.lines.proofs.tail.check.Goals as goal
 
 pub loop-pos-init : goal.loop-pos-init

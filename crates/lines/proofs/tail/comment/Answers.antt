@@ -1,6 +1,5 @@
 -- The two bytes of the first line and the file's last byte, in order.
 use mathlib.Core.Path.{sym, ◌∙◌}
-use borrow.Author.Rules.{rules}
 use borrow.Author.Tests.{not-true, not-false}
 use Rattle.lines.proofs.tail.comment.Goals as goal
 

@@ -2,7 +2,6 @@
 use mathlib.Core.Path.{◌∙◌}
 use native.Mathlib.Omega.{arith}
 use Rattle.lines.proofs.tail.Letters.{letter-i, letter-l, letter-o, letter-b, letter-c, no-letter}
-use borrow.Author.Rules.{rules}
 use Rattle.lines.proofs.tail.is_kind.Goals as goal
 
 pub returns-in-105 : goal.returns-in-105

@@ -1,7 +1,6 @@
 -- The parts of a symbol line, one after the other.
 use mathlib.Core.Path.{sym, ◌∙◌}
 use native.Mathlib.Omega.{arith}
-use borrow.Author.Rules.{rules}
 use borrow.Author.Tests.{not-true, not-false}
 use Rattle.lines.proofs.tail.Lines.{stands-in, no_number, no-space, no_line, line-ends}
 use Rattle.lines.proofs.tail.read_line.Goals as goal

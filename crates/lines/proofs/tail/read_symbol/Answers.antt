@@ -1,7 +1,6 @@
 -- A line that was read is judged by its entry's word.
 use mathlib.Core.Path.{sym, ◌∙◌}
 use native.Mathlib.Omega.{arith}
-use borrow.Author.Rules.{rules}
 use Rattle.lines.proofs.tail.Words.{line_refused, too_far, word_fits, second, first-time}
 use Rattle.lines.proofs.tail.read_symbol.Goals as goal
 

@@ -2,7 +2,6 @@ use mathlib.Core.Path.{sym, ◌∙◌}
 use native.Mathlib.Omega.{arith}
 use borrow.Author.Tests.{not-true, not-false}
 use Rattle.lines.proofs.tail.Letters.{no_kind, no-comment, by_next}
-use borrow.Author.Rules.{rules}
 use Rattle.lines.proofs.tail.starts_symbol.Goals as goal
 
 pub returns-then-not-is_kind : goal.returns-then-not-is_kind

@@ -13,7 +13,6 @@ use Rattle.lines.proofs.outputs.Answers.{was_read, was-refused}
 use Rattle.lines.proofs.outputs.Lists.{AllHeld, observed-told}
 use Rattle.lines.proofs.text.Parts.{RowsHeld, LatchesHeld, few, rows_told, latches-told}
 use Rattle.lines.proofs.text.Body.{both, inputs-refused, latches-refused, observed-refused, gates-last}
-use borrow.Author.Rules.{rules}
 use Rattle.lines.proofs.text.read_text.Goals as goal
 
 pub returns-in_default : goal.returns-in_default

@@ -1,6 +1,5 @@
 -- Unused gates are dropped, which is not refused, and what is left is written as binary: `drops`, and the law of a making that passes.
 use mathlib.Core.Path.{◌∙◌}
-use borrow.Author.Rules.{rules}
 use Rattle.plan.specs.Circuit.{Tables, seven}
 use Rattle.plan.specs.Given.{Given}
 use Rattle.write.specs.Judged.{given_in}

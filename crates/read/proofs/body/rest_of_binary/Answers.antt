@@ -2,7 +2,6 @@
 use Prim.Native.Nat.{◌+◌, ◌-◌, ◌≤◌}
 use mathlib.Core.Path.{◌≡◌, ◌∙◌}
 use native.Mathlib.Omega.{arith}
-use borrow.Author.Rules.{rules}
 use borrow.Rule.Slice.PartMut.{mid_of, same_len_mid}
 use lib.ListN.{length}
 use Rattle.plan.specs.Circuit.{Tables, seven}
@@ -28,7 +27,7 @@ pub read_binary-read-requires : goal.read_binary-read-requires
 read_binary-read-requires c =
     let a = c.args in
     let room = c.requires.room in
-    record { m_le_most = room.most-M; a_value = c.requires.a_value; i_in_bounds = room.inputs; l_in_bounds = room.latches; o_in_bounds = room.outputs; a_in_bounds = room.gates; l_in_bounds_2 = room.resets; b_in_bounds = room.bads; c_in_bounds = room.constraints; }
+    record { m_le_most = room.most-M; a_value = c.requires.a_value; i_in_bounds = room.inputs; l_in_bounds = room.latches; o_in_bounds = room.outputs; a_in_bounds = room.gates; l_in_bounds_2 = room.resets; b_in_bounds = room.bads; c_in_bounds = room.constraints }
 
 pub shape_of-inputs-in_default : goal.shape_of-inputs-in_default
 shape_of-inputs-in_default c = c.read_binary-read.auto.inputs
@@ -79,14 +78,17 @@ check-requires c =
     let s = a.scratch.now in
     let ys = c.read_binary-read.new.marks in
     let fits : base ≤ length s = omega (arith, room.words, room.most-M, c.requires.a_value) in
-    record { holds = record {
+    record {
+      holds = record {
         most-I = room.most-I;
         most-L = room.most-L;
         most-O = room.most-O;
         most-B = room.most-B;
         most-C = room.most-C;
         words = omega (arith, first-length base s ys fits);
-      }; blank = λ i h. first-blank base s ys fits room.blank i; }
+      };
+      blank = λ i h. first-blank base s ys fits room.blank i;
+    }
 
 pub shape_of-inputs-in-Refused : goal.shape_of-inputs-in-Refused
 shape_of-inputs-in-Refused c = c.read_binary-read.auto.inputs

@@ -3,7 +3,6 @@ use Prim.Native.Nat.{◌+◌, ◌-◌, ◌≤◌, ◌<◌}
 use mathlib.Core.Path.{◌≡◌, refl, sym, ap, ◌∙◌}
 use native.Mathlib.Nat.{le_refl}
 use native.Mathlib.Omega.{arith}
-use borrow.Author.Rules.{rules}
 use borrow.Rule.Slice.PartMut.{mid_of, put_mid, mid_len, same_len_mid}
 use lib.ListN.{length}
 use Rattle.plan.specs.Circuit.{Circuit, Tables, seven}
@@ -35,7 +34,7 @@ read_text-read-requires c =
     let s = a.scratch.now in
     let long : length (mid_of base (length s - base) s) ≡ length s - base = mid_len base (length s) s (le_refl (length s)) in
     let enough : a.n.M < length (mid_of base (length s - base) s) = omega (arith, room.words, c.requires.a_bound) in
-    record { m_le_most = room.most-M; l_le_m = omega (arith, c.requires.a_bound); i_in_bounds = room.inputs; l_in_bounds = room.latches; o_in_bounds = room.outputs; a_in_bounds = room.gates; l_in_bounds_2 = room.resets; b_in_bounds = room.bads; c_in_bounds = room.constraints; m_in_bounds = enough; by_index = λ v h. zeros-mid base (length s - base) s room.blank v; }
+    record { m_le_most = room.most-M; l_le_m = omega (arith, c.requires.a_bound); i_in_bounds = room.inputs; l_in_bounds = room.latches; o_in_bounds = room.outputs; a_in_bounds = room.gates; l_in_bounds_2 = room.resets; b_in_bounds = room.bads; c_in_bounds = room.constraints; m_in_bounds = enough; by_index = λ v h. zeros-mid base (length s - base) s room.blank v }
 
 pub shape_of-inputs-in_default : goal.shape_of-inputs-in_default
 shape_of-inputs-in_default c = c.read_text-read.auto.inputs
@@ -86,14 +85,17 @@ check-requires c =
     let s = a.scratch.now in
     let ys = c.read_text-read.new.marks in
     let fits : base ≤ length s = omega (arith, room.words, room.most-M, c.requires.a_bound) in
-    record { holds = record {
+    record {
+      holds = record {
         most-I = room.most-I;
         most-L = room.most-L;
         most-O = room.most-O;
         most-B = room.most-B;
         most-C = room.most-C;
         words = omega (arith, first-length base s ys fits);
-      }; blank = λ i h. first-blank base s ys fits room.blank i; }
+      };
+      blank = λ i h. first-blank base s ys fits room.blank i;
+    }
 
 pub check-requires-in-Good : goal.check-requires-in-Good
 check-requires-in-Good c =

@@ -5,7 +5,6 @@ use native.Mathlib.Omega.{arith}
 use lib.ListN.{get_or}
 use Rattle.plan.specs.declared.Lit.{Lit}
 use Rattle.plan.specs.Literals.{index_of, lit_at, word_of, var_of, signed_as}
-use borrow.Author.Rules.{rules}
 use Rattle.reduce.proofs.folding.becomes.Goals as goal
 
 pub bounds-became-v : goal.bounds-became-v

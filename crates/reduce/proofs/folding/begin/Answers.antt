@@ -1,11 +1,10 @@
 -- Each variable below n became itself. The loop keeps what `Inv-loop` says; the measure is `n - v`. `whole` and `begin-more` carry it from turn to
 -- turn.
-use borrow.Author.Rules.{rules}
-use Prim.Native.Nat.{ℕ, ◌-◌, ◌≤◌}
+use Prim.Native.Nat.{ℕ, ◌-◌}
 use mathlib.Core.Path.{◌≡◌, refl, ap, ap₂, ◌∙◌}
 use mathlib.Core.List.{List, ◌++◌}
 use native.Mathlib.Omega.{arith}
-use lib.ListN.{length, drop, set, length-set}
+use lib.ListN.{drop, set, length-set}
 use Rattle.plan.specs.Literals.{lit_of, word_of, doubled}
 use Rattle.plan.specs.Binary.{lits_from}
 use Rattle.reduce.proofs.folding.Loop.{begin-more}

@@ -3,7 +3,6 @@
 use mathlib.Core.Path.{◌≡◌, ap, ◌∙◌}
 use Rattle.plan.specs.Literals.{word_of, neg_of}
 use Rattle.reduce.proofs.folding.Rules.{equal, opposite, left-zero, right_zero, left_one, right-one, no-rule}
-use borrow.Author.Rules.{rules}
 use Rattle.reduce.proofs.folding.by_sides.Goals as goal
 
 pub returns-then-x-y : goal.returns-then-x-y

@@ -10,7 +10,6 @@ use Rattle.reduce.specs.declared.pairs.Place.TheVariants.{Taken, Free}
 use Rattle.reduce.specs.pairs.Pairs.{Rooted}
 use Rattle.reduce.specs.folding.Rules.{StandsIn}
 use Rattle.reduce.proofs.folding.Step.{left, right, room, rooted, named-low, answered, stands, retained-as}
-use borrow.Author.Rules.{rules}
 use Rattle.reduce.proofs.folding.fold_gate.Goals as goal
 
 pub becomes-a-requires : goal.becomes-a-requires
@@ -30,7 +29,7 @@ stand_in-requires c =
     let right_is : c.becomes-b.result ≡ lit_at (right c.requires.held c.requires.roomy) =
     c.becomes-b.ensures ∙ ap (λ (l : Lit). lit_at (becomes c.args.scratch.now (word_of l))) c.at-2.ensures in
     let sides = rooted c.requires.held c.requires.roomy in
-    record { room = room c.requires.held c.requires.roomy; n_bound = named-low c.requires.held c.requires.roomy; rooted = subst₂ (λ (x y : Lit). Rooted c.args.w (word_of x) (word_of y)) (sym (left_is)) (sym (right_is)) sides; tree = c.requires.held.tree; }
+    record { room = room c.requires.held c.requires.roomy; n_bound = named-low c.requires.held c.requires.roomy; rooted = subst₂ (λ (x y : Lit). Rooted c.args.w (word_of x) (word_of y)) (sym (left_is)) (sym (right_is)) sides; tree = c.requires.held.tree }
 
 pub returns-in-Taken : goal.returns-in-Taken
 returns-in-Taken c =
@@ -51,7 +50,7 @@ hang-requires c =
     let found : (p : Place) → c.stand_in.result ≡ p → let a = c.args in StandsIn a.to.now a.scratch.now a.base a.w a.n (left c.requires.held c.requires.roomy) (right c.requires.held c.requires.roomy) p =
     λ p e. answered c.requires.held c.requires.roomy (left_is) (right_is) e c.stand_in.ensures in
     let there = found (Free _) c.in-Free.is in
-    record { room = room c.requires.held c.requires.roomy; within = there.1.0; }
+    record { room = room c.requires.held c.requires.roomy; within = there.1.0 }
 
 pub left_side-requires : goal.left_side-requires
 left_side-requires c = omega (arith, named-low c.requires.held c.requires.roomy, c.requires.roomy.few)

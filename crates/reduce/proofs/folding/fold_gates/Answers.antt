@@ -1,17 +1,15 @@
 -- Folds a gates over the variables below base: the retained gates and their number, and, first in the scratch, what each variable became. The loop
 -- keeps `(w ≡ base + a) × Going gates to₀ scratch₀ to scratch base w a k n`; the measure is `a - k`. `going_more` carries it from turn to turn, and
 -- `going_end` gives the answer.
-use Prim.Native.Nat.{◌+◌, ◌-◌, ◌<◌}
-use mathlib.Core.Path.{◌≡◌, refl, ◌∙◌}
+use Prim.Native.Nat.{◌-◌, ◌<◌}
+use mathlib.Core.Path.{refl, ◌∙◌}
 use native.Mathlib.Omega.{arith}
-use borrow.Author.Rules.{rules}
-use Rattle.reduce.proofs.folding.Loop.{Going, begun-held, going_more, going_end}
+use Rattle.reduce.proofs.folding.Loop.{begun-held, going_more, going_end}
 use Rattle.reduce.proofs.folding.fold_gates.Goals as goal
 
 pub loop-k-init : goal.loop-k-init
 loop-k-init c =
-    let a = c.args in
-    (
+    let a = c.args in (
       refl,
       record {
         within = omega arith;
@@ -29,7 +27,8 @@ fold_gate-n-requires c =
     let g = c.loop-k.invariant.1 in
     let size = c.begin.auto.scratch in
     let h : c.loop-k.k < a.a = c.loop-k-test.true in
-    record { roomy = record {
+    record {
+      roomy = record {
         leaf = c.requires.leaf;
         within = omega arith;
         few = c.requires.few;
@@ -37,7 +36,9 @@ fold_gate-n-requires c =
         to-long = omega (arith, c.requires.to-long, g.to-long);
         scratch-long = omega (arith, c.requires.scratch-long, g.scratch-long, size);
         below = c.requires.below c.loop-k.k h;
-      }; held = g.held; }
+      };
+      held = g.held;
+    }
 
 pub loop-k-preserved : goal.loop-k-preserved
 loop-k-preserved c =

@@ -1,12 +1,11 @@
 -- The left sides of n retained gates, which stand in their rows' first words once these are no links any more. The loop keeps `(i ≤ n) × (length to ≡
 -- length to₀) × (to ≡ rows base to₀ i ++ drop (3 * i) to₀)`; the measure is `n - i`. `name-more` carries it from turn to turn, and `rows` and
 -- `named-all` give the answer.
-use Prim.Native.Nat.{ℕ, ◌+◌, ◌*◌, ◌-◌, ◌≤◌}
+use Prim.Native.Nat.{ℕ, ◌+◌, ◌*◌, ◌-◌}
 use mathlib.Core.Path.{◌≡◌, refl, ap, ap₂, ◌∙◌}
 use mathlib.Core.List.{List, ◌++◌}
 use native.Mathlib.Omega.{arith}
-use borrow.Author.Rules.{rules}
-use lib.ListN.{length, drop, set, length-set}
+use lib.ListN.{drop, set, length-set}
 use Rattle.reduce.proofs.folding.Loop.{rows, name-more, named-all}
 use Rattle.reduce.proofs.folding.name_gates.Goals as goal
 

@@ -2,12 +2,11 @@
 -- and `by-twin`.
 use Rattle.plan.specs.Literals.{word_of}
 use Rattle.reduce.proofs.folding.Lookup.{rooted-sorted, by-rule, by-twin}
-use borrow.Author.Rules.{rules}
 use Rattle.reduce.proofs.folding.stand_in.Goals as goal
 
 pub find-requires : goal.find-requires
 find-requires c =
-    record { room = c.requires.room; n_bound = c.requires.n_bound; rooted = rooted-sorted c.requires.rooted c.larger.ensures c.smaller.ensures; tree = c.requires.tree; }
+    record { room = c.requires.room; n_bound = c.requires.n_bound; rooted = rooted-sorted c.requires.rooted c.larger.ensures c.smaller.ensures; tree = c.requires.tree }
 
 pub returns-in-Gives : goal.returns-in-Gives
 returns-in-Gives c =

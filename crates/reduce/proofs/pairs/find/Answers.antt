@@ -2,17 +2,15 @@
 -- the measure is `n - i`. `way_next` carries it from turn to turn, and `way-start`, `way_out` and `word-scratch` give the answer.
 use Prim.Native.Nat.{ℕ, suc, ◌+◌, ◌-◌, ◌*◌, ◌%◌, ◌<◌}
 use mathlib.Core.Path.{◌≡◌, refl, sym, ap, ◌∙◌, subst}
-use mathlib.Core.List.{List}
 use native.Mathlib.Omega.{arith}
 use lib.ListN.{get_or}
-use borrow.Author.Rules.{rules}
 use Rattle.plan.specs.Literals.{word_of}
 use Rattle.reduce.specs.declared.pairs.Place.TheVariants.{Taken}
 use Rattle.reduce.specs.pairs.Tree.{slot_of}
 use Rattle.reduce.specs.pairs.Pairs.{word, Sought}
 use Rattle.reduce.proofs.pairs.Roots.{root-low}
 use Rattle.reduce.proofs.pairs.Words.{word-scratch}
-use Rattle.reduce.proofs.pairs.Way.{Way, Come, way-start, way_out, way-low, way-found, way_next, way-after}
+use Rattle.reduce.proofs.pairs.Way.{Way, way-start, way_out, way-low, way-found, way_next, way-after}
 use Rattle.reduce.proofs.pairs.find.Goals as goal
 
 pub root-requires : goal.root-requires
@@ -115,7 +113,7 @@ pub leads-next-requires : goal.leads-next-requires
 leads-next-requires c =
     let known : c.loop-x.i < c.args.n =
     way-low c.requires.tree c.requires.rooted c.loop-x.invariant.way c.loop-x.invariant.leads in
-    record { i_in_bounds = (omega (arith, known, c.requires.room.gates-long), c.requires.room.scratch-long); w_bound = (c.requires.room.few, omega (arith, known, c.requires.room.fewer)); }
+    record { i_in_bounds = (omega (arith, known, c.requires.room.gates-long), c.requires.room.scratch-long); w_bound = (c.requires.room.few, omega (arith, known, c.requires.room.fewer)) }
 
 pub returns-then-next-eq0 : goal.returns-then-next-eq0
 returns-then-next-eq0 c =

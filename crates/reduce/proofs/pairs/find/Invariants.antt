@@ -1,18 +1,8 @@
 -- The earliest of the n gates with the sides x and y, or where it is to hang. The loop keeps `Come gates scratch w n (word_of x) (word_of y) i key`;
 -- the measure is `n - i`. `way_next` carries it from turn to turn, and `way-start`, `way_out` and `word-scratch` give the answer.
-use Prim.Native.Nat.{ℕ, suc, ◌+◌, ◌-◌, ◌*◌, ◌%◌, ◌<◌}
-use mathlib.Core.Path.{◌≡◌, refl, sym, ap, ◌∙◌, subst}
-use mathlib.Core.List.{List}
-use native.Mathlib.Omega.{arith}
-use lib.ListN.{get_or}
-use borrow.Author.Rules.{rules}
+use Prim.Native.Nat.{◌-◌}
 use Rattle.plan.specs.Literals.{word_of}
-use Rattle.reduce.specs.declared.pairs.Place.TheVariants.{Taken}
-use Rattle.reduce.specs.pairs.Tree.{slot_of}
-use Rattle.reduce.specs.pairs.Pairs.{word, Sought}
-use Rattle.reduce.proofs.pairs.Roots.{root-low}
-use Rattle.reduce.proofs.pairs.Words.{word-scratch}
-use Rattle.reduce.proofs.pairs.Way.{Way, Come, way-start, way_out, way-low, way-found, way_next, way-after}
+use Rattle.reduce.proofs.pairs.Way.{Come}
 use Rattle.reduce.proofs.pairs.find.Given as goal
 
 abbrev pub invariant-loop-x : goal.invariant-loop-x

@@ -1,7 +1,6 @@
 -- Gate n, with the sides x and y, hangs at the slot where its pair belongs. The answer is that of the call below it.
 use native.Mathlib.Omega.{arith}
 use lib.ListN.{length-set}
-use borrow.Author.Rules.{rules}
 use Rattle.reduce.specs.pairs.Pairs.{stored}
 use Rattle.reduce.proofs.pairs.hang.Goals as goal
 

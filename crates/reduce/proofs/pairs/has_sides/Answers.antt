@@ -6,7 +6,6 @@ use lib.Dec.{eqb}
 use lib.ListN.{get_or}
 use Rattle.plan.specs.Literals.{word_of}
 use mathlib.Core.Path.{◌∙◌}
-use borrow.Author.Rules.{rules}
 use Rattle.reduce.proofs.pairs.has_sides.Goals as goal
 
 pub returns-then-gates-i : goal.returns-then-gates-i

@@ -1,6 +1,5 @@
 -- What stands at gate i's link for a bit: the next gate, counted from 1, or 0. Each answer is given by `word-link`.
 use mathlib.Core.Path.{refl}
-use borrow.Author.Rules.{rules}
 use Rattle.reduce.proofs.pairs.Words.{word-link}
 use Rattle.reduce.proofs.pairs.leads.Goals as goal
 

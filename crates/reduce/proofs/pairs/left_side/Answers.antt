@@ -2,7 +2,6 @@
 use Prim.Native.Nat.{◌+◌}
 use mathlib.Core.Path.{ap, ◌∙◌}
 use native.Mathlib.Omega.{arith}
-use borrow.Author.Rules.{rules}
 use Rattle.plan.specs.Literals.{word_of, doubled}
 use Rattle.reduce.proofs.pairs.Roots.{whole}
 use Rattle.reduce.proofs.pairs.left_side.Goals as goal

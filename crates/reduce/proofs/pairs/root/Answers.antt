@@ -2,7 +2,6 @@
 use Prim.Native.Nat.{◌+◌}
 use mathlib.Core.Path.{◌≡◌, ap₂}
 use native.Mathlib.Omega.{arith}
-use borrow.Author.Rules.{rules}
 use Rattle.plan.specs.Literals.{word_of}
 use Rattle.reduce.specs.pairs.Pairs.{spread_of}
 use Rattle.reduce.proofs.pairs.Roots.{spread-low, root-under, root_over}

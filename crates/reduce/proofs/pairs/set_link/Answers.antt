@@ -1,6 +1,5 @@
 -- Gate i's link for a bit leads to gate n. The answers are given by `led-zero` and `led-one`.
 use native.Mathlib.Omega.{arith}
-use borrow.Author.Rules.{rules}
 use Rattle.reduce.proofs.pairs.Words.{led-zero, led-one}
 use Rattle.reduce.proofs.pairs.set_link.Goals as goal
 

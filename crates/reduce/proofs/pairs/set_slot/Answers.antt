@@ -2,7 +2,6 @@
 use Prim.Native.Nat.{ℕ, ◌*◌, ◌<◌}
 use mathlib.Core.Path.{◌≡◌, sym, ap, ◌∙◌, subst}
 use native.Mathlib.Omega.{arith}
-use borrow.Author.Rules.{rules}
 use Rattle.reduce.specs.declared.pairs.Slot.{Slot}
 use Rattle.reduce.specs.declared.pairs.Slot.TheVariants.{Root, Under}
 use Rattle.reduce.specs.pairs.Pairs.{Within, number_of, gates_hung, scratch_hung}
@@ -27,7 +26,7 @@ pub set_link-requires : goal.set_link-requires
 set_link-requires c =
     let link-in : (i bit : ℕ) → c.args.slot ≡ Under i bit → i < c.args.n =
     λ i bit e. (subst (λ (x : Slot). Within c.args.w c.args.n x) e c.requires.within).0 in
-    record { room = c.requires.room; i_lt_n = link-in _ _ c.in-Under.is; }
+    record { room = c.requires.room; i_lt_n = link-in _ _ c.in-Under.is }
 
 pub returns-in-Root : goal.returns-in-Root
 returns-in-Root c =

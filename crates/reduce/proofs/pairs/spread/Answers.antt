@@ -1,6 +1,5 @@
 -- How far the smaller side moves the root: its hash, a part of 2^32, on a scale of all roots. Each answer is given by `spread-is`.
 use native.Mathlib.Omega.{arith}
-use borrow.Author.Rules.{rules}
 use Rattle.plan.specs.Literals.{word_of}
 use Rattle.reduce.proofs.pairs.Roots.{spread-fits, spread-is}
 use Rattle.reduce.proofs.pairs.spread.Goals as goal

@@ -4,7 +4,6 @@ use mathlib.Core.Path.{ap, ◌∙◌}
 use mathlib.Core.List.{List}
 use native.Mathlib.Omega.{arith}
 use lib.ListN.{get_or, set, length-set}
-use borrow.Author.Rules.{rules}
 use Rattle.report.specs.needles.Tally.{differs}
 use Rattle.report.proofs.needles.Counting.{counted-put, fourth-stays}
 use Rattle.report.proofs.needles.count.Goals as goal

@@ -1,11 +1,8 @@
 -- One step more of n needles, whose words start at `at`, by the values in words from `from` on. The loop keeps `Rowed`; the measure is `n - i`.
 -- `counts-more` carries it from turn to turn, and `rowed-all` gives the answer.
-use Prim.Native.Nat.{◌+◌, ◌-◌, ◌≤◌}
+use Prim.Native.Nat.{◌-◌}
 use native.Mathlib.Omega.{arith}
-use lib.ListN.{get_or}
-use borrow.Author.Rules.{rules}
-use Rattle.report.specs.needles.Tally.{counted, row_from}
-use Rattle.report.proofs.needles.Looping.{Rowed, rowed-none, asks, counts-more, rowed-all}
+use Rattle.report.proofs.needles.Looping.{rowed-none, asks, counts-more, rowed-all}
 use Rattle.report.proofs.needles.count_all.Goals as goal
 
 pub loop-i-init : goal.loop-i-init

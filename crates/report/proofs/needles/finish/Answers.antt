@@ -1,12 +1,10 @@
 -- After the last step the values of the step before go: of n needles the changes alone stay. The loop keeps `Rowed`; the measure is `n - i`.
 -- `finish-next` carries it from turn to turn, and `rowed-all` gives the answer.
-use Prim.Native.Nat.{◌+◌, ◌*◌, ◌-◌, ◌≤◌}
-use mathlib.Core.Path.{◌≡◌, refl}
+use Prim.Native.Nat.{◌-◌}
+use mathlib.Core.Path.{refl}
 use native.Mathlib.Omega.{arith}
 use lib.ListN.{length-set}
-use borrow.Author.Rules.{rules}
-use Rattle.report.specs.needles.Tally.{finished, row_from}
-use Rattle.report.proofs.needles.Looping.{Rowed, rowed-none, finish-next, rowed-all}
+use Rattle.report.proofs.needles.Looping.{rowed-none, finish-next, rowed-all}
 use Rattle.report.proofs.needles.finish.Goals as goal
 
 pub loop-i-init : goal.loop-i-init
@@ -31,12 +29,11 @@ pub overflow_add-at : goal.overflow_add-at
 overflow_add-at c = omega (arith, c.loop-i.invariant.1, c.loop-i.invariant.2.as_long, c.requires, c.loop-i-test.true)
 
 pub loop-i-preserved : goal.loop-i-preserved
-loop-i-preserved c =
-    (
-      omega arith,
-      omega (arith, c.loop-i.invariant.1),
-      finish-next c.requires c.loop-i-test.true c.loop-i.invariant.1 c.loop-i.invariant.2 _ (length-set c.loop-i.six c.loop-i.at _) refl,
-    )
+loop-i-preserved c = (
+  omega arith,
+  omega (arith, c.loop-i.invariant.1),
+  finish-next c.requires c.loop-i-test.true c.loop-i.invariant.1 c.loop-i.invariant.2 _ (length-set c.loop-i.six c.loop-i.at _) refl,
+)
 
 pub shape_of-six : goal.shape_of-six
 shape_of-six c = c.loop-i.invariant.2.as_long

@@ -1,12 +1,9 @@
 -- After the last step the values of the step before go: of n needles the changes alone stay. The loop keeps `Rowed`; the measure is `n - i`.
 -- `finish-next` carries it from turn to turn, and `rowed-all` gives the answer.
 use Prim.Native.Nat.{◌+◌, ◌*◌, ◌-◌, ◌≤◌}
-use mathlib.Core.Path.{◌≡◌, refl}
-use native.Mathlib.Omega.{arith}
-use lib.ListN.{length-set}
-use borrow.Author.Rules.{rules}
+use mathlib.Core.Path.{◌≡◌}
 use Rattle.report.specs.needles.Tally.{finished, row_from}
-use Rattle.report.proofs.needles.Looping.{Rowed, rowed-none, finish-next, rowed-all}
+use Rattle.report.proofs.needles.Looping.{Rowed}
 use Rattle.report.proofs.needles.finish.Given as goal
 
 abbrev pub invariant-loop-i : goal.invariant-loop-i

@@ -5,11 +5,9 @@ use mathlib.Core.Path.{◌≡◌, ap₂}
 use native.Mathlib.Omega.{arith}
 use lib.ListN.{length, get_or}
 use Rattle.rows.specs.Planes.Planes.{other}
-use Rattle.rows.specs.lanes.Blocks.{Written}
 use Rattle.rows.proofs.lanes.Starting.{other-small}
 use Rattle.rows.proofs.lanes.Storing.{written_none, written-more, written_all}
 use Rattle.rows.proofs.lanes.Loading.{bit-times}
-use borrow.Author.Rules.{rules}
 use Rattle.rows.proofs.lanes.add_row.Goals as goal
 
 pub loop-j-init : goal.loop-j-init
@@ -80,8 +78,7 @@ loop-j-preserved c =
     let room : c.args.to + c.loop-j.j < length c.args.block.now =
     omega (arith, c.requires.w_in_bounds.1, c.loop-j-test.true) in
     let untouched : let a = c.args in get_or c.loop-j.block (a.to + c.loop-j.j) 0 ≡ get_or a.block.now (a.to + c.loop-j.j) 0 =
-    let a = c.args in c.loop-j.invariant.1.after (a.to + c.loop-j.j) (omega arith) in
-    (
+    let a = c.args in c.loop-j.invariant.1.after (a.to + c.loop-j.j) (omega arith) in (
       omega (arith, c.loop-j-test.true),
       written-more c.loop-j.invariant.1 _ (room)
           (ap₂ (λ (x y : ℕ). x + y * c.args.lit) (untouched) c.other_than-differs.ensures),

@@ -1,15 +1,9 @@
 -- A row is added to a block: where its byte differs from a code, the bit `lit` of the column's byte is lit. The loop keeps `Written`; the measure is
 -- `w - j`. `written-more` carries it from turn to turn, and `written_all` gives the answer.
-use Prim.Native.Nat.{ℕ, ◌+◌, ◌*◌, ◌-◌, ◌≤◌, ◌<◌}
-use mathlib.Core.Path.{◌≡◌, ap₂}
-use native.Mathlib.Omega.{arith}
-use lib.ListN.{length, get_or}
+use Prim.Native.Nat.{◌+◌, ◌*◌, ◌-◌, ◌≤◌}
+use lib.ListN.{get_or}
 use Rattle.rows.specs.Planes.Planes.{other}
 use Rattle.rows.specs.lanes.Blocks.{Written}
-use Rattle.rows.proofs.lanes.Starting.{other-small}
-use Rattle.rows.proofs.lanes.Storing.{written_none, written-more, written_all}
-use Rattle.rows.proofs.lanes.Loading.{bit-times}
-use borrow.Author.Rules.{rules}
 use Rattle.rows.proofs.lanes.add_row.Given as goal
 
 abbrev pub invariant-loop-j : goal.invariant-loop-j

@@ -8,7 +8,6 @@ use Rattle.plan.specs.Outcome.{put}
 use Rattle.rows.specs.lanes.Words.{plane_at}
 use Rattle.rows.specs.lanes.Working.{There}
 use Rattle.rows.proofs.lanes.Turns.{three-put, literal-counts}
-use borrow.Author.Rules.{rules}
 use Rattle.rows.proofs.lanes.count_literal.Goals as goal
 
 pub plane_of-zero-requires : goal.plane_of-zero-requires

@@ -1,18 +1,15 @@
 -- Per output the rows at 0, at 1 and at x. The loop keeps what `Inv-loop` says; the measure is `n - j`. `rows_more` carries it from turn to turn.
-use Prim.Native.Nat.{ℕ, ◌*◌, ◌-◌, ◌≤◌}
+use Prim.Native.Nat.{ℕ, ◌-◌}
 use mathlib.Core.Path.{◌≡◌, refl, sym, ap, ◌∙◌, subst}
 use native.Mathlib.Omega.{arith}
-use lib.ListN.{length, get_or}
+use lib.ListN.{get_or}
 use Rattle.plan.specs.declared.Lit.{Lit}
 use Rattle.plan.specs.Literals.{word_of}
-use Rattle.plan.specs.Circuit.{flat}
 use Rattle.plan.specs.Outcome.{put}
-use Rattle.laws.proofs.Tables.{firsts}
 use Rattle.laws.proofs.Put.{put-none}
 use Rattle.judge.proofs.used.Walked.{one_word}
 use Rattle.rows.specs.lanes.Working.{There, counts_at, counts_of}
 use Rattle.rows.proofs.lanes.Turns.{rows_more}
-use borrow.Author.Rules.{rules}
 use Rattle.rows.proofs.lanes.count_rows.Goals as goal
 
 pub loop-j-init : goal.loop-j-init
@@ -26,9 +23,12 @@ bounds-outputs-j c = omega (arith, c.requires.shows.literals-long, c.loop-j-test
 
 pub count_literal-requires : goal.count_literal-requires
 count_literal-requires c =
-    record { there = subst (λ (x : Lit). There (word_of x) c.args.t.now) (sym c.at.ensures)
+    record {
+      there = subst (λ (x : Lit). There (word_of x) c.args.t.now) (sym c.at.ensures)
           (subst (λ (l : ℕ). There l c.args.t.now) (sym (one_word c.args.outputs.now c.loop-j.j))
-          (c.requires.shows.inside c.loop-j.j c.loop-j-test.true)); at_in_bounds = omega (arith, c.loop-j.invariant.1, c.loop-j.invariant.2, c.requires.n_in_bounds, c.loop-j-test.true); }
+          (c.requires.shows.inside c.loop-j.j c.loop-j-test.true));
+      at_in_bounds = omega (arith, c.loop-j.invariant.1, c.loop-j.invariant.2, c.requires.n_in_bounds, c.loop-j-test.true);
+    }
 
 pub overflow_add-at : goal.overflow_add-at
 overflow_add-at c = omega (arith, c.loop-j.invariant.1, c.requires.n_in_bounds, c.loop-j-test.true)

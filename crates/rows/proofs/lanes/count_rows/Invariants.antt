@@ -1,18 +1,11 @@
 -- Per output the rows at 0, at 1 and at x. The loop keeps what `Inv-loop` says; the measure is `n - j`. `rows_more` carries it from turn to turn.
-use Prim.Native.Nat.{ℕ, ◌*◌, ◌-◌, ◌≤◌}
-use mathlib.Core.Path.{◌≡◌, refl, sym, ap, ◌∙◌, subst}
-use native.Mathlib.Omega.{arith}
+use Prim.Native.Nat.{◌*◌, ◌-◌, ◌≤◌}
+use mathlib.Core.Path.{◌≡◌}
 use lib.ListN.{length, get_or}
-use Rattle.plan.specs.declared.Lit.{Lit}
-use Rattle.plan.specs.Literals.{word_of}
 use Rattle.plan.specs.Circuit.{flat}
 use Rattle.plan.specs.Outcome.{put}
 use Rattle.laws.proofs.Tables.{firsts}
-use Rattle.laws.proofs.Put.{put-none}
-use Rattle.judge.proofs.used.Walked.{one_word}
-use Rattle.rows.specs.lanes.Working.{There, counts_at, counts_of}
-use Rattle.rows.proofs.lanes.Turns.{rows_more}
-use borrow.Author.Rules.{rules}
+use Rattle.rows.specs.lanes.Working.{counts_at}
 use Rattle.rows.proofs.lanes.count_rows.Given as goal
 
 abbrev pub invariant-loop-j : goal.invariant-loop-j

@@ -9,7 +9,6 @@ use Rattle.laws.proofs.Tables.{row_ends}
 use Rattle.step.proofs.sweep.Lookups.{next-at}
 use Rattle.rows.specs.lanes.Blocks.{Packed}
 use Rattle.rows.proofs.lanes.Loading.{loaded, packed_none, packed-room, packed_more}
-use borrow.Author.Rules.{rules}
 use Rattle.rows.proofs.lanes.load_block.Goals as goal
 
 pub loop-k-init : goal.loop-k-init
@@ -31,10 +30,13 @@ add_row-requires c =
     let lane : c.loop-k.k < 64 =
     omega (arith, c.loop-k-test.true, c.requires.block.most) in
     let a = c.args in
-    record { w_in_bounds = (
+    record {
+      w_in_bounds = (
         omega (arith, row_fits, c.requires.block.inside, c.loop-k.invariant.1),
         omega (arith, lane, c.requires.block.narrow, c.requires.in_bounds.0, c.loop-k.invariant.2),
-      ); by_index = packed-room a.code a.bytes.now a.from a.n a.w c.loop-k.k c.loop-k.block c.loop-k.invariant.3 (lane); }
+      );
+      by_index = packed-room a.code a.bytes.now a.from a.n a.w c.loop-k.k c.loop-k.block c.loop-k.invariant.3 (lane);
+    }
 
 pub overflow_add-at : goal.overflow_add-at
 overflow_add-at c =
@@ -53,8 +55,7 @@ pub loop-k-preserved : goal.loop-k-preserved
 loop-k-preserved c =
     let lane : c.loop-k.k < 64 =
     omega (arith, c.loop-k-test.true, c.requires.block.most) in
-    let a = c.args in
-    (
+    let a = c.args in (
       omega (arith, c.loop-k-test.true),
       next-at a.n a.from c.loop-k.k c.loop-k.at c.loop-k.invariant.1,
       c.add_row.auto.block ∙ c.loop-k.invariant.2,

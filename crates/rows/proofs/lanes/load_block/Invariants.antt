@@ -1,15 +1,10 @@
 -- Where w columns of rows of n bytes, from column `from` on, differ from a code: a block, which is zero at first. The loop keeps `Packed`; the
 -- measure is `rows - k`. `next-at` and `packed_more` carry it from turn to turn, and `loaded` gives the answer.
-use Prim.Native.Nat.{ℕ, ◌+◌, ◌*◌, ◌-◌, ◌≤◌, ◌<◌}
-use mathlib.Core.Path.{◌≡◌, refl, ◌∙◌, subst}
-use native.Mathlib.Nat.{mul-zero}
-use native.Mathlib.Omega.{arith}
+use Prim.Native.Nat.{◌+◌, ◌*◌, ◌-◌, ◌≤◌}
+use mathlib.Core.Path.{◌≡◌}
 use lib.ListN.{length}
-use Rattle.laws.proofs.Tables.{row_ends}
-use Rattle.step.proofs.sweep.Lookups.{next-at}
 use Rattle.rows.specs.lanes.Blocks.{Packed}
-use Rattle.rows.proofs.lanes.Loading.{loaded, packed_none, packed-room, packed_more}
-use borrow.Author.Rules.{rules}
+use Rattle.rows.proofs.lanes.Loading.{loaded}
 use Rattle.rows.proofs.lanes.load_block.Given as goal
 
 abbrev pub invariant-loop-k : goal.invariant-loop-k

@@ -4,21 +4,20 @@ use Prim.Native.Nat.{◌+◌}
 use native.Mathlib.Omega.{arith}
 use Rattle.rows.specs.Planes.Planes.{column}
 use Rattle.rows.proofs.lanes.Loading.{grows_same, block-plane, all-zero}
-use borrow.Author.Rules.{rules}
 use Rattle.rows.proofs.lanes.load_columns.Goals as goal
 
 pub load_block-requires : goal.load_block-requires
-load_block-requires c = record { block = c.requires.block; in_bounds = (omega arith, all-zero 512); }
+load_block-requires c = record { block = c.requires.block; in_bounds = (omega arith, all-zero 512) }
 
 pub load_block-requires-2 : goal.load_block-requires-2
-load_block-requires-2 c = record { block = c.requires.block; in_bounds = (omega arith, all-zero 512); }
+load_block-requires-2 c = record { block = c.requires.block; in_bounds = (omega arith, all-zero 512) }
 
 pub overflow_add-from : goal.overflow_add-from
 overflow_add-from c = omega (arith, c.requires.w_in_bounds)
 
 pub put_columns-requires : goal.put_columns-requires
 put_columns-requires c =
-    record { w_bound = (c.requires.block.narrow, omega (arith, c.load_block.auto.block), omega (arith, c.load_block-2.auto.block)); w_in_bounds = c.requires.w_in_bounds; }
+    record { w_bound = (c.requires.block.narrow, omega (arith, c.load_block.auto.block), omega (arith, c.load_block-2.auto.block)); w_in_bounds = c.requires.w_in_bounds }
 
 pub returns : goal.returns
 returns c =

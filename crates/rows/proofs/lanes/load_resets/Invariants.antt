@@ -1,15 +1,12 @@
 -- The latches' planes, by their resets, behind those of `before` variables: in every row the same. The loop keeps `Grows`; the measure is `n - j`.
 -- `grows-more` carries it from turn to turn, and `grows_all` gives the answer.
 use Prim.Native.Nat.{ℕ, ◌+◌, ◌*◌, ◌-◌, ◌≤◌}
-use mathlib.Core.Path.{◌≡◌, refl, ◌∙◌}
+use mathlib.Core.Path.{◌≡◌}
 use mathlib.Core.List.{List}
-use native.Mathlib.Omega.{arith}
 use lib.ListN.{length, get_or}
 use Rattle.rows.specs.Planes.Planes.{other}
 use Rattle.rows.specs.lanes.Words.{every_row}
 use Rattle.rows.specs.lanes.Working.{Grows}
-use Rattle.rows.proofs.lanes.Turns.{grows_none, grows-more, grows_all}
-use borrow.Author.Rules.{rules}
 use Rattle.rows.proofs.lanes.load_resets.Given as goal
 
 -- where latch j differs from a reset

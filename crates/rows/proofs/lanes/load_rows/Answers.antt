@@ -1,12 +1,10 @@
 -- The inputs' planes, from the rows' bytes, behind the constant's. The loop keeps `Grows`; the measure is `n - j`. `grows-join` carries it from turn
 -- to turn, and `grows_all` gives the answer.
-use Prim.Native.Nat.{ℕ, ◌-◌, ◌≤◌}
-use mathlib.Core.Path.{◌≡◌, refl, ◌∙◌}
+use Prim.Native.Nat.{ℕ, ◌-◌}
+use mathlib.Core.Path.{refl, ◌∙◌}
 use mathlib.Core.List.{List}
 use native.Mathlib.Omega.{arith}
-use lib.ListN.{length}
 use Rattle.rows.specs.Planes.Planes.{column}
-use Rattle.rows.specs.lanes.Working.{Grows}
 use Rattle.rows.proofs.lanes.Turns.{grows_none, grows_all}
 use Rattle.rows.proofs.lanes.Loading.{grows-join}
 use Rattle.rows.proofs.lanes.load_rows.Goals as goal
@@ -32,13 +30,16 @@ width-w-requires c = omega (arith, c.loop-j-test.true)
 pub load_columns-requires : goal.load_columns-requires
 load_columns-requires c =
     let w = c.width-w.ensures in
-    record { block = record {
+    record {
+      block = record {
         some = w.0;
         inside = omega (arith, w.1, c.loop-j-test.true);
         narrow = w.2;
         most = c.requires.0;
         whole = c.requires.1;
-      }; w_in_bounds = omega (arith, w.1, c.loop-j-test.true, c.loop-j.invariant.1, c.requires.2); }
+      };
+      w_in_bounds = omega (arith, w.1, c.loop-j-test.true, c.loop-j.invariant.1, c.requires.2);
+    }
 
 pub overflow_add-j : goal.overflow_add-j
 overflow_add-j c = omega (arith, c.width-w.ensures.1, c.loop-j-test.true)
@@ -50,8 +51,7 @@ loop-j-smaller c =
 
 pub loop-j-preserved : goal.loop-j-preserved
 loop-j-preserved c =
-    let a = c.args in
-    (
+    let a = c.args in (
       omega (arith, c.width-w.ensures.1, c.loop-j-test.true),
       c.load_columns.auto.t ∙ c.loop-j.invariant.1,
       grows-join 1 (one a.bytes.now a.n a.rows) (zero a.bytes.now a.n a.rows) c.loop-j.j c.width-w.result

@@ -1,14 +1,11 @@
 -- The inputs' planes, from the rows' bytes, behind the constant's. The loop keeps `Grows`; the measure is `n - j`. `grows-join` carries it from turn
 -- to turn, and `grows_all` gives the answer.
 use Prim.Native.Nat.{ℕ, ◌-◌, ◌≤◌}
-use mathlib.Core.Path.{◌≡◌, refl, ◌∙◌}
+use mathlib.Core.Path.{◌≡◌}
 use mathlib.Core.List.{List}
-use native.Mathlib.Omega.{arith}
 use lib.ListN.{length}
 use Rattle.rows.specs.Planes.Planes.{column}
 use Rattle.rows.specs.lanes.Working.{Grows}
-use Rattle.rows.proofs.lanes.Turns.{grows_none, grows_all}
-use Rattle.rows.proofs.lanes.Loading.{grows-join}
 use Rattle.rows.proofs.lanes.load_rows.Given as goal
 
 -- the planes of input j

@@ -4,7 +4,6 @@ use mathlib.Core.Path.{sym, ap}
 use native.Mathlib.Omega.{arith}
 use lib.Pow.{suc_ones}
 use Rattle.rows.proofs.lanes.Turns.{one_shl}
-use borrow.Author.Rules.{rules}
 use Rattle.rows.proofs.lanes.mask_of.Goals as goal
 
 pub returns-then-rows-eq64 : goal.returns-then-rows-eq64

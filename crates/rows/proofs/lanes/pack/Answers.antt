@@ -12,9 +12,7 @@ use Rattle.laws.proofs.Tables.{row_ends}
 use Rattle.step.proofs.sweep.Lookups.{next-at}
 use Rattle.rows.specs.lanes.Words.{plane_at, both_at, byte_of}
 use Rattle.rows.specs.lanes.Working.{There, literal_at}
-use Rattle.rows.specs.lanes.Blocks.{Packed}
 use Rattle.rows.proofs.lanes.Storing.{below_none, below_more}
-use borrow.Author.Rules.{rules}
 use Rattle.rows.proofs.lanes.pack.Goals as goal
 
 -- the planes of column j
@@ -139,4 +137,4 @@ shape_of-boths c = c.loop-j.invariant.3
 pub returns : goal.returns
 returns c =
     let all : c.loop-j.j ≡ c.args.w = omega arith in
-    record { packed = λ g j h i. c.loop-j.invariant.4 g j h (omega (arith, all, i)); packed_2 = λ g j h i. c.loop-j.invariant.5 g j h (omega (arith, all, i)); }
+    record { packed = λ g j h i. c.loop-j.invariant.4 g j h (omega (arith, all, i)); packed_2 = λ g j h i. c.loop-j.invariant.5 g j h (omega (arith, all, i)) }

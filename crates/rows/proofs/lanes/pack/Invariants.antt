@@ -1,20 +1,12 @@
 -- The planes of w literals of a table, from the one of column `from` on, as blocks: where each may be 1, and where it may be both. The loop keeps
 -- `Packed`; the measure is `w - j`. `next-at` and `below_more` carry it from turn to turn.
-use Prim.Native.Nat.{ℕ, ◌+◌, ◌*◌, ◌-◌, ◌≤◌, ◌<◌}
-use mathlib.Core.Path.{◌≡◌, refl, sym, ap, ap₂, ◌∙◌, subst}
+use Prim.Native.Nat.{ℕ, ◌+◌, ◌*◌, ◌-◌, ◌≤◌}
+use mathlib.Core.Path.{◌≡◌}
 use mathlib.Core.List.{List}
-use native.Mathlib.Omega.{arith}
-use lib.Bits.{bit_and}
-use lib.ListN.{length, get_or}
-use Rattle.plan.specs.declared.Lit.{Lit}
-use Rattle.plan.specs.Literals.{word_of, neg_of}
-use Rattle.laws.proofs.Tables.{row_ends}
-use Rattle.step.proofs.sweep.Lookups.{next-at}
-use Rattle.rows.specs.lanes.Words.{plane_at, both_at, byte_of}
-use Rattle.rows.specs.lanes.Working.{There, literal_at}
+use lib.ListN.{length}
+use Rattle.rows.specs.lanes.Words.{plane_at, both_at}
+use Rattle.rows.specs.lanes.Working.{literal_at}
 use Rattle.rows.specs.lanes.Blocks.{Packed}
-use Rattle.rows.proofs.lanes.Storing.{below_none, below_more}
-use borrow.Author.Rules.{rules}
 use Rattle.rows.proofs.lanes.pack.Given as goal
 
 -- the planes of column j

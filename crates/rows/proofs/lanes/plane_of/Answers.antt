@@ -1,7 +1,6 @@
 -- The rows in which a literal may be 1. The answer is that of the call below it.
 use mathlib.Core.Path.{ap, ◌∙◌}
 use Rattle.rows.specs.lanes.Words.{plane_at}
-use borrow.Author.Rules.{rules}
 use Rattle.rows.proofs.lanes.plane_of.Goals as goal
 
 pub returns : goal.returns

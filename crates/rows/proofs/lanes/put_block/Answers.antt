@@ -1,7 +1,6 @@
 -- The codes of a block in each row, which go to the columns from `from` on. The loop keeps `Blocked`; the measure is `rows - k`. `next-at` and
 -- `blocked-more` carry it from turn to turn, and `blocked-all` gives the answer.
 use Prim.Native.Nat.{ℕ, ◌+◌, ◌*◌, ◌-◌, ◌/◌, ◌%◌, ◌≤◌}
-use mathlib.Core.Path.{◌≡◌}
 use mathlib.Core.List.{List}
 use native.Mathlib.Nat.{mul-zero}
 use native.Mathlib.Omega.{arith}
@@ -9,7 +8,6 @@ use lib.ListN.{length, get_or}
 use Rattle.laws.proofs.Tables.{row_ends}
 use Rattle.step.proofs.sweep.Lookups.{next-at}
 use Rattle.rows.specs.lanes.Words.{code_by}
-use Rattle.rows.specs.lanes.Blocks.{Blocked}
 use Rattle.rows.proofs.lanes.Storing.{blocked-none, blocked-more, blocked-all}
 use Rattle.rows.proofs.lanes.put_block.Goals as goal
 
@@ -29,11 +27,14 @@ put_codes-requires c =
     let row_fits : let a = c.args in a.n * c.loop-k.k + a.n ≤ length a.out.now =
     let a = c.args in
     row_ends a.n a.rows c.loop-k.k a.out.now c.requires.block.whole c.loop-k-test.true in
-    record { lane_bound = omega arith; w_in_bounds = (
+    record {
+      lane_bound = omega arith;
+      w_in_bounds = (
         omega (arith, c.loop-k-test.true, c.requires.block.most, c.requires.block.narrow, c.requires.in_bounds.0),
         omega (arith, c.loop-k-test.true, c.requires.block.most, c.requires.block.narrow, c.requires.in_bounds.1),
         omega (arith, row_fits, c.requires.block.inside, c.loop-k.invariant.1, c.loop-k.invariant.2.same),
-      ); }
+      );
+    }
 
 pub overflow_add-to : goal.overflow_add-to
 overflow_add-to c =
@@ -50,8 +51,7 @@ loop-k-smaller c = omega (arith, c.loop-k-test.true)
 
 pub loop-k-preserved : goal.loop-k-preserved
 loop-k-preserved c =
-    let a = c.args in
-    (
+    let a = c.args in (
       omega (arith, c.loop-k-test.true),
       next-at a.n a.from c.loop-k.k c.loop-k.to c.loop-k.invariant.1,
       blocked-more c.loop-k.invariant.2 c.requires.block.inside c.loop-k.to c.loop-k.invariant.1 _ c.put_codes.ensures,

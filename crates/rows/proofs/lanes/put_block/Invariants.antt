@@ -3,14 +3,9 @@
 use Prim.Native.Nat.{ℕ, ◌+◌, ◌*◌, ◌-◌, ◌/◌, ◌%◌, ◌≤◌}
 use mathlib.Core.Path.{◌≡◌}
 use mathlib.Core.List.{List}
-use native.Mathlib.Nat.{mul-zero}
-use native.Mathlib.Omega.{arith}
-use lib.ListN.{length, get_or}
-use Rattle.laws.proofs.Tables.{row_ends}
-use Rattle.step.proofs.sweep.Lookups.{next-at}
+use lib.ListN.{get_or}
 use Rattle.rows.specs.lanes.Words.{code_by}
 use Rattle.rows.specs.lanes.Blocks.{Blocked}
-use Rattle.rows.proofs.lanes.Storing.{blocked-none, blocked-more, blocked-all}
 use Rattle.rows.proofs.lanes.put_block.Given as goal
 
 abbrev codes : List ℕ → List ℕ → ℕ → ℕ → ℕ

@@ -1,12 +1,10 @@
 -- The bytes of a plane, as column j of a block. The loop keeps `Striped`; the measure is `8 - g`. `byte_more` and `striped-more` carry it from turn
 -- to turn, and `striped-all` gives the answer.
-use Prim.Native.Nat.{◌+◌, ◌*◌, ◌-◌, ◌/◌, ◌%◌, ◌^◌, ◌≤◌}
-use mathlib.Core.Path.{◌≡◌, ap}
+use Prim.Native.Nat.{◌-◌, ◌%◌}
+use mathlib.Core.Path.{ap}
 use native.Mathlib.Omega.{arith}
 use Rattle.rows.specs.lanes.Words.{byte_of}
-use Rattle.rows.specs.lanes.Blocks.{Striped}
 use Rattle.rows.proofs.lanes.Storing.{striped-none, striped-more, striped-all, byte-none, byte_more}
-use borrow.Author.Rules.{rules}
 use Rattle.rows.proofs.lanes.put_bytes.Goals as goal
 
 pub loop-g-init : goal.loop-g-init
@@ -23,8 +21,7 @@ overflow_add-at c = omega (arith, c.requires.0, c.loop-g-test.true, c.loop-g.inv
 
 pub loop-g-preserved : goal.loop-g-preserved
 loop-g-preserved c =
-    let a = c.args in
-    (
+    let a = c.args in (
       omega (arith, c.loop-g-test.true),
       omega (arith, c.loop-g.invariant.1),
       byte_more a.plane c.loop-g.g c.loop-g.rest c.loop-g.invariant.2,

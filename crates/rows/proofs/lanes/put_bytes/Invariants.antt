@@ -1,12 +1,9 @@
 -- The bytes of a plane, as column j of a block. The loop keeps `Striped`; the measure is `8 - g`. `byte_more` and `striped-more` carry it from turn
 -- to turn, and `striped-all` gives the answer.
-use Prim.Native.Nat.{◌+◌, ◌*◌, ◌-◌, ◌/◌, ◌%◌, ◌^◌, ◌≤◌}
-use mathlib.Core.Path.{◌≡◌, ap}
-use native.Mathlib.Omega.{arith}
+use Prim.Native.Nat.{◌+◌, ◌*◌, ◌-◌, ◌/◌, ◌^◌, ◌≤◌}
+use mathlib.Core.Path.{◌≡◌}
 use Rattle.rows.specs.lanes.Words.{byte_of}
 use Rattle.rows.specs.lanes.Blocks.{Striped}
-use Rattle.rows.proofs.lanes.Storing.{striped-none, striped-more, striped-all, byte-none, byte_more}
-use borrow.Author.Rules.{rules}
 use Rattle.rows.proofs.lanes.put_bytes.Given as goal
 
 abbrev pub invariant-loop-g : goal.invariant-loop-g

@@ -1,12 +1,11 @@
 -- The codes of w columns in one row, whose bits are those in a lane of the bytes from `from` on. The loop keeps `Written`; the measure is `w - j`.
 -- `written-more` carries it from turn to turn, and `written_all` gives the answer.
-use Prim.Native.Nat.{ℕ, ◌+◌, ◌*◌, ◌-◌, ◌≤◌, ◌<◌}
+use Prim.Native.Nat.{ℕ, ◌+◌, ◌*◌, ◌-◌, ◌<◌}
 use mathlib.Core.Path.{ap₂}
 use native.Mathlib.Omega.{arith}
 use lib.ListN.{length, get_or}
 use Rattle.rows.proofs.Planes.Bits.{bit-small}
 use Rattle.rows.specs.lanes.Words.{code_by}
-use Rattle.rows.specs.lanes.Blocks.{Written}
 use Rattle.rows.proofs.lanes.Storing.{written_none, written-more, written_all}
 use Rattle.rows.proofs.lanes.put_codes.Goals as goal
 
@@ -78,8 +77,7 @@ loop-j-smaller c = omega (arith, c.loop-j-test.true)
 pub loop-j-preserved : goal.loop-j-preserved
 loop-j-preserved c =
     let room : c.args.to + c.loop-j.j < length c.args.out.now =
-    omega (arith, c.requires.w_in_bounds.2, c.loop-j-test.true) in
-    (
+    omega (arith, c.requires.w_in_bounds.2, c.loop-j-test.true) in (
       omega (arith, c.loop-j-test.true),
       written-more c.loop-j.invariant.1 _ (room)
           (ap₂ (λ (x y : ℕ). 48 + x + 71 * y) c.lane_of-one.ensures c.lane_of-both.ensures),

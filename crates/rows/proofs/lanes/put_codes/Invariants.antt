@@ -1,13 +1,9 @@
 -- The codes of w columns in one row, whose bits are those in a lane of the bytes from `from` on. The loop keeps `Written`; the measure is `w - j`.
 -- `written-more` carries it from turn to turn, and `written_all` gives the answer.
-use Prim.Native.Nat.{ℕ, ◌+◌, ◌*◌, ◌-◌, ◌≤◌, ◌<◌}
-use mathlib.Core.Path.{ap₂}
-use native.Mathlib.Omega.{arith}
-use lib.ListN.{length, get_or}
-use Rattle.rows.proofs.Planes.Bits.{bit-small}
+use Prim.Native.Nat.{◌+◌, ◌-◌, ◌≤◌}
+use lib.ListN.{get_or}
 use Rattle.rows.specs.lanes.Words.{code_by}
 use Rattle.rows.specs.lanes.Blocks.{Written}
-use Rattle.rows.proofs.lanes.Storing.{written_none, written-more, written_all}
 use Rattle.rows.proofs.lanes.put_codes.Given as goal
 
 abbrev pub invariant-loop-j : goal.invariant-loop-j

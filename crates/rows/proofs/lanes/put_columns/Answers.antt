@@ -1,13 +1,11 @@
 -- The planes of a block's columns, behind those of `before` variables. The loop keeps `Grows`; the measure is `w - j`. `grows-more` carries it from
 -- turn to turn, and `grows_all` gives the answer.
 use Prim.Native.Nat.{ℕ, ◌+◌, ◌*◌, ◌-◌, ◌≤◌, ◌<◌}
-use mathlib.Core.Path.{◌≡◌, refl, ap₂, ◌∙◌}
+use mathlib.Core.Path.{refl, ap₂, ◌∙◌}
 use native.Mathlib.Omega.{arith}
 use lib.ListN.{length}
 use Rattle.rows.specs.lanes.Words.{block_plane}
-use Rattle.rows.specs.lanes.Working.{Grows}
 use Rattle.rows.proofs.lanes.Turns.{grows_none, grows-more, grows_all}
-use borrow.Author.Rules.{rules}
 use Rattle.rows.proofs.lanes.put_columns.Goals as goal
 
 pub overflow_mul-to : goal.overflow_mul-to
@@ -76,8 +74,7 @@ pub loop-j-preserved : goal.loop-j-preserved
 loop-j-preserved c =
     let room : c.loop-j.to + 4 ≤ length c.loop-j.t =
     omega (arith, c.loop-j.invariant.1, c.loop-j.invariant.2, c.requires.w_in_bounds, c.loop-j-test.true) in
-    let a = c.args in
-    (
+    let a = c.args in (
       omega (arith, c.loop-j-test.true),
       omega (arith, c.loop-j.invariant.1),
       c.put_planes.auto.t ∙ c.loop-j.invariant.2,

@@ -1,13 +1,10 @@
 -- The planes of a block's columns, behind those of `before` variables. The loop keeps `Grows`; the measure is `w - j`. `grows-more` carries it from
 -- turn to turn, and `grows_all` gives the answer.
-use Prim.Native.Nat.{ℕ, ◌+◌, ◌*◌, ◌-◌, ◌≤◌, ◌<◌}
-use mathlib.Core.Path.{◌≡◌, refl, ap₂, ◌∙◌}
-use native.Mathlib.Omega.{arith}
+use Prim.Native.Nat.{◌+◌, ◌*◌, ◌-◌, ◌≤◌}
+use mathlib.Core.Path.{◌≡◌}
 use lib.ListN.{length}
 use Rattle.rows.specs.lanes.Words.{block_plane}
 use Rattle.rows.specs.lanes.Working.{Grows}
-use Rattle.rows.proofs.lanes.Turns.{grows_none, grows-more, grows_all}
-use borrow.Author.Rules.{rules}
 use Rattle.rows.proofs.lanes.put_columns.Given as goal
 
 abbrev pub invariant-loop-j : goal.invariant-loop-j

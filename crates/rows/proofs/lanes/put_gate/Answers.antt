@@ -9,7 +9,6 @@ use Rattle.plan.specs.Outcome.{put}
 use Rattle.rows.specs.lanes.Words.{plane_at, plane_words}
 use Rattle.rows.specs.lanes.Working.{There}
 use Rattle.rows.proofs.lanes.Turns.{gate-planes}
-use borrow.Author.Rules.{rules}
 use Rattle.rows.proofs.lanes.put_gate.Goals as goal
 
 pub plane_of-requires-3 : goal.plane_of-requires-3

@@ -6,7 +6,6 @@ use Rattle.plan.specs.Outcome.{put}
 use native.Mathlib.Omega.{arith}
 use lib.ListN.{length-set}
 use Rattle.rows.proofs.lanes.Turns.{four-put}
-use borrow.Author.Rules.{rules}
 use Rattle.rows.proofs.lanes.put_planes.Goals as goal
 
 pub bounds-t-to-2 : goal.bounds-t-to-2

@@ -5,7 +5,6 @@ use native.Mathlib.Omega.{arith}
 use lib.Bits.{bit_and, and_le_l}
 use lib.Count.{ones}
 use Rattle.rows.proofs.lanes.Turns.{ones-words, ones_small}
-use borrow.Author.Rules.{rules}
 use Rattle.rows.proofs.lanes.rows_in.Goals as goal
 
 pub overflow_add-result : goal.overflow_add-result

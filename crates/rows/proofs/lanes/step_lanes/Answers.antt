@@ -2,7 +2,6 @@
 use mathlib.Core.Path.{◌∙◌}
 use native.Mathlib.Omega.{arith}
 use Rattle.rows.proofs.lanes.Stepping.{sweeps, holds}
-use borrow.Author.Rules.{rules}
 use Rattle.rows.proofs.lanes.step_lanes.Goals as goal
 
 pub overflow_add-n-3 : goal.overflow_add-n-3

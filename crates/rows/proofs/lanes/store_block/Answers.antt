@@ -4,16 +4,15 @@ use native.Mathlib.Omega.{arith}
 use Rattle.rows.specs.lanes.Words.{plane_at, both_at}
 use Rattle.rows.specs.lanes.Working.{literal_at}
 use Rattle.rows.proofs.lanes.Storing.{blocked-same, packed-code}
-use borrow.Author.Rules.{rules}
 use Rattle.rows.proofs.lanes.store_block.Goals as goal
 
 pub pack-requires : goal.pack-requires
 pack-requires c =
-    record { shows = c.requires.shows; w_nonzero = (c.requires.block.some, c.requires.block.narrow, omega arith, omega arith); }
+    record { shows = c.requires.shows; w_nonzero = (c.requires.block.some, c.requires.block.narrow, omega arith, omega arith) }
 
 pub put_block-requires : goal.put_block-requires
 put_block-requires c =
-    record { block = c.requires.block; in_bounds = (omega (arith, c.pack.auto.ones), omega (arith, c.pack.auto.boths)); }
+    record { block = c.requires.block; in_bounds = (omega (arith, c.pack.auto.ones), omega (arith, c.pack.auto.boths)) }
 
 pub returns : goal.returns
 returns c =

@@ -1,10 +1,9 @@
 -- The codes of n literals of a table in each row, n bytes a row. The loop keeps `Below`; the measure is `n - j`. `below-block` carries it from turn
 -- to turn, and `rows_are` gives the answer.
-use Prim.Native.Nat.{ℕ, ◌-◌, ◌≤◌}
+use Prim.Native.Nat.{ℕ, ◌-◌}
 use mathlib.Core.Path.{◌≡◌, refl, ◌∙◌, subst}
 use mathlib.Core.List.{List}
 use native.Mathlib.Omega.{arith}
-use lib.ListN.{length}
 use Rattle.rows.specs.lanes.Words.{code_at}
 use Rattle.rows.specs.lanes.Working.{literal_at}
 use Rattle.rows.proofs.lanes.Storing.{shows-less, Below, below_none, below-block, rows_are}
@@ -28,13 +27,16 @@ width-w-requires c = omega (arith, c.loop-j-test.true)
 pub store_block-requires : goal.store_block-requires
 store_block-requires c =
     let w = c.width-w.ensures in
-    record { shows = shows-less c.requires.shows _ (omega (arith, w.1, c.loop-j-test.true)); block = record {
+    record {
+      shows = shows-less c.requires.shows _ (omega (arith, w.1, c.loop-j-test.true));
+      block = record {
         some = w.0;
         inside = omega (arith, w.1, c.loop-j-test.true);
         narrow = w.2;
         most = c.requires.rows_bound.0;
         whole = omega (arith, c.loop-j.invariant.1, c.requires.rows_bound.1);
-      }; }
+      };
+    }
 
 pub overflow_add-j : goal.overflow_add-j
 overflow_add-j c = omega (arith, c.width-w.ensures.1, c.loop-j-test.true)
@@ -46,8 +48,7 @@ loop-j-smaller c =
 
 pub loop-j-preserved : goal.loop-j-preserved
 loop-j-preserved c =
-    let a = c.args in
-    (
+    let a = c.args in (
       omega (arith, c.width-w.ensures.1, c.loop-j-test.true),
       c.store_block.auto.out ∙ c.loop-j.invariant.1,
       below-block (coded a.table.now a.start a.stride a.t.now) a.n a.rows c.loop-j.j _ c.loop-j.out _ c.loop-j.invariant.2

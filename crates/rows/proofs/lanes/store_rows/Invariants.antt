@@ -1,13 +1,12 @@
 -- The codes of n literals of a table in each row, n bytes a row. The loop keeps `Below`; the measure is `n - j`. `below-block` carries it from turn
 -- to turn, and `rows_are` gives the answer.
 use Prim.Native.Nat.{ℕ, ◌-◌, ◌≤◌}
-use mathlib.Core.Path.{◌≡◌, refl, ◌∙◌, subst}
+use mathlib.Core.Path.{◌≡◌}
 use mathlib.Core.List.{List}
-use native.Mathlib.Omega.{arith}
 use lib.ListN.{length}
 use Rattle.rows.specs.lanes.Words.{code_at}
 use Rattle.rows.specs.lanes.Working.{literal_at}
-use Rattle.rows.proofs.lanes.Storing.{shows-less, Below, below_none, below-block, rows_are}
+use Rattle.rows.proofs.lanes.Storing.{Below}
 use Rattle.rows.proofs.lanes.store_rows.Given as goal
 
 -- the code of literal j in row k

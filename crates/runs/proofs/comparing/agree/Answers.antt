@@ -5,7 +5,6 @@ use mathlib.Core.Bool.{Bool}
 use borrow.Author.Tests.{not-true, not-false}
 use Rattle.runs.specs.comparing.Both.{same_bytes, same_answer}
 use Rattle.runs.proofs.comparing.Parting.{same-is, first-fails, second-fails, third-decides}
-use borrow.Author.Rules.{rules}
 use Rattle.runs.proofs.comparing.agree.Goals as goal
 
 pub returns-then-not-same_answer : goal.returns-then-not-same_answer

@@ -8,7 +8,6 @@ use Rattle.plan.specs.Whole.{TraceExit, trace}
 use Rattle.plan.specs.Plain.{plain_trace}
 use Rattle.runs.specs.comparing.Both.{CompareEntry, twin_of}
 use Rattle.runs.proofs.comparing.Parting.{answered}
-use borrow.Author.Rules.{rules}
 use Rattle.runs.proofs.comparing.compare.Goals as goal
 
 pub returns-then-not-agree : goal.returns-then-not-agree

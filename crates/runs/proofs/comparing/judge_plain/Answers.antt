@@ -11,7 +11,6 @@ use Rattle.plan.specs.Outcome.{all_codes}
 use Rattle.plan.specs.Programs.{lines_in, all_vectors}
 use Rattle.runs.specs.stimulus.Scan.{ended}
 use Rattle.runs.specs.trace.Tracing.{judged}
-use borrow.Author.Rules.{rules}
 use Rattle.runs.proofs.comparing.judge_plain.Goals as goal
 
 pub returns-then-n-gt-TEACHING : goal.returns-then-n-gt-TEACHING

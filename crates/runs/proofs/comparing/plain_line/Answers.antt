@@ -7,7 +7,6 @@ use borrow.Rule.Slice.PartMut.{same_len_mid, put_mid}
 use lib.ListN.{length, length-set}
 use Rattle.runs.proofs.comparing.Parts.{part-long, part-last}
 use Rattle.runs.proofs.comparing.Lines.{outs-long, line-lined}
-use borrow.Author.Rules.{rules}
 use Rattle.runs.proofs.comparing.plain_line.Goals as goal
 
 pub overflow_add-end : goal.overflow_add-end
@@ -25,7 +24,7 @@ plain_vectors-requires c =
     let inside : c.put_bytes-outputs_at.result + c.args.n.O < length c.put_bytes-outputs_at.new.out =
     omega (arith, room, same) in
     let outs = part-long _ _ _ (inside) in
-    record { room = c.requires.room; vectors = record { state-length = c.requires.vector.long; inputs-length = c.requires.vector_2.long; outputs-length = outs }; state_value = c.requires.vector.codes; ins_value = c.requires.vector_2.codes; }
+    record { room = c.requires.room; vectors = record { state-length = c.requires.vector.long; inputs-length = c.requires.vector_2.long; outputs-length = outs }; state_value = c.requires.vector.codes; ins_value = c.requires.vector_2.codes }
 
 pub bounds-out-end : goal.bounds-out-end
 bounds-out-end c =
@@ -77,7 +76,8 @@ returns c =
     c.put_bytes-outputs_at.auto.out ∙ c.put_bytes-inputs_at.auto.out in
     let inside : c.put_bytes-outputs_at.result + c.args.n.O < length c.put_bytes-outputs_at.new.out =
     omega (arith, room, same) in
-    record { value = omega (
+    record {
+      value = omega (
         arith,
         c.requires.vector.long,
         c.requires.vector_2.long,
@@ -85,9 +85,11 @@ returns c =
         c.put_bytes-inputs_at.ensures.value,
         c.put_bytes.ensures.value,
         c.plain_vectors.auto.state,
-      ); lined = λ x r.
+      );
+      lined = λ x r.
           let l = c.plain_vectors.ensures x r in
           line-lined r c.requires.vector c.requires.vector_2 l c.args.out.now c.args.at c.requires.n_in_bounds
           c.put_bytes-inputs_at.ensures.out_after c.put_bytes-inputs_at.ensures.value
           c.put_bytes-outputs_at.ensures.out_after c.put_bytes-outputs_at.ensures.value
-          (part-last _ _ _ (inside) c.plain_vectors.new.outs 32 (outs-long r c.requires.vector c.requires.vector_2 l)) refl c.put_bytes.ensures.out_after; }
+          (part-last _ _ _ (inside) c.plain_vectors.new.outs 32 (outs-long r c.requires.vector c.requires.vector_2 l)) refl c.put_bytes.ensures.out_after;
+    }

@@ -1,21 +1,17 @@
 -- The lines of the first `number` vectors, from the start of a buffer that has room for them. The loop keeps `Lining`; the measure is `number - k`.
 -- `lining-next`, `next_row` and `next-vector` carry it from turn to turn, and `all_left` gives the answer.
-use Prim.Native.Nat.{◌+◌, ◌*◌, ◌-◌, ◌≤◌}
-use mathlib.Core.Path.{◌≡◌, refl, sym, ◌∙◌}
+use Prim.Native.Nat.{◌+◌, ◌-◌, ◌≤◌}
+use mathlib.Core.Path.{refl, sym, ◌∙◌}
 use mathlib.Core.List.{map}
 use native.Mathlib.Nat.{mul-zero}
 use native.Mathlib.Omega.{arith}
 use lib.ListN.{length, length-map}
-use Rattle.plan.specs.Circuit.{Tables, circuit_of}
 use Rattle.plan.specs.Step.{value_of}
 use Rattle.plan.specs.Whole.{line_width}
 use Rattle.laws.proofs.Tables.{next_row}
-use Rattle.step.specs.sweep.Running.{these, Runs}
 use Rattle.step.specs.Asked.{Room}
-use Rattle.runs.proofs.trace.Running.{Lining, lining-first, lining-next, line-fits, line-inside, Going, going-first, going-at, going_on}
-use Rattle.runs.specs.comparing.Lined.{Vector}
+use Rattle.runs.proofs.trace.Running.{lining-first, lining-next, line-fits, line-inside, going-first, going-at, going_on}
 use Rattle.runs.proofs.comparing.Running.{resting, rests, state-of, ins-vector, wrote, next-vector, all_left}
-use borrow.Author.Rules.{rules}
 use Rattle.runs.proofs.comparing.plain_lines.Goals as goal
 
 pub loop-k-init : goal.loop-k-init
@@ -52,7 +48,7 @@ plain_line-to-requires c =
     let room : let a = c.args in Room a.n a.latches.now a.outputs.now a.gates.now c.loop-k.scratch =
     let b = c.requires.room in
     record { others = b.others; runs = b.runs; scratch-long = omega (arith, b.scratch-long, c.loop-k.invariant.2) } in
-    record { room = room; vector = c.loop-k.invariant.5; vector_2 = ins-vector c.loop-k.invariant.0 c.loop-k-test.true; n_in_bounds = omega (arith, fits, c.loop-k.invariant.3); }
+    record { room = room; vector = c.loop-k.invariant.5; vector_2 = ins-vector c.loop-k.invariant.0 c.loop-k-test.true; n_in_bounds = omega (arith, fits, c.loop-k.invariant.3) }
 
 pub overflow_add-at : goal.overflow_add-at
 overflow_add-at c =

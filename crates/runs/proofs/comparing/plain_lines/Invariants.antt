@@ -1,21 +1,16 @@
 -- The lines of the first `number` vectors, from the start of a buffer that has room for them. The loop keeps `Lining`; the measure is `number - k`.
 -- `lining-next`, `next_row` and `next-vector` carry it from turn to turn, and `all_left` gives the answer.
-use Prim.Native.Nat.{◌+◌, ◌*◌, ◌-◌, ◌≤◌}
-use mathlib.Core.Path.{◌≡◌, refl, sym, ◌∙◌}
+use Prim.Native.Nat.{◌*◌, ◌-◌}
+use mathlib.Core.Path.{◌≡◌}
 use mathlib.Core.List.{map}
-use native.Mathlib.Nat.{mul-zero}
-use native.Mathlib.Omega.{arith}
-use lib.ListN.{length, length-map}
+use lib.ListN.{length}
 use Rattle.plan.specs.Circuit.{Tables, circuit_of}
 use Rattle.plan.specs.Step.{value_of}
 use Rattle.plan.specs.Whole.{line_width}
-use Rattle.laws.proofs.Tables.{next_row}
 use Rattle.step.specs.sweep.Running.{these, Runs}
-use Rattle.step.specs.Asked.{Room}
-use Rattle.runs.proofs.trace.Running.{Lining, lining-first, lining-next, line-fits, line-inside, Going, going-first, going-at, going_on}
+use Rattle.runs.proofs.trace.Running.{Lining, Going}
 use Rattle.runs.specs.comparing.Lined.{Vector}
-use Rattle.runs.proofs.comparing.Running.{resting, rests, state-of, ins-vector, wrote, next-vector, all_left}
-use borrow.Author.Rules.{rules}
+use Rattle.runs.proofs.comparing.Running.{resting}
 use Rattle.runs.proofs.comparing.plain_lines.Given as goal
 
 abbrev pub invariant-loop-k : goal.invariant-loop-k

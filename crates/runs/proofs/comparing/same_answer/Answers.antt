@@ -1,7 +1,6 @@
 -- As many lines, or the same refusal. The laws of `Parting` say so of each pair of answers.
 use mathlib.Core.Path.{◌∙◌}
 use Rattle.runs.proofs.comparing.Parting.{both-lines, first-lines, second-lines, no_lines}
-use borrow.Author.Rules.{rules}
 use Rattle.runs.proofs.comparing.same_answer.Goals as goal
 
 pub returns-in-Lines-b : goal.returns-in-Lines-b

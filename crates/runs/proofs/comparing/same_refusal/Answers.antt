@@ -4,7 +4,6 @@ use mathlib.Core.Bool.{Bool, ◌&&◌}
 use borrow.Author.Tests.{eq-eqb, ne_eqb}
 use lib.Dec.{eqb}
 use Rattle.plan.specs.Refusals.{number_of, place_of}
-use borrow.Author.Rules.{rules}
 use Rattle.runs.proofs.comparing.same_refusal.Goals as goal
 
 pub returns-then-told_number : goal.returns-then-told_number

@@ -12,7 +12,6 @@ use Rattle.step.proofs.Checks.{past-check, runs, room}
 use Rattle.runs.proofs.trace.Answers.{listed, done-trace}
 use Rattle.plain.proofs.Beyond.{refused-tables}
 use Rattle.runs.proofs.comparing.Answers.{same_lines, refused-lines, state-vector, few-gates, lines-judged, refused-plainly}
-use borrow.Author.Rules.{rules}
 use Rattle.runs.proofs.comparing.trace_plain.Goals as goal
 
 pub fitting-number-requires : goal.fitting-number-requires
@@ -60,7 +59,7 @@ plain_lines-requires c =
     let e = entry in
     let lines = c.in-Lines.is in
     let judged = lines-judged e _ c.judge_plain.ensures _ lines in
-    record { room = room e.circuit (trace_stage e) (says) (told) _ (same); vector = state-vector e _ judged _ lines; listed = listed e _ judged _ lines _ c.fitting-number.ensures; }
+    record { room = room e.circuit (trace_stage e) (says) (told) _ (same); vector = state-vector e _ judged _ lines; listed = listed e _ judged _ lines _ c.fitting-number.ensures }
 
 pub returns-in-Refused : goal.returns-in-Refused
 returns-in-Refused c =

@@ -1,11 +1,10 @@
 -- Lines without their ends, one after the other, as a report takes vectors, of as many bytes as the buffer has; how many are left of them. The loop
 -- keeps `(i ≤ taken) × Packs lines out₀ i n out`; the measure is `taken - i`. `packs-more` carries it from turn to turn, and `packs-all` gives the
 -- answer.
-use Prim.Native.Nat.{◌-◌, ◌≤◌, ◌<◌}
+use Prim.Native.Nat.{◌-◌, ◌<◌}
 use native.Mathlib.Omega.{arith}
-use borrow.Author.Rules.{rules}
 use lib.ListN.{length}
-use Rattle.runs.proofs.reporting.Packed.{Packs, packs-none, packs-more, packs-all}
+use Rattle.runs.proofs.reporting.Packed.{packs-none, packs-more, packs-all}
 use Rattle.runs.proofs.reporting.pack.Goals as goal
 
 pub loop-i-init : goal.loop-i-init
@@ -38,4 +37,4 @@ pub returns : goal.returns
 returns c =
     let lesser = c.lesser-taken.ensures in
     let all = packs-all c.loop-i.invariant.1 (omega (arith, c.loop-i.invariant.0, c.loop-i-test.false, lesser)) in
-    record { value = all.0; upper_bound = omega (arith, c.loop-i.invariant.0, c.loop-i.invariant.1.few, c.loop-i.invariant.1.size, lesser); out_after = all.1; }
+    record { value = all.0; upper_bound = omega (arith, c.loop-i.invariant.0, c.loop-i.invariant.1.few, c.loop-i.invariant.1.size, lesser); out_after = all.1 }

@@ -1,11 +1,8 @@
 -- Lines without their ends, one after the other, as a report takes vectors, of as many bytes as the buffer has; how many are left of them. The loop
 -- keeps `(i ≤ taken) × Packs lines out₀ i n out`; the measure is `taken - i`. `packs-more` carries it from turn to turn, and `packs-all` gives the
 -- answer.
-use Prim.Native.Nat.{◌-◌, ◌≤◌, ◌<◌}
-use native.Mathlib.Omega.{arith}
-use borrow.Author.Rules.{rules}
-use lib.ListN.{length}
-use Rattle.runs.proofs.reporting.Packed.{Packs, packs-none, packs-more, packs-all}
+use Prim.Native.Nat.{◌-◌, ◌≤◌}
+use Rattle.runs.proofs.reporting.Packed.{Packs}
 use Rattle.runs.proofs.reporting.pack.Given as goal
 
 abbrev pub invariant-loop-i : goal.invariant-loop-i

@@ -4,7 +4,6 @@ use Prim.Native.Nat.{ℕ, ◌+◌, ◌≤◌}
 use mathlib.Core.Path.{ap, ◌∙◌}
 use mathlib.Core.List.{List, [], ◌∷◌, ◌++◌}
 use native.Mathlib.Omega.{arith}
-use borrow.Author.Rules.{rules}
 use lib.ListN.{length, set}
 use Rattle.plan.specs.Bytes.{digits, line_of}
 use Rattle.plan.specs.Outcome.{put}
@@ -50,7 +49,7 @@ write_lines-requires c =
     let a = c.args in
     omega (arith, line-short a.row.now (λ i. omega (arith, c.type_inv.row i)), c.requires.row_len) in
     let size = ap length (one_line c.args.row.now c.requires.row_len) in
-    record { k_nonzero = omega arith; n_in_bounds = omega (arith, c.requires.row_len); n_bound = omega arith; table_in_bounds = omega (arith, size, short, few-digits, c.requires.at_in_bounds, c.put_digits-end.ensures.value, (spaced).size); }
+    record { k_nonzero = omega arith; n_in_bounds = omega (arith, c.requires.row_len); n_bound = omega arith; table_in_bounds = omega (arith, size, short, few-digits, c.requires.at_in_bounds, c.put_digits-end.ensures.value, (spaced).size) }
 
 pub shape_of-out : goal.shape_of-out
 shape_of-out c =
@@ -96,12 +95,16 @@ returns c =
     (c.write_lines.ensures.value ∙ ap (λ (l : List ℕ). c.put_digits-end.result + 1 + length l) line) in
     let a = c.args in
     let line = line-parts a.letter a.number a.row.now in
-    record { value = (written).place ∙ ap (λ (l : List ℕ). a.at + length l) line; upper_bound = omega (
-          arith,
-          c.write_lines.ensures.value,
-          ap length
-              (one_line a.row.now c.requires.row_len),
-          short,
-          few-digits,
-          c.put_digits-end.ensures.value,
-        ); out_after = (written).filled ∙ ap (put a.out.now a.at) line; }
+    record {
+      value = (written).place ∙ ap (λ (l : List ℕ). a.at + length l) line;
+      upper_bound = omega (
+        arith,
+        c.write_lines.ensures.value,
+        ap length
+            (one_line a.row.now c.requires.row_len),
+        short,
+        few-digits,
+        c.put_digits-end.ensures.value,
+      );
+      out_after = (written).filled ∙ ap (put a.out.now a.at) line;
+    }

@@ -4,12 +4,11 @@ use Prim.Native.Nat.{ℕ, ◌+◌, ◌*◌, ◌-◌, ◌≤◌}
 use mathlib.Core.Path.{◌≡◌, ap, ◌∙◌}
 use mathlib.Core.List.{List}
 use native.Mathlib.Omega.{arith}
-use borrow.Author.Rules.{rules}
 use lib.ListN.{length, take, drop, length-drop}
 use lib.Seq.{length-take-le}
 use Rattle.plan.specs.Outcome.{put}
 use Rattle.plan.specs.Reporter.{needle_line}
-use Rattle.runs.proofs.reporting.Lines.{Lined, lined-none, lined-more, lined-all}
+use Rattle.runs.proofs.reporting.Lines.{lined-none, lined-more, lined-all}
 use Rattle.runs.proofs.reporting.put_needles.Goals as goal
 
 -- a row of four words
@@ -48,7 +47,7 @@ pub put_needle-next-requires : goal.put_needle-next-requires
 put_needle-next-requires c =
     let inside : c.loop-i.row + 4 ≤ length c.args.six.now =
     omega (arith, c.loop-i.invariant.1, c.requires.n_in_bounds, c.loop-i-test.true) in
-    record { row_len = row-long _ c.loop-i.row (inside); at_in_bounds = omega (arith, c.loop-i.invariant.2.few, c.loop-i.invariant.2.size, c.requires.n_in_bounds_2, c.loop-i-test.true); }
+    record { row_len = row-long _ c.loop-i.row (inside); at_in_bounds = omega (arith, c.loop-i.invariant.2.few, c.loop-i.invariant.2.size, c.requires.n_in_bounds_2, c.loop-i-test.true) }
 
 pub loop-i-preserved : goal.loop-i-preserved
 loop-i-preserved c =
@@ -67,4 +66,4 @@ shape_of-out c = c.loop-i.invariant.2.size
 pub returns : goal.returns
 returns c =
     let all = lined-all c.args.n c.loop-i.invariant.0 c.loop-i-test.false c.loop-i.invariant.2 in
-    record { value = all.place; upper_bound = all.few; out_after = all.so_far; }
+    record { value = all.place; upper_bound = all.few; out_after = all.so_far }

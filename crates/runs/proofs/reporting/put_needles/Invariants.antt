@@ -1,15 +1,10 @@
 -- The lines of n needles, whose numbers start at `first` in table 6, from a position on. The loop keeps `Lined`; the measure is `n - i`. `lined-more`
 -- carries it from turn to turn, and `lined-all` gives the answer.
-use Prim.Native.Nat.{ℕ, ◌+◌, ◌*◌, ◌-◌, ◌≤◌}
-use mathlib.Core.Path.{◌≡◌, ap, ◌∙◌}
-use mathlib.Core.List.{List}
-use native.Mathlib.Omega.{arith}
-use borrow.Author.Rules.{rules}
-use lib.ListN.{length, take, drop, length-drop}
-use lib.Seq.{length-take-le}
-use Rattle.plan.specs.Outcome.{put}
+use Prim.Native.Nat.{◌+◌, ◌*◌, ◌-◌, ◌≤◌}
+use mathlib.Core.Path.{◌≡◌}
+use lib.ListN.{take, drop}
 use Rattle.plan.specs.Reporter.{needle_line}
-use Rattle.runs.proofs.reporting.Lines.{Lined, lined-none, lined-more, lined-all}
+use Rattle.runs.proofs.reporting.Lines.{Lined}
 use Rattle.runs.proofs.reporting.put_needles.Given as goal
 
 abbrev pub invariant-loop-i : goal.invariant-loop-i

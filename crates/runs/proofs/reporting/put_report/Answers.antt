@@ -4,7 +4,6 @@ use Prim.Native.Nat.{ℕ, ◌+◌, ◌*◌, ◌-◌, ◌≤◌, min}
 use mathlib.Core.Path.{◌≡◌, ap, ap₂, ◌∙◌}
 use mathlib.Core.List.{List}
 use native.Mathlib.Omega.{arith}
-use borrow.Author.Rules.{rules}
 use lib.ListN.{length, take, drop}
 use Rattle.plan.specs.Outcome.{put}
 use Rattle.plan.specs.Report.{in_turn}
@@ -32,7 +31,7 @@ put_needles-next-requires c =
     omega (arith, c.lesser-l.ensures, c.lesser-o.ensures, c.lesser-rows.ensures) in
     let bytes : 66 * (c.lesser-o.result + c.lesser-l.result) ≤ length (out) =
     omega (arith, c.lesser-l.ensures, c.lesser-o.ensures, c.lesser-rows.ensures) in
-    record { n_in_bounds = omega (arith, words); n_in_bounds_2 = omega (arith, bytes); }
+    record { n_in_bounds = omega (arith, words); n_in_bounds_2 = omega (arith, bytes) }
 
 pub put_needles-requires : goal.put_needles-requires
 put_needles-requires c =
@@ -44,7 +43,7 @@ put_needles-requires c =
     omega (arith, c.lesser-l.ensures, c.lesser-o.ensures, c.lesser-rows.ensures) in
     let bytes : 66 * (c.lesser-o.result + c.lesser-l.result) ≤ length (out) =
     omega (arith, c.lesser-l.ensures, c.lesser-o.ensures, c.lesser-rows.ensures) in
-    record { n_in_bounds = words; n_in_bounds_2 = omega (arith, bytes, c.put_needles-next.ensures.upper_bound, c.put_needles-next.auto.out); }
+    record { n_in_bounds = words; n_in_bounds_2 = omega (arith, bytes, c.put_needles-next.ensures.upper_bound, c.put_needles-next.auto.out) }
 
 pub returns : goal.returns
 returns c =
@@ -62,4 +61,4 @@ returns c =
     (c.lesser-l.ensures ∙ ap₂ (λ (x y : ℕ). min c.args.latches (x - y)) r o) in
     let both = two-parts _ _ _ _ _ _ _ _ (from-none (six) c.lesser-o.result) c.put_needles-next.ensures.out_after c.put_needles-next.ensures.value
     c.put_needles.ensures.out_after c.put_needles.ensures.value (omega (arith, c.put_needles-next.ensures.upper_bound, c.put_needles.ensures.upper_bound, bytes)) in
-    record { value = both.0 ∙ ap length (lines); out_after = both.1 ∙ ap (put (out) 0) (lines); }
+    record { value = both.0 ∙ ap length (lines); out_after = both.1 ∙ ap (put (out) 0) (lines) }

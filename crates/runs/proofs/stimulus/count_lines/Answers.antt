@@ -3,7 +3,6 @@
 use mathlib.Core.Path.{◌∙◌}
 use borrow.Author.Tests.{not-true, not-false}
 use Rattle.runs.proofs.stimulus.Counting.{not-read, too_many, counts_all}
-use borrow.Author.Rules.{rules}
 use Rattle.runs.proofs.stimulus.count_lines.Goals as goal
 
 pub returns-then-not-readable : goal.returns-then-not-readable

@@ -4,7 +4,6 @@ use mathlib.Core.Bool.{Bool, ◌||◌}
 use borrow.Author.Tests.{eq-eqb, ne_eqb}
 use lib.ListN.{length}
 use Rattle.plan.specs.Tail.{ends_line}
-use borrow.Author.Rules.{rules}
 use Rattle.runs.proofs.stimulus.ends.Goals as goal
 
 pub returns-then-n-eq0 : goal.returns-then-n-eq0

@@ -3,12 +3,9 @@
 -- `too_long`, `wrong-code` and `all-scanned` give the answer.
 use Prim.Native.Nat.{◌-◌}
 use mathlib.Core.Path.{refl, sym, ◌∙◌}
-use mathlib.Core.Logic.{⊎_elim}
 use native.Mathlib.Omega.{arith}
 use borrow.Author.Tests.{not-true, not-false}
-use lib.ListN.{length}
-use Rattle.runs.proofs.stimulus.Scanning.{Scans, line-next, too_long, code-next, wrong-code, all-scanned, scans-at}
-use borrow.Author.Rules.{rules}
+use Rattle.runs.proofs.stimulus.Scanning.{line-next, too_long, code-next, wrong-code, all-scanned, scans-at}
 use Rattle.runs.proofs.stimulus.scan_lines.Goals.{then-column-width+else-b-ne10, else-column-width+else-not-is_code}
 use Rattle.runs.proofs.stimulus.scan_lines.Goals as goal
 
@@ -34,9 +31,9 @@ loop-i-preserved c =
     let s = c.loop-i.invariant in
     let h = c.loop-i-test.true in
     elim c.if-column-width.branch [
-      then-column-width+else-b-ne10 w ↦ scans-at w.column-is w.number-is (line-next s h w.if-column-width.true w.if-b-ne10.false)
-    | else-column-width+else-not-is_code w ↦
-      scans-at w.column-is w.number-is (code-next s h w.if-column-width.false (sym w.is_code.ensures ∙ not-false _ w.if-not-is_code.false-raw))
+      | then-column-width+else-b-ne10 w ↦ scans-at w.column-is w.number-is (line-next s h w.if-column-width.true w.if-b-ne10.false)
+      | else-column-width+else-not-is_code w ↦
+          scans-at w.column-is w.number-is (code-next s h w.if-column-width.false (sym w.is_code.ensures ∙ not-false _ w.if-not-is_code.false-raw))
     ]
 
 pub returns : goal.returns

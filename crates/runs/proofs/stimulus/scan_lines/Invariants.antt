@@ -2,13 +2,8 @@
 -- width bytes column number i`; the measure is `length bytes - i`. `scans-at`, `line-next` and `code-next` carry it from turn to turn, and
 -- `too_long`, `wrong-code` and `all-scanned` give the answer.
 use Prim.Native.Nat.{◌-◌}
-use mathlib.Core.Path.{refl, sym, ◌∙◌}
-use mathlib.Core.Logic.{⊎_elim}
-use native.Mathlib.Omega.{arith}
-use borrow.Author.Tests.{not-true, not-false}
 use lib.ListN.{length}
-use Rattle.runs.proofs.stimulus.Scanning.{Scans, line-next, too_long, code-next, wrong-code, all-scanned, scans-at}
-use borrow.Author.Rules.{rules}
+use Rattle.runs.proofs.stimulus.Scanning.{Scans}
 use Rattle.runs.proofs.stimulus.scan_lines.Given as goal
 
 abbrev pub invariant-loop-i : goal.invariant-loop-i

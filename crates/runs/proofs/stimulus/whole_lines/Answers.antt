@@ -3,7 +3,6 @@
 use mathlib.Core.Path.{sym, ◌∙◌}
 use borrow.Author.Tests.{not-true, not-false}
 use Rattle.runs.proofs.stimulus.Passing.{scan-is, not-ended}
-use borrow.Author.Rules.{rules}
 use Rattle.runs.proofs.stimulus.whole_lines.Goals as goal
 
 pub returns-then-not-ends : goal.returns-then-not-ends

@@ -2,7 +2,6 @@
 use mathlib.Core.Path.{sym, ◌∙◌}
 use borrow.Author.Tests.{not-true, not-false}
 use Rattle.runs.proofs.trace.Judging.{bad-state, good-lines, bad-lines}
-use borrow.Author.Rules.{rules}
 use Rattle.runs.proofs.trace.judge.Goals as goal
 
 pub returns-then-not-codes_in : goal.returns-then-not-codes_in

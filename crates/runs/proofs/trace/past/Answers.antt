@@ -2,12 +2,9 @@
 -- from count at left`; the measure is `length bytes - at`. `past_end` and `past-byte` carry it from turn to turn, and `past-lines` and `past_bytes`
 -- give the answer.
 use Prim.Native.Nat.{◌-◌}
-use mathlib.Core.Logic.{⊎_elim}
 use native.Mathlib.Omega.{arith}
-use borrow.Author.Rules.{rules}
 use borrow.Author.Tests.{eq-eqb, ne_eqb}
-use lib.ListN.{length}
-use Rattle.runs.proofs.trace.Passing.{Passing, passing-first, past-lines, past_bytes, past_end, past-byte}
+use Rattle.runs.proofs.trace.Passing.{passing-first, past-lines, past_bytes, past_end, past-byte}
 use Rattle.runs.proofs.trace.past.Goals.{then-bytes-at-eq10, else-bytes-at-eq10}
 use Rattle.runs.proofs.trace.past.Goals as goal
 
@@ -17,18 +14,18 @@ loop-at-init c = let a = c.args in passing-first a.bytes.now a.from a.count _ c.
 pub returns-then-left-eq0 : goal.returns-then-left-eq0
 returns-then-left-eq0 c =
     let w = c.loop-at.invariant in
-    record { value = past-lines w c.if-left-eq0.true; upper_bound = w.within; }
+    record { value = past-lines w c.if-left-eq0.true; upper_bound = w.within }
 
 pub loop-at-preserved : goal.loop-at-preserved
 loop-at-preserved c =
     let some = c.if-left-eq0.false in
     let w = c.loop-at.invariant in
     elim c.if-bytes-at-eq10.branch [
-      then-bytes-at-eq10 t ↦ past_end w c.loop-at-test.true _ (omega (arith, some, t.left-is)) (eq-eqb _ 10 t.if-bytes-at-eq10.true)
-    | else-bytes-at-eq10 t ↦ past-byte w c.loop-at-test.true some (ne_eqb _ 10 t.if-bytes-at-eq10.false) _ t.left-is
+      | then-bytes-at-eq10 t ↦ past_end w c.loop-at-test.true _ (omega (arith, some, t.left-is)) (eq-eqb _ 10 t.if-bytes-at-eq10.true)
+      | else-bytes-at-eq10 t ↦ past-byte w c.loop-at-test.true some (ne_eqb _ 10 t.if-bytes-at-eq10.false) _ t.left-is
     ]
 
 pub returns : goal.returns
 returns c =
     let w = c.loop-at.invariant in
-    record { value = past_bytes w c.loop-at-test.false; upper_bound = w.within; }
+    record { value = past_bytes w c.loop-at-test.false; upper_bound = w.within }

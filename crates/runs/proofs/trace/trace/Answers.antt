@@ -10,7 +10,6 @@ use Rattle.plan.specs.Outcome.{check_in_order}
 use Rattle.plan.specs.Whole.{TraceEntry, trace_stage}
 use Rattle.step.proofs.Checks.{refused-by, past-check, runs, room}
 use Rattle.runs.proofs.trace.Answers.{state-long, listed, refused-trace, refused-vectors, done-trace}
-use borrow.Author.Rules.{rules}
 use Rattle.runs.proofs.trace.trace.Goals as goal
 
 pub fitting-number-requires : goal.fitting-number-requires
@@ -58,7 +57,7 @@ trace_from-requires c =
     let e = entry in
     let judged = c.judge.ensures in
     let lines = c.in-Lines.is in
-    record { room = room e.circuit (trace_stage e) (says) (told) _ (same); state_len = state-long e _ judged _ lines; listed = listed e _ judged _ lines _ c.fitting-number.ensures; }
+    record { room = room e.circuit (trace_stage e) (says) (told) _ (same); state_len = state-long e _ judged _ lines; listed = listed e _ judged _ lines _ c.fitting-number.ensures }
 
 pub returns-in-Refused : goal.returns-in-Refused
 returns-in-Refused c =

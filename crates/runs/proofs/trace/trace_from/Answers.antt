@@ -5,7 +5,6 @@ use native.Mathlib.Omega.{arith}
 use lib.ListN.{length, length-set}
 use Rattle.step.proofs.Buffers.{state-long, state-rests}
 use Rattle.runs.proofs.trace.Buffers.{state-resting, state-left}
-use borrow.Author.Rules.{rules}
 use Rattle.runs.proofs.trace.trace_from.Goals as goal
 
 pub bounds-scratch-0 : goal.bounds-scratch-0
@@ -19,7 +18,7 @@ load-requires c =
 
 pub trace_lines-requires : goal.trace_lines-requires
 trace_lines-requires c =
-    record { resting = state-resting c.requires.room c.args.state.now c.requires.state_len c.load.ensures c.load.auto.t; listed = c.requires.listed; }
+    record { resting = state-resting c.requires.room c.args.state.now c.requires.state_len c.load.ensures c.load.auto.t; listed = c.requires.listed }
 
 pub overflow_add-n-2 : goal.overflow_add-n-2
 overflow_add-n-2 c =

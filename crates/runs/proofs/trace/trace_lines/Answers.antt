@@ -1,20 +1,15 @@
 -- The lines of the first `number` vectors, from the start of a buffer that has room for them. The loop keeps `Lining`; the measure is `number - k`.
 -- `lining-next`, `next_row` and `going-at` carry it from turn to turn, and `all-gone` gives the answer.
-use Prim.Native.Nat.{◌+◌, ◌*◌, ◌-◌, ◌≤◌}
-use mathlib.Core.Path.{◌≡◌, refl, sym, ◌∙◌}
-use mathlib.Core.List.{List}
+use Prim.Native.Nat.{◌+◌, ◌-◌, ◌≤◌}
+use mathlib.Core.Path.{refl, sym, ◌∙◌}
 use native.Mathlib.Nat.{mul-zero}
 use native.Mathlib.Omega.{arith}
 use lib.ListN.{length}
-use Rattle.plan.specs.Step.{Value}
 use Rattle.plan.specs.Whole.{line_width}
 use Rattle.laws.proofs.Tables.{next_row}
-use Rattle.plan.specs.Circuit.{Tables, circuit_of}
-use Rattle.step.specs.sweep.Running.{these, Runs, Rests}
 use Rattle.runs.specs.trace.Tracing.{Resting}
-use Rattle.runs.proofs.trace.Running.{Lining, lining-first, lining-next, line-fits, line-inside, ins-long}
-use Rattle.runs.proofs.trace.Running.{Going, going-first, going-at, going_on, all-gone}
-use borrow.Author.Rules.{rules}
+use Rattle.runs.proofs.trace.Running.{lining-first, lining-next, line-fits, line-inside, ins-long}
+use Rattle.runs.proofs.trace.Running.{going-first, going-at, going_on, all-gone}
 use Rattle.runs.proofs.trace.trace_lines.Goals as goal
 
 pub loop-k-init : goal.loop-k-init
@@ -54,7 +49,7 @@ write_line-to-requires c =
       state-length = g.state-length;
       rests = g.rests;
     } in
-    record { resting = resting; ins_len = ins-long c.loop-k.invariant.0 c.loop-k-test.true; n_in_bounds = omega (arith, fits, c.loop-k.invariant.3); }
+    record { resting = resting; ins_len = ins-long c.loop-k.invariant.0 c.loop-k-test.true; n_in_bounds = omega (arith, fits, c.loop-k.invariant.3) }
 
 pub overflow_add-at : goal.overflow_add-at
 overflow_add-at c =
@@ -65,8 +60,7 @@ overflow_add-at c =
 pub loop-k-preserved : goal.loop-k-preserved
 loop-k-preserved c =
     let fits : c.loop-k.to + line_width c.args.n ≤ length c.args.out.now =
-    line-fits c.requires.listed c.loop-k.k c.loop-k.to c.loop-k-test.true c.loop-k.invariant.1 in
-    (
+    line-fits c.requires.listed c.loop-k.k c.loop-k.to c.loop-k-test.true c.loop-k.invariant.1 in (
       lining-next c.loop-k.invariant.0 c.loop-k-test.true,
       c.write_line-to.ensures.value ∙ next_row (line_width c.args.n) c.loop-k.k c.loop-k.to c.loop-k.invariant.1,
       c.write_line-to.auto.scratch ∙ c.loop-k.invariant.2,

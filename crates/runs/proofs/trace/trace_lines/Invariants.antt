@@ -1,20 +1,15 @@
 -- The lines of the first `number` vectors, from the start of a buffer that has room for them. The loop keeps `Lining`; the measure is `number - k`.
 -- `lining-next`, `next_row` and `going-at` carry it from turn to turn, and `all-gone` gives the answer.
-use Prim.Native.Nat.{◌+◌, ◌*◌, ◌-◌, ◌≤◌}
-use mathlib.Core.Path.{◌≡◌, refl, sym, ◌∙◌}
+use Prim.Native.Nat.{◌*◌, ◌-◌}
+use mathlib.Core.Path.{◌≡◌}
 use mathlib.Core.List.{List}
-use native.Mathlib.Nat.{mul-zero}
-use native.Mathlib.Omega.{arith}
 use lib.ListN.{length}
 use Rattle.plan.specs.Step.{Value}
 use Rattle.plan.specs.Whole.{line_width}
-use Rattle.laws.proofs.Tables.{next_row}
 use Rattle.plan.specs.Circuit.{Tables, circuit_of}
 use Rattle.step.specs.sweep.Running.{these, Runs, Rests}
-use Rattle.runs.specs.trace.Tracing.{Resting}
-use Rattle.runs.proofs.trace.Running.{Lining, lining-first, lining-next, line-fits, line-inside, ins-long}
-use Rattle.runs.proofs.trace.Running.{Going, going-first, going-at, going_on, all-gone}
-use borrow.Author.Rules.{rules}
+use Rattle.runs.proofs.trace.Running.{Lining}
+use Rattle.runs.proofs.trace.Running.{Going}
 use Rattle.runs.proofs.trace.trace_lines.Given as goal
 
 abbrev pub invariant-loop-k : goal.invariant-loop-k

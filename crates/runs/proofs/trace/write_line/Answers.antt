@@ -3,7 +3,6 @@
 use mathlib.Core.Path.{◌∙◌}
 use native.Mathlib.Omega.{arith}
 use Rattle.runs.proofs.trace.Writing.{line-stands, line-ready, line_wrote}
-use borrow.Author.Rules.{rules}
 use Rattle.runs.proofs.trace.write_line.Goals as goal
 
 pub step_values-requires : goal.step_values-requires
@@ -17,24 +16,29 @@ overflow_add-n-2 c = omega (arith, c.requires.resting.runs.fits.most-M)
 
 pub put_part-next_at-requires : goal.put_part-next_at-requires
 put_part-next_at-requires c =
-    record { count_in_bounds = omega (arith, c.requires.resting.scratch-long, c.step_values.auto.t, c.load.auto.t); count_in_bounds_2 = omega (
+    record {
+      count_in_bounds = omega (arith, c.requires.resting.scratch-long, c.step_values.auto.t, c.load.auto.t);
+      count_in_bounds_2 = omega (
         arith,
         c.requires.n_in_bounds,
         c.put_part-outputs_at.auto.out,
         c.put_part-outputs_at.ensures.value,
         c.put_part-inputs_at.auto.out,
         c.put_part-inputs_at.ensures.value,
-      ); }
+      );
+    }
 
 pub put_part-requires : goal.put_part-requires
 put_part-requires c =
-    record { count_in_bounds = omega (
+    record {
+      count_in_bounds = omega (
         arith,
         c.requires.resting.scratch-long,
         c.requires.resting.runs.fits.sum,
         c.step_values.auto.t,
         c.load.auto.t,
-      ); count_in_bounds_2 = omega (
+      );
+      count_in_bounds_2 = omega (
         arith,
         c.requires.n_in_bounds,
         c.put_part-next_at.auto.out,
@@ -43,7 +47,8 @@ put_part-requires c =
         c.put_part-outputs_at.ensures.value,
         c.put_part-inputs_at.auto.out,
         c.put_part-inputs_at.ensures.value,
-      ); }
+      );
+    }
 
 pub shape_of-out : goal.shape_of-out
 shape_of-out c =
@@ -54,9 +59,12 @@ pub returns : goal.returns
 returns c =
     let a = c.args in
     let e1 = c.load.ensures in
-    record { value = omega (arith, c.put_part-inputs_at.ensures.value, c.put_part-outputs_at.ensures.value, c.put_part-next_at.ensures.value, c.put_part.ensures.value); wrote = λ others s r ls rests.
+    record {
+      value = omega (arith, c.put_part-inputs_at.ensures.value, c.put_part-outputs_at.ensures.value, c.put_part-next_at.ensures.value, c.put_part.ensures.value);
+      wrote = λ others s r ls rests.
           let room = c.requires.resting.scratch-long in
           let stands = line-stands r s a.ins.now ls rests room c.requires.ins_len e1 in
           let step = c.step_values.ensures others _ _ r stands in
           line_wrote r s a.ins.now ls rests room c.requires.ins_len e1 step a.out.now a.at c.requires.n_in_bounds
-          c.put_part-inputs_at.ensures.out_after c.put_part-inputs_at.ensures.value c.put_part-outputs_at.ensures.out_after c.put_part-outputs_at.ensures.value c.put_part-next_at.ensures.out_after c.put_part-next_at.ensures.value c.put_part.ensures.out_after c.put_part.ensures.value; }
+          c.put_part-inputs_at.ensures.out_after c.put_part-inputs_at.ensures.value c.put_part-outputs_at.ensures.out_after c.put_part-outputs_at.ensures.value c.put_part-next_at.ensures.out_after c.put_part-next_at.ensures.value c.put_part.ensures.out_after c.put_part.ensures.value;
+    }

@@ -1,11 +1,7 @@
-use Prim.Native.Nat.{ℕ, ◌+◌, ◌-◌, ◌*◌, ◌<◌, ◌≤◌}
-use mathlib.Core.List.{List}
+use Prim.Native.Nat.{◌-◌, ◌<◌}
 use native.Mathlib.Omega.{arith}
-use lib.ListN.{length, get_or}
-use Rattle.plan.specs.Search.{System, Way}
-use Rattle.search.specs.Rows.{Rows}
+use lib.ListN.{length}
 use Rattle.search.proofs.Walking.{Counting, counting-first, counting_more, counting-less, counting-done, back-there}
-use borrow.Author.Rules.{rules}
 use Rattle.search.proofs.back.steps_to.Goals as goal
 
 pub overflow_mul-place : goal.overflow_mul-place

@@ -1,11 +1,9 @@
-use Prim.Native.Nat.{ℕ, ◌+◌, ◌-◌, ◌*◌, ◌<◌, ◌≤◌}
+use Prim.Native.Nat.{◌-◌, ◌<◌}
 use mathlib.Core.List.{List}
-use native.Mathlib.Omega.{arith}
-use lib.ListN.{length, get_or}
+use lib.ListN.{length}
 use Rattle.plan.specs.Search.{System, Way}
 use Rattle.search.specs.Rows.{Rows}
-use Rattle.search.proofs.Walking.{Counting, counting-first, counting_more, counting-less, counting-done, back-there}
-use borrow.Author.Rules.{rules}
+use Rattle.search.proofs.Walking.{Counting}
 use Rattle.search.proofs.back.steps_to.Given as goal
 
 abbrev pub invariant-loop-from : goal.invariant-loop-from

@@ -1,12 +1,10 @@
-use Prim.Native.Nat.{ℕ, ◌+◌, ◌-◌, ◌/◌, ◌%◌, ◌^◌, ◌≤◌}
+use Prim.Native.Nat.{◌-◌}
 use mathlib.Core.Path.{◌∙◌, ap}
 use native.Mathlib.Omega.{arith}
 use Rattle.plan.specs.Outcome.{put}
 use Rattle.plan.specs.Step.{code_of}
-use Rattle.step.proofs.values.Filling.{Filled, filled_none, filled_more, filled-all}
-use Rattle.plan.specs.Search.{bit_value}
+use Rattle.step.proofs.values.Filling.{filled_none, filled_more, filled-all}
 use Rattle.search.proofs.Numbers.{bits-firsts}
-use borrow.Author.Rules.{rules}
 use Rattle.search.proofs.back.store_number.Goals as goal
 
 pub loop-i-init : goal.loop-i-init

@@ -1,4 +1,4 @@
-use Prim.Native.Nat.{ℕ, suc, ◌+◌, ◌-◌, ◌*◌, ◌<◌, ◌≤◌}
+use Prim.Native.Nat.{suc, ◌-◌, ◌<◌, ◌≤◌}
 use mathlib.Core.Path.{◌≡◌, refl, ◌∙◌}
 use mathlib.Core.List.{List}
 use native.Mathlib.Omega.{arith}
@@ -6,7 +6,6 @@ use lib.ListN.{length}
 use Rattle.plan.specs.Search.{System, Way}
 use Rattle.search.specs.Rows.{at, Rows}
 use Rattle.search.proofs.Walking.{one_less, Storing, storing-first, storing-more, storing-done, room_back, room-here, row-there, row-falls}
-use borrow.Author.Rules.{rules}
 use Rattle.search.proofs.back.store_way.Goals as goal
 
 pub overflow_sub-at : goal.overflow_sub-at
@@ -30,15 +29,14 @@ overflow_add-at c =
 pub store_number-requires : goal.store_number-requires
 store_number-requires c =
     let some-step : 0 < c.args.steps =
-    let w = c.requires.walks in omega (arith, (c.requires.many w.y w.ways w.rows w.there).0) in
-    (
-  c.requires.few-inputs,
-  omega (
-    arith,
-    one_less c.args.n c.args.steps (some-step),
-    c.requires.room,
-  ),
-)
+    let w = c.requires.walks in omega (arith, (c.requires.many w.y w.ways w.rows w.there).0) in (
+      c.requires.few-inputs,
+      omega (
+        arith,
+        one_less c.args.n c.args.steps (some-step),
+        c.requires.room,
+      ),
+    )
 
 pub overflow_mul-p : goal.overflow_mul-p
 overflow_mul-p c = let w = c.requires.walks in omega (arith, w.there, w.long, w.few)
@@ -52,11 +50,11 @@ offset_bounds-met-p c = let w = c.requires.walks in omega (arith, w.there, w.lon
 pub bounds-met-p : goal.bounds-met-p
 bounds-met-p c =
     let w = c.requires.walks in omega (
-  arith,
-  w.there,
-  w.long,
-  w.few,
-)
+      arith,
+      w.there,
+      w.long,
+      w.few,
+    )
 
 pub loop-from-init : goal.loop-from-init
 loop-from-init c = (refl, λ y ways r o es er k. k)
@@ -161,12 +159,12 @@ overflow_mul-p-in-loop-from-2 c =
     row-there c.requires.walks.rows a.n a.place a.m a.steps a.out.now (many) c.requires.room c.loop-from.out c.loop-from.at c.loop-from.p c.loop-from.from (promised)
     c.loop-from-test.true in
     let w = c.requires.walks in omega (
-  arith,
-  row_back,
-  w.long,
-  w.few,
-  c.loop-from-test.true,
-)
+      arith,
+      row_back,
+      w.long,
+      w.few,
+      c.loop-from-test.true,
+    )
 
 pub overflow_add-p-in-loop-from-2 : goal.overflow_add-p-in-loop-from-2
 overflow_add-p-in-loop-from-2 c =
@@ -184,12 +182,12 @@ overflow_add-p-in-loop-from-2 c =
     row-there c.requires.walks.rows a.n a.place a.m a.steps a.out.now (many) c.requires.room c.loop-from.out c.loop-from.at c.loop-from.p c.loop-from.from (promised)
     c.loop-from-test.true in
     let w = c.requires.walks in omega (
-  arith,
-  row_back,
-  w.long,
-  w.few,
-  c.loop-from-test.true,
-)
+      arith,
+      row_back,
+      w.long,
+      w.few,
+      c.loop-from-test.true,
+    )
 
 pub offset_bounds-met-p-in-loop-from-2 : goal.offset_bounds-met-p-in-loop-from-2
 offset_bounds-met-p-in-loop-from-2 c =
@@ -207,12 +205,12 @@ offset_bounds-met-p-in-loop-from-2 c =
     row-there c.requires.walks.rows a.n a.place a.m a.steps a.out.now (many) c.requires.room c.loop-from.out c.loop-from.at c.loop-from.p c.loop-from.from (promised)
     c.loop-from-test.true in
     let w = c.requires.walks in omega (
-  arith,
-  row_back,
-  w.long,
-  w.few,
-  c.loop-from-test.true,
-)
+      arith,
+      row_back,
+      w.long,
+      w.few,
+      c.loop-from-test.true,
+    )
 
 pub bounds-met-p-in-loop-from-2 : goal.bounds-met-p-in-loop-from-2
 bounds-met-p-in-loop-from-2 c =
@@ -230,12 +228,12 @@ bounds-met-p-in-loop-from-2 c =
     row-there c.requires.walks.rows a.n a.place a.m a.steps a.out.now (many) c.requires.room c.loop-from.out c.loop-from.at c.loop-from.p c.loop-from.from (promised)
     c.loop-from-test.true in
     let w = c.requires.walks in omega (
-  arith,
-  row_back,
-  w.long,
-  w.few,
-  c.loop-from-test.true,
-)
+      arith,
+      row_back,
+      w.long,
+      w.few,
+      c.loop-from-test.true,
+    )
 
 pub loop-from-smaller : goal.loop-from-smaller
 loop-from-smaller c =
@@ -254,8 +252,7 @@ loop-from-smaller c =
 
 pub loop-from-preserved : goal.loop-from-preserved
 loop-from-preserved c =
-    let a = c.args in
-    (
+    let a = c.args in (
       c.store_number-in-loop-from.auto.t ∙ c.loop-from.invariant.0,
       λ y ways r o es er k.
           storing-more r a.n a.place a.m a.steps o es er c.loop-from.out c.loop-from.at c.loop-from.p c.loop-from.from (c.loop-from.invariant.1 y ways r o es er k) c.loop-from-test.true _
@@ -270,11 +267,11 @@ overflow_mul-p-2 c =
     c.loop-from.invariant.1 y ways r a.out.now e c.requires.room
     (storing-first r a.n a.place a.m a.steps a.out.now e c.requires.room h _ c.ix-from.ensures _ _ refl c.store_number.ensures) in
     let w = c.requires.walks in omega (
-  arith,
-  (storing-past w.y w.ways w.rows w.there).there,
-  w.long,
-  w.few,
-)
+      arith,
+      (storing-past w.y w.ways w.rows w.there).there,
+      w.long,
+      w.few,
+    )
 
 pub offset_bounds-met-p-2 : goal.offset_bounds-met-p-2
 offset_bounds-met-p-2 c =
@@ -284,11 +281,11 @@ offset_bounds-met-p-2 c =
     c.loop-from.invariant.1 y ways r a.out.now e c.requires.room
     (storing-first r a.n a.place a.m a.steps a.out.now e c.requires.room h _ c.ix-from.ensures _ _ refl c.store_number.ensures) in
     let w = c.requires.walks in omega (
-  arith,
-  (storing-past w.y w.ways w.rows w.there).there,
-  w.long,
-  w.few,
-)
+      arith,
+      (storing-past w.y w.ways w.rows w.there).there,
+      w.long,
+      w.few,
+    )
 
 pub bounds-met-p-2 : goal.bounds-met-p-2
 bounds-met-p-2 c =
@@ -298,11 +295,11 @@ bounds-met-p-2 c =
     c.loop-from.invariant.1 y ways r a.out.now e c.requires.room
     (storing-first r a.n a.place a.m a.steps a.out.now e c.requires.room h _ c.ix-from.ensures _ _ refl c.store_number.ensures) in
     let w = c.requires.walks in omega (
-  arith,
-  (storing-past w.y w.ways w.rows w.there).there,
-  w.long,
-  w.few,
-)
+      arith,
+      (storing-past w.y w.ways w.rows w.there).there,
+      w.long,
+      w.few,
+    )
 
 pub store_number-requires-2 : goal.store_number-requires-2
 store_number-requires-2 c =

@@ -1,12 +1,10 @@
-use Prim.Native.Nat.{ℕ, suc, ◌+◌, ◌-◌, ◌*◌, ◌<◌, ◌≤◌}
-use mathlib.Core.Path.{◌≡◌, refl, ◌∙◌}
+use Prim.Native.Nat.{ℕ, suc, ◌+◌, ◌-◌, ◌*◌, ◌≤◌}
+use mathlib.Core.Path.{◌≡◌}
 use mathlib.Core.List.{List}
-use native.Mathlib.Omega.{arith}
 use lib.ListN.{length}
 use Rattle.plan.specs.Search.{System, Way}
 use Rattle.search.specs.Rows.{at, Rows}
-use Rattle.search.proofs.Walking.{one_less, Storing, storing-first, storing-more, storing-done, room_back, room-here, row-there, row-falls}
-use borrow.Author.Rules.{rules}
+use Rattle.search.proofs.Walking.{Storing}
 use Rattle.search.proofs.back.store_way.Given as goal
 
 abbrev pub invariant-loop-from : goal.invariant-loop-from

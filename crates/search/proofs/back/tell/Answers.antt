@@ -1,8 +1,6 @@
-use Prim.Native.Nat.{◌+◌, ◌*◌, ◌≤◌}
 use mathlib.Core.Path.{refl}
 use native.Mathlib.Omega.{arith}
 use Rattle.search.proofs.Walking.{few_bytes, told-short, told-long}
-use borrow.Author.Rules.{rules}
 use Rattle.search.proofs.back.tell.Goals as goal
 
 pub overflow_mul-needed : goal.overflow_mul-needed

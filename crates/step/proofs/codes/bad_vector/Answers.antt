@@ -5,7 +5,6 @@ use mathlib.Core.Path.{◌≡◌, sym, ◌∙◌}
 use mathlib.Core.Bool.{true}
 use borrow.Author.Tests.{not-true, not-false, eq-eqb, ne_eqb}
 use Rattle.step.proofs.codes.Places.{codes_in, bad-state, bad-inputs, bad-outputs, none-bad}
-use borrow.Author.Rules.{rules}
 use Rattle.step.proofs.codes.bad_vector.Goals as goal
 
 pub returns-then-not-codes_in : goal.returns-then-not-codes_in

@@ -1,6 +1,5 @@
 -- Whether n codes stand in a vector, and no other byte. Each answer is rewritten with the tests that led to it.
 use borrow.Author.Tests.{eq-eqb, ne_eqb}
-use borrow.Author.Rules.{rules}
 use Rattle.step.proofs.codes.codes_in.Goals as goal
 
 pub returns-then-bytes-n : goal.returns-then-bytes-n

@@ -1,7 +1,6 @@
 -- Whether the bytes of a list are `number` times `each`, as a true product. The answers are given by `none_each`, `other-number` and `rest-decides`.
 use native.Mathlib.Omega.{arith}
 use Rattle.step.proofs.codes.Products.{none_each, other-number, rest-decides}
-use borrow.Author.Rules.{rules}
 use Rattle.step.proofs.codes.product_is.Goals as goal
 
 pub returns-then-each-eq0 : goal.returns-then-each-eq0

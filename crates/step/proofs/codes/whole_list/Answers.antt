@@ -1,7 +1,6 @@
 -- Whether a list is `number` vectors of `each` codes. The answers are given by `test-fails` and `test-passes`.
 use mathlib.Core.Path.{refl, sym, ◌∙◌}
 use Rattle.judge.proofs.binary_order.Steps.{test-fails, test-passes}
-use borrow.Author.Rules.{rules}
 use Rattle.step.proofs.codes.whole_list.Goals as goal
 
 pub returns-then-not-product_is : goal.returns-then-not-product_is

@@ -1,15 +1,13 @@
 -- Whether all of them are. The loop keeps `(i ≤ n) × (all1 (seen_from table t n lits 0) ≡ all1 (seen_from table t n lits i))`; the measure is `n - i`.
 -- `all-later` carries it from turn to turn, and `all_here` and `all_seen` give the answer.
-use Prim.Native.Nat.{◌-◌, ◌≤◌}
+use Prim.Native.Nat.{◌-◌}
 use mathlib.Core.Path.{◌≡◌, refl, sym, ap, ◌∙◌, subst}
 use native.Mathlib.Omega.{arith}
 use lib.ListN.{get_or}
 use Rattle.plan.specs.declared.Lit.{Lit}
 use Rattle.plan.specs.Literals.{word_of}
-use Rattle.plan.specs.Step.{all1}
 use Rattle.step.specs.sweep.Lookup.{word_at, Inside}
-use Rattle.step.proofs.sweep.Seeing.{seen_from, all_here, all-later, all_seen}
-use borrow.Author.Rules.{rules}
+use Rattle.step.proofs.sweep.Seeing.{all_here, all-later, all_seen}
 use Rattle.step.proofs.sweep.all_lits.Goals as goal
 
 pub loop-i-init : goal.loop-i-init

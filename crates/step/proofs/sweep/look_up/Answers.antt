@@ -1,16 +1,15 @@
 -- The values of n literals of a table, from `start` on by `stride`, go into words from `first` on, which lie before the literals'. The loop keeps
 -- `Filled`; the measure is `n - i`. `next-at` and `next-looked` carry it from turn to turn, and `all-looked` gives the answer.
-use Prim.Native.Nat.{◌+◌, ◌*◌, ◌-◌, ◌≤◌, ◌<◌}
-use mathlib.Core.Path.{◌≡◌, sym, ap, ◌∙◌, subst}
+use Prim.Native.Nat.{◌+◌, ◌-◌, ◌≤◌, ◌<◌}
+use mathlib.Core.Path.{sym, ap, ◌∙◌, subst}
 use native.Mathlib.Nat.{mul-zero}
 use native.Mathlib.Omega.{arith}
 use lib.ListN.{length}
 use Rattle.plan.specs.declared.Lit.{Lit}
 use Rattle.plan.specs.Literals.{word_of}
-use Rattle.step.proofs.values.Filling.{Filled, filled_none}
+use Rattle.step.proofs.values.Filling.{filled_none}
 use Rattle.step.specs.sweep.Lookup.{word_at, Inside}
-use Rattle.step.proofs.sweep.Lookups.{literal_word, next-at, row_in, literal-in, place_in, next-looked, all-looked}
-use borrow.Author.Rules.{rules}
+use Rattle.step.proofs.sweep.Lookups.{next-at, row_in, literal-in, place_in, next-looked, all-looked}
 use Rattle.step.proofs.sweep.look_up.Goals as goal
 
 pub loop-i-init : goal.loop-i-init
@@ -58,13 +57,12 @@ overflow_add-at c =
     omega (arith, row_fits, c.requires.start-in)
 
 pub loop-i-preserved : goal.loop-i-preserved
-loop-i-preserved c =
-    (
-      omega arith,
-      next-at c.args.stride c.args.start c.loop-i.i c.loop-i.at c.loop-i.invariant.1,
-      next-looked c.requires c.loop-i.i c.loop-i.at c.loop-i.t c.loop-i-test.true c.loop-i.invariant.1 c.loop-i.invariant.2 _
-          (c.value_of.ensures ∙ ap (λ (l : Lit). word_at c.args.lits c.loop-i.t (word_of l)) c.at.ensures),
-    )
+loop-i-preserved c = (
+  omega arith,
+  next-at c.args.stride c.args.start c.loop-i.i c.loop-i.at c.loop-i.invariant.1,
+  next-looked c.requires c.loop-i.i c.loop-i.at c.loop-i.t c.loop-i-test.true c.loop-i.invariant.1 c.loop-i.invariant.2 _
+      (c.value_of.ensures ∙ ap (λ (l : Lit). word_at c.args.lits c.loop-i.t (word_of l)) c.at.ensures),
+)
 
 pub shape_of-t : goal.shape_of-t
 shape_of-t c = c.loop-i.invariant.2.same

@@ -1,16 +1,9 @@
 -- The values of n literals of a table, from `start` on by `stride`, go into words from `first` on, which lie before the literals'. The loop keeps
 -- `Filled`; the measure is `n - i`. `next-at` and `next-looked` carry it from turn to turn, and `all-looked` gives the answer.
-use Prim.Native.Nat.{◌+◌, ◌*◌, ◌-◌, ◌≤◌, ◌<◌}
-use mathlib.Core.Path.{◌≡◌, sym, ap, ◌∙◌, subst}
-use native.Mathlib.Nat.{mul-zero}
-use native.Mathlib.Omega.{arith}
-use lib.ListN.{length}
-use Rattle.plan.specs.declared.Lit.{Lit}
-use Rattle.plan.specs.Literals.{word_of}
-use Rattle.step.proofs.values.Filling.{Filled, filled_none}
-use Rattle.step.specs.sweep.Lookup.{word_at, Inside}
-use Rattle.step.proofs.sweep.Lookups.{literal_word, next-at, row_in, literal-in, place_in, next-looked, all-looked}
-use borrow.Author.Rules.{rules}
+use Prim.Native.Nat.{◌+◌, ◌*◌, ◌-◌, ◌≤◌}
+use mathlib.Core.Path.{◌≡◌}
+use Rattle.step.proofs.values.Filling.{Filled}
+use Rattle.step.proofs.sweep.Lookups.{literal_word}
 use Rattle.step.proofs.sweep.look_up.Given as goal
 
 abbrev pub invariant-loop-i : goal.invariant-loop-i

@@ -4,7 +4,6 @@ use mathlib.Core.Path.{sym, ap, ◌∙◌, subst}
 use lib.ListN.{length, get_or}
 use Rattle.plan.specs.declared.Lit.{Lit}
 use Rattle.plan.specs.Literals.{word_of}
-use borrow.Author.Rules.{rules}
 use Rattle.step.proofs.sweep.may_be_0.Goals as goal
 
 pub may_be_1-requires : goal.may_be_1-requires

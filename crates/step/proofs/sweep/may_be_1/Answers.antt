@@ -2,7 +2,6 @@
 use Prim.Native.Nat.{ℕ, ◌+◌}
 use mathlib.Core.Path.{ap}
 use lib.ListN.{get_or}
-use borrow.Author.Rules.{rules}
 use Rattle.step.proofs.sweep.may_be_1.Goals as goal
 
 pub returns : goal.returns

@@ -7,7 +7,6 @@ use lib.Bits.{bit_and, bit_or}
 use lib.ListN.{length-set}
 use Rattle.plan.specs.Outcome.{put}
 use Rattle.step.proofs.sweep.Spreading.{two-put}
-use borrow.Author.Rules.{rules}
 use Rattle.step.proofs.sweep.put_and.Goals as goal
 
 pub bounds-t-to-2 : goal.bounds-t-to-2

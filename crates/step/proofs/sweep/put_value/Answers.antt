@@ -8,7 +8,6 @@ use lib.ListN.{length-set}
 use Rattle.plan.specs.Outcome.{put}
 use Rattle.step.proofs.sweep.NotAnd.{high_bit, low_bit}
 use Rattle.step.proofs.sweep.Spreading.{two-put}
-use borrow.Author.Rules.{rules}
 use Rattle.step.proofs.sweep.put_value.Goals as goal
 
 pub bounds-t-to-2 : goal.bounds-t-to-2

@@ -1,13 +1,12 @@
-use Prim.Native.Nat.{ℕ, ◌+◌, ◌*◌, ◌-◌, ◌≤◌}
+use Prim.Native.Nat.{ℕ, ◌+◌, ◌*◌, ◌-◌}
 use mathlib.Core.Path.{◌≡◌, refl, sym, ap, ap₂, ◌∙◌, subst}
 use native.Mathlib.Omega.{arith}
-use lib.ListN.{length, get_or}
+use lib.ListN.{get_or}
 use Rattle.plan.specs.declared.Lit.{Lit}
 use Rattle.plan.specs.Literals.{word_of, lit_at, doubled}
 use Rattle.plan.specs.Outcome.{put}
 use Rattle.step.specs.sweep.Lookup.{and_words, Inside}
-use Rattle.step.proofs.sweep.Sweeping.{Settled, settled-none, first-in, second-in, settled-more, settled-all, uncut}
-use borrow.Author.Rules.{rules}
+use Rattle.step.proofs.sweep.Sweeping.{settled-none, first-in, second-in, settled-more, settled-all, uncut}
 use Rattle.step.proofs.sweep.settle_gates.Goals as goal
 
 pub overflow_cast-first : goal.overflow_cast-first
@@ -29,7 +28,7 @@ put_and-requires c =
     let second-side : c.at-b.result ≡ lit_at (get_or c.args.gates.now (3 * c.loop-i.i + 2) 0) =
     side 2 c.at-b.result c.at-b.ensures in
     let p = c.requires in
-    record { inside = subst (λ (l : Lit). Inside 0 c.loop-i.t (word_of l)) (sym (first-side)) (first-in p c.loop-i.i c.loop-i-test.true c.loop-i.t c.loop-i.invariant.3); inside_2 = subst (λ (l : Lit). Inside 0 c.loop-i.t (word_of l)) (sym (second-side)) (second-in p c.loop-i.i c.loop-i-test.true c.loop-i.t c.loop-i.invariant.3); to_in_bounds = omega (arith, c.loop-i.invariant.3, p.table-long); }
+    record { inside = subst (λ (l : Lit). Inside 0 c.loop-i.t (word_of l)) (sym (first-side)) (first-in p c.loop-i.i c.loop-i-test.true c.loop-i.t c.loop-i.invariant.3); inside_2 = subst (λ (l : Lit). Inside 0 c.loop-i.t (word_of l)) (sym (second-side)) (second-in p c.loop-i.i c.loop-i-test.true c.loop-i.t c.loop-i.invariant.3); to_in_bounds = omega (arith, c.loop-i.invariant.3, p.table-long) }
 
 pub loop-i-preserved : goal.loop-i-preserved
 loop-i-preserved c =
@@ -38,8 +37,7 @@ loop-i-preserved c =
     let first-side : c.at-a.result ≡ lit_at (get_or c.args.gates.now (3 * c.loop-i.i + 1) 0) =
     side 1 c.at-a.result c.at-a.ensures in
     let second-side : c.at-b.result ≡ lit_at (get_or c.args.gates.now (3 * c.loop-i.i + 2) 0) =
-    side 2 c.at-b.result c.at-b.ensures in
-    (
+    side 2 c.at-b.result c.at-b.ensures in (
       omega arith,
       omega arith,
       omega arith,

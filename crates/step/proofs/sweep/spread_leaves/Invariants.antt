@@ -2,10 +2,8 @@
 -- × Spread lits (values_at t₀ 0 v) t₀ t`; the measure is `n - v`. `leaves-more` carries it from turn to turn, and `leaves_all` gives the answer.
 use Prim.Native.Nat.{◌+◌, ◌*◌, ◌-◌, ◌≤◌}
 use mathlib.Core.Path.{◌≡◌}
-use native.Mathlib.Omega.{arith}
 use Rattle.step.specs.values.Words.{values_at}
-use Rattle.step.proofs.sweep.Spreading.{Spread, leaves_none, leaf-coded, leaves-more, leaves_all}
-use borrow.Author.Rules.{rules}
+use Rattle.step.proofs.sweep.Spreading.{Spread}
 use Rattle.step.proofs.sweep.spread_leaves.Given as goal
 
 abbrev pub invariant-loop-v : goal.invariant-loop-v

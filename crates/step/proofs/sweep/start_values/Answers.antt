@@ -6,7 +6,6 @@ use lib.ListN.{take, set, length-map, length-set}
 use lib.Seq.{length-take-le}
 use Rattle.plan.specs.Step.{reset_value}
 use Rattle.step.proofs.sweep.Loading.{constant-set, rests-loaded}
-use borrow.Author.Rules.{rules}
 use Rattle.step.proofs.sweep.start_values.Goals as goal
 
 pub shape_of-t : goal.shape_of-t

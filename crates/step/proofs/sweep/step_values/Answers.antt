@@ -1,7 +1,6 @@
 -- One step, from the state and the inputs that stand in the leaves' words. Each answer is given by `stepped`.
 use Rattle.step.proofs.sweep.Settling.{spreads, sweeps}
 use Rattle.step.proofs.sweep.Stepping.{looks-outputs, looks-nexts, stepped}
-use borrow.Author.Rules.{rules}
 use Rattle.step.proofs.sweep.step_values.Goals as goal
 
 pub spread_leaves-requires : goal.spread_leaves-requires

@@ -1,5 +1,4 @@
 -- The same where the literals' words start at `lits`: that part is lent, so that no look adds it. Each answer is given by `swept-there`.
-use borrow.Author.Rules.{rules}
 use Rattle.step.proofs.sweep.Sweeping.{gated, swept-there}
 use Rattle.step.proofs.sweep.sweep_gates.Goals as goal
 

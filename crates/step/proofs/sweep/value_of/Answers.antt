@@ -2,7 +2,6 @@
 use Prim.Native.Nat.{ℕ, ◌*◌, ◌%◌}
 use mathlib.Core.Path.{ap₂}
 use lib.Bits.{bit_or}
-use borrow.Author.Rules.{rules}
 use Rattle.step.proofs.sweep.value_of.Goals as goal
 
 pub returns : goal.returns

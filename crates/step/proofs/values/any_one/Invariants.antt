@@ -1,12 +1,9 @@
 -- Whether the value of one of n words from `first` on is 1. The loop keeps `(i ≤ n) × (any1 (values_at t first n) ≡ any1 (values_at t (first + i) (n -
 -- i)))`; the measure is `n - i`. `any-later` carries it from turn to turn, and `any_here` and `any_none` give the answer.
-use Prim.Native.Nat.{ℕ, ◌+◌, ◌-◌, ◌≤◌}
-use mathlib.Core.Path.{◌≡◌, ap₂}
-use native.Mathlib.Omega.{arith}
+use Prim.Native.Nat.{◌+◌, ◌-◌, ◌≤◌}
+use mathlib.Core.Path.{◌≡◌}
 use Rattle.plan.specs.Step.{any1}
 use Rattle.step.specs.values.Words.{values_at}
-use Rattle.step.proofs.values.Codes.{any_here, any-later, any_none}
-use borrow.Author.Rules.{rules}
 use Rattle.step.proofs.values.any_one.Given as goal
 
 abbrev pub invariant-loop-i : goal.invariant-loop-i

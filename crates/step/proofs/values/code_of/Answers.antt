@@ -2,7 +2,6 @@
 use mathlib.Core.Path.{sym, ap}
 use Rattle.plan.specs.Step.{code_of}
 use Rattle.step.proofs.values.Codes.{told-x}
-use borrow.Author.Rules.{rules}
 use Rattle.step.proofs.values.code_of.Goals as goal
 
 pub returns : goal.returns

@@ -1,14 +1,9 @@
 -- The values of as many resets fill a state: the first one of a run. The loop keeps `Filled`; the measure is `length state₀ - i`. `filled-front` and
 -- `told-word` carry it from turn to turn, and `filled-all` and `state-filled` give the answer.
 use Prim.Native.Nat.{◌-◌, ◌≤◌}
-use mathlib.Core.Path.{ap, ◌∙◌}
-use native.Mathlib.Omega.{arith}
 use lib.ListN.{length, get_or}
 use Rattle.plan.specs.Step.{code_of, reset_value}
-use Rattle.step.specs.values.Words.{told}
-use Rattle.step.proofs.values.Filling.{Filled, filled-front, filled-all}
-use Rattle.step.proofs.values.Codes.{told-word, state-filled}
-use borrow.Author.Rules.{rules}
+use Rattle.step.proofs.values.Filling.{Filled}
 use Rattle.step.proofs.values.first_state.Given as goal
 
 abbrev pub invariant-loop-i : goal.invariant-loop-i

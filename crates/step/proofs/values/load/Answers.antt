@@ -1,15 +1,12 @@
 -- A vector's values go into words from `first` on. The loop keeps `Filled`; the measure is `length codes - i`. `filled_more` carries it from turn to
 -- turn, and `filled-all` and `loaded` give the answer.
-use Prim.Native.Nat.{◌-◌, ◌≤◌}
+use Prim.Native.Nat.{◌-◌}
 use mathlib.Core.Path.{ap, ◌∙◌}
 use native.Mathlib.Omega.{arith}
-use lib.ListN.{length, get_or}
-use Rattle.plan.specs.Step.{value_of}
+use lib.ListN.{length}
 use Rattle.plan.specs.Outcome.{put}
-use Rattle.step.specs.values.Words.{word}
-use Rattle.step.proofs.values.Filling.{Filled, filled_none, filled_more, filled-all}
+use Rattle.step.proofs.values.Filling.{filled_none, filled_more, filled-all}
 use Rattle.step.proofs.values.Codes.{loaded}
-use borrow.Author.Rules.{rules}
 use Rattle.step.proofs.values.load.Goals as goal
 
 pub loop-i-init : goal.loop-i-init

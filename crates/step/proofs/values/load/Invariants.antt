@@ -1,15 +1,10 @@
 -- A vector's values go into words from `first` on. The loop keeps `Filled`; the measure is `length codes - i`. `filled_more` carries it from turn to
 -- turn, and `filled-all` and `loaded` give the answer.
 use Prim.Native.Nat.{◌-◌, ◌≤◌}
-use mathlib.Core.Path.{ap, ◌∙◌}
-use native.Mathlib.Omega.{arith}
 use lib.ListN.{length, get_or}
 use Rattle.plan.specs.Step.{value_of}
-use Rattle.plan.specs.Outcome.{put}
 use Rattle.step.specs.values.Words.{word}
-use Rattle.step.proofs.values.Filling.{Filled, filled_none, filled_more, filled-all}
-use Rattle.step.proofs.values.Codes.{loaded}
-use borrow.Author.Rules.{rules}
+use Rattle.step.proofs.values.Filling.{Filled}
 use Rattle.step.proofs.values.load.Given as goal
 
 abbrev pub invariant-loop-i : goal.invariant-loop-i

@@ -1,14 +1,12 @@
 -- The values of words from `first` on fill a vector. The loop keeps `Filled`; the measure is `length codes₀ - i`. `filled-front` carries it from turn
 -- to turn, and `filled-all` and `stored` give the answer.
-use Prim.Native.Nat.{◌+◌, ◌-◌, ◌≤◌}
+use Prim.Native.Nat.{◌-◌}
 use mathlib.Core.Path.{refl, ◌∙◌}
 use native.Mathlib.Omega.{arith}
-use lib.ListN.{length, get_or}
+use lib.ListN.{length}
 use Rattle.plan.specs.Step.{code_of}
-use Rattle.step.specs.values.Words.{told}
-use Rattle.step.proofs.values.Filling.{Filled, filled-front, filled-all}
+use Rattle.step.proofs.values.Filling.{filled-front, filled-all}
 use Rattle.step.proofs.values.Codes.{stored}
-use borrow.Author.Rules.{rules}
 use Rattle.step.proofs.values.store.Goals as goal
 
 pub loop-i-preserved : goal.loop-i-preserved

@@ -1,14 +1,10 @@
 -- The values of words from `first` on fill a vector. The loop keeps `Filled`; the measure is `length codes₀ - i`. `filled-front` carries it from turn
 -- to turn, and `filled-all` and `stored` give the answer.
 use Prim.Native.Nat.{◌+◌, ◌-◌, ◌≤◌}
-use mathlib.Core.Path.{refl, ◌∙◌}
-use native.Mathlib.Omega.{arith}
 use lib.ListN.{length, get_or}
 use Rattle.plan.specs.Step.{code_of}
 use Rattle.step.specs.values.Words.{told}
-use Rattle.step.proofs.values.Filling.{Filled, filled-front, filled-all}
-use Rattle.step.proofs.values.Codes.{stored}
-use borrow.Author.Rules.{rules}
+use Rattle.step.proofs.values.Filling.{Filled}
 use Rattle.step.proofs.values.store.Given as goal
 
 abbrev pub invariant-loop-i : goal.invariant-loop-i

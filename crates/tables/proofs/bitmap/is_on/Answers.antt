@@ -1,5 +1,4 @@
 -- The place's bit, shifted to the lowest.
-use borrow.Author.Rules.{rules}
 use mathlib.Core.Path.{refl}
 use Rattle.tables.specs.bitmap.Bitmap.{is_on}
 use Rattle.tables.proofs.bitmap.is_on.Goals as goal

@@ -1,5 +1,4 @@
 -- The lowest bit of the rest of the word, or none.
-use borrow.Author.Rules.{rules}
 use native.Mathlib.Omega.{arith}
 use Prim.Native.Nat.{◌+◌, ◌/◌, ◌%◌, ◌^◌}
 use lib.Count.{trailing_le}

@@ -1,6 +1,5 @@
 -- All tables are cleared at the end.
 use mathlib.Core.Path.{◌∙◌}
-use borrow.Author.Rules.{rules}
 use Rattle.plan.specs.Circuit.{Tables, seven}
 use Rattle.plan.specs.Outcome.{WriteExit}
 use Rattle.plan.specs.Whole.{input_of}

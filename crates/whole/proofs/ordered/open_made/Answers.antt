@@ -10,7 +10,6 @@ use Rattle.tables.specs.Lengths.{sizes_of}
 use Rattle.read.proofs.Loads.{same-cleared}
 use Rattle.whole.specs.Opening.{OpenEntry, Opens}
 use Rattle.whole.proofs.ordered.Converted.{not_opened, opened-made}
-use borrow.Author.Rules.{rules}
 use Rattle.whole.proofs.ordered.open_made.Goals as goal
 
 pub shape_of-inputs-in-Refused : goal.shape_of-inputs-in-Refused

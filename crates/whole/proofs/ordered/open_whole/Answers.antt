@@ -6,7 +6,6 @@ use Rattle.plan.specs.Circuit.{Tables, seven}
 use Rattle.plan.specs.Whole.{WholeEntry, input_of}
 use Rattle.read.proofs.Loads.{all_same}
 use Rattle.whole.proofs.ordered.Converted.{closed}
-use borrow.Author.Rules.{rules}
 use Rattle.whole.proofs.ordered.open_whole.Goals as goal
 
 pub shape_of-inputs : goal.shape_of-inputs

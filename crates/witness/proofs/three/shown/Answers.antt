@@ -1,6 +1,5 @@
 -- Whether one of the outputs or of the bad states is 1 after a step. The answers are given by `or-first` and `or-second`.
 use Rattle.witness.proofs.three.Listing.{or-first, or-second}
-use borrow.Author.Rules.{rules}
 use Rattle.witness.proofs.three.shown.Goals as goal
 
 pub returns-then-any_one : goal.returns-then-any_one

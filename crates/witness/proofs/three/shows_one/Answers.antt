@@ -1,7 +1,7 @@
 -- Whether a list, whose bytes are good, shows 1 on some output or bad state from the state that scratch holds, every constraint being 1 there and at
 -- all steps before. The loop keeps `List`; the measure is `number - k`. `next_row`, `going_on` and `vector-stands` carry it from turn to turn, and
 -- `none-counts`, `vector-stands` and `found-one` give the answer.
-use Prim.Native.Nat.{ℕ, ◌+◌, ◌*◌, ◌-◌, ◌≤◌}
+use Prim.Native.Nat.{ℕ, ◌+◌, ◌-◌}
 use mathlib.Core.Path.{◌≡◌, refl, sym, ◌∙◌}
 use mathlib.Core.List.{List}
 use native.Mathlib.Nat.{mul-zero}
@@ -14,9 +14,8 @@ use Rattle.laws.proofs.Tables.{next_row}
 use Rattle.tables.specs.Held.{Scratch}
 use Rattle.step.specs.sweep.Running.{Runs, Rests, Stepped}
 use Rattle.step.proofs.sweep.Seeing.{sees-constraints}
-use Rattle.witness.proofs.three.Listing.{Turn, Going, part-short, vector_of, going-first, vector-ends, vector-stands, vector-ready}
+use Rattle.witness.proofs.three.Listing.{Turn, part-short, vector_of, going-first, vector-ends, vector-stands, vector-ready}
 use Rattle.witness.proofs.three.Listing.{shown-asks, none-counts, found-one, going_on, none-shown}
-use borrow.Author.Rules.{rules}
 use Rattle.witness.proofs.three.shows_one.Goals as goal
 
 pub overflow_add-lits : goal.overflow_add-lits
@@ -145,8 +144,7 @@ loop-k-preserved c =
     c.step_values.auto.t ∙ c.load.auto.t ∙ c.loop-k.invariant.2 in
     let after : (inputs resets : List ℕ) (s : List Value) → let n = c.args.n in (r : Runs n (tables_of inputs resets)) (l : length s ≡ n.L) (z : Rests n s c.args.scratch.now) → Stepped n (circuit_of n (tables_of inputs resets)) (c.loop-k.invariant.3 inputs resets s r l z).state (vector_of (turn)) c.step_values.new.t =
     λ inputs resets s r l z. c.step_values.ensures (tables_of inputs resets) _ _ r
-    (vector-stands (turn) r (room) (c.loop-k.invariant.3 inputs resets s r l z) c.load.ensures) in
-    (
+    (vector-stands (turn) r (room) (c.loop-k.invariant.3 inputs resets s r l z) c.load.ensures) in (
       omega arith,
       next_row c.args.n.I c.loop-k.k c.loop-k.at c.loop-k.invariant.1,
       same,

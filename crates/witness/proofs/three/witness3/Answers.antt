@@ -19,7 +19,6 @@ use Rattle.step.specs.sweep.Running.{Runs}
 use Rattle.step.proofs.Checks.{refused-by, past-check, runs, room}
 use Rattle.witness.specs.three.Listing.{Starts}
 use Rattle.witness.proofs.three.Verdicts.{good-list, refused-witness, refused-list, yes-witness, no-witness}
-use borrow.Author.Rules.{rules}
 use Rattle.witness.proofs.three.witness3.Goals as goal
 
 pub returns-then-not-whole_list : goal.returns-then-not-whole_list
@@ -112,7 +111,7 @@ shows_one-shown-requires c =
       state-length = state-long;
       rests = c.start_values.ensures;
     } in
-    record { starts = begins; bytes_len = good-list (entry) (whole-told); }
+    record { starts = begins; bytes_len = good-list (entry) (whole-told) }
 
 pub returns-then-shown : goal.returns-then-shown
 returns-then-shown c =

@@ -1,11 +1,7 @@
 -- Each turn copies one byte.
 use Prim.Native.Nat.{◌-◌}
-use mathlib.Core.Path.{refl, ap, ◌∙◌}
-use native.Mathlib.Omega.{arith}
 use lib.ListN.{length}
-use borrow.Author.Rules.{rules}
-use Rattle.plan.specs.Outcome.{put}
-use Rattle.write.proofs.forms.Copies.{Copied, none-copied, one-copied, all-copied, words_of, all_words}
+use Rattle.write.proofs.forms.Copies.{Copied, words_of}
 use Rattle.write.proofs.forms.append.Given as goal
 
 abbrev pub invariant-loop-i : goal.invariant-loop-i

@@ -4,7 +4,6 @@ use Rattle.plan.specs.Bytes.{lines_of}
 use Rattle.write.specs.print.Latches.{latch_rows}
 use Rattle.write.specs.forms.Forms.{head_bytes, observed_bytes, gate_groups}
 use Rattle.write.proofs.forms.Filled.{four-parts}
-use borrow.Author.Rules.{rules}
 use Rattle.write.proofs.forms.binary_length.Goals as goal
 
 pub returns : goal.returns

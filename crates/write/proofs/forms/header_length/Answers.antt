@@ -10,4 +10,4 @@ pub returns : goal.returns
 returns c =
     let line = ap length (line-of-counts _ c.counts_told-k.result c.args.n c.seven-words.ensures
     c.counts_told-k.ensures.n_value) in
-    record { value = omega (arith, line); upper_bound = search rules; }
+    record { value = omega (arith, line); upper_bound = search rules }

@@ -1,6 +1,5 @@
 -- Each count fits a word.
 use native.Mathlib.Omega.{arith}
-use borrow.Author.Rules.{rules}
 use Rattle.write.proofs.forms.seven.Goals as goal
 
 pub overflow_cast-result-7 : goal.overflow_cast-result-7

@@ -19,7 +19,7 @@ pub write_lines-requires : goal.write_lines-requires
 write_lines-requires c =
     let a = c.args in
     let fits = line-fits a.out.now a.letter a.n c.requires.n_in_bounds _ c.counts_told-k.result c.seven-words.ensures c.counts_told-k.ensures.n_value in
-    record { k_nonzero = search rules; n_in_bounds = search rules; n_bound = search rules; table_in_bounds = simp length-set fits; }
+    record { k_nonzero = search rules; n_in_bounds = search rules; n_bound = search rules; table_in_bounds = simp length-set fits }
 
 pub shape_of-out : goal.shape_of-out
 shape_of-out c = simp length-set at c.write_lines.auto.out
@@ -28,4 +28,4 @@ pub returns : goal.returns
 returns c =
     let a = c.args in
     let seven = c.seven-words.ensures in
-    record { value = c.write_lines.ensures.value ∙ header-ends a.out.now a.letter a.n c.requires.n_in_bounds _ c.counts_told-k.result seven c.counts_told-k.ensures.n_value; out_after = c.write_lines.ensures.out_after ∙ header-put a.out.now a.letter a.n c.requires.n_in_bounds _ c.counts_told-k.result seven c.counts_told-k.ensures.n_value; }
+    record { value = c.write_lines.ensures.value ∙ header-ends a.out.now a.letter a.n c.requires.n_in_bounds _ c.counts_told-k.result seven c.counts_told-k.ensures.n_value; out_after = c.write_lines.ensures.out_after ∙ header-put a.out.now a.letter a.n c.requires.n_in_bounds _ c.counts_told-k.result seven c.counts_told-k.ensures.n_value }

@@ -10,7 +10,7 @@ write_lines-first_bad-requires c =
     let n = a.n in
     let fits = fits-1 a.out.now a.at (one_lines n.O a.outputs.now) (one_lines n.B a.bads.now)
     (one_lines n.C a.constraints.now) c.requires.constraints_in_bounds in
-    record { k_nonzero = search rules; n_in_bounds = search rules; n_bound = search rules; table_in_bounds = fits; }
+    record { k_nonzero = search rules; n_in_bounds = search rules; n_bound = search rules; table_in_bounds = fits }
 
 pub write_lines-first_constraint-requires : goal.write_lines-first_constraint-requires
 write_lines-first_constraint-requires c =
@@ -18,7 +18,7 @@ write_lines-first_constraint-requires c =
     let n = a.n in
     let fits = fits-2 a.out.now a.at (one_lines n.O a.outputs.now) (one_lines n.B a.bads.now)
     (one_lines n.C a.constraints.now) c.requires.constraints_in_bounds (c.write_lines-first_bad.ensures.value, c.write_lines-first_bad.ensures.out_after) in
-    record { k_nonzero = search rules; n_in_bounds = search rules; n_bound = search rules; table_in_bounds = fits; }
+    record { k_nonzero = search rules; n_in_bounds = search rules; n_bound = search rules; table_in_bounds = fits }
 
 pub write_lines-requires : goal.write_lines-requires
 write_lines-requires c =
@@ -26,7 +26,7 @@ write_lines-requires c =
     let n = a.n in
     let fits = fits-3 a.out.now a.at (one_lines n.O a.outputs.now) (one_lines n.B a.bads.now)
     (one_lines n.C a.constraints.now) c.requires.constraints_in_bounds (c.write_lines-first_bad.ensures.value, c.write_lines-first_bad.ensures.out_after) (c.write_lines-first_constraint.ensures.value, c.write_lines-first_constraint.ensures.out_after) in
-    record { k_nonzero = search rules; n_in_bounds = search rules; n_bound = search rules; table_in_bounds = fits; }
+    record { k_nonzero = search rules; n_in_bounds = search rules; n_bound = search rules; table_in_bounds = fits }
 
 pub returns : goal.returns
 returns c =
@@ -35,4 +35,4 @@ returns c =
     let whole = three-filled a.out.now a.at (one_lines n.O a.outputs.now) (one_lines n.B a.bads.now)
     (one_lines n.C a.constraints.now) c.requires.constraints_in_bounds (c.write_lines-first_bad.ensures.value, c.write_lines-first_bad.ensures.out_after) (c.write_lines-first_constraint.ensures.value, c.write_lines-first_constraint.ensures.out_after)
     (c.write_lines.ensures.value, c.write_lines.ensures.out_after) in
-    record { value = whole.0; out_after = whole.1; }
+    record { value = whole.0; out_after = whole.1 }

@@ -3,7 +3,6 @@ use mathlib.Core.Path.{ap₂, ◌∙◌}
 use Prim.Native.Nat.{◌-◌}
 use Rattle.plan.specs.declared.Lit.{Lit}
 use Rattle.plan.specs.Literals.{word_of}
-use borrow.Author.Rules.{rules}
 use Rattle.write.proofs.print.above.Goals as goal
 
 pub returns : goal.returns

@@ -1,5 +1,4 @@
 -- The first difference, then the second.
-use borrow.Author.Rules.{rules}
 use Rattle.write.proofs.print.Begun.{first-begins, second-begins, begun-end, begun-sides}
 use Rattle.write.proofs.print.begin_gate.Goals as goal
 
@@ -17,7 +16,10 @@ begin_difference-requires c =
 pub returns : goal.returns
 returns c =
     let a = c.args in
-    record { value = begun-end a.out.now a.at a.lhs a.rhs0 a.rhs1 c.requires c.above.result c.above-2.result c.above.ensures c.above-2.ensures c.begin_difference-middle.new.out
-          c.begin_difference-middle.result c.begin_difference-middle.auto.out c.begin_difference-middle.ensures.value c.begin_difference.new.out c.begin_difference.result c.begin_difference.ensures.value; begun = begun-sides a.out.now a.at a.lhs a.rhs0 a.rhs1 c.requires c.above.result c.above-2.result c.above.ensures c.above-2.ensures c.begin_difference-middle.new.out
+    record {
+      value = begun-end a.out.now a.at a.lhs a.rhs0 a.rhs1 c.requires c.above.result c.above-2.result c.above.ensures c.above-2.ensures c.begin_difference-middle.new.out
+          c.begin_difference-middle.result c.begin_difference-middle.auto.out c.begin_difference-middle.ensures.value c.begin_difference.new.out c.begin_difference.result c.begin_difference.ensures.value;
+      begun = begun-sides a.out.now a.at a.lhs a.rhs0 a.rhs1 c.requires c.above.result c.above-2.result c.above.ensures c.above-2.ensures c.begin_difference-middle.new.out
           c.begin_difference-middle.result c.begin_difference-middle.auto.out c.begin_difference-middle.ensures.value c.begin_difference.new.out c.begin_difference.result c.begin_difference.ensures.value
-          c.begin_difference-middle.ensures.begun c.begin_difference.ensures.begun; }
+          c.begin_difference-middle.ensures.begun c.begin_difference.ensures.begun;
+    }

@@ -2,7 +2,6 @@
 use Prim.Native.Nat.{◌-◌, suc}
 use mathlib.Core.Path.{◌≡◌, ap}
 use native.Mathlib.Omega.{arith}
-use borrow.Author.Rules.{rules}
 use Rattle.plan.specs.Bytes.{end_of}
 use Rattle.write.proofs.print.end_of.Goals as goal
 

@@ -2,7 +2,6 @@
 use Prim.Native.Nat.{◌-◌, suc}
 use mathlib.Core.Path.{◌≡◌, ap}
 use native.Mathlib.Omega.{arith}
-use borrow.Author.Rules.{rules}
 use Rattle.write.specs.print.Words.{following}
 use Rattle.write.proofs.print.following.Goals as goal
 

@@ -1,7 +1,6 @@
 -- The groups of both differences.
 use native.Mathlib.Omega.{arith}
 use Rattle.write.proofs.print.Gates.{sides-count}
-use borrow.Author.Rules.{rules}
 use Rattle.write.proofs.print.gate_length.Goals as goal
 
 pub overflow_add-result : goal.overflow_add-result
@@ -18,4 +17,4 @@ returns c =
     let whole = sides-count a.lhs a.rhs0 a.rhs1 _ _ _ _ (omega arith) (omega arith) c.above.ensures
     c.above-2.ensures
     c.groups_in.ensures c.groups_in-2.ensures in
-    record { value = whole.0; upper_bound = whole.1; }
+    record { value = whole.0; upper_bound = whole.1 }

@@ -1,8 +1,7 @@
 -- Each turn counts one gate.
 use Prim.Native.Nat.{◌-◌}
 use native.Mathlib.Omega.{arith}
-use borrow.Author.Rules.{rules}
-use Rattle.write.proofs.print.Gates.{Counted, none-counted, one-counted, all-counted}
+use Rattle.write.proofs.print.Gates.{none-counted, one-counted, all-counted}
 use Rattle.write.proofs.print.gates_length.Goals as goal
 
 pub loop-i-init : goal.loop-i-init
@@ -21,4 +20,4 @@ loop-i-preserved c =
 pub returns : goal.returns
 returns c =
     let a = c.args in
-    record { value = all-counted a.gates.now a.n c.loop-i.sum c.loop-i.i c.loop-i.invariant c.loop-i-test.false; upper_bound = omega (arith, c.loop-i.invariant.few, c.loop-i.invariant.bound); }
+    record { value = all-counted a.gates.now a.n c.loop-i.sum c.loop-i.i c.loop-i.invariant c.loop-i-test.false; upper_bound = omega (arith, c.loop-i.invariant.few, c.loop-i.invariant.bound) }

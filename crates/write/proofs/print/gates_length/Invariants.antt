@@ -1,8 +1,6 @@
 -- Each turn counts one gate.
 use Prim.Native.Nat.{◌-◌}
-use native.Mathlib.Omega.{arith}
-use borrow.Author.Rules.{rules}
-use Rattle.write.proofs.print.Gates.{Counted, none-counted, one-counted, all-counted}
+use Rattle.write.proofs.print.Gates.{Counted}
 use Rattle.write.proofs.print.gates_length.Given as goal
 
 abbrev pub invariant-loop-i : goal.invariant-loop-i

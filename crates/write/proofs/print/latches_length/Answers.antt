@@ -1,8 +1,7 @@
 -- Each turn counts one latch.
 use Prim.Native.Nat.{◌-◌}
 use native.Mathlib.Omega.{arith}
-use Rattle.write.proofs.print.Latches.{Counted, none-counted, one-counted, all-counted}
-use borrow.Author.Rules.{rules}
+use Rattle.write.proofs.print.Latches.{none-counted, one-counted, all-counted}
 use Rattle.write.proofs.print.latches_length.Goals as goal
 
 pub loop-i-init : goal.loop-i-init
@@ -24,4 +23,4 @@ loop-i-preserved c =
 pub returns : goal.returns
 returns c =
     let a = c.args in
-    record { value = all-counted a.binary a.latches.now a.resets.now a.n c.loop-i.sum c.loop-i.i c.loop-i.invariant c.loop-i-test.false; upper_bound = omega (arith, c.loop-i.invariant.few, c.loop-i.invariant.bound); }
+    record { value = all-counted a.binary a.latches.now a.resets.now a.n c.loop-i.sum c.loop-i.i c.loop-i.invariant c.loop-i-test.false; upper_bound = omega (arith, c.loop-i.invariant.few, c.loop-i.invariant.bound) }

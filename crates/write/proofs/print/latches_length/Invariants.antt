@@ -1,8 +1,6 @@
 -- Each turn counts one latch.
 use Prim.Native.Nat.{◌-◌}
-use native.Mathlib.Omega.{arith}
-use Rattle.write.proofs.print.Latches.{Counted, none-counted, one-counted, all-counted}
-use borrow.Author.Rules.{rules}
+use Rattle.write.proofs.print.Latches.{Counted}
 use Rattle.write.proofs.print.latches_length.Given as goal
 
 abbrev pub invariant-loop-i : goal.invariant-loop-i

@@ -1,10 +1,9 @@
 -- Each turn counts one word.
-use Prim.Native.Nat.{◌*◌, ◌-◌}
+use Prim.Native.Nat.{◌-◌}
 use native.Mathlib.Omega.{arith}
-use borrow.Author.Rules.{rules}
 use lib.ListN.{get_or}
 use Rattle.write.proofs.print.Sizes.{digits-ten}
-use Rattle.write.proofs.print.Turns.{Counted, none-counted, one-counted, all-counted}
+use Rattle.write.proofs.print.Turns.{none-counted, one-counted, all-counted}
 use Rattle.write.proofs.print.lines_length.Goals as goal
 
 pub loop-i-init : goal.loop-i-init
@@ -36,4 +35,4 @@ loop-i-preserved c =
 pub returns : goal.returns
 returns c =
     let a = c.args in
-    record { value = all-counted a.table.now a.k a.n c.loop-i.sum c.loop-i.i c.loop-i.invariant c.loop-i-test.false; upper_bound = omega (arith, c.loop-i.invariant.few, c.loop-i.invariant.bound); }
+    record { value = all-counted a.table.now a.k a.n c.loop-i.sum c.loop-i.i c.loop-i.invariant c.loop-i-test.false; upper_bound = omega (arith, c.loop-i.invariant.few, c.loop-i.invariant.bound) }

@@ -1,10 +1,6 @@
 -- Each turn counts one word.
 use Prim.Native.Nat.{◌*◌, ◌-◌}
-use native.Mathlib.Omega.{arith}
-use borrow.Author.Rules.{rules}
-use lib.ListN.{get_or}
-use Rattle.write.proofs.print.Sizes.{digits-ten}
-use Rattle.write.proofs.print.Turns.{Counted, none-counted, one-counted, all-counted}
+use Rattle.write.proofs.print.Turns.{Counted}
 use Rattle.write.proofs.print.lines_length.Given as goal
 
 abbrev pub invariant-loop-i : goal.invariant-loop-i

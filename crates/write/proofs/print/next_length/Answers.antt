@@ -2,7 +2,6 @@
 use mathlib.Core.Path.{refl}
 use native.Mathlib.Omega.{arith}
 use Rattle.write.proofs.print.Latches.{alone-count, both-count}
-use borrow.Author.Rules.{rules}
 use Rattle.write.proofs.print.next_length.Goals as goal
 
 pub overflow_add-first : goal.overflow_add-first
@@ -14,7 +13,7 @@ pub returns-then-reset-eq0 : goal.returns-then-reset-eq0
 returns-then-reset-eq0 c =
     let a = c.args in
     let whole = alone-count a.next a.reset _ (omega arith) c.if-reset-eq0.true c.digits_in-first.ensures in
-    record { value = whole.0; upper_bound = whole.1; }
+    record { value = whole.0; upper_bound = whole.1 }
 
 pub overflow_add-result : goal.overflow_add-result
 overflow_add-result c =
@@ -35,4 +34,4 @@ returns c =
     let a = c.args in
     let whole = both-count a.next a.reset _ _ (omega arith) (omega arith) (omega (arith, c.if-reset-eq0.false))
     c.digits_in-first.ensures c.digits_in.ensures in
-    record { value = whole.0; upper_bound = whole.1; }
+    record { value = whole.0; upper_bound = whole.1 }

@@ -2,7 +2,6 @@
 use Prim.Native.Nat.{◌/◌}
 use mathlib.Core.Path.{refl}
 use native.Mathlib.Omega.{arith}
-use borrow.Author.Rules.{rules}
 use lib.Dec.{leb}
 use lib.ListN.{length-set}
 use Rattle.write.proofs.print.Begun.{marked, mark-one, three-end, three-begun}
@@ -37,4 +36,4 @@ pub returns : goal.returns
 returns c =
     let a = c.args in
     let d = a.d in
-    record { value = three-end a.out.now a.at d c.requires.d_bound c.requires.at_in_bounds _ _ _ (marked d (leb 128 d)) (marked (d / 128) (leb 16384 d)) refl; begun = three-begun a.out.now a.at d c.requires.d_bound c.requires.at_in_bounds _ _ _ (marked d (leb 128 d)) (marked (d / 128) (leb 16384 d)) refl; }
+    record { value = three-end a.out.now a.at d c.requires.d_bound c.requires.at_in_bounds _ _ _ (marked d (leb 128 d)) (marked (d / 128) (leb 16384 d)) refl; begun = three-begun a.out.now a.at d c.requires.d_bound c.requires.at_in_bounds _ _ _ (marked d (leb 128 d)) (marked (d / 128) (leb 16384 d)) refl }

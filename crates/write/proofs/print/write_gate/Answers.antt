@@ -1,5 +1,4 @@
 -- The first difference, then the second.
-use borrow.Author.Rules.{rules}
 use Rattle.write.proofs.print.Gates.{first_fits, second_fits, sides-end, sides-put}
 use Rattle.write.proofs.print.write_gate.Goals as goal
 
@@ -17,6 +16,9 @@ put_groups-requires c =
 pub returns : goal.returns
 returns c =
     let a = c.args in
-    record { value = sides-end a.out.now a.at a.lhs a.rhs0 a.rhs1 c.requires c.above.result c.above.ensures c.put_groups-middle.new.out c.put_groups-middle.result
-          c.put_groups-middle.ensures.value c.put_groups-middle.ensures.out_after c.above-2.result c.above-2.ensures _ c.put_groups.ensures.value; out_after = sides-put a.out.now a.at a.lhs a.rhs0 a.rhs1 c.requires c.above.result c.above.ensures c.put_groups-middle.new.out c.put_groups-middle.result
-          c.put_groups-middle.ensures.value c.put_groups-middle.ensures.out_after c.above-2.result c.above-2.ensures _ c.put_groups.ensures.out_after; }
+    record {
+      value = sides-end a.out.now a.at a.lhs a.rhs0 a.rhs1 c.requires c.above.result c.above.ensures c.put_groups-middle.new.out c.put_groups-middle.result
+          c.put_groups-middle.ensures.value c.put_groups-middle.ensures.out_after c.above-2.result c.above-2.ensures _ c.put_groups.ensures.value;
+      out_after = sides-put a.out.now a.at a.lhs a.rhs0 a.rhs1 c.requires c.above.result c.above.ensures c.put_groups-middle.new.out c.put_groups-middle.result
+          c.put_groups-middle.ensures.value c.put_groups-middle.ensures.out_after c.above-2.result c.above-2.ensures _ c.put_groups.ensures.out_after;
+    }

@@ -1,8 +1,7 @@
 -- Each turn writes one gate that another follows; the last one is written by itself.
 use Prim.Native.Nat.{◌-◌}
 use native.Mathlib.Omega.{arith}
-use borrow.Author.Rules.{rules}
-use Rattle.write.proofs.print.Gates.{Printed, none-printed, gate-fits, followed-fits, one-printed, one-begun, all-printed, all-passed}
+use Rattle.write.proofs.print.Gates.{none-printed, gate-fits, followed-fits, one-printed, one-begun, all-printed, all-passed}
 use Rattle.write.proofs.print.write_gates.Goals as goal
 
 pub loop-i-init : goal.loop-i-init
@@ -27,7 +26,7 @@ shape_of-out-then-i-n c = c.loop-i.invariant.fill.size
 pub returns-then-i-n : goal.returns-then-i-n
 returns-then-i-n c =
     let a = c.args in
-    record { value = all-passed a.gates.now a.n a.out.now a.at c.loop-i.out c.loop-i.next c.loop-i.i c.loop-i.invariant (omega (arith, c.if-i-n.true)); out_after = all-printed a.gates.now a.n a.out.now a.at c.loop-i.out c.loop-i.next c.loop-i.i c.loop-i.invariant (omega (arith, c.if-i-n.true)); }
+    record { value = all-passed a.gates.now a.n a.out.now a.at c.loop-i.out c.loop-i.next c.loop-i.i c.loop-i.invariant (omega (arith, c.if-i-n.true)); out_after = all-printed a.gates.now a.n a.out.now a.at c.loop-i.out c.loop-i.next c.loop-i.i c.loop-i.invariant (omega (arith, c.if-i-n.true)) }
 
 pub write_gate-requires : goal.write_gate-requires
 write_gate-requires c =
@@ -40,4 +39,4 @@ returns c =
     let done = one-printed a.gates.now a.n a.out.now a.at c.loop-i.out c.loop-i.next c.loop-i.i c.loop-i.invariant c.write_gate.new.out c.write_gate.result
     (omega (arith, c.if-i-n.false, c.loop-i.invariant.bound))
     c.write_gate.ensures.out_after c.write_gate.ensures.value in
-    record { value = all-passed a.gates.now a.n a.out.now a.at _ _ _ done c.loop-i-test.false; out_after = all-printed a.gates.now a.n a.out.now a.at _ _ _ done c.loop-i-test.false; }
+    record { value = all-passed a.gates.now a.n a.out.now a.at _ _ _ done c.loop-i-test.false; out_after = all-printed a.gates.now a.n a.out.now a.at _ _ _ done c.loop-i-test.false }

@@ -1,8 +1,6 @@
 -- Each turn writes one gate that another follows; the last one is written by itself.
 use Prim.Native.Nat.{◌-◌}
-use native.Mathlib.Omega.{arith}
-use borrow.Author.Rules.{rules}
-use Rattle.write.proofs.print.Gates.{Printed, none-printed, gate-fits, followed-fits, one-printed, one-begun, all-printed, all-passed}
+use Rattle.write.proofs.print.Gates.{Printed}
 use Rattle.write.proofs.print.write_gates.Given as goal
 
 abbrev pub invariant-loop-i : goal.invariant-loop-i

@@ -1,7 +1,6 @@
 -- Each turn writes one latch.
 use Prim.Native.Nat.{◌-◌}
-use Rattle.write.proofs.print.Latches.{Printed, none-printed, latch-fits, one-printed, all-printed, all-passed}
-use borrow.Author.Rules.{rules}
+use Rattle.write.proofs.print.Latches.{none-printed, latch-fits, one-printed, all-printed, all-passed}
 use Rattle.write.proofs.print.write_latches.Goals as goal
 
 pub loop-i-init : goal.loop-i-init
@@ -28,6 +27,9 @@ shape_of-out c = c.loop-i.invariant.fill.size
 pub returns : goal.returns
 returns c =
     let a = c.args in
-    record { value = all-passed a.binary a.latches.now a.resets.now a.n a.out.now a.at c.loop-i.out c.loop-i.next c.loop-i.i c.loop-i.invariant
-          c.loop-i-test.false; out_after = all-printed a.binary a.latches.now a.resets.now a.n a.out.now a.at c.loop-i.out c.loop-i.next c.loop-i.i c.loop-i.invariant
-          c.loop-i-test.false; }
+    record {
+      value = all-passed a.binary a.latches.now a.resets.now a.n a.out.now a.at c.loop-i.out c.loop-i.next c.loop-i.i c.loop-i.invariant
+          c.loop-i-test.false;
+      out_after = all-printed a.binary a.latches.now a.resets.now a.n a.out.now a.at c.loop-i.out c.loop-i.next c.loop-i.i c.loop-i.invariant
+          c.loop-i-test.false;
+    }

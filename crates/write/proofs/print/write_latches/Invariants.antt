@@ -1,7 +1,6 @@
 -- Each turn writes one latch.
 use Prim.Native.Nat.{◌-◌}
-use Rattle.write.proofs.print.Latches.{Printed, none-printed, latch-fits, one-printed, all-printed, all-passed}
-use borrow.Author.Rules.{rules}
+use Rattle.write.proofs.print.Latches.{Printed}
 use Rattle.write.proofs.print.write_latches.Given as goal
 
 abbrev pub invariant-loop-i : goal.invariant-loop-i

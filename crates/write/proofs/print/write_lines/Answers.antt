@@ -1,7 +1,6 @@
 -- Each turn writes one word.
-use Prim.Native.Nat.{◌*◌, ◌-◌}
-use borrow.Author.Rules.{rules}
-use Rattle.write.proofs.print.Turns.{Printed, none-printed, word_fits, one-printed, all-printed, all-passed}
+use Prim.Native.Nat.{◌-◌}
+use Rattle.write.proofs.print.Turns.{none-printed, word_fits, one-printed, all-printed, all-passed}
 use Rattle.write.proofs.print.write_lines.Goals as goal
 
 pub loop-i-init : goal.loop-i-init
@@ -27,4 +26,4 @@ shape_of-out c = c.loop-i.invariant.fill.size
 pub returns : goal.returns
 returns c =
     let a = c.args in
-    record { value = all-passed a.table.now a.k a.n a.out.now a.at c.loop-i.out c.loop-i.next c.loop-i.left c.loop-i.i c.loop-i.invariant c.loop-i-test.false; out_after = all-printed a.table.now a.k a.n a.out.now a.at c.loop-i.out c.loop-i.next c.loop-i.left c.loop-i.i c.loop-i.invariant c.loop-i-test.false; }
+    record { value = all-passed a.table.now a.k a.n a.out.now a.at c.loop-i.out c.loop-i.next c.loop-i.left c.loop-i.i c.loop-i.invariant c.loop-i-test.false; out_after = all-printed a.table.now a.k a.n a.out.now a.at c.loop-i.out c.loop-i.next c.loop-i.left c.loop-i.i c.loop-i.invariant c.loop-i-test.false }

@@ -1,7 +1,6 @@
 -- Each turn writes one word.
 use Prim.Native.Nat.{◌*◌, ◌-◌}
-use borrow.Author.Rules.{rules}
-use Rattle.write.proofs.print.Turns.{Printed, none-printed, word_fits, one-printed, all-printed, all-passed}
+use Rattle.write.proofs.print.Turns.{Printed}
 use Rattle.write.proofs.print.write_lines.Given as goal
 
 abbrev pub invariant-loop-i : goal.invariant-loop-i

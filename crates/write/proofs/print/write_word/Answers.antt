@@ -1,6 +1,5 @@
 -- The number, then the byte after it.
 use native.Mathlib.Omega.{arith}
-use borrow.Author.Rules.{rules}
 use Rattle.write.proofs.print.Turns.{number_fits, word-ends, word-put}
 use Rattle.write.proofs.print.write_word.Goals as goal
 
@@ -31,5 +30,8 @@ overflow_add-result c =
 pub returns : goal.returns
 returns c =
     let a = c.args in
-    record { value = word-ends a.out.now a.at a.left a.word c.requires c.put_digits-end.new.out c.put_digits-end.result c.put_digits-end.ensures.out_after c.put_digits-end.ensures.value; out_after = word-put a.out.now a.at a.left a.word c.requires c.put_digits-end.new.out c.put_digits-end.result c.put_digits-end.ensures.out_after c.put_digits-end.ensures.value
-          _ c.end_of.ensures; }
+    record {
+      value = word-ends a.out.now a.at a.left a.word c.requires c.put_digits-end.new.out c.put_digits-end.result c.put_digits-end.ensures.out_after c.put_digits-end.ensures.value;
+      out_after = word-put a.out.now a.at a.left a.word c.requires c.put_digits-end.new.out c.put_digits-end.result c.put_digits-end.ensures.out_after c.put_digits-end.ensures.value
+          _ c.end_of.ensures;
+    }

@@ -1,10 +1,7 @@
 -- The gates passed are hung or marked.
-use Prim.Native.Nat.{◌≤◌, ◌-◌}
 use mathlib.Core.Path.{◌≡◌, refl, ◌∙◌}
 use native.Mathlib.Omega.{arith}
 use lib.ListN.{length}
-use Rattle.judge.specs.marks.Levels.{Agree}
-use Rattle.judge.specs.order.Waiting.{Waiting, before}
 use Rattle.judge.proofs.order.Spaces.{space-again}
 use Rattle.judge.proofs.order.Watching.{watched-below}
 use Rattle.judge.proofs.order.AllHung.{hang-more, hang-end}

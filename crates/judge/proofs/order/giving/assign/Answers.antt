@@ -1,11 +1,10 @@
 -- The scan yields the first gate that is ready: none before it is, and where none is the order is at its end.
-use Prim.Native.Nat.{◌+◌, ◌-◌, ◌≤◌}
 use mathlib.Core.Bool.{true}
 use mathlib.Core.Path.{◌≡◌, refl, sym, ◌∙◌}
 use native.Mathlib.Omega.{arith}
 use lib.ListN.{length}
 use Rattle.judge.proofs.order.Spaces.{space-again, top-word}
-use Rattle.judge.proofs.order.Assigning.{Idle, idle-first, idle-more, marked-ready, State, state-start, state-more, state-break, state-end}
+use Rattle.judge.proofs.order.Assigning.{idle-first, idle-more, marked-ready, state-start, state-more, state-break, state-end}
 use Rattle.judge.proofs.order.giving.assign.Goals as goal
 
 pub numbers-init : goal.numbers-init

@@ -1,11 +1,8 @@
 -- The scan yields the first gate that is ready: none before it is, and where none is the order is at its end.
 use Prim.Native.Nat.{◌+◌, ◌-◌, ◌≤◌}
-use mathlib.Core.Bool.{true}
-use mathlib.Core.Path.{◌≡◌, refl, sym, ◌∙◌}
-use native.Mathlib.Omega.{arith}
+use mathlib.Core.Path.{◌≡◌}
 use lib.ListN.{length}
-use Rattle.judge.proofs.order.Spaces.{space-again, top-word}
-use Rattle.judge.proofs.order.Assigning.{Idle, idle-first, idle-more, marked-ready, State, state-start, state-more, state-break, state-end}
+use Rattle.judge.proofs.order.Assigning.{Idle, State}
 use Rattle.judge.proofs.order.giving.assign.Given as goal
 
 abbrev pub invariant-loop-j : goal.invariant-loop-j

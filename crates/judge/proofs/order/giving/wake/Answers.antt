@@ -1,14 +1,12 @@
 -- The gates of the chain are done one after the other.
-use Prim.Native.Nat.{◌+◌, ◌-◌, ◌<◌}
+use Prim.Native.Nat.{◌-◌, ◌<◌}
 use mathlib.Core.Path.{◌≡◌, refl, ◌∙◌}
 use native.Mathlib.Omega.{arith}
-use borrow.Author.Rules.{rules}
 use lib.ListN.{length}
-use Rattle.judge.specs.marks.Levels.{Agree}
-use Rattle.judge.specs.order.Waiting.{Space, Waking}
+use Rattle.judge.specs.order.Waiting.{Space}
 use Rattle.judge.proofs.order.Spaces.{space-again}
 use Rattle.judge.proofs.order.Watching.{watched-below}
-use Rattle.judge.proofs.order.Walking.{steps, Woken, wake-step, wake-low, wake-more, wake-less, wake-end}
+use Rattle.judge.proofs.order.Walking.{Woken, wake-step, wake-low, wake-more, wake-less, wake-end}
 use Rattle.judge.proofs.order.giving.wake.Goals as goal
 
 pub loop-at-init : goal.loop-at-init

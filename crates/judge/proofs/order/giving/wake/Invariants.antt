@@ -1,14 +1,10 @@
 -- The gates of the chain are done one after the other.
-use Prim.Native.Nat.{◌+◌, ◌-◌, ◌<◌}
-use mathlib.Core.Path.{◌≡◌, refl, ◌∙◌}
-use native.Mathlib.Omega.{arith}
-use borrow.Author.Rules.{rules}
+use Prim.Native.Nat.{◌+◌}
+use mathlib.Core.Path.{◌≡◌}
 use lib.ListN.{length}
 use Rattle.judge.specs.marks.Levels.{Agree}
-use Rattle.judge.specs.order.Waiting.{Space, Waking}
-use Rattle.judge.proofs.order.Spaces.{space-again}
-use Rattle.judge.proofs.order.Watching.{watched-below}
-use Rattle.judge.proofs.order.Walking.{steps, Woken, wake-step, wake-low, wake-more, wake-less, wake-end}
+use Rattle.judge.specs.order.Waiting.{Waking}
+use Rattle.judge.proofs.order.Walking.{steps}
 use Rattle.judge.proofs.order.giving.wake.Given as goal
 
 abbrev pub invariant-loop-at : goal.invariant-loop-at

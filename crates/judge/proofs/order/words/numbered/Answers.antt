@@ -3,7 +3,6 @@ use Prim.Native.Nat.{ℕ, ◌/◌, ◌<◌, ◌≤◌}
 use mathlib.Core.Bool.{not}
 use mathlib.Core.Path.{sym, ap, ◌∙◌, subst}
 use native.Mathlib.Omega.{arith}
-use borrow.Author.Rules.{rules}
 use lib.ListN.{get_or}
 use lib.Dec.{eqb}
 use Rattle.judge.proofs.order.Shown.{numbered-zero, numbered-low, numbered-high}

@@ -1,10 +1,7 @@
 -- Words before v are settled, the others are as they came.
-use Prim.Native.Nat.{ℕ, ◌≤◌, ◌<◌, ◌-◌}
 use mathlib.Core.Path.{◌≡◌, refl}
 use native.Mathlib.Omega.{arith}
-use borrow.Author.Rules.{rules}
-use lib.ListN.{length, get_or}
-use Rattle.judge.specs.order.Waiting.{shown}
+use lib.ListN.{length}
 use Rattle.judge.proofs.order.Settling.{settle_step}
 use Rattle.judge.proofs.order.words.settle.Goals as goal
 

@@ -1,7 +1,6 @@
 -- A number stays, a chain becomes 0.
 use mathlib.Core.Path.{sym, ap, ◌∙◌}
 use native.Mathlib.Omega.{arith}
-use borrow.Author.Rules.{rules}
 use lib.Seq.{set-get_or}
 use lib.ListN.{get_or, set}
 use Rattle.judge.proofs.order.Shown.{shown-low, shown-high}

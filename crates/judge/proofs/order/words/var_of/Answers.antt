@@ -1,6 +1,5 @@
 -- The variable of a literal, by the doors of plan.
 use mathlib.Core.Path.{ap, ◌∙◌}
-use borrow.Author.Rules.{rules}
 use Rattle.plan.specs.Literals.{index_of, halved}
 use Rattle.judge.proofs.order.words.var_of.Goals as goal
 

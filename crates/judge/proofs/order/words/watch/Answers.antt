@@ -1,7 +1,6 @@
 -- The first right side's word if that names a gate, else the second one's.
 use Prim.Native.Nat.{ℕ, ◌<◌, ◌≤◌}
 use mathlib.Core.Path.{sym, ap, ◌∙◌, subst}
-use borrow.Author.Rules.{rules}
 use lib.ListN.{get_or}
 use Rattle.judge.proofs.order.Watching.{watched-low, watched-high}
 use Rattle.judge.proofs.order.words.watch.Goals as goal
