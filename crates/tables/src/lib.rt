@@ -28,11 +28,7 @@ pub struct Sizes {
 pub fn clear(table: &mut [u32])
     ensures { table.new ≡ cleared table.old }
 {
-    let mut i = 0;
-    while i < table.len() {
-        table[i] = 0;
-        i += 1;
-    }
+    table.fill(0);
 }
 
 // Tables 1 to 4 and 7 to 9, zero throughout.
@@ -140,10 +136,7 @@ pub fn too_short(n: Counts, to: Sizes, needed: usize, scratch: usize) -> usize
 pub fn lesser(a: usize, b: usize) -> usize
     ensures { result ≡ min a b }
 {
-    if a < b {
-        return a;
-    }
-    b
+    a.min(b)
 }
 
 // Of two tables that bear one number the shorter.
