@@ -26,16 +26,14 @@ fn read_digits(file: &[u8], at: usize) -> Number
     ensures { result ≡ number_at file.now at }
 {
     let mut v = with_digit(0, file[at] - 48);
-    let mut i = at + 1;
-    while i < file.len() {
+    for i in at + 1..file.len() {
         let b = file[i];
         if !classes::is_digit(b) {
             return Number::Value(v, i);
         }
         v = with_digit(v, b - 48);
-        i += 1;
     }
-    Number::Value(v, i)
+    Number::Value(v, file.len())
 }
 
 // The number at a position, which may lie past the end.

@@ -1,6 +1,6 @@
 -- The loop that reads a number: what is still to be read gives the value and the end of the whole number.
 use Prim.Native.Nat.{ℕ, suc, ◌+◌, ◌-◌, ◌*◌, ◌<◌, ◌≤◌, min}
-use mathlib.Core.Path.{◌≡◌, refl, sym, ap, ap₂, ◌∙◌}
+use mathlib.Core.Path.{◌≡◌, sym, ap, ◌∙◌}
 use mathlib.Core.List.{List, [], ◌∷◌}
 use mathlib.Core.Bool.{true}
 use native.Mathlib.Omega.{arith}
@@ -9,12 +9,10 @@ use native.Mathlib.Decide.{dec_le}
 use lib.ListN.{length, drop, get_or, get_or-eq_default}
 use Rattle.plan.specs.declared.Class.{Class}
 use Rattle.plan.specs.declared.Class.TheVariants.{Digit}
-use Rattle.plan.specs.declared.Number.{Number}
-use Rattle.plan.specs.declared.Number.TheVariants.{Value, Wrong}
+use Rattle.plan.specs.declared.Number.TheVariants.{Wrong}
 use Rattle.plan.specs.Literals.{beyond}
 use Rattle.plan.specs.Bytes.{class_of, digit_class, span, decimal, number_by}
 use Rattle.plan.specs.Outcome.{cut_number, number_at}
-use Rattle.laws.proofs.Reading.Number.{class-says, digit-bounds}
 use Rattle.laws.proofs.Reading.Spans.{span_more}
 
 -- digits only make a value larger
@@ -31,9 +29,6 @@ cut k v l = by_size (dec_le v k)
     by_size (no h) =
         let e : min v k ≡ k = omega arith in
         ap (λ (x : ℕ). min (decimal x l) k) e ∙ omega (arith, grows v l, grows k l)
-
-pub at_least : (b : ℕ) → digit_class (class_of b) ≡ true → 48 ≤ b
-at_least b e = (digit-bounds b (class_of b) (class-says b) e).0
 
 -- a number that does not start
 module _ (s : List ℕ) (at : ℕ) where
@@ -65,18 +60,3 @@ module _ {s : List ℕ} {at v i : ℕ} (scan : Scan s at v i) where
         small = omega arith;
         first = scan.first;
       }
-
-  pub done : span digit_class (drop i s) ≡ [] → Value v i ≡ number_at s at
-  done none =
-      let val : min v beyond ≡ min (decimal 0 (span digit_class (drop at s))) beyond
-      = ap (λ (l : List ℕ). min (decimal v l) beyond) (sym none) ∙ scan.value in
-      let ends : i + 0 ≡ at + length (span digit_class (drop at s)) = ap (λ (l : List ℕ). i + length l) (sym none) ∙ scan.next in
-      let v-is : v ≡ min (decimal 0 (span digit_class (drop at s))) beyond = omega arith in
-      let i-is : i ≡ at + length (span digit_class (drop at s)) = omega arith in
-      ap₂ {C = Number} Value v-is i-is ∙ ap (λ (c : Class). cut_number (number_by c (drop at s) at)) (sym scan.first)
-
--- the first digit, which is not 0, was read
-pub starts : (s : List ℕ) (at w : ℕ) → at < length s → class_of (get_or s at 0) ≡ Digit
-    → w ≡ min (0 * 10 + (get_or s at 0 - 48)) beyond → Scan s at w (at + 1)
-starts s at w h d e =
-    step {s = s} {at = at} {v = 0} {i = at} (record { value = refl; next = refl; small = omega arith; first = d }) w h (ap digit_class d) e
