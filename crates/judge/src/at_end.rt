@@ -15,6 +15,7 @@ use crate::{order, used};
 use plan::{Checked, Counts, Lit, Refusal};
 
 // The variables of n rows, of `stride` words of which the first defines, take the numbers from `first` on.
+#[tactic(auto, using(laws::proofs::Tables::row_ends))]
 fn number_heads(table: &[u32], stride: usize, n: usize, first: u32, t: &mut [u32])
     requires stride_nonzero { 0 < stride }
     requires n_in_bounds { stride * n ≤ length table.now }
@@ -22,15 +23,9 @@ fn number_heads(table: &[u32], stride: usize, n: usize, first: u32, t: &mut [u32
     requires by_index { (i : ℕ) → i < n → head_at table.now stride i < length t.old }
     ensures { t.new ≡ with_heads table.now stride first n t.old }
 {
-    let mut next = first;
-    let mut at = 0;
-    let mut i = 0;
-    while i < n {
-        let v = Lit::at(table[at]).var().index() as usize;
-        t[v] = next;
-        next += 1;
-        at += stride;
-        i += 1;
+    for i in 0..n {
+        let v = Lit::at(table[stride * i]).var().index() as usize;
+        t[v] = first + i as u32;
     }
 }
 

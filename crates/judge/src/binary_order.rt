@@ -18,22 +18,17 @@ fn stands_for(word: u32, v: u32) -> bool
 }
 
 // Whether n rows, of `stride` words of which the first defines, define the variables from `first` on, in this order.
+#[tactic(auto, using(laws::proofs::Tables::row_ends))]
 fn runs_on(table: &[u32], stride: usize, n: usize, first: u32) -> bool
     requires stride_nonzero { 0 < stride }
     requires n_in_bounds { stride * n ≤ length table.now }
     requires n_bound { first + n ≤ 2147483648 }
     ensures { result ≡ runs first (rows_of stride n table.now) }
 {
-    let mut v = first;
-    let mut at = 0;
-    let mut i = 0;
-    while i < n {
-        if !stands_for(table[at], v) {
+    for i in 0..n {
+        if !stands_for(table[stride * i], first + i as u32) {
             return false;
         }
-        v += 1;
-        at += stride;
-        i += 1;
     }
     true
 }
@@ -67,16 +62,11 @@ fn gates_in_order(gates: &[u32], n: usize, first: u32) -> bool
     ensures { result ≡ (runs first (rows_of 3 n gates.now) && falls
         (map gate_of (rows_of 3 n gates.now))) }
 {
-    let mut v = first;
-    let mut at = 0;
-    let mut i = 0;
-    while i < n {
-        if !stands_at(gates[at], gates[at + 1], gates[at + 2], v) {
+    for i in 0..n {
+        let at = 3 * i;
+        if !stands_at(gates[at], gates[at + 1], gates[at + 2], first + i as u32) {
             return false;
         }
-        v += 1;
-        at += 3;
-        i += 1;
     }
     true
 }

@@ -43,12 +43,10 @@ fn first_out(gates: &[u32], t: &[u32], a: usize) -> usize
     requires { (3 * a ≤ length gates.now) × InRange (length t.now) gates.now a }
     ensures { FirstAt gates.now t.now a result }
 {
-    let mut i: usize = 0;
-    while i < a {
+    for i in 0..a {
         if !words::numbered(t, gates[3 * i]) {
             return i;
         }
-        i += 1;
     }
     a
 }
@@ -78,8 +76,7 @@ pub fn ascending(gates: &[u32], a: usize) -> bool
     requires { 3 * a ≤ length gates.now }
     ensures { result ≡ ascends (map gate_of (rows_of 3 a gates.now)) }
 {
-    let mut i: usize = 0;
-    while i < a {
+    for i in 0..a {
         let v = words::var_of(gates[3 * i]);
         if v <= words::var_of(gates[3 * i + 1]) {
             return false;
@@ -87,7 +84,6 @@ pub fn ascending(gates: &[u32], a: usize) -> bool
         if v <= words::var_of(gates[3 * i + 2]) {
             return false;
         }
-        i += 1;
     }
     true
 }

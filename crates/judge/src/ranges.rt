@@ -23,33 +23,26 @@ fn row_within(table: &[u32], start: usize, k: usize, defines: bool, m: u32) -> b
     requires { start + k ≤ length table.now }
     ensures { result ≡ inside defines m (take k (drop start table.now)) }
 {
-    let mut at = start;
-    let mut left = k;
     let mut first = defines;
-    while left > 0 {
-        if !word_within(table[at], first, m) {
+    for word in &table[start..start + k] {
+        if !word_within(*word, first, m) {
             return false;
         }
-        at += 1;
-        left -= 1;
         first = false;
     }
     true
 }
 
 // Whether the first n rows of k words are in their ranges, the first word of each as one that defines or not.
+#[tactic(auto, using(laws::proofs::Tables::row_ends))]
 fn rows_within(table: &[u32], k: usize, n: usize, defines: bool, m: u32) -> bool
     requires { k * n ≤ length table.now }
     ensures { result ≡ all_inside defines m (rows_of k n table.now) }
 {
-    let mut at = 0;
-    let mut left = n;
-    while left > 0 {
-        if !row_within(table, at, k, defines, m) {
+    for i in 0..n {
+        if !row_within(table, k * i, k, defines, m) {
             return false;
         }
-        at += k;
-        left -= 1;
     }
     true
 }
@@ -72,16 +65,10 @@ fn resets_within(latches: &[u32], resets: &[u32], n: usize) -> bool
     requires n_in_bounds_2 { n ≤ length resets.now }
     ensures { result ≡ resets_ok (map latch_of (rows_of 2 n latches.now)) (take n resets.now) }
 {
-    let mut at = 0;
-    let mut i = 0;
-    let mut left = n;
-    while left > 0 {
-        if !is_reset(latches[at], resets[i]) {
+    for i in 0..n {
+        if !is_reset(latches[2 * i], resets[i]) {
             return false;
         }
-        at += 2;
-        i += 1;
-        left -= 1;
     }
     true
 }

@@ -8,6 +8,7 @@ use plan::{Counts, Lit};
 use tables::bitmap;
 
 // Marks the variables of n rows, of `stride` words of which the first defines; whether one was marked already.
+#[tactic(auto, using(laws::proofs::Tables::row_ends))]
 fn mark_rows(table: &[u32], stride: usize, n: usize, marks: &mut [u32]) -> bool
     requires stride_nonzero { 0 < stride }
     requires n_in_bounds { stride * n ≤ length table.now }
@@ -17,16 +18,12 @@ fn mark_rows(table: &[u32], stride: usize, n: usize, marks: &mut [u32]) -> bool
         → Agrees m seen marks.old
         → RowsSay m seen (heads_at table.now stride n) result marks.new }
 {
-    let mut at = 0;
-    let mut i = 0;
-    while i < n {
-        let v = Lit::at(table[at]).var().index() as usize;
+    for i in 0..n {
+        let v = Lit::at(table[stride * i]).var().index() as usize;
         if bitmap::is_on(marks, 0, v) {
             return true;
         }
         bitmap::raise(marks, 0, v);
-        at += stride;
-        i += 1;
     }
     false
 }

@@ -46,6 +46,7 @@ fn lower(least: u32, word: u32, marks: &[u32]) -> u32
 }
 
 // The same over n words of a table, from `start` on by `stride`.
+#[tactic(auto, using(laws::proofs::Tables::row_ends))]
 fn least(table: &[u32], start: usize, stride: usize, n: usize, marks: &[u32], before: u32) -> u32
     requires start_lt_stride { start < stride }
     requires n_in_bounds { stride * n ≤ length table.now }
@@ -53,12 +54,8 @@ fn least(table: &[u32], start: usize, stride: usize, n: usize, marks: &[u32], be
     ensures { result ≡ lowest marks.now before (every table.now start stride n) }
 {
     let mut low = before;
-    let mut at = start;
-    let mut i = 0;
-    while i < n {
-        low = lower(low, table[at], marks);
-        at += stride;
-        i += 1;
+    for i in 0..n {
+        low = lower(low, table[stride * i + start], marks);
     }
     low
 }
@@ -71,11 +68,9 @@ fn least_right(gates: &[u32], n: usize, marks: &[u32], before: u32) -> u32
     ensures { result ≡ lowest marks.now before (rights (gates_at gates.now n)) }
 {
     let mut low = before;
-    let mut i = 0;
-    while i < n {
+    for i in 0..n {
         low = lower(low, gates[3 * i + 1], marks);
         low = lower(low, gates[3 * i + 2], marks);
-        i += 1;
     }
     low
 }

@@ -1,13 +1,11 @@
 -- Rows whose variables take numbers: one row more, the words past the variables, and the table of numbers that results.
-use Prim.Native.Nat.{ℕ, zero, suc, ◌+◌, ◌*◌, ◌<◌, ◌≤◌}
+use Prim.Native.Nat.{ℕ, zero, suc, ◌+◌, ◌<◌, ◌≤◌}
 use mathlib.Core.Path.{◌≡◌, refl, sym, ap, ap₂, ◌∙◌, subst}
 use mathlib.Core.Bool.{true}
 use mathlib.Core.List.{List, [], ◌∷◌, ◌++◌, append_assoc, append-nil}
-use native.Mathlib.Numerals.{add-one}
 use native.Mathlib.Omega.{arith}
 use lib.ListN.{length, get_or, set, take, length-set, length-take, length-append}
 use lib.Seq.{get_or-set_other, take-set-lt}
-use Rattle.plan.specs.Literals.{var_of}
 use Rattle.laws.proofs.Reading.Members.{has-self, distinct}
 use Rattle.laws.proofs.Running.Lists.{distinct-left, apart}
 use Rattle.laws.proofs.Tables.{head_at, heads_at, length-firsts}
@@ -18,14 +16,6 @@ use Rattle.judge.specs.at_end.Leaves.{with_heads}
 pub with-length : (table : List ℕ) (stride first n : ℕ) (t : List ℕ) → length (with_heads table stride first n t) ≡ length t
 with-length table stride first zero t = refl
 with-length table stride first (suc n) t = length-set (with_heads table stride first n t) _ _ ∙ with-length table stride first n t
-
--- the variable of row i takes the next number
-pub next-head : (table : List ℕ) (stride first i at v next : ℕ) (t₀ t : List ℕ) → at ≡ stride * i → next ≡ first + i
-    → v ≡ var_of (get_or table at 0) → t ≡ with_heads table stride first i t₀ → set t v next ≡ with_heads table stride first (i + 1) t₀
-next-head table stride first i at v next t₀ t place number var was =
-    rw add-one
-    (ap (λ (l : List ℕ). set l v next) was
-    ∙ ap₂ (λ (u k : ℕ). set (with_heads table stride first i t₀) u k) (var ∙ ap (λ (p : ℕ). var_of (get_or table p 0)) place) number)
 
 -- of a table whose first `size` words are of variables, where all rows' are
 module _ (table : List ℕ) (stride first size : ℕ) where

@@ -132,8 +132,3 @@ going_more gates lv num a next k j hk hj r n y g = record {
 
     less : a - k ≡ suc (a - (k + 1))
     less = omega arith
-
-pub going_start : (gates lv num : List ℕ) (a first : ℕ) → NumTable lv num → Starts lv → length lv ≡ first → Going gates lv num a first 0
-going_start gates lv num a first t s l =
-    let z : a - 0 ≡ a = omega arith in
-    record { o = lv; table = t; long = l; starts = s; rest = ap (λ (m : ℕ). lv ++ left_vars (scanned (gates_at gates a) m lv)) z }

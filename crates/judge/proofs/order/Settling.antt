@@ -1,13 +1,13 @@
 -- From one part of `number` to the next: what the words show at its start, between and at its end.
-use Prim.Native.Nat.{ℕ, ◌+◌, ◌<◌, ◌≤◌}
+use Prim.Native.Nat.{ℕ, ◌<◌, ◌≤◌}
 use mathlib.Core.Path.{◌≡◌, refl, sym, ap, ◌∙◌, subst}
 use mathlib.Core.Bool.{Bool, true, false, cond}
 use mathlib.Core.List.{List, [], ◌++◌, map, append-nil}
 use native.Mathlib.Omega.{arith}
-use borrow.Author.Tests.{eqb-true, eqb-false, ltb-true, ltb-false}
-use lib.Dec.{eqb, ltb}
-use lib.ListN.{length, get_or, set, take, length-take}
-use lib.Seq.{get_or-set_same, get_or-set_other, get_or-take}
+use borrow.Author.Tests.{ltb-true, ltb-false}
+use lib.Dec.{ltb}
+use lib.ListN.{length, get_or, take, length-take}
+use lib.Seq.{get_or-take}
 use Rattle.plan.specs.Circuit.{Gate, gate_of, rows_of, left_vars, has, index}
 use Rattle.laws.proofs.Running.Lists.{index-front}
 use Rattle.laws.proofs.Running.Scan.{scanned}
@@ -73,24 +73,3 @@ all-parts gates t x y z w n a first lt ly lz lw fresh named hung given settled l
     subst (λ (gs : List Gate). NumTable (lv ++ left_vars (scanned gs a lv)) (take n w)) (sym (gates-rows gates a))
     (table-out (lv ++ left_vars (scanned (gates_at gates a) a lv)) z w n lz lw settled
     (given lv (table-in lv t y n lt ly fresh (λ v k. ap shown (hung v k) ∙ named v k) tab) st len))
-
--- words from v on still to be settled
-pub settle_step : (t₀ t u : List ℕ) (v : ℕ) → v < length t → ((w : ℕ) → w < v → get_or t w 0 ≡ shown (get_or t₀ w 0))
-    → ((w : ℕ) → v ≤ w → get_or t w 0 ≡ get_or t₀ w 0)
-    → u ≡ set t v (shown (get_or t v 0))
-    → ((w : ℕ) → w < v + 1 → get_or u w 0 ≡ shown (get_or t₀ w 0)) × ((w : ℕ) → v + 1 ≤ w → get_or u w 0 ≡ get_or t₀ w 0)
-settle_step t₀ t u v fits done rest e = (
-  yes-done,
-  λ w k. ap (λ (l : List ℕ). get_or l w 0) e ∙ get_or-set_other t v w (shown (get_or t v 0)) 0 (λ q. omega (arith, q)) ∙ rest w
-      (omega arith),
-)
-  where
-    yes-done : (w : ℕ) → w < v + 1 → get_or u w 0 ≡ shown (get_or t₀ w 0)
-    yes-done w k = ap (λ (l : List ℕ). get_or l w 0) e ∙ go (eqb w v) refl
-      where
-        go : (b : Bool) → eqb w v ≡ b → get_or (set t v (shown (get_or t v 0))) w 0 ≡ shown (get_or t₀ w 0)
-        go true q =
-            let z = eqb-true w v q in
-            ap (λ (x : ℕ). get_or (set t v (shown (get_or t v 0))) x 0) z ∙ get_or-set_same t v (shown (get_or t v 0)) 0 fits
-            ∙ ap shown (rest v (omega arith)) ∙ ap (λ (x : ℕ). shown (get_or t₀ x 0)) (sym z)
-        go false q = let d = eqb-false w v q in get_or-set_other t v w (shown (get_or t v 0)) 0 d ∙ done w (omega (arith, d))

@@ -1,18 +1,16 @@
 -- The walk over rows that define: a variable that was seen, one that is new, and the end.
-use Prim.Native.Nat.{ℕ, zero, suc, ◌+◌, ◌*◌, ◌<◌, ◌≤◌}
+use Prim.Native.Nat.{ℕ, zero, suc, ◌+◌, ◌<◌, ◌≤◌}
 use mathlib.Core.Path.{◌≡◌, refl, sym, ap, ◌∙◌, subst}
 use mathlib.Core.Bool.{Bool, true, false, not, ◌&&◌, false≢true}
-use mathlib.Core.List.{List, [], ◌∷◌, ◌++◌, append-nil, append_assoc}
+use mathlib.Core.List.{List, [], ◌∷◌, ◌++◌, append_assoc}
 use native.Mathlib.Decide.{dec_lt}
-use native.Mathlib.Nat.{mul-zero}
 use native.Mathlib.Numerals.{add-one}
 use native.Mathlib.Omega.{arith}
-use lib.ListN.{length, get_or}
-use Rattle.plan.specs.Literals.{var_of}
+use lib.ListN.{length}
 use Rattle.plan.specs.Circuit.{has, all_new}
 use Rattle.laws.proofs.Marks.{Agrees, agrees-more}
 use Rattle.laws.proofs.Reading.Rows.{new-append, new-both}
-use Rattle.laws.proofs.Tables.{firsts, head_at, heads_at, next_row}
+use Rattle.laws.proofs.Tables.{firsts, head_at, heads_at}
 use Rattle.tables.specs.bitmap.Bitmap.{is_on, raised}
 use Rattle.tables.proofs.bitmap.Places.{raised-length}
 use Rattle.judge.specs.twice.Twice.{RowsSay}
@@ -47,26 +45,13 @@ pub record Before (table : List ℕ) (stride m : ℕ) (seen marks : List ℕ) (i
   pub new : all_new seen (heads_at table stride i) ≡ true
   pub agrees : Agrees m (seen ++ heads_at table stride i) marks
 
-pub record Loop (table : List ℕ) (stride n : ℕ) (marks₀ marks : List ℕ) (at i : ℕ) : Type 0 where
-  pub place : at ≡ stride * i
+pub record Loop (table : List ℕ) (stride n : ℕ) (marks₀ marks : List ℕ) (i : ℕ) : Type 0 where
   pub within : i ≤ n
   pub wide : length marks ≡ length marks₀
   pub before : (m : ℕ) (seen : List ℕ) → ((k : ℕ) → k < n → head_at table stride k ≤ m) → Agrees m seen marks₀
       → Before table stride m seen marks i
 
-pub begins : (table : List ℕ) (stride n : ℕ) (marks : List ℕ) → Loop table stride n marks marks 0 0
-begins table stride n marks = record {
-  place = sym (mul-zero stride);
-  within = omega arith;
-  wide = refl;
-  before = λ m seen up a. record { new = refl; agrees = subst (λ (l : List ℕ). Agrees m l marks) (sym (append-nil seen)) a };
-}
-
-module _ {table : List ℕ} {stride n : ℕ} {marks₀ marks : List ℕ} {at i : ℕ} (s : Loop table stride n marks₀ marks at i) where
-  -- the variable of this row
-  pub var-at : (v : ℕ) → v ≡ var_of (get_or table at 0) → v ≡ head_at table stride i
-  var-at v e = e ∙ ap (λ (p : ℕ). var_of (get_or table p 0)) s.place
-
+module _ {table : List ℕ} {stride n : ℕ} {marks₀ marks : List ℕ} {i : ℕ} (s : Loop table stride n marks₀ marks i) where
   -- whether it was seen already
   told : (v : ℕ) → v ≡ head_at table stride i → i < n → (t : Bool) → is_on marks 0 v ≡ t → (m : ℕ) (seen : List ℕ)
       → ((k : ℕ) → k < n → head_at table stride k ≤ m) → Agrees m seen marks₀ → has (head_at table stride i) (seen ++ heads_at table stride i) ≡ t
@@ -81,9 +66,8 @@ module _ {table : List ℕ} {stride n : ℕ} {marks₀ marks : List ℕ} {at i :
   }
 
   pub turns : (v : ℕ) → v ≡ head_at table stride i → i < n → is_on marks 0 v ≡ false → v < length marks → (marks' : List ℕ)
-      → marks' ≡ raised marks 0 v → Loop table stride n marks₀ marks' (at + stride) (i + 1)
+      → marks' ≡ raised marks 0 v → Loop table stride n marks₀ marks' (i + 1)
   turns v e h z l marks' New-is = record {
-    place = next_row stride i at s.place;
     within = omega arith;
     wide = ap length New-is ∙ (raised-length marks 0 v ∙ s.wide);
     before = λ m seen up a. rw add-one (record {

@@ -1,32 +1,22 @@
 -- The walks: over words of a table, from `start` on by `stride`, and over the right sides of gates.
-use Prim.Native.Nat.{ℕ, ◌+◌, ◌*◌, ◌<◌}
+use Prim.Native.Nat.{ℕ, ◌+◌, ◌*◌}
 use mathlib.Core.Path.{◌≡◌, sym, ap, ◌∙◌}
 use mathlib.Core.List.{List, [], ◌∷◌}
-use native.Mathlib.Nat.{mul-suc}
 use native.Mathlib.Numerals.{add-one}
-use native.Mathlib.Omega.{arith}
 use lib.ListN.{get_or}
-use Rattle.plan.specs.Literals.{var_of}
 use Rattle.plan.specs.Circuit.{rights}
 use Rattle.laws.proofs.Tables.{gate_at, gates_at}
 use Rattle.judge.specs.used.Least.{every, lower, lowest}
 use Rattle.judge.proofs.used.Lowest.{lowest-append, rights-snoc}
 
-pub next_word : (start stride i at : ℕ) → at ≡ stride * i + start → at + stride ≡ stride * (i + 1) + start
-next_word start stride i at e = rw (add-one, mul-suc) (omega arith)
-
-pub in-marks : (table : List ℕ) (start stride at i size : ℕ) → at ≡ stride * i + start
-    → var_of (get_or table (stride * i + start) 0) < size → var_of (get_or table at 0) < size
-in-marks table start stride at i size place h = rw place h
-
 -- the least so far takes in one word more
-pub next_low : (table : List ℕ) (start stride : ℕ) (marks : List ℕ) (before low at i low' : ℕ) → at ≡ stride * i + start
-    → low ≡ lowest marks before (every table start stride i) → low' ≡ lower marks low (get_or table at 0)
+pub next_low : (table : List ℕ) (start stride : ℕ) (marks : List ℕ) (before low i low' : ℕ)
+    → low ≡ lowest marks before (every table start stride i) → low' ≡ lower marks low (get_or table (stride * i + start) 0)
     → low' ≡ lowest marks before (every table start stride (i + 1))
-next_low table start stride marks before low at i low' place was now =
+next_low table start stride marks before low i low' was now =
     let word = get_or table (stride * i + start) 0 in
     rw add-one
-    (now ∙ ap (λ (x : ℕ). lower marks low (get_or table x 0)) place ∙ ap (λ (x : ℕ). lower marks x word) was
+    (now ∙ ap (λ (x : ℕ). lower marks x word) was
     ∙ sym (lowest-append marks before (every table start stride i) (word ∷ [])))
 
 -- and one gate more

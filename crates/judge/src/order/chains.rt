@@ -29,9 +29,7 @@ pub fn hang_all(gates: &[u32], t: &mut [u32], n: usize, a: usize)
     ensures { Waiting gates.now t.new n a every
         × Agree n t.old t.new }
 {
-    let mut i: usize = 0;
-    while i < a {
+    for i in 0..a {
         hang(gates, t, n, a, i);
-        i += 1;
     }
 }

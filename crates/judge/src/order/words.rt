@@ -40,10 +40,8 @@ pub fn name_all(gates: &[u32], t: &mut [u32], n: usize, a: usize)
     requires { Space gates.now t.old n a }
     ensures { t.new ≡ with_names gates.now a t.old }
 {
-    let mut i: usize = 0;
-    while i < a {
+    for i in 0..a {
         t[var_of(gates[3 * i])] = 2147483648 + (i as u32);
-        i += 1;
     }
 }
 
@@ -60,23 +58,18 @@ pub fn watch(gates: &[u32], t: &[u32], i: usize) -> u32
 }
 
 // A name that is left becomes no number.
-fn settle_one(t: &mut [u32], v: usize)
-    requires { v < length t.old }
-    ensures { t.new ≡ set t.old v (shown (get_or t.old v 0)) }
+#[tactic(auto, unfolding(crate::specs::order::Waiting::shown))]
+fn settled(word: u32) -> u32
+    ensures { result ≡ shown word }
 {
-    if t[v] < 2147483648 {
-        return;
-    }
-    t[v] = 0;
+    if word < 2147483648 { word } else { 0 }
 }
 
 pub fn settle(t: &mut [u32], n: usize)
     requires { n ≤ length t.old }
     ensures { (v : ℕ) → v < n → get_or t.new v 0 ≡ shown (get_or t.old v 0) }
 {
-    let mut v: usize = 0;
-    while v < n {
-        settle_one(t, v);
-        v += 1;
+    for word in &mut t[..n] {
+        *word = settled(*word);
     }
 }

@@ -1,5 +1,4 @@
 -- Every gate passed rises.
-use Prim.Native.Nat.{◌-◌, ◌≤◌}
 use mathlib.Core.Bool.{true}
 use mathlib.Core.Path.{◌≡◌}
 use Rattle.laws.proofs.Running.Ascending.{ascends}
@@ -7,7 +6,4 @@ use Rattle.laws.proofs.Tables.{gates_at}
 use Rattle.judge.proofs.order.ascending.Given as goal
 
 abbrev pub invariant-loop-i : goal.invariant-loop-i
-invariant-loop-i l = (l.i ≤ l.a) × (ascends (gates_at l.gates l.i) ≡ true)
-
-abbrev pub decreases-loop-i : goal.decreases-loop-i
-decreases-loop-i l = l.a - l.i
+invariant-loop-i l = ascends (gates_at l.gates l.i) ≡ true
