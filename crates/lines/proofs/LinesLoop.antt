@@ -44,9 +44,7 @@ pub record Before (file : List ℕ) (k : ℕ) (d : Bool) (m n at : ℕ) (t₀ se
   pub held : table ≡ put t₀ 0 (flat rows)
   pub agrees : Agrees m (seen_after d seen rows) marks
 
-pub record Loop (file : List ℕ) (k : ℕ) (d : Bool) (m n at : ℕ) (t₀ marks₀ table marks : List ℕ) (pos base i : ℕ) : Type 0 where
-  pub place : base ≡ i * k
-  pub inside : i ≤ n
+pub record Loop (file : List ℕ) (k : ℕ) (d : Bool) (m n at : ℕ) (t₀ marks₀ table marks : List ℕ) (pos i : ℕ) : Type 0 where
   pub wide : length table ≡ length t₀
   pub wide-marks : length marks ≡ length marks₀
   pub before : (seen : List ℕ) → Agrees m seen marks₀ → Before file k d m n at t₀ seen table marks pos i
@@ -59,10 +57,8 @@ after_none : (d : Bool) (seen : List ℕ) → seen ≡ seen_after d seen []
 after_none true seen = sym (append-nil seen)
 after_none false seen = refl
 
-pub begins : (file : List ℕ) (k : ℕ) (d : Bool) (m n at : ℕ) (t₀ marks₀ : List ℕ) → Loop file k d m n at t₀ marks₀ t₀ marks₀ at 0 0
+pub begins : (file : List ℕ) (k : ℕ) (d : Bool) (m n at : ℕ) (t₀ marks₀ : List ℕ) → Loop file k d m n at t₀ marks₀ t₀ marks₀ at 0
 begins file k d m n at t₀ marks₀ = record {
-  place = sym (zero-mul k);
-  inside = omega arith;
   wide = refl;
   wide-marks = refl;
   before = λ seen a. record {
@@ -80,10 +76,10 @@ begins file k d m n at t₀ marks₀ = record {
 pub row_fits : (k n i : ℕ) → i < n → i * k + k ≤ n * k
 row_fits k n i h = let more : suc i * k ≤ n * k = mul-le-mul_right k h in omega (arith, suc-mul i k)
 
-module _ {file : List ℕ} {k : ℕ} {d : Bool} {m n at : ℕ} {t₀ marks₀ table marks : List ℕ} {pos base i : ℕ}
-    (s : Loop file k d m n at t₀ marks₀ table marks pos base i) (room : n * k ≤ length t₀) where
-  pub fits : i < n → base + k ≤ length table
-  fits h = omega (arith, s.place, s.wide, row_fits k n i h)
+module _ {file : List ℕ} {k : ℕ} {d : Bool} {m n at : ℕ} {t₀ marks₀ table marks : List ℕ} {pos i : ℕ}
+    (s : Loop file k d m n at t₀ marks₀ table marks pos i) (room : n * k ≤ length t₀) where
+  pub fits : i < n → i * k + k ≤ length table
+  fits h = omega (arith, s.wide, row_fits k n i h)
 
   -- what is left is one line and the others
   rest : {seen : List ℕ} → i < n → (b : Before file k d m n at t₀ seen table marks pos i) → (l : ℕ) × (b.left ≡ suc l) × (i + 1 + l ≡ n)
@@ -150,18 +146,16 @@ module _ {file : List ℕ} {k : ℕ} {d : Bool} {m n at : ℕ} {t₀ marks₀ ta
     marking-length true = raised-length marks 0 (var_of (literal_of ls))
     marking-length false = refl
 
-    pub turns : (t' marks' : List ℕ) → MarksFor d m marks₀ → marked d (var_of (literal_of ls)) marks ≡ false → t' ≡ put table base ls
-        → marks' ≡ marking d false (var_of (literal_of ls)) marks → Loop file k d m n at t₀ marks₀ t' marks' next (base + k) (i + 1)
+    pub turns : (t' marks' : List ℕ) → MarksFor d m marks₀ → marked d (var_of (literal_of ls)) marks ≡ false → t' ≡ put table (i * k) ls
+        → marks' ≡ marking d false (var_of (literal_of ls)) marks → Loop file k d m n at t₀ marks₀ t' marks' next (i + 1)
     turns t' marks' l q held m-is = record {
-      place = omega (arith, s.place, suc-mul i k, one_more);
-      inside = omega arith;
-      wide = ap length held ∙ put-length table base ls (omega (arith, fits h, row-long file k d m pos ls next e)) ∙ s.wide;
+      wide = ap length held ∙ put-length table (i * k) ls (omega (arith, fits h, row-long file k d m pos ls next e)) ∙ s.wide;
       wide-marks = ap length m-is ∙ marking-length d ∙ s.wide-marks;
       before = λ seen a.
           let b = s.before seen a in
           let r = rest h b in
           let size : length (flat b.rows ++ ls) ≡ i * k + k = length-append (flat b.rows) ls ∙ ap₂ ◌+◌ b.size (row-long file k d m pos ls next e) in
-          let base-is : base ≡ 0 + length (flat b.rows) = omega (arith, s.place, b.size) in
+          let base-is : i * k ≡ 0 + length (flat b.rows) = omega (arith, b.size) in
           record {
             rows = b.rows ++ (ls ∷ []);
             left = r.0;

@@ -2,7 +2,7 @@
 use Prim.Native.Nat.{ℕ, suc, zero, ◌+◌, ◌-◌, ◌≤◌, ◌<◌}
 use mathlib.Core.Path.{◌≡◌, refl, sym, ap, ap₂, ◌∙◌, subst}
 use mathlib.Core.Bool.{Bool, true, false, cond, ◌&&◌}
-use mathlib.Core.List.{List, [], ◌∷◌, ◌++◌, append-nil, map, map-append}
+use mathlib.Core.List.{List, [], ◌∷◌, ◌++◌, map, map-append}
 use native.Mathlib.Omega.{arith}
 use native.Mathlib.Nat.{zero-add, sub-zero}
 use native.Mathlib.Decide.{dec_le}
@@ -20,7 +20,7 @@ use Rattle.plan.specs.declared.Passed.TheVariants.{To, Refused}
 use Rattle.plan.specs.Refusals.{Parse, got, refused, ◌then◌}
 use Rattle.plan.specs.Bytes.{class_of, number, Placed, goes_on, less, numbers, values}
 use Rattle.plan.specs.Outcome.{passed_by, put, number_at}
-use Rattle.laws.proofs.Put.{put-none, put-length}
+use Rattle.laws.proofs.Put.{put-none}
 use Rattle.laws.proofs.Reading.Common.{got-value, not-got}
 use Rattle.laws.proofs.Reading.Cut.{cut, value-is, wrong-is}
 use Rattle.lines.specs.declared.Going.{Going}
@@ -178,15 +178,6 @@ begins file must may at base w₀ p₀ = record {
 
 module _ {file : List ℕ} {must may at base : ℕ} {w₀ p₀ w p : List ℕ} {pos j : ℕ} (s : Scan file must may at base w₀ p₀ w p pos j)
     (low : must ≤ may) (room : base + may ≤ length w₀) (room-p : base + may ≤ length p₀) where
-  pub wide : length w ≡ length w₀
-  wide =
-      ap length s.held.words
-      ∙ put-length w₀ base (map cut (values s.xs)) (omega (arith, length-map (values s.xs) cut, values_length s.xs, s.count, s.sum))
-
-  pub wide-places : length p ≡ length p₀
-  wide-places =
-      ap length s.held.places ∙ put-length p₀ base (places_of s.xs) (omega (arith, places-length s.xs, s.count, s.sum))
-
   rest : j < may → (l : ℕ) × (s.left ≡ suc l) × (j + 1 + l ≡ may)
   rest h = go s.left s.sum
     where
@@ -278,11 +269,3 @@ module _ {file : List ℕ} {must may at base : ℕ} {w₀ p₀ w p : List ℕ} {
               ∙ ap (λ (n : ℕ). on_placed more (numbers file n l.0 (next + 1))) left-must;
           held = stored;
         }
-
-  pub ends-here : may ≤ j
-      → (To pos ≡ passed_by (numbers file must may at))
-      × ((xs : List Placed) (n : ℕ) → numbers file must may at ≡ got xs n → Numbered xs base w₀ p₀ w p)
-  ends-here over =
-      let none_left : s.left ≡ zero = omega (arith, s.sum) in
-      accepts s.xs pos (s.whole ∙ ap (λ (n : ℕ). on_placed s.xs (numbers file (must - j) n pos)) none_left
-      ∙ ap (λ (x : List Placed). got x pos) (append-nil s.xs)) w p s.held

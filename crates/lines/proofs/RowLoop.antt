@@ -12,7 +12,7 @@ use lib.ListN.{length, get_or, set, length-append, length-map, get_or-eq_default
 use Rattle.plan.specs.declared.Refusal.{Refusal}
 use Rattle.plan.specs.declared.Refusal.TheVariants.{WrongByte, OutOfRange}
 use Rattle.plan.specs.declared.Number.TheVariants.{Value, Wrong}
-use Rattle.plan.specs.declared.Passed.TheVariants.{To, Refused}
+use Rattle.plan.specs.declared.Passed.TheVariants.{Refused}
 use Rattle.plan.specs.Literals.{most, in_range}
 use Rattle.plan.specs.Refusals.{Parse, got, unless}
 use Rattle.plan.specs.Bytes.{number, numbers}
@@ -123,12 +123,6 @@ module _ {file : List ℕ} {k : ℕ} {defines : Bool} {m at : ℕ} {t₀ : List 
 
     ended : row file k defines m at ≡ unless (found_of bad) OutOfRange (got s.ls pos)
     ended = s.whole ∙ ap (λ (n : ℕ). judged s.ls (found_of bad) d m (numbers file n n pos)) none_left ∙ judge-done file d m s.ls (found_of bad) pos
-
-    pub all-fine : found_of bad ≡ none → To pos ≡ passed_by (row file k defines m at)
-    all-fine e = ap passed_by (sym (ended ∙ ap (λ (o : Option ℕ). unless o OutOfRange (got s.ls pos)) e))
-
-    pub one_out : (place : ℕ) → found_of bad ≡ some place → Refused (OutOfRange place) ≡ passed_by (row file k defines m at)
-    one_out place e = ap passed_by (sym (ended ∙ ap (λ (o : Option ℕ). unless o OutOfRange (got s.ls pos)) e))
 
     -- the table holds the line, if it is accepted
     pub held : m ≤ most → (ls : List ℕ) (next : ℕ) → row file k defines m at ≡ got ls next → t ≡ put t₀ base ls

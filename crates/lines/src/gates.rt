@@ -69,8 +69,7 @@ fn read_run(file: &[u8], at: usize, first: u32, n: usize, table: &mut [u32]) -> 
     ensures { GatesSay table.old (gates_from file.now n first at) result table.new }
 {
     let mut next = at;
-    let mut i: usize = 0;
-    while i < n {
+    for i in 0..n {
         match gate_at(file, next, first + i as u32) {
             Gated::Refused(r) => {
                 return Passed::Refused(r);
@@ -83,7 +82,6 @@ fn read_run(file: &[u8], at: usize, first: u32, n: usize, table: &mut [u32]) -> 
                 next = after;
             }
         }
-        i += 1;
     }
     Passed::To(next)
 }
@@ -116,10 +114,8 @@ pub fn run_on(table: &mut [u32], first: u32, n: usize)
     requires n_bound { first + n ≤ 1048576 }
     ensures { table.new ≡ put table.old 0 (lits_from first n) }
 {
-    let mut i: usize = 0;
-    while i < n {
+    for i in 0..n {
         table[i] = Var::at(first + i as u32).lit().word();
-        i += 1;
     }
 }
 
@@ -131,9 +127,7 @@ pub fn spread(table: &mut [u32], first: u32, n: usize)
     ensures { table.new ≡ put table.old 0
         (flat (map latch_line (latches_from first (take n table.old)))) }
 {
-    let mut i = n;
-    while i > 0 {
-        i -= 1;
+    for i in (0..n).rev() {
         let k = 2 * i;
         table[k + 1] = table[i];
         table[k] = Var::at(first + i as u32).lit().word();

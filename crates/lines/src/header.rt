@@ -74,14 +74,12 @@ fn first_above(words: &[u32; 9], from: usize, limit: u32) -> usize
     requires { from ≤ 9 }
     ensures { Above words.now from limit result }
 {
-    let mut i = from;
-    while i < 9 {
+    for i in from..9 {
         if words[i] > limit {
             return i;
         }
-        i += 1;
     }
-    i
+    9
 }
 
 // The counts by the reader of a line of numbers, those left off being 0: by 1, then 2, then 21 for J and F, then 3.

@@ -147,8 +147,7 @@ pub fn read_latches(
         result table.new resets.new marks.new }
 {
     let mut pos = at;
-    let mut i: usize = 0;
-    while i < n {
+    for i in 0..n {
         match read_latch(
             file,
             pos,
@@ -170,7 +169,6 @@ pub fn read_latches(
                 pos = next;
             }
         }
-        i += 1;
     }
     Passed::To(pos)
 }

@@ -91,8 +91,7 @@ pub fn read_row(
     let mut pos = at;
     let mut d = defines;
     let mut bad = Found::Nothing;
-    let mut j = 0;
-    while j < k {
+    for j in 0..k {
         match read_number(file, pos) {
             Number::Wrong(place) => {
                 return Passed::Refused(Refusal::WrongByte(place));
@@ -107,7 +106,6 @@ pub fn read_row(
             }
         }
         d = false;
-        j += 1;
     }
     match bad {
         Found::Nothing => Passed::To(pos),
@@ -133,6 +131,7 @@ pub fn defined_before(defines: bool, l: Lit, marks: &mut [u32]) -> bool
 }
 
 // n lines of k literals, of which the first defines or not, into the table from its start: each line by 1, then 5, then 6.
+#[tactic(auto, using(crate::proofs::LinesLoop::row_fits))]
 pub fn read_lines(
     file: &[u8],
     at: usize,
@@ -152,9 +151,8 @@ pub fn read_lines(
         result table.new marks.new }
 {
     let mut pos = at;
-    let mut base = 0;
-    let mut i = 0;
-    while i < n {
+    for i in 0..n {
+        let base = i * k;
         match read_row(file, pos, k, defines, m, table, base) {
             Passed::Refused(r) => {
                 return Passed::Refused(r);
@@ -166,8 +164,6 @@ pub fn read_lines(
                 pos = next;
             }
         }
-        base += k;
-        i += 1;
     }
     Passed::To(pos)
 }
@@ -217,8 +213,7 @@ pub fn read_numbers(
         → Numbered xs base words.old places.old words.new places.new }
 {
     let mut pos = at;
-    let mut j = 0;
-    while j < may {
+    for j in 0..may {
         match read_number(file, pos) {
             Number::Wrong(place) => {
                 return Passed::Refused(Refusal::WrongByte(place));
@@ -239,7 +234,6 @@ pub fn read_numbers(
                 }
             }
         }
-        j += 1;
     }
     Passed::To(pos)
 }

@@ -31,15 +31,12 @@ fn in_name(c: Class) -> bool
 fn name_end(file: &[u8], at: usize) -> usize
     ensures { result ≡ at + length (span name_class (drop at file.now)) }
 {
-    let mut i = at;
-    while i < file.len() {
-        let c = class_of(file[i]);
-        if !in_name(c) {
+    for i in at..file.len() {
+        if !in_name(class_of(file[i])) {
             return i;
         }
-        i += 1;
     }
-    i
+    at.max(file.len())
 }
 
 // A symbol line by 1 to its end: its number, and the position after the line.

@@ -1,7 +1,7 @@
 -- The loop that reads gates: what was read before, and the answer from here on.
 use Prim.Native.Nat.{ℕ, suc, ◌+◌, ◌*◌, ◌-◌, ◌<◌, ◌≤◌}
 use mathlib.Core.Path.{◌≡◌, refl, sym, ap, ap₂, ◌∙◌, subst}
-use mathlib.Core.List.{List, [], ◌∷◌, ◌++◌, append-nil, map}
+use mathlib.Core.List.{List, [], ◌∷◌, ◌++◌, map}
 use native.Mathlib.Omega.{arith}
 use lib.ListN.{length, set, length-append, length-set}
 use lib.Seq.{append_snoc}
@@ -13,7 +13,7 @@ use Rattle.plan.specs.Refusals.{Parse, got, refused, ◌then◌}
 use Rattle.plan.specs.Circuit.{Gate, flat, gate_line}
 use Rattle.plan.specs.Binary.{gate, gates_from}
 use Rattle.plan.specs.Outcome.{put}
-use Rattle.laws.proofs.Put.{put-none, put-put}
+use Rattle.laws.proofs.Put.{put-put}
 use Rattle.lines.specs.declared.gates.Gated.TheVariants as gated
 use Rattle.lines.specs.gates.Gates.{gate_by, GatesSay}
 use Rattle.lines.proofs.gates.Words.{three-put}
@@ -63,7 +63,6 @@ read_whole (refused r) a b c n e = let z : ◌≡◌ {A = ℕ} 0 1 = cc in absur
 -- i gates are read and stand at the table's start
 pub record Gathered (file : List ℕ) (at first n : ℕ) (table₀ table : List ℕ) (next i : ℕ) : Type 0 where
   pub gates : List Gate
-  pub bound : i ≤ n
   pub many : length gates ≡ i
   pub whole : gates_from file n first at ≡ after gates (gates_from file (n - i) (first + i) next)
   pub table_is : table ≡ put table₀ 0 (words_of gates)
@@ -75,19 +74,6 @@ module _ (file : List ℕ) where
   more k v g at = gates_from file k v at then λ gs at. got (g ∷ gs) at
 
 module _ (file : List ℕ) (at first n : ℕ) (table₀ : List ℕ) where
-  pub none_read : Gathered file at first n table₀ table₀ at 0
-  none_read =
-      let n-is : n ≡ n - 0 = omega arith in
-      let v-is : first ≡ first + 0 = omega arith in
-      record {
-        gates = [];
-        bound = omega arith;
-        many = refl;
-        whole = sym (after_none (gates_from file n first at)) ∙ ap₂ (λ (k v : ℕ). after [] (gates_from file k v at)) n-is v-is;
-        table_is = sym (put-none table₀ 0);
-        same = refl;
-      }
-
   module _ (table : List ℕ) (next i : ℕ) (s : Gathered file at first n table₀ table next i) where
     -- the answer, with the next gate taken apart
     turn : i < n → gates_from file n first at
@@ -123,7 +109,6 @@ module _ (file : List ℕ) (at first n : ℕ) (table₀ : List ℕ) where
         let in_table : 3 * i + 3 ≤ length table = omega (arith, s.same) in
         record {
           gates = s.gates ++ (g ∷ []);
-          bound = omega arith;
           many = length-append s.gates (g ∷ []) ∙ ap (λ (k : ℕ). k + 1) s.many;
           whole =
               turn h
@@ -137,11 +122,3 @@ module _ (file : List ℕ) (at first n : ℕ) (table₀ : List ℕ) where
               ∙ (put-put table₀ 0 before (gate_line g) fits ∙ ap (put table₀ 0) (sym (words_last s.gates g)))));
           same = simp length-set s.same;
         }
-
-    pub all_read : n ≤ i → GatesSay table₀ (gates_from file n first at) (passed.To next) table
-    all_read h =
-        let n-is : n - i ≡ 0 = omega arith in
-        let all : gates_from file n first at ≡ got s.gates next
-        = s.whole
-        ∙ (ap (λ (k : ℕ). after s.gates (gates_from file k (first + i) next)) n-is ∙ ap (λ (l : List Gate). got l next) (append-nil s.gates)) in
-        subst (λ (x : Parse (List Gate)). GatesSay table₀ x (passed.To next) table) (sym all) (refl, s.table_is)

@@ -1,6 +1,6 @@
 -- The loop that writes literals that run on: one literal more.
 use Prim.Native.Nat.{ℕ, zero, suc, ◌+◌, ◌<◌, ◌≤◌}
-use mathlib.Core.Path.{◌≡◌, refl, sym, ap, ap₂, ◌∙◌}
+use mathlib.Core.Path.{◌≡◌, sym, ap, ap₂, ◌∙◌}
 use mathlib.Core.List.{List, [], ◌∷◌, ◌++◌}
 use native.Mathlib.Omega.{arith}
 use native.Mathlib.Numerals.{add-one}
@@ -8,7 +8,7 @@ use lib.ListN.{length, set, length-append, length-set}
 use Rattle.plan.specs.Literals.{lit_of}
 use Rattle.plan.specs.Binary.{lits_from}
 use Rattle.plan.specs.Outcome.{put}
-use Rattle.laws.proofs.Put.{put-none, put_one, put-put}
+use Rattle.laws.proofs.Put.{put_one, put-put}
 use Rattle.laws.proofs.Reading.Runs.{length-lits}
 
 lits-last : (v n : ℕ) → lits_from v (suc n) ≡ lits_from v n ++ (lit_of (v + n) ∷ [])
@@ -19,12 +19,8 @@ lits-last v (suc n) =
 
 -- i literals are written
 pub record RunsOn (first n : ℕ) (table₀ table : List ℕ) (i : ℕ) : Type 0 where
-  pub bound : i ≤ n
   pub table_is : table ≡ put table₀ 0 (lits_from first i)
   pub same : length table ≡ length table₀
-
-pub none_written : (first n : ℕ) (table₀ : List ℕ) → RunsOn first n table₀ table₀ 0
-none_written first n table₀ = record { bound = omega arith; table_is = sym (put-none table₀ 0); same = refl }
 
 pub one_written : (first n : ℕ) (table₀ table : List ℕ) (i : ℕ) → RunsOn first n table₀ table i → n ≤ length table₀ → i < n
     → (l : ℕ) → l ≡ lit_of (first + i) → RunsOn first n table₀ (set table i l) (i + 1)
@@ -35,7 +31,6 @@ one_written first n table₀ table i s room h l l-is =
     let start : i ≡ 0 + length before = omega arith in
     let fits : 0 + length (before ++ (lit_of (first + i) ∷ [])) ≤ length table₀ = omega arith in
     record {
-      bound = omega arith;
       table_is =
           put_one table i l (omega (arith, s.same))
           ∙ (ap₂ (λ (t : List ℕ) (x : ℕ). put t i (x ∷ [])) s.table_is l-is
@@ -44,9 +39,3 @@ one_written first n table₀ table i s room h l l-is =
           ∙ ap (put table₀ 0) (sym (lits-last first i) ∙ ap (lits_from first) (sym (add-one i))))));
       same = simp length-set s.same;
     }
-
-pub all-written : (first n : ℕ) (table₀ table : List ℕ) (i : ℕ) → RunsOn first n table₀ table i → n ≤ i
-    → table ≡ put table₀ 0 (lits_from first n)
-all-written first n table₀ table i s h =
-    let i-is : i ≡ n = omega (arith, s.bound) in
-    s.table_is ∙ ap (λ (k : ℕ). put table₀ 0 (lits_from first k)) i-is

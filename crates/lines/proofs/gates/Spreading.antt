@@ -3,13 +3,13 @@ use Prim.Native.Nat.{ℕ, suc, ◌+◌, ◌*◌, ◌-◌, ◌<◌, ◌≤◌}
 use mathlib.Core.Path.{◌≡◌, refl, sym, ap, ap₂, ◌∙◌}
 use mathlib.Core.List.{List, [], ◌∷◌, ◌++◌, map}
 use native.Mathlib.Omega.{arith}
-use lib.ListN.{length, get_or, take, drop, set, length-set, length-drop, drop_of_length-le}
+use lib.ListN.{length, get_or, take, drop, set, length-set, length-drop}
 use lib.Seq.{length-take-le, drop-cons, get_or-take, take_at}
 use Rattle.plan.specs.Literals.{lit_of}
 use Rattle.plan.specs.Circuit.{flat, latch_line}
 use Rattle.plan.specs.Binary.{latches_from}
 use Rattle.plan.specs.Outcome.{put}
-use Rattle.laws.proofs.Put.{put-none, put-before, put_first, put-over}
+use Rattle.laws.proofs.Put.{put-before, put_first, put-over}
 
 -- the words of latches of variables from v on
 abbrev pub words_from : ℕ → List ℕ → List ℕ
@@ -27,7 +27,6 @@ get_d-put t at j w h k =
 
 -- latches from the i-th on are made
 pub record Spread (first n : ℕ) (table₀ table : List ℕ) (i : ℕ) : Type 0 where
-  pub bound : i ≤ n
   pub table_is : table ≡ put table₀ (2 * i) (words_from (first + i) (drop i (take n table₀)))
   pub same : length table ≡ length table₀
 
@@ -35,21 +34,12 @@ module _ (first n : ℕ) (table₀ : List ℕ) (room : 2 * n ≤ length table₀
   few : length (take n table₀) ≡ n
   few = length-take-le n table₀ (omega arith)
 
-  pub none-spread : Spread first n table₀ table₀ n
-  none-spread =
-      let none : drop n (take n table₀) ≡ [] = drop_of_length-le (take n table₀) {i = n} (omega (arith, few)) in
-      record {
-        bound = omega arith;
-        table_is = sym (ap (λ (l : List ℕ). put table₀ (2 * n) (words_from (first + n) l)) none ∙ put-none table₀ (2 * n));
-        same = refl;
-      }
-
-  module _ (table : List ℕ) (i : ℕ) (s : Spread first n table₀ table i) (h : 0 < i) where
+  module _ (table : List ℕ) (i : ℕ) (s : Spread first n table₀ table i) (b : i ≤ n) (h : 0 < i) where
     -- the next state is still there
     pub next-is : get_or table (i - 1) 0 ≡ get_or table₀ (i - 1) 0
     next-is =
         let w : List ℕ = words_from (first + i) (drop i (take n table₀)) in
-        ap (λ (l : List ℕ). get_or l (i - 1) 0) s.table_is ∙ get_d-put table₀ (2 * i) (i - 1) w (omega arith) (omega (arith, s.bound))
+        ap (λ (l : List ℕ). get_or l (i - 1) 0) s.table_is ∙ get_d-put table₀ (2 * i) (i - 1) w (omega arith) (omega arith)
 
     pub one-spread : (l : ℕ) → l ≡ lit_of (first + (i - 1))
         → Spread first n table₀ (set (set table (2 * (i - 1) + 1) (get_or table (i - 1) 0)) (2 * (i - 1)) l) (i - 1)
@@ -63,7 +53,6 @@ module _ (first n : ℕ) (table₀ : List ℕ) (room : 2 * n ≤ length table₀
         let k-is : 2 * i ≡ 2 * j + 1 + 1 = omega arith in
         let size : length w ≡ 2 * (n - i)
         = words-length (first + i) ls ∙ ap (λ (k : ℕ). 2 * k) (length-drop i (take n table₀) ∙ ap (λ (k : ℕ). k - i) few) in
-        let b : i ≤ n = s.bound in
         let in₁ : 2 * j + 1 + 1 + length w ≤ length table₀ = omega arith in
         let in₀ : 2 * j + 1 + length (x ∷ w) ≤ length table₀ = omega arith in
         let there : drop j (take n table₀) ≡ x ∷ ls
@@ -72,7 +61,6 @@ module _ (first n : ℕ) (table₀ : List ℕ) (room : 2 * n ≤ length table₀
         let words : words_from (first + j) (drop j (take n table₀)) ≡ lit_of (first + j) ∷ x ∷ w
         = ap (words_from (first + j)) there ∙ ap (λ (v : ℕ). lit_of (first + j) ∷ x ∷ words_from v ls) (sym v-is) in
         record {
-          bound = omega arith;
           table_is =
               ap₂ (λ (t : List ℕ) (y : ℕ). set (set t (2 * j + 1) y) (2 * j) l) (s.table_is ∙ ap (λ (k : ℕ). put table₀ k w) k-is) next-is
               ∙ (ap (λ (t : List ℕ). set t (2 * j) l) (put-before table₀ (2 * j + 1) x w in₁)
@@ -80,14 +68,6 @@ module _ (first n : ℕ) (table₀ : List ℕ) (room : 2 * n ≤ length table₀
               ∙ (ap (λ (y : ℕ). put table₀ (2 * j) (y ∷ x ∷ w)) l-is ∙ ap (put table₀ (2 * j)) (sym words))));
           same = simp length-set s.same;
         }
-
-  pub all-spread : (table : List ℕ) (i : ℕ) → Spread first n table₀ table i → i ≤ 0 → table ≡ put table₀ 0 (words_from first (take n table₀))
-  all-spread table i s h =
-      let i-is : i ≡ 0 = omega arith in
-      let v-is : first + 0 ≡ first = omega arith in
-      s.table_is
-      ∙ (ap (λ (k : ℕ). put table₀ (2 * k) (words_from (first + k) (drop k (take n table₀)))) i-is
-      ∙ ap (λ (v : ℕ). put table₀ 0 (words_from v (take n table₀))) v-is)
 
 -- next states that were put there and then spread are the latches
 pub spread-held : (v k : ℕ) (ls t t₁ t₂ : List ℕ) → length ls ≡ k → t₁ ≡ put t 0 ls → t₂ ≡ put t₁ 0 (words_from v (take k t₁))

@@ -5,7 +5,6 @@ use mathlib.Core.Bool.{Bool, true, false, cond}
 use mathlib.Core.Option.{none, some}
 use mathlib.Core.List.{List, [], ◌∷◌, ◌++◌, map}
 use native.Mathlib.Omega.{arith}
-use native.Mathlib.Decide.{ℕ_discrete}
 use borrow.Author.Tests.{le-leb, lt-leb, eq-eqb, ne_eqb, leb-true, leb-false}
 use lib.Dec.{leb}
 use lib.ListN.{length, get_or, drop, replicate}
@@ -85,15 +84,6 @@ places-drop : (k : ℕ) (xs : List Placed) → places_of (drop k xs) ≡ drop k 
 places-drop zero xs = refl
 places-drop (suc k) [] = refl
 places-drop (suc k) (x ∷ xs) = places-drop k xs
-
--- one more word that is not above a limit
-pub more-passed : (w : List ℕ) (from limit i : ℕ) → ((k : ℕ) → from ≤ k → k < i → get_or w k 0 ≤ limit) → get_or w i 0 ≤ limit
-    → (k : ℕ) → from ≤ k → k < i + 1 → get_or w k 0 ≤ limit
-more-passed w from limit i h e k a b = go (ℕ_discrete k i)
-  where
-    go : Dec (k ≡ i) → get_or w k 0 ≤ limit
-    go (yes q) = omega (arith, ap (λ (x : ℕ). get_or w x 0) q)
-    go (no q) = h k a (omega arith)
 
 -- the line read, its words and its places
 pub record Line (v : Version) (file : List ℕ) (w p : List ℕ) (next : ℕ) : Type 0 where

@@ -70,7 +70,6 @@ pub record Before (file : List ℕ) (d : Bool) (m more first n at : ℕ) (t₀ r
   pub agrees : Agrees m (seen_after d seen rows) marks
 
 pub record Loop (file : List ℕ) (d : Bool) (m more first n at : ℕ) (t₀ r₀ marks₀ table resets marks : List ℕ) (pos i : ℕ) : Type 0 where
-  pub inside : i ≤ n
   pub wide : length table ≡ length t₀
   pub wide-resets : length resets ≡ length r₀
   pub wide-marks : length marks ≡ length marks₀
@@ -90,7 +89,6 @@ none_yet false first = refl
 
 pub begins : (file : List ℕ) (d : Bool) (m more first n at : ℕ) (t₀ r₀ marks₀ : List ℕ) → Loop file d m more first n at t₀ r₀ marks₀ t₀ r₀ marks₀ at 0
 begins file d m more first n at t₀ r₀ marks₀ = record {
-  inside = omega arith;
   wide = refl;
   wide-resets = refl;
   wide-marks = refl;
@@ -193,7 +191,6 @@ module _ {file : List ℕ} {d : Bool} {m more first n at : ℕ} {t₀ r₀ marks
         → (t' ≡ put table (2 * i) (latch_line (latch_in d (first + i) row))) × (r' ≡ put resets i (reset_after (literals d) row ∷ []))
         → marks' ≡ marking d false (var_of (literal_of row)) marks → Loop file d m more first n at t₀ r₀ marks₀ t' r' marks' next (i + 1)
     turns t' r' marks' l q held m-is = record {
-      inside = omega arith;
       wide = ap length held.0 ∙ put-length table (2 * i) (latch_line (latch_in d (first + i) row)) (fits h) ∙ s.wide;
       wide-resets = ap length held.1 ∙ put-length resets i (reset_after (literals d) row ∷ []) (omega (arith, fits-resets h)) ∙ s.wide-resets;
       wide-marks = ap length m-is ∙ marking-length d ∙ s.wide-marks;

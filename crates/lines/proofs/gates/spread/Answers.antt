@@ -2,25 +2,13 @@
 use native.Mathlib.Omega.{arith}
 use Prim.Native.Nat.{◌+◌, ◌-◌}
 use mathlib.Core.Path.{◌∙◌}
-use lib.ListN.{length-set}
 use Rattle.lines.proofs.gates.Words.{lit_is}
-use Rattle.lines.proofs.gates.Spreading.{none-spread, one-spread, all-spread}
+use Rattle.lines.proofs.gates.Spreading.{one-spread}
 use Rattle.lines.proofs.gates.spread.Goals as goal
-
-pub loop-i-init : goal.loop-i-init
-loop-i-init c = none-spread _ _ _ c.requires.n_in_bounds
-
-pub bounds-table-k-in-loop-i : goal.bounds-table-k-in-loop-i
-bounds-table-k-in-loop-i c = simp length-set (omega arith)
 
 pub loop-i-preserved : goal.loop-i-preserved
 loop-i-preserved c =
     let a = c.args in
     let v = a.first + (c.loop-i.i - 1) in
     let l = lit_is c.at.result c.lit.result v (omega arith) c.at.ensures c.lit.ensures in
-    one-spread a.first a.n a.table.now c.requires.n_in_bounds c.loop-i.table c.loop-i.i c.loop-i.invariant c.loop-i-test.true _ (c.word.ensures ∙ l)
-
-pub returns : goal.returns
-returns c =
-    let a = c.args in
-    all-spread a.first a.n a.table.now c.requires.n_in_bounds c.loop-i.table c.loop-i.i c.loop-i.invariant c.loop-i-test.false
+    one-spread a.first a.n a.table.now c.requires.n_in_bounds c.loop-i.table c.loop-i.i c.loop-i.invariant (omega arith) c.loop-i-test.true _ (c.word.ensures ∙ l)

@@ -1,5 +1,4 @@
 -- The loop keeps the answer from here on, with the symbols seen; the measure is what is left of the file.
-use Prim.Native.Nat.{◌-◌}
 use mathlib.Core.Path.{sym, ◌∙◌}
 use borrow.Author.Tests.{not-true, not-false}
 use Rattle.lines.proofs.tail.Turns.{starts, ends, remarks, stops, falls, turns}
