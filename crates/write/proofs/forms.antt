@@ -1,4 +1,3 @@
 pub mod Filled
 pub mod Forms
 pub mod Headers
-pub mod Copies

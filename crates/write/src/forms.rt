@@ -201,10 +201,7 @@ pub fn append(out: &mut [u8], at: usize, tail: &[u8]) -> usize
     ensures value { result ≡ at + length tail.now }
     ensures out_after { out.new ≡ put out.old at tail.now }
 {
-    let mut i = 0;
-    while i < tail.len() {
-        out[at + i] = tail[i];
-        i += 1;
-    }
-    at + i
+    let end = at + tail.len();
+    out[at..end].copy_from_slice(tail);
+    end
 }

@@ -1,7 +1,7 @@
 -- The loops over gates: one turn takes one gate.
 use Prim.Native.Nat.{ℕ, suc, zero, ◌+◌, ◌*◌, ◌-◌, ◌^◌, ◌<◌, ◌≤◌}
 use mathlib.Core.Path.{◌≡◌, refl, sym, ap, ap₂, subst, ◌∙◌}
-use mathlib.Core.List.{List, [], ◌++◌, map, append_assoc}
+use mathlib.Core.List.{List, ◌++◌, map, append_assoc}
 use native.Mathlib.Omega.{arith}
 use lib.ListN.{length, get_or, take, drop, length-append}
 use lib.Seq.{drop-drop}
@@ -14,7 +14,7 @@ use Rattle.laws.proofs.Put.{put-put, put-length}
 use Rattle.laws.proofs.Reading.Differences.{groups-some}
 use Rattle.write.specs.print.Words.{Begun, sides_bytes, bytes_at, bytes_from}
 use Rattle.write.proofs.print.Sizes.{groups-five}
-use Rattle.write.proofs.print.Filling.{Filling, none_filled, part_room, part_filled, all-filled, all-ends}
+use Rattle.write.proofs.print.Filling.{Filling, none_filled}
 
 -- the first row
 row-bytes : (t : List ℕ) (i : ℕ)
@@ -104,11 +104,6 @@ module _ (t : List ℕ) (n : ℕ) where
       let more : n - i ≡ suc (n - (i + 1)) = omega arith in
       ap (λ (m : ℕ). bytes_from t m i) more
 
-  no-gate : (i : ℕ) → n ≤ i → bytes_from t (n - i) i ≡ []
-  no-gate i h =
-      let none : n - i ≡ 0 = omega arith in
-      ap (λ (m : ℕ). bytes_from t m i) none
-
   -- a gate that follows has two bytes at least
   two-left : (i : ℕ) → i + 1 < n → 2 ≤ length (bytes_from t (n - (i + 1)) (i + 1))
   two-left i h =
@@ -137,9 +132,6 @@ module _ (t : List ℕ) (n : ℕ) where
       let total : sum + d + length rest ≡ length (gate_bytes (map gate_of (rows_of 3 n t))) = omega arith in
       record { bound = omega arith; few = omega arith; total = total }
 
-  pub all-counted : (sum i : ℕ) → Counted t n sum i → n ≤ i → sum ≡ length (gate_bytes (map gate_of (rows_of 3 n t)))
-  all-counted sum i s h = omega (arith, s.total, ap length (no-gate i h))
-
   pub none-printed : (out : List ℕ) (at : ℕ) → at + length (gate_bytes (map gate_of (rows_of 3 n t))) ≤ length out → Printed t n out at out at 0
   none-printed out at fits = record {
     bound = omega arith;
@@ -149,16 +141,6 @@ module _ (t : List ℕ) (n : ℕ) where
   }
 
   module _ (out₀ : List ℕ) (at : ℕ) (out : List ℕ) (next i : ℕ) (s : Printed t n out₀ at out next i) where
-    pub gate-fits : i < n → next + length (bytes_at t i) ≤ length out
-    gate-fits h = part_room s.fill (bytes_at t i) (bytes_from t (n - (i + 1)) (i + 1)) (one-gate i h)
-
-    pub one-printed : (out' : List ℕ) (next' : ℕ) → i < n → out' ≡ put out next (bytes_at t i) → next' ≡ next + length (bytes_at t i)
-        → Printed t n out₀ at out' next' (i + 1)
-    one-printed out' next' h o p = record {
-      bound = omega arith;
-      fill = part_filled s.fill (bytes_at t i) (bytes_from t (n - (i + 1)) (i + 1)) out' next' (one-gate i h) o p;
-    }
-
     pub followed-fits : i + 1 < n → next + length (bytes_at t i) + 2 ≤ length out
     followed-fits h =
         let room : next + length (bytes_from t (n - i) i) ≤ length out = s.fill.room in
@@ -184,9 +166,3 @@ module _ (t : List ℕ) (n : ℕ) where
             room = omega arith;
           });
         }
-
-    pub all-printed : n ≤ i → out ≡ put out₀ at (gate_bytes (map gate_of (rows_of 3 n t)))
-    all-printed h = all-filled s.fill (no-gate i h)
-
-    pub all-passed : n ≤ i → next ≡ at + length (gate_bytes (map gate_of (rows_of 3 n t)))
-    all-passed h = all-ends s.fill (no-gate i h)
