@@ -199,9 +199,8 @@ pub fn gates_length(gates: &[u32], n: usize) -> usize
     ensures upper_bound { result ≤ 10 * n }
 {
     let mut sum: usize = 0;
-    for i in 0..n {
-        let k = 3 * i;
-        sum += gate_length(gates[k], gates[k + 1], gates[k + 2]);
+    for gate in gates[..3 * n].chunks_exact(3) {
+        sum += gate_length(gate[0], gate[1], gate[2]);
     }
     sum
 }

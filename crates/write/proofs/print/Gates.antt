@@ -16,14 +16,13 @@ use Rattle.write.specs.print.Words.{Begun, sides_bytes, bytes_at, bytes_from}
 use Rattle.write.proofs.print.Sizes.{groups-five}
 use Rattle.write.proofs.print.Filling.{Filling, none_filled}
 
--- the first row
-row-bytes : (t : List ℕ) (i : ℕ)
-    → sides_bytes (get_or (take 3 (drop (3 * i) t)) 0 0) (get_or (take 3 (drop (3 * i) t)) 1 0) (get_or (take 3 (drop (3 * i) t)) 2 0) ≡ bytes_at t i
-row-bytes t i =
+-- a row
+pub row-bytes : (t row : List ℕ) (i : ℕ) → ((j : ℕ) → j < 3 → get_or row j 0 ≡ get_or t (3 * i + j) 0)
+    → sides_bytes (get_or row 0 0) (get_or row 1 0) (get_or row 2 0) ≡ bytes_at t i
+row-bytes t row i word =
     let z : 3 * i + 0 ≡ 3 * i = omega arith in
-    let zero_word : get_or (take 3 (drop (3 * i) t)) 0 0 ≡ get_or t (3 * i) 0 = row_word 3 t i 0 (omega arith) ∙ ap (λ (k : ℕ). get_or t k 0) z in
-    ap₂ (λ (a b : ℕ). sides_bytes a b (get_or (take 3 (drop (3 * i) t)) 2 0)) zero_word (row_word 3 t i 1 (omega arith))
-    ∙ ap (λ (c : ℕ). sides_bytes (get_or t (3 * i) 0) (get_or t (3 * i + 1) 0) c) (row_word 3 t i 2 (omega arith))
+    ap₂ (λ (a b : ℕ). sides_bytes a b (get_or row 2 0)) (word 0 (omega arith) ∙ ap (λ (k : ℕ). get_or t k 0) z) (word 1 (omega arith))
+    ∙ ap (λ (c : ℕ). sides_bytes (get_or t (3 * i) 0) (get_or t (3 * i + 1) 0) c) (word 2 (omega arith))
 
 -- gates are their bytes one after another
 rows-from : (t : List ℕ) (m i : ℕ) → gate_bytes (map gate_of (rows_of 3 m (drop (3 * i) t))) ≡ bytes_from t m i
@@ -34,7 +33,7 @@ rows-from t (suc m) i =
     let tail : drop 3 (drop (3 * i) t) ≡ drop (3 * (i + 1)) t = drop-drop 3 (3 * i) t ∙ ap (λ (k : ℕ). drop k t) place in
     let rest : List ℕ = gate_bytes (map gate_of (rows_of 3 m (drop 3 (drop (3 * i) t)))) in
     sym (append_assoc (groups_of (get_or row 0 0 - get_or row 1 0)) (groups_of (get_or row 1 0 - get_or row 2 0)) rest)
-    ∙ ap₂ (λ (x y : List ℕ). x ++ y) (row-bytes t i)
+    ∙ ap₂ (λ (x y : List ℕ). x ++ y) (row-bytes t row i (row_word 3 t i))
     (ap (λ (l : List ℕ). gate_bytes (map gate_of (rows_of 3 m l))) tail ∙ rows-from t m (i + 1))
 
 -- the groups of both differences, counted
