@@ -1,3 +1,4 @@
 pub mod Filled
 pub mod Forms
 pub mod Headers
+pub mod Copies

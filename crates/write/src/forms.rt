@@ -201,7 +201,8 @@ pub fn append(out: &mut [u8], at: usize, tail: &[u8]) -> usize
     ensures value { result ≡ at + length tail.now }
     ensures out_after { out.new ≡ put out.old at tail.now }
 {
-    let end = at + tail.len();
-    out[at..end].copy_from_slice(tail);
-    end
+    for (i, byte) in tail.iter().enumerate() {
+        out[at + i] = *byte;
+    }
+    at + tail.len()
 }
