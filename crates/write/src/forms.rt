@@ -201,6 +201,7 @@ pub fn append(out: &mut [u8], at: usize, tail: &[u8]) -> usize
     ensures value { result ≡ at + length tail.now }
     ensures out_after { out.new ≡ put out.old at tail.now }
 {
+    // `copy_from_slice` would be a call of memmove, and of other code the archive takes memset alone.
     for (i, byte) in tail.iter().enumerate() {
         out[at + i] = *byte;
     }
