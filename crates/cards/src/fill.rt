@@ -19,10 +19,8 @@ fn fill_words(file: &[u8], at: usize, n: usize, table: &mut [u32])
     requires n_in_bounds_2 { n ≤ length table.old }
     ensures { table.new ≡ put table.old 0 (words_in n (drop at file.now)) }
 {
-    let mut i = 0;
-    while i < n {
+    for i in 0..n {
         table[i] = word_at(file, at + 6 * i + 2);
-        i += 1;
     }
 }
 
@@ -34,14 +32,12 @@ fn fill_gates(file: &[u8], at: usize, n: usize, first: u32, table: &mut [u32])
     ensures { table.new ≡ put table.old 0
         (flat (map gate_line (gates_in first n (drop at file.now)))) }
 {
-    let mut i: usize = 0;
-    while i < n {
+    for i in 0..n {
         let k = 3 * i;
         let card = at + 10 * i;
         table[k] = Var::at(first + i as u32).lit().word();
         table[k + 1] = word_at(file, card + 2);
         table[k + 2] = word_at(file, card + 6);
-        i += 1;
     }
 }
 

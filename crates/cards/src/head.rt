@@ -52,14 +52,11 @@ fn check_marks(file: &[u8], letter: u8, size: usize, n: usize, at: usize) -> Che
     requires n_in_bounds { at + size * n ≤ length file.now }
     ensures { result ≡ checked_by (stage WrongMark (wrong_in letter size n at (drop at file.now))) }
 {
-    let mut next = at;
-    let mut left = n;
-    while left > 0 {
+    for i in 0..n {
+        let next = at + size * i;
         if !mark_at(file, next, letter) {
             return Checked::Refused(Refusal::WrongMark(next));
         }
-        next += size;
-        left -= 1;
     }
     Checked::Good
 }

@@ -18,14 +18,7 @@ fn all_zero(table: &[u32], n: usize) -> bool
     requires { n ≤ length table.now }
     ensures { result ≡ all_zero (take n table.now) }
 {
-    let mut i = 0;
-    while i < n {
-        if table[i] != 0 {
-            return false;
-        }
-        i += 1;
-    }
-    true
+    table[..n].iter().all(|word| *word == 0)
 }
 
 // Refusal 19: whether cards can hold a circuit of these counts with these resets and this tail.

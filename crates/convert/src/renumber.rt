@@ -41,12 +41,8 @@ pub fn renumber_column(
     ensures { to.new ≡ put to.old 0
         (firsts (column_by t.now table.now stride column) n) }
 {
-    let mut at = column;
-    let mut i = 0;
-    while i < n {
-        to[i] = renumbered(t, Lit::at(table[at])).word();
-        at += stride;
-        i += 1;
+    for i in 0..n {
+        to[i] = renumbered(t, Lit::at(table[stride * i + column])).word();
     }
 }
 
@@ -73,9 +69,7 @@ pub fn place_gates(gates: &[u32], first: usize, a: usize, t: &[u32], to: &mut [u
     ensures { (made : List ℕ) → Whole gates.now t.now first a to.old made
         → to.new ≡ made }
 {
-    let mut i = 0;
-    while i < a {
+    for i in 0..a {
         place_gate(gates, i, first, a, t, to);
-        i += 1;
     }
 }

@@ -1,9 +1,8 @@
 -- Marks: one more, those of a column, those of a walk.
-use Prim.Native.Nat.{ℕ, suc, ◌+◌, ◌*◌, ◌≤◌, ◌<◌}
+use Prim.Native.Nat.{ℕ, suc, ◌+◌, ◌≤◌, ◌<◌}
 use mathlib.Core.Path.{◌≡◌, refl, sym, ap, ◌∙◌, subst}
 use mathlib.Core.Bool.{Bool, true, false, cond, ◌||◌}
 use mathlib.Core.List.{List, [], ◌∷◌, ◌++◌}
-use native.Mathlib.Nat.{mul-zero}
 use native.Mathlib.Numerals.{add-one}
 use native.Mathlib.Omega.{arith}
 use borrow.Author.Tests.{eqb-true, eqb-false}
@@ -12,7 +11,7 @@ use lib.ListN.{length, get_or, set}
 use lib.Seq.{get_or-set_same, get_or-set_other}
 use Rattle.plan.specs.Literals.{var_of}
 use Rattle.plan.specs.Circuit.{Gate, has}
-use Rattle.laws.proofs.Tables.{firsts, next_row, gate_at, gates_at}
+use Rattle.laws.proofs.Tables.{firsts, gate_at, gates_at}
 use Rattle.plan.specs.Walk.{walk}
 use Rattle.plan.specs.Drop.{sides_of}
 use Rattle.drop.specs.Marks.{bit, Marked, var_at}
@@ -41,28 +40,16 @@ pub column-more : (f : ℕ → ℕ) (i : ℕ) (seen t : List ℕ) → Marked (f 
 column-more f i seen t m = marked-same (f i ∷ (firsts f i ++ seen)) (firsts f (suc i) ++ seen) t (λ v. has_move v (f i) (firsts f i) seen) m
 
 -- i rows of a column are marked
-pub record Column (table : List ℕ) (stride column n : ℕ) (t₀ t : List ℕ) (at i : ℕ) : Type 0 where
-  pub within : i ≤ n
+pub record Column (table : List ℕ) (stride column : ℕ) (t₀ t : List ℕ) (i : ℕ) : Type 0 where
   pub size : length t ≡ length t₀
-  pub at-is : at ≡ stride * i + column
   pub marked : (seen : List ℕ) → Marked seen t₀ → Marked (firsts (var_at table stride column) i ++ seen) t
 
-pub column-start : (table : List ℕ) (stride column n : ℕ) (t : List ℕ) → Column table stride column n t t column 0
-column-start table stride column n t = record {
-  within = omega arith;
-  size = refl;
-  at-is = omega (arith, mul-zero stride);
-  marked = λ seen m. m;
-}
-
-pub column-turn : (table : List ℕ) (stride column n : ℕ) (t₀ t t' : List ℕ) (at i v : ℕ) → i < n → v ≡ var_at table stride column i
+pub column-turn : (table : List ℕ) (stride column : ℕ) (t₀ t t' : List ℕ) (i v : ℕ) → v ≡ var_at table stride column i
     → length t' ≡ length t
-    → ((seen : List ℕ) → Marked seen t → Marked (v ∷ seen) t') → Column table stride column n t₀ t at i
-    → Column table stride column n t₀ t' (at + stride) (i + 1)
-column-turn table stride column n t₀ t t' at i v h e size f k = record {
-  within = omega arith;
+    → ((seen : List ℕ) → Marked seen t → Marked (v ∷ seen) t') → Column table stride column t₀ t i
+    → Column table stride column t₀ t' (i + 1)
+column-turn table stride column t₀ t t' i v e size f k = record {
   size = size ∙ k.size;
-  at-is = omega (arith, k.at-is, next_row stride i (stride * i) refl);
   marked = λ seen m.
       let g = var_at table stride column in
       subst (λ (j : ℕ). Marked (firsts g j ++ seen) t') (sym (add-one i))
@@ -81,9 +68,6 @@ pub record Walking (gates : List ℕ) (a : ℕ) (t₀ t : List ℕ) (k : ℕ) : 
   pub walked : (seen : List ℕ) → Marked seen t₀ → (come : List ℕ) × Marked come t
       × (walk sides_of (gates_at gates k) come ≡ walk sides_of (gates_at gates a) seen)
 
-pub walking_start : (gates : List ℕ) (a : ℕ) (t : List ℕ) → Walking gates a t t a
-walking_start gates a t = record { within = omega arith; size = refl; walked = λ seen m. (seen, m, refl) }
-
 pub walking-more : (gates : List ℕ) (a : ℕ) (t₀ t t' : List ℕ) (k j : ℕ) → k ≡ suc j → Walking gates a t₀ t k → length t' ≡ length t
     → ((seen : List ℕ) → Marked seen t → Marked (walk sides_of (gate_at gates j ∷ []) seen) t') → Walking gates a t₀ t' j
 walking-more gates a t₀ t t' k j e w size f = record {
@@ -97,12 +81,6 @@ walking-more gates a t₀ t t' k j e w size f = record {
             ∙ ap (λ (n : ℕ). walk sides_of (gates_at gates n) s.0) (sym e) ∙ s.2,
       );
 }
-
-pub walking-end : (gates : List ℕ) (a : ℕ) (t₀ t : List ℕ) (k : ℕ) → k ≡ 0 → Walking gates a t₀ t k → (seen : List ℕ) → Marked seen t₀
-    → Marked (walk sides_of (gates_at gates a) seen) t
-walking-end gates a t₀ t k e w seen m =
-    let s = w.walked seen m in
-    subst (λ (l : List ℕ). Marked l t) (ap (λ (n : ℕ). walk sides_of (gates_at gates n) s.0) (sym e) ∙ s.2) s.1
 
 -- a gate that is not marked leads nowhere, another one to both sides
 pub not-reached : (g : Gate) (seen t : List ℕ) → Marked seen t → get_or t (var_of g.lhs) 0 ≡ 0 → Marked (walk sides_of (g ∷ []) seen) t

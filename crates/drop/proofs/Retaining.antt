@@ -19,7 +19,7 @@ use Rattle.laws.proofs.Reading.Runs.{length-lits}
 use Rattle.laws.proofs.Tables.{gate_at, gates_at}
 use Rattle.lines.proofs.gates.Words.{three-put}
 use Rattle.drop.specs.Marks.{bit, Marked}
-use Rattle.drop.specs.Retained.{dropped, retain_gate, retain_gates, kept, Held, Roomy, Stepped, Retainable, Done}
+use Rattle.drop.specs.Retained.{dropped, retain_gate, retain_gates, kept, Held, Roomy, Stepped, Done}
 
 retain-snoc : (vs : List ℕ) (r : Reduced) (gs : List Gate) (g : Gate) → retain_gates vs r (gs ++ (g ∷ [])) ≡ retain_gate vs (retain_gates vs r gs) g
 retain-snoc vs r [] g = refl
@@ -170,18 +170,6 @@ going_start gates to t base a = record {
     retained = sym (put-none to 0);
     same = refl;
   };
-}
-
-pub going-room : {gates to₀ t₁ t₀ to t : List ℕ} {base a k n : ℕ} → Retainable gates to₀ t₁ base a → length t₀ ≡ length t₁ → k < a
-    → Going gates to₀ t₀ to t base a k n
-    → Roomy gates to t base k n
-going-room {gates} {to₀} {t₁} {t₀} {to} {t} {base} {a} {k} {n} p same lt g = record {
-  within = omega (arith, p.few);
-  few = g.few;
-  gates-long = omega (arith, p.gates-long);
-  to-long = omega (arith, p.to-long, g.to-long, g.few);
-  t-long = omega (arith, p.t-long, g.t-long);
-  in_place = p.in_place k lt;
 }
 
 pub going_more : {gates to₀ t₀ to t to' t' : List ℕ} {base a k n r : ℕ} → k < a → length to' ≡ length to → length t' ≡ length t

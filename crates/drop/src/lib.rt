@@ -37,12 +37,8 @@ fn mark_column(table: &[u32], stride: usize, start: usize, n: usize, t: &mut [u3
     ensures { (seen : List ℕ) → Marked seen t.old
         → Marked (column table.now stride start n ++ seen) t.new }
 {
-    let mut at = start;
-    let mut i = 0;
-    while i < n {
-        mark(Lit::at(table[at]), t);
-        at += stride;
-        i += 1;
+    for i in 0..n {
+        mark(Lit::at(table[stride * i + start]), t);
     }
 }
 
@@ -68,9 +64,7 @@ fn reach(gates: &[u32], a: usize, t: &mut [u32])
     ensures { (seen : List ℕ) → Marked seen t.old
         → Marked (walk sides_of (gates_at gates.now a) seen) t.new }
 {
-    let mut k = a;
-    while k > 0 {
-        k -= 1;
+    for k in (0..a).rev() {
         reach_from(gates, k, t);
     }
 }
@@ -112,10 +106,8 @@ fn retain_gates(gates: &[u32], base: usize, a: usize, to: &mut [u32], t: &mut [u
 {
     run_on(t, 0, base);
     let mut n = 0;
-    let mut k = 0;
-    while k < a {
+    for k in 0..a {
         n = retain_gate(gates, base, k, n, to, t);
-        k += 1;
     }
     n
 }

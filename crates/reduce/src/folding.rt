@@ -113,10 +113,8 @@ fn begin(scratch: &mut [u32], n: usize)
     requires { (n ≤ length scratch.old) × (n ≤ most + 1) }
     ensures { scratch.new ≡ lits_from 0 n ++ drop n scratch.old }
 {
-    let mut v = 0;
-    while v < n {
+    for v in 0..n {
         scratch[v] = Var::at(v as u32).lit().word();
-        v += 1;
     }
 }
 
@@ -125,10 +123,8 @@ fn name_gates(to: &mut [u32], base: usize, n: usize)
     requires { (3 * n ≤ length to.old) × (base + n ≤ most + 1) }
     ensures { to.new ≡ put to.old 0 (flat (map gate_line (named base to.old n))) }
 {
-    let mut i = 0;
-    while i < n {
+    for i in 0..n {
         to[3 * i] = left_side(base, i).word();
-        i += 1;
     }
 }
 
@@ -147,10 +143,8 @@ pub fn fold_gates(
     begin(scratch, base);
     let w = base + a;
     let mut n = 0;
-    let mut k = 0;
-    while k < a {
+    for k in 0..a {
         n = fold_gate(gates, base, w, k, n, to, scratch);
-        k += 1;
     }
     name_gates(to, base, n);
     n

@@ -20,10 +20,8 @@ fn all_become(table: &[u32], n: usize, became: &[u32], to: &mut [u32])
     requires { Replaceable n table.now became.now to.old }
     ensures { to.new ≡ replaced n table.now became.now to.old }
 {
-    let mut i = 0;
-    while i < n {
+    for i in 0..n {
         to[i] = becomes(became, Lit::at(table[i])).word();
-        i += 1;
     }
 }
 

@@ -3,6 +3,7 @@ pub mod Lines
 pub mod Filling
 pub mod Sizes
 pub mod Begun
+pub mod Rows
 pub mod Turns
 pub mod Gates
 pub mod Latches

@@ -201,10 +201,9 @@ pub fn append(out: &mut [u8], at: usize, tail: &[u8]) -> usize
     ensures value { result ≡ at + length tail.now }
     ensures out_after { out.new ≡ put out.old at tail.now }
 {
-    let mut i = 0;
-    while i < tail.len() {
-        out[at + i] = tail[i];
-        i += 1;
+    // `copy_from_slice` would be a call of memmove, and of other code the archive takes memset alone.
+    for (i, byte) in tail.iter().enumerate() {
+        out[at + i] = *byte;
     }
-    at + i
+    at + tail.len()
 }

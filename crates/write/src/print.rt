@@ -41,12 +41,9 @@ pub fn lines_length(table: &[u32], k: usize, n: usize) -> usize
     ensures value { result ≡ length (lines_of (rows_of k n table.now)) }
     ensures upper_bound { result ≤ 11 * (k * n) }
 {
-    let words = k * n;
     let mut sum: usize = 0;
-    let mut i = 0;
-    while i < words {
-        sum = sum + numbers::digits_in(table[i] as usize) + 1;
-        i += 1;
+    for word in &table[..k * n] {
+        sum += numbers::digits_in(*word as usize) + 1;
     }
     sum
 }
@@ -71,15 +68,12 @@ pub fn write_lines(out: &mut [u8], at: usize, table: &[u32], k: usize, n: usize)
     ensures value { result ≡ at + length (lines_of (rows_of k n table.now)) }
     ensures out_after { out.new ≡ put out.old at (lines_of (rows_of k n table.now)) }
 {
-    let words = k * n;
     let last = k - 1;
     let mut next = at;
     let mut left = last;
-    let mut i = 0;
-    while i < words {
-        next = write_word(out, next, table[i], left);
+    for word in &table[..k * n] {
+        next = write_word(out, next, *word, left);
         left = following(last, left);
-        i += 1;
     }
     next
 }
@@ -117,11 +111,9 @@ pub fn latches_length(binary: bool, latches: &[u32], resets: &[u32], n: usize) -
     ensures upper_bound { result ≤ 33 * n }
 {
     let mut sum: usize = 0;
-    let mut i = 0;
-    while i < n {
+    for i in 0..n {
         let k = 2 * i;
         sum += latch_length(binary, latches[k], latches[k + 1], resets[i]);
-        i += 1;
     }
     sum
 }
@@ -177,11 +169,9 @@ pub fn write_latches(
         (lines_of (latch_rows binary n latches.now resets.now)) }
 {
     let mut next = at;
-    let mut i = 0;
-    while i < n {
+    for i in 0..n {
         let k = 2 * i;
         next = write_latch(out, next, binary, latches[k], latches[k + 1], resets[i]);
-        i += 1;
     }
     next
 }
@@ -209,11 +199,8 @@ pub fn gates_length(gates: &[u32], n: usize) -> usize
     ensures upper_bound { result ≤ 10 * n }
 {
     let mut sum: usize = 0;
-    let mut i = 0;
-    while i < n {
-        let k = 3 * i;
-        sum += gate_length(gates[k], gates[k + 1], gates[k + 2]);
-        i += 1;
+    for gate in gates[..3 * n].chunks_exact(3) {
+        sum += gate_length(gate[0], gate[1], gate[2]);
     }
     sum
 }
@@ -276,16 +263,14 @@ pub fn write_gates(out: &mut [u8], at: usize, gates: &[u32], n: usize) -> usize
     ensures out_after { out.new ≡ put out.old at
         (gate_bytes (map gate_of (rows_of 3 n gates.now))) }
 {
+    if n == 0 {
+        return at;
+    }
     let mut next = at;
-    let mut i = 0;
-    while i + 1 < n {
+    for i in 0..n - 1 {
         let k = 3 * i;
         next = begin_gate(out, next, gates[k], gates[k + 1], gates[k + 2]);
-        i += 1;
     }
-    if i == n {
-        return next;
-    }
-    let last = 3 * i;
+    let last = 3 * (n - 1);
     write_gate(out, next, gates[last], gates[last + 1], gates[last + 2])
 }

@@ -9,7 +9,7 @@ use lib.Seq.{drop-drop}
 use Rattle.plan.specs.Literals.{lit_of}
 use Rattle.plan.specs.Circuit.{Gate, flat, gate_line}
 use Rattle.plan.specs.Outcome.{put}
-use Rattle.laws.proofs.Put.{put-none, put_one, put-put}
+use Rattle.laws.proofs.Put.{put_one, put-put}
 use Rattle.laws.proofs.Writing.Holding.{length-gate-words}
 use Rattle.lines.proofs.gates.Words.{three-put}
 use Rattle.plan.specs.Cards.{word, word_at, words_in, gates_in}
@@ -34,9 +34,6 @@ pub record Worded (file : List ℕ) (at n : ℕ) (table₀ table : List ℕ) (i 
   pub same : length table ≡ length table₀
 
 module _ (file : List ℕ) (at n : ℕ) (table₀ : List ℕ) where
-  pub none-worded : Worded file at n table₀ table₀ 0
-  none-worded = record { bound = omega arith; table_is = sym (put-none table₀ 0); same = refl }
-
   module _ (table : List ℕ) (i : ℕ) (s : Worded file at n table₀ table i) where
     pub one-worded : n ≤ length table₀ → i < n → (w : ℕ) → w ≡ word_at file (at + 6 * i + 2)
         → Worded file at n table₀ (set table i w) (i + 1)
@@ -59,11 +56,6 @@ module _ (file : List ℕ) (at n : ℕ) (table₀ : List ℕ) where
               ∙ ap (put table₀ 0) (sym (words_last i l) ∙ ap (λ (k : ℕ). words_in k l) (sym (add-one i))))));
           same = simp length-set s.same;
         }
-
-    pub all-worded : n ≤ i → table ≡ put table₀ 0 (words_in n (drop at file))
-    all-worded h =
-        let i-is : i ≡ n = omega (arith, s.bound) in
-        s.table_is ∙ ap (λ (k : ℕ). put table₀ 0 (words_in k (drop at file))) i-is
 
 -- gates of records of two
 abbrev gate_at : ℕ → ℕ → List ℕ → Gate
@@ -93,9 +85,6 @@ pub record Gated (file : List ℕ) (at n first : ℕ) (table₀ table : List ℕ
   pub same : length table ≡ length table₀
 
 module _ (file : List ℕ) (at n first : ℕ) (table₀ : List ℕ) where
-  pub none-gated : Gated file at n first table₀ table₀ 0
-  none-gated = record { bound = omega arith; table_is = sym (put-none table₀ 0); same = refl }
-
   module _ (table : List ℕ) (i : ℕ) (s : Gated file at n first table₀ table i) where
     pub one-gated : 3 * n ≤ length table₀ → i < n → (x y z : ℕ) → x ≡ lit_of (first + i) → y ≡ word_at file (at + 10 * i + 2)
         → z ≡ word_at file (at + 10 * i + 6)
@@ -122,8 +111,3 @@ module _ (file : List ℕ) (at n first : ℕ) (table₀ : List ℕ) where
               ∙ ap (λ (gs : List Gate). flat (map gate_line gs)) (sym (gates-last first i l) ∙ ap (λ (k : ℕ). gates_in first k l) (sym (add-one i)))))));
           same = simp length-set s.same;
         }
-
-    pub all-gated : n ≤ i → table ≡ put table₀ 0 (flat (map gate_line (gates_in first n (drop at file))))
-    all-gated h =
-        let i-is : i ≡ n = omega (arith, s.bound) in
-        s.table_is ∙ ap (λ (k : ℕ). put table₀ 0 (flat (map gate_line (gates_in first k (drop at file))))) i-is

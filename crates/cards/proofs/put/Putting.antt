@@ -8,7 +8,7 @@ use lib.ListN.{length, get_or, take, length-append}
 use lib.Seq.{take-suc, length-take-le}
 use Rattle.plan.specs.Circuit.{Gate, Latch, latch_of, gate_of, rows_of, nexts}
 use Rattle.plan.specs.Outcome.{put}
-use Rattle.laws.proofs.Put.{put-none, put-put}
+use Rattle.laws.proofs.Put.{put-put}
 use Rattle.laws.proofs.Tables.{firsts, length-firsts, gate_at, gates-rows, latch_at, latches-rows}
 use Rattle.laws.proofs.Reading.Runs.{length-nexts}
 use Rattle.plan.specs.Cards.{mark_bytes, word_bytes, word_cards, gate_cards}
@@ -27,14 +27,6 @@ pub record Put (out₀ : List ℕ) (at : ℕ) (part : ℕ → List ℕ) (n : ℕ
   pub out-is : out ≡ put out₀ at (part i)
   pub same : length out ≡ length out₀
 
-pub none-put : (out₀ : List ℕ) (at : ℕ) (part : ℕ → List ℕ) (n : ℕ) → part 0 ≡ [] → Put out₀ at part n out₀ at 0
-none-put out₀ at part n e = record {
-  bound = omega arith;
-  next-is = omega (arith, ap length e);
-  out-is = sym (ap (put out₀ at) e ∙ put-none out₀ at);
-  same = refl;
-}
-
 module _ (out₀ : List ℕ) (at : ℕ) (part : ℕ → List ℕ) (n : ℕ) (out : List ℕ) (next i : ℕ) (s : Put out₀ at part n out next i) where
   pub one-put : i < n → (bytes : List ℕ) → part (i + 1) ≡ part i ++ bytes → at + length (part (i + 1)) ≤ length out₀
       → (out' : List ℕ) (next' : ℕ) → out' ≡ put out next bytes → next' ≡ next + length bytes → length out' ≡ length out
@@ -48,11 +40,6 @@ module _ (out₀ : List ℕ) (at : ℕ) (part : ℕ → List ℕ) (n : ℕ) (out
         out-is = two-parts out₀ out out' (part i) bytes at next s.out-is s.next-is o fits ∙ ap (put out₀ at) (sym grows);
         same = l ∙ s.same;
       }
-
-  pub all-put : n ≤ i → (next ≡ at + length (part n)) × (out ≡ put out₀ at (part n))
-  all-put h =
-      let i-is : i ≡ n = omega (arith, s.bound) in
-      (s.next-is ∙ ap (λ (k : ℕ). at + length (part k)) i-is, s.out-is ∙ ap (λ (k : ℕ). put out₀ at (part k)) i-is)
 
 -- one record more
 words_snoc : (letter : ℕ) (ws : List ℕ) (w : ℕ) → word_cards letter (ws ++ (w ∷ [])) ≡ word_cards letter ws ++ (mark_bytes letter ++ word_bytes w)

@@ -1,15 +1,14 @@
 -- 19 over given tables, and the writer's answer by the checks before it.
-use Prim.Native.Nat.{ℕ, suc, ◌+◌, ◌-◌, ◌^◌, ◌<◌, ◌≤◌, min}
-use mathlib.Core.Path.{◌≡◌, sym, ap, ap₂, ◌∙◌}
+use Prim.Native.Nat.{ℕ, ◌+◌, ◌-◌, ◌^◌, ◌≤◌, min}
+use mathlib.Core.Path.{◌≡◌, refl, sym, ap, ap₂, ◌∙◌}
 use mathlib.Core.Bool.{Bool, true, false, ◌&&◌}
 use mathlib.Core.Option.{Option, none, some}
 use mathlib.Core.List.{List, [], ◌∷◌, ◌++◌}
 use native.Mathlib.Omega.{arith}
-use native.Mathlib.Numerals.{add-one}
 use borrow.Author.Tests.{eq-eqb, ne_eqb, leb-true, leb-false}
 use lib.Dec.{eqb, leb}
-use lib.ListN.{length, get_or, take, drop, length-append}
-use lib.Seq.{drop-cons}
+use lib.ListN.{length, take, length-append}
+use Rattle.std.specs.List.{list_all}
 use Rattle.plan.specs.declared.Counts.{Counts}
 use Rattle.plan.specs.declared.Refusal.{Refusal}
 use Rattle.plan.specs.declared.Refusal.TheVariants.{NotOnCards, ShortBuffer}
@@ -29,34 +28,10 @@ use Rattle.cards.specs.put.Parts.{latch_cards, output_cards, gates_cards, table_
 use Rattle.cards.proofs.put.Putting.{latches-size, outputs-size, gates-size}
 use Rattle.cards.specs.writing.Held.{holdable_in}
 
--- the loop over words: the answer from here on
-pub record Zeros (table : List ℕ) (n i : ℕ) : Type 0 where
-  pub bound : i ≤ n
-  pub whole : all_zero (take n table) ≡ all_zero (take (n - i) (drop i table))
-
-pub none_seen : (table : List ℕ) (n : ℕ) → Zeros table n 0
-none_seen table n = let e : n ≡ n - 0 = omega arith in
-    record { bound = omega arith; whole = ap (λ (k : ℕ). all_zero (take k table)) e }
-
-module _ (table : List ℕ) (n i : ℕ) (s : Zeros table n i) (long : n ≤ length table) where
-  turn : i < n → all_zero (take n table) ≡ (eqb (get_or table i 0) 0 && all_zero (take (n - (i + 1)) (drop (i + 1) table)))
-  turn h =
-      let e : n - i ≡ suc (n - (i + 1)) = omega arith in
-      s.whole
-      ∙ (ap₂ (λ (k : ℕ) (l : List ℕ). all_zero (take k l)) e (drop-cons table i 0 (omega arith))
-      ∙ ap (λ (k : ℕ). eqb (get_or table i 0) 0 && all_zero (take (n - (i + 1)) (drop k table))) (sym (add-one i)))
-
-  pub not-zero : i < n → (get_or table i 0 ≡ 0 → ⊥) → false ≡ all_zero (take n table)
-  not-zero h k = sym (turn h ∙ ap (λ (b : Bool). b && all_zero (take (n - (i + 1)) (drop (i + 1) table))) (ne_eqb _ _ k))
-
-  pub one_seen : i < n → get_or table i 0 ≡ 0 → Zeros table n (i + 1)
-  one_seen h k = record {
-    bound = omega arith;
-    whole = turn h ∙ ap (λ (b : Bool). b && all_zero (take (n - (i + 1)) (drop (i + 1) table))) (eq-eqb _ _ k);
-  }
-
-  pub all_seen : n ≤ i → true ≡ all_zero (take n table)
-  all_seen h = let e : n - i ≡ 0 = omega arith in sym (s.whole ∙ ap (λ (k : ℕ). all_zero (take k (drop i table))) e)
+-- whether all words are 0, test by test
+pub zeros-tested : (l : List ℕ) → list_all (λ (w : ℕ). eqb w 0) l ≡ all_zero l
+zeros-tested [] = refl
+zeros-tested (w ∷ ws) = ap (λ (b : Bool). eqb w 0 && b) (zeros-tested ws)
 
 -- what cards can hold, test by test
 module _ (n : Counts) (resets tail : List ℕ) where

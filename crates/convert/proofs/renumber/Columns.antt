@@ -1,12 +1,12 @@
 -- The loop that writes one word for each row: one word more.
 use Prim.Native.Nat.{ℕ, ◌+◌, ◌<◌, ◌≤◌}
-use mathlib.Core.Path.{◌≡◌, refl, sym, ap, ap₂, ◌∙◌}
+use mathlib.Core.Path.{◌≡◌, sym, ap, ap₂, ◌∙◌}
 use mathlib.Core.List.{List, [], ◌∷◌, ◌++◌}
 use native.Mathlib.Omega.{arith}
 use native.Mathlib.Numerals.{add-one}
 use lib.ListN.{length, set, length-append, length-set}
 use Rattle.plan.specs.Outcome.{put}
-use Rattle.laws.proofs.Put.{put-none, put_one, put-put}
+use Rattle.laws.proofs.Put.{put_one, put-put}
 use Rattle.laws.proofs.Tables.{firsts, length-firsts}
 
 module _ (at : ℕ → ℕ) (n : ℕ) (to₀ : List ℕ) where
@@ -15,9 +15,6 @@ module _ (at : ℕ → ℕ) (n : ℕ) (to₀ : List ℕ) where
     pub bound : i ≤ n
     pub whole : to ≡ put to₀ 0 (firsts at i)
     pub same : length to ≡ length to₀
-
-  pub none_written : Written to₀ 0
-  none_written = record { bound = omega arith; whole = sym (put-none to₀ 0); same = refl }
 
   pub one_written : n ≤ length to₀ → (to : List ℕ) (i : ℕ) → Written to i → i < n → (x : ℕ) → x ≡ at i → Written (set to i x) (i + 1)
   one_written room to i s h x e =
@@ -35,6 +32,3 @@ module _ (at : ℕ → ℕ) (n : ℕ) (to₀ : List ℕ) where
             ∙ (put-put to₀ 0 before (at i ∷ []) fits ∙ ap (λ (k : ℕ). put to₀ 0 (firsts at k)) (sym (add-one i)))));
         same = length-set to i x ∙ s.same;
       }
-
-  pub all-written : (to : List ℕ) (i : ℕ) → Written to i → n ≤ i → to ≡ put to₀ 0 (firsts at n)
-  all-written to i s h = let all : i ≡ n = omega (arith, s.bound) in s.whole ∙ ap (λ (k : ℕ). put to₀ 0 (firsts at k)) all

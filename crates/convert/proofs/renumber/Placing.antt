@@ -78,14 +78,6 @@ module _ (gates t : List ℕ) (first a : ℕ) (to₀ : List ℕ) where
     pub rows : (made : List ℕ) → Whole gates t first a to₀ made → (j : ℕ) → j < i → RightRow made to (row j)
     pub rest : (made : List ℕ) → Whole gates t first a to₀ made → (q : ℕ) → 3 * a ≤ q → Right made to q
 
-  pub none-placed : Placed to₀ 0
-  none-placed = record {
-    bound = omega arith;
-    same = refl;
-    rows = λ made w j h. absurd (omega arith);
-    rest = λ made w q h. sym (w.rest q h);
-  }
-
   module _ (room : 3 * a ≤ length to₀) (to : List ℕ) (i : ℕ) (p : Placed to i) (h : i < a)
       (able : Placeable t first a (gate_at gates i)) where
     row_below : row i < a

@@ -1,19 +1,18 @@
--- The first n literals of a table, each replaced by what it became. The loop keeps `(i ≤ n) × (length to ≡ length to₀) × (to ≡ done table became to₀
--- i)`; the measure is `n - i`. `one_more` carries it from turn to turn, and `done` gives the answer.
-use Prim.Native.Nat.{ℕ, ◌-◌}
-use mathlib.Core.Path.{◌≡◌, refl, ap, ap₂, ◌∙◌}
+-- Each turn replaces one literal.
+use Prim.Native.Nat.{ℕ}
+use mathlib.Core.Path.{◌≡◌, ap, ap₂, ◌∙◌}
 use mathlib.Core.List.{List}
 use native.Mathlib.Omega.{arith}
-use lib.ListN.{length, get_or, set, take, length-set}
+use lib.ListN.{length, get_or, set, take}
 use lib.Seq.{get_or-take, length-take-le}
 use Rattle.plan.specs.declared.Lit.{Lit}
 use Rattle.plan.specs.Literals.{word_of, var_of}
 use Rattle.plan.specs.Reduce.{becomes}
-use Rattle.reduce.proofs.Replaced.{bounded_at, done, none_done, one_more}
+use Rattle.reduce.proofs.Replaced.{bounded_at, none_done, one_more}
 use Rattle.reduce.proofs.all_become.Goals as goal
 
 pub loop-i-init : goal.loop-i-init
-loop-i-init c = let a = c.args in (omega arith, refl, none_done a.table.now a.became.now a.to.now)
+loop-i-init c = let a = c.args in none_done a.table.now a.became.now a.to.now
 
 pub becomes-requires : goal.becomes-requires
 becomes-requires c =
@@ -28,18 +27,6 @@ loop-i-preserved c =
     let a = c.args in
     let word : c.word.result ≡ becomes a.became.now (get_or a.table.now c.loop-i.i 0)
     = c.word.ensures ∙ ap word_of c.becomes.ensures
-    ∙ ap (λ (x : Lit). becomes a.became.now (word_of x)) c.at.ensures in (
-      omega arith,
-      length-set c.loop-i.to c.loop-i.i c.word.result ∙ c.loop-i.invariant.1,
-      ap₂ (λ (t : List ℕ) (x : ℕ). set t c.loop-i.i x) c.loop-i.invariant.2 word
-          ∙ one_more a.table.now a.became.now a.to.now c.loop-i.i (omega arith) (omega arith),
-    )
-
-pub shape_of-to : goal.shape_of-to
-shape_of-to c = c.loop-i.invariant.1
-
-pub returns : goal.returns
-returns c =
-    let a = c.args in
-    let e : c.loop-i.i ≡ a.n = omega arith in
-    c.loop-i.invariant.2 ∙ ap (done a.table.now a.became.now a.to.now) e
+    ∙ ap (λ (x : Lit). becomes a.became.now (word_of x)) c.at.ensures in
+    ap₂ (λ (t : List ℕ) (x : ℕ). set t c.loop-i.i x) c.loop-i.invariant word
+    ∙ one_more a.table.now a.became.now a.to.now c.loop-i.i (omega arith) (omega arith)

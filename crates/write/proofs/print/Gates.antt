@@ -1,7 +1,7 @@
 -- The loops over gates: one turn takes one gate.
 use Prim.Native.Nat.{ℕ, suc, zero, ◌+◌, ◌*◌, ◌-◌, ◌^◌, ◌<◌, ◌≤◌}
 use mathlib.Core.Path.{◌≡◌, refl, sym, ap, ap₂, subst, ◌∙◌}
-use mathlib.Core.List.{List, [], ◌++◌, map, append_assoc}
+use mathlib.Core.List.{List, ◌++◌, map, append_assoc}
 use native.Mathlib.Omega.{arith}
 use lib.ListN.{length, get_or, take, drop, length-append}
 use lib.Seq.{drop-drop}
@@ -14,16 +14,15 @@ use Rattle.laws.proofs.Put.{put-put, put-length}
 use Rattle.laws.proofs.Reading.Differences.{groups-some}
 use Rattle.write.specs.print.Words.{Begun, sides_bytes, bytes_at, bytes_from}
 use Rattle.write.proofs.print.Sizes.{groups-five}
-use Rattle.write.proofs.print.Filling.{Filling, none_filled, part_room, part_filled, all-filled, all-ends}
+use Rattle.write.proofs.print.Filling.{Filling, none_filled}
 
--- the first row
-row-bytes : (t : List ℕ) (i : ℕ)
-    → sides_bytes (get_or (take 3 (drop (3 * i) t)) 0 0) (get_or (take 3 (drop (3 * i) t)) 1 0) (get_or (take 3 (drop (3 * i) t)) 2 0) ≡ bytes_at t i
-row-bytes t i =
+-- a row
+pub row-bytes : (t row : List ℕ) (i : ℕ) → ((j : ℕ) → j < 3 → get_or row j 0 ≡ get_or t (3 * i + j) 0)
+    → sides_bytes (get_or row 0 0) (get_or row 1 0) (get_or row 2 0) ≡ bytes_at t i
+row-bytes t row i word =
     let z : 3 * i + 0 ≡ 3 * i = omega arith in
-    let zero_word : get_or (take 3 (drop (3 * i) t)) 0 0 ≡ get_or t (3 * i) 0 = row_word 3 t i 0 (omega arith) ∙ ap (λ (k : ℕ). get_or t k 0) z in
-    ap₂ (λ (a b : ℕ). sides_bytes a b (get_or (take 3 (drop (3 * i) t)) 2 0)) zero_word (row_word 3 t i 1 (omega arith))
-    ∙ ap (λ (c : ℕ). sides_bytes (get_or t (3 * i) 0) (get_or t (3 * i + 1) 0) c) (row_word 3 t i 2 (omega arith))
+    ap₂ (λ (a b : ℕ). sides_bytes a b (get_or row 2 0)) (word 0 (omega arith) ∙ ap (λ (k : ℕ). get_or t k 0) z) (word 1 (omega arith))
+    ∙ ap (λ (c : ℕ). sides_bytes (get_or t (3 * i) 0) (get_or t (3 * i + 1) 0) c) (word 2 (omega arith))
 
 -- gates are their bytes one after another
 rows-from : (t : List ℕ) (m i : ℕ) → gate_bytes (map gate_of (rows_of 3 m (drop (3 * i) t))) ≡ bytes_from t m i
@@ -34,7 +33,7 @@ rows-from t (suc m) i =
     let tail : drop 3 (drop (3 * i) t) ≡ drop (3 * (i + 1)) t = drop-drop 3 (3 * i) t ∙ ap (λ (k : ℕ). drop k t) place in
     let rest : List ℕ = gate_bytes (map gate_of (rows_of 3 m (drop 3 (drop (3 * i) t)))) in
     sym (append_assoc (groups_of (get_or row 0 0 - get_or row 1 0)) (groups_of (get_or row 1 0 - get_or row 2 0)) rest)
-    ∙ ap₂ (λ (x y : List ℕ). x ++ y) (row-bytes t i)
+    ∙ ap₂ (λ (x y : List ℕ). x ++ y) (row-bytes t row i (row_word 3 t i))
     (ap (λ (l : List ℕ). gate_bytes (map gate_of (rows_of 3 m l))) tail ∙ rows-from t m (i + 1))
 
 -- the groups of both differences, counted
@@ -104,11 +103,6 @@ module _ (t : List ℕ) (n : ℕ) where
       let more : n - i ≡ suc (n - (i + 1)) = omega arith in
       ap (λ (m : ℕ). bytes_from t m i) more
 
-  no-gate : (i : ℕ) → n ≤ i → bytes_from t (n - i) i ≡ []
-  no-gate i h =
-      let none : n - i ≡ 0 = omega arith in
-      ap (λ (m : ℕ). bytes_from t m i) none
-
   -- a gate that follows has two bytes at least
   two-left : (i : ℕ) → i + 1 < n → 2 ≤ length (bytes_from t (n - (i + 1)) (i + 1))
   two-left i h =
@@ -137,9 +131,6 @@ module _ (t : List ℕ) (n : ℕ) where
       let total : sum + d + length rest ≡ length (gate_bytes (map gate_of (rows_of 3 n t))) = omega arith in
       record { bound = omega arith; few = omega arith; total = total }
 
-  pub all-counted : (sum i : ℕ) → Counted t n sum i → n ≤ i → sum ≡ length (gate_bytes (map gate_of (rows_of 3 n t)))
-  all-counted sum i s h = omega (arith, s.total, ap length (no-gate i h))
-
   pub none-printed : (out : List ℕ) (at : ℕ) → at + length (gate_bytes (map gate_of (rows_of 3 n t))) ≤ length out → Printed t n out at out at 0
   none-printed out at fits = record {
     bound = omega arith;
@@ -149,16 +140,6 @@ module _ (t : List ℕ) (n : ℕ) where
   }
 
   module _ (out₀ : List ℕ) (at : ℕ) (out : List ℕ) (next i : ℕ) (s : Printed t n out₀ at out next i) where
-    pub gate-fits : i < n → next + length (bytes_at t i) ≤ length out
-    gate-fits h = part_room s.fill (bytes_at t i) (bytes_from t (n - (i + 1)) (i + 1)) (one-gate i h)
-
-    pub one-printed : (out' : List ℕ) (next' : ℕ) → i < n → out' ≡ put out next (bytes_at t i) → next' ≡ next + length (bytes_at t i)
-        → Printed t n out₀ at out' next' (i + 1)
-    one-printed out' next' h o p = record {
-      bound = omega arith;
-      fill = part_filled s.fill (bytes_at t i) (bytes_from t (n - (i + 1)) (i + 1)) out' next' (one-gate i h) o p;
-    }
-
     pub followed-fits : i + 1 < n → next + length (bytes_at t i) + 2 ≤ length out
     followed-fits h =
         let room : next + length (bytes_from t (n - i) i) ≤ length out = s.fill.room in
@@ -184,9 +165,3 @@ module _ (t : List ℕ) (n : ℕ) where
             room = omega arith;
           });
         }
-
-    pub all-printed : n ≤ i → out ≡ put out₀ at (gate_bytes (map gate_of (rows_of 3 n t)))
-    all-printed h = all-filled s.fill (no-gate i h)
-
-    pub all-passed : n ≤ i → next ≡ at + length (gate_bytes (map gate_of (rows_of 3 n t)))
-    all-passed h = all-ends s.fill (no-gate i h)

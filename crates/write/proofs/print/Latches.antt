@@ -14,7 +14,7 @@ use Rattle.laws.proofs.Put.{put-put, put-length}
 use Rattle.write.specs.print.Words.{word_bytes}
 use Rattle.write.specs.print.Latches.{next_line, latch_bytes, latch_rows, latch_bytes_at, latch_bytes_from}
 use Rattle.write.proofs.print.Sizes.{digits-ten}
-use Rattle.write.proofs.print.Filling.{Filling, none_filled, part_room, part_filled, all-filled, all-ends}
+use Rattle.write.proofs.print.Filling.{Filling, none_filled, part_room, part_filled}
 
 -- a next state whose reset is 0; one whose reset is not, and a current state before either
 pub next-alone : (next reset : ℕ) → reset ≡ 0 → next_line next reset ≡ word_bytes 0 next
@@ -137,11 +137,6 @@ module _ (b : Bool) (t rs : List ℕ) (n : ℕ) where
       let more : n - i ≡ suc (n - (i + 1)) = omega arith in
       ap (λ (m : ℕ). latch_bytes_from b t rs m i) more
 
-  no-latch : (i : ℕ) → n ≤ i → latch_bytes_from b t rs (n - i) i ≡ []
-  no-latch i h =
-      let none : n - i ≡ 0 = omega arith in
-      ap (λ (m : ℕ). latch_bytes_from b t rs m i) none
-
   pub none-counted : n ≤ length rs → Counted b t rs n 0 0
   none-counted h = record { bound = omega arith; few = omega arith; total = omega (arith, ap length (whole h)) }
 
@@ -154,9 +149,6 @@ module _ (b : Bool) (t rs : List ℕ) (n : ℕ) where
       let few : sum ≤ 33 * i = s.few in
       let total : sum + d + length (rest i) ≡ length (lines_of (latch_rows b n t rs)) = omega arith in
       record { bound = omega arith; few = omega arith; total = total }
-
-  pub all-counted : (sum i : ℕ) → Counted b t rs n sum i → n ≤ i → sum ≡ length (lines_of (latch_rows b n t rs))
-  all-counted sum i s h = omega (arith, s.total, ap length (no-latch i h))
 
   pub none-printed : (out : List ℕ) (at : ℕ) → n ≤ length rs → at + length (lines_of (latch_rows b n t rs)) ≤ length out
       → Printed b t rs n out at out at 0
@@ -177,9 +169,3 @@ module _ (b : Bool) (t rs : List ℕ) (n : ℕ) where
       bound = omega arith;
       fill = part_filled s.fill (latch_bytes_at b t rs i) (rest i) out' next' (one-latch i h) o p;
     }
-
-    pub all-printed : n ≤ i → out ≡ put out₀ at (lines_of (latch_rows b n t rs))
-    all-printed h = all-filled s.fill (no-latch i h)
-
-    pub all-passed : n ≤ i → next ≡ at + length (lines_of (latch_rows b n t rs))
-    all-passed h = all-ends s.fill (no-latch i h)

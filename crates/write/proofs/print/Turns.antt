@@ -3,14 +3,15 @@ use Prim.Native.Nat.{ℕ, suc, ◌+◌, ◌*◌, ◌-◌, ◌<◌, ◌≤◌}
 use mathlib.Core.Path.{◌≡◌, refl, sym, ap, ap₂, subst, ◌∙◌}
 use mathlib.Core.List.{List, [], ◌∷◌, ◌++◌}
 use native.Mathlib.Omega.{arith}
-use lib.ListN.{length, get_or, set, length-append}
+use lib.ListN.{length, get_or, set, take, length-append}
+use lib.Seq.{get_or-take, length-take-le}
 use Rattle.plan.specs.Circuit.{rows_of}
 use Rattle.plan.specs.Bytes.{digits, end_of, lines_of}
 use Rattle.plan.specs.Outcome.{put}
 use Rattle.laws.proofs.Put.{put_one, put-put, put-length}
 use Rattle.write.specs.print.Words.{following, word_bytes, words_from}
 use Rattle.write.proofs.print.Lines.{lines-words}
-use Rattle.write.proofs.print.Filling.{Filling, none_filled, part_room, part_filled, all-filled, all-ends}
+use Rattle.write.proofs.print.Filling.{Filling, none_filled, part_room, part_filled}
 
 word-length : (j w : ℕ) → length (word_bytes j w) ≡ length (digits w) + 1
 word-length j w = length-append (digits w) (end_of j ∷ [])
@@ -31,6 +32,10 @@ module _ (out : List ℕ) (at j w : ℕ) (fits : at + length (word_bytes j w) �
         ap (λ (l : List ℕ). set l end byte) o
         ∙ (ap₂ (λ (k b : ℕ). set (put out at d) k b) e b
         ∙ (put_one (put out at d) (at + length d) (end_of j) (omega (arith, fits, word-length j w)) ∙ put-put out at d (end_of j ∷ []) fits))
+
+-- a word of the first ones of a table
+pub word_taken : (t : List ℕ) (m i : ℕ) → m ≤ length t → i < length (take m t) → (i < m) × (get_or (take m t) i 0 ≡ get_or t i 0)
+word_taken t m i inside h = let below : i < m = omega (arith, length-take-le m t inside) in (below, get_or-take m t i 0 below)
 
 -- the bytes of the first i words are counted
 pub record Counted (t : List ℕ) (k n sum i : ℕ) : Type 0 where
@@ -59,18 +64,13 @@ module _ (t : List ℕ) (k n : ℕ) where
       let more : k * n - i ≡ suc (k * n - (i + 1)) = omega arith in
       ap (λ (m : ℕ). words_from t (k - 1) m j i) more
 
-  no_word : (j i : ℕ) → k * n ≤ i → words_from t (k - 1) (k * n - i) j i ≡ []
-  no_word j i h =
-      let none : k * n - i ≡ 0 = omega arith in
-      ap (λ (m : ℕ). words_from t (k - 1) m j i) none
-
   pub none-counted : 0 < k → k * n ≤ length t → Counted t k n 0 0
   none-counted some inside =
       let w = ap length (whole some inside) in
       record { left = k - 1; bound = omega arith; few = omega arith; total = omega (arith, w) }
 
   pub one-counted : (sum i d : ℕ) → Counted t k n sum i → i < k * n → d ≡ length (digits (get_or t i 0)) → d ≤ 10
-      → Counted t k n (sum + d + 1) (i + 1)
+      → Counted t k n (sum + (d + 1)) (i + 1)
   one-counted sum i d s h d-is d-few =
       let j : ℕ = s.left in
       let size : length (words_from t (k - 1) (k * n - i) j i) ≡ length (word_bytes j (get_or t i 0)) + length (rest j i)
@@ -78,11 +78,8 @@ module _ (t : List ℕ) (k n : ℕ) where
       let one : length (word_bytes j (get_or t i 0)) ≡ length (digits (get_or t i 0)) + 1 = word-length j (get_or t i 0) in
       let before : sum + length (words_from t (k - 1) (k * n - i) j i) ≡ length (lines_of (rows_of k n t)) = s.total in
       let few : sum ≤ 11 * i = s.few in
-      let total : sum + d + 1 + length (rest j i) ≡ length (lines_of (rows_of k n t)) = omega arith in
+      let total : sum + (d + 1) + length (rest j i) ≡ length (lines_of (rows_of k n t)) = omega arith in
       record { left = following (k - 1) j; bound = omega arith; few = omega arith; total = total }
-
-  pub all-counted : (sum i : ℕ) → Counted t k n sum i → k * n ≤ i → sum ≡ length (lines_of (rows_of k n t))
-  all-counted sum i s h = omega (arith, s.total, ap length (no_word s.left i h))
 
   pub none-printed : (out : List ℕ) (at : ℕ) → 0 < k → k * n ≤ length t → at + length (lines_of (rows_of k n t)) ≤ length out
       → Printed t k n out at out at (k - 1) 0
@@ -108,9 +105,3 @@ module _ (t : List ℕ) (k n : ℕ) where
           (sym q)
           (part_filled s.fill (word_bytes left (get_or t i 0)) (rest left i) out' next' (one_word left i h) o p);
     }
-
-    pub all-printed : k * n ≤ i → out ≡ put out₀ at (lines_of (rows_of k n t))
-    all-printed h = all-filled s.fill (no_word left i h)
-
-    pub all-passed : k * n ≤ i → next ≡ at + length (lines_of (rows_of k n t))
-    all-passed h = all-ends s.fill (no_word left i h)

@@ -1,17 +1,8 @@
 -- A turn adds one number.
-use Prim.Native.Nat.{◌-◌}
-use Rattle.cards.proofs.fill.Filling.{none-worded, one-worded, all-worded}
+use Rattle.cards.proofs.fill.Filling.{one-worded}
 use Rattle.cards.proofs.fill.fill_words.Goals as goal
-
-pub loop-i-init : goal.loop-i-init
-loop-i-init c = none-worded _ _ _ _
 
 pub loop-i-preserved : goal.loop-i-preserved
 loop-i-preserved c =
     let a = c.args in
     one-worded a.file.now a.at a.n a.table.now c.loop-i.table c.loop-i.i c.loop-i.invariant c.requires.n_in_bounds_2 c.loop-i-test.true _ c.word_at.ensures
-
-pub returns : goal.returns
-returns c =
-    let a = c.args in
-    all-worded a.file.now a.at a.n a.table.now c.loop-i.table c.loop-i.i c.loop-i.invariant c.loop-i-test.false

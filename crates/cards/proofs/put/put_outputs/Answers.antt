@@ -1,33 +1,36 @@
 -- A turn puts one record.
-use Prim.Native.Nat.{ℕ, ◌+◌, ◌-◌}
-use mathlib.Core.Path.{refl}
+use Prim.Native.Nat.{ℕ, ◌+◌}
 use mathlib.Core.List.{◌++◌}
 use native.Mathlib.Omega.{arith}
 use lib.ListN.{get_or}
+use lib.Seq.{length-take-le}
 use Rattle.plan.specs.Cards.{mark_bytes, word_bytes}
+use Rattle.write.proofs.print.Turns.{word_taken}
 use Rattle.cards.specs.put.Parts.{output_cards}
-use Rattle.cards.proofs.put.Putting.{none-put, one-put, all-put, outputs-more, outputs-size}
+use Rattle.cards.proofs.put.Putting.{one-put, outputs-more, outputs-size}
 use Rattle.cards.proofs.put.put_outputs.Goals as goal
-
-pub loop-i-init : goal.loop-i-init
-loop-i-init c = none-put _ _ (λ (k : ℕ). output_cards k c.args.outputs.now) _ refl
 
 pub put_card-next-requires : goal.put_card-next-requires
 put_card-next-requires c =
-    omega (arith, c.loop-i.invariant.next-is, c.loop-i.invariant.same, outputs-size c.args.outputs.now c.loop-i.i (omega arith), c.requires.n_in_bounds)
-
-pub loop-i-preserved : goal.loop-i-preserved
-loop-i-preserved c =
     let a = c.args in
-    let t = a.outputs.now in
-    let bytes = mark_bytes 79 ++ word_bytes (get_or t c.loop-i.i 0) in
-    one-put a.out.now a.at (λ (k : ℕ). output_cards k t) a.n c.loop-i.out c.loop-i.next c.loop-i.i c.loop-i.invariant
-    c.loop-i-test.true bytes
-    (outputs-more t c.loop-i.i (omega arith)) (omega (arith, outputs-size t (c.loop-i.i + 1) (omega arith), c.requires.n_in_bounds)) _ _ c.put_card-next.ensures.out_after c.put_card-next.ensures.value c.put_card-next.auto.out
+    let i = c.loop-output.output-index in
+    let word = word_taken a.outputs.now a.n i c.requires.n_in_bounds_2 c.loop-output-test.true in
+    omega (arith, word.0, outputs-size a.outputs.now i (omega (arith, word.0)))
 
-pub returns : goal.returns
-returns c =
+pub loop-output-preserved : goal.loop-output-preserved
+loop-output-preserved c =
     let a = c.args in
+    let l = c.loop-output in
     let t = a.outputs.now in
-    let all = all-put a.out.now a.at (λ (k : ℕ). output_cards k t) a.n c.loop-i.out c.loop-i.next c.loop-i.i c.loop-i.invariant c.loop-i-test.false in
-    record { value = omega (arith, all.0, outputs-size t a.n c.requires.n_in_bounds_2); out_after = all.1 }
+    let i = l.output-index in
+    let word = word_taken t a.n i c.requires.n_in_bounds_2 c.loop-output-test.true in
+    let bytes = mark_bytes 79 ++ word_bytes (get_or t i 0) in
+    let e = c.put_card-next.ensures in
+    one-put a.out.now a.at (λ (k : ℕ). output_cards k t) a.n l.out l.next i l.invariant word.0 bytes
+    (outputs-more t i (omega (arith, word.0))) (omega (arith, word.0, outputs-size t (i + 1) (omega (arith, word.0)))) _ _
+    (rw word.1 at e.out_after) e.value c.put_card-next.auto.out
+
+pub returns-clause-value : goal.returns-clause-value
+returns-clause-value c =
+    let t = c.args.outputs.now in
+    omega (arith, length-take-le c.args.n t c.requires.n_in_bounds_2, outputs-size t c.loop-output.output-index (omega (arith, length-take-le c.args.n t c.requires.n_in_bounds_2)))

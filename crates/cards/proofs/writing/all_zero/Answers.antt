@@ -1,18 +1,17 @@
--- A turn passes one word.
-use Prim.Native.Nat.{◌-◌}
-use Rattle.cards.proofs.writing.Holding.{none_seen, not-zero, one_seen, all_seen}
+-- The chain's answer is that of the test of each word.
+use Prim.Native.Nat.{ℕ}
+use mathlib.Core.Path.{◌∙◌}
+use borrow.Author.Rules.{rules}
+use borrow.Author.Tests.{tests}
+use lib.Dec.{eqb}
+use lib.ListN.{take}
+use Rattle.std.proofs.lemmas.Iterator.{YieldsList-from_slice}
+use Rattle.std.proofs.lemmas.Iterator.Search.{all_from_yields_List}
+use Rattle.cards.proofs.writing.Holding.{zeros-tested}
 use Rattle.cards.proofs.writing.all_zero.Goals as goal
 
-pub loop-i-init : goal.loop-i-init
-loop-i-init c = none_seen _ _
-
-pub returns-then-table-i-ne0 : goal.returns-then-table-i-ne0
-returns-then-table-i-ne0 c =
-    not-zero c.args.table.now c.args.n c.loop-i.i c.loop-i.invariant c.requires c.loop-i-test.true c.if-table-i-ne0.true
-
-pub loop-i-preserved : goal.loop-i-preserved
-loop-i-preserved c =
-    one_seen c.args.table.now c.args.n c.loop-i.i c.loop-i.invariant c.requires c.loop-i-test.true c.if-table-i-ne0.false
-
 pub returns : goal.returns
-returns c = all_seen c.args.table.now c.args.n c.loop-i.i c.loop-i.invariant c.requires c.loop-i-test.false
+returns c =
+    let words = take c.args.n c.args.table.now in
+    all_from_yields_List (λ (w : ℕ). eqb w 0) _ _ c.all.result c.all.ensures.ran (YieldsList-from_slice words cc) (λ x b q k. search (rules, tests))
+    ∙ zeros-tested words

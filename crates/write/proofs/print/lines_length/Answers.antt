@@ -1,38 +1,33 @@
 -- Each turn counts one word.
-use Prim.Native.Nat.{◌-◌}
+use Prim.Native.Nat.{ℕ, ◌*◌}
+use mathlib.Core.Path.{ap, ◌∙◌}
 use native.Mathlib.Omega.{arith}
-use lib.ListN.{get_or}
+use lib.ListN.{length, get_or, take}
+use Rattle.plan.specs.Bytes.{digits}
 use Rattle.write.proofs.print.Sizes.{digits-ten}
-use Rattle.write.proofs.print.Turns.{none-counted, one-counted, all-counted}
+use Rattle.write.proofs.print.Turns.{word_taken, none-counted, one-counted}
 use Rattle.write.proofs.print.lines_length.Goals as goal
 
-pub loop-i-init : goal.loop-i-init
-loop-i-init c = let a = c.args in none-counted a.table.now a.k a.n c.requires.k_nonzero c.requires.n_in_bounds
-
-pub overflow_cast-table : goal.overflow_cast-table
-overflow_cast-table c = record { fits = omega (arith, c.type_inv.table c.loop-i.i) }
+pub loop-word-init : goal.loop-word-init
+loop-word-init c = let a = c.args in none-counted a.table.now a.k a.n c.requires.k_nonzero c.requires.n_in_bounds
 
 pub overflow_add-sum : goal.overflow_add-sum
 overflow_add-sum c =
-    let a = c.args in
-    let few = digits-ten (get_or a.table.now c.loop-i.i 0) (omega (arith, c.type_inv.table c.loop-i.i)) in
-    omega (arith, few, c.loop-i.invariant.few, c.loop-i.invariant.bound, c.digits_in.ensures)
+    let t = take (c.args.k * c.args.n) c.args.table.now in
+    let few = digits-ten (get_or t c.loop-word.word-index 0) (omega (arith, c.type_inv.table c.loop-word.word-index)) in
+    omega (arith, few, c.digits_in.ensures)
 
-pub overflow_add-sum-in-loop-i : goal.overflow_add-sum-in-loop-i
-overflow_add-sum-in-loop-i c =
-    let a = c.args in
-    let few = digits-ten (get_or a.table.now c.loop-i.i 0) (omega (arith, c.type_inv.table c.loop-i.i)) in
-    omega (arith, few, c.loop-i.invariant.few, c.loop-i.invariant.bound, c.digits_in.ensures)
+pub overflow_add-sum-in-loop-word : goal.overflow_add-sum-in-loop-word
+overflow_add-sum-in-loop-word c =
+    let t = take (c.args.k * c.args.n) c.args.table.now in
+    let few = digits-ten (get_or t c.loop-word.word-index 0) (omega (arith, c.type_inv.table c.loop-word.word-index)) in
+    omega (arith, few, c.digits_in.ensures)
 
-pub loop-i-preserved : goal.loop-i-preserved
-loop-i-preserved c =
+pub loop-word-preserved : goal.loop-word-preserved
+loop-word-preserved c =
     let a = c.args in
-    let few = digits-ten (get_or a.table.now c.loop-i.i 0) (omega (arith, c.type_inv.table c.loop-i.i)) in
-    one-counted a.table.now a.k a.n c.loop-i.sum c.loop-i.i c.digits_in.result c.loop-i.invariant c.loop-i-test.true
-    c.digits_in.ensures
-    (omega (arith, few, c.digits_in.ensures))
-
-pub returns : goal.returns
-returns c =
-    let a = c.args in
-    record { value = all-counted a.table.now a.k a.n c.loop-i.sum c.loop-i.i c.loop-i.invariant c.loop-i-test.false; upper_bound = omega (arith, c.loop-i.invariant.few, c.loop-i.invariant.bound) }
+    let l = c.loop-word in
+    let word = word_taken a.table.now (a.k * a.n) l.word-index c.requires.n_in_bounds c.loop-word-test.true in
+    let few = digits-ten (get_or a.table.now l.word-index 0) (omega (arith, c.type_inv.table l.word-index)) in
+    let d = c.digits_in.ensures ∙ ap (λ (w : ℕ). length (digits w)) word.1 in
+    one-counted a.table.now a.k a.n l.sum l.word-index c.digits_in.result l.invariant word.0 d (omega (arith, few, d))

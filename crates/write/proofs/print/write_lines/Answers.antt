@@ -1,29 +1,25 @@
 -- Each turn writes one word.
-use Prim.Native.Nat.{◌-◌}
-use Rattle.write.proofs.print.Turns.{none-printed, word_fits, one-printed, all-printed, all-passed}
+use Prim.Native.Nat.{◌*◌}
+use Rattle.write.proofs.print.Turns.{word_taken, none-printed, word_fits, one-printed}
 use Rattle.write.proofs.print.write_lines.Goals as goal
 
-pub loop-i-init : goal.loop-i-init
-loop-i-init c =
+pub loop-word-init : goal.loop-word-init
+loop-word-init c =
     let a = c.args in
     none-printed a.table.now a.k a.n a.out.now a.at c.requires.k_nonzero c.requires.n_in_bounds c.requires.table_in_bounds
 
 pub write_word-next-requires : goal.write_word-next-requires
 write_word-next-requires c =
     let a = c.args in
-    word_fits a.table.now a.k a.n a.out.now a.at c.loop-i.out c.loop-i.next c.loop-i.left c.loop-i.i c.loop-i.invariant c.loop-i-test.true
+    let l = c.loop-word in
+    let word = word_taken a.table.now (a.k * a.n) l.word-index c.requires.n_in_bounds c.loop-word-test.true in
+    rw word.1 (word_fits a.table.now a.k a.n a.out.now a.at l.out l.next l.left l.word-index l.invariant word.0)
 
-pub loop-i-preserved : goal.loop-i-preserved
-loop-i-preserved c =
+pub loop-word-preserved : goal.loop-word-preserved
+loop-word-preserved c =
     let a = c.args in
-    one-printed a.table.now a.k a.n a.out.now a.at c.loop-i.out c.loop-i.next c.loop-i.left c.loop-i.i c.loop-i.invariant _ _ _
-    c.loop-i-test.true
-    c.write_word-next.ensures.out_after c.write_word-next.ensures.value c.following-left.ensures
-
-pub shape_of-out : goal.shape_of-out
-shape_of-out c = c.loop-i.invariant.fill.size
-
-pub returns : goal.returns
-returns c =
-    let a = c.args in
-    record { value = all-passed a.table.now a.k a.n a.out.now a.at c.loop-i.out c.loop-i.next c.loop-i.left c.loop-i.i c.loop-i.invariant c.loop-i-test.false; out_after = all-printed a.table.now a.k a.n a.out.now a.at c.loop-i.out c.loop-i.next c.loop-i.left c.loop-i.i c.loop-i.invariant c.loop-i-test.false }
+    let l = c.loop-word in
+    let word = word_taken a.table.now (a.k * a.n) l.word-index c.requires.n_in_bounds c.loop-word-test.true in
+    let e = c.write_word-next.ensures in
+    one-printed a.table.now a.k a.n a.out.now a.at l.out l.next l.left l.word-index l.invariant _ _ _ word.0
+    (rw word.1 at e.out_after) (rw word.1 at e.value) c.following-left.ensures
