@@ -108,10 +108,8 @@ fn give_outputs(
     ensures { outs.new ≡ output_codes n outputs.now gates.now state.now
         ins.now }
 {
-    let mut i = 0;
-    while i < n.O {
+    for i in 0..n.O {
         outs[i] = literal_value(n, gates, state, ins, Lit::at(outputs[i]));
-        i += 1;
     }
 }
 
@@ -122,10 +120,8 @@ fn hold_next(n: Counts, latches: &[u32], gates: &[u32], state: &[u8], ins: &[u8]
     ensures { t.new ≡ put t.old 0
         (next_codes n latches.now gates.now state.now ins.now) }
 {
-    let mut i = 0;
-    while i < n.L {
+    for i in 0..n.L {
         t[i] = literal_value(n, gates, state, ins, Lit::at(latches[2 * i + 1])) as u32;
-        i += 1;
     }
 }
 
@@ -134,10 +130,8 @@ fn take_next(t: &[u32], state: &mut [u8])
     requires { Bytes t.now state.old }
     ensures { state.new ≡ take (length state.old) t.now }
 {
-    let mut i = 0;
-    while i < state.len() {
+    for i in 0..state.len() {
         state[i] = t[i] as u8;
-        i += 1;
     }
 }
 

@@ -53,21 +53,14 @@ and-codes x y a b e f = ap₂ and_by e f ∙ by_values a b
 
 -- the loop: the values of variables below base + j are there
 pub record Going (gates : List ℕ) (k a base : ℕ) (values₀ values : List ℕ) (j : ℕ) : Type 0 where
-  pub from : k ≤ j
-  pub within : j ≤ a
   pub size : length values ≡ length values₀
   pub shown : (w : ℕ → Value) → Shows w (base + k) values₀ → Follows w gates base k a → Shows w (base + j) values
 
-pub going_start : (gates : List ℕ) (k a base : ℕ) (values : List ℕ) → k ≤ a → Going gates k a base values values k
-going_start gates k a base values h = record { from = omega arith; within = h; size = refl; shown = λ w s f. s }
-
-pub going_more : (gates : List ℕ) (k a base : ℕ) (values₀ values : List ℕ) (j r : ℕ) → j < a → base + j < length values
+pub going_more : (gates : List ℕ) (k a base : ℕ) (values₀ values : List ℕ) (j r : ℕ) → k ≤ j → j < a → base + j < length values
     → length (set values (base + j) r) ≡ length values
     → ((w : ℕ → Value) → Shows w (base + j) values → r ≡ code_of (and (lit w (gate_at gates j).rhs0) (lit w (gate_at gates j).rhs1)))
     → Going gates k a base values₀ values j → Going gates k a base values₀ (set values (base + j) r) (j + 1)
-going_more gates k a base values₀ values j r lt room same val g = record {
-  from = omega (arith, g.from);
-  within = omega arith;
+going_more gates k a base values₀ values j r from lt room same val g = record {
   size = same ∙ g.size;
   shown = λ w s f v h. here w s f v h (ℕ_discrete (base + j) v);
 }
@@ -76,6 +69,6 @@ going_more gates k a base values₀ values j r lt room same val g = record {
         → get_or (set values (base + j) r) v 0 ≡ code_of (w v)
     here w s f v h (yes e) =
         subst (λ (u : ℕ). get_or (set values (base + j) r) u 0 ≡ code_of (w u)) e
-        (get_or-set_same values (base + j) r 0 room ∙ val w (g.shown w s f) ∙ ap code_of (sym (f.holds j (omega (arith, g.from)) lt)))
+        (get_or-set_same values (base + j) r 0 room ∙ val w (g.shown w s f) ∙ ap code_of (sym (f.holds j (omega arith) lt)))
     here w s f v h (no n) =
         get_or-set_other values (base + j) v r 0 (λ e. n (sym e)) ∙ g.shown w s f v (omega arith)

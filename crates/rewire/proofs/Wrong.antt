@@ -43,75 +43,37 @@ code-right b = go (eqb b 48) (eqb b 49) (eqb b 120) refl refl refl
     go false false true p q r e = eqb-true b 120 r
     go false false false p q r e = absurd (false≢true e)
 
-is-code : (a : Value) → is_code (code_of a) ≡ true
-is-code v0 = refl
-is-code v1 = refl
-is-code vx = refl
-
-pub code-wrong : (b : ℕ) → is_code b ≡ false → b ≡ code_of (value_of b) → ⊥
-code-wrong b e p = false≢true (sym e ∙ ap is_code p ∙ is-code (value_of b))
-
 pub is-shown : (b : ℕ) (a : Value) → b ≡ code_of a → b ≡ code_of (value_of b)
 is-shown b a e = e ∙ ap code_of (sym (ap value_of e ∙ value-code a))
 
 -- of n variables from `from` on those below v are right
-pub record Judging (gs : List Gate) (bytes : List ℕ) (from n v : ℕ) : Type 0 where
-  pub begun : from ≤ v
-  pub within : v ≤ from + n
-  pub left : wrong_from gs bytes from n ≡ wrong_from gs bytes v (from + n - v)
-
-pub judging-start : (gs : List Gate) (bytes : List ℕ) (from n : ℕ) → Judging gs bytes from n from
-judging-start gs bytes from n = let e : n ≡ from + n - from = omega arith in
-    record { begun = omega arith; within = omega arith; left = ap (wrong_from gs bytes from) e }
+abbrev pub Judging : List Gate → List ℕ → ℕ → ℕ → ℕ → Type 0
+Judging gs bytes from n v = wrong_from gs bytes from n ≡ wrong_from gs bytes v (from + n - v)
 
 module _ (gs : List Gate) (bytes : List ℕ) (from n v : ℕ) (g : Judging gs bytes from n v) where
   one_left : v < from + n → wrong_from gs bytes from n ≡ wrong_from gs bytes v (suc (from + n - (v + 1)))
-  one_left h = let e : from + n - v ≡ suc (from + n - (v + 1)) = omega arith in g.left ∙ ap (wrong_from gs bytes v) e
+  one_left h = let e : from + n - v ≡ suc (from + n - (v + 1)) = omega arith in g ∙ ap (wrong_from gs bytes v) e
 
   pub judging-turn : v < from + n → Right gs bytes v → Judging gs bytes from n (v + 1)
-  judging-turn h r = record {
-    begun = omega (arith, g.begun);
-    within = omega arith;
-    left = one_left h
-        ∙ ap (λ (t : Bool). cond t (wrong_from gs bytes (suc v) (from + n - (v + 1))) (some v)) (eq-eqb (get_or bytes v 0) (code_of (follows gs bytes v)) r)
-        ∙ ap (λ (u : ℕ). wrong_from gs bytes u (from + n - (v + 1))) (sym (add-one v));
-  }
+  judging-turn h r =
+      one_left h
+      ∙ ap (λ (t : Bool). cond t (wrong_from gs bytes (suc v) (from + n - (v + 1))) (some v)) (eq-eqb (get_or bytes v 0) (code_of (follows gs bytes v)) r)
+      ∙ ap (λ (u : ℕ). wrong_from gs bytes u (from + n - (v + 1))) (sym (add-one v))
 
   pub judging-stop : v < from + n → (Right gs bytes v → ⊥) → Refused (WrongValue v) ≡ judged (wrong_from gs bytes from n)
   judging-stop h r =
       sym (ap judged (one_left h
       ∙ ap (λ (t : Bool). cond t (wrong_from gs bytes (suc v) (from + n - (v + 1))) (some v)) (ne_eqb (get_or bytes v 0) (code_of (follows gs bytes v)) r)))
 
-  pub judging-end : from + n ≤ v → Good ≡ judged (wrong_from gs bytes from n)
-  judging-end h = let e : from + n - v ≡ 0 = omega arith in sym (ap judged (g.left ∙ ap (wrong_from gs bytes v) e))
-
--- the constant, and what is an input's or a latch's
-pub zero_right : (bytes : List ℕ) → get_or bytes 0 0 ≡ 48 → Right [] bytes 0
-zero_right bytes e = e
-
+-- what is an input's or a latch's
 pub leaf-right : (bytes : List ℕ) (v : ℕ) → 1 ≤ v → is_code (get_or bytes v 0) ≡ true → Right [] bytes v
 leaf-right bytes v h e =
     code-right (get_or bytes v 0) e ∙ sym (ap (λ (t : Bool). code_of (cond t v0 (value_on bytes v))) (ne_eqb v 0 (λ p. omega arith)))
-
-pub leaf-wrong : (bytes : List ℕ) (v : ℕ) → 1 ≤ v → is_code (get_or bytes v 0) ≡ false → Right [] bytes v → ⊥
-leaf-wrong bytes v h e r =
-    code-wrong (get_or bytes v 0) e (r ∙ ap (λ (t : Bool). code_of (cond t v0 (value_on bytes v))) (ne_eqb v 0 (λ p. omega arith)))
 
 -- gates in order: those below gate j are right
 pub record Gating (gates : List ℕ) (a base : ℕ) (values : List ℕ) (j : ℕ) : Type 0 where
   pub judging : Judging (gates_at gates a) values base a (base + j)
   pub shown : Shows (value_on values) (base + j) values
-
-pub gating-start : (gates : List ℕ) (a base : ℕ) (values : List ℕ) → Shows (value_on values) base values → Gating gates a base values 0
-gating-start gates a base values s =
-    let e : base ≡ base + 0 = omega arith in record {
-      judging = go e;
-      shown = λ v h. s v (omega arith);
-    }
-  where
-    go : base ≡ base + 0 → Judging (gates_at gates a) values base a (base + 0)
-    go e = let n : a ≡ base + a - (base + 0) = omega arith in
-        record { begun = omega arith; within = omega arith; left = ap₂ (wrong_from (gates_at gates a) values) e n }
 
 module _ (gates : List ℕ) (a base : ℕ) (values : List ℕ) (o : Ordered gates a base values) where
   pub row_at : (j : ℕ) → j < a → Row gates j values
@@ -135,12 +97,9 @@ module _ (gates : List ℕ) (a base : ℕ) (values : List ℕ) (o : Ordered gate
     gating-turn e =
         let right : Right (gates_at gates a) values (base + j) = e ∙ computed in
         let next : base + j + 1 ≡ base + (j + 1) = omega arith in
-        let t = judging-turn (gates_at gates a) values base a (base + j) g.judging (omega arith) right in record {
-          judging = record {
-            begun = omega arith;
-            within = omega arith;
-            left = t.left ∙ ap (λ (v : ℕ). wrong_from (gates_at gates a) values v (base + a - v)) next;
-          };
+        record {
+          judging = judging-turn (gates_at gates a) values base a (base + j) g.judging (omega arith) right
+              ∙ ap (λ (v : ℕ). wrong_from (gates_at gates a) values v (base + a - v)) next;
           shown = λ v k. here v k (dec_lt v (base + j)) (is-shown (get_or values (base + j) 0) (follows (gates_at gates a) values (base + j)) right);
         }
       where

@@ -67,12 +67,10 @@ fn wrong_leaf(values: &[u8], n: usize) -> Checked
     if values[0] != b'0' {
         return Checked::Refused(Refusal::WrongValue(0));
     }
-    let mut v = 1;
-    while v < n {
+    for v in 1..n {
         if !is_code(values[v]) {
             return Checked::Refused(Refusal::WrongValue(v));
         }
-        v += 1;
     }
     Checked::Good
 }
@@ -85,12 +83,10 @@ fn wrong_gate(gates: &[u32], a: usize, base: usize, values: &[u8]) -> Checked
     ensures { result ≡ checked_by (stage WrongValue
         (wrong_from (gates_at gates.now a) values.now base a)) }
 {
-    let mut j = 0;
-    while j < a {
+    for j in 0..a {
         if values[base + j] != gate_code(gates, j, values) {
             return Checked::Refused(Refusal::WrongValue(base + j));
         }
-        j += 1;
     }
     Checked::Good
 }
@@ -154,10 +150,8 @@ fn recompute(gates: &[u32], k: usize, a: usize, base: usize, values: &mut [u8])
     ensures { (w : ℕ → Value) → Shows w (base + k) values.old
         → Follows w gates.now base k a → Shows w (base + a) values.new }
 {
-    let mut j = k;
-    while j < a {
+    for j in k..a {
         values[base + j] = gate_code(gates, j, values);
-        j += 1;
     }
 }
 

@@ -23,14 +23,7 @@ pub fn is_code(b: u8) -> bool
 fn all_codes(bytes: &[u8]) -> bool
     ensures { result ≡ all_codes bytes.now }
 {
-    let mut i = 0;
-    while i < bytes.len() {
-        if !is_code(bytes[i]) {
-            return false;
-        }
-        i += 1;
-    }
-    true
+    bytes.iter().all(|b| is_code(*b))
 }
 
 // Whether n codes stand in a failing_at, and no other byte.

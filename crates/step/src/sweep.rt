@@ -64,13 +64,9 @@ fn spread_leaves(n: usize, lits: usize, t: &mut [u32])
     requires { Spreads n lits t.old }
     ensures { t.new ≡ spread n lits t.old }
 {
-    let mut to = lits;
-    let mut v = 0;
-    while v < n {
+    for v in 0..n {
         let value = t[v];
-        put_value(value, to, t);
-        to += 2;
-        v += 1;
+        put_value(value, lits + 2 * v, t);
     }
 }
 
@@ -80,16 +76,11 @@ fn settle_gates(gates: &[u32], n: usize, first: usize, t: &mut [u32])
     requires { Gated gates.now n first t.old }
     ensures { Settles gates.now n first t.old t.new }
 {
-    let mut to = Var::at(first as u32).lit().word() as usize;
-    let mut at = 0;
-    let mut i = 0;
-    while i < n {
-        let a = Lit::at(gates[at + 1]);
-        let b = Lit::at(gates[at + 2]);
-        put_and(a, b, 0, to, t);
-        to += 2;
-        at += 3;
-        i += 1;
+    let start = Var::at(first as u32).lit().word() as usize;
+    for i in 0..n {
+        let a = Lit::at(gates[3 * i + 1]);
+        let b = Lit::at(gates[3 * i + 2]);
+        put_and(a, b, 0, start + 2 * i, t);
     }
 }
 
@@ -114,12 +105,8 @@ fn look_up(
     requires { Looks table.now start stride n lits first t.old }
     ensures { t.new ≡ put t.old first (looked table.now start stride n lits t.old) }
 {
-    let mut at = start;
-    let mut i = 0;
-    while i < n {
-        t[first + i] = value_of(t, lits, Lit::at(table[at]));
-        at += stride;
-        i += 1;
+    for i in 0..n {
+        t[first + i] = value_of(t, lits, Lit::at(table[stride * i + start]));
     }
 }
 
@@ -155,12 +142,10 @@ pub fn any_lit(table: &[u32], n: usize, lits: usize, t: &[u32]) -> bool
     requires { Sees table.now n lits t.now }
     ensures { result ≡ any1 (seen lits t.now (take n table.now)) }
 {
-    let mut i = 0;
-    while i < n {
-        if value_of(t, lits, Lit::at(table[i])) == MAY1 {
+    for l in &table[..n] {
+        if value_of(t, lits, Lit::at(*l)) == MAY1 {
             return true;
         }
-        i += 1;
     }
     false
 }
@@ -170,12 +155,10 @@ pub fn all_lits(table: &[u32], n: usize, lits: usize, t: &[u32]) -> bool
     requires { Sees table.now n lits t.now }
     ensures { result ≡ all1 (seen lits t.now (take n table.now)) }
 {
-    let mut i = 0;
-    while i < n {
-        if value_of(t, lits, Lit::at(table[i])) != MAY1 {
+    for l in &table[..n] {
+        if value_of(t, lits, Lit::at(*l)) != MAY1 {
             return false;
         }
-        i += 1;
     }
     true
 }

@@ -55,10 +55,8 @@ pub fn load_resets(resets: &[u32], n: usize, first: usize, t: &mut [u32])
     ensures { t.new ≡ put t.old first
         (words (map reset_value (take n resets.now))) }
 {
-    let mut i = 0;
-    while i < n {
+    for i in 0..n {
         t[first + i] = word_of_reset(resets[i]);
-        i += 1;
     }
 }
 
@@ -76,10 +74,8 @@ fn reset_at(resets: &[u32], i: usize) -> u32
 pub fn first_state(resets: &[u32], state: &mut [u8])
     ensures { state.new ≡ start_codes resets.now (length state.old) }
 {
-    let mut i = 0;
-    while i < state.len() {
+    for i in 0..state.len() {
         state[i] = code_of(word_of_reset(reset_at(resets, i)));
-        i += 1;
     }
 }
 
@@ -88,10 +84,8 @@ pub fn load(codes: &[u8], first: usize, t: &mut [u32])
     requires { first + length codes.now ≤ length t.old }
     ensures { t.new ≡ put t.old first (words (map value_of codes.now)) }
 {
-    let mut i = 0;
-    while i < codes.len() {
-        t[first + i] = word_of(codes[i]);
-        i += 1;
+    for (i, code) in codes.iter().enumerate() {
+        t[first + i] = word_of(*code);
     }
 }
 
@@ -100,10 +94,8 @@ pub fn store(t: &[u32], first: usize, codes: &mut [u8])
     requires { first + length codes.old ≤ length t.now }
     ensures { codes.new ≡ map code_of (values_at t.now first (length codes.old)) }
 {
-    let mut i = 0;
-    while i < codes.len() {
+    for i in 0..codes.len() {
         codes[i] = code_of(t[first + i]);
-        i += 1;
     }
 }
 
@@ -112,12 +104,5 @@ pub fn any_one(t: &[u32], first: usize, n: usize) -> bool
     requires { first + n ≤ length t.now }
     ensures { result ≡ any1 (values_at t.now first n) }
 {
-    let mut i = 0;
-    while i < n {
-        if t[first + i] == MAY1 {
-            return true;
-        }
-        i += 1;
-    }
-    false
+    t[first..first + n].contains(&MAY1)
 }

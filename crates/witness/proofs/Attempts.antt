@@ -1,4 +1,4 @@
--- Trying fillings one after another: what is asked again before each, and the answer, from how far trying reached.
+-- Trying fillings one after another: the answer, from how far trying reached.
 use Prim.Native.Nat.{ℕ, ◌+◌, ◌*◌, ◌%◌, ◌^◌, ◌≤◌, ◌<◌, min}
 use mathlib.Core.Path.{◌≡◌, sym, ap, ◌∙◌, subst}
 use mathlib.Core.Bool.{Bool}
@@ -7,26 +7,14 @@ use native.Mathlib.Nat.{one-mul}
 use native.Mathlib.Omega.{arith}
 use lib.Pow.{shl_exact, pow_mono}
 use lib.ListN.{length, length-map}
-use Rattle.plan.specs.declared.Counts.{Counts}
 use Rattle.plan.specs.declared.Finding.TheVariants.{Yes, No, Undecided}
 use Rattle.plan.specs.Step.{value_of}
 use Rattle.plan.specs.Fillings.{filling, try_all}
 use Rattle.laws.specs.Fillings.Reaching.{Reaches}
 use Rattle.laws.proofs.Fillings.Numbering.{fill-length}
 use Rattle.laws.proofs.Fillings.Trying.{reached-no, reached-yes, reached-cut}
-use Rattle.witness.specs.Asked.{codes_of, Holds}
+use Rattle.witness.specs.Asked.{codes_of}
 use Rattle.witness.proofs.Words.{codes-length}
-
-pub holds-again : {n : Counts} {latches outputs gates resets bads constraints s : List ℕ} {number : ℕ} {bytes : List ℕ}
-    → Holds n latches outputs gates resets bads constraints s number bytes → (t : List ℕ) → length t ≡ length s
-    → Holds n latches outputs gates resets bads constraints t number bytes
-holds-again h t e = record {
-  inputs = h.inputs;
-  runs = h.runs;
-  scratch-long = omega (arith, h.scratch-long);
-  whole = h.whole;
-  few = h.few;
-}
 
 -- a filled start is as long as the state
 pub start-length : (resets : List ℕ) (n k : ℕ) → n ≤ length resets → length (map value_of (filling k (codes_of resets n))) ≡ n

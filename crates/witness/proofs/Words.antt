@@ -1,13 +1,14 @@
 -- The word of a filled place, and those of a filled vector; the codes of resets.
 use Prim.Native.Nat.{ℕ, zero, suc, ◌+◌, ◌/◌, ◌%◌, ◌^◌, ◌≤◌, ◌<◌}
 use mathlib.Core.Path.{◌≡◌, refl, sym, ap, ap₂, ◌∙◌, subst}
-use mathlib.Core.Bool.{Bool, cond}
+use mathlib.Core.Bool.{Bool, true, false, cond}
 use mathlib.Core.List.{List, [], ◌∷◌, map}
 use native.Mathlib.Omega.{arith}
 use borrow.Author.Tests.{ne_eqb}
 use lib.Bits.{bit_and, and_mask}
 use lib.ListN.{length, get_or, take, length-map}
 use lib.Seq.{length-take-le}
+use Rattle.std.specs.List.{filter}
 use Rattle.plan.specs.Step.{v0, v1, vx, code_of, value_of, reset_value}
 use Rattle.laws.proofs.Tables.{firsts}
 use Rattle.step.specs.values.Words.{word, words}
@@ -77,3 +78,18 @@ pub filled-words : (k x : ℕ) (codes : List ℕ)
     → firsts (λ i. word (value_of (get_or (fill_from k x codes) i 0))) (length codes) ≡ words (map value_of (fill_from k x codes))
 filled-words k x codes =
     ap (firsts (λ i. word (value_of (get_or (fill_from k x codes) i 0)))) (sym (fill-length k x codes)) ∙ loaded (fill_from k x codes)
+
+-- x that a filter keeps, among bytes and among the codes of resets
+one_more : (t : Bool) (b : ℕ) (kept : List ℕ) (n : ℕ) → length kept ≡ n → length (cond t (b ∷ kept) kept) ≡ cond t 1 0 + n
+one_more true b kept n e = omega arith
+one_more false b kept n e = omega arith
+
+pub x-filtered : (l : List ℕ) → length (filter is_x l) ≡ x_count l
+x-filtered [] = refl
+x-filtered (b ∷ l) = one_more (is_x b) b (filter is_x l) (x_count l) (x-filtered l)
+
+pub resets-filtered : (l : List ℕ) → length (filter (λ r. is_x (code_of (reset_value r))) l) ≡ x_count (map code_of (map reset_value l))
+resets-filtered [] = refl
+resets-filtered (r ∷ l) =
+    one_more (is_x (code_of (reset_value r))) r (filter (λ r. is_x (code_of (reset_value r))) l) (x_count (map code_of (map reset_value l)))
+    (resets-filtered l)

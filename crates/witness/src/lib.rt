@@ -57,13 +57,7 @@ fn x_of(code: u8) -> usize
 fn count_x(bytes: &[u8]) -> usize
     ensures { result ≡ x_count bytes.now }
 {
-    let mut n = 0;
-    let mut i = 0;
-    while i < bytes.len() {
-        n += x_of(bytes[i]);
-        i += 1;
-    }
-    n
+    bytes.iter().filter(|b| **b == b'x').count()
 }
 
 // A reset as a code: the latch's own literal is "x".
@@ -84,13 +78,10 @@ pub fn count_resets(resets: &[u32], n: usize) -> usize
     requires { n ≤ length resets.now }
     ensures { result ≡ x_count (codes_of resets.now n) }
 {
-    let mut xs = 0;
-    let mut i = 0;
-    while i < n {
-        xs += x_of(code_of_reset(resets[i]));
-        i += 1;
-    }
-    xs
+    resets[..n]
+        .iter()
+        .filter(|r| code_of_reset(**r) == b'x')
+        .count()
 }
 
 // A vector of filling number k goes into words from `first` on; x is the number of its first x. The answer is the number of the first x
@@ -101,11 +92,9 @@ fn load_filled(codes: &[u8], k: u32, x: usize, first: usize, t: &mut [u32]) -> u
     ensures value { result ≡ x + x_count codes.now }
 {
     let mut next = x;
-    let mut i = 0;
-    while i < codes.len() {
-        t[first + i] = filled_word(codes[i], k, next);
-        next += x_of(codes[i]);
-        i += 1;
+    for (i, code) in codes.iter().enumerate() {
+        t[first + i] = filled_word(*code, k, next);
+        next += x_of(*code);
     }
     next
 }
@@ -118,12 +107,10 @@ pub fn load_resets_filled(resets: &[u32], n: usize, k: u32, first: usize, t: &mu
     ensures value { result ≡ x_count (codes_of resets.now n) }
 {
     let mut next = 0;
-    let mut i = 0;
-    while i < n {
+    for i in 0..n {
         let code = code_of_reset(resets[i]);
         t[first + i] = filled_word(code, k, next);
         next += x_of(code);
-        i += 1;
     }
     next
 }
@@ -166,11 +153,9 @@ fn shows_filled(
 {
     let lits = n.M + 1 + n.O;
     let mut x = first;
-    let mut at = 0;
-    let mut k = 0;
-    while k < number {
-        let end = at + n.I;
-        x = load_filled(&bytes[at..end], which, x, 1, scratch);
+    for k in 0..number {
+        let at = n.I * k;
+        x = load_filled(&bytes[at..at + n.I], which, x, 1, scratch);
         step_values(n, latches, outputs, gates, scratch);
         if !all_lits(constraints, n.C, lits, scratch) {
             return false;
@@ -178,8 +163,6 @@ fn shows_filled(
         if shown(n, bads, scratch) {
             return true;
         }
-        at = end;
-        k += 1;
     }
     false
 }
@@ -243,8 +226,7 @@ fn first_failing(
         → Reaches (filled_shows (circuit_of n (seven inputs latches.now outputs.now gates.now resets.now
         bads.now constraints.now)) number bytes.now) most result }
 {
-    let mut tried = 0;
-    while tried < most {
+    for tried in 0..most {
         if !filling_shows(
             n,
             latches,
@@ -260,9 +242,8 @@ fn first_failing(
         ) {
             return tried;
         }
-        tried += 1;
     }
-    tried
+    most
 }
 
 // The answer for a list whose bytes are good, where start and list have `xs` x, which are few.

@@ -52,11 +52,9 @@ fn shows_one(
         gates.now resets bads.now constraints.now)) s number bytes.now }
 {
     let lits = n.M + 1 + n.O;
-    let mut at = 0;
-    let mut k = 0;
-    while k < number {
-        let end = at + n.I;
-        load(&bytes[at..end], 1, scratch);
+    for k in 0..number {
+        let at = n.I * k;
+        load(&bytes[at..at + n.I], 1, scratch);
         step_values(n, latches, outputs, gates, scratch);
         if !all_lits(constraints, n.C, lits, scratch) {
             return false;
@@ -64,8 +62,6 @@ fn shows_one(
         if shown(n, bads, scratch) {
             return true;
         }
-        at = end;
-        k += 1;
     }
     false
 }

@@ -1,66 +1,31 @@
 -- The values of gates k to a - 1, whose variables run on from `base`, in order: what lies below the rewired gate stays. The loop keeps `Going gates k
--- a base values₀ values j`; the measure is `a - j`. `sides-below`, `going_more` and `gate_at` carry it from turn to turn.
-use Prim.Native.Nat.{ℕ, ◌+◌, ◌-◌, ◌<◌}
-use mathlib.Core.Path.{◌≡◌, subst}
+-- a base values₀ values j`. `sides-below`, `going_more` and `gate_at` carry it from turn to turn.
+use Prim.Native.Nat.{◌+◌}
 use native.Mathlib.Omega.{arith}
-use lib.ListN.{length, length-set}
+use lib.ListN.{length-set}
 use Rattle.plan.specs.Literals.{var_of}
 use Rattle.laws.proofs.Tables.{gate_at}
 use Rattle.laws.proofs.Running.Sides.{sides-below}
-use Rattle.rewire.specs.Shown.{Shows, Ordered}
-use Rattle.rewire.proofs.Codes.{going_start, going_more}
+use Rattle.rewire.specs.Shown.{Ordered}
+use Rattle.rewire.proofs.Codes.{going_more}
 use Rattle.rewire.proofs.Wrong.{row_at}
 use Rattle.rewire.proofs.recompute.Goals as goal
-
-pub loop-j-init : goal.loop-j-init
-loop-j-init c = going_start _ _ _ _ _ c.requires.k_le_a
 
 pub gate_code-requires : goal.gate_code-requires
 gate_code-requires c =
     let ordered : let a = c.args in Ordered a.gates.now a.a a.base c.loop-j.values =
     let p = c.requires.ordered in
     record { gates-long = p.gates-long; values-long = omega (arith, p.values-long, c.loop-j.invariant.size); binary = p.binary } in
-    row_at _ _ _ _ (ordered) c.loop-j.j c.loop-j-test.true
-
-pub overflow_add-values : goal.overflow_add-values
-overflow_add-values c =
-    let room : c.args.base + c.loop-j.j < length c.loop-j.values =
-    omega (arith, c.requires.ordered.values-long, c.loop-j.invariant.size, c.loop-j-test.true) in
-    omega (arith, room)
-
-pub bounds-values-base : goal.bounds-values-base
-bounds-values-base c =
-    let room : c.args.base + c.loop-j.j < length c.loop-j.values =
-    omega (arith, c.requires.ordered.values-long, c.loop-j.invariant.size, c.loop-j-test.true) in
-    omega (arith, room)
-
-pub overflow_add-j : goal.overflow_add-j
-overflow_add-j c =
-    let room : c.args.base + c.loop-j.j < length c.loop-j.values =
-    omega (arith, c.requires.ordered.values-long, c.loop-j.invariant.size, c.loop-j-test.true) in
-    omega (arith, room)
-
-pub loop-j-smaller : goal.loop-j-smaller
-loop-j-smaller c = omega (arith, c.loop-j-test.true)
+    row_at _ _ _ _ ordered c.loop-j.j c.loop-j-test.true
 
 pub loop-j-preserved : goal.loop-j-preserved
 loop-j-preserved c =
-    let room : c.args.base + c.loop-j.j < length c.loop-j.values =
-    omega (arith, c.requires.ordered.values-long, c.loop-j.invariant.size, c.loop-j-test.true) in
     let a = c.args in
     let s = sides-below a.base a.gates.now a.a c.loop-j.j c.loop-j-test.true c.requires.ordered.binary in
-    going_more _ _ _ _ _ c.loop-j.values c.loop-j.j c.gate_code.result c.loop-j-test.true (room)
+    going_more _ _ _ _ _ c.loop-j.values c.loop-j.j c.gate_code.result c.loop-j.auto.j c.loop-j-test.true
+    (omega (arith, c.requires.ordered.values-long, c.loop-j.invariant.size))
     (length-set c.loop-j.values (a.base + c.loop-j.j) c.gate_code.result)
-    (λ w shows. c.gate_code.ensures w (shows (var_of (gate_at a.gates.now c.loop-j.j).rhs0) s.0)
+    (λ w shows.
+    c.gate_code.ensures w (shows (var_of (gate_at a.gates.now c.loop-j.j).rhs0) s.0)
     (shows (var_of (gate_at a.gates.now c.loop-j.j).rhs1) s.1))
     c.loop-j.invariant
-
-pub shape_of-values : goal.shape_of-values
-shape_of-values c = c.loop-j.invariant.size
-
-pub returns : goal.returns
-returns c =
-    λ w s f.
-    let a = c.args in
-    let e : c.loop-j.j ≡ a.a = omega (arith, c.loop-j.invariant.within, c.loop-j-test.false) in
-    subst (λ (j : ℕ). Shows w (a.base + j) c.loop-j.values) e (c.loop-j.invariant.shown w s f)

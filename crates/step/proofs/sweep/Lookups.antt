@@ -1,15 +1,14 @@
 -- The words of a table's literals, looked up one by one.
-use Prim.Native.Nat.{ℕ, ◌+◌, ◌*◌, ◌%◌, ◌≤◌, ◌<◌}
-use mathlib.Core.Path.{◌≡◌, refl, sym, ap, ap₂, ◌∙◌, subst}
+use Prim.Native.Nat.{ℕ, ◌+◌, ◌*◌, ◌%◌, ◌<◌}
+use mathlib.Core.Path.{◌≡◌, refl, sym, ap, ap₂, ◌∙◌}
 use mathlib.Core.List.{List}
 use native.Mathlib.Nat.{mul-suc}
 use native.Mathlib.Numerals.{add-one}
 use native.Mathlib.Omega.{arith}
-use lib.ListN.{length, get_or, set}
+use lib.ListN.{get_or, set}
 use lib.Bits.{bit_or}
 use Rattle.plan.specs.Literals.{var_of, neg_of}
 use Rattle.plan.specs.Outcome.{put}
-use Rattle.laws.proofs.Tables.{row_ends}
 use Rattle.step.proofs.values.Filling.{Filled, map-firsts, filled_more, filled-all, filled-past}
 use Rattle.step.specs.sweep.Lookup.{word_at, Inside, Looks, looked}
 
@@ -25,21 +24,12 @@ module _ {table : List ℕ} {start stride n lits first : ℕ} {t₀ : List ℕ} 
   abbrev at : ℕ → ℕ
   at = literal_word table start stride lits t₀
 
-  module _ (i q : ℕ) (t : List ℕ) (h : i < n) (here : q ≡ stride * i + start) (f : Filled t₀ first at i t) where
+  module _ (i : ℕ) (t : List ℕ) (h : i < n) (f : Filled t₀ first at i t) where
     abbrev l : ℕ
-    l = get_or table q 0
+    l = get_or table (stride * i + start) 0
 
     there : Inside lits t₀ l
-    there = subst (λ (k : ℕ). Inside lits t₀ (get_or table k 0)) (sym here) (p.inside i h)
-
-    pub row_in : q + (stride + 0) ≤ length table + start
-    row_in = omega (arith, row_ends stride n i table p.literals-long h)
-
-    pub literal-in : Inside lits t l
-    literal-in = omega (arith, there, f.same)
-
-    pub place_in : first + i < length t
-    place_in = omega (arith, literal-in, p.before)
+    there = p.inside i h
 
     -- what is read is not yet written over
     unwritten : (k : ℕ) → var_of k ≡ var_of l → get_or t (lits + k) 0 ≡ get_or t₀ (lits + k) 0
@@ -53,8 +43,7 @@ module _ {table : List ℕ} {start stride n lits first : ℕ} {t₀ : List ℕ} 
 
     pub next-looked : (x : ℕ) → x ≡ word_at lits t l → Filled t₀ first at (i + 1) (set t (first + i) x)
     next-looked x e =
-        filled_more t₀ first at i t x f (omega (arith, place_in, f.same))
-        (e ∙ (same_word ∙ ap (λ (k : ℕ). word_at lits t₀ (get_or table k 0)) here))
+        filled_more t₀ first at i t x f (omega (arith, there, p.before)) (e ∙ same_word)
 
   pub all-looked : (i : ℕ) (t : List ℕ) → Filled t₀ first at i t → i ≡ n → t ≡ put t₀ first (looked table start stride n lits t₀)
   all-looked i t f e =

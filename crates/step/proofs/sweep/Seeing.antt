@@ -1,6 +1,6 @@
 -- Literals whose values are read after a step: one by one, and those of bad states and constraints.
 use Prim.Native.Nat.{ℕ, ◌+◌, ◌≤◌, ◌<◌}
-use mathlib.Core.Path.{◌≡◌, refl, sym, ap, ap₂, ◌∙◌}
+use mathlib.Core.Path.{◌≡◌, refl, sym, ap, ap₂, ◌∙◌, subst}
 use mathlib.Core.Bool.{Bool, true, false, ◌&&◌, ◌||◌}
 use mathlib.Core.List.{List, [], ◌∷◌, map}
 use native.Mathlib.Numerals.{add-one}
@@ -16,29 +16,24 @@ use Rattle.laws.proofs.Reading.Common.{and_left, and_right}
 use Rattle.tables.specs.Held.{Scratch}
 use Rattle.step.specs.values.Words.{word, told}
 use Rattle.step.proofs.values.Codes.{told-word, is_one, no_one}
-use Rattle.step.specs.sweep.Lookup.{word_at, Sees, seen}
+use Rattle.step.specs.sweep.Lookup.{word_at, Inside, Sees, seen}
 use Rattle.step.specs.sweep.Running.{Runs, Stepped, lits_of}
 use Rattle.step.proofs.sweep.NotAnd.{word-there}
 use Rattle.step.proofs.sweep.Literals.{literal-up}
 
--- the values from literal i on
-abbrev pub seen_from : List ℕ → List ℕ → ℕ → ℕ → ℕ → List Value
-seen_from table t n lits i = seen lits t (drop i (take n table))
+-- the values of literals from the i-th on
+module _ (lits : ℕ) (t ls : List ℕ) where
+  abbrev pub from : ℕ → List Value
+  from i = seen lits t (drop i ls)
 
-module _ (table t : List ℕ) (n lits : ℕ) (long : n ≤ length table) where
-  abbrev from : ℕ → List Value
-  from i = seen_from table t n lits i
-
-  first-seen : (i : ℕ) → i < n → (v : ℕ) → v ≡ word_at lits t (get_or table i 0) → from i ≡ told v ∷ from (i + 1)
+  first-seen : (i : ℕ) → i < length ls → (v : ℕ) → v ≡ word_at lits t (get_or ls i 0) → from i ≡ told v ∷ from (i + 1)
   first-seen i h v e =
-      ap (seen lits t) (drop-cons (take n table) i 0 (omega (arith, length-take-le n table long)))
-      ∙ ap₂ (λ (x : Value) (k : ℕ). x ∷ from k)
-      (ap (λ (l : ℕ). told (word_at lits t l)) (get_or-take n table i 0 h) ∙ ap told (sym e)) (sym (add-one i))
+      ap (seen lits t) (drop-cons ls i 0 h) ∙ ap₂ (λ (x : Value) (k : ℕ). x ∷ from k) (ap told (sym e)) (sym (add-one i))
 
-  none_left : (i : ℕ) → n ≤ i → from i ≡ []
-  none_left i h = ap (seen lits t) (drop_of_length-le (take n table) {i = i} (omega (arith, length-take-le n table long)))
+  none_left : (i : ℕ) → length ls ≤ i → from i ≡ []
+  none_left i h = ap (seen lits t) (drop_of_length-le ls {i = i} h)
 
-  module _ (i : ℕ) (h : i < n) (v : ℕ) (e : v ≡ word_at lits t (get_or table i 0)) where
+  module _ (i : ℕ) (h : i < length ls) (v : ℕ) (e : v ≡ word_at lits t (get_or ls i 0)) where
     module _ (left : any1 (from 0) ≡ any1 (from i)) where
       any-turn : any1 (from 0) ≡ (is1 (told v) || any1 (from (i + 1)))
       any-turn = left ∙ ap any1 (first-seen i h v e)
@@ -59,11 +54,18 @@ module _ (table t : List ℕ) (n lits : ℕ) (long : n ≤ length table) where
       pub all-later : v ≡ word v1 → all1 (from 0) ≡ all1 (from (i + 1))
       all-later q = all-turn ∙ ap (λ (b : Bool). b && all1 (from (i + 1))) (is_one v q)
 
-  pub any_none : (i : ℕ) → n ≤ i → any1 (from 0) ≡ any1 (from i) → false ≡ any1 (from 0)
+  pub any_none : (i : ℕ) → length ls ≤ i → any1 (from 0) ≡ any1 (from i) → false ≡ any1 (from 0)
   any_none i h left = sym (left ∙ ap any1 (none_left i h))
 
-  pub all_seen : (i : ℕ) → n ≤ i → all1 (from 0) ≡ all1 (from i) → true ≡ all1 (from 0)
+  pub all_seen : (i : ℕ) → length ls ≤ i → all1 (from 0) ≡ all1 (from i) → true ≡ all1 (from 0)
   all_seen i h left = sym (left ∙ ap all1 (none_left i h))
+
+-- both words of a literal among the first n
+pub literal_in : {table t : List ℕ} {n lits : ℕ} → Sees table n lits t → (i : ℕ) → i < length (take n table)
+    → Inside lits t (get_or (take n table) i 0)
+literal_in {table} {t} {n} {lits} p i h =
+    let below : i < n = omega (arith, length-take-le n table p.literals-long) in
+    subst (Inside lits t) (sym (get_or-take n table i 0 below)) (p.inside i below)
 
 -- what is asked of scratch, and the values after a step
 agree : (m : ℕ) (f g : ℕ → Value) (ls : List ℕ) → all_inside false m (map one_line ls) ≡ true → ((l : ℕ) → var_of l ≤ m → f l ≡ g l)

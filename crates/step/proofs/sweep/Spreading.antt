@@ -10,11 +10,11 @@ use lib.Seq.{length-take-le, take-suc, get_or-drop, sets-eq}
 use Rattle.plan.specs.Literals.{var_of, sign_of}
 use Rattle.plan.specs.Step.{Value, vx, signed_value, lit}
 use Rattle.plan.specs.Outcome.{put}
-use Rattle.laws.proofs.Put.{put-none, put-there, put-put}
+use Rattle.laws.proofs.Put.{put-there, put-put}
 use Rattle.laws.proofs.Running.Sweep.{at}
-use Rattle.step.specs.values.Words.{may0, may1, told, Coded, values_at}
+use Rattle.step.specs.values.Words.{may0, may1, told, values_at}
 use Rattle.step.proofs.values.Parts.{word-before}
-use Rattle.step.specs.sweep.Lookup.{lit_words, Spreads, spread}
+use Rattle.step.specs.sweep.Lookup.{lit_words, Spreads}
 use Rattle.step.proofs.sweep.NotAnd.{may-not}
 
 lit-words-length : (l : List Value) → length (lit_words l) ≡ 2 * length l
@@ -87,25 +87,16 @@ values-more t n h =
 
 -- the leaves' words one by one
 module _ {n lits : ℕ} {t₀ : List ℕ} (p : Spreads n lits t₀) where
-  pub leaves_none : Spread lits (values_at t₀ 0 0) t₀ t₀
-  leaves_none = record { same = refl; put-there = sym (put-none t₀ lits) }
-
-  module _ (v to : ℕ) (t : List ℕ) (h : v < n) (here : to ≡ lits + 2 * v) (s : Spread lits (values_at t₀ 0 v) t₀ t) where
+  module _ (v : ℕ) (t : List ℕ) (h : v < n) (s : Spread lits (values_at t₀ 0 v) t₀ t) where
     leaf-word : get_or t v 0 ≡ get_or t₀ v 0
     leaf-word =
         ap (λ (l : List ℕ). get_or l v 0) s.put-there
         ∙ word-before t₀ lits (lit_words (values_at t₀ 0 v)) (omega (arith, p.table-long)) v (omega (arith, p.before))
 
-    pub leaf-coded : Coded (get_or t v 0)
-    leaf-coded = subst Coded (sym leaf-word) (p.coded v h)
-
-    pub leaves-more : (t' : List ℕ) → length t' ≡ length t → t' ≡ put t to (lit_words (told (get_or t v 0) ∷ []))
+    pub leaves-more : (t' : List ℕ) → length t' ≡ length t → t' ≡ put t (lits + 2 * v) (lit_words (told (get_or t v 0) ∷ []))
         → Spread lits (values_at t₀ 0 (v + 1)) t₀ t'
     leaves-more t' len e =
         let count : length (values_at t₀ 0 v) ≡ v = values_length t₀ v (omega (arith, p.table-long)) in
         subst (λ (l : List Value). Spread lits l t₀ t')
         (ap (λ (w : ℕ). values_at t₀ 0 v ++ (told w ∷ [])) leaf-word ∙ sym (values-more t₀ v (omega (arith, p.table-long))))
-        (spread-more s (told (get_or t v 0)) to t' (omega (arith, count)) (omega (arith, p.table-long)) len e)
-
-  pub leaves_all : (v : ℕ) (t : List ℕ) → Spread lits (values_at t₀ 0 v) t₀ t → v ≡ n → t ≡ spread n lits t₀
-  leaves_all v t s e = s.put-there ∙ ap (λ (k : ℕ). spread k lits t₀) e
+        (spread-more s (told (get_or t v 0)) (lits + 2 * v) t' (omega (arith, count)) (omega (arith, p.table-long)) len e)

@@ -1,5 +1,5 @@
 -- One turn of the sweep over the gates, and the sweep over a part of a table.
-use Prim.Native.Nat.{ℕ, ◌+◌, ◌*◌, ◌-◌, ◌%◌, ◌^◌, ◌<◌, ◌≤◌}
+use Prim.Native.Nat.{ℕ, ◌+◌, ◌*◌, ◌-◌, ◌<◌, ◌≤◌}
 use mathlib.Core.Path.{◌≡◌, refl, sym, ap, ap₂, ◌∙◌, subst}
 use mathlib.Core.List.{List, [], ◌∷◌, ◌++◌, append-nil}
 use native.Mathlib.Nat.{le_refl}
@@ -9,7 +9,7 @@ use borrow.Rule.Slice.PartMut.{mid_of, put_mid, post_of, mid_len, Post-is}
 use lib.ListN.{length, get_or, take, drop, length-drop}
 use lib.Seq.{take_all, drop-drop, drop-length}
 use lib.Bits.{bit_and, bit_or}
-use Rattle.plan.specs.Literals.{most, lit_of, var_of, neg_of}
+use Rattle.plan.specs.Literals.{var_of, neg_of}
 use Rattle.plan.specs.Circuit.{Gate}
 use Rattle.plan.specs.Step.{Value, and, lit}
 use Rattle.plan.specs.Outcome.{put}
@@ -27,17 +27,10 @@ sweep-snoc : (l : List Value) (gs : List Gate) (g : Gate)
 sweep-snoc l [] g = refl
 sweep-snoc l (x ∷ gs) g = sweep-snoc (l ++ (and (lit (at l) x.rhs0) (lit (at l) x.rhs1) ∷ [])) gs g
 
--- a variable's literal is not cut
-pub uncut : (v : ℕ) → v ≤ most + 1 → lit_of v % 2 ^ 32 ≡ 2 * v
-uncut v h = omega arith
-
 -- i gates are settled, whatever values stand below
 abbrev pub Settled : List ℕ → ℕ → List ℕ → ℕ → List ℕ → Type 0
 Settled gates first t₀ i t =
     (vals : List Value) → length vals ≡ first → t₀ ≡ put t₀ 0 (lit_words vals) → Spread 0 (sweep vals (gates_at gates i)) t₀ t
-
-pub settled-none : (gates : List ℕ) (first : ℕ) (t : List ℕ) → Settled gates first t 0 t
-settled-none gates first t = λ vals l e. record { same = refl; put-there = e }
 
 module _ {gates : List ℕ} {n first : ℕ} {t₀ : List ℕ} (p : Gated gates n first t₀) where
   module _ (i : ℕ) (h : i < n) (t : List ℕ) (same : length t ≡ length t₀) where
@@ -93,10 +86,6 @@ module _ {gates : List ℕ} {n first : ℕ} {t₀ : List ℕ} (p : Gated gates n
         → t' ≡ put t to (and_words 0 t a b)
         → Settled gates first t₀ (i + 1) t'
     settled-more d to t' here len e = λ vals below start. one_more vals below (d vals below start) to t' here len e
-
-  pub settled-all : (i : ℕ) (t : List ℕ) → Settled gates first t₀ i t → i ≡ n → Settles gates n first t₀ t
-  settled-all i t d e = λ vals below start.
-      (d vals below start).put-there ∙ ap (λ (k : ℕ). put t₀ 0 (lit_words (sweep vals (gates_at gates k)))) e
 
 -- the literals' words as a part of a table
 module _ {gates : List ℕ} {n first lits : ℕ} {t : List ℕ} (p : Sweeps gates n first lits t) where

@@ -1,11 +1,14 @@
 -- Words of values and codes of values, over whole vectors.
-use Prim.Native.Nat.{ℕ, zero, suc, ◌+◌, ◌-◌, ◌≤◌, ◌<◌}
+use Prim.Native.Nat.{ℕ, zero, suc, ◌+◌, ◌≤◌}
 use mathlib.Core.Path.{◌≡◌, refl, sym, ap, ap₂, ◌∙◌}
-use mathlib.Core.Bool.{Bool, true, false, ◌||◌}
+use mathlib.Core.Bool.{true, false}
 use mathlib.Core.List.{List, [], ◌∷◌, ◌++◌, map, append-nil}
 use native.Mathlib.Omega.{arith}
 use lib.ListN.{length, get_or, take, drop_of_length-le}
-use lib.Seq.{take-length, drop-cons}
+use lib.Seq.{take-length}
+use borrow.Author.Tests.{ne_eqb}
+use lib.Dec.{eqb}
+use Rattle.std.specs.List.{list_any}
 use Rattle.plan.specs.Step.{Value, v0, v1, vx, code_of, value_of, reset_value, is1, any1}
 use Rattle.plan.specs.Outcome.{put}
 use Rattle.laws.proofs.Tables.{firsts, length-firsts, words_take}
@@ -74,7 +77,7 @@ stored t first n codes e h =
     x : List ℕ
     x = firsts at n
 
--- the words that are left to look at: the next one, and the rest
+-- a word against that of 1
 pub is_one : (w : ℕ) → w ≡ word v1 → is1 (told w) ≡ true
 is_one w e = ap (λ (k : ℕ). is1 (told k)) e
 
@@ -84,28 +87,10 @@ no_one (suc zero) h = refl
 no_one (suc (suc zero)) h = absurd (h refl)
 no_one (suc (suc (suc w))) h = refl
 
-any-turn : (t : List ℕ) (first n i : ℕ) → first + n ≤ length t → i < n
-    → any1 (values_at t (first + i) (n - i)) ≡ (is1 (told (get_or t (first + i) 0)) || any1 (values_at t (first + (i + 1)) (n - (i + 1))))
-any-turn t first n i h k =
-    let left : n - i ≡ suc (n - (i + 1)) = omega arith in
-    let next : suc (first + i) ≡ first + (i + 1) = omega arith in
-    ap₂ (λ (m : ℕ) (l : List ℕ). any1 (map told (take m l))) left (drop-cons t (first + i) 0 (omega arith))
-    ∙ ap (λ (p : ℕ). is1 (told (get_or t (first + i) 0)) || any1 (values_at t p (n - (i + 1)))) next
-
-module _ (t : List ℕ) (first n i : ℕ) (h : first + n ≤ length t) (k : i < n)
-    (left : any1 (values_at t first n) ≡ any1 (values_at t (first + i) (n - i))) where
-  pub any_here : get_or t (first + i) 0 ≡ word v1 → true ≡ any1 (values_at t first n)
-  any_here e =
-      sym (left ∙ any-turn t first n i h k
-      ∙ ap (λ (b : Bool). b || any1 (values_at t (first + (i + 1)) (n - (i + 1)))) (is_one (get_or t (first + i) 0) e))
-
-  pub any-later : (get_or t (first + i) 0 ≡ word v1 → ⊥) → any1 (values_at t first n) ≡ any1 (values_at t (first + (i + 1)) (n - (i + 1)))
-  any-later e =
-      left ∙ any-turn t first n i h k
-      ∙ ap (λ (b : Bool). b || any1 (values_at t (first + (i + 1)) (n - (i + 1)))) (no_one (get_or t (first + i) 0) e)
-
-pub any_none : (t : List ℕ) (first n i : ℕ) → n ≤ i → any1 (values_at t first n) ≡ any1 (values_at t (first + i) (n - i))
-    → false ≡ any1 (values_at t first n)
-any_none t first n i h left =
-    let none : n - i ≡ 0 = omega arith in
-    sym (left ∙ ap (λ (m : ℕ). any1 (values_at t (first + i) m)) none)
+-- whether one of some words is that of 1
+pub any-told : (ws : List ℕ) → list_any (λ w. eqb w (word v1)) ws ≡ any1 (map told ws)
+any-told [] = refl
+any-told (zero ∷ ws) = any-told ws
+any-told (suc zero ∷ ws) = any-told ws
+any-told (suc (suc zero) ∷ ws) = refl
+any-told (suc (suc (suc w)) ∷ ws) = rw (ne_eqb (suc (suc (suc w))) (word v1) (omega arith)) (any-told ws)

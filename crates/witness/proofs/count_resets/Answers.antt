@@ -1,34 +1,20 @@
--- How many of n resets are x. The loop keeps `(i ≤ n) × (xs ≡ x_count (take i (codes_of resets n))) × (xs ≤ i)`; the measure is `n - i`. `code_at`,
--- `count-more` and `codes-length` carry it from turn to turn, and `count-all` and `codes-length` give the answer.
-use Prim.Native.Nat.{◌-◌}
-use mathlib.Core.Path.{◌≡◌, refl, ap, ◌∙◌}
-use native.Mathlib.Omega.{arith}
-use lib.ListN.{get_or}
-use Rattle.plan.specs.Fillings.{x_of}
-use Rattle.laws.proofs.Fillings.Counting.{count-more, count-all, x-small}
-use Rattle.witness.specs.Asked.{codes_of}
-use Rattle.witness.proofs.Words.{codes-length, code_at}
+-- What a filter keeps is counted.
+use Prim.Native.Nat.{ℕ}
+use mathlib.Core.Path.{◌∙◌}
+use borrow.Author.Tests.{tests}
+use lib.ListN.{take}
+use Rattle.std.proofs.Common.{rules}
+use Rattle.std.proofs.lemmas.Iterator.{YieldsList-from_slice}
+use Rattle.std.proofs.lemmas.Iterator.Consumers.{YieldsList-from_filter, count_from_yields_List}
+use Rattle.plan.specs.Step.{code_of, reset_value}
+use Rattle.plan.specs.Fillings.{is_x}
+use Rattle.witness.proofs.Words.{resets-filtered}
 use Rattle.witness.proofs.count_resets.Goals as goal
-
-pub loop-i-init : goal.loop-i-init
-loop-i-init c = (omega arith, refl, omega arith)
-
-pub overflow_add-xs : goal.overflow_add-xs
-overflow_add-xs c = omega (arith, c.x_of-xs.ensures, x-small c.code_of_reset.result)
-
-pub loop-i-preserved : goal.loop-i-preserved
-loop-i-preserved c =
-    let resets = c.args.resets.now in
-    let n = c.args.n in
-    let more = c.loop-i-test.true in
-    let here : c.x_of-xs.result ≡ x_of (get_or (codes_of resets n) c.loop-i.i 0) =
-    c.x_of-xs.ensures ∙ ap x_of (c.code_of_reset.ensures ∙ code_at resets n c.loop-i.i c.requires more) in (
-      omega arith,
-      omega (arith, here, c.loop-i.invariant.1, count-more (codes_of resets n) c.loop-i.i (omega (arith, codes-length resets n c.requires, more))),
-      omega (arith, c.loop-i.invariant.2, here, x-small (get_or (codes_of resets n) c.loop-i.i 0)),
-    )
 
 pub returns : goal.returns
 returns c =
-    let codes = codes_of c.args.resets.now c.args.n in
-    c.loop-i.invariant.1 ∙ count-all codes c.loop-i.i (omega (arith, codes-length c.args.resets.now c.args.n c.requires, c.loop-i-test.false))
+    let part = take c.args.n c.args.resets.now in
+    count_from_yields_List c.filter.result _ c.count.ensures.ran
+    (YieldsList-from_filter _ (λ (r : ℕ). is_x (code_of (reset_value r))) (YieldsList-from_slice part cc) c.filter.ensures.closure
+    (λ x b q k. search (rules, tests)))
+    ∙ resets-filtered part

@@ -1,25 +1,15 @@
--- How many x a list has. The loop keeps `(i ≤ length bytes) × (n ≡ x_count (take i bytes)) × (n ≤ i)`; the measure is `length bytes - i`. `count-more`
--- and `x-small` carry it from turn to turn, and `count-all` gives the answer.
-use Prim.Native.Nat.{◌-◌}
-use mathlib.Core.Path.{refl, ◌∙◌}
-use native.Mathlib.Omega.{arith}
-use lib.ListN.{get_or}
-use Rattle.laws.proofs.Fillings.Counting.{count-more, count-all, x-small}
+-- What a filter keeps is counted.
+use mathlib.Core.Path.{◌∙◌}
+use borrow.Author.Tests.{tests}
+use Rattle.std.proofs.Common.{rules}
+use Rattle.std.proofs.lemmas.Iterator.{YieldsList-from_slice}
+use Rattle.std.proofs.lemmas.Iterator.Consumers.{YieldsList-from_filter, count_from_yields_List}
+use Rattle.plan.specs.Fillings.{is_x}
+use Rattle.witness.proofs.Words.{x-filtered}
 use Rattle.witness.proofs.count_x.Goals as goal
 
-pub loop-i-init : goal.loop-i-init
-loop-i-init c = (omega arith, refl, omega arith)
-
-pub overflow_add-n : goal.overflow_add-n
-overflow_add-n c = omega (arith, c.x_of-n.ensures, x-small (get_or c.args.bytes.now c.loop-i.i 0))
-
-pub loop-i-preserved : goal.loop-i-preserved
-loop-i-preserved c =
-    let bytes = c.args.bytes.now in (
-      omega arith,
-      omega (arith, c.x_of-n.ensures, count-more bytes c.loop-i.i c.loop-i-test.true),
-      omega (arith, c.x_of-n.ensures, x-small (get_or bytes c.loop-i.i 0)),
-    )
-
 pub returns : goal.returns
-returns c = c.loop-i.invariant.1 ∙ count-all c.args.bytes.now c.loop-i.i c.loop-i-test.false
+returns c =
+    count_from_yields_List c.filter.result _ c.count.ensures.ran
+    (YieldsList-from_filter _ is_x (YieldsList-from_slice c.args.bytes.now cc) c.filter.ensures.closure (λ x b q k. search (rules, tests)))
+    ∙ x-filtered c.args.bytes.now

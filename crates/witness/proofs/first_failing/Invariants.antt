@@ -1,6 +1,5 @@
--- Fillings are tried from 0 up, `most` of them: the number of the first that shows no 1, or `most`. The loop keeps `List`; the measure is `most -
--- tried`.
-use Prim.Native.Nat.{ℕ, ◌-◌, ◌≤◌, ◌<◌}
+-- Fillings are tried from 0 up, `most` of them: those below `tried` all show a 1.
+use Prim.Native.Nat.{ℕ, ◌<◌}
 use mathlib.Core.Path.{◌≡◌}
 use mathlib.Core.Bool.{true}
 use mathlib.Core.List.{List}
@@ -11,9 +10,6 @@ use Rattle.plan.specs.Fillings.{filled_shows}
 use Rattle.witness.proofs.first_failing.Given as goal
 
 abbrev pub invariant-loop-tried : goal.invariant-loop-tried
-invariant-loop-tried l = (l.tried ≤ l.most) × (length l.scratch ≡ length l.initial.scratch)
+invariant-loop-tried l = (length l.scratch ≡ length l.initial.scratch)
     × ((inputs : List ℕ) → Runs l.n (seven inputs l.latches l.outputs l.gates l.resets l.bads l.constraints) → (i : ℕ) → i < l.tried
     → filled_shows (circuit_of l.n (seven inputs l.latches l.outputs l.gates l.resets l.bads l.constraints)) l.number l.bytes i ≡ true)
-
-abbrev pub decreases-loop-tried : goal.decreases-loop-tried
-decreases-loop-tried l = l.most - l.tried

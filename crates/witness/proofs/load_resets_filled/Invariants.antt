@@ -1,6 +1,4 @@
--- The same of n resets, whose x are numbered from 0. The loop keeps `Filled`; the measure is `n - i`. `code_at`, `count-more` and `codes-length`
--- carry it from turn to turn, and `filled-all`, `codes-length` and `filled-words` give the answer.
-use Prim.Native.Nat.{◌+◌, ◌-◌, ◌≤◌}
+-- The same of n resets, whose x are numbered from 0.
 use mathlib.Core.Path.{◌≡◌}
 use lib.ListN.{get_or, take}
 use Rattle.plan.specs.Step.{value_of}
@@ -11,8 +9,5 @@ use Rattle.witness.specs.Asked.{codes_of}
 use Rattle.witness.proofs.load_resets_filled.Given as goal
 
 abbrev pub invariant-loop-i : goal.invariant-loop-i
-invariant-loop-i l = (l.i ≤ l.n) × (l.next ≡ 0 + x_count (take l.i (codes_of l.resets l.n)))
+invariant-loop-i l = (l.next ≡ x_count (take l.i (codes_of l.resets l.n)))
     × Filled l.initial.t l.first (λ j. word (value_of (get_or (filling l.k (codes_of l.resets l.n)) j 0))) l.i l.t
-
-abbrev pub decreases-loop-i : goal.decreases-loop-i
-decreases-loop-i l = l.n - l.i

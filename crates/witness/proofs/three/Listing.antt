@@ -11,7 +11,7 @@ use Rattle.plan.specs.declared.Counts.{Counts}
 use Rattle.plan.specs.Circuit.{Circuit, Tables, circuit_of}
 use Rattle.plan.specs.Step.{Value, value_of, outputs_of, bads_of, constraints_of, next_of, run, vectors_of, any1, all1, shows1}
 use Rattle.plan.specs.Outcome.{put}
-use Rattle.laws.proofs.Tables.{row_ends}
+use Rattle.laws.proofs.Tables.{row_ends, next_row}
 use Rattle.laws.proofs.Running.Runs.{next-length}
 use Rattle.tables.specs.Held.{Scratch}
 use Rattle.step.specs.values.Words.{words, values_at}
@@ -26,18 +26,17 @@ use Rattle.witness.specs.three.Listing.{Shown, shows_from}
 abbrev pub shows_left : Circuit → List Value → ℕ → List ℕ → ℕ → Bool
 shows_left c s left bytes at = shows_from c s left (drop at bytes)
 
--- vector k of a whole list starts at `at`
-pub record Turn (n : Counts) (number : ℕ) (bytes : List ℕ) (k at : ℕ) : Type 0 where
+-- vector k of a whole list
+pub record Turn (n : Counts) (number : ℕ) (bytes : List ℕ) (k : ℕ) : Type 0 where
   pub whole : length bytes ≡ number * n.I
-  pub here : at ≡ n.I * k
   pub more : k < number
 
 -- after k vectors
-pub record Going (n : Counts) (c : Circuit) (s : List Value) (number : ℕ) (bytes t : List ℕ) (k at : ℕ) : Type 0 where
+pub record Going (n : Counts) (c : Circuit) (s : List Value) (number : ℕ) (bytes t : List ℕ) (k : ℕ) : Type 0 where
   pub state : List Value
   pub state-length : length state ≡ n.L
   pub rests : Rests n state t
-  pub left : shows_from c s number bytes ≡ shows_left c state (number - k) bytes at
+  pub left : shows_from c s number bytes ≡ shows_left c state (number - k) bytes (n.I * k)
 
 -- the next vector, and the rest
 abbrev counts1 : Circuit → List Value → List Value → Bool → Bool
@@ -70,9 +69,13 @@ or-regroup false b c = refl
 pub part-short : (m : ℕ) (l : List ℕ) → length (take m l) ≤ m
 part-short m l = omega (arith, length-take m l)
 
-module _ {n : Counts} {number : ℕ} {bytes : List ℕ} {k at : ℕ} (u : Turn n number bytes k at) where
-  pub vector-ends : at + n.I ≤ length bytes
-  vector-ends = omega (arith, u.here, row_ends n.I number k bytes (omega (arith, u.whole, mul_comm number n.I)) u.more)
+module _ {n : Counts} {number : ℕ} {bytes : List ℕ} {k : ℕ} (u : Turn n number bytes k) where
+  -- where it starts
+  abbrev at : ℕ
+  at = n.I * k
+
+  vector-ends : at + n.I ≤ length bytes
+  vector-ends = omega (arith, row_ends n.I number k bytes (omega (arith, u.whole, mul_comm number n.I)) u.more)
 
   -- the vector of this turn
   abbrev pub vector_of : List Value
@@ -83,10 +86,11 @@ module _ {n : Counts} {number : ℕ} {bytes : List ℕ} {k at : ℕ} (u : Turn n
       length-map (take n.I (drop at bytes)) value_of
       ∙ length-take-le n.I (drop at bytes) (omega (arith, vector-ends, length-drop at bytes))
 
-  module _ {x : Tables} (r : Runs n x) {s : List Value} {t : List ℕ} (room : Scratch n t) (g : Going n (circuit_of n x) s number bytes t k at) where
+  module _ {x : Tables} (r : Runs n x) {s : List Value} {t : List ℕ} (room : Scratch n t) (g : Going n (circuit_of n x) s number bytes t k) where
     abbrev c : Circuit
     c = circuit_of n x
 
+    -- it is loaded
     module _ {t1 : List ℕ} (e1 : t1 ≡ put t 1 (words (map value_of (take (at + n.I - at) (drop at bytes))))) where
       only : at + n.I - at ≡ n.I
       only = omega arith
@@ -106,43 +110,47 @@ module _ {n : Counts} {number : ℕ} {bytes : List ℕ} {k at : ℕ} (u : Turn n
         stands = vector-stands;
       }
 
-    -- after its step: whether every constraint is 1, and whether a 1 is shown
-    module _ {t2 : List ℕ} (p : Stepped n c g.state vector_of t2) (q : Bool)
-        (all : q ≡ all1 (seen (lits_of n) t2 (take n.C x.constraints))) where
-      abbrev later : Bool
-      later = shows_left c (next_of c g.state vector_of) (number - (k + 1)) bytes (at + n.I)
+      -- after its step: whether every constraint is 1, and whether a 1 is shown
+      module _ {t2 : List ℕ} (step : Stands n g.state vector_of t1 → Stepped n c g.state vector_of t2) (q : Bool)
+          (all : q ≡ all1 (seen (lits_of n) t2 (take n.C x.constraints))) where
+        abbrev later : Bool
+        later = shows_left c (next_of c g.state vector_of) (number - (k + 1)) bytes (at + n.I)
 
-      turned : shows_from c s number bytes ≡ counts1 c g.state vector_of later
-      turned = g.left ∙ shows-turn c g.state number k n.I bytes at (ap (λ (m : Counts). m.I) r.counts) u.more
+        p : Stepped n c g.state vector_of t2
+        p = step vector-stands
 
-      constrained : all1 (constraints_of c g.state vector_of) ≡ q
-      constrained = sym (all ∙ ap all1 (constraints-seen r p))
+        turned : shows_from c s number bytes ≡ counts1 c g.state vector_of later
+        turned = g.left ∙ shows-turn c g.state number k n.I bytes at (ap (λ (m : Counts). m.I) r.counts) u.more
 
-      pub none-counts : q ≡ false → false ≡ shows_from c s number bytes
-      none-counts e =
-          sym (turned ∙ ap (λ (b : Bool). b && (any1 (outputs_of c g.state vector_of) || (any1 (bads_of c g.state vector_of) || later))) (constrained ∙ e))
+        constrained : all1 (constraints_of c g.state vector_of) ≡ q
+        constrained = sym (all ∙ ap all1 (constraints-seen r p))
 
-      module _ (good : q ≡ true) (a : Bool)
-          (any : a ≡ (any1 (values_at t2 (n.M + 1) n.O) || any1 (seen (lits_of n) t2 (take n.B x.bads)))) where
-        counted : shows_from c s number bytes ≡ (a || later)
-        counted =
-            turned
-            ∙ (ap (λ (b : Bool). b && (any1 (outputs_of c g.state vector_of) || (any1 (bads_of c g.state vector_of) || later))) (constrained ∙ good)
-            ∙ (or-regroup (any1 (outputs_of c g.state vector_of)) (any1 (bads_of c g.state vector_of)) later
-            ∙ ap (λ (b : Bool). b || later)
-            (sym (any ∙ ap₂ (λ (o b : List Value). any1 o || any1 b)
-            (told_part t2 (n.M + 1) n.O n.O (outputs_of c g.state vector_of) refl p.outputs) (bads-seen r p)))))
+        pub none-counts : q ≡ false → false ≡ shows_from c s number bytes
+        none-counts e =
+            sym (turned ∙ ap (λ (b : Bool). b && (any1 (outputs_of c g.state vector_of) || (any1 (bads_of c g.state vector_of) || later))) (constrained ∙ e))
 
-        pub found-one : a ≡ true → true ≡ shows_from c s number bytes
-        found-one e = sym (counted ∙ ap (λ (b : Bool). b || later) e)
+        module _ (good : q ≡ true) (a : Bool)
+            (any : a ≡ (any1 (values_at t2 (n.M + 1) n.O) || any1 (seen (lits_of n) t2 (take n.B x.bads)))) where
+          counted : shows_from c s number bytes ≡ (a || later)
+          counted =
+              turned
+              ∙ (ap (λ (b : Bool). b && (any1 (outputs_of c g.state vector_of) || (any1 (bads_of c g.state vector_of) || later))) (constrained ∙ good)
+              ∙ (or-regroup (any1 (outputs_of c g.state vector_of)) (any1 (bads_of c g.state vector_of)) later
+              ∙ ap (λ (b : Bool). b || later)
+              (sym (any ∙ ap₂ (λ (o b : List Value). any1 o || any1 b)
+              (told_part t2 (n.M + 1) n.O n.O (outputs_of c g.state vector_of) refl p.outputs) (bads-seen r p)))))
 
-        pub going_on : a ≡ false → Going n c s number bytes t2 (k + 1) (at + n.I)
-        going_on e = record {
-          state = next_of c g.state vector_of;
-          state-length = next-length c g.state vector_of ∙ ap (λ (m : Counts). m.L) r.counts;
-          rests = p.rests;
-          left = counted ∙ ap (λ (b : Bool). b || later) e;
-        }
+          pub found-one : a ≡ true → true ≡ shows_from c s number bytes
+          found-one e = sym (counted ∙ ap (λ (b : Bool). b || later) e)
+
+          pub going_on : a ≡ false → Going n c s number bytes t2 (k + 1)
+          going_on e = record {
+            state = next_of c g.state vector_of;
+            state-length = next-length c g.state vector_of ∙ ap (λ (m : Counts). m.L) r.counts;
+            rests = p.rests;
+            left = counted ∙ ap (λ (b : Bool). b || later) e
+                ∙ ap (shows_left c (next_of c g.state vector_of) (number - (k + 1)) bytes) (next_row n.I k at refl);
+          }
 
 -- what is asked where the words after a step are looked at
 pub shown-asks : {n : Counts} {x : Tables} (r : Runs n x) {t : List ℕ} → Scratch n t → Shown n x.bads t
@@ -154,12 +162,7 @@ shown-asks r room = record {
 }
 
 module _ (n : Counts) (c : Circuit) (s : List Value) (number : ℕ) (bytes t : List ℕ) where
-  pub going-first : length s ≡ n.L → Rests n s t → Going n c s number bytes t 0 0
-  going-first e rests =
-      let all : number ≡ number - 0 = omega arith in
-      record { state = s; state-length = e; rests = rests; left = ap (λ (m : ℕ). shows_from c s m bytes) all }
-
-  pub none-shown : (k at : ℕ) → number ≤ k → Going n c s number bytes t k at → false ≡ shows_from c s number bytes
-  none-shown k at h g =
+  pub none-shown : (k : ℕ) → number ≤ k → Going n c s number bytes t k → false ≡ shows_from c s number bytes
+  none-shown k h g =
       let nothing : number - k ≡ 0 = omega arith in
-      sym (g.left ∙ ap (λ (left : ℕ). shows_left c g.state left bytes at) nothing)
+      sym (g.left ∙ ap (λ (left : ℕ). shows_left c g.state left bytes (n.I * k)) nothing)

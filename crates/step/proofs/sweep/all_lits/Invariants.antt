@@ -1,14 +1,9 @@
--- Whether all of them are. The loop keeps `(i ≤ n) × (all1 (seen_from table t n lits 0) ≡ all1 (seen_from table t n lits i))`; the measure is `n - i`.
--- `all-later` carries it from turn to turn, and `all_here` and `all_seen` give the answer.
-use Prim.Native.Nat.{◌-◌, ◌≤◌}
+-- Whether all of them are: what is left to look at answers for all.
 use mathlib.Core.Path.{◌≡◌}
+use lib.ListN.{drop}
 use Rattle.plan.specs.Step.{all1}
-use Rattle.step.proofs.sweep.Seeing.{seen_from}
+use Rattle.step.specs.sweep.Lookup.{seen}
 use Rattle.step.proofs.sweep.all_lits.Given as goal
 
--- what is left to look at answers for all
-abbrev pub invariant-loop-i : goal.invariant-loop-i
-invariant-loop-i l = (l.i ≤ l.n) × (all1 (seen_from l.table l.t l.n l.lits 0) ≡ all1 (seen_from l.table l.t l.n l.lits l.i))
-
-abbrev pub decreases-loop-i : goal.decreases-loop-i
-decreases-loop-i l = l.n - l.i
+abbrev pub invariant-loop-l : goal.invariant-loop-l
+invariant-loop-l l = all1 (seen l.lits l.t l.l-items) ≡ all1 (seen l.lits l.t (drop l.l-index l.l-items))

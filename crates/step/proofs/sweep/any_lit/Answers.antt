@@ -1,53 +1,30 @@
--- Whether one of the first n literals of a table is 1 after a step. The loop keeps `(i ≤ n) × (any1 (seen_from table t n lits 0) ≡ any1 (seen_from
--- table t n lits i))`; the measure is `n - i`. `any-later` carries it from turn to turn, and `any_here` and `any_none` give the answer.
-use Prim.Native.Nat.{◌-◌}
-use mathlib.Core.Path.{◌≡◌, refl, sym, ap, ◌∙◌, subst}
-use native.Mathlib.Omega.{arith}
-use lib.ListN.{get_or}
+-- Whether one of the first n literals of a table is 1 after a step. `any-later` carries the invariant from turn to turn, and `any_here` and
+-- `any_none` give the answer.
+use mathlib.Core.Path.{sym, ap, ◌∙◌, subst}
 use Rattle.plan.specs.declared.Lit.{Lit}
 use Rattle.plan.specs.Literals.{word_of}
 use Rattle.step.specs.sweep.Lookup.{word_at, Inside}
-use Rattle.step.proofs.sweep.Seeing.{any_here, any-later, any_none}
+use Rattle.step.proofs.sweep.Seeing.{literal_in, any_here, any-later, any_none}
 use Rattle.step.proofs.sweep.any_lit.Goals as goal
-
-pub loop-i-init : goal.loop-i-init
-loop-i-init c = (omega arith, refl)
-
-pub offset_bounds-table-i : goal.offset_bounds-table-i
-offset_bounds-table-i c = omega (arith, c.requires.literals-long)
-
-pub bounds-table-i : goal.bounds-table-i
-bounds-table-i c = omega (arith, c.requires.literals-long)
 
 pub value_of-requires : goal.value_of-requires
 value_of-requires c =
     subst (λ (l : Lit). Inside c.args.lits c.args.t.now (word_of l)) (sym c.at.ensures)
-    (c.requires.inside c.loop-i.i c.loop-i-test.true)
+    (literal_in c.requires c.loop-l.l-index c.loop-l-test.true)
 
 pub returns-then-value_of-eq-MAY1 : goal.returns-then-value_of-eq-MAY1
 returns-then-value_of-eq-MAY1 c =
-    let value-is : let a = c.args in c.value_of.result ≡ word_at a.lits a.t.now (get_or a.table.now c.loop-i.i 0) =
     let a = c.args in
-    c.value_of.ensures ∙ ap (λ (l : Lit). word_at a.lits a.t.now (word_of l)) c.at.ensures in
-    let a = c.args in
-    let long = c.requires.literals-long in
-    any_here a.table.now a.t.now a.n a.lits long c.loop-i.i c.loop-i-test.true _ (value-is)
-    c.loop-i.invariant.1 c.if-value_of-eq-MAY1.true
+    any_here a.lits a.t.now _ c.loop-l.l-index c.loop-l-test.true _
+    (c.value_of.ensures ∙ ap (λ (l : Lit). word_at a.lits a.t.now (word_of l)) c.at.ensures)
+    c.loop-l.invariant c.if-value_of-eq-MAY1.true
 
-pub loop-i-preserved : goal.loop-i-preserved
-loop-i-preserved c =
-    let value-is : let a = c.args in c.value_of.result ≡ word_at a.lits a.t.now (get_or a.table.now c.loop-i.i 0) =
+pub loop-l-preserved : goal.loop-l-preserved
+loop-l-preserved c =
     let a = c.args in
-    c.value_of.ensures ∙ ap (λ (l : Lit). word_at a.lits a.t.now (word_of l)) c.at.ensures in
-    let a = c.args in
-    let long = c.requires.literals-long in (
-      omega arith,
-      any-later a.table.now a.t.now a.n a.lits long c.loop-i.i c.loop-i-test.true _ (value-is)
-          c.loop-i.invariant.1 c.if-value_of-eq-MAY1.false,
-    )
+    any-later a.lits a.t.now _ c.loop-l.l-index c.loop-l-test.true _
+    (c.value_of.ensures ∙ ap (λ (l : Lit). word_at a.lits a.t.now (word_of l)) c.at.ensures)
+    c.loop-l.invariant c.if-value_of-eq-MAY1.false
 
 pub returns : goal.returns
-returns c =
-    let a = c.args in
-    let long = c.requires.literals-long in
-    any_none a.table.now a.t.now a.n a.lits long c.loop-i.i c.loop-i-test.false c.loop-i.invariant.1
+returns c = any_none c.args.lits c.args.t.now _ c.loop-l.l-index c.loop-l-test.false c.loop-l.invariant

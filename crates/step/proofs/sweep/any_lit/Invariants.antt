@@ -1,14 +1,9 @@
--- Whether one of the first n literals of a table is 1 after a step. The loop keeps `(i ≤ n) × (any1 (seen_from table t n lits 0) ≡ any1 (seen_from
--- table t n lits i))`; the measure is `n - i`. `any-later` carries it from turn to turn, and `any_here` and `any_none` give the answer.
-use Prim.Native.Nat.{◌-◌, ◌≤◌}
+-- Whether one of the first n literals of a table is 1 after a step: what is left to look at answers for all.
 use mathlib.Core.Path.{◌≡◌}
+use lib.ListN.{drop}
 use Rattle.plan.specs.Step.{any1}
-use Rattle.step.proofs.sweep.Seeing.{seen_from}
+use Rattle.step.specs.sweep.Lookup.{seen}
 use Rattle.step.proofs.sweep.any_lit.Given as goal
 
--- what is left to look at answers for all
-abbrev pub invariant-loop-i : goal.invariant-loop-i
-invariant-loop-i l = (l.i ≤ l.n) × (any1 (seen_from l.table l.t l.n l.lits 0) ≡ any1 (seen_from l.table l.t l.n l.lits l.i))
-
-abbrev pub decreases-loop-i : goal.decreases-loop-i
-decreases-loop-i l = l.n - l.i
+abbrev pub invariant-loop-l : goal.invariant-loop-l
+invariant-loop-l l = any1 (seen l.lits l.t l.l-items) ≡ any1 (seen l.lits l.t (drop l.l-index l.l-items))

@@ -1,6 +1,5 @@
--- The values of as many resets fill a state: the first one of a run. The loop keeps `Filled`; the measure is `length state₀ - i`. `filled-front` and
--- `told-word` carry it from turn to turn, and `filled-all` and `state-filled` give the answer.
-use Prim.Native.Nat.{◌-◌}
+-- The values of as many resets fill a state: the first one of a run. The loop keeps `Filled`. `filled-front` and `told-word` carry it from turn to
+-- turn, and `filled-all` and `state-filled` give the answer.
 use mathlib.Core.Path.{ap, ◌∙◌}
 use native.Mathlib.Omega.{arith}
 use lib.ListN.{length}
@@ -11,17 +10,12 @@ use Rattle.step.proofs.values.Codes.{told-word, state-filled}
 use Rattle.step.proofs.values.first_state.Goals as goal
 
 pub loop-i-preserved : goal.loop-i-preserved
-loop-i-preserved c = (
-  omega arith,
-  filled-front _ _ c.loop-i.i c.loop-i.state _ c.loop-i.invariant.1 (omega arith)
-      (c.code_of.ensures
-      ∙ ap code_of (ap told c.word_of_reset.ensures ∙ (told-word (reset_value c.reset_at.result) ∙ ap reset_value c.reset_at.ensures))),
-)
-
-pub shape_of-state : goal.shape_of-state
-shape_of-state c = c.loop-i.invariant.1.same
+loop-i-preserved c =
+    filled-front _ _ c.loop-i.i c.loop-i.state _ c.loop-i.invariant (omega arith)
+    (c.code_of.ensures
+    ∙ ap code_of (ap told c.word_of_reset.ensures ∙ (told-word (reset_value c.reset_at.result) ∙ ap reset_value c.reset_at.ensures)))
 
 pub returns : goal.returns
 returns c =
-    filled-all _ _ _ (length c.args.state.now) c.loop-i.i c.loop-i.state c.loop-i.invariant.1 (omega arith)
+    filled-all _ _ _ (length c.args.state.now) c.loop-i.i c.loop-i.state c.loop-i.invariant (omega arith)
     ∙ state-filled c.args.resets.now c.args.state.now

@@ -1,26 +1,18 @@
--- A vector's values go into words from `first` on. The loop keeps `Filled`; the measure is `length codes - i`. `filled_more` carries it from turn to
--- turn, and `filled-all` and `loaded` give the answer.
-use Prim.Native.Nat.{◌-◌}
+-- A vector's values go into words from `first` on. The loop keeps `Filled`. `filled_more` carries it from turn to turn, and `filled-all` and
+-- `loaded` give the answer.
 use mathlib.Core.Path.{ap, ◌∙◌}
 use native.Mathlib.Omega.{arith}
 use lib.ListN.{length}
 use Rattle.plan.specs.Outcome.{put}
-use Rattle.step.proofs.values.Filling.{filled_none, filled_more, filled-all}
+use Rattle.step.proofs.values.Filling.{filled_more, filled-all}
 use Rattle.step.proofs.values.Codes.{loaded}
 use Rattle.step.proofs.values.load.Goals as goal
 
-pub loop-i-init : goal.loop-i-init
-loop-i-init c = (omega arith, filled_none _ _ _)
-
 pub loop-i-preserved : goal.loop-i-preserved
-loop-i-preserved c =
-    (omega arith, filled_more _ _ _ c.loop-i.i c.loop-i.t _ c.loop-i.invariant.1 (omega (arith, c.requires)) c.word_of.ensures)
-
-pub shape_of-t : goal.shape_of-t
-shape_of-t c = c.loop-i.invariant.1.same
+loop-i-preserved c = filled_more _ _ _ c.loop-i.i c.loop-i.t _ c.loop-i.invariant (omega (arith, c.requires)) c.word_of.ensures
 
 pub returns : goal.returns
 returns c =
     let a = c.args in
-    filled-all _ _ _ (length a.codes.now) c.loop-i.i c.loop-i.t c.loop-i.invariant.1 (omega arith)
+    filled-all _ _ _ (length a.codes.now) c.loop-i.i c.loop-i.t c.loop-i.invariant (omega arith)
     ∙ ap (put a.t.now a.first) (loaded a.codes.now)

@@ -1,14 +1,10 @@
--- A vector's values go into words from `first` on. The loop keeps `Filled`; the measure is `length codes - i`. `filled_more` carries it from turn to
+-- A vector's values go into words from `first` on. The loop keeps `Filled`. `filled_more` carries it from turn to
 -- turn, and `filled-all` and `loaded` give the answer.
-use Prim.Native.Nat.{◌-◌, ◌≤◌}
-use lib.ListN.{length, get_or}
+use lib.ListN.{get_or}
 use Rattle.plan.specs.Step.{value_of}
 use Rattle.step.specs.values.Words.{word}
 use Rattle.step.proofs.values.Filling.{Filled}
 use Rattle.step.proofs.values.load.Given as goal
 
 abbrev pub invariant-loop-i : goal.invariant-loop-i
-invariant-loop-i l = (l.i ≤ length l.codes) × Filled l.initial.t l.first (λ k. word (value_of (get_or l.codes k 0))) l.i l.t
-
-abbrev pub decreases-loop-i : goal.decreases-loop-i
-decreases-loop-i l = length l.codes - l.i
+invariant-loop-i l = Filled l.initial.t l.first (λ k. word (value_of (get_or l.codes k 0))) l.i l.t

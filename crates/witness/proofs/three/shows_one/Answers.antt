@@ -1,168 +1,59 @@
--- Whether a list, whose bytes are good, shows 1 on some output or bad state from the state that scratch holds, every constraint being 1 there and at
--- all steps before. The loop keeps `List`; the measure is `number - k`. `next_row`, `going_on` and `vector-stands` carry it from turn to turn, and
--- `none-counts`, `vector-stands` and `found-one` give the answer.
-use Prim.Native.Nat.{ℕ, ◌+◌, ◌-◌}
-use mathlib.Core.Path.{◌≡◌, refl, sym, ◌∙◌}
-use mathlib.Core.List.{List}
-use native.Mathlib.Nat.{mul-zero}
+-- `going_on` carries the invariant from turn to turn, and `none-counts`, `found-one` and `none-shown` give the answer.
+use mathlib.Core.Path.{◌∙◌}
 use native.Mathlib.Omega.{arith}
-use borrow.Author.Tests.{not-true, not-false}
-use lib.ListN.{length, drop}
-use Rattle.plan.specs.Circuit.{Tables, circuit_of, seven}
-use Rattle.plan.specs.Step.{Value}
-use Rattle.laws.proofs.Tables.{next_row}
-use Rattle.tables.specs.Held.{Scratch}
-use Rattle.step.specs.sweep.Running.{Runs, Rests, Stepped}
+use Rattle.plan.specs.Circuit.{seven}
 use Rattle.step.proofs.sweep.Seeing.{sees-constraints}
-use Rattle.witness.proofs.three.Listing.{Turn, part-short, vector_of, going-first, vector-ends, vector-stands, vector-ready}
-use Rattle.witness.proofs.three.Listing.{shown-asks, none-counts, found-one, going_on, none-shown}
+use Rattle.witness.proofs.three.Listing.{vector-ready, shown-asks, none-counts, found-one, going_on, none-shown}
 use Rattle.witness.proofs.three.shows_one.Goals as goal
-
-pub overflow_add-lits : goal.overflow_add-lits
-overflow_add-lits c = omega (arith, c.requires.starts.runs.fits.most-M)
-
-pub overflow_add-lits-2 : goal.overflow_add-lits-2
-overflow_add-lits-2 c =
-    let f = c.requires.starts.runs.fits in
-    omega (arith, f.most-M, f.most-O)
-
-pub loop-k-init : goal.loop-k-init
-loop-k-init c =
-    let tables_of : List ℕ → List ℕ → Tables =
-    λ inputs resets. let a = c.args in
-    seven inputs a.latches.now a.outputs.now a.gates.now resets a.bads.now a.constraints.now in
-    let a = c.args in (
-      omega arith,
-      sym (mul-zero a.n.I),
-      refl,
-      λ inputs resets s r l z.
-          going-first a.n (circuit_of a.n (tables_of inputs resets)) s a.number a.bytes.now a.scratch.now l z,
-    )
-
-pub overflow_add-end : goal.overflow_add-end
-overflow_add-end c =
-    let turn : Turn c.args.n c.args.number c.args.bytes.now c.loop-k.k c.loop-k.at =
-    record { whole = c.requires.bytes_len; here = c.loop-k.invariant.1; more = c.loop-k-test.true } in
-    omega (arith, vector-ends (turn), c.well_formed)
-
-pub slice_bounds-load-end : goal.slice_bounds-load-end
-slice_bounds-load-end c =
-    let turn : Turn c.args.n c.args.number c.args.bytes.now c.loop-k.k c.loop-k.at =
-    record { whole = c.requires.bytes_len; here = c.loop-k.invariant.1; more = c.loop-k-test.true } in
-    omega (arith, vector-ends (turn))
-
-pub load-requires : goal.load-requires
-load-requires c =
-    let room : Scratch c.args.n c.loop-k.scratch =
-    omega (arith, c.requires.starts.scratch-long, c.loop-k.invariant.2) in
-    let at = c.loop-k.at in
-    omega (arith, part-short (at + c.args.n.I - at) (drop at c.args.bytes.now), room, c.requires.starts.runs.fits.sum)
 
 pub step_values-requires : goal.step_values-requires
 step_values-requires c =
-    let turn : Turn c.args.n c.args.number c.args.bytes.now c.loop-k.k c.loop-k.at =
-    record { whole = c.requires.bytes_len; here = c.loop-k.invariant.1; more = c.loop-k-test.true } in
-    let room : Scratch c.args.n c.loop-k.scratch =
-    omega (arith, c.requires.starts.scratch-long, c.loop-k.invariant.2) in
     let p = c.requires.starts in
-    vector-ready (turn) p.runs (room) (c.loop-k.invariant.3 p.inputs p.resets p.state p.runs p.state-length p.rests)
+    vector-ready (record { whole = c.requires.bytes_len; more = c.loop-k-test.true }) p.runs
+    (omega (arith, p.scratch-long, c.loop-k.invariant.0)) (c.loop-k.invariant.1 p.inputs p.resets p.state p.runs p.state-length p.rests)
     c.load.ensures c.load.auto.t
 
 pub all_lits-requires : goal.all_lits-requires
 all_lits-requires c =
-    let same : length c.step_values.new.t ≡ length c.args.scratch.now =
-    c.step_values.auto.t ∙ c.load.auto.t ∙ c.loop-k.invariant.2 in
-    let room_after : Scratch c.args.n c.step_values.new.t =
-    omega (arith, c.requires.starts.scratch-long, same) in
-    sees-constraints c.requires.starts.runs (room_after)
-
-pub shape_of-scratch-then-not-all_lits : goal.shape_of-scratch-then-not-all_lits
-shape_of-scratch-then-not-all_lits c =
-    let same : length c.step_values.new.t ≡ length c.args.scratch.now =
-    c.step_values.auto.t ∙ c.load.auto.t ∙ c.loop-k.invariant.2 in
-    same
+    let p = c.requires.starts in
+    sees-constraints p.runs (omega (arith, p.scratch-long, c.step_values.auto.t ∙ c.load.auto.t ∙ c.loop-k.invariant.0))
 
 pub returns-then-not-all_lits : goal.returns-then-not-all_lits
 returns-then-not-all_lits c =
-    let turn : Turn c.args.n c.args.number c.args.bytes.now c.loop-k.k c.loop-k.at =
-    record { whole = c.requires.bytes_len; here = c.loop-k.invariant.1; more = c.loop-k-test.true } in
-    let room : Scratch c.args.n c.loop-k.scratch =
-    omega (arith, c.requires.starts.scratch-long, c.loop-k.invariant.2) in
-    let tables_of : List ℕ → List ℕ → Tables =
-    λ inputs resets. let a = c.args in
-    seven inputs a.latches.now a.outputs.now a.gates.now resets a.bads.now a.constraints.now in
-    let after : (inputs resets : List ℕ) (s : List Value) → let n = c.args.n in (r : Runs n (tables_of inputs resets)) (l : length s ≡ n.L) (z : Rests n s c.args.scratch.now) → Stepped n (circuit_of n (tables_of inputs resets)) (c.loop-k.invariant.3 inputs resets s r l z).state (vector_of (turn)) c.step_values.new.t =
-    λ inputs resets s r l z. c.step_values.ensures (tables_of inputs resets) _ _ r
-    (vector-stands (turn) r (room) (c.loop-k.invariant.3 inputs resets s r l z) c.load.ensures) in
+    let a = c.args in
     λ inputs resets s r l z.
-    none-counts (turn) r (room) (c.loop-k.invariant.3 inputs resets s r l z) (after inputs resets s r l z) _
-    c.all_lits.ensures (not-true _ c.if-not-all_lits.true-raw)
+    none-counts (record { whole = c.requires.bytes_len; more = c.loop-k-test.true }) r
+    (omega (arith, c.requires.starts.scratch-long, c.loop-k.invariant.0)) (c.loop-k.invariant.1 inputs resets s r l z) c.load.ensures
+    (c.step_values.ensures (seven inputs a.latches.now a.outputs.now a.gates.now resets a.bads.now a.constraints.now) _ _ r) _ c.all_lits.ensures
+    c.if-not-all_lits.true
 
 pub shown-requires : goal.shown-requires
 shown-requires c =
-    let same : length c.step_values.new.t ≡ length c.args.scratch.now =
-    c.step_values.auto.t ∙ c.load.auto.t ∙ c.loop-k.invariant.2 in
-    let room_after : Scratch c.args.n c.step_values.new.t =
-    omega (arith, c.requires.starts.scratch-long, same) in
-    shown-asks c.requires.starts.runs (room_after)
-
-pub shape_of-scratch-then-shown : goal.shape_of-scratch-then-shown
-shape_of-scratch-then-shown c =
-    let same : length c.step_values.new.t ≡ length c.args.scratch.now =
-    c.step_values.auto.t ∙ c.load.auto.t ∙ c.loop-k.invariant.2 in
-    same
+    let p = c.requires.starts in
+    shown-asks p.runs (omega (arith, p.scratch-long, c.step_values.auto.t ∙ c.load.auto.t ∙ c.loop-k.invariant.0))
 
 pub returns-then-shown : goal.returns-then-shown
 returns-then-shown c =
-    let turn : Turn c.args.n c.args.number c.args.bytes.now c.loop-k.k c.loop-k.at =
-    record { whole = c.requires.bytes_len; here = c.loop-k.invariant.1; more = c.loop-k-test.true } in
-    let room : Scratch c.args.n c.loop-k.scratch =
-    omega (arith, c.requires.starts.scratch-long, c.loop-k.invariant.2) in
-    let tables_of : List ℕ → List ℕ → Tables =
-    λ inputs resets. let a = c.args in
-    seven inputs a.latches.now a.outputs.now a.gates.now resets a.bads.now a.constraints.now in
-    let after : (inputs resets : List ℕ) (s : List Value) → let n = c.args.n in (r : Runs n (tables_of inputs resets)) (l : length s ≡ n.L) (z : Rests n s c.args.scratch.now) → Stepped n (circuit_of n (tables_of inputs resets)) (c.loop-k.invariant.3 inputs resets s r l z).state (vector_of (turn)) c.step_values.new.t =
-    λ inputs resets s r l z. c.step_values.ensures (tables_of inputs resets) _ _ r
-    (vector-stands (turn) r (room) (c.loop-k.invariant.3 inputs resets s r l z) c.load.ensures) in
+    let a = c.args in
     λ inputs resets s r l z.
-    found-one (turn) r (room) (c.loop-k.invariant.3 inputs resets s r l z) (after inputs resets s r l z) _
-    c.all_lits.ensures (not-false _ c.if-not-all_lits.false-raw) _ c.shown.ensures c.if-shown.true
-
-pub overflow_add-k : goal.overflow_add-k
-overflow_add-k c = omega (arith, c.loop-k-test.true, c.well_formed)
+    found-one (record { whole = c.requires.bytes_len; more = c.loop-k-test.true }) r
+    (omega (arith, c.requires.starts.scratch-long, c.loop-k.invariant.0)) (c.loop-k.invariant.1 inputs resets s r l z) c.load.ensures
+    (c.step_values.ensures (seven inputs a.latches.now a.outputs.now a.gates.now resets a.bads.now a.constraints.now) _ _ r) _ c.all_lits.ensures
+    c.if-not-all_lits.false _ c.shown.ensures c.if-shown.true
 
 pub loop-k-preserved : goal.loop-k-preserved
 loop-k-preserved c =
-    let turn : Turn c.args.n c.args.number c.args.bytes.now c.loop-k.k c.loop-k.at =
-    record { whole = c.requires.bytes_len; here = c.loop-k.invariant.1; more = c.loop-k-test.true } in
-    let room : Scratch c.args.n c.loop-k.scratch =
-    omega (arith, c.requires.starts.scratch-long, c.loop-k.invariant.2) in
-    let tables_of : List ℕ → List ℕ → Tables =
-    λ inputs resets. let a = c.args in
-    seven inputs a.latches.now a.outputs.now a.gates.now resets a.bads.now a.constraints.now in
-    let same : length c.step_values.new.t ≡ length c.args.scratch.now =
-    c.step_values.auto.t ∙ c.load.auto.t ∙ c.loop-k.invariant.2 in
-    let after : (inputs resets : List ℕ) (s : List Value) → let n = c.args.n in (r : Runs n (tables_of inputs resets)) (l : length s ≡ n.L) (z : Rests n s c.args.scratch.now) → Stepped n (circuit_of n (tables_of inputs resets)) (c.loop-k.invariant.3 inputs resets s r l z).state (vector_of (turn)) c.step_values.new.t =
-    λ inputs resets s r l z. c.step_values.ensures (tables_of inputs resets) _ _ r
-    (vector-stands (turn) r (room) (c.loop-k.invariant.3 inputs resets s r l z) c.load.ensures) in (
-      omega arith,
-      next_row c.args.n.I c.loop-k.k c.loop-k.at c.loop-k.invariant.1,
-      same,
+    let a = c.args in (
+      c.step_values.auto.t ∙ c.load.auto.t ∙ c.loop-k.invariant.0,
       λ inputs resets s r l z.
-          going_on (turn) r (room) (c.loop-k.invariant.3 inputs resets s r l z) (after inputs resets s r l z) _
-          c.all_lits.ensures (not-false _ c.if-not-all_lits.false-raw) _
-          c.shown.ensures c.if-shown.false,
+          going_on (record { whole = c.requires.bytes_len; more = c.loop-k-test.true }) r
+          (omega (arith, c.requires.starts.scratch-long, c.loop-k.invariant.0)) (c.loop-k.invariant.1 inputs resets s r l z) c.load.ensures
+          (c.step_values.ensures (seven inputs a.latches.now a.outputs.now a.gates.now resets a.bads.now a.constraints.now) _ _ r) _
+          c.all_lits.ensures c.if-not-all_lits.false _ c.shown.ensures c.if-shown.false,
     )
-
-pub shape_of-scratch : goal.shape_of-scratch
-shape_of-scratch c = c.loop-k.invariant.2
 
 pub returns : goal.returns
 returns c =
-    let tables_of : List ℕ → List ℕ → Tables =
-    λ inputs resets. let a = c.args in
-    seven inputs a.latches.now a.outputs.now a.gates.now resets a.bads.now a.constraints.now in
-    λ inputs resets s r l z.
     let a = c.args in
-    none-shown a.n (circuit_of a.n (tables_of inputs resets)) s a.number a.bytes.now c.loop-k.scratch c.loop-k.k c.loop-k.at c.loop-k-test.false
-    (c.loop-k.invariant.3 inputs resets s r l z)
+    λ inputs resets s r l z.
+    none-shown a.n _ s a.number a.bytes.now c.loop-k.scratch c.loop-k.k c.loop-k-test.false (c.loop-k.invariant.1 inputs resets s r l z)

@@ -1,7 +1,5 @@
--- Whether a list, whose bytes are good, shows 1 on some output or bad state from the state that scratch holds, every constraint being 1 there and at
--- all steps before. The loop keeps `List`; the measure is `number - k`. `next_row`, `going_on` and `vector-stands` carry it from turn to turn, and
--- `none-counts`, `vector-stands` and `found-one` give the answer.
-use Prim.Native.Nat.{ℕ, ◌*◌, ◌-◌, ◌≤◌}
+-- Before step k scratch holds the state there, and what is left of the list answers for all of it.
+use Prim.Native.Nat.{ℕ}
 use mathlib.Core.Path.{◌≡◌}
 use mathlib.Core.List.{List}
 use lib.ListN.{length}
@@ -12,10 +10,7 @@ use Rattle.witness.proofs.three.Listing.{Going}
 use Rattle.witness.proofs.three.shows_one.Given as goal
 
 abbrev pub invariant-loop-k : goal.invariant-loop-k
-invariant-loop-k l = (l.k ≤ l.number) × (l.at ≡ l.n.I * l.k) × (length l.scratch ≡ length l.initial.scratch)
+invariant-loop-k l = (length l.scratch ≡ length l.initial.scratch)
     × ((inputs resets : List ℕ) (s : List Value) → Runs l.n (seven inputs l.latches l.outputs l.gates resets l.bads l.constraints) → length s ≡ l.n.L
     → Rests l.n s l.initial.scratch
-    → Going l.n (circuit_of l.n (seven inputs l.latches l.outputs l.gates resets l.bads l.constraints)) s l.number l.bytes l.scratch l.k l.at)
-
-abbrev pub decreases-loop-k : goal.decreases-loop-k
-decreases-loop-k l = l.number - l.k
+    → Going l.n (circuit_of l.n (seven inputs l.latches l.outputs l.gates resets l.bads l.constraints)) s l.number l.bytes l.scratch l.k)
