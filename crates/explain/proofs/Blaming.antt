@@ -135,33 +135,18 @@ module _ (w : ℕ → Value) (lits m n : ℕ) (g : Gate) (low : var_of g.lhs < n
               ap var_of eb ∙ ap (λ (x : Bool). cond x (var_of g.rhs0) (var_of g.rhs1))
               (sym (is0-not (lit w g.rhs0) (λ f. eqb-false _ 0 e (first ∙ f))))
 
--- the loop
-pub record Walking (gates : List ℕ) (a lits m n : ℕ) (t₀ t : List ℕ) (k : ℕ) : Type 0 where
-  pub within : k ≤ a
-  pub size : length t ≡ length t₀
-  pub walked : (w : ℕ → Value) (seen : List ℕ) → Known w lits m n seen t₀
-      → (come : List ℕ) × Known w lits m n come t × (walk (blames w) (gates_at gates k) come ≡ walk (blames w) (gates_at gates a) seen)
+-- the loop: from gate k on the marks are those of the walk
+abbrev pub Walking : List ℕ → ℕ → ℕ → ℕ → ℕ → List ℕ → List ℕ → ℕ → Type 0
+Walking gates a lits m n t₀ t k = (w : ℕ → Value) (seen : List ℕ) → Known w lits m n seen t₀
+    → (come : List ℕ) × Known w lits m n come t × (walk (blames w) (gates_at gates k) come ≡ walk (blames w) (gates_at gates a) seen)
 
-pub walking_start : (gates : List ℕ) (a lits m n : ℕ) (t : List ℕ) → Walking gates a lits m n t t a
-walking_start gates a lits m n t = record { within = omega arith; size = refl; walked = λ w seen k. (seen, k, refl) }
-
-pub walking-more : (gates : List ℕ) (a lits m n : ℕ) (t₀ t t' : List ℕ) (k j : ℕ) → k ≡ suc j → Walking gates a lits m n t₀ t k → length t' ≡ length t
+pub walking-more : (gates : List ℕ) (a lits m n : ℕ) (t₀ t t' : List ℕ) (k j : ℕ) → k ≡ suc j → Walking gates a lits m n t₀ t k
     → ((w : ℕ → Value) (seen : List ℕ) → Known w lits m n seen t → Known w lits m n (walk (blames w) (gate_at gates j ∷ []) seen) t')
     → Walking gates a lits m n t₀ t' j
-walking-more gates a lits m n t₀ t t' k j e q size f = record {
-  within = omega (arith, q.within);
-  size = size ∙ q.size;
-  walked = λ w seen x.
-      let s = q.walked w seen x in (
-        walk (blames w) (gate_at gates j ∷ []) s.0,
-        f w s.0 s.1,
-        sym (walk-append (blames w) (gates_at gates j) (gate_at gates j ∷ []) s.0)
-            ∙ ap (λ (i : ℕ). walk (blames w) (gates_at gates i) s.0) (sym e) ∙ s.2,
-      );
-}
-
-pub walking-end : (gates : List ℕ) (a lits m n : ℕ) (t₀ t : List ℕ) (k : ℕ) → k ≡ 0 → Walking gates a lits m n t₀ t k
-    → (w : ℕ → Value) (seen : List ℕ) → Known w lits m n seen t₀ → Known w lits m n (walk (blames w) (gates_at gates a) seen) t
-walking-end gates a lits m n t₀ t k e q w seen x =
-    let s = q.walked w seen x in
-    subst (λ (l : List ℕ). Known w lits m n l t) (ap (λ (i : ℕ). walk (blames w) (gates_at gates i) s.0) (sym e) ∙ s.2) s.1
+walking-more gates a lits m n t₀ t t' k j e q f w seen x =
+    let s = q w seen x in (
+      walk (blames w) (gate_at gates j ∷ []) s.0,
+      f w s.0 s.1,
+      sym (walk-append (blames w) (gates_at gates j) (gate_at gates j ∷ []) s.0)
+          ∙ ap (λ (i : ℕ). walk (blames w) (gates_at gates i) s.0) (sym e) ∙ s.2,
+    )

@@ -41,11 +41,7 @@ fn unmark(m: usize, n: usize, t: &mut [u32])
     ensures { (w : ℕ → Value) (lits : ℕ) → lits + 2 * n ≤ m
         → ((l : ℕ) → l < 2 * n → get_or t.old (lits + l) 0 ≡ may1 (lit w l)) → Known w lits m n [] t.new }
 {
-    let mut v = 0;
-    while v < n {
-        t[m + v] = MAY0;
-        v += 1;
-    }
+    t[m..m + n].fill(MAY0);
 }
 
 // The first right side that is 0, of a gate at 0.
@@ -97,9 +93,7 @@ fn blame(gates: &[u32], a: usize, lits: usize, m: usize, n: usize, t: &mut [u32]
     ensures { (w : ℕ → Value) (seen : List ℕ) → Known w lits m n seen t.old
         → Known w lits m n (walk (blames w) (gates_at gates.now a) seen) t.new }
 {
-    let mut k = a;
-    while k > 0 {
-        k -= 1;
+    for k in (0..a).rev() {
         blame_from(gates, k, lits, m, n, t);
     }
 }

@@ -80,13 +80,10 @@ fn tally(
         ≡ tally n (let c = circuit_of n (these x latches.now outputs.now gates.now)
         in run c s (vectors_of c number bytes.now)) ++ rest }
 {
-    let mut at = 0;
-    let mut k = 0;
-    while k < number {
-        let end = at + n.I;
-        turn(n, latches, outputs, gates, scratch, &bytes[at..end], six);
-        at = end;
-        k += 1;
+    for k in 0..number {
+        let at = n.I * k;
+        let ins = &bytes[at..at + n.I];
+        turn(n, latches, outputs, gates, scratch, ins, six);
     }
 }
 

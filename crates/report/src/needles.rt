@@ -45,12 +45,8 @@ pub fn count_all(t: &[u32], from: usize, n: usize, at: usize, six: &mut [u32])
     ensures { six.new ≡ put six.old at
         (counted_all t.now from n at six.old) }
 {
-    let mut row = at;
-    let mut i = 0;
-    while i < n {
-        count(t[from + i], row, six);
-        row += 4;
-        i += 1;
+    for i in 0..n {
+        count(t[from + i], at + 4 * i, six);
     }
 }
 
@@ -59,11 +55,7 @@ pub fn finish(n: usize, six: &mut [u32])
     requires { 4 * n ≤ length six.old }
     ensures { six.new ≡ put six.old 0 (finished_all n six.old) }
 {
-    let mut at = 3;
-    let mut i = 0;
-    while i < n {
-        six[at] = six[at] / 4;
-        at += 4;
-        i += 1;
+    for i in 0..n {
+        six[4 * i + 3] /= 4;
     }
 }

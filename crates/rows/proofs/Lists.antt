@@ -10,7 +10,7 @@ use native.Mathlib.Omega.{arith}
 use borrow.Author.Tests.{eqb-true, eq-eqb, ne_eqb, le-leb, lt-leb}
 use lib.Bits.{bit_or, or_zero_r, or_add_and, and_le_l}
 use lib.Dec.{eqb}
-use lib.ListN.{length, get_or, drop, drop_of_length-le}
+use lib.ListN.{length, get_or, drop}
 use lib.Seq.{drop-cons}
 use Rattle.plan.specs.declared.Counts.{Counts}
 use Rattle.plan.specs.declared.Refusal.{Refusal}
@@ -65,10 +65,6 @@ left-more bytes i w v h e ev =
     ∙ (sym (and_assoc (eqb w 0) (is_code (get_or bytes i 0)) (all_codes (drop (suc i) bytes)))
     ∙ ap₂ (λ (t : Bool) (k : ℕ). t && all_codes (drop k bytes))
     (sym (ap (λ (x : ℕ). eqb (bit_or w x) 0) ev ∙ or-wrong w (is_code (get_or bytes i 0)))) (sym (add-one i))))
-
-pub left-none : (bytes : List ℕ) (i w : ℕ) → length bytes ≤ i → all_codes bytes ≡ (eqb w 0 && all_codes (drop i bytes)) → eqb w 0 ≡ all_codes bytes
-left-none bytes i w h e =
-    sym (e ∙ (ap (λ (l : List ℕ). eqb w 0 && all_codes l) (drop_of_length-le bytes {i = i} h) ∙ and-true (eqb w 0)))
 
 -- a product of a row's bytes fits
 pub product_small : (rows n : ℕ) → rows ≤ 64 → n ≤ 1048575 → rows * n < 18446744073709551616

@@ -75,11 +75,9 @@ fn add_row(code: u8, bytes: &[u8], from: usize, w: usize, lit: u8, to: usize, bl
     ensures { Written (λ j. get_or block.old (to + j) 0 + other code
         (get_or bytes.now (from + j) 0) * lit) to w block.old block.new }
 {
-    let mut j = 0;
-    while j < w {
+    for j in 0..w {
         let differs = other_than(code, bytes[from + j]);
-        block[to + j] = block[to + j] + differs * lit;
-        j += 1;
+        block[to + j] += differs * lit;
     }
 }
 
@@ -97,12 +95,9 @@ fn load_block(
     requires in_bounds { (512 ≤ length block.old) × ((i : ℕ) → get_or block.old i 0 ≡ 0) }
     ensures { Packed (λ j. column code bytes.now (from + j) n rows) w block.new }
 {
-    let mut at = from;
-    let mut k = 0;
-    while k < rows {
-        add_row(code, bytes, at, w, 1u8 << (k % 8), 64 * (k / 8), block);
-        at += n;
-        k += 1;
+    for k in 0..rows {
+        let row = n * k + from;
+        add_row(code, bytes, row, w, 1u8 << (k % 8), 64 * (k / 8), block);
     }
 }
 
@@ -138,14 +133,10 @@ fn put_columns(ones: &[u8], zeros: &[u8], w: usize, before: usize, t: &mut [u32]
     ensures { Grows before (block_plane ones.now) (block_plane zeros.now) w
         t.old t.new }
 {
-    let mut to = 4 * before;
-    let mut j = 0;
-    while j < w {
+    for j in 0..w {
         let one = joined(word_of(ones, j), word_of(ones, j + 256));
         let zero = joined(word_of(zeros, j), word_of(zeros, j + 256));
-        put_planes(one, zero, to, t);
-        to += 4;
-        j += 1;
+        put_planes(one, zero, 4 * (before + j), t);
     }
 }
 
@@ -163,28 +154,14 @@ fn load_columns(bytes: &[u8], from: usize, w: usize, n: usize, rows: usize, t: &
     put_columns(&ones, &zeros, w, 1 + from, t);
 }
 
-// The columns of the next block.
-fn width(left: usize) -> usize
-    requires { 0 < left }
-    ensures { (0 < result) × (result ≤ left) × (result ≤ 64) }
-{
-    if left < 64 {
-        return left;
-    }
-    64
-}
-
 // The inputs' planes, from the rows' bytes, behind the constant's.
 fn load_rows(bytes: &[u8], n: usize, rows: usize, t: &mut [u32])
     requires { (rows ≤ 64) × (n * rows ≤ length bytes.now) × (4 * (1 + n) ≤ length t.old) }
     ensures { Grows 1 (λ j. column 48 bytes.now j n rows)
         (λ j. column 49 bytes.now j n rows) n t.old t.new }
 {
-    let mut j = 0;
-    while j < n {
-        let w = width(n - j);
-        load_columns(bytes, j, w, n, rows, t);
-        j += w;
+    for j in (0..n).step_by(64) {
+        load_columns(bytes, j, (n - j).min(64), n, rows, t);
     }
 }
 
@@ -205,15 +182,11 @@ fn load_resets(resets: &[u32], before: usize, n: usize, t: &mut [u32])
     ensures { Grows before (λ j. every_row (other 0 (get_or resets.now j 0)))
         (λ j. every_row (other 1 (get_or resets.now j 0))) n t.old t.new }
 {
-    let mut to = 4 * before;
-    let mut j = 0;
-    while j < n {
+    for j in 0..n {
         let reset = resets[j];
         let one = rows_but(reset, 0);
         let zero = rows_but(reset, 1);
-        put_planes(one, zero, to, t);
-        to += 4;
-        j += 1;
+        put_planes(one, zero, 4 * (before + j), t);
     }
 }
 
@@ -235,14 +208,10 @@ fn sweep_lanes(gates: &[u32], n: usize, before: usize, t: &mut [u32])
     requires { Sweeps gates.now n before t.old }
     ensures { Swept gates.now n before t.old t.new }
 {
-    let mut to = 4 * before;
-    let mut at = 0;
-    let mut i = 0;
-    while i < n {
-        put_gate(Lit::at(gates[at + 1]), Lit::at(gates[at + 2]), to, t);
-        to += 4;
-        at += 3;
-        i += 1;
+    for i in 0..n {
+        let a = Lit::at(gates[3 * i + 1]);
+        let b = Lit::at(gates[3 * i + 2]);
+        put_gate(a, b, 4 * (before + i), t);
     }
 }
 
@@ -272,14 +241,8 @@ fn put_bytes(plane: u64, j: usize, block: &mut [u8])
     requires { (j < 64) × (512 ≤ length block.old) }
     ensures { Striped (byte_of plane) j 64 8 block.old block.new }
 {
-    let mut rest = plane;
-    let mut at = j;
-    let mut g: usize = 0;
-    while g < 8 {
-        block[at] = (rest % 256) as u8;
-        rest = rest / 256;
-        at += 64;
-        g += 1;
+    for g in 0..8 {
+        block[64 * g + j] = ((plane >> (8 * g)) % 256) as u8;
     }
 }
 
@@ -302,16 +265,12 @@ fn pack(
     ensures packed_2 { Packed (λ j. both_at t.now (literal_at table.now start stride (from + j))) w
         boths.new }
 {
-    let mut at = stride * from + start;
-    let mut j = 0;
-    while j < w {
-        let l = Lit::at(table[at]);
+    for j in 0..w {
+        let l = Lit::at(table[stride * (from + j) + start]);
         let one = plane_of(t, l);
         let both = one & plane_of(t, l.negated());
         put_bytes(one, j, ones);
         put_bytes(both, j, boths);
-        at += stride;
-        j += 1;
     }
 }
 
@@ -338,12 +297,10 @@ fn put_codes(
     ensures { Written (λ j. code_by (get_or ones.now (from + j) 0)
         (get_or boths.now (from + j) 0) lane) to w out.old out.new }
 {
-    let mut j = 0;
-    while j < w {
+    for j in 0..w {
         let one = lane_of(ones[from + j], lane);
         let both = lane_of(boths[from + j], lane);
         out[to + j] = 48 + one + 71 * both;
-        j += 1;
     }
 }
 
@@ -363,12 +320,8 @@ fn put_block(
         (get_or boths.now (64 * (k / 8) + j) 0) (k % 8)) from w n rows out.old
         out.new }
 {
-    let mut to = from;
-    let mut k = 0;
-    while k < rows {
-        put_codes(ones, boths, 64 * (k / 8), k % 8, w, to, out);
-        to += n;
-        k += 1;
+    for k in 0..rows {
+        put_codes(ones, boths, 64 * (k / 8), k % 8, w, n * k + from, out);
     }
 }
 
@@ -409,11 +362,8 @@ pub fn store_rows(
     requires rows_bound { (rows ≤ 64) × (length out.old ≡ n * rows) }
     ensures { out.new ≡ codes_of table.now start stride n rows t.now }
 {
-    let mut j = 0;
-    while j < n {
-        let w = width(n - j);
-        store_block(table, start, stride, j, w, n, rows, t, out);
-        j += w;
+    for j in (0..n).step_by(64) {
+        store_block(table, start, stride, j, (n - j).min(64), n, rows, t, out);
     }
 }
 
@@ -459,11 +409,7 @@ pub fn count_rows(outputs: &[u32], n: usize, rows: usize, t: &[u32], report: &mu
         (counts_of outputs.now n (2 ^ rows - 1) t.now) }
 {
     let mask = mask_of(rows);
-    let mut at = 0;
-    let mut j = 0;
-    while j < n {
-        count_literal(t, Lit::at(outputs[j]), mask, at, report);
-        at += 3;
-        j += 1;
+    for j in 0..n {
+        count_literal(t, Lit::at(outputs[j]), mask, 3 * j, report);
     }
 }

@@ -39,10 +39,8 @@ fn only_codes(bytes: &[u8]) -> bool
     ensures { result ≡ all_codes bytes.now }
 {
     let mut wrong = 0;
-    let mut i = 0;
-    while i < bytes.len() {
-        wrong = wrong | not_code(bytes[i]);
-        i += 1;
+    for b in bytes {
+        wrong |= not_code(*b);
     }
     wrong == 0
 }

@@ -1,6 +1,6 @@
--- All vectors of a list, whose bytes are good, from the state that scratch holds. The loop keeps `Tables`; the measure is `number - k`. `next_row`
--- and `going_on` carry it from turn to turn, and `all-gone` gives the answer.
-use Prim.Native.Nat.{ℕ, ◌+◌, ◌*◌, ◌-◌, ◌≤◌}
+-- All vectors of a list, whose bytes are good, from the state that scratch holds. The loop keeps `Going`; `going_on` carries it from turn to turn,
+-- and `all-gone` gives the answer.
+use Prim.Native.Nat.{ℕ}
 use mathlib.Core.Path.{◌≡◌}
 use mathlib.Core.List.{List, [], ◌++◌}
 use lib.ListN.{length}
@@ -12,10 +12,7 @@ use Rattle.report.proofs.Listing.{Going}
 use Rattle.report.proofs.tally.Given as goal
 
 abbrev pub invariant-loop-k : goal.invariant-loop-k
-invariant-loop-k l = (l.k ≤ l.number) × (l.at ≡ l.n.I * l.k) × (length l.scratch ≡ length l.initial.scratch) × (length l.six ≡ length l.initial.six)
-    × ((x : Tables) (s : List Value) (rest : List ℕ) → Runs l.n (these x l.latches l.outputs l.gates) → length s ≡ l.n.L → Rests l.n s l.initial.scratch
+invariant-loop-k l =
+    (x : Tables) (s : List Value) (rest : List ℕ) → Runs l.n (these x l.latches l.outputs l.gates) → length s ≡ l.n.L → Rests l.n s l.initial.scratch
     → l.initial.six ≡ tally l.n [] ++ rest
-    → Going l.n (circuit_of l.n (these x l.latches l.outputs l.gates)) s l.number l.bytes rest l.scratch l.six l.k l.at)
-
-abbrev pub decreases-loop-k : goal.decreases-loop-k
-decreases-loop-k l = l.number - l.k
+    → Going l.n (circuit_of l.n (these x l.latches l.outputs l.gates)) s l.number l.bytes rest l.scratch l.six l.k

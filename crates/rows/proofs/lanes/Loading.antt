@@ -145,12 +145,13 @@ pub grows_same : (before : ℕ) (f g f' g' : ℕ → ℕ) (n : ℕ) (t t' : List
     → Grows before f g n t t' → Grows before f' g' n t t'
 grows_same before f g f' g' n t t' h k w q l s = subst (λ (x : List ℕ). Begins (q ++ x) t') (pairs-same f g f' g' n h k) (w q l s)
 
-pub grows-join : (before : ℕ) (f g : ℕ → ℕ) (j w : ℕ) (t₀ t t' : List ℕ) → Grows before f g j t₀ t
+pub grows-join : (before : ℕ) (f g : ℕ → ℕ) (j w m : ℕ) → j + w ≡ m → (t₀ t t' : List ℕ) → Grows before f g j t₀ t
     → Grows (before + j) (λ i. f (j + i)) (λ i. g (j + i)) w t t'
-    → Grows before f g (j + w) t₀ t'
-grows-join before f g j w t₀ t t' a b q l s =
+    → Grows before f g m t₀ t'
+grows-join before f g j w m e t₀ t t' a b q l s =
     subst (λ (x : List ℕ). Begins x t')
-    (append_assoc q (pairs f g j) (pairs (λ i. f (j + i)) (λ i. g (j + i)) w) ∙ ap (λ (x : List ℕ). q ++ x) (sym (pairs-add f g j w)))
+    (append_assoc q (pairs f g j) (pairs (λ i. f (j + i)) (λ i. g (j + i)) w)
+    ∙ ap (λ (x : List ℕ). q ++ x) (sym (pairs-add f g j w) ∙ ap (pairs f g) e))
     (b (q ++ pairs f g j) (omega (arith, l, length-append q (pairs f g j), pairs-length f g j)) (a q l s))
 
 -- a block after k rows of some columns
@@ -164,9 +165,6 @@ module _ (code : ℕ) (bytes : List ℕ) (from n w : ℕ) where
   small : (j k : ℕ) → differs j k < 2
   small j k = other-small code (get_or bytes (n * k + (from + j)) 0)
 
-  pub packed_none : (block : List ℕ) → ((i : ℕ) → get_or block i 0 ≡ 0) → Packed (loaded 0) w block
-  packed_none block h g j l i = h (64 * g + j) ∙ sym (byte-empty (differs j) (small j) g 0 (omega arith))
-
   module _ (k : ℕ) (block : List ℕ) (p : Packed (loaded k) w block) (most : k < 64) where
     here : k / 8 < 8
     here = omega arith
@@ -176,10 +174,10 @@ module _ (code : ℕ) (bytes : List ℕ) (from n w : ℕ) where
         let lane : k % 8 < 8 = omega arith in
         omega (arith, p (k / 8) j here i, byte-room (differs j) (small j) k, one-lit (k % 8) lane)
 
-    pub packed_more : w ≤ 64 → (at : ℕ) → at ≡ n * k + from → (block' : List ℕ)
-        → Written (λ j. get_or block (64 * (k / 8) + j) 0 + other code (get_or bytes (at + j) 0) * (1 * 2 ^ (k % 8) % 256)) (64 * (k / 8)) w block block'
+    pub packed_more : w ≤ 64 → (block' : List ℕ)
+        → Written (λ j. get_or block (64 * (k / 8) + j) 0 + other code (get_or bytes (n * k + from + j) 0) * (1 * 2 ^ (k % 8) % 256)) (64 * (k / 8)) w block block'
         → Packed (loaded (k + 1)) w block'
-    packed_more narrow at e block' r g j l i =
+    packed_more narrow block' r g j l i =
         let next : k + 1 ≡ suc k = omega arith in
         go (dec_lt g (k / 8)) (dec_lt (k / 8) g) ∙ ap (λ (m : ℕ). byte_of (loaded m j) g) (sym next)
       where
@@ -189,7 +187,7 @@ module _ (code : ℕ) (bytes : List ℕ) (from n w : ℕ) where
         go (no q) (no s) =
             let same : g ≡ k / 8 = omega arith in
             let lane : k % 8 < 8 = omega arith in
-            let place : at + j ≡ n * k + (from + j) = omega (arith, e) in
+            let place : n * k + from + j ≡ n * k + (from + j) = omega arith in
             ap (λ (m : ℕ). get_or block' (64 * m + j) 0) same
             ∙ (r.stored j i
             ∙ (ap₂ (λ (x y : ℕ). x + y) (p (k / 8) j here i)
@@ -245,12 +243,7 @@ differs-is b code h k = go (dec_lt b code) (dec_lt code b)
         let same : b ≡ code = omega arith in
         ap (λ (x : ℕ). (x / 2 + x % 2 + 127) / 128) (ap (λ (y : ℕ). bit_xor y code) same ∙ xor_self code) ∙ sym (simp (eq-eqb _ _ same))
 
--- a bit times a number is at most the number; a list of zeros
-pub bit-times : (b m : ℕ) → b < 2 → b * m ≤ m
-bit-times zero m h = omega arith
-bit-times (suc zero) m h = omega arith
-bit-times (suc (suc b)) m h = absurd (omega arith)
-
+-- a list of zeros
 pub all-zero : (n i : ℕ) → ◌≡◌ {A = ℕ} (get_or (replicate n 0) i 0) 0
 all-zero zero i = refl
 all-zero (suc n) zero = refl

@@ -6,95 +6,27 @@ use native.Mathlib.Decide.{dec_lt}
 use native.Mathlib.Nat.{mul-zero, mul-suc, mul-le-mul_left, pow-suc}
 use native.Mathlib.Omega.{arith}
 use lib.Bits.{bit_and, and_high, and_le_r}
-use lib.ListN.{length, get_or, take, set, length-set}
+use lib.ListN.{length, get_or, take}
 use lib.Pow.{shr-shr, shl_exact, pow_mono, pow_pos}
-use lib.Seq.{take-add, take_all, get_or-set_same, get_or-set_other}
+use lib.Seq.{take-add, take_all}
 use Rattle.plan.specs.Circuit.{flat}
 use Rattle.laws.proofs.Tables.{firsts}
 use Rattle.step.proofs.values.Filling.{part-firsts}
 use Rattle.rows.specs.Planes.Planes.{bit}
 use Rattle.rows.proofs.Planes.Bits.{bit_cut}
 use Rattle.rows.specs.lanes.Words.{code_by, byte_of}
-use Rattle.rows.specs.lanes.Blocks.{Packed, Striped, Written, Blocked}
-use Rattle.rows.specs.lanes.Working.{Shows}
+use Rattle.rows.specs.lanes.Blocks.{Packed, Written, Blocked}
 use Rattle.rows.proofs.lanes.Turns.{flat-snoc}
 
--- two places of rows of n are apart if their columns are, or their rows
-module _ (n : ℕ) where
-  above : (i k j from : ℕ) → j < n → i < k → n * i + j < n * k + from
-  above i k j from h p =
-      let more : n * suc i ≤ n * k = mul-le-mul_left n p in
-      omega (arith, mul-suc n i)
-
-  columns-apart : (i k j from : ℕ) → j < n → from < n → (j ≡ from → ⊥) → n * i + j ≡ n * k + from → ⊥
-  columns-apart i k j from h g ne e = go (dec_lt i k) (dec_lt k i)
-    where
-      go : Dec (i < k) → Dec (k < i) → ⊥
-      go (yes p) q = omega (arith, above i k j from h p)
-      go (no p) (yes q) = omega (arith, above k i from j g q)
-      go (no p) (no q) =
-          let same : i ≡ k = omega arith in
-          let row : n * i ≡ n * k = ap (λ (m : ℕ). n * m) same in
-          ne (omega arith)
-
--- one row more of a column
-pub striped-none : (f : ℕ → ℕ) (from n : ℕ) (out : List ℕ) → Striped f from n 0 out out
-striped-none f from n out = record { same = refl; stored = λ i h. absurd (omega arith); others = λ i j h ne. refl }
-
-module _ {f : ℕ → ℕ} {from n : ℕ} {out₀ : List ℕ} {k : ℕ} {out : List ℕ} (s : Striped f from n k out₀ out)
-    (inside : from < n) (at x : ℕ) (here : at ≡ n * k + from) (room : at < length out₀) (is : x ≡ f k) where
-  pub striped-more : Striped f from n (k + 1) out₀ (set out at x)
-  striped-more = record {
-    same = length-set out at x ∙ s.same;
-    stored = λ i h. go i h (dec_lt i k);
-    others = λ i j h ne.
-        get_or-set_other out at (n * i + j) x 0 (λ e. columns-apart n i k j from h inside ne (e ∙ here)) ∙ s.others i j h ne;
-  }
-    where
-      go : (i : ℕ) → i < k + 1 → Dec (i < k) → get_or (set out at x) (n * i + from) 0 ≡ f i
-      go i h (yes p) =
-          get_or-set_other out at (n * i + from) x 0 (λ e. omega (arith, above n i k from from inside p, e, here)) ∙ s.stored i p
-      go i h (no p) =
-          let last : i ≡ k = omega arith in
-          ap (λ (m : ℕ). get_or (set out at x) (n * m + from) 0) last
-          ∙ (ap (λ (q : ℕ). get_or (set out at x) q 0) (sym here)
-          ∙ (get_or-set_same out at x 0 (omega (arith, s.same)) ∙ (is ∙ ap f (sym last))))
-
-pub striped-all : {f : ℕ → ℕ} {from n : ℕ} {out₀ : List ℕ} {k : ℕ} {out : List ℕ} {rows : ℕ} → Striped f from n k out₀ out → k ≡ rows
-    → Striped f from n rows out₀ out
-striped-all s e = record { same = s.same; stored = λ i h. s.stored i (omega arith); others = s.others }
-
--- one place more of a row
-pub written_none : (f : ℕ → ℕ) (to : ℕ) (out : List ℕ) → Written f to 0 out out
-written_none f to out = record { same = refl; stored = λ i h. absurd (omega arith); before = λ i h. refl; after = λ i h. refl }
-
-module _ {f : ℕ → ℕ} {to : ℕ} {out₀ : List ℕ} {j : ℕ} {out : List ℕ} (s : Written f to j out₀ out)
-    (x : ℕ) (room : to + j < length out₀) (is : x ≡ f j) where
-  pub written-more : Written f to (j + 1) out₀ (set out (to + j) x)
-  written-more = record {
-    same = length-set out (to + j) x ∙ s.same;
-    stored = λ i h. go i h (dec_lt i j);
-    before = λ i h. get_or-set_other out (to + j) i x 0 (λ e. omega (arith, e, h)) ∙ s.before i h;
-    after = λ i h. get_or-set_other out (to + j) i x 0 (λ e. omega (arith, e, h)) ∙ s.after i (omega (arith, h));
-  }
-    where
-      go : (i : ℕ) → i < j + 1 → Dec (i < j) → get_or (set out (to + j) x) (to + i) 0 ≡ f i
-      go i h (yes p) = get_or-set_other out (to + j) (to + i) x 0 (λ e. omega (arith, e, p)) ∙ s.stored i p
-      go i h (no p) =
-          let last : i ≡ j = omega arith in
-          ap (λ (m : ℕ). get_or (set out (to + j) x) (to + m) 0) last
-          ∙ (get_or-set_same out (to + j) x 0 (omega (arith, s.same)) ∙ (is ∙ ap f (sym last)))
-
-pub written_all : {f : ℕ → ℕ} {to : ℕ} {out₀ : List ℕ} {j : ℕ} {out : List ℕ} {w : ℕ} → Written f to j out₀ out → j ≡ w → Written f to w out₀ out
-written_all s e =
-    record { same = s.same; stored = λ i h. s.stored i (omega arith); before = s.before; after = λ i h. s.after i (omega arith) }
+-- a place of a row of n is before those of a later row
+above : (n i k j from : ℕ) → j < n → i < k → n * i + j < n * k + from
+above n i k j from h p =
+    let more : n * suc i ≤ n * k = mul-le-mul_left n p in
+    omega (arith, mul-suc n i)
 
 -- one row more of a block
-pub blocked-none : (f : ℕ → ℕ → ℕ) (from w n : ℕ) (out : List ℕ) → Blocked f from w n 0 out out
-blocked-none f from w n out = record { same = refl; stored = λ k j h g. absurd (omega arith); others = λ k j h. refl }
-
 module _ {f : ℕ → ℕ → ℕ} {from w n : ℕ} {out₀ : List ℕ} {k : ℕ} {out : List ℕ} (s : Blocked f from w n k out₀ out)
-    (inside : from + w ≤ n) (to : ℕ) (here : to ≡ n * k + from) (out' : List ℕ) (r : Written (f k) to w out out') where
+    (inside : from + w ≤ n) (out' : List ℕ) (r : Written (f k) (n * k + from) w out out') where
   pub blocked-more : Blocked f from w n (k + 1) out₀ out'
   blocked-more = record {
     same = r.same ∙ s.same;
@@ -104,39 +36,27 @@ module _ {f : ℕ → ℕ → ℕ} {from w n : ℕ} {out₀ : List ℕ} {k : ℕ
     where
       go : (i j : ℕ) → i < k + 1 → j < w → Dec (i < k) → get_or out' (n * i + (from + j)) 0 ≡ f i j
       go i j h g (yes p) =
-          r.before (n * i + (from + j)) (omega (arith, here, above n i k (from + j) from (omega (arith, inside, g)) p)) ∙ s.stored i j p g
+          r.before (n * i + (from + j)) (omega (arith, above n i k (from + j) from (omega (arith, inside, g)) p)) ∙ s.stored i j p g
       go i j h g (no p) =
           let last : i ≡ k = omega arith in
           let row : n * i ≡ n * k = ap (λ (m : ℕ). n * m) last in
-          let place : n * i + (from + j) ≡ to + j = omega (arith, row, here) in
+          let place : n * i + (from + j) ≡ n * k + from + j = omega (arith, row) in
           ap (λ (q : ℕ). get_or out' q 0) place ∙ (r.stored j g ∙ ap (λ (m : ℕ). f m j) (sym last))
 
       apart : (i j : ℕ) → j < from → Dec (k < i) → get_or out' (n * i + j) 0 ≡ get_or out (n * i + j) 0
       apart i j h (yes p) =
           let more : n * suc k ≤ n * i = mul-le-mul_left n p in
-          r.after (n * i + j) (omega (arith, more, mul-suc n k, here, inside))
+          r.after (n * i + j) (omega (arith, more, mul-suc n k, inside))
       apart i j h (no p) =
           let up : i ≤ k = omega arith in
           let less : n * i ≤ n * k = mul-le-mul_left n up in
-          r.before (n * i + j) (omega (arith, less, here, h))
-
-pub blocked-all : {f : ℕ → ℕ → ℕ} {from w n : ℕ} {out₀ : List ℕ} {k : ℕ} {out : List ℕ} {rows : ℕ} → Blocked f from w n k out₀ out → k ≡ rows
-    → Blocked f from w n rows out₀ out
-blocked-all s e = record { same = s.same; stored = λ i j h g. s.stored i j (omega arith) g; others = s.others }
+          r.before (n * i + j) (omega (arith, less, h))
 
 pub blocked-same : {f g : ℕ → ℕ → ℕ} {from w n rows : ℕ} {out out' : List ℕ} → ((k j : ℕ) → k < rows → j < w → f k j ≡ g k j)
     → Blocked f from w n rows out out' → Blocked g from w n rows out out'
 blocked-same e s = record { same = s.same; stored = λ k j h i. s.stored k j h i ∙ e k j h i; others = s.others }
 
 -- the bits of a plane's bytes are its own
-pub byte-none : (p : ℕ) → p ≡ p / 2 ^ (8 * 0)
-byte-none p = omega arith
-
-pub byte_more : (p g rest : ℕ) → rest ≡ p / 2 ^ (8 * g) → rest / 256 ≡ p / 2 ^ (8 * (g + 1))
-byte_more p g rest e =
-    let next : 8 * g + 8 ≡ 8 * (g + 1) = omega arith in
-    ap (λ (x : ℕ). x / 256) e ∙ (shr-shr p (8 * g) 8 ∙ ap (λ (m : ℕ). p / 2 ^ m) next)
-
 byte-bit : (p k : ℕ) → bit (k % 8) (byte_of p (k / 8)) ≡ bit k p
 unfolding bit
 byte-bit p k =
@@ -182,32 +102,14 @@ module _ (x r : ℕ) (h : r < 8) where
       let two : x / 2 ^ r % 2 < 2 = omega arith in
       ap (λ (y : ℕ). (y + 127) / 128) lit-or-not ∙ lane-sum (x / 2 ^ r % 2) (2 ^ r) two (pow_pos r) top
 
-pub shows-less : {table : List ℕ} {start stride n : ℕ} {t : List ℕ} → Shows table start stride n t → (m : ℕ) → m ≤ n → Shows table start stride m t
-shows-less {stride = stride} s m h =
-    let less : stride * m ≤ stride * _ = mul-le-mul_left stride h in
-    record { start-in = s.start-in; literals-long = omega (arith, less, s.literals-long); inside = λ j g. s.inside j (omega arith) }
-
 -- columns below j hold what f says
 abbrev pub Below : (ℕ → ℕ → ℕ) → ℕ → ℕ → ℕ → List ℕ → Type 0
 Below f n rows j out = (k i : ℕ) → k < rows → i < j → get_or out (n * k + i) 0 ≡ f k i
 
-pub below_none : (f : ℕ → ℕ → ℕ) (n rows : ℕ) (out : List ℕ) → Below f n rows 0 out
-below_none f n rows out k i p q = absurd (omega arith)
-
-pub below_more : (f : ℕ → ℕ → ℕ) (n rows j : ℕ) (out out' : List ℕ) → j < n → Below f n rows j out → (g : ℕ → ℕ)
-    → Striped g j n rows out out' → ((k : ℕ) → g k ≡ f k j)
-    → Below f n rows (j + 1) out'
-below_more f n rows j out out' h b g s is k i p q = go (dec_lt i j)
-  where
-    go : Dec (i < j) → get_or out' (n * k + i) 0 ≡ f k i
-    go (yes r) = s.others k i (omega arith) (λ e. omega arith) ∙ b k i p r
-    go (no r) =
-        let last : i ≡ j = omega arith in
-        ap (λ (m : ℕ). get_or out' (n * k + m) 0) last ∙ (s.stored k p ∙ (is k ∙ ap (f k) (sym last)))
-
-pub below-block : (f : ℕ → ℕ → ℕ) (n rows j w : ℕ) (out out' : List ℕ) → Below f n rows j out → Blocked (λ k i. f k (j + i)) j w n rows out out'
-    → Below f n rows (j + w) out'
-below-block f n rows j w out out' b s k i p q = go (dec_lt i j)
+pub below-block : (f : ℕ → ℕ → ℕ) (n rows j w m : ℕ) → j + w ≡ m → (out out' : List ℕ) → Below f n rows j out
+    → Blocked (λ k i. f k (j + i)) j w n rows out out'
+    → Below f n rows m out'
+below-block f n rows j w m e out out' b s k i p q = go (dec_lt i j)
   where
     go : Dec (i < j) → get_or out' (n * k + i) 0 ≡ f k i
     go (yes r) = s.others k i r ∙ b k i p r

@@ -53,24 +53,18 @@ three-put t to a b c room =
     ∙ (sets-eq (a ∷ b ∷ c ∷ []) t to room ∙ append_assoc (take to t) (a ∷ b ∷ c ∷ []) (drop (to + 3) t))
 
 -- a variable's planes more
-pub grows_none : (before : ℕ) (f g : ℕ → ℕ) (t : List ℕ) → Grows before f g 0 t t
-grows_none before f g t q e b = subst (λ (l : List ℕ). Begins l t) (sym (append-nil q)) b
-
-pub grows-more : (before : ℕ) (f g : ℕ → ℕ) (i : ℕ) (t₀ t : List ℕ) → Grows before f g i t₀ t → (to a b : ℕ) (t' : List ℕ)
-    → to ≡ 4 * (before + i) → to + 4 ≤ length t → a ≡ f i → b ≡ g i
-    → t' ≡ put t to (plane_words (a ∷ b ∷ []))
+pub grows-more : (before : ℕ) (f g : ℕ → ℕ) (i : ℕ) (t₀ t : List ℕ) → Grows before f g i t₀ t → (a b : ℕ) (t' : List ℕ)
+    → 4 * (before + i) + 4 ≤ length t → a ≡ f i → b ≡ g i
+    → t' ≡ put t (4 * (before + i)) (plane_words (a ∷ b ∷ []))
     → Grows before f g (i + 1) t₀ t'
-grows-more before f g i t₀ t w to a b t' here room ea eb e q l s =
+grows-more before f g i t₀ t w a b t' room ea eb e q l s =
     subst (λ (x : List ℕ). Begins x t')
     (append_assoc q (pairs f g i) (f i ∷ g i ∷ []) ∙ ap (λ (k : ℕ). q ++ pairs f g k) (sym (add-one i)))
-    (begins-more (q ++ pairs f g i) t (w q l s) (f i ∷ g i ∷ []) to t'
+    (begins-more (q ++ pairs f g i) t (w q l s) (f i ∷ g i ∷ []) (4 * (before + i)) t'
     (omega (arith, length-append q (pairs f g i), pairs-length f g i)) room
-    (e ∙ ap₂ (λ (x y : ℕ). put t to (plane_words (x ∷ y ∷ []))) ea eb))
+    (e ∙ ap₂ (λ (x y : ℕ). put t (4 * (before + i)) (plane_words (x ∷ y ∷ []))) ea eb))
 
 -- a gate's planes more
-pub swept_none : (gates : List ℕ) (before : ℕ) (t : List ℕ) → Swept gates 0 before t t
-swept_none gates before t q e b = b
-
 module _ {gates : List ℕ} {n before : ℕ} {t₀ : List ℕ} (p : Sweeps gates n before t₀)
     (i : ℕ) (h : i < n) (t : List ℕ) (same : length t ≡ length t₀) where
   sides : Sides (before + i) (gate_at gates i)
@@ -82,14 +76,14 @@ module _ {gates : List ℕ} {n before : ℕ} {t₀ : List ℕ} (p : Sweeps gates
   pub second-there : There (gate_at gates i).rhs1 t
   second-there = omega (arith, sides.1, p.table-long)
 
-  pub swept-more : Swept gates i before t₀ t → (to : ℕ) (t' : List ℕ) → to ≡ 4 * (before + i)
-      → t' ≡ put t to (plane_words (gate_planes t (gate_at gates i).rhs0 (gate_at gates i).rhs1))
+  pub swept-more : Swept gates i before t₀ t → (t' : List ℕ)
+      → t' ≡ put t (4 * (before + i)) (plane_words (gate_planes t (gate_at gates i).rhs0 (gate_at gates i).rhs1))
       → Swept gates (i + 1) before t₀ t'
-  swept-more w to t' here e q l s =
+  swept-more w t' e q l s =
       subst (λ (x : List ℕ). Begins x t') (sym (planes-snoc q (gates_at gates i) g) ∙ ap (λ (k : ℕ). sweep_planes q (gates_at gates k)) (sym (add-one i)))
-      (begins-more u t (w q l s) (and_plane u g ∷ or_plane u g ∷ []) to t' (omega (arith, count))
+      (begins-more u t (w q l s) (and_plane u g ∷ or_plane u g ∷ []) (4 * (before + i)) t' (omega (arith, count))
       (omega (arith, p.table-long))
-      (e ∙ ap₂ (λ (x y : ℕ). put t to (plane_words (x ∷ y ∷ [])))
+      (e ∙ ap₂ (λ (x y : ℕ). put t (4 * (before + i)) (plane_words (x ∷ y ∷ [])))
       (ap₂ bit_and (plane g.rhs0 sides.0) (plane g.rhs1 sides.1))
       (ap₂ bit_or (plane (neg_of g.rhs0) (omega (arith, sides.0))) (plane (neg_of g.rhs1) (omega (arith, sides.1))))))
     where

@@ -1,13 +1,9 @@
--- One step more of n needles, whose words start at `at`, by the values in words from `from` on. The loop keeps `Rowed`; the measure is `n - i`.
--- `counts-more` carries it from turn to turn, and `rowed-all` gives the answer.
-use Prim.Native.Nat.{◌+◌, ◌-◌, ◌≤◌}
-use lib.ListN.{get_or}
-use Rattle.report.specs.needles.Tally.{counted, row_from}
-use Rattle.report.proofs.needles.Looping.{Rowed}
+-- One step more of n needles, whose words start at `at`, by the values in words from `from` on. The loop keeps the rows counted so far;
+-- `counts-more` carries them from turn to turn.
+use mathlib.Core.Path.{◌≡◌}
+use Rattle.plan.specs.Outcome.{put}
+use Rattle.report.specs.needles.Tally.{counted_all}
 use Rattle.report.proofs.needles.count_all.Given as goal
 
 abbrev pub invariant-loop-i : goal.invariant-loop-i
-invariant-loop-i l = (l.i ≤ l.n) × Rowed (λ k. counted (row_from l.initial.six l.at k) (get_or l.t (l.from + k) 0)) l.at l.initial.six l.i l.row l.six
-
-abbrev pub decreases-loop-i : goal.decreases-loop-i
-decreases-loop-i l = l.n - l.i
+invariant-loop-i l = l.six ≡ put l.initial.six l.at (counted_all l.t l.from l.i l.at l.initial.six)

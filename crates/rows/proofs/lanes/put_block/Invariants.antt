@@ -1,7 +1,5 @@
--- The codes of a block in each row, which go to the columns from `from` on. The loop keeps `Blocked`; the measure is `rows - k`. `next-at` and
--- `blocked-more` carry it from turn to turn, and `blocked-all` gives the answer.
-use Prim.Native.Nat.{ℕ, ◌+◌, ◌*◌, ◌-◌, ◌/◌, ◌%◌, ◌≤◌}
-use mathlib.Core.Path.{◌≡◌}
+-- The codes of a block in each row, which go to the columns from `from` on. The loop keeps `Blocked`. `blocked-more` carries it from turn to turn.
+use Prim.Native.Nat.{ℕ, ◌+◌, ◌*◌, ◌/◌, ◌%◌}
 use mathlib.Core.List.{List}
 use lib.ListN.{get_or}
 use Rattle.rows.specs.lanes.Words.{code_by}
@@ -12,7 +10,4 @@ abbrev codes : List ℕ → List ℕ → ℕ → ℕ → ℕ
 codes ones boths k j = code_by (get_or ones (64 * (k / 8) + j) 0) (get_or boths (64 * (k / 8) + j) 0) (k % 8)
 
 abbrev pub invariant-loop-k : goal.invariant-loop-k
-invariant-loop-k l = (l.k ≤ l.rows) × (l.to ≡ l.n * l.k + l.from) × Blocked (codes l.ones l.boths) l.from l.w l.n l.k l.initial.out l.out
-
-abbrev pub decreases-loop-k : goal.decreases-loop-k
-decreases-loop-k l = l.rows - l.k
+invariant-loop-k l = Blocked (codes l.ones l.boths) l.from l.w l.n l.k l.initial.out l.out
