@@ -21,9 +21,6 @@ pub record Lined (f : ℕ → List ℕ) (out₀ : List ℕ) (at i next : ℕ) (o
   pub few : next ≤ at + 66 * i
   pub size : length out ≡ length out₀
 
-pub lined-none : (f : ℕ → List ℕ) (out₀ : List ℕ) (at : ℕ) → Lined f out₀ at 0 at out₀
-lined-none f out₀ at = record { place = omega arith; so_far = sym (put-none out₀ at); few = omega arith; size = refl }
-
 pub lined-more : {f : ℕ → List ℕ} {out₀ : List ℕ} {at i next : ℕ} {out : List ℕ} → Lined f out₀ at i next out → (n : ℕ) → i < n
     → at + 66 * n ≤ length out₀
     → (next' : ℕ) (out' : List ℕ) → next' ≡ next + length (f i) → next' ≤ next + 66 → out' ≡ put out next (f i) → length out' ≡ length out
@@ -38,17 +35,6 @@ lined-more {f} {out₀} {at} {i} {next} {out} p n h room next' out' e short o sa
           ∙ (put-put out₀ at (in_turn f i) (f i) (omega (arith, p.few, p.place)) ∙ ap (λ (k : ℕ). put out₀ at (in_turn f k)) more));
       few = omega (arith, p.few);
       size = same ∙ p.size;
-    }
-
-pub lined-all : {f : ℕ → List ℕ} {out₀ : List ℕ} {at i next : ℕ} {out : List ℕ} (n : ℕ) → i ≤ n → n ≤ i → Lined f out₀ at i next out
-    → Lined f out₀ at n next out
-lined-all {f} {out₀} {at} {i} {next} {out} n a b p =
-    let e : i ≡ n = omega arith in
-    record {
-      place = p.place ∙ ap (λ (k : ℕ). at + length (in_turn f k)) e;
-      so_far = p.so_far ∙ ap (λ (k : ℕ). put out₀ at (in_turn f k)) e;
-      few = omega (arith, p.few);
-      size = p.size;
     }
 
 -- the parts of a line: w stands from a position on, and k is the position after it
