@@ -82,23 +82,9 @@ fn trace_lines(
         → Ran n (circuit_of n (these x latches.now outputs.now gates.now)) s
         (first_ones number vectors.now) scratch.new out.old out.new }
 {
-    let mut at = 0;
     let mut to = 0;
-    let mut k = 0;
-    while k < number {
-        let end = at + n.I;
-        to = write_line(
-            n,
-            latches,
-            outputs,
-            gates,
-            scratch,
-            &vectors[at..end],
-            out,
-            to,
-        );
-        at = end + 1;
-        k += 1;
+    for line in vectors.chunks_exact(n.I + 1).take(number) {
+        to = write_line(n, latches, outputs, gates, scratch, &line[..n.I], out, to);
     }
 }
 

@@ -1,6 +1,6 @@
 -- A needle's line and the lines of n needles, put one after the other.
 use Prim.Native.Nat.{ℕ, suc, ◌+◌, ◌*◌, ◌-◌, ◌≤◌, ◌<◌, min}
-use mathlib.Core.Path.{◌≡◌, refl, sym, ap, ap₂, ◌∙◌}
+use mathlib.Core.Path.{◌≡◌, refl, ap, ap₂, ◌∙◌}
 use mathlib.Core.List.{List, [], ◌∷◌, ◌++◌, append_assoc, append-nil}
 use native.Mathlib.Omega.{arith}
 use lib.ListN.{length, get_or, take, set, length-append, length-set}
@@ -8,7 +8,7 @@ use lib.Seq.{take_all}
 use Rattle.plan.specs.Circuit.{rows_of}
 use Rattle.plan.specs.Bytes.{digits, end_of, line_of, lines_of}
 use Rattle.plan.specs.Outcome.{put}
-use Rattle.laws.proofs.Put.{put-none, put-put, put_one, put-length}
+use Rattle.laws.proofs.Put.{put-put, put_one, put-length}
 use Rattle.write.proofs.print.Sizes.{digits-ten}
 use Rattle.plan.specs.Report.{in_turn}
 use Rattle.plan.specs.Reporter.{needle_line, needle_lines}

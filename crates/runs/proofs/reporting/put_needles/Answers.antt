@@ -1,11 +1,10 @@
 -- The lines of n needles, whose numbers start at `first` in table 6, from a position on. The loop keeps `Lined`. `lined-more`
 -- carries it from turn to turn.
-use Prim.Native.Nat.{ℕ, ◌+◌, ◌*◌, ◌-◌, ◌≤◌}
+use Prim.Native.Nat.{ℕ, ◌+◌, ◌*◌, ◌-◌}
 use mathlib.Core.Path.{◌≡◌, ap, ◌∙◌}
 use mathlib.Core.List.{List}
 use native.Mathlib.Omega.{arith}
-use lib.ListN.{length, take, drop, length-drop}
-use lib.Seq.{length-take-le}
+use lib.ListN.{length, take, drop}
 use Rattle.plan.specs.Outcome.{put}
 use Rattle.plan.specs.Reporter.{needle_line}
 use Rattle.runs.proofs.reporting.Lines.{lined-more}

@@ -1,7 +1,6 @@
 -- The lines of n needles, whose numbers start at `first` in table 6, from a position on. The loop keeps `Lined`. `lined-more`
 -- carries it from turn to turn, and `lined-all` gives the answer.
-use Prim.Native.Nat.{◌+◌, ◌*◌, ◌-◌, ◌≤◌}
-use mathlib.Core.Path.{◌≡◌}
+use Prim.Native.Nat.{◌+◌, ◌*◌}
 use lib.ListN.{take, drop}
 use Rattle.plan.specs.Reporter.{needle_line}
 use Rattle.runs.proofs.reporting.Lines.{Lined}

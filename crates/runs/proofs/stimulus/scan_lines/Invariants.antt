@@ -1,7 +1,5 @@
 -- The lines of `width` codes each, in one pass: past the width of a line only a new line can stand, and before it only a code. The loop keeps `Scans
 -- width bytes column number i`.
-use Prim.Native.Nat.{◌-◌}
-use lib.ListN.{length}
 use Rattle.runs.proofs.stimulus.Scanning.{Scans}
 use Rattle.runs.proofs.stimulus.scan_lines.Given as goal
 
