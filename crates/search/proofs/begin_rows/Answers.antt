@@ -1,7 +1,6 @@
 use Prim.Native.Nat.{◌+◌, ◌*◌, ◌≤◌}
-use mathlib.Core.Path.{◌∙◌}
 use native.Mathlib.Omega.{arith}
-use lib.ListN.{length, length-set}
+use lib.ListN.{length}
 use Rattle.search.proofs.Beginning.{start-marked, started-more}
 use Rattle.search.proofs.begin_rows.Goals as goal
 
@@ -10,23 +9,13 @@ raise-requires c =
     omega (
       arith,
       start-marked c.args.split c.args.n c.args.resets.now c.requires.numbers.resets-long c.loop-k.k _ c.loop-k.marks c.start_number-s.ensures
-          (omega (arith, c.requires.marks-long, c.loop-k.invariant.2)),
+          (omega (arith, c.requires.marks-long, c.loop-k.auto.marks)),
     )
 
 pub loop-k-preserved : goal.loop-k-preserved
 loop-k-preserved c =
-    let room : 3 * c.loop-k.k + 3 ≤ length c.loop-k.met =
-    omega (
-      arith,
-      c.requires.few,
-      c.requires.met-long,
-      c.loop-k.invariant.1,
-    ) in (
-      c.start_number-s.auto.scratch ∙ c.loop-k.invariant.0,
-      simp length-set c.loop-k.invariant.1,
-      c.raise.auto.t ∙ c.loop-k.invariant.2,
-      started-more c.args.split c.args.n c.args.resets.now c.loop-k.k _ c.loop-k.met c.loop-k.marks c.loop-k.invariant.3 c.start_number-s.ensures (room) _
-          c.raise.ensures
-          (start-marked c.args.split c.args.n c.args.resets.now c.requires.numbers.resets-long c.loop-k.k _ c.loop-k.marks c.start_number-s.ensures
-          (omega (arith, c.requires.marks-long, c.loop-k.invariant.2))),
-    )
+    let l = c.loop-k in
+    let room : 3 * l.k + 3 ≤ length l.met = omega (arith, c.requires.few, c.requires.met-long, l.auto.met) in
+    started-more c.args.split c.args.n c.args.resets.now l.k _ l.met l.marks l.invariant c.start_number-s.ensures room _ c.raise.ensures
+    (start-marked c.args.split c.args.n c.args.resets.now c.requires.numbers.resets-long l.k _ l.marks c.start_number-s.ensures
+    (omega (arith, c.requires.marks-long, l.auto.marks)))
