@@ -1,5 +1,5 @@
 -- The lines of n needles, whose numbers start at `first` in table 6, from a position on. The loop keeps `Lined`. `lined-more`
--- carries it from turn to turn, and `lined-all` gives the answer.
+-- carries it from turn to turn.
 use Prim.Native.Nat.{◌+◌, ◌*◌}
 use lib.ListN.{take, drop}
 use Rattle.plan.specs.Reporter.{needle_line}
