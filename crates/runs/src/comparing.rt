@@ -101,11 +101,8 @@ fn plain_lines(
         (these x latches.now outputs.now gates.now)) state.old
         (first_ones number vectors.now) state.new out.old out.new }
 {
-    let mut at = 0;
     let mut to = 0;
-    let mut k = 0;
-    while k < number {
-        let end = at + n.I;
+    for line in vectors.chunks_exact(n.I + 1).take(number) {
         to = plain_line(
             n,
             latches,
@@ -113,12 +110,10 @@ fn plain_lines(
             gates,
             scratch,
             state,
-            &vectors[at..end],
+            &line[..n.I],
             out,
             to,
         );
-        at = end + 1;
-        k += 1;
     }
 }
 

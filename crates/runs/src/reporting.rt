@@ -38,14 +38,10 @@ fn put_needles(letter: u8, n: usize, six: &[u32], first: usize, out: &mut [u8], 
     ensures out_after { out.new ≡ put out.old at
         (in_turn (λ i. needle_line letter i (take 4 (drop (4 * (first + i)) six.now))) n) }
 {
-    let mut row = 4 * first;
     let mut next = at;
-    let mut i = 0;
-    while i < n {
-        let end = row + 4;
-        next = put_needle(letter, i, &six[row..end], out, next);
-        row = end;
-        i += 1;
+    for i in 0..n {
+        let row = 4 * (first + i);
+        next = put_needle(letter, i, &six[row..row + 4], out, next);
     }
     next
 }
@@ -86,10 +82,8 @@ pub fn pack(lines: &[u8], out: &mut [u8]) -> usize
 {
     let taken = lesser(lines.len(), out.len());
     let mut n = 0;
-    let mut i = 0;
-    while i < taken {
-        n = keep(lines[i], out, n);
-        i += 1;
+    for b in &lines[..taken] {
+        n = keep(*b, out, n);
     }
     n
 }

@@ -25,22 +25,19 @@ fn scan_lines(bytes: &[u8], width: usize) -> Traced
 {
     let mut column = 0;
     let mut number = 0;
-    let mut i = 0;
-    while i < bytes.len() {
-        let b = bytes[i];
+    for b in bytes {
         if column == width {
-            if b != b'\n' {
+            if *b != b'\n' {
                 return Traced::Refused(Refusal::BadVector(2));
             }
             column = 0;
             number += 1;
         } else {
-            if !is_code(b) {
+            if !is_code(*b) {
                 return Traced::Refused(Refusal::BadVector(2));
             }
             column += 1;
         }
-        i += 1;
     }
     Traced::Lines(number)
 }

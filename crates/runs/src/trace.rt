@@ -17,7 +17,7 @@ use plan::{Checked, Counts, Refusal, Traced};
 use step::codes::codes_in;
 use step::sweep::step_values;
 use step::values::{MAY0, load, store};
-use tables::{clear, lesser};
+use tables::clear;
 
 // The codes of `count` words from `first` on, and the byte after them; the position past it.
 fn put_part(t: &[u32], first: usize, count: usize, last: u8, out: &mut [u8], at: usize) -> usize
@@ -82,23 +82,9 @@ fn trace_lines(
         → Ran n (circuit_of n (these x latches.now outputs.now gates.now)) s
         (first_ones number vectors.now) scratch.new out.old out.new }
 {
-    let mut at = 0;
     let mut to = 0;
-    let mut k = 0;
-    while k < number {
-        let end = at + n.I;
-        to = write_line(
-            n,
-            latches,
-            outputs,
-            gates,
-            scratch,
-            &vectors[at..end],
-            out,
-            to,
-        );
-        at = end + 1;
-        k += 1;
+    for line in vectors.chunks_exact(n.I + 1).take(number) {
+        to = write_line(n, latches, outputs, gates, scratch, &line[..n.I], out, to);
     }
 }
 
@@ -162,18 +148,16 @@ pub fn past(bytes: &[u8], from: usize, count: usize) -> usize
     ensures value { result ≡ past_lines bytes.now from count }
     ensures upper_bound { result ≤ length bytes.now }
 {
-    let mut at = lesser(from, bytes.len());
     let mut left = count;
-    while at < bytes.len() {
+    for at in from..bytes.len() {
         if left == 0 {
             return at;
         }
         if bytes[at] == b'\n' {
             left -= 1;
         }
-        at += 1;
     }
-    at
+    bytes.len()
 }
 
 // A part of a run: as many whole lines as fit into `out`, from the state that is given; the state after them goes

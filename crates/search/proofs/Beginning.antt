@@ -1,5 +1,5 @@
 -- The starts: their numbers, rows and marks, and the search that they begin.
-use Prim.Native.Nat.{ℕ, zero, suc, ◌+◌, ◌-◌, ◌*◌, ◌/◌, ◌^◌, ◌≤◌, ◌<◌, min}
+use Prim.Native.Nat.{ℕ, zero, suc, ◌+◌, ◌-◌, ◌*◌, ◌/◌, ◌^◌, ◌≤◌, ◌<◌, min, max}
 use mathlib.Core.Path.{◌≡◌, refl, sym, ap, ap₂, ◌∙◌, subst}
 use mathlib.Core.Bool.{Bool, true, false, ◌||◌}
 use mathlib.Core.List.{List, [], ◌∷◌, ◌++◌, map, map-append}
@@ -7,7 +7,7 @@ use native.Mathlib.Nat.{add-zero, zero-add, pow-le-pow_right}
 use native.Mathlib.Numerals.{add-one}
 use native.Mathlib.Decide.{dec_le}
 use native.Mathlib.Omega.{arith}
-use borrow.Author.Tests.{eqb-true, eqb-false, eq-eqb, ne_eqb}
+use borrow.Author.Tests.{eqb-true, eqb-false}
 use lib.Dec.{eqb}
 use lib.ListN.{length, get_or, take, drop, length-map, length-append, length-take, length-drop, drop_of_length-le}
 use lib.Seq.{take_all, take-nil}
@@ -15,7 +15,7 @@ use Rattle.tables.specs.bitmap.Bitmap.{is_on, raised}
 use Rattle.tables.proofs.bitmap.Telling.{raised-on, raised-others}
 use Rattle.plan.specs.declared.Counts.{Counts}
 use Rattle.plan.specs.Circuit.{Tables, circuit_of, has}
-use Rattle.plan.specs.Step.{Value, code_of, value_of, reset_value, first_state}
+use Rattle.plan.specs.Step.{Value, code_of, value_of, reset_value}
 use Rattle.plan.specs.Fillings.{x_count, filling}
 use Rattle.laws.proofs.Put.{put-put}
 use Rattle.laws.proofs.Fillings.Numbering.{fill-length}
@@ -90,9 +90,6 @@ mark-more marks xs v s room h = go (eqb v s) refl ∙ sym (has-snoc s v xs)
 
 -- one start more
 module _ (split : ℕ) (n : Counts) (resets : List ℕ) (k s : ℕ) (met marks : List ℕ) where
-  pub started_none : ((i : ℕ) → is_on marks 0 i ≡ false) → Started split n resets 0 met marks
-  started_none blank = record { state = λ i h. absurd (omega arith); from = λ i h. absurd (omega arith); marked = λ i h. blank i }
-
   pub started-more : Started split n resets k met marks → s ≡ start_of split n resets k → 3 * k + 3 ≤ length met → (marks' : List ℕ)
       → marks' ≡ raised marks 0 s → s / 32 < length marks → Started split n resets (k + 1) (new_row met k s 0 0) marks'
   started-more st e room marks' em low = record {
@@ -248,16 +245,9 @@ module _ (split l p : ℕ) (resets : List ℕ) (long : l ≤ length resets) (e :
       wide codes = length-map (map value_of (filling k codes)) word ∙ (length-map (filling k codes) value_of ∙ fill-length k 0 codes)
 
   -- the larger count
-  pub more-second : (rest : List ℕ) → rest ≡ drop p resets → (a b : ℕ) → a ≡ x_count (codes_of resets p) → b ≡ x_count (codes_of rest (l - p)) → a < b
-      → b ≡ x_both split (codes_of resets l)
-  more-second rest er a b ea eb h =
-      let e1 = ap x_count codes-first in
-      let e2 = ap x_count codes-second ∙ ap (λ (r : List ℕ). x_count (codes_of r (l - p))) (sym er) in
-      omega (arith, e1, e2)
-
-  pub more-first : (rest : List ℕ) → rest ≡ drop p resets → (a b : ℕ) → a ≡ x_count (codes_of resets p) → b ≡ x_count (codes_of rest (l - p)) → b ≤ a
-      → a ≡ x_both split (codes_of resets l)
-  more-first rest er a b ea eb h =
+  pub larger-is : (rest : List ℕ) → rest ≡ drop p resets → (a b : ℕ) → a ≡ x_count (codes_of resets p) → b ≡ x_count (codes_of rest (l - p))
+      → max a b ≡ x_both split (codes_of resets l)
+  larger-is rest er a b ea eb =
       let e1 = ap x_count codes-first in
       let e2 = ap x_count codes-second ∙ ap (λ (r : List ℕ). x_count (codes_of r (l - p))) (sym er) in
       omega (arith, e1, e2)

@@ -1,43 +1,26 @@
 -- The search over tables, turn after turn.
-use Prim.Native.Nat.{ℕ, zero, suc, ◌+◌, ◌-◌, ◌*◌, ◌/◌, ◌%◌, ◌^◌, ◌≤◌, ◌<◌}
-use mathlib.Core.Path.{◌≡◌, refl, sym, ap, ap₂, ◌∙◌, subst}
-use mathlib.Core.Bool.{true}
-use mathlib.Core.List.{List, map}
-use native.Mathlib.Nat.{one-le-pow, mod-lt, pow-le-pow_right}
+use Prim.Native.Nat.{ℕ, suc, ◌+◌, ◌-◌, ◌/◌, ◌%◌, ◌^◌, ◌≤◌, ◌<◌}
+use mathlib.Core.Path.{◌≡◌, sym, ap, ap₂, ◌∙◌, subst}
+use mathlib.Core.List.{List}
+use native.Mathlib.Nat.{pow-le-pow_right}
 use native.Mathlib.Omega.{arith}
-use lib.ListN.{length, length-map}
+use lib.ListN.{length}
 use Rattle.plan.specs.declared.Counts.{Counts}
 use Rattle.plan.specs.Circuit.{Tables, circuit_of}
 use Rattle.step.specs.sweep.Running.{Runs}
-use Rattle.plan.specs.Search.{System, Way, begin, onward, Found, never, happens, undecided, search_from, search_all, system_of}
+use Rattle.plan.specs.Search.{System, onward, never, happens, search_from, system_of}
 use Rattle.search.specs.Rows.{at}
-use Rattle.search.specs.Rows.{Rows}
 use Rattle.search.proofs.Tabled.{turn-past, turn-out, turn-shown}
 use Rattle.search.specs.declared.Turn.{Turn}
 use Rattle.search.specs.declared.Turn.TheVariants as turn
-use Rattle.search.specs.declared.Reach.{Reach}
 use Rattle.search.specs.declared.Reach.TheVariants as reach
-use Rattle.search.specs.Exploring.{Searched, LeftBy, Turned, Exploring, Explored}
+use Rattle.search.specs.Exploring.{LeftBy, Turned, Exploring, Explored}
 use Rattle.search.proofs.Turning.{ways-few}
 
-pub some-moves : (n : ℕ) (moves : ℕ) → moves ≡ 2 ^ n → 0 < moves
-some-moves n moves e = omega (arith, one-le-pow n 2 (omega arith))
-
-pub move-small : (i tries moves : ℕ) → i ≤ 20 → moves ≡ 2 ^ i → tries % moves < 4294967296
-move-small i tries moves h e =
-    omega (arith, mod-lt tries {m = moves} (some-moves i moves e), pow-le-pow_right {n = 2} (omega arith) {i = i} {j = 20} h)
-
-pub exploring-first : {split : ℕ} {n : Counts} {x : Tables} (allowance starts : ℕ) (met marks : List ℕ)
-    → Searched split n x 0 (map begin (system_of split (circuit_of n x)).starts) met marks → length (system_of split (circuit_of n x)).starts ≡ starts
-    → Exploring split n x allowance 0 starts met marks
-exploring-first {split} {n} {x} allowance starts met marks sd e =
-    let all : allowance ≡ allowance - 0 = omega arith in
-    record {
-      ways = map begin (system_of split (circuit_of n x)).starts;
-      count = length-map (system_of split (circuit_of n x)).starts begin ∙ e;
-      searched = sd;
-      follows = ap (λ (a : ℕ). search_from (system_of split (circuit_of n x)) a 0 (map begin (system_of split (circuit_of n x)).starts)) all;
-    }
+-- after the last of the tries
+pub exploring_all : {split : ℕ} {n : Counts} {x : Tables} {allowance tries reached : ℕ} {met marks : List ℕ} → tries ≡ allowance
+    → Exploring split n x allowance tries reached met marks → Exploring split n x allowance allowance reached met marks
+exploring_all {split} {n} {x} {allowance} {tries} {reached} {met} {marks} e ex = subst (λ (k : ℕ). Exploring split n x allowance k reached met marks) e ex
 
 module _ {split : ℕ} {n : Counts} {x : Tables} (r : Runs n x) (allowance tries reached moves : ℕ) (met marks : List ℕ)
     (ex : Exploring split n x allowance tries reached met marks) (em : moves ≡ 2 ^ n.I) where

@@ -2,18 +2,17 @@
 use Prim.Native.Nat.{ℕ, zero, suc, ◌+◌, ◌-◌, ◌*◌, ◌/◌, ◌%◌, ◌^◌, ◌≤◌, ◌<◌}
 use mathlib.Core.Path.{◌≡◌, refl, sym, ap, ap₂, ◌∙◌, subst}
 use mathlib.Core.Bool.{Bool, true, false, cond}
-use mathlib.Core.List.{List, [], ◌∷◌, ◌++◌, map}
+use mathlib.Core.List.{List, [], ◌∷◌, ◌++◌, map, append-nil, append_assoc}
 use native.Mathlib.Nat.{pow-zero, pow-succ', div-one, div-div-eq-div-mul, pow-le-pow_right}
-use native.Mathlib.Numerals.{add-one}
 use lib.Pow.{shl_exact}
 use native.Mathlib.Nat.{one-mul}
 use native.Mathlib.Omega.{arith}
 use lib.Bits.{bit_and, and_mask}
-use lib.ListN.{length, get_or, take, drop, length-map, length-take, length-drop}
-use lib.Seq.{drop-cons, take_all}
-use Rattle.plan.specs.Step.{Value, v0, v1, is1}
+use lib.ListN.{length, get_or, take, drop, length-map, length-append, length-take}
+use lib.Seq.{take_all}
+use Rattle.plan.specs.Step.{Value, is1}
 use Rattle.laws.proofs.Tables.{firsts, words_take}
-use Rattle.step.specs.values.Words.{word, words, told, values_at}
+use Rattle.step.specs.values.Words.{word, told}
 use Rattle.step.proofs.values.Codes.{is_one, no_one}
 use Rattle.plan.specs.Search.{bit_value, bits, as_number}
 use Rattle.search.proofs.Vectors.{bits-length, number_small}
@@ -57,42 +56,45 @@ one-is w e = sym (ap {B = ℕ} (λ (b : Bool). cond b 1 0) (is_one w e))
 pub one-not : (w : ℕ) → (w ≡ 2 → ⊥) → ◌≡◌ {A = ℕ} 0 (cond (is1 (told w)) 1 0)
 one-not w h = sym (ap {B = ℕ} (λ (b : Bool). cond b 1 0) (no_one w h))
 
--- the number of the words from place j on
-abbrev pub number_from : List ℕ → ℕ → ℕ → ℕ → ℕ
-number_from t first n j = as_number (values_at t (first + j) (n - j))
+-- of the words ws, those of rest are still to come, and s is the number of those past them
+pub record Numbered (ws rest : List ℕ) (s : ℕ) : Type 0 where
+  pub past : List ℕ
+  pub parts : rest ++ past ≡ ws
+  pub number : s ≡ as_number (map told past)
 
-pub number-none : (t : List ℕ) (first n : ℕ) → 0 ≡ number_from t first n n
-number-none t first n = let e : n - n ≡ 0 = omega arith in sym (ap (λ (k : ℕ). as_number (values_at t (first + n) k)) e)
+pub numbered-none : (t : List ℕ) (first n : ℕ) (rest : List ℕ) → rest ≡ take (first + n - first) (drop first t)
+    → Numbered (take n (drop first t)) rest 0
+numbered-none t first n rest e =
+    let k : first + n - first ≡ n = omega arith in
+    record { past = []; parts = append-nil rest ∙ e ∙ ap (λ (m : ℕ). take m (drop first t)) k; number = refl }
 
-pub number_more : (t : List ℕ) (first n j s b : ℕ) → 0 < j → j ≤ n → first + n ≤ length t → s ≡ number_from t first n j
-    → b ≡ cond (is1 (told (get_or t (first + (j - 1)) 0))) 1 0 → 2 * s + b ≡ number_from t first n (j - 1)
-number_more t first n j s b h q room e f =
-    let k : n - (j - 1) ≡ suc (n - j) = omega arith in
-    let i : suc (first + (j - 1)) ≡ first + j = omega arith in
-    sym (ap (λ (m : ℕ). as_number (map told (take m (drop (first + (j - 1)) t)))) k
-    ∙ ap (λ (l : List ℕ). as_number (map told (take (suc (n - j)) l))) (drop-cons t (first + (j - 1)) 0 (omega arith))
-    ∙ ap (λ (m : ℕ). cond (is1 (told (get_or t (first + (j - 1)) 0))) 1 0 + 2 * as_number (map told (take (n - j) (drop m t)))) i
-    ∙ ap₂ (λ (x y : ℕ). x + 2 * y) (sym f) (sym e) ∙ swap s b)
+pub numbered_more : {ws rest : List ℕ} {s : ℕ} → Numbered ws rest s → (before : List ℕ) (w : ℕ) → rest ≡ before ++ (w ∷ []) → (b : ℕ)
+    → b ≡ cond (is1 (told w)) 1 0 → Numbered ws before (2 * s + b)
+numbered_more {ws} {rest} {s} m before w e b f =
+    let p : before ++ (w ∷ m.past) ≡ (before ++ (w ∷ [])) ++ m.past = sym (append_assoc before (w ∷ []) m.past) in
+    record {
+      past = w ∷ m.past;
+      parts = p ∙ ap (λ (l : List ℕ). l ++ m.past) (sym e) ∙ m.parts;
+      number = ap₂ (λ (x y : ℕ). 2 * x + y) m.number f ∙ swap (cond (is1 (told w)) 1 0) (as_number (map told m.past));
+    }
   where
-    swap : (x y : ℕ) → y + 2 * x ≡ 2 * x + y
+    swap : (x y : ℕ) → 2 * y + x ≡ x + 2 * y
     swap x y = omega arith
 
-pub number-low : (t : List ℕ) (first n j : ℕ) → n ≤ 20 → number_from t first n j < 1048576
-number-low t first n j h =
-    let few : length (values_at t (first + j) (n - j)) ≤ 20 =
-    omega (arith, length-map (take (n - j) (drop (first + j) t)) told, length-take (n - j) (drop (first + j) t)) in
+pub numbered-low : (t : List ℕ) (first n : ℕ) {rest : List ℕ} {s : ℕ} → Numbered (take n (drop first t)) rest s → n ≤ 20 → s < 1048576
+numbered-low t first n {rest} {s} m h =
+    let few : length (map told m.past) ≤ 20 =
+    omega (arith, length-map m.past told, length-append rest m.past, ap length m.parts, length-take n (drop first t)) in
     omega (
       arith,
-      number_small (values_at t (first + j) (n - j)),
-      pow-le-pow_right {n = 2} (omega arith) {i = length (values_at t (first + j) (n - j))}
-          {j = 20} few,
+      m.number,
+      number_small (map told m.past),
+      pow-le-pow_right {n = 2} (omega arith) {i = length (map told m.past)} {j = 20} few,
     )
 
-pub number-all : (t : List ℕ) (first n j s : ℕ) → j ≡ 0 → s ≡ number_from t first n j → s ≡ as_number (values_at t first n)
-number-all t first n j s e q =
-    let a : first + 0 ≡ first = omega arith in
-    let b : n - 0 ≡ n = omega arith in
-    q ∙ ap (number_from t first n) e ∙ ap₂ (λ (x y : ℕ). as_number (values_at t x y)) a b
+pub numbered-all : (ws rest : List ℕ) (s : ℕ) → Numbered ws rest s → length rest ≡ 0 → s ≡ as_number (map told ws)
+numbered-all ws [] s m e = m.number ∙ ap (λ (l : List ℕ). as_number (map told l)) m.parts
+numbered-all ws (w ∷ rest) s m e = absurd (omega arith)
 
 pub one-small : (w b : ℕ) → b ≡ cond (is1 (told w)) 1 0 → b ≤ 1
 one-small w b e = go (is1 (told w)) e

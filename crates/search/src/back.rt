@@ -24,10 +24,8 @@ fn store_number(k: u32, n: usize, first: usize, t: &mut [u8])
     requires { (n ≤ 20) × (first + n ≤ length t.old) }
     ensures { t.new ≡ put t.old first (map code_of (bits n k)) }
 {
-    let mut i = 0;
-    while i < n {
+    for i in 0..n {
         t[first + i] = bit_code(k, i);
-        i += 1;
     }
 }
 

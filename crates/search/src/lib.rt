@@ -50,10 +50,8 @@ fn load_number(k: u32, n: usize, first: usize, t: &mut [u32])
     requires { (n ≤ 20) × (first + n ≤ length t.old) }
     ensures { t.new ≡ put t.old first (words (bits n k)) }
 {
-    let mut i = 0;
-    while i < n {
+    for i in 0..n {
         t[first + i] = bit_word(k, i);
-        i += 1;
     }
 }
 
@@ -73,10 +71,8 @@ fn number_in(t: &[u32], first: usize, n: usize) -> u32
     ensures { result ≡ as_number (values_at t.now first n) }
 {
     let mut s = 0;
-    let mut j = n;
-    while 0 < j {
-        j -= 1;
-        s = 2 * s + one_of(t[first + j]);
+    for w in t[first..first + n].iter().rev() {
+        s = 2 * s + one_of(*w);
     }
     s
 }
@@ -201,8 +197,7 @@ fn explore(
 {
     let moves = power(n.I);
     let mut reached = starts;
-    let mut tries = 0;
-    while tries < allowance {
+    for tries in 0..allowance {
         let place = tries / moves;
         if reached <= place {
             return Reach::Never(reached, tries);
@@ -225,12 +220,11 @@ fn explore(
             return Reach::Shown(place, m, tries + 1);
         };
         reached = k;
-        tries += 1;
     }
-    if reached <= tries / moves {
-        return Reach::Never(reached, tries);
+    if reached <= allowance / moves {
+        return Reach::Never(reached, allowance);
     }
-    Reach::Undecided(tries)
+    Reach::Undecided(allowance)
 }
 
 // The start of filling number k goes into words from 1 + I on: the x of each plan's resets are numbered from 0.
@@ -252,10 +246,7 @@ fn count_both(n: Counts, resets: &[u32], split: usize) -> usize
     let first = lesser(split, n.L);
     let before = count_resets(resets, first);
     let after = count_resets(&resets[first..], n.L - first);
-    if before < after {
-        return after;
-    }
-    before
+    before.max(after)
 }
 
 // The number of the state that filling k of the resets is, by way of scratch.
@@ -280,15 +271,13 @@ fn begin_rows(
     requires { Starts n resets.now total scratch.old met.old marks.old }
     ensures { Started split n resets.now total met.new marks.new }
 {
-    let mut k = 0;
-    while k < total {
+    for k in 0..total {
         let s = start_number(n, resets, split, k as u32, scratch);
         raise(marks, 0, s as usize);
         let row = 3 * k;
         met[row] = s;
         met[row + 1] = 0;
         met[row + 2] = 0;
-        k += 1;
     }
 }
 

@@ -1,10 +1,9 @@
 -- One line more of a run by the plain engine: the laws of the tracer's lines, over a table that would hold the state.
-use Prim.Native.Nat.{ℕ, ◌+◌, ◌-◌, ◌≤◌, ◌<◌}
+use Prim.Native.Nat.{ℕ, ◌+◌}
 use mathlib.Core.Path.{◌≡◌, refl, sym, ap, ◌∙◌, subst}
 use mathlib.Core.Bool.{true, ◌&&◌}
 use mathlib.Core.List.{List, ◌∷◌, ◌++◌, map}
 use native.Mathlib.Omega.{arith}
-use borrow.Rule.Slice.PartMut.{mid_of}
 use lib.Dec.{eqb}
 use lib.ListN.{length, take, drop, replicate, length-map, length-replicate}
 use lib.Seq.{take-length, drop-append-add}
@@ -20,8 +19,7 @@ use Rattle.step.specs.values.Words.{told, word, words}
 use Rattle.step.proofs.values.Codes.{told-words}
 use Rattle.step.specs.sweep.Running.{Rests}
 use Rattle.runs.specs.trace.Tracing.{Wrote, first_ones, Ran, Left}
-use Rattle.runs.proofs.trace.Lines.{next-line}
-use Rattle.runs.proofs.trace.Running.{Lining, Going, all-gone, ins-long}
+use Rattle.runs.proofs.trace.Running.{Lining, Going, Taken, lines_left, all-gone, ins-long}
 use Rattle.runs.specs.comparing.Lined.{Vector, Lined}
 use Rattle.runs.proofs.comparing.Lines.{values-codes}
 
@@ -48,27 +46,18 @@ pub state-of : (n : Counts) (state : List ℕ) (s : List Value) → length state
 state-of n state s e r = sym (told-words s) ∙ (ap (map told) (sym r.state ∙ held n state e) ∙ told-words (map value_of state))
 
 -- the vector of a turn is one of codes
-pub ins-vector : {n : Counts} {number : ℕ} {vectors : List ℕ} {k at : ℕ} (l : Lining n number vectors k at) → k < number
-    → Vector n.I (mid_of at (at + n.I - at) vectors)
-ins-vector {n} {number} {vectors} {k} {at} l h = record { long = ins-long l h; codes = codes }
+pub ins-vector : {n : Counts} {more : ℕ} {bytes out : List ℕ} {to : ℕ} → (l : Lining n more bytes out to) → {line : List ℕ} {more' : ℕ} {bytes' : List ℕ}
+    → Taken n more bytes line more' bytes' → Vector n.I (take n.I line)
+ins-vector {n} l {line} {bytes' = bytes'} t = record { long = ins-long l t; codes = codes }
   where
     row : List ℕ
-    row = take n.I (drop at vectors)
+    row = take n.I line
 
-    rows : List (List ℕ)
-    rows = lines_in (drop (n.I + 1) (drop at vectors))
+    good : all_vectors n.I (row ∷ lines_in bytes') ≡ true
+    good = ap (all_vectors n.I) (sym (lines_left l t)) ∙ l.good
 
-    all : lines_in (drop at vectors) ≡ row ∷ rows
-    all = (next-line n.I (drop at vectors) l.good (omega (arith, l.enough))).all
-
-    good : all_vectors n.I (row ∷ rows) ≡ true
-    good = ap (all_vectors n.I) (sym all) ∙ l.good
-
-    codes : all_codes (mid_of at (at + n.I - at) vectors) ≡ true
-    codes =
-        let only : at + n.I - at ≡ n.I = omega arith in
-        ap (λ (m : ℕ). all_codes (take m (drop at vectors))) only
-        ∙ and_right (eqb (length row) n.I) (all_codes row) (and_left (eqb (length row) n.I && all_codes row) (all_vectors n.I rows) good)
+    codes : all_codes row ≡ true
+    codes = and_right (eqb (length row) n.I) (all_codes row) (and_left (eqb (length row) n.I && all_codes row) (all_vectors n.I (lines_in bytes')) good)
 
 -- a line that was written is one that the tracer would write
 module _ (n : Counts) {c : Circuit} {state ins state' out out' : List ℕ} {at : ℕ} (d : Lined c state ins state' out at out')
@@ -91,12 +80,11 @@ module _ (n : Counts) {c : Circuit} {state ins state' out out' : List ℕ} {at :
   }
 
 -- after the last line
-pub all_left : (n : Counts) (c : Circuit) (number : ℕ) (vectors state out state' out' : List ℕ) (k at to : ℕ) → number ≤ k → Vector n.L state'
-    → Going n c (map value_of state) number vectors (resting n state') out out' k at to
+pub all_left : (n : Counts) {c : Circuit} {number : ℕ} {vectors : List ℕ} (state state' : List ℕ) {out out' : List ℕ} {more : ℕ} {bytes : List ℕ} {to : ℕ} → more ≡ 0
+    → Vector n.L state' → Going n c (map value_of state) number vectors (resting n state') out out' more bytes to
     → Left c state (first_ones number vectors) state' out out'
-all_left n c number vectors state out state' out' k at to h v g =
-    let r : Ran n c (map value_of state) (first_ones number vectors) (resting n state') out out'
-    = all-gone n c (map value_of state) number vectors (resting n state') out (resting n state') out' k at to h g in
+all_left n {c} {number} {vectors} state state' {out} {out'} none v g =
+    let r : Ran n c (map value_of state) (first_ones number vectors) (resting n state') out out' = all-gone none g in
     record {
       state-is = sym (values-codes state' v.codes)
           ∙ ap (map code_of) (sym (state-of n state' (state_after c (map value_of state) (first_ones number vectors)) v.long r.rests));

@@ -1,6 +1,6 @@
 -- A needle's line and the lines of n needles, put one after the other.
 use Prim.Native.Nat.{ℕ, suc, ◌+◌, ◌*◌, ◌-◌, ◌≤◌, ◌<◌, min}
-use mathlib.Core.Path.{◌≡◌, refl, sym, ap, ap₂, ◌∙◌}
+use mathlib.Core.Path.{◌≡◌, refl, ap, ap₂, ◌∙◌}
 use mathlib.Core.List.{List, [], ◌∷◌, ◌++◌, append_assoc, append-nil}
 use native.Mathlib.Omega.{arith}
 use lib.ListN.{length, get_or, take, set, length-append, length-set}
@@ -8,7 +8,7 @@ use lib.Seq.{take_all}
 use Rattle.plan.specs.Circuit.{rows_of}
 use Rattle.plan.specs.Bytes.{digits, end_of, line_of, lines_of}
 use Rattle.plan.specs.Outcome.{put}
-use Rattle.laws.proofs.Put.{put-none, put-put, put_one, put-length}
+use Rattle.laws.proofs.Put.{put-put, put_one, put-length}
 use Rattle.write.proofs.print.Sizes.{digits-ten}
 use Rattle.plan.specs.Report.{in_turn}
 use Rattle.plan.specs.Reporter.{needle_line, needle_lines}
@@ -20,9 +20,6 @@ pub record Lined (f : ℕ → List ℕ) (out₀ : List ℕ) (at i next : ℕ) (o
   pub so_far : out ≡ put out₀ at (in_turn f i)
   pub few : next ≤ at + 66 * i
   pub size : length out ≡ length out₀
-
-pub lined-none : (f : ℕ → List ℕ) (out₀ : List ℕ) (at : ℕ) → Lined f out₀ at 0 at out₀
-lined-none f out₀ at = record { place = omega arith; so_far = sym (put-none out₀ at); few = omega arith; size = refl }
 
 pub lined-more : {f : ℕ → List ℕ} {out₀ : List ℕ} {at i next : ℕ} {out : List ℕ} → Lined f out₀ at i next out → (n : ℕ) → i < n
     → at + 66 * n ≤ length out₀
@@ -38,17 +35,6 @@ lined-more {f} {out₀} {at} {i} {next} {out} p n h room next' out' e short o sa
           ∙ (put-put out₀ at (in_turn f i) (f i) (omega (arith, p.few, p.place)) ∙ ap (λ (k : ℕ). put out₀ at (in_turn f k)) more));
       few = omega (arith, p.few);
       size = same ∙ p.size;
-    }
-
-pub lined-all : {f : ℕ → List ℕ} {out₀ : List ℕ} {at i next : ℕ} {out : List ℕ} (n : ℕ) → i ≤ n → n ≤ i → Lined f out₀ at i next out
-    → Lined f out₀ at n next out
-lined-all {f} {out₀} {at} {i} {next} {out} n a b p =
-    let e : i ≡ n = omega arith in
-    record {
-      place = p.place ∙ ap (λ (k : ℕ). at + length (in_turn f k)) e;
-      so_far = p.so_far ∙ ap (λ (k : ℕ). put out₀ at (in_turn f k)) e;
-      few = omega (arith, p.few);
-      size = p.size;
     }
 
 -- the parts of a line: w stands from a position on, and k is the position after it

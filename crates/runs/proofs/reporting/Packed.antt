@@ -1,12 +1,11 @@
 -- Lines without their ends: a byte more, and whole lines of one width.
-use Prim.Native.Nat.{ℕ, suc, ◌+◌, ◌≤◌, ◌<◌, min}
+use Prim.Native.Nat.{ℕ, suc, ◌+◌, ◌≤◌, ◌<◌}
 use mathlib.Core.Path.{◌≡◌, refl, sym, ap, ap₂, ◌∙◌}
 use mathlib.Core.Bool.{Bool, true, false, cond}
 use mathlib.Core.List.{List, [], ◌∷◌, ◌++◌}
 use native.Mathlib.Numerals.{add-one}
 use native.Mathlib.Omega.{arith}
-use borrow.Author.Tests.{leb-true, leb-false}
-use lib.Dec.{eqb, leb}
+use lib.Dec.{eqb}
 use lib.ListN.{length, get_or, take, length-append}
 use lib.Seq.{take-suc, take_all}
 use Rattle.plan.specs.Outcome.{put}
@@ -29,28 +28,12 @@ packed-short (b ∷ l) = go (eqb b 10) (packed-short l)
     go true e = omega arith
     go false e = omega arith
 
--- as many bytes as there are, and no more than k
-take_min : (l : List ℕ) (k : ℕ) → take (min (length l) k) l ≡ take k l
-take_min l k = go (leb (length l) k) refl
-  where
-    go : (t : Bool) → leb (length l) k ≡ t → take (min (length l) k) l ≡ take k l
-    go true e =
-        let h : length l ≤ k = leb-true (length l) k e in
-        take_all (min (length l) k) l (omega arith) ∙ sym (take_all k l h)
-    go false e =
-        let h : k < length l = leb-false (length l) k e in
-        let all : min (length l) k ≡ k = omega arith in
-        ap (λ (n : ℕ). take n l) all
-
 -- after i bytes
 pub record Packs (lines out₀ : List ℕ) (i n : ℕ) (out : List ℕ) : Type 0 where
   pub place : n ≡ length (packed (take i lines))
   pub so_far : out ≡ put out₀ 0 (packed (take i lines))
   pub few : n ≤ i
   pub size : length out ≡ length out₀
-
-pub packs-none : (lines out₀ : List ℕ) → Packs lines out₀ 0 0 out₀
-packs-none lines out₀ = record { place = refl; so_far = sym (put-none out₀ 0); few = omega arith; size = refl }
 
 module _ {lines out₀ : List ℕ} {i n : ℕ} {out : List ℕ} (p : Packs lines out₀ i n out) (h : i < length lines) (room : i < length out₀) where
   pub packs-more : (n' : ℕ) (out' : List ℕ) → n' ≡ n + length (packed (get_or lines i 0 ∷ [])) → out' ≡ put out n (packed (get_or lines i 0 ∷ []))
@@ -71,12 +54,6 @@ module _ {lines out₀ : List ℕ} {i n : ℕ} {out : List ℕ} (p : Packs lines
         few = omega (arith, p.few);
         size = same ∙ p.size;
       }
-
-pub packs-all : {lines out₀ : List ℕ} {i n : ℕ} {out : List ℕ} → Packs lines out₀ i n out → i ≡ min (length lines) (length out₀)
-    → (n ≡ length (packed_into out₀ lines)) × (out ≡ put out₀ 0 (packed_into out₀ lines))
-packs-all {lines} {out₀} {i} p h =
-    let all : take i lines ≡ take (length out₀) lines = ap (λ (k : ℕ). take k lines) h ∙ take_min lines (length out₀) in
-    (p.place ∙ ap (λ (l : List ℕ). length (packed l)) all, p.so_far ∙ ap (λ (l : List ℕ). put out₀ 0 (packed l)) all)
 
 -- with room nothing is left off
 pub all-packed : (out lines : List ℕ) → length lines ≤ length out → packed_into out lines ≡ packed lines

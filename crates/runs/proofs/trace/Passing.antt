@@ -1,13 +1,10 @@
--- The position past lines: a byte more, no line more, and the end.
-use Prim.Native.Nat.{ℕ, suc, ◌+◌, ◌-◌, ◌≤◌, ◌<◌, min}
-use mathlib.Core.Path.{◌≡◌, refl, sym, ap, ◌∙◌}
-use mathlib.Core.Bool.{Bool, true, false, cond}
+-- The position past lines: no line more, and the end.
+use Prim.Native.Nat.{ℕ, ◌+◌, ◌≤◌, min}
+use mathlib.Core.Path.{◌≡◌, refl, ap, ◌∙◌}
 use mathlib.Core.List.{List, [], ◌∷◌}
-use native.Mathlib.Numerals.{add-one}
+use native.Mathlib.Decide.{dec_le}
 use native.Mathlib.Omega.{arith}
-use lib.Dec.{eqb}
-use lib.ListN.{length, get_or, drop, drop_of_length-le}
-use lib.Seq.{drop-cons}
+use lib.ListN.{length, drop, drop_of_length-le}
 use Rattle.runs.specs.trace.Tracing.{bytes_of_lines, past_lines}
 
 -- `left` lines are to come from `at` on
@@ -38,24 +35,11 @@ module _ {bytes : List ℕ} {from count at left : ℕ} (p : Passing bytes from c
       let none : bytes_of_lines left (drop at bytes) ≡ 0 = ap (bytes_of_lines left) (drop_of_length-le bytes {i = at} h) in
       omega (arith, p.to-come)
 
-  module _ (h : at < length bytes) where
-    here : drop at bytes ≡ get_or bytes at 0 ∷ drop (at + 1) bytes
-    here = drop-cons bytes at 0 h ∙ ap (λ (k : ℕ). get_or bytes at 0 ∷ drop k bytes) (sym (add-one at))
-
-    passed : (k : ℕ) → left ≡ suc k → (t : Bool) → eqb (get_or bytes at 0) 10 ≡ t → (m : ℕ) → m ≡ cond t k (suc k) → Passing bytes from count (at + 1) m
-    passed k e t q m r =
-        let one : bytes_of_lines left (drop at bytes) ≡ suc (bytes_of_lines m (drop (at + 1) bytes))
-        = ap (bytes_of_lines left) here
-        ∙ (ap (λ (n : ℕ). bytes_of_lines n (get_or bytes at 0 ∷ drop (at + 1) bytes)) e
-        ∙ (ap (λ (x : Bool). suc (bytes_of_lines (cond x k (suc k)) (drop (at + 1) bytes))) q
-        ∙ ap (λ (n : ℕ). suc (bytes_of_lines n (drop (at + 1) bytes))) (sym r))) in
-        record { within = omega arith; to-come = omega (arith, one, p.to-come) }
-
-    -- a byte more, which ends a line or does not
-    pub past_end : (m : ℕ) → left ≡ m + 1 → eqb (get_or bytes at 0) 10 ≡ true → Passing bytes from count (at + 1) m
-    past_end m e q = passed m (e ∙ add-one m) true q m refl
-
-    pub past-byte : (left ≡ 0 → ⊥) → eqb (get_or bytes at 0) 10 ≡ false → (m : ℕ) → m ≡ left → Passing bytes from count (at + 1) m
-    past-byte some q m e =
-        let one : left ≡ suc (left - 1) = omega (arith, some) in
-        passed (left - 1) one false q m (e ∙ one)
+-- the end of the bytes, also where they end before the start
+pub past_all : (bytes : List ℕ) (from count at left : ℕ) → length bytes ≤ at → (from ≤ length bytes → Passing bytes from count at left)
+    → length bytes ≡ past_lines bytes from count
+past_all bytes from count at left h p = go (dec_le from (length bytes))
+  where
+    go : Dec (from ≤ length bytes) → length bytes ≡ past_lines bytes from count
+    go (yes q) = let r = p q in let e : length bytes ≡ at = omega (arith, r.within) in e ∙ past_bytes r h
+    go (no q) = past_bytes (passing-first bytes from count (length bytes) (omega arith)) (omega arith)

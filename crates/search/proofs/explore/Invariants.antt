@@ -1,4 +1,4 @@
-use Prim.Native.Nat.{ℕ, ◌-◌, ◌≤◌}
+use Prim.Native.Nat.{ℕ}
 use mathlib.Core.Path.{◌≡◌}
 use mathlib.Core.List.{List, map}
 use lib.ListN.{length}
@@ -9,12 +9,9 @@ use Rattle.search.specs.Exploring.{Searched, Exploring}
 use Rattle.search.proofs.explore.Given as goal
 
 abbrev pub invariant-loop-tries : goal.invariant-loop-tries
-invariant-loop-tries l = (l.tries ≤ l.allowance) × (length l.scratch ≡ length l.initial.scratch) × (length l.met ≡ length l.initial.met) × (length l.marks ≡ length l.initial.marks)
-    × ((split : ℕ) (inputs resets : List ℕ) → Runs l.n (seven inputs l.latches l.outputs l.gates resets l.bads l.constraints)
+invariant-loop-tries l =
+    (split : ℕ) (inputs resets : List ℕ) → Runs l.n (seven inputs l.latches l.outputs l.gates resets l.bads l.constraints)
     → Searched split l.n (seven inputs l.latches l.outputs l.gates resets l.bads l.constraints) 0
     (map begin (system_of split (circuit_of l.n (seven inputs l.latches l.outputs l.gates resets l.bads l.constraints))).starts) l.initial.met l.initial.marks
     → length (system_of split (circuit_of l.n (seven inputs l.latches l.outputs l.gates resets l.bads l.constraints))).starts ≡ l.starts
-    → Exploring split l.n (seven inputs l.latches l.outputs l.gates resets l.bads l.constraints) l.allowance l.tries l.reached l.met l.marks)
-
-abbrev pub decreases-loop-tries : goal.decreases-loop-tries
-decreases-loop-tries l = l.allowance - l.tries
+    → Exploring split l.n (seven inputs l.latches l.outputs l.gates resets l.bads l.constraints) l.allowance l.tries l.reached l.met l.marks

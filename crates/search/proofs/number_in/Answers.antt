@@ -1,38 +1,28 @@
-use Prim.Native.Nat.{◌+◌, ◌-◌}
 use native.Mathlib.Omega.{arith}
-use lib.ListN.{get_or}
-use Rattle.search.proofs.Numbers.{number-none, number_more, number-low, number-all, one-small}
+use mathlib.Core.Path.{◌∙◌, ap}
+use Rattle.std.specs.Iterator.Adapters.{rev_source}
+use Rattle.std.specs.Slice.Iter.{iter_rest}
+use Rattle.search.proofs.Numbers.{numbered-none, numbered_more, numbered-low, numbered-all, one-small}
 use Rattle.search.proofs.number_in.Goals as goal
 
-pub loop-j-init : goal.loop-j-init
-loop-j-init c = (omega arith, number-none c.args.t.now c.args.first c.args.n)
+pub loop-w-init : goal.loop-w-init
+loop-w-init c =
+    let a = c.args in
+    let source = ap rev_source c.into_iter-w-iterator.ensures.into_iter_gives ∙ c.rev-w-items.ensures.source in
+    (tt, tt, numbered-none a.t.now a.first a.n _ (ap iter_rest source ∙ c.iter.ensures.rest))
 
 pub overflow_mul-s : goal.overflow_mul-s
 overflow_mul-s c =
-    omega (arith, c.loop-j.invariant.1, number-low c.args.t.now c.args.first c.args.n c.loop-j.j c.requires.0)
-
-pub overflow_add-first : goal.overflow_add-first
-overflow_add-first c = omega (arith, c.requires.1)
-
-pub bounds-t-first : goal.bounds-t-first
-bounds-t-first c = omega (arith, c.requires.1)
+    let a = c.args in
+    omega (arith, numbered-low a.t.now a.first a.n c.loop-w.invariant.2 c.requires.0)
 
 pub overflow_add-s : goal.overflow_add-s
 overflow_add-s c =
-    omega (
-      arith,
-      c.loop-j.invariant.1,
-      number-low c.args.t.now c.args.first c.args.n c.loop-j.j c.requires.0,
-      one-small (get_or c.args.t.now (c.args.first + (c.loop-j.j - 1)) 0) _ c.one_of.ensures,
-    )
+    let a = c.args in
+    omega (arith, numbered-low a.t.now a.first a.n c.loop-w.invariant.2 c.requires.0, one-small _ _ c.one_of.ensures)
 
-pub loop-j-preserved : goal.loop-j-preserved
-loop-j-preserved c = (
-  omega arith,
-  number_more c.args.t.now c.args.first c.args.n c.loop-j.j c.loop-j.s _ c.loop-j-test.true c.loop-j.invariant.0
-      c.requires.1
-      c.loop-j.invariant.1 c.one_of.ensures,
-)
+pub loop-w-preserved : goal.loop-w-preserved
+loop-w-preserved c = (tt, tt, numbered_more c.loop-w.invariant.2 _ _ c.in-Some.ensures.steps _ c.one_of.ensures)
 
 pub returns : goal.returns
-returns c = number-all c.args.t.now c.args.first c.args.n c.loop-j.j c.loop-j.s (omega arith) c.loop-j.invariant.1
+returns c = numbered-all _ _ _ c.loop-w.invariant.2 c.in-None.ensures.steps.0

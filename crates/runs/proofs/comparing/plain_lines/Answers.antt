@@ -1,94 +1,71 @@
--- The lines of the first `number` vectors, from the start of a buffer that has room for them. The loop keeps `Lining`; the measure is `number - k`.
--- `lining-next`, `next_row` and `next-vector` carry it from turn to turn, and `all_left` gives the answer.
-use Prim.Native.Nat.{◌+◌, ◌-◌, ◌≤◌}
-use mathlib.Core.Path.{refl, sym, ◌∙◌}
+-- The lines of the first `number` vectors, from the start of a buffer that has room for them. The loop keeps `Lining` and `Going`, which `lining-next`
+-- and `going_on` carry from turn to turn, the latter over a table that would hold the state; `all_left` gives the answer.
+use mathlib.Core.Path.{ap, ◌∙◌}
 use mathlib.Core.List.{map}
-use native.Mathlib.Nat.{mul-zero}
 use native.Mathlib.Omega.{arith}
-use lib.ListN.{length, length-map}
+use lib.ListN.{length-map}
+use Rattle.std.specs.Iterator.Adapters.{take_source, take_count}
+use Rattle.std.specs.Slice.Iter.{chunks_exact_rest, chunks_exact_size}
 use Rattle.plan.specs.Step.{value_of}
-use Rattle.plan.specs.Whole.{line_width}
-use Rattle.laws.proofs.Tables.{next_row}
 use Rattle.step.specs.Asked.{Room}
-use Rattle.runs.proofs.trace.Running.{lining-first, lining-next, line-fits, line-inside, going-first, going-at, going_on}
 use Rattle.runs.proofs.comparing.Running.{resting, rests, state-of, ins-vector, wrote, next-vector, all_left}
+use Rattle.runs.proofs.trace.Running.{taken, lining-first, lining-next, lining-last, lining-at, line-fits}
+use Rattle.runs.proofs.trace.Running.{going-first, going-at, going_on}
 use Rattle.runs.proofs.comparing.plain_lines.Goals as goal
 
-pub loop-k-init : goal.loop-k-init
-loop-k-init c =
+pub loop-line-init : goal.loop-line-init
+loop-line-init c =
     let a = c.args in
-    let v = c.requires.vector in (
-      lining-first c.requires.listed,
-      sym (mul-zero (line_width a.n)),
-      refl,
-      refl,
-      refl,
+    let v = c.requires.vector in
+    let took = c.into_iter-line-iterator.ensures.into_iter_gives in
+    let chunks = ap take_source took ∙ c.take-line-items.ensures.source in
+    let size = ap chunks_exact_size chunks ∙ c.chunks_exact.ensures.size in
+    let rest = ap chunks_exact_rest chunks ∙ c.chunks_exact.ensures.rest in
+    let more = ap take_count took ∙ c.take-line-items.ensures.count in (
+      omega (arith, size),
+      tt,
+      size,
+      lining-first c.requires.listed more rest,
       v,
       λ x r.
-          going-first a.n _ (map value_of a.state.now) a.number a.vectors.now (resting a.n a.state.now) a.out.now
-          (length-map a.state.now value_of ∙ v.long) (rests a.n a.state.now v.long),
+          going-first a.n _ (map value_of a.state.now) a.vectors.now (resting a.n a.state.now) a.out.now
+          (length-map a.state.now value_of ∙ v.long) (rests a.n a.state.now v.long) more rest,
     )
-
-pub overflow_add-end : goal.overflow_add-end
-overflow_add-end c =
-    let inside : c.loop-k.at + c.args.n.I + 1 ≤ length c.args.vectors.now =
-    line-inside c.loop-k.invariant.0 c.loop-k-test.true in
-    omega (arith, inside)
-
-pub slice_bounds-plain_line-end : goal.slice_bounds-plain_line-end
-slice_bounds-plain_line-end c =
-    let inside : c.loop-k.at + c.args.n.I + 1 ≤ length c.args.vectors.now =
-    line-inside c.loop-k.invariant.0 c.loop-k-test.true in
-    omega (arith, inside)
 
 pub plain_line-to-requires : goal.plain_line-to-requires
 plain_line-to-requires c =
-    let fits : c.loop-k.to + line_width c.args.n ≤ length c.args.out.now =
-    line-fits c.requires.listed c.loop-k.k c.loop-k.to c.loop-k-test.true c.loop-k.invariant.1 in
-    let room : let a = c.args in Room a.n a.latches.now a.outputs.now a.gates.now c.loop-k.scratch =
+    let steps = c.in-Some.ensures.steps in
+    let inv = c.loop-line.invariant in
+    let room : let a = c.args in Room a.n a.latches.now a.outputs.now a.gates.now c.loop-line.scratch =
     let b = c.requires.room in
-    record { others = b.others; runs = b.runs; scratch-long = omega (arith, b.scratch-long, c.loop-k.invariant.2) } in
-    record { room = room; vector = c.loop-k.invariant.5; vector_2 = ins-vector c.loop-k.invariant.0 c.loop-k-test.true; n_in_bounds = omega (arith, fits, c.loop-k.invariant.3) }
+    record { others = b.others; runs = b.runs; scratch-long = omega (arith, b.scratch-long, c.loop-line.auto.scratch) } in
+    let t = taken steps.1 steps.0.1.0 (steps.0.1.1 ∙ inv.2) in
+    record { room = room; vector = inv.4; vector_2 = ins-vector inv.3 t; n_in_bounds = line-fits inv.3 t }
 
-pub overflow_add-at : goal.overflow_add-at
-overflow_add-at c =
-    let inside : c.loop-k.at + c.args.n.I + 1 ≤ length c.args.vectors.now =
-    line-inside c.loop-k.invariant.0 c.loop-k-test.true in
-    omega (arith, inside, c.well_formed)
-
-pub loop-k-preserved : goal.loop-k-preserved
-loop-k-preserved c =
-    let fits : c.loop-k.to + line_width c.args.n ≤ length c.args.out.now =
-    line-fits c.requires.listed c.loop-k.k c.loop-k.to c.loop-k-test.true c.loop-k.invariant.1 in
-    let a = c.args in
-    let state = c.plain_line-to.auto.state in
+pub loop-line-preserved : goal.loop-line-preserved
+loop-line-preserved c =
+    let steps = c.in-Some.ensures.steps in
+    let inv = c.loop-line.invariant in
+    let size = steps.0.0 ∙ inv.2 in
+    let t = taken steps.1 steps.0.1.0 (steps.0.1.1 ∙ inv.2) in
+    let n = c.args.n in
     let b = c.requires.room in
-    let long = state ∙ c.loop-k.invariant.5.long in (
-      lining-next c.loop-k.invariant.0 c.loop-k-test.true,
-      c.plain_line-to.ensures.value ∙ next_row (line_width a.n) c.loop-k.k c.loop-k.to c.loop-k.invariant.1,
-      c.plain_line-to.auto.scratch ∙ c.loop-k.invariant.2,
-      c.plain_line-to.auto.out ∙ c.loop-k.invariant.3,
-      state ∙ c.loop-k.invariant.4,
-      next-vector a.n (c.plain_line-to.ensures.lined b.others b.runs) long,
+    let line = c.plain_line-to.ensures in
+    let long = c.plain_line-to.auto.state ∙ inv.4.long in (
+      omega (arith, size),
+      tt,
+      size,
+      lining-at line.value c.plain_line-to.auto.out (lining-next inv.3 t),
+      next-vector n (line.lined b.others b.runs) long,
       λ x r.
-          let g = c.loop-k.invariant.6 x r in
-          going-at c.plain_line-to.ensures.value
-          (going_on c.loop-k.invariant.0 c.loop-k-test.true r g (fits)
-          (wrote a.n (c.plain_line-to.ensures.lined x r) long g.state (state-of a.n c.loop-k.state g.state c.loop-k.invariant.5.long g.rests))),
+          let g = inv.5 x r in
+          going-at line.value
+          (going_on inv.3 t r g c.loop-line.auto.out
+          (wrote n (line.lined x r) long g.state (state-of n c.loop-line.state g.state inv.4.long g.rests))),
     )
-
-pub shape_of-scratch : goal.shape_of-scratch
-shape_of-scratch c = c.loop-k.invariant.2
-
-pub shape_of-state : goal.shape_of-state
-shape_of-state c = c.loop-k.invariant.4
-
-pub shape_of-out : goal.shape_of-out
-shape_of-out c = c.loop-k.invariant.3
 
 pub returns : goal.returns
 returns c =
-    λ x r.
-    let a = c.args in
-    all_left a.n _ a.number a.vectors.now a.state.now a.out.now c.loop-k.state c.loop-k.out c.loop-k.k c.loop-k.at c.loop-k.to
-    c.loop-k-test.false c.loop-k.invariant.5 (c.loop-k.invariant.6 x r)
+    let inv = c.loop-line.invariant in
+    let none = lining-last inv.3 (λ h. omega (arith, (c.in-None.ensures.steps h).1.0, inv.2)) in
+    λ x r. all_left c.args.n c.args.state.now c.loop-line.state none inv.4 (inv.5 x r)

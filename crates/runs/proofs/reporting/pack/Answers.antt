@@ -1,40 +1,23 @@
 -- Lines without their ends, one after the other, as a report takes vectors, of as many bytes as the buffer has; how many are left of them. The loop
--- keeps `(i ≤ taken) × Packs lines out₀ i n out`; the measure is `taken - i`. `packs-more` carries it from turn to turn, and `packs-all` gives the
--- answer.
-use Prim.Native.Nat.{◌-◌, ◌<◌}
+-- keeps `Packs lines out₀ i n out`, which `packs-more` carries from turn to turn.
+use Prim.Native.Nat.{ℕ, ◌+◌, ◌<◌}
+use mathlib.Core.Path.{◌≡◌, ap, ◌∙◌}
+use mathlib.Core.List.{[], ◌∷◌}
 use native.Mathlib.Omega.{arith}
-use lib.ListN.{length}
-use Rattle.runs.proofs.reporting.Packed.{packs-none, packs-more, packs-all}
+use lib.ListN.{length, get_or, take, length-take}
+use lib.Seq.{get_or-take}
+use Rattle.plan.specs.Outcome.{put}
+use Rattle.runs.specs.reporting.Packing.{packed}
+use Rattle.runs.proofs.reporting.Packed.{packs-more}
 use Rattle.runs.proofs.reporting.pack.Goals as goal
 
-pub loop-i-init : goal.loop-i-init
-loop-i-init c = (omega arith, packs-none _ _)
-
-pub bounds-lines-i : goal.bounds-lines-i
-bounds-lines-i c =
-    let left : c.loop-i.i < length c.args.lines.now =
-    omega (arith, c.lesser-taken.ensures, c.loop-i-test.true) in
-    left
-
-pub keep-n-requires : goal.keep-n-requires
-keep-n-requires c =
-    let room : c.loop-i.i < length c.args.out.now =
-    omega (arith, c.lesser-taken.ensures, c.loop-i-test.true) in
-    omega (arith, c.loop-i.invariant.1.few, c.loop-i.invariant.1.size, room)
-
-pub loop-i-preserved : goal.loop-i-preserved
-loop-i-preserved c =
-    let left : c.loop-i.i < length c.args.lines.now =
-    omega (arith, c.lesser-taken.ensures, c.loop-i-test.true) in
-    let room : c.loop-i.i < length c.args.out.now =
-    omega (arith, c.lesser-taken.ensures, c.loop-i-test.true) in
-    (omega arith, packs-more c.loop-i.invariant.1 (left) (room) _ _ c.keep-n.ensures.value c.keep-n.ensures.out_after c.keep-n.auto.out)
-
-pub shape_of-out : goal.shape_of-out
-shape_of-out c = c.loop-i.invariant.1.size
-
-pub returns : goal.returns
-returns c =
-    let lesser = c.lesser-taken.ensures in
-    let all = packs-all c.loop-i.invariant.1 (omega (arith, c.loop-i.invariant.0, c.loop-i-test.false, lesser)) in
-    record { value = all.0; upper_bound = omega (arith, c.loop-i.invariant.0, c.loop-i.invariant.1.few, c.loop-i.invariant.1.size, lesser); out_after = all.1 }
+pub loop-b-preserved : goal.loop-b-preserved
+loop-b-preserved c =
+    let lines = c.args.lines.now in
+    let taken = c.lesser-taken.result in
+    let l = c.loop-b in
+    let inside : l.b-index < taken = omega (arith, length-take taken lines) in
+    let same : get_or (take taken lines) l.b-index 0 ≡ get_or lines l.b-index 0 = get_or-take taken lines l.b-index 0 inside in
+    packs-more l.invariant (omega arith) (omega arith) _ _
+    (c.keep-n.ensures.value ∙ ap (λ (b : ℕ). l.n + length (packed (b ∷ []))) same)
+    (c.keep-n.ensures.out_after ∙ ap (λ (b : ℕ). put l.out l.n (packed (b ∷ []))) same) c.keep-n.auto.out
