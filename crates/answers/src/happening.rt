@@ -3,23 +3,23 @@ ghost use Rattle.std.specs.Prelude.{◌≡◌};
 ghost use Rattle.plan.specs.Search.{happening_values};
 
 use crate::refusals::{told_number, told_place};
-use plan::Happening;
+use plan::{Happening, Refusal};
 
 // The values are 0 for never, 1 for that it can happen or 2 for undecided, how many states are reached or steps lead there, and the tries.
-pub fn happening(r: Happening, answer: &mut [u64; 5])
+pub fn happening(r: Result<Happening, Refusal>, answer: &mut [u64; 5])
     ensures { answer.new ≡ happening_values r }
 {
     match r {
-        Happening::Never(states, tries) => {
+        Ok(Happening::Never(states, tries)) => {
             *answer = [0, 0, 0, states as u64, tries as u64];
         }
-        Happening::Can(steps, tries) => {
+        Ok(Happening::Can(steps, tries)) => {
             *answer = [0, 0, 1, steps as u64, tries as u64];
         }
-        Happening::Undecided(tries) => {
+        Ok(Happening::Undecided(tries)) => {
             *answer = [0, 0, 2, 0, tries as u64];
         }
-        Happening::Refused(r) => {
+        Err(r) => {
             *answer = [told_number(r), told_place(r) as u64, 0, 0, 0];
         }
     }

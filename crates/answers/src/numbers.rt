@@ -5,7 +5,7 @@ ghost use Rattle.plan.specs.Header.{counts_from, list_of};
 ghost use Rattle.plan.specs.Outcome.{checked_values, written_values, made_values, stepped_values, verdict_values};
 
 use crate::refusals::{told_number, told_place};
-use plan::{Checked, Counts, Made, Stepped, Verdict, Written};
+use plan::{Counts, Refusal};
 
 // M, I, L, O, A, B, C.
 pub fn counts(words: &[u64; 7]) -> Counts
@@ -22,28 +22,28 @@ pub fn counts(words: &[u64; 7]) -> Counts
     }
 }
 
-pub fn checked(r: Checked, answer: &mut [u64; 2])
+pub fn checked(r: Result<(), Refusal>, answer: &mut [u64; 2])
     ensures { answer.new ≡ checked_values r }
 {
     match r {
-        Checked::Good => {
+        Ok(()) => {
             *answer = [0, 0];
         }
-        Checked::Refused(r) => {
+        Err(r) => {
             *answer = [told_number(r), told_place(r) as u64];
         }
     }
 }
 
 // The value is the number of bytes written.
-pub fn written(r: Written, answer: &mut [u64; 3])
+pub fn written(r: Result<usize, Refusal>, answer: &mut [u64; 3])
     ensures { answer.new ≡ written_values r }
 {
     match r {
-        Written::Bytes(n) => {
+        Ok(n) => {
             *answer = [0, 0, n as u64];
         }
-        Written::Refused(r) => {
+        Err(r) => {
             *answer = [told_number(r), told_place(r) as u64, 0];
         }
     }
@@ -75,44 +75,44 @@ pub fn no_counts() -> Counts
 }
 
 // The values are M, I, L, O, A, B, C of the circuit made.
-pub fn made(r: Made, answer: &mut [u64; 9])
+pub fn made(r: Result<Counts, Refusal>, answer: &mut [u64; 9])
     ensures { answer.new ≡ made_values r }
 {
     match r {
-        Made::Accepted(n) => {
+        Ok(n) => {
             tell(answer, 0, 0, n);
         }
-        Made::Refused(r) => {
+        Err(r) => {
             tell(answer, told_number(r), told_place(r) as u64, no_counts());
         }
     }
 }
 
-pub fn stepped(r: Stepped, answer: &mut [u64; 2])
+pub fn stepped(r: Result<(), Refusal>, answer: &mut [u64; 2])
     ensures { answer.new ≡ stepped_values r }
 {
     match r {
-        Stepped::Done => {
+        Ok(()) => {
             *answer = [0, 0];
         }
-        Stepped::Refused(r) => {
+        Err(r) => {
             *answer = [told_number(r), told_place(r) as u64];
         }
     }
 }
 
 // The value is 1 for yes, 0 for no.
-pub fn verdict(r: Verdict, answer: &mut [u64; 3])
+pub fn verdict(r: Result<bool, Refusal>, answer: &mut [u64; 3])
     ensures { answer.new ≡ verdict_values r }
 {
     match r {
-        Verdict::Yes => {
+        Ok(true) => {
             *answer = [0, 0, 1];
         }
-        Verdict::No => {
+        Ok(false) => {
             *answer = [0, 0, 0];
         }
-        Verdict::Refused(r) => {
+        Err(r) => {
             *answer = [told_number(r), told_place(r) as u64, 0];
         }
     }

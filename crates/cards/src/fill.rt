@@ -11,7 +11,7 @@ use crate::{gates_at, outputs_at, word_at};
 use judge::binary_order::in_binary_order;
 use judge::ranges::out_of_range;
 use lines::gates::{run_on, spread};
-use plan::{Checked, Counts, Refusal, Var};
+use plan::{Counts, Refusal, Var};
 
 // The numbers of n records of one, from a position on.
 fn fill_words(file: &[u8], at: usize, n: usize, table: &mut [u32])
@@ -72,7 +72,7 @@ pub fn judge(
     resets: &[u32],
     bads: &[u32],
     constraints: &[u32],
-) -> Checked
+) -> Result<(), Refusal>
     requires { Fits n inputs.now latches.now outputs.now gates.now resets.now bads.now
         constraints.now }
     ensures { result ≡ checked_by (first_of (judged_by
@@ -80,7 +80,7 @@ pub fn judge(
         resets.now bads.now constraints.now))) }
 {
     let in_order = in_binary_order(n, inputs, latches, gates);
-    let out = out_of_range(
+    if let Some(out) = out_of_range(
         n,
         inputs,
         latches,
@@ -90,12 +90,11 @@ pub fn judge(
         bads,
         constraints,
         in_order,
-    );
-    if out != 0 {
-        return Checked::Refused(Refusal::OutOfRange(out));
+    ) {
+        return Err(Refusal::OutOfRange(out));
     }
     if !in_order {
-        return Checked::Refused(Refusal::NotInOrder(0));
+        return Err(Refusal::NotInOrder(0));
     }
-    Checked::Good
+    Ok(())
 }

@@ -9,7 +9,7 @@ ghost use Rattle.cards.specs.head.Head.{headed_cards};
 
 use crate::{bytes_asked, gates_at, mark_at, outputs_at, word_at};
 use judge::large_count;
-use plan::{Checked, Counts, Headed, Refusal};
+use plan::{Counts, Refusal};
 
 // The counts as read, each of four bytes.
 fn counts_at(file: &[u8]) -> Counts
@@ -29,25 +29,25 @@ fn counts_at(file: &[u8]) -> Counts
 }
 
 // Refusal 1, by the counts as read: a file that ends early, or goes on.
-fn check_length(file: &[u8]) -> Checked
+fn check_length(file: &[u8]) -> Result<(), Refusal>
     ensures { result ≡ checked_by (stage WrongByte (bad_length file.now)) }
 {
     let size = file.len();
     if size < 22 {
-        return Checked::Refused(Refusal::WrongByte(size));
+        return Err(Refusal::WrongByte(size));
     }
     let asked = bytes_asked(counts_at(file));
     if size < asked {
-        return Checked::Refused(Refusal::WrongByte(size));
+        return Err(Refusal::WrongByte(size));
     }
     if asked < size {
-        return Checked::Refused(Refusal::WrongByte(asked));
+        return Err(Refusal::WrongByte(asked));
     }
-    Checked::Good
+    Ok(())
 }
 
 // Refusal 18 over n records of `size` bytes with one letter, from a position on: the first wrong mark.
-fn check_marks(file: &[u8], letter: u8, size: usize, n: usize, at: usize) -> Checked
+fn check_marks(file: &[u8], letter: u8, size: usize, n: usize, at: usize) -> Result<(), Refusal>
     requires le_size { 2 ≤ size }
     requires n_in_bounds { at + size * n ≤ length file.now }
     ensures { result ≡ checked_by (stage WrongMark (wrong_in letter size n at (drop at file.now))) }
@@ -55,52 +55,36 @@ fn check_marks(file: &[u8], letter: u8, size: usize, n: usize, at: usize) -> Che
     for i in 0..n {
         let next = at + size * i;
         if !mark_at(file, next, letter) {
-            return Checked::Refused(Refusal::WrongMark(next));
+            return Err(Refusal::WrongMark(next));
         }
     }
-    Checked::Good
+    Ok(())
 }
 
 // Refusal 18 over a file of the length that its counts ask, in file order.
-fn all_marks(file: &[u8], n: Counts) -> Checked
+fn all_marks(file: &[u8], n: Counts) -> Result<(), Refusal>
     requires within { Within n }
     requires file_len { length file.now ≡ card_bytes n }
     ensures { result ≡ checked_by (stage WrongMark (wrong_marks file.now n)) }
 {
-    let head = check_marks(file, b'H', 22, 1, 0);
-    if let Checked::Refused(r) = head {
-        return Checked::Refused(r);
-    }
-    let latches = check_marks(file, b'L', 6, n.L, 22);
-    if let Checked::Refused(r) = latches {
-        return Checked::Refused(r);
-    }
-    let outputs = check_marks(file, b'O', 6, n.O, outputs_at(n));
-    if let Checked::Refused(r) = outputs {
-        return Checked::Refused(r);
-    }
+    check_marks(file, b'H', 22, 1, 0)?;
+    check_marks(file, b'L', 6, n.L, 22)?;
+    check_marks(file, b'O', 6, n.O, outputs_at(n))?;
     check_marks(file, b'A', 10, n.A, gates_at(n))
 }
 
 // The head of a file by 1, 18, 2 and 3. A count over the limit is named by its first byte: 2, 6, 10, 14 or 18.
-pub fn read_head(file: &[u8]) -> Headed
+pub fn read_head(file: &[u8]) -> Result<(Counts, usize), Refusal>
     ensures { result ≡ headed_cards (card_head file.now) }
 {
-    let length = check_length(file);
-    if let Checked::Refused(r) = length {
-        return Headed::Refused(r);
-    }
+    check_length(file)?;
     let n = counts_at(file);
-    let marks = all_marks(file, n);
-    if let Checked::Refused(r) = marks {
-        return Headed::Refused(r);
-    }
-    let large = large_count(n);
-    if large != 0 {
-        return Headed::Refused(Refusal::LargeCount(4 * large - 2));
+    all_marks(file, n)?;
+    if let Some(large) = large_count(n) {
+        return Err(Refusal::LargeCount(4 * large - 2));
     }
     if n.I + n.L + n.A != n.M {
-        return Headed::Refused(Refusal::WrongSum(0));
+        return Err(Refusal::WrongSum(0));
     }
-    Headed::Accepted(true, n, 22)
+    Ok((n, 22))
 }

@@ -8,7 +8,7 @@ ghost use Rattle.plan.specs.Lent.{Loads};
 
 use crate::fill::{fill, judge};
 use crate::head::read_head;
-use plan::{Checked, Headed, Loaded, Refusal};
+use plan::{Counts, Refusal};
 use tables::{clear, clear_all, lengths, scratch_to_work, too_short};
 
 // The head by 1, 18, 2 and 3, then 4, then the records, then 5 and 15. The tables are zero on entry, and `words`
@@ -23,7 +23,7 @@ fn take_cards(
     bads: &mut [u32],
     constraints: &mut [u32],
     words: usize,
-) -> Loaded
+) -> Result<(Counts, usize), Refusal>
     requires { resets.old ≡ cleared resets.old }
     ensures { let t = seven inputs.old latches.old outputs.old
         gates.old resets.old bads.old constraints.old in LoadedSays t
@@ -31,31 +31,24 @@ fn take_cards(
         (seven inputs.new latches.new outputs.new gates.new
         resets.new bads.new constraints.new) }
 {
-    match read_head(file) {
-        Headed::Refused(r) => Loaded::Refused(r),
-        Headed::Accepted(_, n, _) => {
-            let to = lengths(inputs, latches, outputs, gates, resets, bads, constraints);
-            let needed = scratch_to_work(n);
-            let short = too_short(n, to, needed, words);
-            if short != 0 {
-                return Loaded::Refused(Refusal::ShortTable(short));
-            }
-            fill(file, n, inputs, latches, outputs, gates);
-            match judge(
-                n,
-                inputs,
-                latches,
-                outputs,
-                gates,
-                resets,
-                bads,
-                constraints,
-            ) {
-                Checked::Refused(r) => Loaded::Refused(r),
-                Checked::Good => Loaded::Accepted(n, file.len()),
-            }
-        }
+    let (n, _) = read_head(file)?;
+    let to = lengths(inputs, latches, outputs, gates, resets, bads, constraints);
+    let needed = scratch_to_work(n);
+    if let Some(short) = too_short(n, to, needed, words) {
+        return Err(Refusal::ShortTable(short));
     }
+    fill(file, n, inputs, latches, outputs, gates);
+    judge(
+        n,
+        inputs,
+        latches,
+        outputs,
+        gates,
+        resets,
+        bads,
+        constraints,
+    )?;
+    Ok((n, file.len()))
 }
 
 // Reads cards into tables 1 to 4 and 7 to 9, whatever they hold on entry: the counts, and the file's length, since
@@ -71,7 +64,7 @@ pub fn read_cards(
     bads: &mut [u32],
     constraints: &mut [u32],
     scratch: &mut [u32],
-) -> Loaded
+) -> Result<(Counts, usize), Refusal>
     ensures { Loads load_cards file inputs latches outputs gates resets bads constraints scratch result }
 {
     clear_all(inputs, latches, outputs, gates, resets, bads, constraints);
@@ -87,9 +80,9 @@ pub fn read_cards(
         constraints,
         scratch.len(),
     );
-    if let Loaded::Refused(r) = read {
+    if let Err(r) = read {
         clear_all(inputs, latches, outputs, gates, resets, bads, constraints);
-        return Loaded::Refused(r);
+        return Err(r);
     }
     read
 }

@@ -10,7 +10,7 @@ ghost use Rattle.plan.specs.Lent.{Writes};
 use crate::bytes_asked;
 use crate::put::fill_cards;
 use codec::room;
-use plan::{Checked, Counts, Refusal, Written};
+use plan::{Counts, Refusal};
 use write::judge;
 
 // Whether the first n words are 0.
@@ -39,16 +39,22 @@ fn on_cards(n: Counts, resets: &[u32], tail: &[u8]) -> bool
 }
 
 // The cards of given tables, or 11 with the length needed. Nothing is written before the length is known.
-fn put_cards(n: Counts, latches: &[u32], outputs: &[u32], gates: &[u32], out: &mut [u8]) -> Written
+fn put_cards(
+    n: Counts,
+    latches: &[u32],
+    outputs: &[u32],
+    gates: &[u32],
+    out: &mut [u8],
+) -> Result<usize, Refusal>
     requires { Cardable n latches.now outputs.now gates.now }
     ensures { record { answer = result; out = out.new } ≡ put_bytes out.old 0
         (table_cards n latches.now outputs.now gates.now) }
 {
     let size = bytes_asked(n);
     if !room::holds(out.len(), 0, size) {
-        return Written::Refused(Refusal::ShortBuffer(size));
+        return Err(Refusal::ShortBuffer(size));
     }
-    Written::Bytes(fill_cards(out, n, latches, outputs, gates))
+    Ok(fill_cards(out, n, latches, outputs, gates))
 }
 
 // Writes given tables in binary order as cards: the number of bytes written, or a refusal, which changes no byte of
@@ -65,10 +71,10 @@ pub fn write_cards(
     scratch: &mut [u32],
     tail: &[u8],
     out: &mut [u8],
-) -> Written
+) -> Result<usize, Refusal>
     ensures { Writes write_cards n inputs latches outputs gates resets bads constraints scratch tail out result }
 {
-    match judge(
+    judge(
         n,
         inputs,
         latches,
@@ -80,13 +86,9 @@ pub fn write_cards(
         scratch,
         tail,
         true,
-    ) {
-        Checked::Refused(r) => Written::Refused(r),
-        Checked::Good => {
-            if !on_cards(n, resets, tail) {
-                return Written::Refused(Refusal::NotOnCards(0));
-            }
-            put_cards(n, latches, outputs, gates, out)
-        }
+    )?;
+    if !on_cards(n, resets, tail) {
+        return Err(Refusal::NotOnCards(0));
     }
+    put_cards(n, latches, outputs, gates, out)
 }

@@ -5,43 +5,43 @@ ghost use Rattle.plan.specs.Difference.{difference_at, groups_of};
 ghost use Rattle.plan.specs.Outcome.{Says, put, write_difference};
 
 use crate::room;
-use plan::{Difference, Refusal, Written};
+use plan::Refusal;
 
 // The difference at a position, which may lie past the end: at most three bytes, enough for every literal of the build.
-pub fn read_difference(file: &[u8], at: usize) -> Difference
+pub fn read_difference(file: &[u8], at: usize) -> Result<(u32, usize), Refusal>
     ensures { result ≡ difference_at file.now at }
 {
     if file.len() <= at {
-        return Difference::Ends(file.len());
+        return Err(Refusal::WrongByte(file.len()));
     }
     let a = file[at] as u32;
     let i = at + 1;
     if a < 128 {
-        return Difference::Value(a, i);
+        return Ok((a, i));
     }
     if file.len() <= i {
-        return Difference::Ends(file.len());
+        return Err(Refusal::WrongByte(file.len()));
     }
     let b = file[i] as u32;
     let j = i + 1;
     if b < 128 {
         if b == 0 {
-            return Difference::Bad(at);
+            return Err(Refusal::LongDifference(at));
         }
-        return Difference::Value(a & 0x7f | b << 7, j);
+        return Ok((a & 0x7f | b << 7, j));
     }
     if file.len() <= j {
-        return Difference::Ends(file.len());
+        return Err(Refusal::WrongByte(file.len()));
     }
     let d = file[j] as u32;
     let k = j + 1;
     if d < 128 {
         if d == 0 {
-            return Difference::Bad(at);
+            return Err(Refusal::LongDifference(at));
         }
-        return Difference::Value(a & 0x7f | (b & 0x7f) << 7 | d << 14, k);
+        return Ok((a & 0x7f | (b & 0x7f) << 7 | d << 14, k));
     }
-    Difference::Bad(at)
+    Err(Refusal::LongDifference(at))
 }
 
 // How many groups a number has: a seventh of its bits, rounded up, which for 1 to 32 bits is 9 / 64 of them,
@@ -71,14 +71,14 @@ pub fn put_groups(out: &mut [u8], at: usize, d: u32) -> usize
 }
 
 // Writes a number's groups from a position on, or nothing where the buffer is too short.
-pub fn write_difference(out: &mut [u8], at: usize, d: u32) -> Written
+pub fn write_difference(out: &mut [u8], at: usize, d: u32) -> Result<usize, Refusal>
     ensures { Says write_difference (record { out = out.entry.now; at = at; value = d })
         (record { answer = result; out = out.exit.now }) }
 {
     let count = groups_in(d);
     if !room::holds(out.len(), at, count) {
-        return Written::Refused(Refusal::ShortBuffer(room::needed(at, count)));
+        return Err(Refusal::ShortBuffer(room::needed(at, count)));
     }
     put_groups(out, at, d);
-    Written::Bytes(count)
+    Ok(count)
 }

@@ -6,7 +6,7 @@ ghost use Rattle.plan.specs.Bytes.{class_of, digits};
 ghost use Rattle.plan.specs.Outcome.{number_at, Says, put, write_number};
 
 use crate::{classes, room};
-use plan::{Class, Number, Refusal, Written};
+use plan::{Class, Refusal};
 
 // Above every literal and every count: a value is cut here, so that no run of digits wraps.
 const BEYOND: u32 = 2097152;
@@ -20,7 +20,7 @@ fn with_digit(v: u32, d: u8) -> u32
 }
 
 // The number that starts with a digit 1 to 9 at a position.
-fn read_digits(file: &[u8], at: usize) -> Number
+fn read_digits(file: &[u8], at: usize) -> Result<(u32, usize), Refusal>
     requires at_in_bounds { at < length file.now }
     requires at_value { class_of (get_or file.now at 0) ≡ Digit }
     ensures { result ≡ number_at file.now at }
@@ -29,27 +29,27 @@ fn read_digits(file: &[u8], at: usize) -> Number
     for i in at + 1..file.len() {
         let b = file[i];
         if !classes::is_digit(b) {
-            return Number::Value(v, i);
+            return Ok((v, i));
         }
         v = with_digit(v, b - 48);
     }
-    Number::Value(v, file.len())
+    Ok((v, file.len()))
 }
 
 // The number at a position, which may lie past the end.
-pub fn read_number(file: &[u8], at: usize) -> Number
+pub fn read_number(file: &[u8], at: usize) -> Result<(u32, usize), Refusal>
     ensures { result ≡ number_at file.now at }
 {
     if file.len() <= at {
-        return Number::Wrong(at);
+        return Err(Refusal::WrongByte(at));
     }
     match classes::class_of(file[at]) {
-        Class::Zero => Number::Value(0, at + 1),
+        Class::Zero => Ok((0, at + 1)),
         Class::Digit => read_digits(file, at),
-        Class::Line => Number::Wrong(at),
-        Class::Space => Number::Wrong(at),
-        Class::Print => Number::Wrong(at),
-        Class::Rest => Number::Wrong(at),
+        Class::Line => Err(Refusal::WrongByte(at)),
+        Class::Space => Err(Refusal::WrongByte(at)),
+        Class::Print => Err(Refusal::WrongByte(at)),
+        Class::Rest => Err(Refusal::WrongByte(at)),
     }
 }
 
@@ -113,13 +113,13 @@ pub fn put_digits(out: &mut [u8], at: usize, n: usize) -> usize
 }
 
 // Writes a number's digits from a position on, or nothing where the buffer is too short.
-pub fn write_number(out: &mut [u8], at: usize, n: usize) -> Written
+pub fn write_number(out: &mut [u8], at: usize, n: usize) -> Result<usize, Refusal>
     ensures { Says write_number (record { out = out.entry.now; at = at; value = n }) (record { answer = result; out = out.exit.now }) }
 {
     let count = digits_in(n);
     if !room::holds(out.len(), at, count) {
-        return Written::Refused(Refusal::ShortBuffer(room::needed(at, count)));
+        return Err(Refusal::ShortBuffer(room::needed(at, count)));
     }
     put_digits(out, at, n);
-    Written::Bytes(count)
+    Ok(count)
 }

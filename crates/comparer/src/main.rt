@@ -4,21 +4,11 @@
 // engines never part is proved in runs::comparing.
 #![tactic(auto)]
 
-use plan::{Counts, Made, Refusal, Traced};
-use runs::comparing::Compared;
+use plan::{Counts, Refusal};
 use runs::{comparing, stimulus, trace};
 use std::io::{self, Read, Write};
 use step::values;
 use whole::ordered;
-
-// What is said in place of lines.
-fn say<W: Write>(to: &mut W, part: Compared) -> io::Result<()> {
-    match part {
-        Compared::Lines(_) => Ok(()),
-        Compared::Differ => office::print(to, b"differ\n", 7),
-        Compared::Refused(r) => office::refuse(to, r),
-    }
-}
 
 // The steps of all lines by both engines, printed in parts of as many lines as fit into `out`, each once they agree
 // on it. A part has a line at least, so there are no more parts than lines.
@@ -42,7 +32,7 @@ fn compare_all<W: Write>(
 ) -> io::Result<()> {
     let mut at = 0;
     for _ in 0..lines {
-        let part = comparing::compare(
+        let k = match comparing::compare(
             n,
             inputs,
             latches,
@@ -57,9 +47,10 @@ fn compare_all<W: Write>(
             out,
             twin,
             again,
-        );
-        let Compared::Lines(k) = part else {
-            return say(to, part);
+        ) {
+            Ok(Some(k)) => k,
+            Ok(None) => return office::print(to, b"differ\n", 7),
+            Err(r) => return office::refuse(to, r),
         };
         office::print(to, out, trace::past(out, 0, k))?;
         at = trace::past(vectors, at, k);
@@ -135,8 +126,8 @@ fn compare_input<R: Read, W: Write>(
     let mut again = [0u8; 65536];
     let wide = tables::lesser(n.L, 4096);
     match stimulus::count_lines(office::readable(input), &bytes[0..size], n.I) {
-        Traced::Refused(r) => office::refuse(to, r),
-        Traced::Lines(lines) => compare_first(
+        Err(r) => office::refuse(to, r),
+        Ok(lines) => compare_first(
             to,
             n,
             inputs,
@@ -230,8 +221,8 @@ fn main(rt: HostRuntime) -> io::Result<()> {
         &mut made_constraints,
         &mut scratch,
     ) {
-        Made::Refused(r) => office::refuse(&mut rt.stdout(), r),
-        Made::Accepted(n) => compare_few(
+        Err(r) => office::refuse(&mut rt.stdout(), r),
+        Ok(n) => compare_few(
             &mut rt.stdin(),
             &mut rt.stdout(),
             n,

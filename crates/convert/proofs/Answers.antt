@@ -2,14 +2,12 @@
 use Prim.Native.Nat.{ℕ, ◌+◌, ◌≤◌}
 use mathlib.Core.Path.{◌≡◌, sym, ap, ◌∙◌, subst}
 use mathlib.Core.Bool.{false}
-use mathlib.Core.Option.{Option}
 use mathlib.Core.List.{List}
+use Rattle.std.specs.Prelude.{Ok, Err, Option}
 use native.Mathlib.Omega.{arith}
 use lib.ListN.{length, length-replicate}
 use Rattle.plan.specs.declared.Counts.{Counts}
 use Rattle.plan.specs.declared.Refusal.{Refusal}
-use Rattle.plan.specs.declared.Checked.TheVariants as checked
-use Rattle.plan.specs.declared.Made.TheVariants as made
 use Rattle.plan.specs.Literals.{most}
 use Rattle.plan.specs.Refusals.{first_of}
 use Rattle.plan.specs.Circuit.{Circuit, Tables, counts_of, cleared, all_cleared}
@@ -66,14 +64,14 @@ module _ (e : MakeEntry) where
 
   -- after a refusal
   pub refused : (r : Refusal) (w' : Tables) (scratch' : List ℕ) → w' ≡ all_cleared e.written → scratch' ≡ cleared g.scratch
-      → checked.Refused r ≡ checked_by found
-      → ◌≡◌ {A = MakeExit} (record { answer = made.Refused r; written = w'; scratch = scratch' }) (conversion e)
+      → Err r ≡ checked_by found
+      → ◌≡◌ {A = MakeExit} (record { answer = Err r; written = w'; scratch = scratch' }) (conversion e)
   refused r w' scratch' p q h =
-      (λ i. record { answer = made.Refused r; written = p i; scratch = q i })
+      (λ i. record { answer = Err r; written = p i; scratch = q i })
       ∙ ap (λ (o : Option Refusal). made_by o e (convert (given_circuit g))) (sym (refused-some r found h))
 
   -- nothing is found
-  module _ (h : checked.Good ≡ checked_by found) where
+  module _ (h : Ok tt ≡ checked_by found) where
     passed : Good false g × Wide n e.written
     passed = good-with false g e.written (good_none found h)
 
@@ -121,11 +119,11 @@ module _ (e : MakeEntry) where
     pub accepted : (w w' : Tables) (scratch' : List ℕ) → w ≡ all_cleared e.written → Holds w (convert (given_circuit g)) w'
         → scratch' ≡ cleared g.scratch
         → ◌≡◌ {A = MakeExit} (record {
-          answer = made.Accepted (record { M = n.I + n.L + n.A; I = n.I; L = n.L; O = n.O; A = n.A; B = n.B; C = n.C });
+          answer = Ok (record { M = n.I + n.L + n.A; I = n.I; L = n.L; O = n.O; A = n.A; B = n.B; C = n.C });
           written = w';
           scratch = scratch';
         }) (conversion e)
     accepted w w' scratch' p held q =
         let filled = holds-filled e.written w' (convert (given_circuit g)) (subst (λ (t : Tables). Holds t (convert (given_circuit g)) w') p held) in
-        (λ i. record { answer = made.Accepted (counts-are i); written = filled i; scratch = q i })
+        (λ i. record { answer = Ok (counts-are i); written = filled i; scratch = q i })
         ∙ ap (λ (o : Option Refusal). made_by o e (convert (given_circuit g))) (sym (good_none found h))

@@ -2,8 +2,8 @@
 use Prim.Native.Nat.{ℕ, zero, suc}
 use mathlib.Core.Path.{◌≡◌, refl, sym, ap, ◌∙◌, subst}
 use mathlib.Core.Bool.{Bool, true, false, not, cond, ◌&&◌, ◌||◌, false≢true}
-use mathlib.Core.Option.{Option, none, some}
 use mathlib.Core.List.{List, [], ◌∷◌, ◌++◌, append-nil}
+use Rattle.std.specs.Prelude.{Option, Some, None}
 use native.Mathlib.Omega.{arith}
 use borrow.Author.Tests.{eqb-false, not-true}
 use lib.Dec.{eqb}
@@ -32,12 +32,12 @@ distinct_snoc (x ∷ xs) v d h = go (eqb x v) refl h (distinct_snoc xs v (distin
         (λ s. eqb-false x v e (sym s)) (λ s. false≢true s))) (f p)
 
 -- each number goes to a variable that has none
-scan-new : (o : List ℕ) (gs : List Gate) (g : Gate) → scan o gs ≡ some g → has (var_of g.lhs) o ≡ false
+scan-new : (o : List ℕ) (gs : List Gate) (g : Gate) → scan o gs ≡ Some g → has (var_of g.lhs) o ≡ false
 scan-new o [] g e = let z : ◌≡◌ {A = ℕ} 0 1 = cc in absurd (omega arith)
 scan-new o (x ∷ gs) g e = go (not (has (var_of x.lhs) o) && ready o x) refl e (scan-new o gs g)
   where
-    go : (t : Bool) → (not (has (var_of x.lhs) o) && ready o x) ≡ t → cond t (some x) (scan o gs) ≡ some g
-        → (scan o gs ≡ some g → has (var_of g.lhs) o ≡ false) → has (var_of g.lhs) o ≡ false
+    go : (t : Bool) → (not (has (var_of x.lhs) o) && ready o x) ≡ t → cond t (Some x) (scan o gs) ≡ Some g
+        → (scan o gs ≡ Some g → has (var_of g.lhs) o ≡ false) → has (var_of g.lhs) o ≡ false
     go true q p f =
         let same : x ≡ g = cc in
         subst (λ (j : Gate). has (var_of j.lhs) o ≡ false) same
@@ -50,8 +50,8 @@ scanned-distinct all (suc k) o d = go (scan o all) refl (λ o' d'. scanned-disti
   where
     go : (r : Option Gate) → scan o all ≡ r → ((o' : List ℕ) → distinct o' ≡ true → distinct (o' ++ left_vars (scanned all k o')) ≡ true)
         → distinct (o ++ left_vars (scan_go (λ o'. scanned all k o') o r)) ≡ true
-    go none e ih = rw (append-nil o) d
-    go (some g) e ih =
+    go None e ih = rw (append-nil o) d
+    go (Some g) e ih =
         let v = var_of g.lhs in
         rw (← append_snoc o v (left_vars (scanned all k (o ++ (v ∷ [])))))
         (ih (o ++ (v ∷ [])) (distinct_snoc o v d (scan-new o all g e)))

@@ -2,8 +2,8 @@
 use Prim.Native.Nat.{ℕ, zero, suc, ◌+◌, ◌<◌}
 use mathlib.Core.Path.{◌≡◌, refl, sym, ap, ◌∙◌, subst}
 use mathlib.Core.Bool.{Bool, true, false, cond, ◌||◌, false≢true}
-use mathlib.Core.Option.{some}
 use mathlib.Core.List.{List, [], ◌∷◌, ◌++◌, append-nil}
+use Rattle.std.specs.Prelude.{Some}
 use native.Mathlib.Omega.{arith}
 use borrow.Author.Tests.{eqb-true}
 use lib.Dec.{eqb}
@@ -83,7 +83,7 @@ module _ (c : Circuit) (ok : Accepted c) (at : ℕ → Gate) (a : ℕ) (its : c.
   pub at_each : (P : Gate → Type 0) → AllG P c.gates → (i : ℕ) → i < a → P (at i)
   at_each P all = all-places P at a (subst (AllG P) its all)
 
-  own : AllG (λ g. find (var_of g.lhs) c.gates ≡ some g) c.gates
+  own : AllG (λ g. find (var_of g.lhs) c.gates ≡ Some g) c.gates
   own = found-own c.gates (distinct-right (leaves c) (left_vars c.gates) ok.once)
 
   pub left-has : (i : ℕ) → i < a → has (var_of (at i).lhs) (left_vars c.gates) ≡ true
@@ -111,10 +111,10 @@ module _ (c : Circuit) (ok : Accepted c) (at : ℕ → Gate) (a : ℕ) (its : c.
   pub gate-there : (i : ℕ) → i < a → (d : Gate) → get_or (sorted c) (place_at i) d ≡ at i
   gate-there i h d =
       let v = var_of (at i).lhs in
-      let found : find v c.gates ≡ some (at i) = at_each (λ g. find (var_of g.lhs) c.gates ≡ some g) own i h in
-      let r = gate-found (λ g. find (var_of g.lhs) c.gates ≡ some g) (sorted c) v d (left-sorted i h)
-      (order-all (λ g. find (var_of g.lhs) c.gates ≡ some g) (length c.gates) (leaves c) c.gates own) in
-      let same : some (get_or (sorted c) (place_at i) d) ≡ some (at i)
+      let found : find v c.gates ≡ Some (at i) = at_each (λ g. find (var_of g.lhs) c.gates ≡ Some g) own i h in
+      let r = gate-found (λ g. find (var_of g.lhs) c.gates ≡ Some g) (sorted c) v d (left-sorted i h)
+      (order-all (λ g. find (var_of g.lhs) c.gates ≡ Some g) (length c.gates) (leaves c) c.gates own) in
+      let same : Some (get_or (sorted c) (place_at i) d) ≡ Some (at i)
       = sym r.1 ∙ (ap (λ (u : ℕ). find u c.gates) r.0 ∙ found) in
       cc
 

@@ -11,7 +11,7 @@ ghost use Rattle.plan.specs.Lent.{Makes};
 use crate::renumber::{place_gates, renumber_column};
 use judge::number;
 use lines::gates::{run_on, spread};
-use plan::{Checked, Counts, Made};
+use plan::{Counts, Refusal};
 use tables::{clear, clear_all, lengths};
 
 mod renumber;
@@ -89,7 +89,7 @@ pub fn convert(
     to_bads: &mut [u32],
     to_constraints: &mut [u32],
     scratch: &mut [u32],
-) -> Made
+) -> Result<Counts, Refusal>
     ensures { Makes conversion n inputs latches outputs gates resets bads constraints to_inputs to_latches
         to_outputs to_gates to_resets to_bads to_constraints scratch result }
 {
@@ -111,7 +111,7 @@ pub fn convert(
         to_bads,
         to_constraints,
     );
-    match number(
+    number(
         n,
         inputs,
         latches,
@@ -122,33 +122,29 @@ pub fn convert(
         constraints,
         scratch,
         to,
-    ) {
-        Checked::Refused(r) => Made::Refused(r),
-        Checked::Good => {
-            fill(
-                n, latches, outputs, gates, to_inputs, to_latches, to_outputs, to_gates, scratch,
-            );
-            fill_last(
-                n,
-                resets,
-                bads,
-                constraints,
-                to_resets,
-                to_bads,
-                to_constraints,
-                scratch,
-            );
-            clear(scratch);
-            let m = n.I + n.L + n.A;
-            Made::Accepted(Counts {
-                M: m,
-                I: n.I,
-                L: n.L,
-                O: n.O,
-                A: n.A,
-                B: n.B,
-                C: n.C,
-            })
-        }
-    }
+    )?;
+    fill(
+        n, latches, outputs, gates, to_inputs, to_latches, to_outputs, to_gates, scratch,
+    );
+    fill_last(
+        n,
+        resets,
+        bads,
+        constraints,
+        to_resets,
+        to_bads,
+        to_constraints,
+        scratch,
+    );
+    clear(scratch);
+    let m = n.I + n.L + n.A;
+    Ok(Counts {
+        M: m,
+        I: n.I,
+        L: n.L,
+        O: n.O,
+        A: n.A,
+        B: n.B,
+        C: n.C,
+    })
 }

@@ -2,10 +2,11 @@
 use Prim.Native.Nat.{ℕ, ◌-◌, ◌≤◌}
 use mathlib.Core.Path.{◌≡◌, refl, ap, ◌∙◌}
 use mathlib.Core.List.{List}
+use Rattle.std.specs.Prelude.{Result, Ok, Err}
+use Rattle.plan.specs.declared.Refusal.{Refusal}
+use Rattle.plan.specs.declared.Counts.{Counts}
 use native.Mathlib.Omega.{arith}
 use lib.ListN.{length, length-drop}
-use Rattle.plan.specs.declared.Loaded.{Loaded}
-use Rattle.plan.specs.declared.Loaded.TheVariants.{Accepted, Refused}
 use Rattle.plan.specs.declared.Version.{Version}
 use Rattle.plan.specs.Refusals.{Parse, got, refused}
 use Rattle.plan.specs.Circuit.{Circuit, lengths_of}
@@ -14,9 +15,9 @@ use Rattle.plan.specs.Outcome.{ReadEntry, ReadExit, load_by, load_as, read_as, t
 use Rattle.laws.proofs.Reading.Places.{start-within}
 use Rattle.desk.specs.Told.{ReadTold, start_of, told_read}
 
-shorter : (file : List ℕ) (r : Loaded) → length (tail_of file r) ≤ length file
-shorter file (Accepted n start) = omega (arith, length-drop start file)
-shorter file (Refused r) = omega arith
+shorter : (file : List ℕ) (r : Result (Counts × ℕ) Refusal) → length (tail_of file r) ≤ length file
+shorter file (Ok (n, start)) = omega (arith, length-drop start file)
+shorter file (Err r) = omega arith
 
 module _ (v : Version) (e : ReadEntry) (x : ReadExit) (said : x ≡ read_as v e) where
   abbrev lengths : List ℕ

@@ -1,7 +1,7 @@
 -- What C sees of each call: the answer as numbers, and the exit contents of all that is lent.
-use Rattle.std.specs.Prelude.{ℕ, List, length}
-use Rattle.plan.specs.declared.Loaded.{Loaded}
-use Rattle.plan.specs.declared.Loaded.TheVariants.{Accepted, Refused}
+use Rattle.std.specs.Prelude.{ℕ, List, length, Result, Ok, Err}
+use Rattle.plan.specs.declared.Refusal.{Refusal}
+use Rattle.plan.specs.declared.Counts.{Counts}
 use Rattle.plan.specs.declared.Version.TheVariants.{V2007, V19}
 use Rattle.plan.specs.Given.{Given}
 use Rattle.plan.specs.Circuit.{Tables}
@@ -26,9 +26,9 @@ pub record ReadTold : Type 0 where
   pub tables : Tables
   pub scratch : List ℕ
 
-abbrev pub start_of : List ℕ → Loaded → ℕ
-start_of file (Accepted n start) = start
-start_of file (Refused r) = length file
+abbrev pub start_of : List ℕ → Result (Counts × ℕ) Refusal → ℕ
+start_of file (Ok (n, start)) = start
+start_of file (Err r) = length file
 
 abbrev pub told_read : ReadEntry → LoadExit → ReadTold
 told_read e x = record {

@@ -13,7 +13,7 @@ ghost use Rattle.desk.specs.Lent.{Reads, Loads, Checks, Writes, Makes, Steps, Bl
 use answers::{numbers, refusals};
 use cards::{reading, writing};
 use lines::header;
-use plan::{Loaded, Version};
+use plan::{Counts, Refusal, Version};
 use witness::three;
 
 // How many words table 1 to 5 or 7 to 9 needs for the file's header, or 2^64 - 1.
@@ -190,14 +190,14 @@ pub extern "C" fn golvanzo_write_binary(
 }
 
 // What a reader answers, as numbers: the refusal's number (0: none), its place, and the counts.
-fn loaded(r: Loaded, answer: &mut [u64; 9])
+fn loaded(r: Result<(Counts, usize), Refusal>, answer: &mut [u64; 9])
     ensures { answer.new ≡ loaded_values r }
 {
     match r {
-        Loaded::Accepted(n, _) => {
+        Ok((n, _)) => {
             numbers::tell(answer, 0, 0, n);
         }
-        Loaded::Refused(r) => {
+        Err(r) => {
             numbers::tell(
                 answer,
                 refusals::told_number(r),

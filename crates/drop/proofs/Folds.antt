@@ -2,8 +2,8 @@
 use Prim.Native.Nat.{ℕ, zero, suc, ◌+◌, ◌<◌}
 use mathlib.Core.Path.{◌≡◌, refl, sym, ap, ap₂, ◌∙◌, subst}
 use mathlib.Core.Bool.{Bool, true, false, cond, false≢true}
-use mathlib.Core.Option.{none, some}
 use mathlib.Core.List.{List, [], ◌∷◌, ◌++◌, map, append-nil}
+use Rattle.std.specs.Prelude.{Some, None}
 use native.Mathlib.Omega.{arith}
 use lib.ListN.{length, get_or, length-append, get_or-append}
 use lib.Seq.{append_snoc, get_or-append_seam}
@@ -55,7 +55,7 @@ length-snoc p x = length-append p (x ∷ []) ∙ omega arith
 
 -- one gate more
 module _ (o p : List ℕ) (n : ℕ) (r : Reduced) (g : Gate) (lhs : var_of g.lhs ≡ n) (k : Numbers o p n r) where
-  drop-one : (a b : ℕ) → Numbers o p (suc n) (retain r a b (some 0))
+  drop-one : (a b : ℕ) → Numbers o p (suc n) (retain r a b (Some 0))
   drop-one a b = record {
     size = length-append r.became (0 ∷ []) ∙ omega (arith, k.size);
     fresh = k.fresh;
@@ -63,14 +63,14 @@ module _ (o p : List ℕ) (n : ℕ) (r : Reduced) (g : Gate) (lhs : var_of g.lhs
     known = λ v h. get_or-append r.became (0 ∷ []) 0 v (omega (arith, k.low v h, k.size)) ∙ k.known v h;
   }
 
-  retain-one : (a b : ℕ) → index n o ≡ length p → Numbers o (p ++ (var_of g.lhs ∷ [])) (suc n) (retain r a b none)
+  retain-one : (a b : ℕ) → index n o ≡ length p → Numbers o (p ++ (var_of g.lhs ∷ [])) (suc n) (retain r a b None)
   retain-one a b at = record {
     size = length-append r.became (lit_of r.fresh ∷ []) ∙ omega (arith, k.size);
     fresh = ap suc k.fresh ∙ sym (length-snoc p (var_of g.lhs));
     low = λ v h. old-or-new v h (v < suc n) (λ q. omega (arith, k.low v q)) (λ e. omega (arith, e, lhs));
-    known = λ v h. old-or-new v h (get_or (retain r a b none).became v 0 ≡ lit_of (index v o))
+    known = λ v h. old-or-new v h (get_or (retain r a b None).became v 0 ≡ lit_of (index v o))
         (λ q. get_or-append r.became (lit_of r.fresh ∷ []) 0 v (omega (arith, k.low v q, k.size)) ∙ k.known v q)
-        (λ e. subst (λ (u : ℕ). get_or (retain r a b none).became u 0 ≡ lit_of (index u o)) (sym lhs ∙ e) newest);
+        (λ e. subst (λ (u : ℕ). get_or (retain r a b None).became u 0 ≡ lit_of (index u o)) (sym lhs ∙ e) newest);
   }
     where
       old-or-new : (v : ℕ) → has v (p ++ (var_of g.lhs ∷ [])) ≡ true → (C : Type 0) → (has v p ≡ true → C) → (var_of g.lhs ≡ v → C) → C
@@ -80,7 +80,7 @@ module _ (o p : List ℕ) (n : ℕ) (r : Reduced) (g : Gate) (lhs : var_of g.lhs
           go true q = f q
           go false q = has-cases C (var_of g.lhs) v [] (has_rest v p (var_of g.lhs ∷ []) h q) e (λ z. absurd (false≢true z))
 
-      newest : get_or (retain r a b none).became n 0 ≡ lit_of (index n o)
+      newest : get_or (retain r a b None).became n 0 ≡ lit_of (index n o)
       newest =
           ap (λ (i : ℕ). get_or (r.became ++ (lit_of r.fresh ∷ [])) i 0) (sym k.size) ∙ get_or-append_seam r.became (lit_of r.fresh) [] 0
           ∙ ap lit_of (k.fresh ∙ sym at)

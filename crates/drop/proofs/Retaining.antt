@@ -2,8 +2,8 @@
 use Prim.Native.Nat.{ℕ, suc, ◌+◌, ◌-◌, ◌*◌, ◌≤◌, ◌<◌, min, max}
 use mathlib.Core.Path.{◌≡◌, refl, sym, ap, ap₂, ◌∙◌, subst}
 use mathlib.Core.Bool.{Bool, true, false}
-use mathlib.Core.Option.{none, some}
 use mathlib.Core.List.{List, [], ◌∷◌, ◌++◌, map}
+use Rattle.std.specs.Prelude.{Some, None}
 use native.Mathlib.Omega.{arith}
 use native.Mathlib.Numerals.{add-one}
 use lib.ListN.{length, get_or, set, take, drop, length-append, length-set}
@@ -65,7 +65,7 @@ module _ (gates to t : List ℕ) (base k n : ℕ) (r : Roomy gates to t base k n
       = ap (λ (v : ℕ). has v vs) r.in_place.lhs ∙ bit-0 (has (base + k) vs) (sym (h.marks (base + k) (omega arith)) ∙ z) in
       let a₀ = becomes R.became (gate_at gates k).rhs0 in
       let b₀ = becomes R.became (gate_at gates k).rhs1 in
-      let next : kept vs gates base (k + 1) ≡ retain R a₀ b₀ (some 0)
+      let next : kept vs gates base (k + 1) ≡ retain R a₀ b₀ (Some 0)
       = kept_more vs gates base k ∙ ap (λ (b : Bool). retain R a₀ b₀ (dropped b)) out in
       record {
         count = h.count ∙ ap (λ (x : Reduced). length x.retained) (sym next);
@@ -96,7 +96,7 @@ module _ (gates to t : List ℕ) (base k n : ℕ) (r : Roomy gates to t base k n
         ∙ bit-1 (has (base + k) vs) (λ z. nz (h.marks (base + k) (omega arith) ∙ z)) in
         let a₀ = becomes R.became g.rhs0 in
         let b₀ = becomes R.became g.rhs1 in
-        let next : kept vs gates base (k + 1) ≡ retain R a₀ b₀ none
+        let next : kept vs gates base (k + 1) ≡ retain R a₀ b₀ None
         = kept_more vs gates base k ∙ ap (λ (q : Bool). retain R a₀ b₀ (dropped q)) in-vs in
         let a-is : a ≡ a₀ = ae ∙ side-became vs gates to₀ to t base k n h g.rhs0 r.in_place.rhs0 in
         let b-is : b ≡ b₀ = be ∙ side-became vs gates to₀ to t base k n h g.rhs1 r.in_place.rhs1 in

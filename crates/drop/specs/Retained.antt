@@ -1,6 +1,5 @@
 -- Gates of a table dropped or retained in order: the state after k of them, and what is asked of the tables.
-use Rattle.std.specs.Prelude.{ℕ, ◌+◌, ◌*◌, ◌<◌, ◌≤◌, ◌≡◌, Bool, true, false, List, [], ◌∷◌, map, length, get_or, take}
-use Rattle.std.proofs.Math.Option.{Option, none, some}
+use Rattle.std.specs.Prelude.{ℕ, ◌+◌, ◌*◌, ◌<◌, ◌≤◌, ◌≡◌, Bool, true, false, List, [], ◌∷◌, map, length, get_or, take, Option, Some, None}
 use Rattle.plan.specs.Literals.{most, var_of}
 use Rattle.plan.specs.Circuit.{Gate, gate_line, flat, has}
 use Rattle.plan.specs.Binary.{lits_from}
@@ -11,8 +10,8 @@ use Rattle.drop.specs.Marks.{bit}
 
 -- a gate of one of the variables vs is retained, another one becomes 0
 abbrev pub dropped : Bool → Option ℕ
-dropped true = none
-dropped false = some 0
+dropped true = None
+dropped false = Some 0
 
 abbrev pub retain_gate : List ℕ → Reduced → Gate → Reduced
 retain_gate vs r g =

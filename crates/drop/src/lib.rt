@@ -14,7 +14,7 @@ ghost use Rattle.plan.specs.Lent.{Makes};
 
 use judge::check_to_make;
 use lines::gates::run_on;
-use plan::{Checked, Counts, Lit, Made};
+use plan::{Counts, Lit, Refusal};
 use reduce::folding::becomes;
 use reduce::pairs::left_side;
 use reduce::three_become;
@@ -158,7 +158,7 @@ pub fn drop_unused(
     to_bads: &mut [u32],
     to_constraints: &mut [u32],
     scratch: &mut [u32],
-) -> Made
+) -> Result<Counts, Refusal>
     ensures { Makes dropping n inputs latches outputs gates resets bads constraints to_inputs to_latches
         to_outputs to_gates to_resets to_bads to_constraints scratch result }
 {
@@ -180,7 +180,7 @@ pub fn drop_unused(
         to_bads,
         to_constraints,
     );
-    match check_to_make(
+    check_to_make(
         n,
         inputs,
         latches,
@@ -192,53 +192,49 @@ pub fn drop_unused(
         scratch,
         to,
         true,
-    ) {
-        Checked::Refused(r) => Made::Refused(r),
-        Checked::Good => {
-            let retained = retain_reached(
-                n,
-                latches,
-                outputs,
-                gates,
-                bads,
-                constraints,
-                to_gates,
-                scratch,
-            );
-            three_become(
-                inputs,
-                n.I,
-                latches,
-                2 * n.L,
-                outputs,
-                n.O,
-                scratch,
-                to_inputs,
-                to_latches,
-                to_outputs,
-            );
-            three_become(
-                resets,
-                n.L,
-                bads,
-                n.B,
-                constraints,
-                n.C,
-                scratch,
-                to_resets,
-                to_bads,
-                to_constraints,
-            );
-            clear(scratch);
-            Made::Accepted(Counts {
-                M: n.I + n.L + retained,
-                I: n.I,
-                L: n.L,
-                O: n.O,
-                A: retained,
-                B: n.B,
-                C: n.C,
-            })
-        }
-    }
+    )?;
+    let retained = retain_reached(
+        n,
+        latches,
+        outputs,
+        gates,
+        bads,
+        constraints,
+        to_gates,
+        scratch,
+    );
+    three_become(
+        inputs,
+        n.I,
+        latches,
+        2 * n.L,
+        outputs,
+        n.O,
+        scratch,
+        to_inputs,
+        to_latches,
+        to_outputs,
+    );
+    three_become(
+        resets,
+        n.L,
+        bads,
+        n.B,
+        constraints,
+        n.C,
+        scratch,
+        to_resets,
+        to_bads,
+        to_constraints,
+    );
+    clear(scratch);
+    Ok(Counts {
+        M: n.I + n.L + retained,
+        I: n.I,
+        L: n.L,
+        O: n.O,
+        A: retained,
+        B: n.B,
+        C: n.C,
+    })
 }

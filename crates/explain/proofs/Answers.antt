@@ -2,18 +2,14 @@
 use Prim.Native.Nat.{ℕ, ◌+◌, ◌-◌, ◌^◌, ◌<◌, ◌≤◌, min}
 use mathlib.Core.Path.{◌≡◌, refl, sym, ap, ap₂, ◌∙◌}
 use mathlib.Core.Bool.{Bool, true, false, not, cond}
-use mathlib.Core.Option.{Option, none, some}
 use mathlib.Core.List.{List, [], ◌∷◌}
+use Rattle.std.specs.Prelude.{Result, Ok, Err, Option, Some, None}
 use native.Mathlib.Omega.{arith}
 use borrow.Author.Tests.{eqb-true, eq-eqb, lt-ltb, le-ltb, lt-leb, le-leb}
 use lib.Dec.{eqb, ltb, leb}
 use lib.ListN.{length}
 use Rattle.plan.specs.declared.Refusal.{Refusal}
 use Rattle.plan.specs.declared.Refusal.TheVariants.{BadVector, NotExplained, ShortBuffer}
-use Rattle.plan.specs.declared.Stepped.{Stepped}
-use Rattle.plan.specs.declared.Stepped.TheVariants.{Done, Refused}
-use Rattle.plan.specs.declared.Checked.{Checked}
-use Rattle.plan.specs.declared.Checked.TheVariants as checked
 use Rattle.plan.specs.Refusals.{stage, first_of}
 use Rattle.plan.specs.Circuit.{cleared}
 use Rattle.plan.specs.Given.{or_else, failing_at, room_stage}
@@ -34,7 +30,7 @@ not-x vx h = absurd (h refl)
 -- 17 and 11, from what their tests tell
 abbrev last_of : Bool → Bool → Bool → ℕ → Option Refusal
 last_of there x fits k =
-    first_of (stage NotExplained (or_else (failing_at 1 there) (failing_at 2 (not x))) ∷ stage ShortBuffer (cond fits none (some k)) ∷ [])
+    first_of (stage NotExplained (or_else (failing_at 1 there) (failing_at 2 (not x))) ∷ stage ShortBuffer (cond fits None (Some k)) ∷ [])
 
 module _ (e : ExplainEntry) where
   abbrev needed : ℕ
@@ -46,10 +42,10 @@ module _ (e : ExplainEntry) where
   abbrev fits : Bool
   fits = leb (0 + length (marks_asked e)) (length e.marks)
 
-  refused : (r : Refusal) → last_of there (same (value_asked e) vx) fits needed ≡ some r → Explains e (Refused r) e.marks
+  refused : (r : Refusal) → last_of there (same (value_asked e) vx) fits needed ≡ Some r → Explains e (Err r) e.marks
   refused r q = sym (ap (λ (o : Option Refusal). explained_by o e) q)
 
-  pub not_there : e.circuit.counts.O ≤ e.output → Explains e (Refused (NotExplained 1)) e.marks
+  pub not_there : e.circuit.counts.O ≤ e.output → Explains e (Err (NotExplained 1)) e.marks
   not_there h =
       refused (NotExplained 1)
       (ap (λ (b : Bool). last_of b (same (value_asked e) vx) fits needed) (le-ltb e.output e.circuit.counts.O h))
@@ -58,7 +54,7 @@ module _ (e : ExplainEntry) where
     is-there : there ≡ true
     is-there = lt-ltb e.output e.circuit.counts.O low
 
-    pub is_x : value_asked e ≡ vx → Explains e (Refused (NotExplained 2)) e.marks
+    pub is_x : value_asked e ≡ vx → Explains e (Err (NotExplained 2)) e.marks
     is_x q = refused (NotExplained 2) (ap₂ (λ (b x : Bool). last_of b x fits needed) is-there (ap (λ (a : Value). same a vx) q))
 
     module _ (known : value_asked e ≡ vx → ⊥) where
@@ -67,16 +63,16 @@ module _ (e : ExplainEntry) where
           ap₂ (λ (t x : Bool). last_of t x fits needed) is-there (not-x (value_asked e) known) ∙ ap (λ (f : Bool). last_of true false f needed) q
 
       pub too_short : (k : ℕ) → length (marks_asked e) ≡ k → k < 2 ^ 64 → length e.marks < k
-          → Explains e (Refused (ShortBuffer k)) e.marks
+          → Explains e (Err (ShortBuffer k)) e.marks
       too_short k long small h =
           let cut : needed ≡ k = omega (arith, long) in
           refused (ShortBuffer k)
           (only-room false (lt-leb (0 + length (marks_asked e)) (length e.marks) (omega (arith, long)))
-          ∙ ap (λ (n : ℕ). some (ShortBuffer n)) cut)
+          ∙ ap (λ (n : ℕ). Some (ShortBuffer n)) cut)
 
-      pub marked : length (marks_asked e) ≤ length e.marks → (marks : List ℕ) → marks ≡ put e.marks 0 (marks_asked e) → Explains e Done marks
+      pub marked : length (marks_asked e) ≤ length e.marks → (marks : List ℕ) → marks ≡ put e.marks 0 (marks_asked e) → Explains e (Ok tt) marks
       marked h marks q =
-          (λ j. record { answer = Done; scratch = cleared e.circuit.scratch; marks = q j })
+          (λ j. record { answer = Ok tt; scratch = cleared e.circuit.scratch; marks = q j })
           ∙ sym (ap (λ (o : Option Refusal). explained_by o e)
           (only-room true (le-leb (0 + length (marks_asked e)) (length e.marks) (omega arith))))
 
@@ -86,7 +82,7 @@ two-of true true o q = ap (failing_at 3) q
 two-of true false o q = refl
 two-of false i o q = refl
 
-both-good : (s i : Bool) → or_else (failing_at 1 s) (failing_at 2 i) ≡ none → (s ≡ true) × (i ≡ true)
+both-good : (s i : Bool) → or_else (failing_at 1 s) (failing_at 2 i) ≡ None → (s ≡ true) × (i ≡ true)
 both-good true true e = (refl, refl)
 both-good true false e = some-none 2 e
 both-good false i e = some-none 1 e
@@ -101,7 +97,7 @@ module _ (e : ExplainEntry) where
       let n = e.circuit.counts in
       two-of (codes_in e.state n.L) (codes_in e.inputs n.I) (eqb n.O n.O) (eq-eqb n.O n.O refl)
 
-  pub good-vectors : bad ≡ none → Vectors e.circuit.counts e.state e.inputs
+  pub good-vectors : bad ≡ None → Vectors e.circuit.counts e.state e.inputs
   good-vectors q =
       let n = e.circuit.counts in
       let p = both-good (codes_in e.state n.L) (codes_in e.inputs n.I) q in
@@ -115,30 +111,30 @@ module _ (e : ExplainEntry) where
   rest = vectors_stage e ∷ output_stage e ∷ room_stage e.marks (marks_asked e) ∷ []
 
   module _ (t : List ℕ) (blank : t ≡ cleared e.circuit.scratch) where
-    told-refused : (r : Refusal) → answer e.circuit rest ≡ some r
-        → ◌≡◌ {A = ExplainExit} (record { answer = Refused r; scratch = t; marks = e.marks }) (explain e)
+    told-refused : (r : Refusal) → answer e.circuit rest ≡ Some r
+        → ◌≡◌ {A = ExplainExit} (record { answer = Err r; scratch = t; marks = e.marks }) (explain e)
     told-refused r q =
-        (λ j. record { answer = Refused r; scratch = blank j; marks = e.marks }) ∙ sym (ap (λ (o : Option Refusal). explained_by o e) q)
+        (λ j. record { answer = Err r; scratch = blank j; marks = e.marks }) ∙ sym (ap (λ (o : Option Refusal). explained_by o e) q)
 
-    module _ {a : Checked} (told : a ≡ (check_in_order e.circuit).answer) where
-      pub refused-tables : (r : Refusal) → a ≡ checked.Refused r
-          → ◌≡◌ {A = ExplainExit} (record { answer = Refused r; scratch = t; marks = e.marks }) (explain e)
+    module _ {a : Result Unit Refusal} (told : a ≡ (check_in_order e.circuit).answer) where
+      pub refused-tables : (r : Refusal) → a ≡ Err r
+          → ◌≡◌ {A = ExplainExit} (record { answer = Err r; scratch = t; marks = e.marks }) (explain e)
       refused-tables r q = told-refused r (refused-by e.circuit rest told r q)
 
       -- the tables are good
-      module _ (q : a ≡ checked.Good) where
+      module _ (q : a ≡ Ok tt) where
         vectors-next : (o : Option ℕ) → bad ≡ o
             → answer e.circuit rest ≡ first_of (stage BadVector o ∷ output_stage e ∷ room_stage e.marks (marks_asked e) ∷ [])
         vectors-next o h =
             past-check e.circuit rest told q
             ∙ ap (λ (p : Option ℕ). first_of (stage BadVector p ∷ output_stage e ∷ room_stage e.marks (marks_asked e) ∷ [])) h
 
-        pub refused-vector : (k : ℕ) → bad ≡ some k
-            → ◌≡◌ {A = ExplainExit} (record { answer = Refused (BadVector k); scratch = t; marks = e.marks }) (explain e)
-        refused-vector k h = told-refused (BadVector k) (vectors-next (some k) h)
+        pub refused-vector : (k : ℕ) → bad ≡ Some k
+            → ◌≡◌ {A = ExplainExit} (record { answer = Err (BadVector k); scratch = t; marks = e.marks }) (explain e)
+        refused-vector k h = told-refused (BadVector k) (vectors-next (Some k) h)
 
-        pub answered : bad ≡ none → (r : Stepped) (marks : List ℕ) → Explains e r marks
+        pub answered : bad ≡ None → (r : Result Unit Refusal) (marks : List ℕ) → Explains e r marks
             → ◌≡◌ {A = ExplainExit} (record { answer = r; scratch = t; marks = marks }) (explain e)
         answered h r marks x =
             (λ j. record { answer = r; scratch = blank j; marks = marks }) ∙ x
-            ∙ sym (ap (λ (o : Option Refusal). explained_by o e) (vectors-next none h))
+            ∙ sym (ap (λ (o : Option Refusal). explained_by o e) (vectors-next None h))

@@ -1,7 +1,7 @@
 -- What is asked on the way: vectors of the right length, a literal within range, room for the marks.
-use Rattle.std.specs.Prelude.{ℕ, ◌+◌, ◌*◌, ◌<◌, ◌≤◌, ◌≡◌, List, [], ◌∷◌, length}
+use Rattle.std.specs.Prelude.{ℕ, ◌+◌, ◌*◌, ◌<◌, ◌≤◌, ◌≡◌, List, [], ◌∷◌, length, Result}
+use Rattle.plan.specs.declared.Refusal.{Refusal}
 use Rattle.plan.specs.declared.Counts.{Counts}
-use Rattle.plan.specs.declared.Stepped.{Stepped}
 use Rattle.plan.specs.Literals.{most, var_of}
 use Rattle.plan.specs.Refusals.{first_of}
 use Rattle.plan.specs.Circuit.{Circuit, cleared}
@@ -34,7 +34,7 @@ pub record Asked (n : Counts) (gates : List ℕ) (l : ℕ) (t marks : List ℕ) 
   pub room : n.L + n.I ≤ length marks
 
 -- what is answered and left in the buffer where tables and vectors are good: 17 and 11 are left to judge
-abbrev pub Explains : ExplainEntry → Stepped → List ℕ → Type 0
+abbrev pub Explains : ExplainEntry → Result Unit Refusal → List ℕ → Type 0
 Explains e r marks =
     ◌≡◌ {A = ExplainExit} (record { answer = r; scratch = cleared e.circuit.scratch; marks = marks })
     (explained_by (first_of (output_stage e ∷ room_stage e.marks (marks_asked e) ∷ [])) e)

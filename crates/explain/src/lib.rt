@@ -19,7 +19,7 @@ ghost use Rattle.explain.specs.Asked.{Settled, Vectors, Asked, Explains};
 ghost use Rattle.plan.specs.Lent.{Blames};
 
 use judge::judge_in_order;
-use plan::{Checked, Counts, Lit, Refusal, Stepped};
+use plan::{Counts, Lit, Refusal};
 use step::codes::bad_vector;
 use step::sweep::step_values;
 use step::values::{MAY0, MAY1, load, store};
@@ -160,7 +160,7 @@ fn explain_output(
     ins: &[u8],
     output: usize,
     marks: &mut [u8],
-) -> Stepped
+) -> Result<(), Refusal>
     requires room { Room n latches.now outputs.now gates.now scratch.old }
     requires vectors { Vectors n state.now ins.now }
     ensures { (x : Tables) (t : List ℕ) → Runs n (these x latches.now outputs.now gates.now)
@@ -173,19 +173,19 @@ fn explain_output(
         }) result marks.new }
 {
     if output >= n.O {
-        return Stepped::Refused(Refusal::NotExplained(1));
+        return Err(Refusal::NotExplained(1));
     }
     settle(n, latches, outputs, gates, scratch, state, ins);
     let value = scratch[n.M + 1 + output];
     let needed = n.L + n.I;
     if value == MAY0 | MAY1 {
-        return Stepped::Refused(Refusal::NotExplained(2));
+        return Err(Refusal::NotExplained(2));
     }
     if marks.len() < needed {
-        return Stepped::Refused(Refusal::ShortBuffer(needed));
+        return Err(Refusal::ShortBuffer(needed));
     }
     explain_literal(n, gates, Lit::at(outputs[output]), scratch, marks);
-    Stepped::Done
+    Ok(())
 }
 
 // Which places of state and inputs made an output 0 or 1: "1" for marked and "0" for not, in the first L + I bytes of the buffer, state
@@ -204,10 +204,10 @@ pub fn explain(
     ins: &[u8],
     output: usize,
     marks: &mut [u8],
-) -> Stepped
+) -> Result<(), Refusal>
     ensures { Blames explain n inputs latches outputs gates resets bads constraints scratch state ins output marks result }
 {
-    match judge_in_order(
+    judge_in_order(
         n,
         inputs,
         latches,
@@ -217,19 +217,14 @@ pub fn explain(
         bads,
         constraints,
         scratch,
-    ) {
-        Checked::Refused(refusal) => Stepped::Refused(refusal),
-        Checked::Good => {
-            let bad = bad_vector(n, state, ins, n.O);
-            if bad != 0 {
-                clear(scratch);
-                return Stepped::Refused(Refusal::BadVector(bad));
-            }
-            let answer = explain_output(
-                n, latches, outputs, gates, scratch, state, ins, output, marks,
-            );
-            clear(scratch);
-            answer
-        }
+    )?;
+    if let Some(bad) = bad_vector(n, state, ins, n.O) {
+        clear(scratch);
+        return Err(Refusal::BadVector(bad));
     }
+    let answer = explain_output(
+        n, latches, outputs, gates, scratch, state, ins, output, marks,
+    );
+    clear(scratch);
+    answer
 }

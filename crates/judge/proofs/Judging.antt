@@ -2,14 +2,13 @@
 use Prim.Native.Nat.{ℕ, ◌≤◌}
 use mathlib.Core.Path.{◌≡◌, refl, sym, ap, ◌∙◌}
 use mathlib.Core.Bool.{Bool, true, false, not, ◌&&◌, false≢true}
-use mathlib.Core.Option.{Option, none, some}
 use mathlib.Core.List.{List, [], ◌∷◌}
+use Rattle.std.specs.Prelude.{Result, Ok, Err, Option, Some, None}
+use Rattle.plan.specs.declared.Refusal.{Refusal}
 use native.Mathlib.Omega.{arith}
 use borrow.Author.Tests.{leb-true}
 use lib.ListN.{length, get_or, length-replicate}
 use Rattle.plan.specs.declared.Counts.{Counts}
-use Rattle.plan.specs.declared.Checked.{Checked}
-use Rattle.plan.specs.declared.Checked.TheVariants as checked
 use Rattle.plan.specs.declared.Refusal.TheVariants.{LargeCount, WrongSum, ShortTable, OutOfRange, DefinedTwice, NotDefined, Cyclic}
 use Rattle.plan.specs.Refusals.{stage, first_of}
 use Rattle.plan.specs.Literals.{most}
@@ -48,39 +47,39 @@ long-tables f = record {
 }
 
 module _ (ordered : Bool) (n : Counts) (t : Tables) where
-  pub at_five : (k : ℕ) → outside_in (circuit_of n t) ≡ some k → checked.Refused (OutOfRange k) ≡ checked_by (first_of (circuit_stages ordered n t))
+  pub at_five : (k : ℕ) → outside_in (circuit_of n t) ≡ Some k → Err (OutOfRange k) ≡ checked_by (first_of (circuit_stages ordered n t))
   at_five k e = sym (rw e)
 
-  module _ (e5 : outside_in (circuit_of n t) ≡ none) where
+  module _ (e5 : outside_in (circuit_of n t) ≡ None) where
     inside : Inside (circuit_of n t)
     inside = none_inside (circuit_of n t) e5
 
-    pub in_order : binary_order (circuit_of n t) ≡ true → checked.Good ≡ checked_by (first_of (circuit_stages ordered n t))
+    pub in_order : binary_order (circuit_of n t) ≡ true → Ok tt ≡ checked_by (first_of (circuit_stages ordered n t))
     in_order b =
         let never = no-six-to-eight (circuit_of n t) b inside.latches inside.outputs inside.bads inside.constraints in
         go ordered never.0 never.1 never.2
       where
-        go : (ordered : Bool) → twice_in (circuit_of n t) ≡ none → undefined_in (circuit_of n t) ≡ none → cyclic_in (circuit_of n t) ≡ none
-            → checked.Good ≡ checked_by (first_of (circuit_stages ordered n t))
+        go : (ordered : Bool) → twice_in (circuit_of n t) ≡ None → undefined_in (circuit_of n t) ≡ None → cyclic_in (circuit_of n t) ≡ None
+            → Ok tt ≡ checked_by (first_of (circuit_stages ordered n t))
         go true e6 e7 e8 = sym (rw (e5, e6, e7, e8, b))
         go false e6 e7 e8 = sym (rw (e5, e6, e7, e8))
 
-    pub at-six : (k : ℕ) → twice_in (circuit_of n t) ≡ some k → checked.Refused (DefinedTwice k) ≡ checked_by (first_of (circuit_stages ordered n t))
+    pub at-six : (k : ℕ) → twice_in (circuit_of n t) ≡ Some k → Err (DefinedTwice k) ≡ checked_by (first_of (circuit_stages ordered n t))
     at-six k e = sym (rw (e5, e))
 
-    pub past-six : twice_in (circuit_of n t) ≡ none → (ordered ≡ true → binary_order (circuit_of n t) ≡ false)
+    pub past-six : twice_in (circuit_of n t) ≡ None → (ordered ≡ true → binary_order (circuit_of n t) ≡ false)
         → unordered (checked_by (closing (circuit_of n t))) ordered ≡ checked_by (first_of (circuit_stages ordered n t))
     past-six e6 b = go ordered b (undefined_in (circuit_of n t)) refl (cyclic_in (circuit_of n t)) refl
       where
         go : (ordered : Bool) → (ordered ≡ true → binary_order (circuit_of n t) ≡ false)
             → (o7 : Option ℕ) → undefined_in (circuit_of n t) ≡ o7 → (o8 : Option ℕ) → cyclic_in (circuit_of n t) ≡ o8
             → unordered (checked_by (first_of (stage NotDefined o7 ∷ stage Cyclic o8 ∷ []))) ordered ≡ checked_by (first_of (circuit_stages ordered n t))
-        go true b none e7 none e8 = sym (rw (e5, e6, e7, e8, b refl))
-        go false b none e7 none e8 = sym (rw (e5, e6, e7, e8))
-        go true b none e7 (some v) e8 = sym (rw (e5, e6, e7, e8))
-        go false b none e7 (some v) e8 = sym (rw (e5, e6, e7, e8))
-        go true b (some v) e7 o8 e8 = sym (rw (e5, e6, e7))
-        go false b (some v) e7 o8 e8 = sym (rw (e5, e6, e7))
+        go true b None e7 None e8 = sym (rw (e5, e6, e7, e8, b refl))
+        go false b None e7 None e8 = sym (rw (e5, e6, e7, e8))
+        go true b None e7 (Some v) e8 = sym (rw (e5, e6, e7, e8))
+        go false b None e7 (Some v) e8 = sym (rw (e5, e6, e7, e8))
+        go true b (Some v) e7 o8 e8 = sym (rw (e5, e6, e7))
+        go false b (Some v) e7 o8 e8 = sym (rw (e5, e6, e7))
 
     module _ (scratch : List ℕ) (f : Fits n t.inputs t.latches t.outputs t.gates t.resets t.bads t.constraints)
         (s : Scratch n scratch) where
@@ -97,7 +96,7 @@ module _ (ordered : Bool) (n : Counts) (t : Tables) where
         blank = λ v h. blank v;
       }
 
-      pub judged : twice_in (circuit_of n t) ≡ none → (scratch' : List ℕ) → length scratch' ≡ length scratch
+      pub judged : twice_in (circuit_of n t) ≡ None → (scratch' : List ℕ) → length scratch' ≡ length scratch
           → Agrees n.M (defined_in (circuit_of n t)) scratch' → Read n t.inputs t.latches t.outputs t.gates t.bads t.constraints scratch' 0
       judged e scratch' l a = record {
         most-M = f.most-M;
@@ -132,10 +131,10 @@ pub not-in-order : (numbers ordered b : Bool) → (numbers ≡ true → ordered 
 not-in-order true ordered b p e o = absurd (false≢true (sym (p refl) ∙ o))
 not-in-order false ordered b p e o = e
 
-pub unordered-good : (answer : Checked) (ordered : Bool) → ordered ≡ false → unordered answer ordered ≡ checked.Good → answer ≡ checked.Good
-unordered-good (checked.Refused r) ordered o e = e
-unordered-good checked.Good true o e = refl
-unordered-good checked.Good false o e = refl
+pub unordered-good : (answer : Result Unit Refusal) (ordered : Bool) → ordered ≡ false → unordered answer ordered ≡ Ok tt → answer ≡ Ok tt
+unordered-good (Err r) ordered o e = e
+unordered-good (Ok tt) true o e = refl
+unordered-good (Ok tt) false o e = refl
 
 -- scratch that is cleared
 pub cleared-wide : (n : Counts) (scratch scratch' : List ℕ) → scratch' ≡ cleared scratch → Scratch n scratch → Scratch n scratch'
@@ -147,7 +146,7 @@ pub cleared-zero : (scratch scratch' : List ℕ) → scratch' ≡ cleared scratc
 cleared-zero scratch scratch' e i = ap (λ (l : List ℕ). get_or l i 0) e ∙ zeros (length scratch) i
 
 -- counts that 2 lets pass are within the limit
-pub small-counts : (n : Counts) → over (counted 1 (list_of n)) ≡ none
+pub small-counts : (n : Counts) → over (counted 1 (list_of n)) ≡ None
     → (n.M ≤ most) × (n.L ≤ most) × (n.O ≤ most) × (n.A ≤ most) × (n.B ≤ most) × (n.C ≤ most)
 small-counts n e =
     let m = counts-most n e in
@@ -155,7 +154,7 @@ small-counts n e =
 
 -- tables that 2, 3 and 4 let pass
 module _ (n : Counts) (t : Tables) (scratch : List ℕ) (to : Sizes)
-    (e : first_of (lent_stages n (lengths_in (shorter_of (sizes_of t) to) (length scratch))) ≡ none) where
+    (e : first_of (lent_stages n (lengths_in (shorter_of (sizes_of t) to) (length scratch))) ≡ None) where
   abbrev lengths : List ℕ
   lengths = lengths_in (shorter_of (sizes_of t) to) (length scratch)
 

@@ -2,13 +2,11 @@
 use Prim.Native.Nat.{ℕ, ◌*◌, ◌≤◌}
 use mathlib.Core.Path.{◌≡◌, refl, sym, ap}
 use mathlib.Core.Bool.{Bool, true, false}
-use mathlib.Core.Option.{Option, none, some}
 use mathlib.Core.List.{List, [], ◌∷◌}
+use Rattle.std.specs.Prelude.{Result, Ok, Err, Option, Some, None}
 use native.Mathlib.Omega.{arith}
 use lib.ListN.{length}
 use Rattle.plan.specs.declared.Counts.{Counts}
-use Rattle.plan.specs.declared.Checked.{Checked}
-use Rattle.plan.specs.declared.Checked.TheVariants as checked
 use Rattle.plan.specs.declared.Refusal.{Refusal}
 use Rattle.plan.specs.declared.Refusal.TheVariants.{NotInOrder}
 use Rattle.plan.specs.Refusals.{first_of}
@@ -24,18 +22,18 @@ use Rattle.tables.specs.Held.{Fits, Scratch}
 use Rattle.judge.specs.Judged.{all_stages, then_order}
 
 -- the answers, back to the stages
-pub good_none : (o : Option Refusal) → checked.Good ≡ checked_by o → o ≡ none
-good_none none e = refl
-good_none (some r) e = let z : ◌≡◌ {A = ℕ} 0 1 = cc in absurd (omega arith)
+pub good_none : (o : Option Refusal) → Ok tt ≡ checked_by o → o ≡ None
+good_none None e = refl
+good_none (Some r) e = let z : ◌≡◌ {A = ℕ} 0 1 = cc in absurd (omega arith)
 
 -- the refusal of an answer
-abbrev refusal_in : Refusal → Checked → Refusal
-refusal_in s checked.Good = s
-refusal_in s (checked.Refused r) = r
+abbrev refusal_in : Refusal → Result Unit Refusal → Refusal
+refusal_in s (Ok tt) = s
+refusal_in s (Err r) = r
 
-pub refused-some : (r : Refusal) (o : Option Refusal) → checked.Refused r ≡ checked_by o → o ≡ some r
-refused-some r none e = let z : ◌≡◌ {A = ℕ} 0 1 = cc in absurd (omega arith)
-refused-some r (some s) e = ap some (sym (ap (refusal_in s) e))
+pub refused-some : (r : Refusal) (o : Option Refusal) → Err r ≡ checked_by o → o ≡ Some r
+refused-some r None e = let z : ◌≡◌ {A = ℕ} 0 1 = cc in absurd (omega arith)
+refused-some r (Some s) e = ap Some (sym (ap (refusal_in s) e))
 
 -- the counts of the circuit in tables that fit
 pub held-counts : (n : Counts) (t : Tables) → Fits n t.inputs t.latches t.outputs t.gates t.resets t.bads t.constraints
@@ -52,12 +50,12 @@ pub record Good (ordered : Bool) (g : Given) : Type 0 where
   pub formed : WellFormed (given_circuit g)
   pub order : ordered ≡ true → binary_order (given_circuit g) ≡ true
 
-order-stage : (ordered : Bool) (g : Given) → first_of (then_order ordered g) ≡ none → ordered ≡ true → binary_order (given_circuit g) ≡ true
+order-stage : (ordered : Bool) (g : Given) → first_of (then_order ordered g) ≡ None → ordered ≡ true → binary_order (given_circuit g) ≡ true
 order-stage true g e o =
     failing-none (binary_order (given_circuit g)) (stage-none NotInOrder (failing (binary_order (given_circuit g))) (first-all (order_stage g ∷ []) e).0)
 order-stage false g e o = let z : ◌≡◌ {A = ℕ} 0 1 = cc in absurd (omega arith)
 
-module _ (ordered : Bool) (g : Given) (lent : List Lent) (e : first_of (all_stages ordered g lent) ≡ none) where
+module _ (ordered : Bool) (g : Given) (lent : List Lent) (e : first_of (all_stages ordered g lent) ≡ None) where
   fine : Fine g lent
   fine = nothing-fine g lent (first-both (stages g lent) (then_order ordered g) e).0
 
@@ -86,7 +84,7 @@ module _ (ordered : Bool) (g : Given) (lent : List Lent) (e : first_of (all_stag
     order = order-stage ordered g (first-both (stages g lent) (then_order ordered g) e).1;
   }
 
-pub good-alone : (ordered : Bool) (g : Given) → first_of (all_stages ordered g (lent_alone g)) ≡ none → Good ordered g
+pub good-alone : (ordered : Bool) (g : Given) → first_of (all_stages ordered g (lent_alone g)) ≡ None → Good ordered g
 good-alone ordered g e = good ordered g (lent_alone g) e (all-long ordered g (lent_alone g) e)
 
 -- with tables lent for writing, which are as long as the given counts ask
@@ -99,7 +97,7 @@ pub record Wide (n : Counts) (t : Tables) : Type 0 where
   pub bads : n.B ≤ length t.bads
   pub constraints : n.C ≤ length t.constraints
 
-pub good-with : (ordered : Bool) (g : Given) (t : Tables) → first_of (all_stages ordered g (lent_with g t)) ≡ none → Good ordered g × Wide g.counts t
+pub good-with : (ordered : Bool) (g : Given) (t : Tables) → first_of (all_stages ordered g (lent_with g t)) ≡ None → Good ordered g × Wide g.counts t
 good-with ordered g t e =
     let l = all-long ordered g (lent_with g t) e in
     let to = against 1 (words_to_work g.counts) (lengths_of t g.scratch) in

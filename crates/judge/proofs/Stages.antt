@@ -2,8 +2,8 @@
 use Prim.Native.Nat.{ℕ}
 use mathlib.Core.Path.{◌≡◌, ap}
 use mathlib.Core.Bool.{Bool, true, false}
-use mathlib.Core.Option.{Option, none, some}
 use mathlib.Core.List.{List, [], ◌∷◌}
+use Rattle.std.specs.Prelude.{Option, Some, None}
 use Rattle.plan.specs.declared.Counts.{Counts}
 use Rattle.plan.specs.declared.Refusal.{Refusal}
 use Rattle.plan.specs.declared.Refusal.TheVariants.{LargeCount, WrongSum, ShortTable}
@@ -19,27 +19,27 @@ use Rattle.judge.proofs.Shorter.{short-with, short-alone}
 
 -- 2, 3 and 4
 module _ (n : Counts) (lengths : List ℕ) where
-  pub at-two : (k : ℕ) → over (counted 1 (list_of n)) ≡ some k → first_of (lent_stages n lengths) ≡ some (LargeCount k)
+  pub at-two : (k : ℕ) → over (counted 1 (list_of n)) ≡ Some k → first_of (lent_stages n lengths) ≡ Some (LargeCount k)
   at-two k e = rw e
 
-  module _ (e2 : over (counted 1 (list_of n)) ≡ none) where
-    pub at-three : adds text n ≡ false → first_of (lent_stages n lengths) ≡ some (WrongSum 0)
+  module _ (e2 : over (counted 1 (list_of n)) ≡ None) where
+    pub at-three : adds text n ≡ false → first_of (lent_stages n lengths) ≡ Some (WrongSum 0)
     at-three e = rw (e2, e)
 
     module _ (e3 : adds text n ≡ true) where
-      pub at-four : (k : ℕ) → least_short (against 1 (words_to_work n) lengths) ≡ some k → first_of (lent_stages n lengths) ≡ some (ShortTable k)
+      pub at-four : (k : ℕ) → least_short (against 1 (words_to_work n) lengths) ≡ Some k → first_of (lent_stages n lengths) ≡ Some (ShortTable k)
       at-four k e = rw (e2, e3, e)
 
-      pub past-four : least_short (against 1 (words_to_work n) lengths) ≡ none → first_of (lent_stages n lengths) ≡ none
+      pub past-four : least_short (against 1 (words_to_work n) lengths) ≡ None → first_of (lent_stages n lengths) ≡ None
       past-four e = rw (e2, e3, e)
 
 -- then the circuit
 after : (a b c : Option Refusal) (rest : List (Option Refusal)) (o : Option Refusal) → first_of (a ∷ b ∷ c ∷ []) ≡ o
     → first_of (a ∷ b ∷ c ∷ rest) ≡ first_of (o ∷ rest)
-after none none none rest o e = ap (λ (x : Option Refusal). first_of (x ∷ rest)) e
-after none none (some r) rest o e = ap (λ (x : Option Refusal). first_of (x ∷ rest)) e
-after none (some r) c rest o e = ap (λ (x : Option Refusal). first_of (x ∷ rest)) e
-after (some r) b c rest o e = ap (λ (x : Option Refusal). first_of (x ∷ rest)) e
+after None None None rest o e = ap (λ (x : Option Refusal). first_of (x ∷ rest)) e
+after None None (Some r) rest o e = ap (λ (x : Option Refusal). first_of (x ∷ rest)) e
+after None (Some r) c rest o e = ap (λ (x : Option Refusal). first_of (x ∷ rest)) e
+after (Some r) b c rest o e = ap (λ (x : Option Refusal). first_of (x ∷ rest)) e
 
 module _ (ordered : Bool) (n : Counts) (t : Tables) (scratch lengths : List ℕ) where
   abbrev lent : List Lent
@@ -57,12 +57,12 @@ module _ (ordered : Bool) (n : Counts) (t : Tables) (scratch lengths : List ℕ)
           after (stage LargeCount (over (counted 1 (list_of n)))) (stage WrongSum (failing (adds text n))) (stage ShortTable (least_short lent))
           (circuit_stages false n t) o e
 
-  pub lent-refuses : (r : Refusal) → first_of (lent_stages n lengths) ≡ some r → first_of (all_stages ordered (given_at n t scratch) lent) ≡ some r
-  lent-refuses r e = from-lent (some r) e
+  pub lent-refuses : (r : Refusal) → first_of (lent_stages n lengths) ≡ Some r → first_of (all_stages ordered (given_at n t scratch) lent) ≡ Some r
+  lent-refuses r e = from-lent (Some r) e
 
-  pub lent-passes : first_of (lent_stages n lengths) ≡ none
+  pub lent-passes : first_of (lent_stages n lengths) ≡ None
       → first_of (all_stages ordered (given_at n t scratch) lent) ≡ first_of (circuit_stages ordered n t)
-  lent-passes e = from-lent none e
+  lent-passes e = from-lent None e
 
 module _ (ordered : Bool) (g : Given) (lent : List Lent) where
   -- of the lent tables the stages know the least short one alone

@@ -1,10 +1,7 @@
 -- The stages of the checks of given tables: with 15 or without, over the tables' lengths; and what 2, 3 and 4 leave
 -- of them.
-use Rattle.std.specs.Prelude.{ℕ, Bool, true, false, List, [], ◌∷◌, ◌++◌, length, drop}
-use Rattle.std.proofs.Math.Option.{Option}
+use Rattle.std.specs.Prelude.{ℕ, Bool, true, false, List, [], ◌∷◌, ◌++◌, length, drop, Result, Ok, Err, Option}
 use Rattle.plan.specs.declared.Counts.{Counts}
-use Rattle.plan.specs.declared.Checked.{Checked}
-use Rattle.plan.specs.declared.Checked.TheVariants.{Good, Refused}
 use Rattle.plan.specs.declared.Refusal.{Refusal}
 use Rattle.plan.specs.declared.Refusal.TheVariants.{LargeCount, WrongSum, ShortTable, NotInOrder}
 use Rattle.plan.specs.Refusals.{stage}
@@ -44,7 +41,7 @@ lent_shorter g to =
     against 1 (words_to_work g.counts) (lengths_in (shorter_of (sizes_of g.tables) to) (length g.scratch))
 
 -- an answer of tables that are not in binary order
-abbrev pub unordered : Checked → Bool → Checked
-unordered (Refused r) ordered = Refused r
-unordered Good true = Refused (NotInOrder 0)
-unordered Good false = Good
+abbrev pub unordered : Result Unit Refusal → Bool → Result Unit Refusal
+unordered (Err r) ordered = Err r
+unordered (Ok tt) true = Err (NotInOrder 0)
+unordered (Ok tt) false = Ok tt

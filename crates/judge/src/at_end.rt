@@ -1,7 +1,6 @@
 // Refusal 7, then 8, over the whole circuit in the tables: what is left to check when every literal is in range and
 // no variable is defined twice.
-ghost use Rattle.std.specs.Prelude.{◌≡◌, true, false, List, map, ℕ, ◌+◌, ◌*◌, ◌<◌, ◌≤◌, length};
-ghost use Rattle.plan.specs.declared.Checked.TheVariants.{Good};
+ghost use Rattle.std.specs.Prelude.{◌≡◌, true, false, List, map, ℕ, ◌+◌, ◌*◌, ◌<◌, ◌≤◌, length, Ok};
 ghost use Rattle.plan.specs.Circuit.{gate_of, rows_of};
 ghost use Rattle.plan.specs.Outcome.{checked_by};
 ghost use Rattle.laws.proofs.Running.Ascending.{ascends};
@@ -10,9 +9,8 @@ ghost use Rattle.judge.specs.at_end.Leaves.{with_heads, Leaves, Numbered, AllNum
 ghost use Rattle.tables.specs.Held.{circuit_in};
 ghost use Rattle.judge.specs.at_end.Read.{closing, Read};
 
-use crate::used::Missing;
 use crate::{order, used};
-use plan::{Checked, Counts, Lit, Refusal};
+use plan::{Counts, Lit, Refusal};
 
 // The variables of n rows, of `stride` words of which the first defines, take the numbers from `first` on.
 #[tactic(auto, using(laws::proofs::Tables::row_ends))]
@@ -63,21 +61,21 @@ pub fn check(
     scratch: &mut [u32],
     base: usize,
     numbers: bool,
-) -> Checked
+) -> Result<(), Refusal>
     requires { Read n inputs.now latches.now outputs.now gates.now bads.now constraints.now
         scratch.old base }
     ensures by_index { (resets : List ℕ) → result ≡ checked_by
         (closing (circuit_in n inputs.now latches.now outputs.now
         gates.now resets bads.now constraints.now)) }
-    ensures all_numbered { numbers ≡ true → result ≡ Good
+    ensures all_numbered { numbers ≡ true → result ≡ Ok tt
         → AllNumbered n inputs.now latches.now gates.now scratch.new }
 {
     let marks = &scratch[base..];
     match used::undefined(n, latches, outputs, gates, bads, constraints, marks) {
-        Missing::Least(v) => Checked::Refused(Refusal::NotDefined(v)),
-        Missing::Nothing => {
+        Some(v) => Err(Refusal::NotDefined(v)),
+        None => {
             if needs_no_order(numbers, gates, n.A) {
-                return Checked::Good;
+                return Ok(());
             }
             tables::clear(scratch);
             number_leaves(n, inputs, latches, scratch);

@@ -2,16 +2,15 @@
 // that ask it.
 #![tactic(auto)]
 
-ghost use Rattle.std.specs.Prelude.{◌≡◌, true, false, not, ◌&&◌, List, ℕ};
+ghost use Rattle.std.specs.Prelude.{◌≡◌, true, false, not, ◌&&◌, List, ℕ, Ok, Err};
 ghost use Rattle.plan.specs.declared.Refusal.{Refusal};
-ghost use Rattle.plan.specs.declared.Checked.TheVariants.{Good, Refused};
 ghost use Rattle.plan.specs.Refusals.{first_of};
 ghost use Rattle.plan.specs.Circuit.{Tables, seven, cleared};
 ghost use Rattle.plan.specs.Binary.{binary_order};
 ghost use Rattle.plan.specs.Header.{list_of, over, text, adds};
 ghost use Rattle.plan.specs.Given.{counted, lent_with};
 ghost use Rattle.plan.specs.Outcome.{check, check_in_order, check_by, checked_by, CheckExit};
-ghost use Rattle.tables.specs.Lengths.{table_of, lengths_in, sizes_of};
+ghost use Rattle.tables.specs.Lengths.{lengths_in, sizes_of};
 ghost use Rattle.tables.specs.Held.{circuit_in, Fits, Scratch};
 ghost use Rattle.judge.specs.binary_order.Tables.{Long};
 ghost use Rattle.judge.specs.at_end.Leaves.{AllNumbered};
@@ -21,7 +20,7 @@ ghost use Rattle.plan.specs.Lent.{Checks};
 use crate::binary_order::in_binary_order;
 use crate::ranges::out_of_range;
 use crate::twice::defined_twice;
-use plan::{Checked, Counts, Refusal};
+use plan::{Counts, Refusal};
 use tables::{Sizes, clear, lengths, scratch_to_work, shorter, too_short};
 
 pub mod at_end;
@@ -36,32 +35,32 @@ pub mod used;
 // The limit of every count.
 const MOST: usize = 1048575;
 
-// Refusal 2: which of M, I, L, O, A, B, C, numbered from 1, is the first over the limit, or 0.
-pub fn large_count(n: Counts) -> usize
-    ensures { table_of result ≡ over (counted 1 (list_of n)) }
+// Refusal 2: which of M, I, L, O, A, B, C, numbered from 1, is the first over the limit.
+pub fn large_count(n: Counts) -> Option<usize>
+    ensures { result ≡ over (counted 1 (list_of n)) }
 {
     if MOST < n.M {
-        return 1;
+        return Some(1);
     }
     if MOST < n.I {
-        return 2;
+        return Some(2);
     }
     if MOST < n.L {
-        return 3;
+        return Some(3);
     }
     if MOST < n.O {
-        return 4;
+        return Some(4);
     }
     if MOST < n.A {
-        return 5;
+        return Some(5);
     }
     if MOST < n.B {
-        return 6;
+        return Some(6);
     }
     if MOST < n.C {
-        return 7;
+        return Some(7);
     }
-    0
+    None
 }
 
 // Refusal 3: whether I + L + A is at most M, as a true sum.
@@ -79,16 +78,16 @@ pub fn adds_up(n: Counts) -> bool
 }
 
 // What is left to answer for tables that are not in binary order, where the other checks answered.
-fn unordered(answer: Checked, ordered: bool) -> Checked
+fn unordered(answer: Result<(), Refusal>, ordered: bool) -> Result<(), Refusal>
     ensures { result ≡ unordered answer ordered }
 {
     match answer {
-        Checked::Refused(r) => Checked::Refused(r),
-        Checked::Good => {
+        Err(r) => Err(r),
+        Ok(()) => {
             if ordered {
-                return Checked::Refused(Refusal::NotInOrder(0));
+                return Err(Refusal::NotInOrder(0));
             }
-            Checked::Good
+            Ok(())
         }
     }
 }
@@ -108,22 +107,20 @@ fn found_in_order(numbers: bool, n: Counts, inputs: &[u32], latches: &[u32], gat
 }
 
 // 2, 3, then 4: the least of lent tables of these sizes, with scratch, that is too short.
-fn lent_enough(n: Counts, to: Sizes, scratch: usize) -> Checked
+fn lent_enough(n: Counts, to: Sizes, scratch: usize) -> Result<(), Refusal>
     ensures { result ≡ checked_by (first_of (lent_stages n (lengths_in to scratch))) }
 {
-    let large = large_count(n);
-    if large != 0 {
-        return Checked::Refused(Refusal::LargeCount(large));
+    if let Some(large) = large_count(n) {
+        return Err(Refusal::LargeCount(large));
     }
     if !adds_up(n) {
-        return Checked::Refused(Refusal::WrongSum(0));
+        return Err(Refusal::WrongSum(0));
     }
     let needed = scratch_to_work(n);
-    let short = too_short(n, to, needed, scratch);
-    if short != 0 {
-        return Checked::Refused(Refusal::ShortTable(short));
+    if let Some(short) = too_short(n, to, needed, scratch) {
+        return Err(Refusal::ShortTable(short));
     }
-    Checked::Good
+    Ok(())
 }
 
 // 5, then 6, then 7, then 8, then 15. Tables in binary order whose literals are in range can't meet 6, 7 or 8
@@ -141,7 +138,7 @@ fn judge_circuit(
     scratch: &mut [u32],
     ordered: bool,
     numbers: bool,
-) -> Checked
+) -> Result<(), Refusal>
     requires fits { Fits n inputs.now latches.now outputs.now gates.now resets.now bads.now
         constraints.now }
     requires scratch { Scratch n scratch.old }
@@ -149,11 +146,11 @@ fn judge_circuit(
     ensures value { result ≡ checked_by (first_of (circuit_stages ordered n
         (seven inputs.now latches.now outputs.now gates.now
         resets.now bads.now constraints.now))) }
-    ensures all_numbered { numbers ≡ true → result ≡ Good
+    ensures all_numbered { numbers ≡ true → result ≡ Ok tt
         → AllNumbered n inputs.now latches.now gates.now scratch.new }
 {
     let in_order = found_in_order(numbers, n, inputs, latches, gates);
-    let out = out_of_range(
+    if let Some(out) = out_of_range(
         n,
         inputs,
         latches,
@@ -163,17 +160,15 @@ fn judge_circuit(
         bads,
         constraints,
         in_order,
-    );
-    if out != 0 {
-        return Checked::Refused(Refusal::OutOfRange(out));
+    ) {
+        return Err(Refusal::OutOfRange(out));
     }
     if in_order {
-        return Checked::Good;
+        return Ok(());
     }
     clear(scratch);
-    let twice = defined_twice(n, inputs, latches, gates, scratch);
-    if twice != 0 {
-        return Checked::Refused(Refusal::DefinedTwice(twice));
+    if let Some(twice) = defined_twice(n, inputs, latches, gates, scratch) {
+        return Err(Refusal::DefinedTwice(twice));
     }
     unordered(
         at_end::check(
@@ -206,18 +201,18 @@ fn judge(
     to: Sizes,
     ordered: bool,
     numbers: bool,
-) -> Checked
+) -> Result<(), Refusal>
     requires { numbers ≡ true → ordered ≡ false }
     ensures result_value { let g = given_at n (seven inputs.now latches.now outputs.now
         gates.now resets.now bads.now constraints.now)
         scratch.old in result ≡ checked_by (first_of (all_stages ordered g (lent_shorter g to))) }
-    ensures all_numbered { numbers ≡ true → result ≡ Good
+    ensures all_numbered { numbers ≡ true → result ≡ Ok tt
         → AllNumbered n inputs.now latches.now gates.now scratch.new }
 {
     let own = lengths(inputs, latches, outputs, gates, resets, bads, constraints);
     let lent = lent_enough(n, shorter(own, to), scratch.len());
-    if let Checked::Refused(r) = lent {
-        return Checked::Refused(r);
+    if let Err(r) = lent {
+        return Err(r);
     }
     judge_circuit(
         n,
@@ -248,7 +243,7 @@ pub fn check_to_make(
     scratch: &mut [u32],
     to: Sizes,
     ordered: bool,
-) -> Checked
+) -> Result<(), Refusal>
     ensures { let g = given_at n (seven inputs.now latches.now outputs.now
         gates.now
         resets.now bads.now constraints.now) scratch.old in
@@ -286,14 +281,14 @@ pub fn number(
     constraints: &[u32],
     scratch: &mut [u32],
     to: Sizes,
-) -> Checked
+) -> Result<(), Refusal>
     ensures fact { let g = given_at n (seven inputs.now latches.now outputs.now
         gates.now resets.now bads.now constraints.now)
         scratch.old in ((t : Tables) → to ≡ sizes_of t → result
         ≡ checked_by (first_of (all_stages false g (lent_with g t)))) }
-    ensures all_numbered { result ≡ Good
+    ensures all_numbered { result ≡ Ok tt
         → AllNumbered n inputs.now latches.now gates.now scratch.new }
-    ensures scratch_after { (q : Refusal) → result ≡ Refused q → scratch.new ≡ cleared scratch.old }
+    ensures scratch_after { (q : Refusal) → result ≡ Err q → scratch.new ≡ cleared scratch.old }
 {
     let answer = judge(
         n,
@@ -309,9 +304,9 @@ pub fn number(
         false,
         true,
     );
-    if let Checked::Refused(r) = answer {
+    if let Err(r) = answer {
         clear(scratch);
-        return Checked::Refused(r);
+        return Err(r);
     }
     answer
 }
@@ -328,7 +323,7 @@ pub fn check(
     bads: &[u32],
     constraints: &[u32],
     scratch: &mut [u32],
-) -> Checked
+) -> Result<(), Refusal>
     ensures { Checks check n inputs latches outputs gates resets bads constraints scratch result }
 {
     let own = lengths(inputs, latches, outputs, gates, resets, bads, constraints);
@@ -358,7 +353,7 @@ pub fn check_in_order(
     bads: &[u32],
     constraints: &[u32],
     scratch: &mut [u32],
-) -> Checked
+) -> Result<(), Refusal>
     ensures { Checks check_in_order n inputs latches outputs gates resets bads constraints scratch result }
 {
     let own = lengths(inputs, latches, outputs, gates, resets, bads, constraints);
@@ -389,11 +384,11 @@ pub fn judge_in_order(
     bads: &[u32],
     constraints: &[u32],
     scratch: &mut [u32],
-) -> Checked
+) -> Result<(), Refusal>
     ensures value { result ≡ (check_in_order (given_at n (seven inputs.now latches.now
         outputs.now gates.now resets.now bads.now
         constraints.now) scratch.old)).answer }
-    ensures scratch_after { (q : Refusal) → result ≡ Refused q → scratch.new ≡ cleared scratch.old }
+    ensures scratch_after { (q : Refusal) → result ≡ Err q → scratch.new ≡ cleared scratch.old }
 {
     let to = lengths(inputs, latches, outputs, gates, resets, bads, constraints);
     let answer = judge(
@@ -410,7 +405,7 @@ pub fn judge_in_order(
         true,
         false,
     );
-    if let Checked::Refused(_) = answer {
+    if let Err(_) = answer {
         clear(scratch);
         return answer;
     }

@@ -2,7 +2,7 @@
 // more: that is one word, as there are fewer than 2 ^ 20 gates.
 ghost use Rattle.std.specs.Prelude.{◌≡◌, true, ◌+◌, ◌*◌, ◌/◌, ◌<◌, length};
 ghost use Rattle.tables.specs.bitmap.Bitmap.{is_on};
-ghost use Rattle.judge.specs.marks.Levels.{p0, p3, Levels, marked, Lowered, TakenOff, FirstPair, FirstMarked};
+ghost use Rattle.judge.specs.marks.Levels.{p0, p3, Levels, marked, Lowered, TakenOff, FirstPair};
 
 use tables::bitmap;
 
@@ -50,7 +50,7 @@ pub fn unmark(t: &mut [u32], n: usize, a: usize, j: usize)
 }
 
 // The pair of gates that the first marked one is in, by its first gate; a where none is marked.
-fn first_pair(t: &[u32], n: usize, a: usize) -> usize
+pub fn first_pair(t: &[u32], n: usize, a: usize) -> usize
     requires { (p3 n a < length t.now) × (a < 1048576) × (0 < a) × Levels t.now n a }
     ensures { FirstPair t.now n a result }
 {
@@ -69,17 +69,4 @@ fn first_pair(t: &[u32], n: usize, a: usize) -> usize
         return a;
     }
     j / 2 * 2
-}
-
-// The first gate that is marked, or a. The scan starts at its pair.
-pub fn first_marked(t: &[u32], n: usize, a: usize) -> usize
-    requires { (p3 n a < length t.now) × (a < 1048576) × (0 < a) × Levels t.now n a }
-    ensures { FirstMarked t.now n a result }
-{
-    for j in first_pair(t, n, a)..a {
-        if bitmap::is_on(t, n + 2 * a, j) {
-            return j;
-        }
-    }
-    a
 }

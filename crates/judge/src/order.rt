@@ -15,7 +15,7 @@ ghost use Rattle.laws.proofs.Running.Ascending.{ascends};
 ghost use Rattle.judge.specs.order.Numbers.{NumTable, InRange};
 ghost use Rattle.judge.specs.order.Waiting.{Room, Known, Fresh, Blank, counted, FirstAt};
 
-use plan::{Checked, Refusal};
+use plan::Refusal;
 
 mod chains;
 mod giving;
@@ -53,7 +53,7 @@ fn first_out(gates: &[u32], t: &[u32], a: usize) -> usize
 
 // Refusal 8, of gates whose leaves t numbers: the left variable of the first gate in file order that gets no
 // number. The numbers stay.
-pub fn cycle(gates: &[u32], t: &mut [u32], first: u32, n: usize, a: usize) -> Checked
+pub fn cycle(gates: &[u32], t: &mut [u32], first: u32, n: usize, a: usize) -> Result<(), Refusal>
     requires { Room gates.now t.old n a × (0 < first) × (first + a < 2147483648) × Fresh t.old n
         × Blank t.old n × Known gates.now t.old n a }
     ensures value { (c : Circuit) → c.gates ≡ map gate_of (rows_of 3 a gates.now)
@@ -65,10 +65,10 @@ pub fn cycle(gates: &[u32], t: &mut [u32], first: u32, n: usize, a: usize) -> Ch
         (take n t.new) }
 {
     if number(gates, t, first, n, a) == a {
-        return Checked::Good;
+        return Ok(());
     }
     let i = first_out(gates, t, a);
-    Checked::Refused(Refusal::Cyclic(words::var_of(gates[3 * i])))
+    Err(Refusal::Cyclic(words::var_of(gates[3 * i])))
 }
 
 // Whether every left variable is above its right ones, so that no gate can depend on itself: most files are written so.

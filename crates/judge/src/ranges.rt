@@ -5,7 +5,6 @@ ghost use Rattle.plan.specs.Circuit.{latch_of, rows_of, resets_ok, inside, all_i
 ghost use Rattle.plan.specs.Binary.{binary_order};
 ghost use Rattle.plan.specs.Given.{outside_in};
 ghost use Rattle.tables.specs.Held.{circuit_in, Fits};
-ghost use Rattle.tables.specs.Lengths.{table_of};
 ghost use Rattle.judge.specs.ranges.Parts.{outside_first, outside_last, FirstRoom, LastRoom};
 
 use plan::{Counts, Lit, is_reset};
@@ -73,7 +72,7 @@ fn resets_within(latches: &[u32], resets: &[u32], n: usize) -> bool
     true
 }
 
-// The first of tables 1 to 4 with a literal out of its range, or 0. Inputs, latches and gates define, outputs do
+// The first of tables 1 to 4 with a literal out of its range. Inputs, latches and gates define, outputs do
 // not. Binary order leaves no input and no gate out of range.
 fn first_tables(
     n: Counts,
@@ -82,55 +81,55 @@ fn first_tables(
     outputs: &[u32],
     gates: &[u32],
     in_order: bool,
-) -> usize
+) -> Option<usize>
     requires first_room { FirstRoom n inputs.now latches.now outputs.now gates.now }
     requires gates_value { in_order ≡ true → binary_order
         (circuit_in n inputs.now latches.now outputs.now gates.now [] [] []) ≡ true }
-    ensures { table_of result ≡ outside_first (circuit_in n inputs.now latches.now
+    ensures { result ≡ outside_first (circuit_in n inputs.now latches.now
         outputs.now gates.now [] [] []) }
 {
     let m = n.M as u32;
     if !known_within(in_order, inputs, 1, n.I, true, m) {
-        return 1;
+        return Some(1);
     }
     if !rows_within(latches, 2, n.L, true, m) {
-        return 2;
+        return Some(2);
     }
     if !rows_within(outputs, 1, n.O, false, m) {
-        return 3;
+        return Some(3);
     }
     if !known_within(in_order, gates, 3, n.A, true, m) {
-        return 4;
+        return Some(4);
     }
-    0
+    None
 }
 
-// The first of tables 7 to 9 with a reset that is none or a literal out of its range, or 0.
+// The first of tables 7 to 9 with a reset that is none or a literal out of its range.
 fn last_tables(
     n: Counts,
     latches: &[u32],
     resets: &[u32],
     bads: &[u32],
     constraints: &[u32],
-) -> usize
+) -> Option<usize>
     requires { LastRoom n latches.now resets.now bads.now constraints.now }
-    ensures { table_of result ≡ outside_last (circuit_in n [] latches.now [] [] resets.now
+    ensures { result ≡ outside_last (circuit_in n [] latches.now [] [] resets.now
         bads.now constraints.now) }
 {
     let m = n.M as u32;
     if !resets_within(latches, resets, n.L) {
-        return 7;
+        return Some(7);
     }
     if !rows_within(bads, 1, n.B, false, m) {
-        return 8;
+        return Some(8);
     }
     if !rows_within(constraints, 1, n.C, false, m) {
-        return 9;
+        return Some(9);
     }
-    0
+    None
 }
 
-// The first of the tables with a literal out of its range, or 0, in the order of their numbers.
+// The first of the tables with a literal out of its range, in the order of their numbers.
 pub fn out_of_range(
     n: Counts,
     inputs: &[u32],
@@ -141,18 +140,18 @@ pub fn out_of_range(
     bads: &[u32],
     constraints: &[u32],
     in_order: bool,
-) -> usize
+) -> Option<usize>
     requires fits { Fits n inputs.now latches.now outputs.now gates.now resets.now bads.now
         constraints.now }
     requires constraints_value { in_order ≡ true → binary_order
         (circuit_in n inputs.now latches.now outputs.now gates.now resets.now bads.now constraints.now)
         ≡ true }
-    ensures { table_of result ≡ outside_in (circuit_in n inputs.now latches.now
+    ensures { result ≡ outside_in (circuit_in n inputs.now latches.now
         outputs.now gates.now resets.now bads.now
         constraints.now) }
 {
     let first = first_tables(n, inputs, latches, outputs, gates, in_order);
-    if first != 0 {
+    if first.is_some() {
         return first;
     }
     last_tables(n, latches, resets, bads, constraints)

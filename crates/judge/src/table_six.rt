@@ -4,7 +4,7 @@ ghost use Rattle.std.specs.Prelude.{◌≡◌};
 ghost use Rattle.judge.specs.table_six.Judged.{before_sixth, with_sixth};
 
 use answers::refusals::{told_number, told_place};
-use plan::{Checked, Refusal};
+use plan::Refusal;
 
 // Whether a refusal of given tables comes before 4 at table 6: 2, 3, and 4 at a table below it.
 fn before_sixth(refusal: Refusal) -> bool
@@ -20,19 +20,19 @@ fn before_sixth(refusal: Refusal) -> bool
 // The answer of `given::judge_in_order` or `check_in_order`, with table 6, which is too short or not. The caller
 // tests that by a division, since the answer may be that a count is too large, and then a product of counts need
 // not fit.
-pub fn with_sixth(answer: Checked, short: bool) -> Checked
+pub fn with_sixth(answer: Result<(), Refusal>, short: bool) -> Result<(), Refusal>
     ensures { result ≡ with_sixth answer short }
 {
     if !short {
         return answer;
     }
     match answer {
-        Checked::Good => Checked::Refused(Refusal::ShortTable(6)),
-        Checked::Refused(refusal) => {
+        Ok(()) => Err(Refusal::ShortTable(6)),
+        Err(refusal) => {
             if before_sixth(refusal) {
                 return answer;
             }
-            Checked::Refused(Refusal::ShortTable(6))
+            Err(Refusal::ShortTable(6))
         }
     }
 }

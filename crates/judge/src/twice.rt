@@ -29,26 +29,26 @@ fn mark_rows(table: &[u32], stride: usize, n: usize, marks: &mut [u32]) -> bool
 }
 
 // The table, 1, 2 or 4, of the first definition of a variable that is defined before it, in the order of the
-// tables; 0 if there is none. The other tables define nothing.
+// tables. The other tables define nothing.
 pub fn defined_twice(
     n: Counts,
     inputs: &[u32],
     latches: &[u32],
     gates: &[u32],
     marks: &mut [u32],
-) -> usize
+) -> Option<usize>
     requires { Ranged n inputs.now latches.now gates.now marks.old }
     ensures { TwiceSays n inputs.now latches.now gates.now result
         marks.new }
 {
     if mark_rows(inputs, 1, n.I, marks) {
-        return 1;
+        return Some(1);
     }
     if mark_rows(latches, 2, n.L, marks) {
-        return 2;
+        return Some(2);
     }
     if mark_rows(gates, 3, n.A, marks) {
-        return 4;
+        return Some(4);
     }
-    0
+    None
 }

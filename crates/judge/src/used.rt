@@ -5,18 +5,11 @@ ghost use Rattle.plan.specs.Circuit.{seven, circuit_of, rights, defined_in};
 ghost use Rattle.plan.specs.Depends.{undefined_in};
 ghost use Rattle.laws.proofs.Marks.{Agrees};
 ghost use Rattle.laws.proofs.Tables.{gates_at};
-ghost use Rattle.judge.specs.used.Least.{missing_of, every, words, lower, lowest};
+ghost use Rattle.judge.specs.used.Least.{every, words, lower, lowest};
 ghost use Rattle.judge.specs.used.Reach.{Observed, InReach};
 
 use plan::{Counts, Lit};
 use tables::bitmap;
-
-// The least used variable that is not defined.
-#[derive(Clone, Copy)]
-pub enum Missing {
-    Nothing,
-    Least(usize),
-}
 
 // The variable of a table's word.
 fn variable(word: u32) -> u32
@@ -104,11 +97,11 @@ pub fn undefined(
     bads: &[u32],
     constraints: &[u32],
     marks: &[u32],
-) -> Missing
+) -> Option<usize>
     requires { InReach n latches.now outputs.now gates.now bads.now constraints.now marks.now }
     ensures { (inputs resets : List ℕ) → let c = circuit_of n
         (seven inputs latches.now outputs.now gates.now resets bads.now
-        constraints.now) in Agrees n.M (defined_in c) marks.now → missing_of result ≡ undefined_in c }
+        constraints.now) in Agrees n.M (defined_in c) marks.now → result ≡ undefined_in c }
 {
     let m = n.M as u32;
     // One more than M: above every variable.
@@ -117,7 +110,7 @@ pub fn undefined(
     let by_observed = least_observed(n, outputs, bads, constraints, marks, by_latches);
     let by_gates = least_right(gates, n.A, marks, by_observed);
     if by_gates > m {
-        return Missing::Nothing;
+        return None;
     }
-    Missing::Least(by_gates as usize)
+    Some(by_gates as usize)
 }

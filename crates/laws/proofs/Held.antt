@@ -2,13 +2,13 @@
 use Prim.Native.Nat.{ℕ, zero, suc, ◌-◌}
 use mathlib.Core.Path.{◌≡◌, refl, sym, ap, ap₂, ◌∙◌}
 use mathlib.Core.List.{List, [], ◌∷◌, ◌++◌, append_assoc, map}
+use Rattle.std.specs.Prelude.{Result, Ok, Err}
+use Rattle.plan.specs.declared.Refusal.{Refusal}
 use native.Mathlib.Nat.{zero-add, zero-sub, sub-zero}
 use native.Mathlib.Omega.{arith}
 use lib.ListN.{length, take, drop, replicate, length-map}
 use lib.Seq.{take_at, drop_at}
 use Rattle.plan.specs.declared.Counts.{Counts}
-use Rattle.plan.specs.declared.Passed.{Passed}
-use Rattle.plan.specs.declared.Passed.TheVariants.{To, Refused}
 use Rattle.plan.specs.Refusals.{Parse, got, refused}
 use Rattle.plan.specs.Circuit.{Circuit, Tables, counts_of, circuit_of, filled, cleared, holding, all_cleared, latch_line, gate_line, latch_of, gate_of, rows_of, flat}
 use Rattle.plan.specs.Outcome.{put}
@@ -23,9 +23,9 @@ pub record Holds (t : Tables) (c : Circuit) (t' : Tables) : Type 0 where
   pub bads : t'.bads ≡ put t.bads 0 c.bads
   pub constraints : t'.constraints ≡ put t.constraints 0 c.constraints
 
-abbrev pub BodySays : Tables → Parse Circuit → Passed → Tables → Type 0
-BodySays t (got c next) r t' = (r ≡ To next) × Holds t c t'
-BodySays t (refused r') r t' = r ≡ Refused r'
+abbrev pub BodySays : Tables → Parse Circuit → Result ℕ Refusal → Tables → Type 0
+BodySays t (got c next) r t' = (r ≡ Ok next) × Holds t c t'
+BodySays t (refused r') r t' = r ≡ Err r'
 
 -- the rows of a table that starts with them
 pub rows-flat : (k : ℕ) (rows : List (List ℕ)) (more : List ℕ) → Long k rows → rows_of k (length rows) (flat rows ++ more) ≡ rows

@@ -14,3 +14,4 @@ pub mod Walks
 pub mod Explaining
 pub mod Fillings
 pub mod Rewiring
+pub mod Pairs

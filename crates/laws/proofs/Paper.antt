@@ -1,8 +1,8 @@
 -- "Plans on both sides of the line": the examples of every line with a mark P, from the paper's bytes to the paper's bytes, by both reports.
 use Prim.Native.Nat.{ℕ}
 use mathlib.Core.Path.{◌≡◌, refl}
-use mathlib.Core.Option.{some}
 use mathlib.Core.List.{List, [], ◌∷◌, ◌++◌, map}
+use Rattle.std.specs.Prelude.{Some}
 use Rattle.plan.specs.declared.Version.{Version}
 use Rattle.plan.specs.declared.Version.TheVariants.{V2007, V19}
 use Rattle.plan.specs.Refusals.{got, ◌then◌}
@@ -82,5 +82,5 @@ examples-hold V2007 = refl
 examples-hold V19 = refl
 
 -- the tracer on the toggle circuit: its whole output
-pub tracer-lines : tracer (some toggle) (some (bytes_of "11\n11\nx1\n10\n")) ≡ bytes_of "0 11 01 1\n1 11 10 0\n0 x1 01 x\nx 10 xx 0\n"
+pub tracer-lines : tracer (Some toggle) (Some (bytes_of "11\n11\nx1\n10\n")) ≡ bytes_of "0 11 01 1\n1 11 10 0\n0 x1 01 x\nx 10 xx 0\n"
 tracer-lines = refl

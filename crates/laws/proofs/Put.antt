@@ -1,8 +1,8 @@
 -- Bytes put into a buffer: what stands there then, one byte more at either end, and what a writer answers with room and without.
 use Prim.Native.Nat.{ℕ, suc, ◌+◌, ◌-◌, ◌^◌, ◌<◌, ◌≤◌, min}
 use mathlib.Core.Path.{◌≡◌, refl, sym, ap, ap₂, ◌∙◌}
-use mathlib.Core.Option.{Option, none, some}
 use mathlib.Core.List.{List, [], ◌∷◌, ◌++◌, append_assoc}
+use Rattle.std.specs.Prelude.{Ok, Err, Option, Some, None}
 use native.Mathlib.Nat.{add-zero}
 use native.Mathlib.Numerals.{add-one}
 use native.Mathlib.Omega.{arith}
@@ -10,7 +10,6 @@ use borrow.Author.Tests.{le-leb, lt-leb}
 use lib.ListN.{length, get_or, take, drop, set, length-append, length-drop, take-append-drop}
 use lib.Seq.{length-take-le, take-suc, take_at, append_snoc, set_at, set_split, drop_at, drop-append-add, drop-drop}
 use Rattle.plan.specs.declared.Refusal.TheVariants.{ShortBuffer}
-use Rattle.plan.specs.declared.Written.TheVariants.{Bytes, Refused}
 use Rattle.plan.specs.Given.{lacking_room}
 use Rattle.plan.specs.Outcome.{WriteExit, put, put_by, put_bytes}
 
@@ -84,13 +83,13 @@ put_first l x = take_at x (drop (0 + length x) l) (length x) refl
 -- the writer's answers
 module _ (l : List ℕ) (at : ℕ) (w : List ℕ) where
   pub with-room : (k : ℕ) (x : List ℕ) → at + length w ≤ length l → k ≡ length w → x ≡ put l at w
-      → ◌≡◌ {A = WriteExit} (record { answer = Bytes k; out = x }) (put_bytes l at w)
+      → ◌≡◌ {A = WriteExit} (record { answer = Ok k; out = x }) (put_bytes l at w)
   with-room k x h e p =
-      let enough : none ≡ lacking_room l at w = sym (rw (le-leb (at + length w) (length l) h)) in
-      ap₂ (λ (k : ℕ) (x : List ℕ). record { answer = Bytes k; out = x }) e p ∙ ap (λ (o : Option ℕ). put_by o l at w) enough
+      let enough : None ≡ lacking_room l at w = sym (rw (le-leb (at + length w) (length l) h)) in
+      ap₂ (λ (k : ℕ) (x : List ℕ). record { answer = Ok k; out = x }) e p ∙ ap (λ (o : Option ℕ). put_by o l at w) enough
 
   pub without-room : (k : ℕ) → length l < at + length w → k ≡ min (at + length w) (2 ^ 64 - 1)
-      → ◌≡◌ {A = WriteExit} (record { answer = Refused (ShortBuffer k); out = l }) (put_bytes l at w)
+      → ◌≡◌ {A = WriteExit} (record { answer = Err (ShortBuffer k); out = l }) (put_bytes l at w)
   without-room k h e =
-      let short : some k ≡ lacking_room l at w = ap some e ∙ sym (rw (lt-leb (at + length w) (length l) h)) in
+      let short : Some k ≡ lacking_room l at w = ap Some e ∙ sym (rw (lt-leb (at + length w) (length l) h)) in
       ap (λ (o : Option ℕ). put_by o l at w) short

@@ -3,14 +3,10 @@
 use Prim.Native.Nat.{ℕ, suc, ◌+◌}
 use mathlib.Core.Path.{◌≡◌, ap}
 use mathlib.Core.List.{List, [], ◌∷◌, ◌++◌}
+use Rattle.std.specs.Prelude.{Result, Ok, Err}
 use native.Mathlib.Omega.{arith}
 use lib.ListN.{length, replicate}
 use Rattle.plan.specs.declared.Refusal.{Refusal}
-use Rattle.plan.specs.declared.Loaded.TheVariants as loaded
-use Rattle.plan.specs.declared.Written.{Written}
-use Rattle.plan.specs.declared.Written.TheVariants as written
-use Rattle.plan.specs.declared.Made.TheVariants as made
-use Rattle.plan.specs.declared.Stepped.TheVariants as stepped
 use Rattle.plan.specs.Circuit.{Circuit, Tables, counts_of, holding, all_cleared, cleared}
 use Rattle.plan.specs.Given.{Given, given_circuit}
 use Rattle.plan.specs.Text.{text_of}
@@ -42,7 +38,7 @@ flip = record {
 
 -- a reader that refuses all, whatever the refusal
 abbrev refuses-all : Refusal → ReadEntry → LoadExit
-refuses-all r e = record { answer = loaded.Refused r; tables = all_cleared e.tables; scratch = cleared e.scratch }
+refuses-all r e = record { answer = Err r; tables = all_cleared e.tables; scratch = cleared e.scratch }
 
 abbrev pub empty-file : ReadEntry
 empty-file = record { file = bytes_of "aag 0 0 0 0 0\n"; tables = lent; scratch = words 9 }
@@ -55,7 +51,7 @@ abbrev nothing : Circuit
 nothing = record { M = 0; inputs = []; latches = []; resets = []; outputs = []; bads = []; constraints = []; gates = [] }
 
 abbrev made_of : Circuit → MakeEntry → MakeExit
-made_of c e = record { answer = made.Accepted (counts_of c); written = holding e.written c; scratch = cleared e.circuit.scratch }
+made_of c e = record { answer = Ok (counts_of c); written = holding e.written c; scratch = cleared e.circuit.scratch }
 
 abbrev pub making : MakeEntry
 making = record { circuit = halves; written = lent }
@@ -77,7 +73,7 @@ repeating-is-wrong e = let p = ap (λ (x : StepExit). x.outputs) e in let z : �
 -- a stepper that always says x
 abbrev always-x : StepEntry → StepExit
 always-x e = record {
-  answer = stepped.Done;
+  answer = Ok tt;
   scratch = cleared e.circuit.scratch;
   state = replicate (length e.state) 120;
   outputs = replicate (length e.outputs) 120;
@@ -93,9 +89,9 @@ writing = record { circuit = halves; tail = []; out = words 40 }
 abbrev invents : ℕ → FileEntry → FileExit
 invents more e =
     let bytes = text_of (given_circuit e.circuit) ++ e.tail in
-    record { answer = written.Bytes (length bytes + more); scratch = cleared e.circuit.scratch; out = put e.out 0 bytes }
+    record { answer = Ok (length bytes + more); scratch = cleared e.circuit.scratch; out = put e.out 0 bytes }
 
-bytes_same : (m n : ℕ) → ◌≡◌ {A = Written} (written.Bytes m) (written.Bytes n) → m ≡ n
+bytes_same : (m n : ℕ) → ◌≡◌ {A = Result ℕ Refusal} (Ok m) (Ok n) → m ≡ n
 bytes_same m n e = cc
 
 pub inventing-is-wrong : (more : ℕ) → ¬ Says write_text writing (invents (suc more) writing)

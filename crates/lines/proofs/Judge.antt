@@ -2,8 +2,8 @@
 use Prim.Native.Nat.{ℕ, suc, zero, ◌+◌, ◌*◌, ◌≤◌}
 use mathlib.Core.Path.{◌≡◌, refl, sym, ap, ap₂}
 use mathlib.Core.Bool.{Bool, true, false, cond}
-use mathlib.Core.Option.{Option, none, some}
 use mathlib.Core.List.{List, [], ◌∷◌, ◌++◌, append-nil, map}
+use Rattle.std.specs.Prelude.{Option, Some, None}
 use native.Mathlib.Omega.{arith}
 use borrow.Author.Tests.{leb-true}
 use lib.Dec.{eqb, leb}
@@ -26,10 +26,10 @@ use Rattle.lines.specs.Rows.{row}
 abbrev pub judged : List ℕ → Option ℕ → Bool → ℕ → Parse (List Placed) → Parse (List ℕ)
 judged ls o d m p = p then λ xs next. unless (or_else o (outside d m xs)) OutOfRange (got (ls ++ values xs) next)
 
-later : (o : Option ℕ) (t : Bool) (place : ℕ) (b : Option ℕ) → or_else o (cond t b (some place)) ≡ or_else (or_else o (cond t none (some place))) b
-later none true place b = refl
-later none false place b = refl
-later (some p) t place b = refl
+later : (o : Option ℕ) (t : Bool) (place : ℕ) (b : Option ℕ) → or_else o (cond t b (Some place)) ≡ or_else (or_else o (cond t None (Some place))) b
+later None true place b = refl
+later None false place b = refl
+later (Some p) t place b = refl
 
 module _ (file : List ℕ) (d : Bool) (m : ℕ) (ls : List ℕ) (o : Option ℕ) (l pos : ℕ) where
   pub judge-wrong : (r : Refusal) → number file pos ≡ refused r → judged ls o d m (numbers file (suc l) (suc l) pos) ≡ refused r
@@ -41,12 +41,12 @@ module _ (file : List ℕ) (d : Bool) (m : ℕ) (ls : List ℕ) (o : Option ℕ)
 
     pub judge-turn : eqb (get_or file next 0) (end_of l) ≡ true
         → judged ls o d m (numbers file (suc l) (suc l) pos)
-        ≡ judged (ls ++ (v ∷ [])) (or_else o (cond (in_range d m v) none (some pos))) false m (numbers file l l (next + 1))
+        ≡ judged (ls ++ (v ∷ [])) (or_else o (cond (in_range d m v) None (Some pos))) false m (numbers file l l (next + 1))
     judge-turn h = rw (numbers-exactly file l pos, e, h) (go (numbers file l l (next + 1)))
       where
         go : (p : Parse (List Placed))
             → judged ls o d m (p then λ ns last. got (record { value = v; place = pos } ∷ ns) last)
-            ≡ judged (ls ++ (v ∷ [])) (or_else o (cond (in_range d m v) none (some pos))) false m p
+            ≡ judged (ls ++ (v ∷ [])) (or_else o (cond (in_range d m v) None (Some pos))) false m p
         go (got xs last) =
             ap₂ (λ (x : Option ℕ) (y : List ℕ). unless x OutOfRange (got y last)) (later o (in_range d m v) pos (outside false m xs))
             (sym (append_snoc ls v (values xs)))
@@ -54,8 +54,8 @@ module _ (file : List ℕ) (d : Bool) (m : ℕ) (ls : List ℕ) (o : Option ℕ)
 
 pub judge-done : (file : List ℕ) (d : Bool) (m : ℕ) (ls : List ℕ) (o : Option ℕ) (pos : ℕ)
     → judged ls o d m (numbers file zero zero pos) ≡ unless o OutOfRange (got ls pos)
-judge-done file d m ls none pos = ap (λ (x : List ℕ). got x pos) (append-nil ls)
-judge-done file d m ls (some place) pos = refl
+judge-done file d m ls None pos = ap (λ (x : List ℕ). got x pos) (append-nil ls)
+judge-done file d m ls (Some place) pos = refl
 
 range_small : (d : Bool) (m v : ℕ) → m ≤ most → in_range d m v ≡ true → cut v ≡ v
 range_small true m v h e =

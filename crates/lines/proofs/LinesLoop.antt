@@ -3,13 +3,13 @@ use Prim.Native.Nat.{ℕ, suc, zero, ◌+◌, ◌*◌, ◌≤◌, ◌<◌}
 use mathlib.Core.Path.{◌≡◌, refl, sym, ap, ap₂, ◌∙◌, subst}
 use mathlib.Core.Bool.{Bool, true, false, cond, ◌&&◌}
 use mathlib.Core.List.{List, [], ◌∷◌, ◌++◌, append-nil, append_assoc}
+use Rattle.std.specs.Prelude.{Ok, Err}
 use native.Mathlib.Omega.{arith}
 use native.Mathlib.Nat.{add-zero, zero-add, zero-mul, suc-mul, mul-le-mul_right}
 use lib.ListN.{length, get_or, length-append}
 use lib.Seq.{get_or-drop}
 use Rattle.plan.specs.declared.Refusal.{Refusal}
 use Rattle.plan.specs.declared.Refusal.TheVariants.{DefinedTwice}
-use Rattle.plan.specs.declared.Passed.TheVariants.{To, Refused}
 use Rattle.plan.specs.Literals.{var_of}
 use Rattle.plan.specs.Refusals.{Parse, got, refused}
 use Rattle.plan.specs.Circuit.{literal_of, has, heads, flat}
@@ -26,11 +26,11 @@ use Rattle.lines.proofs.Marks.{marks-less}
 use Rattle.lines.proofs.OneLine.{line_row, line_refused, row-long, row-var}
 
 -- the answer of a line's numbers and ranges
-pub passed_to : (p : Parse (List ℕ)) (next : ℕ) → To next ≡ passed_by p → (ls : List ℕ) × (p ≡ got ls next)
+pub passed_to : (p : Parse (List ℕ)) (next : ℕ) → Ok next ≡ passed_by p → (ls : List ℕ) × (p ≡ got ls next)
 passed_to (got ls n) next e = (ls, ap (got ls) (cc))
 passed_to (refused r) next e = let z : ◌≡◌ {A = ℕ} 0 1 = cc in absurd (omega arith)
 
-pub passed-refused : (p : Parse (List ℕ)) (r : Refusal) → Refused r ≡ passed_by p → p ≡ refused r
+pub passed-refused : (p : Parse (List ℕ)) (r : Refusal) → Err r ≡ passed_by p → p ≡ refused r
 passed-refused (got ls n) r e = let z : ◌≡◌ {A = ℕ} 0 1 = cc in absurd (omega arith)
 passed-refused (refused q) r e = let same : q ≡ r = cc in ap refused same
 
@@ -94,12 +94,12 @@ module _ {file : List ℕ} {k : ℕ} {d : Bool} {m n at : ℕ} {t₀ marks₀ ta
   turned {seen} b h = b.whole ∙ ap (λ (x : ℕ). on_rows b.rows (lines file k d m x (seen ++ heads b.rows) pos)) (rest h b).1
 
   says-refused : (seen : List ℕ) (r : Refusal) (t' marks' : List ℕ) → lines file k d m n seen at ≡ refused r
-      → LinesSay d m seen t₀ (lines file k d m n seen at) (Refused r) t' marks'
+      → LinesSay d m seen t₀ (lines file k d m n seen at) (Err r) t' marks'
   says-refused seen r t' marks' e =
-      subst (λ (p : Parse (List (List ℕ))). LinesSay d m seen t₀ p (Refused r) t' marks') (sym e) refl
+      subst (λ (p : Parse (List (List ℕ))). LinesSay d m seen t₀ p (Err r) t' marks') (sym e) refl
 
-  pub stops : (h : i < n) (r : Refusal) (t' marks' : List ℕ) → Refused r ≡ passed_by (row file k d m pos)
-      → (seen : List ℕ) → Agrees m seen marks₀ → LinesSay d m seen t₀ (lines file k d m n seen at) (Refused r) t' marks'
+  pub stops : (h : i < n) (r : Refusal) (t' marks' : List ℕ) → Err r ≡ passed_by (row file k d m pos)
+      → (seen : List ℕ) → Agrees m seen marks₀ → LinesSay d m seen t₀ (lines file k d m n seen at) (Err r) t' marks'
   stops h r t' marks' e seen a =
       let b = s.before seen a in
       says-refused seen r t' marks' (turned b h
@@ -124,7 +124,7 @@ module _ {file : List ℕ} {k : ℕ} {d : Bool} {m n at : ℕ} {t₀ marks₀ ta
         ∙ ap (λ (x : Bool). cond x (refused (DefinedTwice pos)) (got ls next)) (sym (tells seen rows a) ∙ q)
 
     pub twice-told : (t' marks' : List ℕ) → marked d (var_of (literal_of ls)) marks ≡ true
-        → (seen : List ℕ) → Agrees m seen marks₀ → LinesSay d m seen t₀ (lines file k d m n seen at) (Refused (DefinedTwice pos)) t' marks'
+        → (seen : List ℕ) → Agrees m seen marks₀ → LinesSay d m seen t₀ (lines file k d m n seen at) (Err (DefinedTwice pos)) t' marks'
     twice-told t' marks' q seen a =
         let b = s.before seen a in
         says-refused seen (DefinedTwice pos) t' marks' (turned b h
@@ -174,11 +174,11 @@ module _ {file : List ℕ} {k : ℕ} {d : Bool} {m n at : ℕ} {t₀ marks₀ ta
         one_more : (i + 1) * k ≡ suc i * k
         one_more = let p : i + 1 ≡ suc i = omega arith in ap (λ (x : ℕ). x * k) p
 
-  pub ends-here : n ≤ i → (seen : List ℕ) → Agrees m seen marks₀ → LinesSay d m seen t₀ (lines file k d m n seen at) (To pos) table marks
+  pub ends-here : n ≤ i → (seen : List ℕ) → Agrees m seen marks₀ → LinesSay d m seen t₀ (lines file k d m n seen at) (Ok pos) table marks
   ends-here over seen a =
       let b = s.before seen a in
       let none : b.left ≡ zero = omega (arith, b.sum) in
-      subst (λ (p : Parse (List (List ℕ))). LinesSay d m seen t₀ p (To pos) table marks)
+      subst (λ (p : Parse (List (List ℕ))). LinesSay d m seen t₀ p (Ok pos) table marks)
       (sym (b.whole ∙ ap (λ (x : ℕ). on_rows b.rows (lines file k d m x (seen ++ heads b.rows) pos)) none
       ∙ lines-done file k d m b.rows (seen ++ heads b.rows) pos))
       (refl, b.held, b.agrees)

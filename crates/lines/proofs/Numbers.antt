@@ -3,6 +3,7 @@ use Prim.Native.Nat.{ℕ, suc, zero, ◌+◌, ◌-◌, ◌≤◌, ◌<◌}
 use mathlib.Core.Path.{◌≡◌, refl, sym, ap, ap₂, ◌∙◌, subst}
 use mathlib.Core.Bool.{Bool, true, false, cond, ◌&&◌}
 use mathlib.Core.List.{List, [], ◌∷◌, ◌++◌, map, map-append}
+use Rattle.std.specs.Prelude.{Ok, Err}
 use native.Mathlib.Omega.{arith}
 use native.Mathlib.Nat.{zero-add, sub-zero}
 use native.Mathlib.Decide.{dec_le}
@@ -14,9 +15,6 @@ use Rattle.plan.specs.declared.Class.{Class}
 use Rattle.plan.specs.declared.Class.TheVariants.{Line, Space, Zero, Digit, Print, Rest}
 use Rattle.plan.specs.declared.Refusal.{Refusal}
 use Rattle.plan.specs.declared.Refusal.TheVariants.{WrongByte}
-use Rattle.plan.specs.declared.Number.TheVariants.{Value}
-use Rattle.plan.specs.declared.Number.TheVariants as number
-use Rattle.plan.specs.declared.Passed.TheVariants.{To, Refused}
 use Rattle.plan.specs.Refusals.{Parse, got, refused, ◌then◌}
 use Rattle.plan.specs.Bytes.{class_of, number, Placed, goes_on, less, numbers, values}
 use Rattle.plan.specs.Outcome.{passed_by, put, number_at}
@@ -190,23 +188,23 @@ module _ {file : List ℕ} {must may at base : ℕ} {w₀ p₀ w p : List ℕ} {
 
   -- a refusal, after which nothing is said of the tables
   refuses : (r : Refusal) → numbers file must may at ≡ refused r → (w' p' : List ℕ)
-      → (Refused r ≡ passed_by (numbers file must may at))
+      → (Err r ≡ passed_by (numbers file must may at))
       × ((xs : List Placed) (next : ℕ) → numbers file must may at ≡ got xs next → Numbered xs base w₀ p₀ w' p')
   refuses r e w' p' = (sym (ap passed_by e), λ xs next q. absurd (not-got r xs next (sym e ∙ q)))
 
   accepts : (ys : List Placed) (n : ℕ) → numbers file must may at ≡ got ys n → (w' p' : List ℕ) → Numbered ys base w₀ p₀ w' p'
-      → (To n ≡ passed_by (numbers file must may at))
+      → (Ok n ≡ passed_by (numbers file must may at))
       × ((xs : List Placed) (next : ℕ) → numbers file must may at ≡ got xs next → Numbered xs base w₀ p₀ w' p')
   accepts ys n e w' p' h =
       (sym (ap passed_by e), λ xs next q. subst (λ (z : List Placed). Numbered z base w₀ p₀ w' p') (got-value ys xs n next (sym e ∙ q)) h)
 
-  pub wrong-number : (place : ℕ) → j < may → number.Wrong place ≡ number_at file pos → (w' p' : List ℕ)
-      → (Refused (WrongByte place) ≡ passed_by (numbers file must may at))
+  pub wrong-number : (r : Refusal) → j < may → Err r ≡ number_at file pos → (w' p' : List ℕ)
+      → (Err r ≡ passed_by (numbers file must may at))
       × ((xs : List Placed) (next : ℕ) → numbers file must may at ≡ got xs next → Numbered xs base w₀ p₀ w' p')
-  wrong-number place h e =
-      refuses (WrongByte place) (turned h ∙ wrong file s.xs (must - j) (rest h).0 pos (WrongByte place) (wrong-is file pos place e))
+  wrong-number r h e =
+      refuses r (turned h ∙ wrong file s.xs (must - j) (rest h).0 pos r (wrong-is file pos r e))
 
-  module _ (v next : ℕ) (h : j < may) (e : Value v next ≡ number_at file pos) where
+  module _ (v next : ℕ) (h : j < may) (e : Ok (v, next) ≡ number_at file pos) where
     abbrev value : ℕ
     value = (value-is (number file pos) v next e).0
 
@@ -240,14 +238,14 @@ module _ {file : List ℕ} {must may at base : ℕ} {w₀ p₀ w p : List ℕ} {
         }
 
     pub wrong-end : going (ltb (j + 1) must) (ltb (j + 1) may) (get_or file next 0) ≡ Wrong → (w' p' : List ℕ)
-        → (Refused (WrongByte next) ≡ passed_by (numbers file must may at))
+        → (Err (WrongByte next) ≡ passed_by (numbers file must may at))
         × ((xs : List Placed) (n : ℕ) → numbers file must may at ≡ got xs n → Numbered xs base w₀ p₀ w' p')
     wrong-end q =
         refuses (WrongByte next) (turned h
         ∙ cut_off file s.xs (must - j) (rest h).0 pos value next (value-is (number file pos) v next e).1 (WrongByte next) (then-goes Wrong q))
 
     pub stops : going (ltb (j + 1) must) (ltb (j + 1) may) (get_or file next 0) ≡ Stop
-        → (To (next + 1) ≡ passed_by (numbers file must may at))
+        → (Ok (next + 1) ≡ passed_by (numbers file must may at))
         × ((xs : List Placed) (n : ℕ) → numbers file must may at ≡ got xs n
         → Numbered xs base w₀ p₀ (set w (base + j) v) (set p (base + j) pos))
     stops q =

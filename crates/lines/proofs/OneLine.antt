@@ -2,8 +2,8 @@
 use Prim.Native.Nat.{ℕ, suc, zero, ◌≤◌, ◌<◌}
 use mathlib.Core.Path.{◌≡◌, refl, sym, ap, ap₂, ◌∙◌}
 use mathlib.Core.Bool.{Bool, true, false, cond, ◌&&◌}
-use mathlib.Core.Option.{Option, none, some}
 use mathlib.Core.List.{List, [], ◌∷◌}
+use Rattle.std.specs.Prelude.{Option, Some, None}
 use native.Mathlib.Omega.{arith}
 use lib.ListN.{length}
 use Rattle.plan.specs.declared.Refusal.{Refusal}
@@ -33,7 +33,7 @@ judge-twice : (d : Bool) (seen : List ℕ) (v at : ℕ) (ys : List Placed) (p : 
 judge-twice false seen v at ys p = refl
 judge-twice true seen v at ys p = go (has (var_of v) seen)
   where
-    go : (t : Bool) → unless (cond t (some at) none) DefinedTwice p ≡ cond t (refused (DefinedTwice at)) p
+    go : (t : Bool) → unless (cond t (Some at) None) DefinedTwice p ≡ cond t (refused (DefinedTwice at)) p
     go true = refl
     go false = refl
 
@@ -66,8 +66,8 @@ module _ (file : List ℕ) (d : Bool) (m : ℕ) (seen : List ℕ) where
         where
           by-range : (o : Option ℕ) → unless o OutOfRange (got (values xs) n) ≡ refused r
               → unless o OutOfRange (unless (twice d seen xs) DefinedTwice (got (values xs) n)) ≡ refused r
-          by-range none q = absurd (let z : ◌≡◌ {A = ℕ} 0 1 = cc in omega arith)
-          by-range (some x) q = q
+          by-range None q = absurd (let z : ◌≡◌ {A = ℕ} 0 1 = cc in omega arith)
+          by-range (Some x) q = q
 
 -- the line has k literals, and the variable of the first is at most M
 pub row-long : (file : List ℕ) (k : ℕ) (d : Bool) (m at : ℕ) (ls : List ℕ) (next : ℕ) → row file k d m at ≡ got ls next → length ls ≡ k

@@ -1,4 +1,2 @@
 pub mod Accepted
 pub mod Counted
-pub mod FourBytes
-pub mod Sizes

@@ -1,9 +1,7 @@
 -- What the readers of lines answer, and what their tables then hold.
-use Rattle.std.specs.Prelude.{ℕ, ◌<◌, ◌≡◌, Bool, true, false, not, cond, ◌&&◌, List, [], ◌∷◌, ◌++◌, map, eqb, length}
-use Rattle.std.proofs.Math.Option.{Option, none, some}
+use Rattle.std.specs.Prelude.{ℕ, ◌<◌, ◌≡◌, Bool, true, false, not, cond, ◌&&◌, List, [], ◌∷◌, ◌++◌, map, eqb, length, Result, Ok, Err}
+use Rattle.plan.specs.declared.Refusal.{Refusal}
 use Rattle.plan.specs.declared.Refusal.TheVariants.{OutOfRange}
-use Rattle.plan.specs.declared.Passed.{Passed}
-use Rattle.plan.specs.declared.Passed.TheVariants.{To, Refused}
 use Rattle.plan.specs.Refusals.{Parse, got, refused, ◌then◌, unless}
 use Rattle.plan.specs.Circuit.{heads, flat}
 use Rattle.plan.specs.Bytes.{Placed, numbers, values, outside}
@@ -11,8 +9,6 @@ use Rattle.plan.specs.Outcome.{put}
 use Rattle.laws.proofs.Marks.{Agrees}
 use Rattle.laws.proofs.Reading.Cut.{cut}
 use Rattle.tables.specs.bitmap.Bitmap.{is_on, raised}
-use Rattle.lines.specs.declared.Found.{Found}
-use Rattle.lines.specs.declared.Found.TheVariants.{Nothing, At}
 use Rattle.lines.specs.declared.Going.{Going}
 use Rattle.lines.specs.declared.Going.TheVariants.{Stop, On, Wrong}
 
@@ -24,11 +20,6 @@ end_for false = 32
 -- what a byte after a number says, where more must follow or may
 abbrev pub going : Bool → Bool → ℕ → Going
 going must may b = cond (eqb b 10) (cond must Wrong Stop) (cond (eqb b 32) (cond may On Wrong) Wrong)
-
--- 5: the place found, or none
-abbrev pub found_of : Found → Option ℕ
-found_of Nothing = none
-found_of (At place) = some place
 
 -- one line by 1 and 5
 abbrev pub row : List ℕ → ℕ → Bool → ℕ → ℕ → Parse (List ℕ)
@@ -52,10 +43,10 @@ seen_after false seen rows = seen
 
 -- what n lines leave: the lines in the table from its start, and marks of all that is defined; after a refusal only
 -- the refusal counts
-abbrev pub LinesSay : Bool → ℕ → List ℕ → List ℕ → Parse (List (List ℕ)) → Passed → List ℕ → List ℕ → Type 0
+abbrev pub LinesSay : Bool → ℕ → List ℕ → List ℕ → Parse (List (List ℕ)) → Result ℕ Refusal → List ℕ → List ℕ → Type 0
 LinesSay d m seen table (got rows next) r table' marks' =
-    (r ≡ To next) × (table' ≡ put table 0 (flat rows)) × Agrees m (seen_after d seen rows) marks'
-LinesSay d m seen table (refused r') r table' marks' = r ≡ Refused r'
+    (r ≡ Ok next) × (table' ≡ put table 0 (flat rows)) × Agrees m (seen_after d seen rows) marks'
+LinesSay d m seen table (refused r') r table' marks' = r ≡ Err r'
 
 -- what a line of numbers leaves: the numbers, cut beyond every limit, and their places
 abbrev pub places_of : List Placed → List ℕ

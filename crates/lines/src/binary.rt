@@ -9,7 +9,7 @@ ghost use Rattle.laws.proofs.Held.{BodySays};
 use crate::gates::{read_gates, run_on};
 use crate::latches::{more_resets, read_latches};
 use crate::outputs::read_observed;
-use plan::{Counts, Passed, Version};
+use plan::{Counts, Refusal, Version};
 
 // Reads the body into tables 1 to 4 and 7 to 9. Nothing is defined twice here, so marks of any length and content
 // will do: they are lent only because lines are read by one reader. After a refusal nothing is promised of the
@@ -27,7 +27,7 @@ pub fn read_binary(
     bads: &mut [u32],
     constraints: &mut [u32],
     marks: &mut [u32],
-) -> Passed
+) -> Result<usize, Refusal>
     requires m_le_most { n.M ≤ most }
     requires a_value { n.I + n.L + n.A ≡ n.M }
     requires i_in_bounds { n.I ≤ length inputs.old }
@@ -48,14 +48,8 @@ pub fn read_binary(
     let m = n.M as u32;
     let more = more_resets(version);
     let first = 1 + n.I as u32;
-    let read = read_latches(file, at, false, m, more, first, n.L, latches, resets, marks);
-    let Passed::To(second) = read else {
-        return read;
-    };
-    let read = read_observed(file, second, n, outputs, bads, constraints, marks);
-    let Passed::To(third) = read else {
-        return read;
-    };
+    let second = read_latches(file, at, false, m, more, first, n.L, latches, resets, marks)?;
+    let third = read_observed(file, second, n, outputs, bads, constraints, marks)?;
     run_on(inputs, 1, n.I);
     read_gates(file, third, first + n.L as u32, n.A, gates)
 }

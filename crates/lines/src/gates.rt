@@ -9,96 +9,76 @@ ghost use Rattle.plan.specs.Outcome.{put};
 ghost use Rattle.lines.specs.gates.Gates.{side_by, gate_by, GatesSay};
 
 use codec::differences;
-use plan::{Difference, Lit, Passed, Refusal, Var};
-
-// What one difference leads to: a literal and the position after the difference.
-#[derive(Clone, Copy)]
-enum Side {
-    At(Lit, usize),
-    Refused(Refusal),
-}
-
-// What one gate answers: its three literals and the position after it.
-#[derive(Clone, Copy)]
-enum Gated {
-    Whole(Lit, Lit, Lit, usize),
-    Refused(Refusal),
-}
+use plan::{Lit, Refusal, Var};
 
 // The literal that lies the next difference below another. The first difference of a gate is not 0: lhs > rhs0 ≥ rhs1.
-fn taken(file: &[u8], at: usize, first: bool, from: Lit) -> Side
+fn taken(file: &[u8], at: usize, first: bool, from: Lit) -> Result<(Lit, usize), Refusal>
     ensures { result ≡ side_by (word_of from) (difference file.now first (word_of from) at) }
 {
-    match differences::read_difference(file, at) {
-        Difference::Ends(place) => Side::Refused(Refusal::WrongByte(place)),
-        Difference::Bad(place) => Side::Refused(Refusal::LongDifference(place)),
-        Difference::Value(d, next) => {
-            if first {
-                if d == 0 {
-                    return Side::Refused(Refusal::BadDifference(at));
-                }
-            }
-            if from.word() < d {
-                return Side::Refused(Refusal::BadDifference(at));
-            }
-            Side::At(from.down(d), next)
+    let (d, next) = differences::read_difference(file, at)?;
+    if first {
+        if d == 0 {
+            return Err(Refusal::BadDifference(at));
         }
     }
+    if from.word() < d {
+        return Err(Refusal::BadDifference(at));
+    }
+    Ok((from.down(d), next))
 }
 
 // The gate of a variable: lhs - rhs0, then rhs0 - rhs1, each judged before the next is read.
-fn gate_at(file: &[u8], at: usize, v: u32) -> Gated
+fn gate_at(file: &[u8], at: usize, v: u32) -> Result<(Lit, Lit, Lit, usize), Refusal>
     requires { v < 1048576 }
     ensures { result ≡ gate_by (gate file.now v at) }
 {
     let lhs = Var::at(v).lit();
-    match taken(file, at, true, lhs) {
-        Side::Refused(r) => Gated::Refused(r),
-        Side::At(rhs0, middle) => match taken(file, middle, false, rhs0) {
-            Side::Refused(r) => Gated::Refused(r),
-            Side::At(rhs1, next) => Gated::Whole(lhs, rhs0, rhs1, next),
-        },
-    }
+    let (rhs0, middle) = taken(file, at, true, lhs)?;
+    let (rhs1, next) = taken(file, middle, false, rhs0)?;
+    Ok((lhs, rhs0, rhs1, next))
 }
 
 // n gates of the variables from first on, three words each. After a refusal nothing is promised of the words: the
 // caller clears them.
-fn read_run(file: &[u8], at: usize, first: u32, n: usize, table: &mut [u32]) -> Passed
+fn read_run(
+    file: &[u8],
+    at: usize,
+    first: u32,
+    n: usize,
+    table: &mut [u32],
+) -> Result<usize, Refusal>
     requires n_in_bounds { 3 * n ≤ length table.old }
     requires n_bound { first + n ≤ 1048576 }
     ensures { GatesSay table.old (gates_from file.now n first at) result table.new }
 {
     let mut next = at;
     for i in 0..n {
-        match gate_at(file, next, first + i as u32) {
-            Gated::Refused(r) => {
-                return Passed::Refused(r);
-            }
-            Gated::Whole(lhs, rhs0, rhs1, after) => {
-                let k = 3 * i;
-                table[k] = lhs.word();
-                table[k + 1] = rhs0.word();
-                table[k + 2] = rhs1.word();
-                next = after;
-            }
-        }
+        let (lhs, rhs0, rhs1, after) = gate_at(file, next, first + i as u32)?;
+        let k = 3 * i;
+        table[k] = lhs.word();
+        table[k + 1] = rhs0.word();
+        table[k + 2] = rhs1.word();
+        next = after;
     }
-    Passed::To(next)
+    Ok(next)
 }
 
 // The same in two runs: what is called from two places the compiler keeps as a function of its own. Among the
 // tables of a whole file, where it would be inlined, the loop looks up the file's address and length in memory at
 // every byte, and takes a tenth longer.
-pub fn read_gates(file: &[u8], at: usize, first: u32, n: usize, table: &mut [u32]) -> Passed
+pub fn read_gates(
+    file: &[u8],
+    at: usize,
+    first: u32,
+    n: usize,
+    table: &mut [u32],
+) -> Result<usize, Refusal>
     requires n_in_bounds { 3 * n ≤ length table.old }
     requires n_bound { first + n ≤ 1048576 }
     ensures { GatesSay table.old (gates_from file.now n first at) result table.new }
 {
     let half = n / 2;
-    let read = read_run(file, at, first, half, table);
-    let Passed::To(next) = read else {
-        return read;
-    };
+    let next = read_run(file, at, first, half, table)?;
     read_run(
         file,
         next,

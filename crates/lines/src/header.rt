@@ -1,52 +1,45 @@
 // The header of both forms (AIGER report, section 5), and the desk's question how many words a table needs.
-ghost use Rattle.std.specs.Prelude.{◌≡◌, ◌≤◌};
+ghost use Rattle.std.specs.Prelude.{◌≡◌, ◌≤◌, MatchOption};
 ghost use Rattle.plan.specs.Header.{more_counts, header, words_for, list_of};
 ghost use Rattle.plan.specs.Outcome.{headed_by, form_of};
 ghost use Rattle.laws.proofs.Reading.Headers.{AllMost};
-ghost use Rattle.lines.specs.header.Parts.{magic_end, magic, Above, counted, sums, words_of};
+ghost use Rattle.lines.specs.header.Parts.{magic_end, magic, Above, NoneAbove, counted, sums, words_of};
 
 use crate::{ends, read_numbers};
 use codec::classes::stands;
-use plan::{Counts, Headed, Passed, Refusal, Version};
+use plan::{Counts, Refusal, Version};
 use tables::scratch_to_read;
 
 // No table has this number, or the file no header.
 const NONE: u64 = 18446744073709551615;
 
-// The first four bytes: "aag ", "aig ", or the offset of the first byte that is neither's.
-#[derive(Clone, Copy)]
-enum Magic {
-    Text,
-    Binary,
-    Wrong(usize),
-}
-
 // "g " after the letter of a form.
-fn end_of_magic(file: &[u8], form: Magic) -> Magic
-    ensures { result ≡ magic_end file.now form }
+fn end_of_magic(file: &[u8], binary: bool) -> Result<bool, Refusal>
+    ensures { result ≡ magic_end file.now binary }
 {
     if !stands(file, 2, b'g') {
-        return Magic::Wrong(2);
+        return Err(Refusal::WrongByte(2));
     }
     if !ends(file, 3, false) {
-        return Magic::Wrong(3);
+        return Err(Refusal::WrongByte(3));
     }
-    form
+    Ok(binary)
 }
 
-fn read_magic(file: &[u8]) -> Magic
+// The first four bytes, "aag " or "aig ": whether the form is binary.
+fn read_magic(file: &[u8]) -> Result<bool, Refusal>
     ensures { result ≡ magic file.now }
 {
     if !stands(file, 0, b'a') {
-        return Magic::Wrong(0);
+        return Err(Refusal::WrongByte(0));
     }
     if stands(file, 1, b'a') {
-        return end_of_magic(file, Magic::Text);
+        return end_of_magic(file, false);
     }
     if stands(file, 1, b'i') {
-        return end_of_magic(file, Magic::Binary);
+        return end_of_magic(file, true);
     }
-    Magic::Wrong(1)
+    Err(Refusal::WrongByte(1))
 }
 
 // In text variables may be left over, in binary not (AIGER report, section 11).
@@ -69,67 +62,62 @@ fn more_counts(version: Version) -> usize
     }
 }
 
-// The first of nine counts, from one on, that is above a limit; 9 if none is.
-fn first_above(words: &[u32; 9], from: usize, limit: u32) -> usize
+// The first of nine counts, from one on, that is above a limit.
+fn first_above(words: &[u32; 9], from: usize, limit: u32) -> Option<usize>
     requires { from ≤ 9 }
-    ensures { Above words.now from limit result }
+    ensures { MatchOption result (NoneAbove words.now from limit) (λ i. Above words.now from limit i) }
 {
     for i in from..9 {
         if words[i] > limit {
-            return i;
+            return Some(i);
         }
     }
-    9
+    None
 }
 
 // The counts by the reader of a line of numbers, those left off being 0: by 1, then 2, then 21 for J and F, then 3.
-fn read_counts(version: Version, file: &[u8], binary: bool) -> Headed
+fn read_counts(
+    version: Version,
+    file: &[u8],
+    binary: bool,
+) -> Result<(bool, Counts, usize), Refusal>
     ensures { result ≡ headed_by (counted version file.now (form_of binary)) }
 {
     let mut words: [u32; 9] = [0; 9];
     let mut places: [usize; 9] = [0; 9];
     let more = more_counts(version);
-    match read_numbers(file, 4, 5, 5 + more, &mut words, &mut places, 0) {
-        Passed::Refused(r) => Headed::Refused(r),
-        Passed::To(next) => {
-            let large = first_above(&words, 0, 1048575);
-            if large < 9 {
-                return Headed::Refused(Refusal::LargeCount(places[large]));
-            }
-            let justice = first_above(&words, 7, 0);
-            if justice < 9 {
-                return Headed::Refused(Refusal::Justice(places[justice]));
-            }
-            let m = words[0] as usize;
-            let i = words[1] as usize;
-            let l = words[2] as usize;
-            let a = words[4] as usize;
-            if !adds_up(binary, i + l + a, m) {
-                return Headed::Refused(Refusal::WrongSum(0));
-            }
-            let n = Counts {
-                M: m,
-                I: i,
-                L: l,
-                O: words[3] as usize,
-                A: a,
-                B: words[5] as usize,
-                C: words[6] as usize,
-            };
-            Headed::Accepted(binary, n, next)
-        }
+    let next = read_numbers(file, 4, 5, 5 + more, &mut words, &mut places, 0)?;
+    if let Some(large) = first_above(&words, 0, 1048575) {
+        return Err(Refusal::LargeCount(places[large]));
     }
+    if let Some(justice) = first_above(&words, 7, 0) {
+        return Err(Refusal::Justice(places[justice]));
+    }
+    let m = words[0] as usize;
+    let i = words[1] as usize;
+    let l = words[2] as usize;
+    let a = words[4] as usize;
+    if !adds_up(binary, i + l + a, m) {
+        return Err(Refusal::WrongSum(0));
+    }
+    let n = Counts {
+        M: m,
+        I: i,
+        L: l,
+        O: words[3] as usize,
+        A: a,
+        B: words[5] as usize,
+        C: words[6] as usize,
+    };
+    Ok((binary, n, next))
 }
 
 // The whole line by 1, then 2, then 21, then 3.
-pub fn read_header(version: Version, file: &[u8]) -> Headed
+pub fn read_header(version: Version, file: &[u8]) -> Result<(bool, Counts, usize), Refusal>
     ensures { result ≡ headed_by (header version file.now 0) }
 {
-    match read_magic(file) {
-        Magic::Wrong(place) => Headed::Refused(Refusal::WrongByte(place)),
-        Magic::Text => read_counts(version, file, false),
-        Magic::Binary => read_counts(version, file, true),
-    }
+    let binary = read_magic(file)?;
+    read_counts(version, file, binary)
 }
 
 // How many words a table needs to read a file of a form, each count being at most the limit: 2 words to a latch, 3 to a gate.
@@ -155,7 +143,7 @@ pub fn words(file: &[u8], table: u64) -> u64
     ensures { result ≡ words_for file.now table }
 {
     match read_header(Version::V19, file) {
-        Headed::Refused(_) => NONE,
-        Headed::Accepted(binary, n, _) => words_of(binary, n, table),
+        Err(_) => NONE,
+        Ok((binary, n, _)) => words_of(binary, n, table),
     }
 }

@@ -9,12 +9,12 @@ ghost use Rattle.plan.specs.Bytes.{Placed, numbers, values, latch_lines, reset_a
 ghost use Rattle.plan.specs.Outcome.{passed_by, put};
 ghost use Rattle.laws.proofs.Marks.{Agrees};
 ghost use Rattle.laws.proofs.Reading.Cut.{cut};
-ghost use Rattle.lines.specs.Rows.{found_of, places_of, MarksFor};
+ghost use Rattle.lines.specs.Rows.{places_of, MarksFor};
 ghost use Rattle.lines.specs.latches.Latches.{literals, frame_of, judged, latch_row, latch_in, Own, OwnAll};
 ghost use Rattle.lines.specs.latches.Latches.{LatchesSay};
 
-use crate::{Found, defined_before, read_numbers};
-use plan::{Lit, Passed, Refusal, Var, Version, is_reset};
+use crate::{defined_before, read_numbers};
+use plan::{Lit, Refusal, Var, Version, is_reset};
 
 // How many resets may stand in a latch's line.
 pub fn more_resets(version: Version) -> usize
@@ -36,7 +36,7 @@ fn read_frame(
     v: u32,
     words: &mut [u32],
     places: &mut [usize],
-) -> Passed
+) -> Result<usize, Refusal>
     requires more_bound { more ≤ 1 }
     requires v_bound { v < 1048576 }
     requires words_value { words.old ≡ 0 ∷ 0 ∷ 0 ∷ [] }
@@ -63,19 +63,19 @@ fn judge(
     first: usize,
     second: usize,
     third: usize,
-) -> Found
-    ensures { found_of result ≡ judged m own next reset first second third }
+) -> Option<usize>
+    ensures { result ≡ judged m own next reset first second third }
 {
     if !Lit::at(own).within(true, m) {
-        return Found::At(first);
+        return Some(first);
     }
     if !Lit::at(next).within(false, m) {
-        return Found::At(second);
+        return Some(second);
     }
     if !is_reset(own, reset) {
-        return Found::At(third);
+        return Some(third);
     }
-    Found::Nothing
+    None
 }
 
 // One line of a latch, by 1 over the whole line, then 5 from left to right: two words of the table and one of the
@@ -90,7 +90,7 @@ fn read_latch(
     table: &mut [u32],
     resets: &mut [u32],
     i: usize,
-) -> Passed
+) -> Result<usize, Refusal>
     requires m_le_most { m ≤ most }
     requires more_bound { more ≤ 1 }
     requires own { Own defines m v }
@@ -104,20 +104,16 @@ fn read_latch(
 {
     let mut words: [u32; 3] = [0; 3];
     let mut places: [usize; 3] = [0; 3];
-    match read_frame(file, at, defines, more, v, &mut words, &mut places) {
-        Passed::Refused(r) => Passed::Refused(r),
-        Passed::To(next) => match judge(
-            m, words[0], words[1], words[2], places[0], places[1], places[2],
-        ) {
-            Found::At(place) => Passed::Refused(Refusal::OutOfRange(place)),
-            Found::Nothing => {
-                table[2 * i] = words[0];
-                table[2 * i + 1] = words[1];
-                resets[i] = words[2];
-                Passed::To(next)
-            }
-        },
+    let next = read_frame(file, at, defines, more, v, &mut words, &mut places)?;
+    if let Some(place) = judge(
+        m, words[0], words[1], words[2], places[0], places[1], places[2],
+    ) {
+        return Err(Refusal::OutOfRange(place));
     }
+    table[2 * i] = words[0];
+    table[2 * i + 1] = words[1];
+    resets[i] = words[2];
+    Ok(next)
 }
 
 // n lines of latches into both tables from their starts, each by 1, then 5, then 6. Where lines define none the
@@ -133,7 +129,7 @@ pub fn read_latches(
     table: &mut [u32],
     resets: &mut [u32],
     marks: &mut [u32],
-) -> Passed
+) -> Result<usize, Refusal>
     requires m_le_most { m ≤ most }
     requires more_bound { more ≤ 1 }
     requires own_all { OwnAll defines m first n }
@@ -148,27 +144,12 @@ pub fn read_latches(
 {
     let mut pos = at;
     for i in 0..n {
-        match read_latch(
-            file,
-            pos,
-            defines,
-            m,
-            more,
-            first + i as u32,
-            table,
-            resets,
-            i,
-        ) {
-            Passed::Refused(r) => {
-                return Passed::Refused(r);
-            }
-            Passed::To(next) => {
-                if defined_before(defines, Lit::at(table[2 * i]), marks) {
-                    return Passed::Refused(Refusal::DefinedTwice(pos));
-                }
-                pos = next;
-            }
+        let v = first + i as u32;
+        let next = read_latch(file, pos, defines, m, more, v, table, resets, i)?;
+        if defined_before(defines, Lit::at(table[2 * i]), marks) {
+            return Err(Refusal::DefinedTwice(pos));
         }
+        pos = next;
     }
-    Passed::To(pos)
+    Ok(pos)
 }

@@ -2,19 +2,18 @@
 // numbers of which some may be left off: the one reader of the header's counts and of a latch with its reset.
 #![tactic(auto)]
 
-ghost use Rattle.std.specs.Prelude.{◌≡◌, cond, List, ℕ, ◌+◌, ◌*◌, ◌≤◌, ◌<◌, eqb, length, get_or};
-ghost use Rattle.std.proofs.Math.Option.{none, some};
+ghost use Rattle.std.specs.Prelude.{◌≡◌, cond, List, ℕ, ◌+◌, ◌*◌, ◌≤◌, ◌<◌, eqb, length, get_or, Some, None};
 ghost use Rattle.plan.specs.Literals.{most, var_of, word_of};
 ghost use Rattle.plan.specs.Refusals.{got};
 ghost use Rattle.plan.specs.Bytes.{Placed, numbers, lines};
 ghost use Rattle.plan.specs.Given.{or_else};
 ghost use Rattle.plan.specs.Outcome.{passed_by, put};
 ghost use Rattle.laws.proofs.Marks.{Agrees};
-ghost use Rattle.lines.specs.Rows.{end_for, going, found_of, row, MarksFor, marked, marking, LinesSay, Numbered};
+ghost use Rattle.lines.specs.Rows.{end_for, going, row, MarksFor, marked, marking, LinesSay, Numbered};
 
 use codec::classes::class_of;
 use codec::numbers::read_number;
-use plan::{Class, Lit, Number, Passed, Refusal};
+use plan::{Class, Lit, Refusal};
 use tables::bitmap;
 
 pub mod binary;
@@ -24,13 +23,6 @@ mod latches;
 mod outputs;
 pub mod tail;
 pub mod text;
-
-// The place of the first literal of a line that is out of its range.
-#[derive(Clone, Copy)]
-pub enum Found {
-    Nothing,
-    At(usize),
-}
 
 // What stands after a number of a line: its end, the space before the next number, or neither where it can stand.
 #[derive(Clone, Copy)]
@@ -58,16 +50,16 @@ fn ends(file: &[u8], at: usize, last: bool) -> bool
 }
 
 // What was found first.
-fn noted(bad: Found, fine: bool, at: usize) -> Found
-    ensures { found_of result ≡ or_else (found_of bad) (cond fine none (some at)) }
+fn noted(bad: Option<usize>, fine: bool, at: usize) -> Option<usize>
+    ensures { result ≡ or_else bad (cond fine None (Some at)) }
 {
     match bad {
-        Found::At(place) => Found::At(place),
-        Found::Nothing => {
+        Some(place) => Some(place),
+        None => {
             if fine {
-                return Found::Nothing;
+                return None;
             }
-            Found::At(at)
+            Some(at)
         }
     }
 }
@@ -81,7 +73,7 @@ pub fn read_row(
     m: u32,
     table: &mut [u32],
     base: usize,
-) -> Passed
+) -> Result<usize, Refusal>
     requires m_le_most { m ≤ most }
     requires k_in_bounds { base + k ≤ length table.old }
     ensures value { result ≡ passed_by (row file.now k defines m at) }
@@ -90,26 +82,20 @@ pub fn read_row(
 {
     let mut pos = at;
     let mut d = defines;
-    let mut bad = Found::Nothing;
+    let mut bad = None;
     for j in 0..k {
-        match read_number(file, pos) {
-            Number::Wrong(place) => {
-                return Passed::Refused(Refusal::WrongByte(place));
-            }
-            Number::Value(v, next) => {
-                if !ends(file, next, j + 1 == k) {
-                    return Passed::Refused(Refusal::WrongByte(next));
-                }
-                table[base + j] = v;
-                bad = noted(bad, Lit::at(v).within(d, m), pos);
-                pos = next + 1;
-            }
+        let (v, next) = read_number(file, pos)?;
+        if !ends(file, next, j + 1 == k) {
+            return Err(Refusal::WrongByte(next));
         }
+        table[base + j] = v;
+        bad = noted(bad, Lit::at(v).within(d, m), pos);
+        pos = next + 1;
         d = false;
     }
     match bad {
-        Found::Nothing => Passed::To(pos),
-        Found::At(place) => Passed::Refused(Refusal::OutOfRange(place)),
+        None => Ok(pos),
+        Some(place) => Err(Refusal::OutOfRange(place)),
     }
 }
 
@@ -141,7 +127,7 @@ pub fn read_lines(
     n: usize,
     table: &mut [u32],
     marks: &mut [u32],
-) -> Passed
+) -> Result<usize, Refusal>
     requires m_le_most { m ≤ most }
     requires k_nonzero { 0 < k }
     requires k_in_bounds { n * k ≤ length table.old }
@@ -153,19 +139,13 @@ pub fn read_lines(
     let mut pos = at;
     for i in 0..n {
         let base = i * k;
-        match read_row(file, pos, k, defines, m, table, base) {
-            Passed::Refused(r) => {
-                return Passed::Refused(r);
-            }
-            Passed::To(next) => {
-                if defined_before(defines, Lit::at(table[base]), marks) {
-                    return Passed::Refused(Refusal::DefinedTwice(pos));
-                }
-                pos = next;
-            }
+        let next = read_row(file, pos, k, defines, m, table, base)?;
+        if defined_before(defines, Lit::at(table[base]), marks) {
+            return Err(Refusal::DefinedTwice(pos));
         }
+        pos = next;
     }
-    Passed::To(pos)
+    Ok(pos)
 }
 
 // What stands after a number, where more of them must follow or may.
@@ -204,7 +184,7 @@ pub fn read_numbers(
     words: &mut [u32],
     places: &mut [usize],
     base: usize,
-) -> Passed
+) -> Result<usize, Refusal>
     requires must_le_may { must ≤ may }
     requires may_in_bounds { base + may ≤ length words.old }
     requires may_in_bounds_2 { base + may ≤ length places.old }
@@ -214,26 +194,20 @@ pub fn read_numbers(
 {
     let mut pos = at;
     for j in 0..may {
-        match read_number(file, pos) {
-            Number::Wrong(place) => {
-                return Passed::Refused(Refusal::WrongByte(place));
+        let (v, next) = read_number(file, pos)?;
+        words[base + j] = v;
+        places[base + j] = pos;
+        match goes_on(file, next, j + 1 < must, j + 1 < may) {
+            Going::Wrong => {
+                return Err(Refusal::WrongByte(next));
             }
-            Number::Value(v, next) => {
-                words[base + j] = v;
-                places[base + j] = pos;
-                match goes_on(file, next, j + 1 < must, j + 1 < may) {
-                    Going::Wrong => {
-                        return Passed::Refused(Refusal::WrongByte(next));
-                    }
-                    Going::Stop => {
-                        return Passed::To(next + 1);
-                    }
-                    Going::On => {
-                        pos = next + 1;
-                    }
-                }
+            Going::Stop => {
+                return Ok(next + 1);
+            }
+            Going::On => {
+                pos = next + 1;
             }
         }
     }
-    Passed::To(pos)
+    Ok(pos)
 }

@@ -5,7 +5,7 @@ ghost use Rattle.laws.proofs.Marks.{Agrees};
 ghost use Rattle.lines.specs.outputs.Observed.{observed_at, ObservedSay};
 
 use crate::read_lines;
-use plan::{Counts, Passed};
+use plan::{Counts, Refusal};
 
 // O, B and C lines of one literal, each list into its table. They define nothing, so marks of any length and
 // content will do and stay as they are.
@@ -17,7 +17,7 @@ pub fn read_observed(
     bads: &mut [u32],
     constraints: &mut [u32],
     marks: &mut [u32],
-) -> Passed
+) -> Result<usize, Refusal>
     requires m_le_most { n.M ≤ most }
     requires o_in_bounds { n.O ≤ length outputs.old }
     requires b_in_bounds { n.B ≤ length bads.old }
@@ -28,13 +28,7 @@ pub fn read_observed(
         marks.new }
 {
     let m = n.M as u32;
-    let read = read_lines(file, at, 1, false, m, n.O, outputs, marks);
-    let Passed::To(after) = read else {
-        return read;
-    };
-    let read = read_lines(file, after, 1, false, m, n.B, bads, marks);
-    let Passed::To(after) = read else {
-        return read;
-    };
+    let after = read_lines(file, at, 1, false, m, n.O, outputs, marks)?;
+    let after = read_lines(file, after, 1, false, m, n.B, bads, marks)?;
     read_lines(file, after, 1, false, m, n.C, constraints, marks)
 }

@@ -11,7 +11,7 @@ ghost use Rattle.lines.specs.tail.Marks.{later, symbol_line, entry_of, first_wor
 use crate::ends;
 use codec::classes::{class_of, stands};
 use codec::numbers::read_number;
-use plan::{Checked, Class, Counts, Number, Passed, Refusal, Version};
+use plan::{Class, Counts, Refusal, Version};
 
 // Whether bytes of a class stand in a name.
 fn in_name(c: Class) -> bool
@@ -40,23 +40,19 @@ fn name_end(file: &[u8], at: usize) -> usize
 }
 
 // A symbol line by 1 to its end: its number, and the position after the line.
-fn read_line(file: &[u8], at: usize) -> Number
+fn read_line(file: &[u8], at: usize) -> Result<(u32, usize), Refusal>
     requires { at < length file.now }
     ensures { result ≡ cut_number (entry_of (symbol_line file.now at)) }
 {
-    match read_number(file, at + 1) {
-        Number::Wrong(place) => Number::Wrong(place),
-        Number::Value(entry, space) => {
-            if !ends(file, space, false) {
-                return Number::Wrong(space);
-            }
-            let end = name_end(file, space + 1);
-            if !ends(file, end, true) {
-                return Number::Wrong(end);
-            }
-            Number::Value(entry, end + 1)
-        }
+    let (entry, space) = read_number(file, at + 1)?;
+    if !ends(file, space, false) {
+        return Err(Refusal::WrongByte(space));
     }
+    let end = name_end(file, space + 1);
+    if !ends(file, end, true) {
+        return Err(Refusal::WrongByte(end));
+    }
+    Ok((entry, end + 1))
 }
 
 // Whether a version has what came after 2007.
@@ -126,51 +122,52 @@ fn first_word(n: Counts, b: u8) -> usize
 }
 
 // One symbol line by 1, then 10. An entry's word is 0 until its symbol comes, so that no list of symbols is searched.
-fn read_symbol(file: &[u8], at: usize, n: Counts, marks: &mut [u32]) -> Passed
+fn read_symbol(file: &[u8], at: usize, n: Counts, marks: &mut [u32]) -> Result<usize, Refusal>
     requires at_in_bounds { at < length file.now }
     requires holds { Holds n marks.old }
     ensures value { result ≡ passed_by (marked_symbol file.now n marks.old at) }
     ensures marks_after { marks.new ≡ marks_after n marks.old (marked_symbol file.now n marks.old at) }
 {
     let kind = file[at];
-    match read_line(file, at) {
-        Number::Wrong(place) => Passed::Refused(Refusal::WrongByte(place)),
-        Number::Value(entry, next) => {
-            let e = entry as usize;
-            let bad = Passed::Refused(Refusal::BadSymbol(at));
-            if count_of(n, kind) <= e {
-                return bad;
-            }
-            let w = first_word(n, kind) + e;
-            if marks[w] != 0 {
-                return bad;
-            }
-            marks[w] = 1;
-            Passed::To(next)
-        }
+    let (entry, next) = read_line(file, at)?;
+    let e = entry as usize;
+    if count_of(n, kind) <= e {
+        return Err(Refusal::BadSymbol(at));
     }
+    let w = first_word(n, kind) + e;
+    if marks[w] != 0 {
+        return Err(Refusal::BadSymbol(at));
+    }
+    marks[w] = 1;
+    Ok(next)
 }
 
 // "c" and a new line, then any bytes, of which the last is a new line.
-fn comment(file: &[u8], at: usize) -> Checked
+fn comment(file: &[u8], at: usize) -> Result<(), Refusal>
     requires { at < length file.now }
     ensures { result ≡ checked_by (refusal_of (commentAt file.now at)) }
 {
     if !stands(file, at, 99) {
-        return Checked::Refused(Refusal::WrongByte(at));
+        return Err(Refusal::WrongByte(at));
     }
     if !ends(file, at + 1, true) {
-        return Checked::Refused(Refusal::WrongByte(at + 1));
+        return Err(Refusal::WrongByte(at + 1));
     }
     if !ends(file, file.len() - 1, true) {
-        return Checked::Refused(Refusal::WrongByte(file.len()));
+        return Err(Refusal::WrongByte(file.len()));
     }
-    Checked::Good
+    Ok(())
 }
 
 // The tail that starts at a position: symbol lines in order, then the end of the file or a comment. `marks` has a word for each entry of the
 // five lists, all 0; what it holds after is left open.
-pub fn check(version: Version, file: &[u8], at: usize, n: Counts, marks: &mut [u32]) -> Checked
+pub fn check(
+    version: Version,
+    file: &[u8],
+    at: usize,
+    n: Counts,
+    marks: &mut [u32],
+) -> Result<(), Refusal>
     requires holds { Holds n marks.old }
     requires blank { Blank n marks.old }
     ensures { result ≡ checked_by (refusal_of (tail_at version file.now n at)) }
@@ -180,14 +177,7 @@ pub fn check(version: Version, file: &[u8], at: usize, n: Counts, marks: &mut [u
         if !starts_symbol(version, file, pos) {
             return comment(file, pos);
         }
-        match read_symbol(file, pos, n, marks) {
-            Passed::Refused(r) => {
-                return Checked::Refused(r);
-            }
-            Passed::To(next) => {
-                pos = next;
-            }
-        }
+        pos = read_symbol(file, pos, n, marks)?;
     }
-    Checked::Good
+    Ok(())
 }

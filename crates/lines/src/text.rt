@@ -7,7 +7,7 @@ ghost use Rattle.lines.specs.text.Said.{TextSays};
 use crate::latches::{more_resets, read_latches};
 use crate::outputs::read_observed;
 use crate::read_lines;
-use plan::{Counts, Passed, Version};
+use plan::{Counts, Refusal, Version};
 
 // I lines of one literal, L of two and possibly a reset, O, B and C of one, A of three, each list into its table.
 // Inputs, latches and gates define, and marks carry what is defined from one list to the next. After a refusal
@@ -25,7 +25,7 @@ pub fn read_text(
     bads: &mut [u32],
     constraints: &mut [u32],
     marks: &mut [u32],
-) -> Passed
+) -> Result<usize, Refusal>
     requires m_le_most { n.M ≤ most }
     requires l_le_m { n.L ≤ n.M }
     requires i_in_bounds { n.I ≤ length inputs.old }
@@ -46,18 +46,9 @@ pub fn read_text(
         marks.new }
 {
     let m = n.M as u32;
-    let read = read_lines(file, at, 1, true, m, n.I, inputs, marks);
-    let Passed::To(after) = read else {
-        return read;
-    };
+    let after = read_lines(file, at, 1, true, m, n.I, inputs, marks)?;
     let more = more_resets(version);
-    let read = read_latches(file, after, true, m, more, 0, n.L, latches, resets, marks);
-    let Passed::To(after) = read else {
-        return read;
-    };
-    let read = read_observed(file, after, n, outputs, bads, constraints, marks);
-    let Passed::To(after) = read else {
-        return read;
-    };
+    let after = read_latches(file, after, true, m, more, 0, n.L, latches, resets, marks)?;
+    let after = read_observed(file, after, n, outputs, bads, constraints, marks)?;
     read_lines(file, after, 3, true, m, n.A, gates, marks)
 }

@@ -3,15 +3,14 @@
 use Prim.Native.Nat.{ℕ, ◌-◌}
 use mathlib.Core.Path.{◌≡◌, refl, sym, ap, ◌∙◌, subst}
 use mathlib.Core.Bool.{Bool, true, false}
-use mathlib.Core.Option.{Option, none, some}
 use mathlib.Core.List.{List, ◌++◌}
+use Rattle.std.specs.Prelude.{Err, Option, Some, None}
 use borrow.Rule.Slice.PartMut.{mid_of}
 use lib.Dec.{leb}
 use lib.ListN.{length, drop}
 use Rattle.plan.specs.declared.Version.TheVariants.{V19}
 use Rattle.plan.specs.declared.Refusal.{Refusal}
 use Rattle.plan.specs.declared.Refusal.TheVariants.{ShortBuffer, LongInput, Unreadable}
-use Rattle.plan.specs.declared.Written.TheVariants as written
 use Rattle.plan.specs.Refusals.{Parse, got, refused, ◌then◌, unless}
 use Rattle.plan.specs.Circuit.{Circuit, Tables, lengths_of, all_cleared, cleared}
 use Rattle.plan.specs.Header.{Form, text, binary, Head, header}
@@ -37,8 +36,8 @@ pub told-fitting : (out bytes : List ℕ) → put_bytes out 0 bytes ≡ told_by 
 told-fitting out bytes = go (lacking_room out 0 bytes)
   where
     go : (o : Option ℕ) → put_by o out 0 bytes ≡ told_by out (unless o ShortBuffer (got bytes (length bytes)))
-    go none = refl
-    go (some k) = refl
+    go None = refl
+    go (Some k) = refl
 
 -- text of a binary file is its other form, and binary of a text file
 other-is : (f : Form) (dropped : Bool) (c : Circuit) → bytes_of (is_binary f) false dropped c ≡ other_form f c
@@ -64,7 +63,7 @@ module _ (readable : Bool) (file : List ℕ) (read made : Tables) (scratch out :
 
   -- a refusal
   pub not_made : (reduced dropped : Bool) (r : Refusal) → opened e ≡ refused r
-      → ◌≡◌ {A = WriteExit} (record { answer = written.Refused r; out = out }) (told_by out (made_file reduced dropped w))
+      → ◌≡◌ {A = WriteExit} (record { answer = Err r; out = out }) (told_by out (made_file reduced dropped w))
   not_made reduced dropped r q =
       sym (ap (told_by out) (made_by reduced dropped ∙ ap (λ (p : Parse Circuit). p then next reduced dropped file) q))
 

@@ -3,11 +3,11 @@ use Prim.Native.Nat.{ℕ, ◌≤◌}
 use mathlib.Core.Path.{◌≡◌, ap, ◌∙◌}
 use mathlib.Core.Bool.{true}
 use mathlib.Core.List.{List, [], ◌∷◌, ◌++◌}
+use Rattle.std.specs.Prelude.{Ok}
 use native.Mathlib.Omega.{arith}
 use lib.ListN.{length}
 use Rattle.plan.specs.declared.Counts.{Counts}
 use Rattle.plan.specs.declared.Version.TheVariants.{V19}
-use Rattle.plan.specs.declared.Made.TheVariants as made
 use Rattle.plan.specs.Refusals.{first_of}
 use Rattle.plan.specs.Circuit.{Tables}
 use Rattle.plan.specs.Binary.{binary_order}
@@ -37,7 +37,7 @@ module _ (g : Given) (t : Tables) (tail : List ℕ) (ready : Ready g tail (sizes
   }
 
   -- it stands ready to be freed of unused gates, back in the tables that the circuit stood in
-  pub reduced-ready : (x : MakeExit) → x ≡ reduction (record { circuit = g; written = t }) → (n : Counts) → x.answer ≡ made.Accepted n
+  pub reduced-ready : (x : MakeExit) → x ≡ reduction (record { circuit = g; written = t }) → (n : Counts) → x.answer ≡ Ok n
       → Ready (after n x) tail (sizes_of g.tables)
   reduced-ready x said n a =
       let here = counts-are g tail (sizes_of t) ready in

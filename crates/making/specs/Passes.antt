@@ -1,9 +1,8 @@
 -- What is made of a circuit between reading and writing: converted, then reduced, then without its unused gates, as
 -- far as is wanted.
-use Rattle.std.specs.Prelude.{ℕ, ◌≡◌, Bool, true, false, List, ◌++◌}
+use Rattle.std.specs.Prelude.{ℕ, ◌≡◌, Bool, true, false, List, ◌++◌, Result}
+use Rattle.plan.specs.declared.Refusal.{Refusal}
 use Rattle.plan.specs.declared.Counts.{Counts}
-use Rattle.plan.specs.declared.Headed.{Headed}
-use Rattle.plan.specs.declared.Written.{Written}
 use Rattle.plan.specs.Circuit.{Circuit, seven}
 use Rattle.plan.specs.Text.{text_of}
 use Rattle.plan.specs.Binary.{binary_of, binary_order}
@@ -29,7 +28,7 @@ bytes_of false false dropped c = binary_of (convert c)
 bytes_of false true dropped c = binary_of (lessened dropped (convert c))
 
 -- text is wanted of a binary file that is not reduced
-abbrev pub as_text : Bool → Headed → Bool
+abbrev pub as_text : Bool → Result (Bool × Counts × ℕ) Refusal → Bool
 as_text true h = false
 as_text false h = binary_by h
 
@@ -49,9 +48,9 @@ abbrev pub InOrder : Counts → Parts (Part → Type 0)
 InOrder n i l o a r b c s = binary_order (given_circuit (given_in n i l o a r b c s)) ≡ true
 
 -- the bytes of the circuit and then the tail are put into the buffer, or 11: the buffer before, and after
-abbrev pub Puts : (Circuit → List ℕ) → Counts → Parts (Part → Part → Part → Part → Written → Type 0)
+abbrev pub Puts : (Circuit → List ℕ) → Counts → Parts (Part → Part → Part → Part → Result ℕ Refusal → Type 0)
 Puts bytes n i l o a r b c s tail out out' answer =
     record { answer = answer; out = out' } ≡ put_bytes out 0 (bytes (given_circuit (given_in n i l o a r b c s)) ++ tail)
 
-abbrev pub PutsBinary : (Circuit → Circuit) → Counts → Parts (Part → Part → Part → Part → Written → Type 0)
+abbrev pub PutsBinary : (Circuit → Circuit) → Counts → Parts (Part → Part → Part → Part → Result ℕ Refusal → Type 0)
 PutsBinary made n i l o a r b c s tail out out' answer = Puts (λ d. binary_of (made d)) n i l o a r b c s tail out out' answer

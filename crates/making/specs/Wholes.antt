@@ -1,6 +1,6 @@
 -- What a whole-file call is lent, at entry and at exit, and what is made of a file.
-use Rattle.std.specs.Prelude.{◌≡◌, Bool, true, false, List, ℕ}
-use Rattle.plan.specs.declared.Written.{Written}
+use Rattle.std.specs.Prelude.{◌≡◌, Bool, true, false, List, ℕ, Result}
+use Rattle.plan.specs.declared.Refusal.{Refusal}
 use Rattle.plan.specs.Refusals.{Parse}
 use Rattle.plan.specs.Outcome.{Says}
 use Rattle.plan.specs.Lent.{Slice, MutSlice, MutSeven, after}
@@ -17,7 +17,7 @@ made_file true true = dropped_file
 abbrev pub make_whole : Bool → Bool → WholeEntry → WholeExit
 make_whole reduced dropped e = whole_by e (made_file reduced dropped e)
 
-abbrev pub MakesWhole : (WholeEntry → WholeExit) → Bool → Slice → MutSeven (MutSeven (MutSlice → MutSlice → Written → Type 0))
+abbrev pub MakesWhole : (WholeEntry → WholeExit) → Bool → Slice → MutSeven (MutSeven (MutSlice → MutSlice → Result ℕ Refusal → Type 0))
 MakesWhole f readable file i l o a r b c i' l' o' a' r' b' c' s out answer =
     Says f (to_whole readable file i l o a r b c i' l' o' a' r' b' c' s out.entry.now)
     (record {
@@ -29,7 +29,7 @@ MakesWhole f readable file i l o a r b c i' l' o' a' r' b' c' s out answer =
     })
 
 -- the answer and the buffer, whatever is left in the tables
-abbrev pub TellsFile : (WholeEntry → Parse (List ℕ)) → Bool → Slice → MutSeven (MutSeven (MutSlice → MutSlice → Written → Type 0))
+abbrev pub TellsFile : (WholeEntry → Parse (List ℕ)) → Bool → Slice → MutSeven (MutSeven (MutSlice → MutSlice → Result ℕ Refusal → Type 0))
 TellsFile f readable file i l o a r b c i' l' o' a' r' b' c' s out answer =
     record { answer = answer; out = out.exit.now }
     ≡ told_by out.entry.now (f (to_whole readable file i l o a r b c i' l' o' a' r' b' c' s out.entry.now))

@@ -12,7 +12,7 @@ ghost use Rattle.making.specs.Passes.{as_text};
 ghost use Rattle.making.specs.Wholes.{MakesWhole, TellsFile, made_file, make_whole};
 
 use lines::header::read_header;
-use plan::{Headed, Loaded, Version, Written};
+use plan::{Refusal, Version};
 use tables::{clear, clear_all, lengths};
 use whole::open_file;
 
@@ -26,8 +26,8 @@ fn as_text(reduced: bool, file: &[u8]) -> bool
         return false;
     }
     match read_header(Version::V19, file) {
-        Headed::Accepted(binary, _, _) => binary,
-        Headed::Refused(_) => false,
+        Ok((binary, _, _)) => binary,
+        Err(_) => false,
     }
 }
 
@@ -53,7 +53,7 @@ fn make_file(
     made_constraints: &mut [u32],
     scratch: &mut [u32],
     out: &mut [u8],
-) -> Written
+) -> Result<usize, Refusal>
     ensures { TellsFile (made_file reduced dropped) readable file inputs latches outputs gates resets bads
         constraints made_inputs made_latches made_outputs made_gates made_resets made_bads
         made_constraints scratch out result }
@@ -67,7 +67,7 @@ fn make_file(
         made_bads,
         made_constraints,
     );
-    match open_file(
+    let (n, tail_at) = open_file(
         readable,
         file,
         inputs,
@@ -79,32 +79,30 @@ fn make_file(
         constraints,
         scratch,
         made,
-    ) {
-        Loaded::Refused(r) => Written::Refused(r),
-        Loaded::Accepted(n, tail_at) => passes::write_made(
-            as_text(reduced, file),
-            reduced,
-            dropped,
-            n,
-            inputs,
-            latches,
-            outputs,
-            gates,
-            resets,
-            bads,
-            constraints,
-            made_inputs,
-            made_latches,
-            made_outputs,
-            made_gates,
-            made_resets,
-            made_bads,
-            made_constraints,
-            scratch,
-            &file[tail_at..],
-            out,
-        ),
-    }
+    )?;
+    passes::write_made(
+        as_text(reduced, file),
+        reduced,
+        dropped,
+        n,
+        inputs,
+        latches,
+        outputs,
+        gates,
+        resets,
+        bads,
+        constraints,
+        made_inputs,
+        made_latches,
+        made_outputs,
+        made_gates,
+        made_resets,
+        made_bads,
+        made_constraints,
+        scratch,
+        &file[tail_at..],
+        out,
+    )
 }
 
 // What is wanted of a file, with the same tail: the number of bytes, or a refusal, which changes no byte of `out`.
@@ -130,7 +128,7 @@ fn make_whole(
     made_constraints: &mut [u32],
     scratch: &mut [u32],
     out: &mut [u8],
-) -> Written
+) -> Result<usize, Refusal>
     ensures { MakesWhole (make_whole reduced dropped) readable file inputs latches outputs gates resets bads
         constraints made_inputs made_latches made_outputs made_gates made_resets made_bads
         made_constraints scratch out result }
@@ -191,7 +189,7 @@ pub fn convert_whole(
     made_constraints: &mut [u32],
     scratch: &mut [u32],
     out: &mut [u8],
-) -> Written
+) -> Result<usize, Refusal>
     ensures { MakesWhole convert_whole readable file inputs latches outputs gates resets bads constraints
         made_inputs made_latches made_outputs made_gates made_resets made_bads made_constraints scratch
         out result }
@@ -240,7 +238,7 @@ pub fn reduce_whole(
     made_constraints: &mut [u32],
     scratch: &mut [u32],
     out: &mut [u8],
-) -> Written
+) -> Result<usize, Refusal>
     ensures { MakesWhole reduce_whole readable file inputs latches outputs gates resets bads constraints
         made_inputs made_latches made_outputs made_gates made_resets made_bads made_constraints scratch
         out result }
@@ -289,7 +287,7 @@ pub fn drop_whole(
     made_constraints: &mut [u32],
     scratch: &mut [u32],
     out: &mut [u8],
-) -> Written
+) -> Result<usize, Refusal>
     ensures { MakesWhole drop_whole readable file inputs latches outputs gates resets bads constraints
         made_inputs made_latches made_outputs made_gates made_resets made_bads made_constraints scratch
         out result }

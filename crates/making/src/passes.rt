@@ -3,7 +3,7 @@
 ghost use Rattle.plan.specs.Drop.{drop_unused};
 ghost use Rattle.making.specs.Passes.{StandsReady, InOrder, Puts, PutsBinary, lessened, bytes_of};
 
-use plan::{Counts, Made, Written};
+use plan::{Counts, Refusal};
 use write::{write_binary, write_text};
 
 // Writes a reduced circuit without its unused gates.
@@ -26,7 +26,7 @@ fn write_dropped(
     scratch: &mut [u32],
     tail: &[u8],
     out: &mut [u8],
-) -> Written
+) -> Result<usize, Refusal>
     requires stands_ready { StandsReady n inputs.now latches.now outputs.now gates.now resets.now bads.now
         constraints.now to_inputs.old to_latches.old to_outputs.old to_gates.old to_resets.old to_bads.old
         to_constraints.old scratch.old tail.now }
@@ -35,7 +35,7 @@ fn write_dropped(
     ensures { PutsBinary drop_unused n inputs.now latches.now outputs.now gates.now resets.now bads.now
         constraints.now scratch.old tail.now out.old out.new result }
 {
-    match drop::drop_unused(
+    let m = drop::drop_unused(
         n,
         inputs,
         latches,
@@ -52,22 +52,20 @@ fn write_dropped(
         to_bads,
         to_constraints,
         scratch,
-    ) {
-        Made::Refused(r) => Written::Refused(r),
-        Made::Accepted(m) => write_binary(
-            m,
-            to_inputs,
-            to_latches,
-            to_outputs,
-            to_gates,
-            to_resets,
-            to_bads,
-            to_constraints,
-            scratch,
-            tail,
-            out,
-        ),
-    }
+    )?;
+    write_binary(
+        m,
+        to_inputs,
+        to_latches,
+        to_outputs,
+        to_gates,
+        to_resets,
+        to_bads,
+        to_constraints,
+        scratch,
+        tail,
+        out,
+    )
 }
 
 // Writes a converted circuit reduced, and without its unused gates if they are to be dropped.
@@ -91,7 +89,7 @@ fn write_reduced(
     scratch: &mut [u32],
     tail: &[u8],
     out: &mut [u8],
-) -> Written
+) -> Result<usize, Refusal>
     requires stands_ready { StandsReady n inputs.old latches.old outputs.old gates.old resets.old bads.old
         constraints.old to_inputs.old to_latches.old to_outputs.old to_gates.old to_resets.old to_bads.old
         to_constraints.old scratch.old tail.now }
@@ -100,7 +98,7 @@ fn write_reduced(
     ensures { PutsBinary (lessened dropped) n inputs.old latches.old outputs.old gates.old resets.old bads.old
         constraints.old scratch.old tail.now out.old out.new result }
 {
-    match reduce::reduce(
+    let m = reduce::reduce(
         n,
         inputs,
         latches,
@@ -117,46 +115,42 @@ fn write_reduced(
         to_bads,
         to_constraints,
         scratch,
-    ) {
-        Made::Refused(r) => Written::Refused(r),
-        Made::Accepted(m) => {
-            if dropped {
-                return write_dropped(
-                    m,
-                    to_inputs,
-                    to_latches,
-                    to_outputs,
-                    to_gates,
-                    to_resets,
-                    to_bads,
-                    to_constraints,
-                    inputs,
-                    latches,
-                    outputs,
-                    gates,
-                    resets,
-                    bads,
-                    constraints,
-                    scratch,
-                    tail,
-                    out,
-                );
-            }
-            write_binary(
-                m,
-                to_inputs,
-                to_latches,
-                to_outputs,
-                to_gates,
-                to_resets,
-                to_bads,
-                to_constraints,
-                scratch,
-                tail,
-                out,
-            )
-        }
+    )?;
+    if dropped {
+        return write_dropped(
+            m,
+            to_inputs,
+            to_latches,
+            to_outputs,
+            to_gates,
+            to_resets,
+            to_bads,
+            to_constraints,
+            inputs,
+            latches,
+            outputs,
+            gates,
+            resets,
+            bads,
+            constraints,
+            scratch,
+            tail,
+            out,
+        );
     }
+    write_binary(
+        m,
+        to_inputs,
+        to_latches,
+        to_outputs,
+        to_gates,
+        to_resets,
+        to_bads,
+        to_constraints,
+        scratch,
+        tail,
+        out,
+    )
 }
 
 // Writes a circuit that was read: as text as it is, or as binary converted and as much smaller as is wanted.
@@ -182,7 +176,7 @@ pub fn write_made(
     scratch: &mut [u32],
     tail: &[u8],
     out: &mut [u8],
-) -> Written
+) -> Result<usize, Refusal>
     requires { StandsReady n inputs.old latches.old outputs.old gates.old resets.old bads.old constraints.old
         to_inputs.old to_latches.old to_outputs.old to_gates.old to_resets.old to_bads.old to_constraints.old
         scratch.old tail.now }
@@ -204,7 +198,7 @@ pub fn write_made(
             out,
         );
     }
-    match convert::convert(
+    let m = convert::convert(
         n,
         inputs,
         latches,
@@ -221,45 +215,41 @@ pub fn write_made(
         to_bads,
         to_constraints,
         scratch,
-    ) {
-        Made::Refused(r) => Written::Refused(r),
-        Made::Accepted(m) => {
-            if reduced {
-                return write_reduced(
-                    dropped,
-                    m,
-                    to_inputs,
-                    to_latches,
-                    to_outputs,
-                    to_gates,
-                    to_resets,
-                    to_bads,
-                    to_constraints,
-                    inputs,
-                    latches,
-                    outputs,
-                    gates,
-                    resets,
-                    bads,
-                    constraints,
-                    scratch,
-                    tail,
-                    out,
-                );
-            }
-            write_binary(
-                m,
-                to_inputs,
-                to_latches,
-                to_outputs,
-                to_gates,
-                to_resets,
-                to_bads,
-                to_constraints,
-                scratch,
-                tail,
-                out,
-            )
-        }
+    )?;
+    if reduced {
+        return write_reduced(
+            dropped,
+            m,
+            to_inputs,
+            to_latches,
+            to_outputs,
+            to_gates,
+            to_resets,
+            to_bads,
+            to_constraints,
+            inputs,
+            latches,
+            outputs,
+            gates,
+            resets,
+            bads,
+            constraints,
+            scratch,
+            tail,
+            out,
+        );
     }
+    write_binary(
+        m,
+        to_inputs,
+        to_latches,
+        to_outputs,
+        to_gates,
+        to_resets,
+        to_bads,
+        to_constraints,
+        scratch,
+        tail,
+        out,
+    )
 }

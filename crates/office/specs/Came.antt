@@ -1,30 +1,26 @@
--- Whether an input could be read, and how many bytes of it came; what is printed.
-use Rattle.std.specs.Prelude.{ℕ, Bool, true, false, cond, leb, List, [], length, take, ⊤}
+-- Whether an input could be read, and how many bytes of it came: none are told of one that could not. What is printed.
+use Rattle.std.specs.Prelude.{ℕ, Bool, true, false, cond, leb, List, [], length, take, ⊤, Option, None, Some, Result, Ok, Err}
 use Rattle.plan.specs.declared.Refusal.{Refusal}
-use Rattle.plan.specs.declared.Written.{Written}
-use Rattle.plan.specs.declared.Written.TheVariants as written
 use Rattle.plan.specs.Programs.{refusal_line}
-use Rattle.office.specs.declared.Input.{Input}
-use Rattle.office.specs.declared.Input.TheVariants.{Bytes, Unreadable}
 
-abbrev pub could_be_read : Input → Bool
-could_be_read (Bytes n) = true
-could_be_read Unreadable = false
+abbrev pub could_be_read : Option ℕ → Bool
+could_be_read (Some n) = true
+could_be_read None = false
 
-abbrev pub came : Input → ℕ
-came (Bytes n) = n
-came Unreadable = 0
+abbrev pub came : Option ℕ → ℕ
+came (Some n) = n
+came None = 0
 
 -- what holds of that number, if the input could be read
-abbrev pub IfRead : Input → (ℕ → Type 0) → Type 0
-IfRead (Bytes n) P = P n
-IfRead Unreadable P = ⊤
+abbrev pub IfRead : Option ℕ → (ℕ → Type 0) → Type 0
+IfRead (Some n) P = P n
+IfRead None P = ⊤
 
 -- the line of a refusal. The buffer that it is made in has room for each: a place is below 2 ^ 64, of at most 20 digits
 abbrev pub line_shown : Refusal → List ℕ
 line_shown r = cond (leb (length (refusal_line r)) 64) (refusal_line r) []
 
 -- what is printed: the bytes that were written into a buffer, or the line of the refusal
-abbrev pub shown : Written → List ℕ → List ℕ
-shown (written.Bytes n) out = take n out
-shown (written.Refused r) out = line_shown r
+abbrev pub shown : Result ℕ Refusal → List ℕ → List ℕ
+shown (Ok n) out = take n out
+shown (Err r) out = line_shown r

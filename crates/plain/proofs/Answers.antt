@@ -2,13 +2,12 @@
 use Prim.Native.Nat.{ℕ, ◌≤◌}
 use mathlib.Core.Path.{◌≡◌, refl, sym, ap, ◌∙◌}
 use mathlib.Core.Bool.{Bool, true, false}
-use mathlib.Core.Option.{Option, none, some}
 use mathlib.Core.List.{List}
+use Rattle.std.specs.Prelude.{Err, Option, Some, None}
 use native.Mathlib.Omega.{arith}
 use lib.Dec.{eqb}
 use lib.ListN.{length}
 use Rattle.plan.specs.declared.Refusal.{Refusal}
-use Rattle.plan.specs.declared.Stepped.TheVariants.{Refused}
 use Rattle.plan.specs.Circuit.{cleared}
 use Rattle.plan.specs.Outcome.{StepEntry, StepExit, all_codes, step_stage, stepped_by, step}
 use Rattle.laws.proofs.Reading.Common.{and_right}
@@ -23,14 +22,14 @@ same-engine e h = ap (λ (o : Option Refusal). stepped_by o e) (answer-few e.cir
 
 -- what is left where it is refused
 pub refused-plain : (e : StepEntry) (t : List ℕ) → t ≡ cleared e.circuit.scratch → (r : Refusal)
-    → plain_answer e.circuit (step_stage e) ≡ some r
-    → ◌≡◌ {A = StepExit} (record { answer = Refused r; scratch = t; state = e.state; outputs = e.outputs }) (plain_step e)
+    → plain_answer e.circuit (step_stage e) ≡ Some r
+    → ◌≡◌ {A = StepExit} (record { answer = Err r; scratch = t; state = e.state; outputs = e.outputs }) (plain_step e)
 refused-plain e t blank r q =
-    (λ j. record { answer = Refused r; scratch = blank j; state = e.state; outputs = e.outputs })
+    (λ j. record { answer = Err r; scratch = blank j; state = e.state; outputs = e.outputs })
     ∙ sym (ap (λ (o : Option Refusal). stepped_by o e) q)
 
 -- a state and inputs that are not refused are codes
-none-bad : (s i o : Bool) → first_bad s i o ≡ none → (s ≡ true) × (i ≡ true)
+none-bad : (s i o : Bool) → first_bad s i o ≡ None → (s ≡ true) × (i ≡ true)
 none-bad true true o e = (refl, refl)
 none-bad true false o e = let z : ◌≡◌ {A = ℕ} 0 1 = cc in absurd (omega arith)
 none-bad false i o e = let z : ◌≡◌ {A = ℕ} 0 1 = cc in absurd (omega arith)
@@ -41,7 +40,7 @@ module _ (e : StepEntry) where
       let n = e.circuit.counts in
       first_bad (codes_in e.state n.L) (codes_in e.inputs n.I) (eqb (length e.outputs) n.O)
 
-  pub good-codes : bad ≡ none → (all_codes e.state ≡ true) × (all_codes e.inputs ≡ true)
+  pub good-codes : bad ≡ None → (all_codes e.state ≡ true) × (all_codes e.inputs ≡ true)
   good-codes q =
       let n = e.circuit.counts in
       let p = none-bad (codes_in e.state n.L) (codes_in e.inputs n.I) (eqb (length e.outputs) n.O) q in

@@ -15,7 +15,7 @@ ghost use Rattle.plain.specs.Asked.{variable_in, Teaches, Outs, Nexts, Bytes, ou
 ghost use Rattle.plan.specs.Lent.{Steps};
 
 use judge::judge_in_order;
-use plan::{Checked, Counts, Lit, Refusal, Stepped, Var};
+use plan::{Counts, Lit, Refusal, Var};
 use step::codes::bad_vector;
 use tables::clear;
 
@@ -174,10 +174,10 @@ pub fn step_plain(
     state: &mut [u8],
     ins: &[u8],
     outs: &mut [u8],
-) -> Stepped
+) -> Result<(), Refusal>
     ensures { Steps plain_step n inputs latches outputs gates resets bads constraints scratch state ins outs result }
 {
-    match judge_in_order(
+    judge_in_order(
         n,
         inputs,
         latches,
@@ -187,21 +187,16 @@ pub fn step_plain(
         bads,
         constraints,
         scratch,
-    ) {
-        Checked::Refused(refusal) => Stepped::Refused(refusal),
-        Checked::Good => {
-            if TEACHING < n.A {
-                clear(scratch);
-                return Stepped::Refused(Refusal::ManyGates(n.A));
-            }
-            let bad = bad_vector(n, state, ins, outs.len());
-            if bad != 0 {
-                clear(scratch);
-                return Stepped::Refused(Refusal::BadVector(bad));
-            }
-            plain_vectors(n, latches, outputs, gates, scratch, state, ins, outs);
-            clear(scratch);
-            Stepped::Done
-        }
+    )?;
+    if TEACHING < n.A {
+        clear(scratch);
+        return Err(Refusal::ManyGates(n.A));
     }
+    if let Some(bad) = bad_vector(n, state, ins, outs.len()) {
+        clear(scratch);
+        return Err(Refusal::BadVector(bad));
+    }
+    plain_vectors(n, latches, outputs, gates, scratch, state, ins, outs);
+    clear(scratch);
+    Ok(())
 }

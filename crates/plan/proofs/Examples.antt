@@ -3,13 +3,13 @@
 use Prim.Native.Nat.{ℕ, ◌+◌, ◌-◌, ◌^◌}
 use mathlib.Core.Path.{◌≡◌, refl}
 use mathlib.Core.Bool.{cond}
-use mathlib.Core.Option.{none, some}
 use mathlib.Core.List.{List, [], ◌∷◌, ◌++◌, map}
 use lib.ListN.{drop, replicate}
+use Rattle.std.specs.Prelude.{Ok, Err, Some, None}
+use Rattle.plan.specs.declared.Refusal.TheVariants.{LongDifference}
 use Rattle.plan.specs.declared.Counts.{Counts}
 use Rattle.plan.specs.declared.Version.TheVariants.{V2007, V19}
 use Rattle.plan.specs.declared.Version.{Version}
-use Rattle.plan.specs.declared.Difference.TheVariants.{Value, Bad}
 use Rattle.plan.specs.Refusals.{Parse, got, ◌then◌}
 use Rattle.plan.specs.Circuit.{Circuit, Tables}
 use Rattle.plan.specs.Header.{words_for}
@@ -38,7 +38,7 @@ encodings-hold : map (λ (x : ℕ × List ℕ). groups_of x.0) encodings ≡ map
 encodings-hold = refl
 
 decodings-hold : map (λ (x : ℕ × List ℕ). difference_at x.1 0) encodings
-    ≡ (Value 0 1 ∷ Value 1 1 ∷ Value 127 1 ∷ Value 128 2 ∷ Value 258 2 ∷ Value 16383 2 ∷ Value 16387 3 ∷ Bad 0 ∷ Bad 0 ∷ [])
+    ≡ (Ok (0, 1) ∷ Ok (1, 1) ∷ Ok (127, 1) ∷ Ok (128, 2) ∷ Ok (258, 2) ∷ Ok (16383, 2) ∷ Ok (16387, 3) ∷ Err (LongDifference 0) ∷ Err (LongDifference 0) ∷ [])
 decodings-hold = refl
 
 -- a file: its tail if it is accepted, or the refusal's line
@@ -286,29 +286,29 @@ questions-hold = refl
 abbrev toggle : List ℕ
 toggle = bytes_of "aag 7 2 1 2 4\n2\n4\n6 8\n6\n7\n8 4 10\n10 13 15\n12 2 6\n14 3 7\ni0 enable\nc\nany\n"
 
-tracer-holds : tracer (some toggle) (some (bytes_of "11\n11\nx1\n10\n")) ≡ bytes_of "0 11 01 1\n1 11 10 0\n0 x1 01 x\nx 10 xx 0\n"
+tracer-holds : tracer (Some toggle) (Some (bytes_of "11\n11\nx1\n10\n")) ≡ bytes_of "0 11 01 1\n1 11 10 0\n0 x1 01 x\nx 10 xx 0\n"
 tracer-holds = refl
 
 abbrev programs : List (List ℕ × List ℕ)
 programs =
-    (tracer (some toggle) none, bytes_of "refused 14 at 0\n")
-    ∷ (tracer none none, bytes_of "refused 14 at 0\n")
-    ∷ (tracer (some toggle) (some []), [])
-    ∷ (tracer (some toggle) (some (bytes_of "11\n1")), bytes_of "refused 1 at 4\n")
-    ∷ (tracer (some toggle) (some (bytes_of "11\n1\n")), bytes_of "refused 12 at 2\n")
-    ∷ (tracer (some toggle) (some (bytes_of "11\n12\n")), bytes_of "refused 12 at 2\n")
-    ∷ (tracer (some (bytes_of "aag 0 0 0 0 0\n")) (some (bytes_of "\n\n")), bytes_of "   \n   \n")
-    ∷ (tracer (some (bytes_of "aag 2 1 0 1 1\n2\n5\n4 2 3\n")) (some (bytes_of "x\n0\n")), bytes_of " x x \n 0 1 \n")
-    ∷ (converter (some (converter (some (converter (some toggle))))), converter (some toggle))
-    ∷ (converter (some (bytes_of "aag 5 2 0 1 3\n2\n4\n6\n6 8 2\n8 2 4\n10 2 5\n")), bytes_of "aig 5 2 0 1 3\n8\n" ++ (2 ∷ 2 ∷ 2 ∷ 4 ∷ 5 ∷ 3 ∷ []))
-    ∷ (reducer (some (bytes_of "aag 2 1 0 1 1\n2\n5\n4 2 3\ni0 a\n")), bytes_of "aig 1 1 0 1 0\n1\ni0 a\n")
+    (tracer (Some toggle) None, bytes_of "refused 14 at 0\n")
+    ∷ (tracer None None, bytes_of "refused 14 at 0\n")
+    ∷ (tracer (Some toggle) (Some []), [])
+    ∷ (tracer (Some toggle) (Some (bytes_of "11\n1")), bytes_of "refused 1 at 4\n")
+    ∷ (tracer (Some toggle) (Some (bytes_of "11\n1\n")), bytes_of "refused 12 at 2\n")
+    ∷ (tracer (Some toggle) (Some (bytes_of "11\n12\n")), bytes_of "refused 12 at 2\n")
+    ∷ (tracer (Some (bytes_of "aag 0 0 0 0 0\n")) (Some (bytes_of "\n\n")), bytes_of "   \n   \n")
+    ∷ (tracer (Some (bytes_of "aag 2 1 0 1 1\n2\n5\n4 2 3\n")) (Some (bytes_of "x\n0\n")), bytes_of " x x \n 0 1 \n")
+    ∷ (converter (Some (converter (Some (converter (Some toggle))))), converter (Some toggle))
+    ∷ (converter (Some (bytes_of "aag 5 2 0 1 3\n2\n4\n6\n6 8 2\n8 2 4\n10 2 5\n")), bytes_of "aig 5 2 0 1 3\n8\n" ++ (2 ∷ 2 ∷ 2 ∷ 4 ∷ 5 ∷ 3 ∷ []))
+    ∷ (reducer (Some (bytes_of "aag 2 1 0 1 1\n2\n5\n4 2 3\ni0 a\n")), bytes_of "aig 1 1 0 1 0\n1\ni0 a\n")
     -- the shortest form; resets renamed, and what is observed with them; a start from the resets
-    ∷ (converter (some (bytes_of "aag 1 0 1 0 0 0 0 0 0\n2 3 0\n")), bytes_of "aig 1 0 1 0 0\n3\n")
-    ∷ (converter (some (bytes_of "aag 1 0 0 0 0 1 0 0\n1\n")), bytes_of "aig 0 0 0 0 0 1\n1\n")
-    ∷ (converter (some (bytes_of "aag 3 0 2 1 0 0 1\n6 7 6\n2 2 1\n6\n3\n")), bytes_of "aig 2 0 2 1 0 0 1\n3 2\n4 1\n2\n5\n")
-    ∷ (converter (some (bytes_of "aig 2 0 2 1 0 0 1\n3 2\n4 1\n2\n5\n")), bytes_of "aag 2 0 2 1 0 0 1\n2 3 2\n4 4 1\n2\n5\n")
-    ∷ (reducer (some (bytes_of "aag 2 0 1 0 1 1 1\n2 4 2\n5\n4\n4 2 3\n")), bytes_of "aig 1 0 1 0 0 1 1\n0 2\n1\n0\n")
-    ∷ (tracer (some (bytes_of "aag 2 0 2 1 0 1\n2 3 1\n4 4 4\n2\n4\n")) (some (bytes_of "\n\n")), bytes_of "1x  1 0x\n0x  0 1x\n")
+    ∷ (converter (Some (bytes_of "aag 1 0 1 0 0 0 0 0 0\n2 3 0\n")), bytes_of "aig 1 0 1 0 0\n3\n")
+    ∷ (converter (Some (bytes_of "aag 1 0 0 0 0 1 0 0\n1\n")), bytes_of "aig 0 0 0 0 0 1\n1\n")
+    ∷ (converter (Some (bytes_of "aag 3 0 2 1 0 0 1\n6 7 6\n2 2 1\n6\n3\n")), bytes_of "aig 2 0 2 1 0 0 1\n3 2\n4 1\n2\n5\n")
+    ∷ (converter (Some (bytes_of "aig 2 0 2 1 0 0 1\n3 2\n4 1\n2\n5\n")), bytes_of "aag 2 0 2 1 0 0 1\n2 3 2\n4 4 1\n2\n5\n")
+    ∷ (reducer (Some (bytes_of "aag 2 0 1 0 1 1 1\n2 4 2\n5\n4\n4 2 3\n")), bytes_of "aig 1 0 1 0 0 1 1\n0 2\n1\n0\n")
+    ∷ (tracer (Some (bytes_of "aag 2 0 2 1 0 1\n2 3 1\n4 4 4\n2\n4\n")) (Some (bytes_of "\n\n")), bytes_of "1x  1 0x\n0x  0 1x\n")
     ∷ []
 
 programs-hold : map (λ (x : List ℕ × List ℕ). x.0) programs ≡ map (λ (x : List ℕ × List ℕ). x.1) programs

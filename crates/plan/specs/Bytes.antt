@@ -1,6 +1,5 @@
 -- Text form: the classes of bytes, numbers, lines of literals.
-use Rattle.std.specs.Prelude.{ℕ, suc, zero, ◌+◌, ◌-◌, ◌*◌, ◌/◌, ◌%◌, ◌≤◌, ◌≡◌, Bool, true, false, cond, ◌&&◌, List, [], ◌∷◌, ◌++◌, eqb, leb, ltb, length, get_or, take, drop, replicate}
-use Rattle.std.proofs.Math.Option.{Option, none, some}
+use Rattle.std.specs.Prelude.{ℕ, suc, zero, ◌+◌, ◌-◌, ◌*◌, ◌/◌, ◌%◌, ◌≤◌, ◌≡◌, Bool, true, false, cond, ◌&&◌, List, [], ◌∷◌, ◌++◌, eqb, leb, ltb, length, get_or, take, drop, replicate, Option, Some, None}
 use Rattle.plan.specs.declared.Refusal.TheVariants.{WrongByte, OutOfRange, DefinedTwice}
 use Rattle.plan.specs.declared.Class.{Class}
 use Rattle.plan.specs.declared.Class.TheVariants.{Line, Space, Zero, Digit, Print, Rest}
@@ -100,14 +99,14 @@ values (x ∷ xs) = x.value ∷ values xs
 
 -- 5: the first literal of a line, of which the first defines or not, that is out of its range
 abbrev pub outside : Bool → ℕ → List Placed → Option ℕ
-outside d m [] = none
-outside d m (x ∷ xs) = cond (in_range d m x.value) (outside false m xs) (some x.place)
+outside d m [] = None
+outside d m (x ∷ xs) = cond (in_range d m x.value) (outside false m xs) (Some x.place)
 
 -- 6: a variable that is defined already
 abbrev pub twice : Bool → List ℕ → List Placed → Option ℕ
-twice true seen [] = none
-twice true seen (x ∷ xs) = cond (has (var_of x.value) seen) (some x.place) none
-twice false seen xs = none
+twice true seen [] = None
+twice true seen (x ∷ xs) = cond (has (var_of x.value) seen) (Some x.place) None
+twice false seen xs = None
 
 -- one line of k literals, of which the first defines or not: by 1, then 5 from left to right, then 6
 abbrev pub line : List ℕ → ℕ → Bool → ℕ → List ℕ → ℕ → Parse (List ℕ)
@@ -125,8 +124,8 @@ lines file k d m (suc n) seen at =
 
 -- 5: a reset but 0, 1 and the latch's own literal
 abbrev pub wrong_reset : ℕ → List Placed → Option ℕ
-wrong_reset own [] = none
-wrong_reset own (x ∷ xs) = cond (is_reset own x.value) (wrong_reset own xs) (some x.place)
+wrong_reset own [] = None
+wrong_reset own (x ∷ xs) = cond (is_reset own x.value) (wrong_reset own xs) (Some x.place)
 
 -- a latch's own literal: where its line defines it the first, else that of variable v
 abbrev pub own_of : Bool → ℕ → List ℕ → ℕ

@@ -1,13 +1,10 @@
 -- The old plan cards: records of a two-byte mark and then four-byte numbers, low byte first, of circuits in binary
 -- order.
-use Rattle.std.specs.Prelude.{ℕ, suc, zero, ◌+◌, ◌*◌, ◌/◌, ◌%◌, ◌≡◌, Bool, true, cond, ◌&&◌, List, [], ◌∷◌, ◌++◌, eqb, ltb, length, get_or, drop, replicate}
-use Rattle.std.proofs.Math.Option.{Option, none, some}
+use Rattle.std.specs.Prelude.{ℕ, suc, zero, ◌+◌, ◌*◌, ◌/◌, ◌%◌, ◌≡◌, Bool, true, cond, ◌&&◌, List, [], ◌∷◌, ◌++◌, eqb, ltb, length, get_or, drop, replicate, Result, Ok, Err, Option, Some, None}
 use Rattle.plan.specs.declared.Counts.{Counts}
 use Rattle.plan.specs.declared.Refusal.{Refusal}
 use Rattle.plan.specs.declared.Refusal.TheVariants.{WrongByte, LargeCount, WrongSum, ShortTable, OutOfRange}
 use Rattle.plan.specs.declared.Refusal.TheVariants.{NotInOrder, WrongMark, NotOnCards}
-use Rattle.plan.specs.declared.Written.{Written}
-use Rattle.plan.specs.declared.Written.TheVariants as written
 use Rattle.plan.specs.Literals.{lit_of}
 use Rattle.plan.specs.Refusals.{Parse, got, refused, ◌then◌, unless, stage, first_of}
 use Rattle.plan.specs.Circuit.{Gate, Circuit, Tables, counts_of, lengths_of, words_to_work, against, least_short, nexts}
@@ -106,11 +103,11 @@ card_bytes n = 22 + 6 * n.L + 6 * n.O + 10 * n.A
 
 -- 1: a file ended early, place its length, or continued, place the first extra byte
 abbrev pub wrong_length : ℕ → ℕ → Option ℕ
-wrong_length asked size = cond (ltb size asked) (some size) (cond (ltb asked size) (some asked) none)
+wrong_length asked size = cond (ltb size asked) (Some size) (cond (ltb asked size) (Some asked) None)
 
 abbrev pub bad_length : List ℕ → Option ℕ
 bad_length file =
-    cond (ltb (length file) 22) (some (length file)) (wrong_length (card_bytes (counts_at file)) (length file))
+    cond (ltb (length file) 22) (Some (length file)) (wrong_length (card_bytes (counts_at file)) (length file))
 
 -- where the latches, the outputs and the gates start
 abbrev pub latches_at : ℕ
@@ -124,8 +121,8 @@ gates_at n = 22 + 6 * n.L + 6 * n.O
 
 -- 18: the first of n marks that is wrong, of records of `size` bytes from a position on, where the bytes l stand
 abbrev pub wrong_in : ℕ → ℕ → ℕ → ℕ → List ℕ → Option ℕ
-wrong_in letter size zero at l = none
-wrong_in letter size (suc n) at l = cond (marked letter l) (wrong_in letter size n (at + size) (drop size l)) (some at)
+wrong_in letter size zero at l = None
+wrong_in letter size (suc n) at l = cond (marked letter l) (wrong_in letter size n (at + size) (drop size l)) (Some at)
 
 abbrev pub wrong_marks : List ℕ → Counts → Option ℕ
 wrong_marks file n =
@@ -203,20 +200,20 @@ pub record CardEntry : Type 0 where
   pub out : List ℕ
 
 pub record CardExit : Type 0 where
-  pub answer : Written
+  pub answer : Result ℕ Refusal
   pub tables : Tables
   pub scratch : List ℕ
   pub out : List ℕ
 
 abbrev pub moved_by : CardEntry → Parse (List ℕ) → CardExit
 moved_by e (got bytes n) = record {
-  answer = written.Bytes (length bytes);
+  answer = Ok (length bytes);
   tables = all_cleared e.tables;
   scratch = cleared e.scratch;
   out = put e.out 0 bytes;
 }
 moved_by e (refused r) = record {
-  answer = written.Refused r;
+  answer = Err r;
   tables = all_cleared e.tables;
   scratch = cleared e.scratch;
   out = e.out;

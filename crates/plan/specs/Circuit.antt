@@ -1,6 +1,5 @@
 -- Tables and bytes: the circuit, its counts, its lines of literals and its tables.
-use Rattle.std.specs.Prelude.{ℕ, suc, zero, ◌+◌, ◌-◌, ◌*◌, min, Bool, true, false, not, cond, ◌&&◌, ◌||◌, List, [], ◌∷◌, ◌++◌, map, eqb, leb, length, get_or, take, drop, replicate}
-use Rattle.std.proofs.Math.Option.{Option, none, some}
+use Rattle.std.specs.Prelude.{ℕ, suc, zero, ◌+◌, ◌-◌, ◌*◌, min, Bool, true, false, not, cond, ◌&&◌, ◌||◌, List, [], ◌∷◌, ◌++◌, map, eqb, leb, length, get_or, take, drop, replicate, Option, Some, None}
 use Rattle.plan.specs.declared.Counts.{Counts}
 use Rattle.plan.specs.Literals.{var_of, in_range, is_reset}
 
@@ -77,12 +76,12 @@ against t (n ∷ needs) lengths =
     record { table = t; needed = n; words = get_or lengths 0 0 } ∷ against (t + 1) needs (drop 1 lengths)
 
 abbrev pub or_less : ℕ → Option ℕ → Option ℕ
-or_less v none = some v
-or_less v (some u) = some (min u v)
+or_less v None = Some v
+or_less v (Some u) = Some (min u v)
 
 -- the least table that is too short
 abbrev pub least_short : List Lent → Option ℕ
-least_short [] = none
+least_short [] = None
 least_short (x ∷ xs) = cond (leb x.needed x.words) (least_short xs) (or_less x.table (least_short xs))
 
 -- the lines of a table: n of k words; and the table of lines

@@ -1,6 +1,5 @@
 -- Conversion.
-use Rattle.std.specs.Prelude.{ℕ, zero, suc, ◌+◌, max, min, Bool, cond, ◌&&◌, List, [], ◌∷◌, ◌++◌, map, length}
-use Rattle.std.proofs.Math.Option.{Option, none, some}
+use Rattle.std.specs.Prelude.{ℕ, zero, suc, ◌+◌, max, min, Bool, cond, ◌&&◌, List, [], ◌∷◌, ◌++◌, map, length, Option, Some, None}
 use Rattle.plan.specs.Literals.{lit_of, var_of, sign_of}
 use Rattle.plan.specs.Circuit.{Gate, Circuit, left_vars, nexts, has, leaves, index}
 use Rattle.plan.specs.Binary.{lits_from, latches_from}
@@ -15,18 +14,18 @@ pub record Picked : Type 0 where
   pub rest : List Gate
 
 abbrev pub past : Gate → Option Picked → Option Picked
-past g none = none
-past g (some p) = some (record { gate = p.gate; rest = g ∷ p.rest })
+past g None = None
+past g (Some p) = Some (record { gate = p.gate; rest = g ∷ p.rest })
 
 abbrev pub pick : List ℕ → List Gate → Option Picked
-pick numbered [] = none
-pick numbered (g ∷ gs) = cond (ready numbered g) (some (record { gate = g; rest = gs })) (past g (pick numbered gs))
+pick numbered [] = None
+pick numbered (g ∷ gs) = cond (ready numbered g) (Some (record { gate = g; rest = gs })) (past g (pick numbered gs))
 
 -- the gates in the order of their numbers, of which k are given; with k the number of gates every one of an accepted circuit gets its
 -- number (laws, Running.Scan: every-gate)
 abbrev pub order_by : (List ℕ → List Gate → List Gate) → List ℕ → Option Picked → List Gate
-order_by f numbered none = []
-order_by f numbered (some p) = p.gate ∷ f (numbered ++ (var_of p.gate.lhs ∷ [])) p.rest
+order_by f numbered None = []
+order_by f numbered (Some p) = p.gate ∷ f (numbered ++ (var_of p.gate.lhs ∷ [])) p.rest
 
 abbrev pub order : ℕ → List ℕ → List Gate → List Gate
 order zero numbered gs = []

@@ -1,10 +1,7 @@
 -- Why does this needle lift: the places of state and inputs that made an output 0 or 1 in a step.
-use Rattle.std.specs.Prelude.{ℕ, not, cond, List, [], ◌∷◌, ◌++◌, map, eqb, ltb, length, get_or, take, drop}
-use Rattle.std.proofs.Math.Option.{Option, none, some}
+use Rattle.std.specs.Prelude.{ℕ, not, cond, List, [], ◌∷◌, ◌++◌, map, eqb, ltb, length, get_or, take, drop, Result, Ok, Err, Option, Some, None}
 use Rattle.plan.specs.declared.Refusal.{Refusal}
 use Rattle.plan.specs.declared.Refusal.TheVariants.{BadVector, NotExplained}
-use Rattle.plan.specs.declared.Stepped.{Stepped}
-use Rattle.plan.specs.declared.Stepped.TheVariants.{Done, Refused}
 use Rattle.plan.specs.Literals.{var_of}
 use Rattle.plan.specs.Refusals.{stage, first_of}
 use Rattle.plan.specs.Circuit.{Gate, Circuit, cleared, vars, current_vars, has}
@@ -67,7 +64,7 @@ pub record ExplainEntry : Type 0 where
   pub marks : List ℕ
 
 pub record ExplainExit : Type 0 where
-  pub answer : Stepped
+  pub answer : Result Unit Refusal
   pub scratch : List ℕ
   pub marks : List ℕ
 
@@ -102,9 +99,9 @@ output_stage e =
     (failing_at 2 (not (same (value_asked e) vx))))
 
 abbrev pub explained_by : Option Refusal → ExplainEntry → ExplainExit
-explained_by none e =
-    record { answer = Done; scratch = cleared e.circuit.scratch; marks = put e.marks 0 (marks_asked e) }
-explained_by (some r) e = record { answer = Refused r; scratch = cleared e.circuit.scratch; marks = e.marks }
+explained_by None e =
+    record { answer = Ok tt; scratch = cleared e.circuit.scratch; marks = put e.marks 0 (marks_asked e) }
+explained_by (Some r) e = record { answer = Err r; scratch = cleared e.circuit.scratch; marks = e.marks }
 
 -- 11 with L + I, after 12 and 17
 abbrev pub explain : ExplainEntry → ExplainExit

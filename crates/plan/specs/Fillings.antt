@@ -1,10 +1,9 @@
 -- The witness question by fillings: each x of the start and of the list is replaced by 0 or 1.
-use Rattle.std.specs.Prelude.{ℕ, zero, suc, ◌+◌, ◌/◌, ◌%◌, ◌^◌, min, ◌≡◌, Bool, true, false, cond, ◌||◌, List, [], ◌∷◌, ◌++◌, map, eqb, leb, length, take, drop}
-use Rattle.std.proofs.Math.Option.{Option, none, some}
+use Rattle.std.specs.Prelude.{ℕ, zero, suc, ◌+◌, ◌/◌, ◌%◌, ◌^◌, min, ◌≡◌, Bool, true, false, cond, ◌||◌, List, [], ◌∷◌, ◌++◌, map, eqb, leb, length, take, drop, Result, Ok, Err, Option, Some, None}
 use Rattle.plan.specs.declared.Refusal.{Refusal}
 use Rattle.plan.specs.declared.Refusal.TheVariants.{ManyX}
 use Rattle.plan.specs.declared.Finding.{Finding}
-use Rattle.plan.specs.declared.Finding.TheVariants.{Yes, No, Undecided, Refused}
+use Rattle.plan.specs.declared.Finding.TheVariants.{Yes, No, Undecided}
 use Rattle.plan.specs.Refusals.{stage, first_of}
 use Rattle.plan.specs.Circuit.{Circuit, cleared}
 use Rattle.plan.specs.Given.{given_circuit, failing_at, in_order_then}
@@ -66,13 +65,13 @@ filled_shows c number bytes k =
 
 -- the first of n numbers from k on of which the test fails
 abbrev pub first_failing : (ℕ → Bool) → ℕ → ℕ → Option ℕ
-first_failing shows k zero = none
-first_failing shows k (suc n) = let later = first_failing shows (suc k) n in cond (shows k) later (some k)
+first_failing shows k zero = None
+first_failing shows k (suc n) = let later = first_failing shows (suc k) n in cond (shows k) later (Some k)
 
 -- fillings are tried from 0 up: up to the first that shows no 1, all, or the allowance
 abbrev pub finding_of : Option ℕ → ℕ → ℕ → Finding
-finding_of (some k) total allowance = No (k + 1)
-finding_of none total allowance = cond (leb total allowance) (Yes total) (Undecided allowance)
+finding_of (Some k) total allowance = No (k + 1)
+finding_of None total allowance = cond (leb total allowance) (Yes total) (Undecided allowance)
 
 abbrev pub try_all : (ℕ → Bool) → ℕ → ℕ → Finding
 try_all shows total allowance = finding_of (first_failing shows 0 (min total allowance)) total allowance
@@ -90,7 +89,7 @@ pub record FilledEntry : Type 0 where
   pub allowance : ℕ
 
 pub record FilledExit : Type 0 where
-  pub answer : Finding
+  pub answer : Result Finding Refusal
   pub scratch : List ℕ
 
 -- 20: more than 20 x, after 12; the place is their number
@@ -100,9 +99,9 @@ over_x n = failing_at n (leb n 20)
 abbrev pub x_stage : WitnessEntry → Option Refusal
 x_stage w = stage ManyX (over_x (x_count (asked (given_circuit w.circuit) w.bytes)))
 
-abbrev pub finding_by : Option Refusal → Finding → Finding
-finding_by none found = found
-finding_by (some r) found = Refused r
+abbrev pub finding_by : Option Refusal → Finding → Result Finding Refusal
+finding_by None found = Ok found
+finding_by (Some r) found = Err r
 
 abbrev pub witness : FilledEntry → FilledExit
 witness e =

@@ -1,6 +1,5 @@
 -- The order of checks on given tables, as stages of which the first refusal wins.
-use Rattle.std.specs.Prelude.{ℕ, ◌+◌, min, ◌-◌, ◌^◌, Bool, true, false, cond, List, [], ◌∷◌, ◌++◌, map, leb, length}
-use Rattle.std.proofs.Math.Option.{Option, none, some}
+use Rattle.std.specs.Prelude.{ℕ, ◌+◌, min, ◌-◌, ◌^◌, Bool, true, false, cond, List, [], ◌∷◌, ◌++◌, map, leb, length, Option, Some, None}
 use Rattle.plan.specs.declared.Counts.{Counts}
 use Rattle.plan.specs.declared.Version.TheVariants.{V19}
 use Rattle.plan.specs.declared.Refusal.{Refusal}
@@ -42,20 +41,20 @@ placed t [] = []
 placed t (n ∷ l) = record { value = n; place = t } ∷ placed t l
 
 abbrev pub or_else : Option ℕ → Option ℕ → Option ℕ
-or_else none o = o
-or_else (some place) o = some place
+or_else None o = o
+or_else (Some place) o = Some place
 
 -- the place of a test that fails; the place 0
 abbrev pub failing_at : ℕ → Bool → Option ℕ
-failing_at place true = none
-failing_at place false = some place
+failing_at place true = None
+failing_at place false = Some place
 
 abbrev pub failing : Bool → Option ℕ
 failing t = failing_at 0 t
 
 -- 5 over the lines of table t
 abbrev pub outside_of : ℕ → Bool → ℕ → List (List ℕ) → Option ℕ
-outside_of t d m [] = none
+outside_of t d m [] = None
 outside_of t d m (row ∷ rows) = or_else (outside d m (placed t row)) (outside_of t d m rows)
 
 abbrev pub outside_in : Circuit → Option ℕ
@@ -70,7 +69,7 @@ outside_in c =
 
 -- 6 over the lines of table t; `seen` holds the variables defined before
 abbrev pub twice_of : ℕ → List ℕ → List (List ℕ) → Option ℕ
-twice_of t seen [] = none
+twice_of t seen [] = None
 twice_of t seen (row ∷ rows) =
     or_else (twice true seen (placed t row)) (twice_of t (seen ++ (var_of (literal_of row) ∷ [])) rows)
 
@@ -102,8 +101,8 @@ in_order_then g more = stages g (lent_alone g) ++ (order_stage g ∷ more)
 
 -- then the tail by 1 and 10, with offsets within the tail
 abbrev pub refusal_of : {A : Type 0} → Parse A → Option Refusal
-refusal_of (got a next) = none
-refusal_of (refused r) = some r
+refusal_of (got a next) = None
+refusal_of (refused r) = Some r
 
 abbrev pub tail_stage : Given → List ℕ → Option Refusal
 tail_stage g tail = refusal_of (tail_at V19 tail g.counts 0)
@@ -111,7 +110,7 @@ tail_stage g tail = refusal_of (tail_at V19 tail g.counts 0)
 -- 11: the length needed to hold bytes from a position on, cut at the largest number of 64 bits, where a buffer is
 -- shorter
 abbrev pub lacking_room : List ℕ → ℕ → List ℕ → Option ℕ
-lacking_room out at bytes = cond (leb (at + length bytes) (length out)) none (some (min (at + length bytes) (2 ^ 64 - 1)))
+lacking_room out at bytes = cond (leb (at + length bytes) (length out)) None (Some (min (at + length bytes) (2 ^ 64 - 1)))
 
 abbrev pub room_stage : List ℕ → List ℕ → Option Refusal
 room_stage out bytes = stage ShortBuffer (lacking_room out 0 bytes)

@@ -1,6 +1,5 @@
 -- Text form and binary form: the header.
-use Rattle.std.specs.Prelude.{ℕ, zero, ◌+◌, ◌-◌, ◌^◌, Bool, cond, ◌&&◌, ◌||◌, List, [], ◌∷◌, ◌++◌, eqb, leb, get_or, drop}
-use Rattle.std.proofs.Math.Option.{Option, none, some}
+use Rattle.std.specs.Prelude.{ℕ, zero, ◌+◌, ◌-◌, ◌^◌, Bool, cond, ◌&&◌, ◌||◌, List, [], ◌∷◌, ◌++◌, eqb, leb, get_or, drop, Option, Some, None}
 use Rattle.plan.specs.declared.Counts.{Counts}
 use Rattle.plan.specs.declared.Refusal.TheVariants.{WrongByte, LargeCount, WrongSum, Justice}
 use Rattle.plan.specs.declared.Version.{Version}
@@ -49,13 +48,13 @@ list_of n = n.M ∷ n.I ∷ n.L ∷ n.O ∷ n.A ∷ n.B ∷ n.C ∷ []
 
 -- 2: the first count over the limit
 abbrev pub over : List Placed → Option ℕ
-over [] = none
-over (x ∷ xs) = cond (leb x.value most) (over xs) (some x.place)
+over [] = None
+over (x ∷ xs) = cond (leb x.value most) (over xs) (Some x.place)
 
 -- 21: the first of J and F above 0
 abbrev pub above0 : List Placed → Option ℕ
-above0 [] = none
-above0 (x ∷ xs) = cond (eqb x.value 0) (above0 xs) (some x.place)
+above0 [] = None
+above0 (x ∷ xs) = cond (eqb x.value 0) (above0 xs) (Some x.place)
 
 -- 3: I + L + A is in text at most M, in binary equal
 abbrev pub adds : Form → Counts → Bool

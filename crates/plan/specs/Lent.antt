@@ -1,6 +1,7 @@
 -- What a call is lent, at entry and at exit, so that a contract names its parameters and no moments.
-use Rattle.std.specs.Prelude.{ℕ, List}
+use Rattle.std.specs.Prelude.{ℕ, List, Result, Bool}
 use Rattle.std.specs.Borrow.{Bor, MutBor}
+use Rattle.plan.specs.declared.Refusal.{Refusal}
 use denote.Triple.Both.{Both}
 use Rattle.plan.specs.declared.Counts.{Counts}
 use Rattle.plan.specs.Circuit.{Tables, seven}
@@ -12,12 +13,6 @@ use Rattle.plan.specs.Report.{ReportEntry}
 use Rattle.plan.specs.Rows.{RowsEntry, RowReportEntry}
 use Rattle.plan.specs.Rewire.{RewireEntry}
 use Rattle.plan.specs.Search.{SearchEntry}
-use Rattle.plan.specs.declared.Loaded.{Loaded}
-use Rattle.plan.specs.declared.Checked.{Checked}
-use Rattle.plan.specs.declared.Written.{Written}
-use Rattle.plan.specs.declared.Made.{Made}
-use Rattle.plan.specs.declared.Stepped.{Stepped}
-use Rattle.plan.specs.declared.Verdict.{Verdict}
 use Rattle.plan.specs.declared.Finding.{Finding}
 use Rattle.plan.specs.declared.Happening.{Happening}
 use Rattle.plan.specs.Outcome.{Says, LoadExit, CheckExit, FileExit, MakeExit, StepExit, WitnessExit}
@@ -121,67 +116,67 @@ to_search n i l o a r b c s split watch allowance met marks out = record {
 }
 
 -- cards read
-abbrev pub Loads : (ReadEntry → LoadExit) → Slice → MutSeven (MutSlice → Loaded → Type 0)
+abbrev pub Loads : (ReadEntry → LoadExit) → Slice → MutSeven (MutSlice → Result (Counts × ℕ) Refusal → Type 0)
 Loads f file i l o a r b c s answer =
     Says f (to_read file i l o a r b c s) (record { answer = answer; tables = after i l o a r b c; scratch = s.exit.now })
 
 -- the check of given tables
-abbrev pub Checks : (Given → CheckExit) → Counts → Seven (MutSlice → Checked → Type 0)
+abbrev pub Checks : (Given → CheckExit) → Counts → Seven (MutSlice → Result Unit Refusal → Type 0)
 Checks f n i l o a r b c s answer =
     Says f (to_check n i l o a r b c s) (record { answer = answer; scratch = s.exit.now })
 
 -- the writers
-abbrev pub Writes : (FileEntry → FileExit) → Counts → Seven (MutSlice → Slice → MutSlice → Written → Type 0)
+abbrev pub Writes : (FileEntry → FileExit) → Counts → Seven (MutSlice → Slice → MutSlice → Result ℕ Refusal → Type 0)
 Writes f n i l o a r b c s tail out answer =
     Says f (to_write n i l o a r b c s tail out) (record { answer = answer; scratch = s.exit.now; out = out.exit.now })
 
 -- conversion, reduction and dropping: from given tables to written ones
-abbrev pub Makes : (MakeEntry → MakeExit) → Counts → Seven (MutSeven (MutSlice → Made → Type 0))
+abbrev pub Makes : (MakeEntry → MakeExit) → Counts → Seven (MutSeven (MutSlice → Result Counts Refusal → Type 0))
 Makes f n i l o a r b c i' l' o' a' r' b' c' s answer =
     Says f (to_make n i l o a r b c i' l' o' a' r' b' c' s) (record { answer = answer; written = after i' l' o' a' r' b' c'; scratch = s.exit.now })
 
 -- both engines
-abbrev pub Steps : (StepEntry → StepExit) → Counts → Seven (MutSlice → MutSlice → Slice → MutSlice → Stepped → Type 0)
+abbrev pub Steps : (StepEntry → StepExit) → Counts → Seven (MutSlice → MutSlice → Slice → MutSlice → Result Unit Refusal → Type 0)
 Steps f n i l o a r b c s state ins outs answer =
     Says f (to_step n i l o a r b c s state ins outs) (record { answer = answer; scratch = s.exit.now; state = state.exit.now; outputs = outs.exit.now })
 
 -- the explainer
-abbrev pub Blames : (ExplainEntry → ExplainExit) → Counts → Seven (MutSlice → Slice → Slice → ℕ → MutSlice → Stepped → Type 0)
+abbrev pub Blames : (ExplainEntry → ExplainExit) → Counts → Seven (MutSlice → Slice → Slice → ℕ → MutSlice → Result Unit Refusal → Type 0)
 Blames f n i l o a r b c s state ins output marks answer =
     Says f (to_explain n i l o a r b c s state ins output marks) (record { answer = answer; scratch = s.exit.now; marks = marks.exit.now })
 
 -- the witness question by fillings
-abbrev pub Tries : (FilledEntry → FilledExit) → Counts → Seven (MutSlice → ℕ → Slice → ℕ → Finding → Type 0)
+abbrev pub Tries : (FilledEntry → FilledExit) → Counts → Seven (MutSlice → ℕ → Slice → ℕ → Result Finding Refusal → Type 0)
 Tries f n i l o a r b c s number bytes allowance answer =
     Says f (to_try n i l o a r b c s number bytes allowance) (record { answer = answer; scratch = s.exit.now })
 
 -- the witness question in three values
-abbrev pub Asks : (WitnessEntry → WitnessExit) → Counts → Seven (MutSlice → ℕ → Slice → Verdict → Type 0)
+abbrev pub Asks : (WitnessEntry → WitnessExit) → Counts → Seven (MutSlice → ℕ → Slice → Result Bool Refusal → Type 0)
 Asks f n i l o a r b c s number bytes answer =
     Says f (to_ask n i l o a r b c s number bytes) (record { answer = answer; scratch = s.exit.now })
 
 -- the needle report
-abbrev pub Reports : (ReportEntry → ReportExit) → Counts → Seven (MutSlice → ℕ → Slice → MutSlice → Stepped → Type 0)
+abbrev pub Reports : (ReportEntry → ReportExit) → Counts → Seven (MutSlice → ℕ → Slice → MutSlice → Result Unit Refusal → Type 0)
 Reports f n i l o a r b c s number bytes six answer =
     Says f (to_report n i l o a r b c s number bytes six) (record { answer = answer; scratch = s.exit.now; six = six.exit.now })
 
 -- rows stepped
-abbrev pub StepsRows : (RowsEntry → RowsExit) → Counts → Seven (MutSlice → ℕ → MutSlice → Slice → MutSlice → Stepped → Type 0)
+abbrev pub StepsRows : (RowsEntry → RowsExit) → Counts → Seven (MutSlice → ℕ → MutSlice → Slice → MutSlice → Result Unit Refusal → Type 0)
 StepsRows f n i l o a r b c s rows nexts ins outs answer =
     Says f (to_step_rows n i l o a r b c s rows nexts ins outs) (record { answer = answer; scratch = s.exit.now; nexts = nexts.exit.now; outputs = outs.exit.now })
 
 -- the row report
-abbrev pub ReportsRows : (RowReportEntry → RowReportExit) → Counts → Seven (MutSlice → ℕ → Slice → MutSlice → Stepped → Type 0)
+abbrev pub ReportsRows : (RowReportEntry → RowReportExit) → Counts → Seven (MutSlice → ℕ → Slice → MutSlice → Result Unit Refusal → Type 0)
 ReportsRows f n i l o a r b c s rows ins report answer =
     Says f (to_report_rows n i l o a r b c s rows ins report) (record { answer = answer; scratch = s.exit.now; report = report.exit.now })
 
 -- one gate rewired
-abbrev pub Rewires : (RewireEntry → RewireExit) → Counts → Slice → Slice → Slice → MutSlice → Slice → Slice → Slice → MutSlice → ℕ → ℕ → ℕ → MutSlice → Stepped → Type 0
+abbrev pub Rewires : (RewireEntry → RewireExit) → Counts → Slice → Slice → Slice → MutSlice → Slice → Slice → Slice → MutSlice → ℕ → ℕ → ℕ → MutSlice → Result Unit Refusal → Type 0
 Rewires f n i l o a r b c s gate rhs0 rhs1 values answer =
     Says f (to_rewire n i l o a r b c s gate rhs0 rhs1 values) (record { answer = answer; gates = a.exit.now; scratch = s.exit.now; values = values.exit.now })
 
 -- the search
-abbrev pub Searches : (SearchEntry → SearchExit) → Counts → Seven (MutSlice → ℕ → ℕ → ℕ → MutSlice → MutSlice → MutSlice → Happening → Type 0)
+abbrev pub Searches : (SearchEntry → SearchExit) → Counts → Seven (MutSlice → ℕ → ℕ → ℕ → MutSlice → MutSlice → MutSlice → Result Happening Refusal → Type 0)
 Searches f n i l o a r b c s split watch allowance met marks out answer =
     Says f (to_search n i l o a r b c s split watch allowance met marks out)
     (record { answer = answer; scratch = s.exit.now; met = met.exit.now; marks = marks.exit.now; out = out.exit.now })

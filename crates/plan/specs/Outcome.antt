@@ -1,33 +1,13 @@
 -- What each public function answers and leaves in all it was lent: one function of what it is handed for each, and
 -- one relation.
-use Rattle.std.specs.Prelude.{ℕ, ◌+◌, ◌*◌, min, ◌≡◌, Bool, true, false, cond, ◌&&◌, List, [], ◌∷◌, ◌++◌, map, eqb, length, take, drop}
-use Rattle.std.proofs.Math.Option.{Option, none, some}
+use Rattle.std.specs.Prelude.{ℕ, ◌+◌, ◌*◌, min, ◌≡◌, Bool, true, false, cond, ◌&&◌, List, [], ◌∷◌, ◌++◌, map, eqb, length, take, drop, Result, Ok, Err, Option, Some, None}
+use Rattle.plan.specs.declared.Counts.{Counts}
 use Rattle.plan.specs.declared.Refusal.{Refusal}
 use Rattle.plan.specs.declared.Version.{Version}
 use Rattle.plan.specs.declared.Version.TheVariants.{V2007, V19}
 use Rattle.plan.specs.declared.Refusal.TheVariants.{WrongByte, ShortBuffer, BadVector}
-use Rattle.plan.specs.declared.Number.{Number}
-use Rattle.plan.specs.declared.Number.TheVariants.{Value, Wrong}
-use Rattle.plan.specs.declared.Loaded.{Loaded}
-use Rattle.plan.specs.declared.Loaded.TheVariants as loaded
-use Rattle.plan.specs.declared.Passed.{Passed}
-use Rattle.plan.specs.declared.Passed.TheVariants as passed
-use Rattle.plan.specs.declared.Headed.{Headed}
-use Rattle.plan.specs.declared.Headed.TheVariants as headed
-use Rattle.plan.specs.declared.Checked.{Checked}
-use Rattle.plan.specs.declared.Checked.TheVariants as checked
-use Rattle.plan.specs.declared.Written.{Written}
-use Rattle.plan.specs.declared.Written.TheVariants as written
-use Rattle.plan.specs.declared.Made.{Made}
-use Rattle.plan.specs.declared.Made.TheVariants as made
-use Rattle.plan.specs.declared.Stepped.{Stepped}
-use Rattle.plan.specs.declared.Stepped.TheVariants as stepped
-use Rattle.plan.specs.declared.Verdict.{Verdict}
-use Rattle.plan.specs.declared.Verdict.TheVariants as verdict
 use Rattle.plan.specs.declared.Finding.{Finding}
 use Rattle.plan.specs.declared.Finding.TheVariants as finding
-use Rattle.plan.specs.declared.Traced.{Traced}
-use Rattle.plan.specs.declared.Traced.TheVariants as traced
 use Rattle.plan.specs.Literals.{beyond}
 use Rattle.plan.specs.Refusals.{Parse, got, refused, number_of, place_of, stage, first_of}
 use Rattle.plan.specs.Circuit.{Circuit, Tables, counts_of, lengths_of, holding, all_cleared, cleared}
@@ -51,70 +31,70 @@ Says f e x = x ≡ f e
 abbrev pub refusal_values : Refusal → List ℕ → List ℕ
 refusal_values r zeros = number_of r ∷ place_of r ∷ zeros
 
-abbrev pub loaded_values : Loaded → List ℕ
-loaded_values (loaded.Accepted n start) = 0 ∷ 0 ∷ list_of n
-loaded_values (loaded.Refused r) = refusal_values r (0 ∷ 0 ∷ 0 ∷ 0 ∷ 0 ∷ 0 ∷ 0 ∷ [])
+abbrev pub loaded_values : Result (Counts × ℕ) Refusal → List ℕ
+loaded_values (Ok (n, start)) = 0 ∷ 0 ∷ list_of n
+loaded_values (Err r) = refusal_values r (0 ∷ 0 ∷ 0 ∷ 0 ∷ 0 ∷ 0 ∷ 0 ∷ [])
 
-abbrev pub checked_values : Checked → List ℕ
-checked_values checked.Good = 0 ∷ 0 ∷ []
-checked_values (checked.Refused r) = refusal_values r []
+abbrev pub checked_values : Result Unit Refusal → List ℕ
+checked_values (Ok tt) = 0 ∷ 0 ∷ []
+checked_values (Err r) = refusal_values r []
 
-abbrev pub written_values : Written → List ℕ
-written_values (written.Bytes n) = 0 ∷ 0 ∷ n ∷ []
-written_values (written.Refused r) = refusal_values r (0 ∷ [])
+abbrev pub written_values : Result ℕ Refusal → List ℕ
+written_values (Ok n) = 0 ∷ 0 ∷ n ∷ []
+written_values (Err r) = refusal_values r (0 ∷ [])
 
-abbrev pub made_values : Made → List ℕ
-made_values (made.Accepted n) = 0 ∷ 0 ∷ list_of n
-made_values (made.Refused r) = refusal_values r (0 ∷ 0 ∷ 0 ∷ 0 ∷ 0 ∷ 0 ∷ 0 ∷ [])
+abbrev pub made_values : Result Counts Refusal → List ℕ
+made_values (Ok n) = 0 ∷ 0 ∷ list_of n
+made_values (Err r) = refusal_values r (0 ∷ 0 ∷ 0 ∷ 0 ∷ 0 ∷ 0 ∷ 0 ∷ [])
 
-abbrev pub stepped_values : Stepped → List ℕ
-stepped_values stepped.Done = 0 ∷ 0 ∷ []
-stepped_values (stepped.Refused r) = refusal_values r []
+abbrev pub stepped_values : Result Unit Refusal → List ℕ
+stepped_values (Ok tt) = 0 ∷ 0 ∷ []
+stepped_values (Err r) = refusal_values r []
 
 -- yes: 1, no: 0
-abbrev pub verdict_values : Verdict → List ℕ
-verdict_values verdict.Yes = 0 ∷ 0 ∷ 1 ∷ []
-verdict_values verdict.No = 0 ∷ 0 ∷ 0 ∷ []
-verdict_values (verdict.Refused r) = refusal_values r (0 ∷ [])
+abbrev pub verdict_values : Result Bool Refusal → List ℕ
+verdict_values (Ok true) = 0 ∷ 0 ∷ 1 ∷ []
+verdict_values (Ok false) = 0 ∷ 0 ∷ 0 ∷ []
+verdict_values (Err r) = refusal_values r (0 ∷ [])
 
 -- yes: 1, no: 0, undecided: 2, and how many fillings were tried
-abbrev pub finding_values : Finding → List ℕ
-finding_values (finding.Yes tried) = 0 ∷ 0 ∷ 1 ∷ tried ∷ []
-finding_values (finding.No tried) = 0 ∷ 0 ∷ 0 ∷ tried ∷ []
-finding_values (finding.Undecided tried) = 0 ∷ 0 ∷ 2 ∷ tried ∷ []
-finding_values (finding.Refused r) = refusal_values r (0 ∷ 0 ∷ [])
+abbrev pub finding_values : Result Finding Refusal → List ℕ
+finding_values (Ok (finding.Yes tried)) = 0 ∷ 0 ∷ 1 ∷ tried ∷ []
+finding_values (Ok (finding.No tried)) = 0 ∷ 0 ∷ 0 ∷ tried ∷ []
+finding_values (Ok (finding.Undecided tried)) = 0 ∷ 0 ∷ 2 ∷ tried ∷ []
+finding_values (Err r) = refusal_values r (0 ∷ 0 ∷ [])
 
 -- how many lines of a run
-abbrev pub traced_values : Traced → List ℕ
-traced_values (traced.Lines n) = 0 ∷ 0 ∷ n ∷ []
-traced_values (traced.Refused r) = refusal_values r (0 ∷ [])
+abbrev pub traced_values : Result ℕ Refusal → List ℕ
+traced_values (Ok n) = 0 ∷ 0 ∷ n ∷ []
+traced_values (Err r) = refusal_values r (0 ∷ [])
 
 -- of parts of a file: the position after the part; of a header also its form, text 0 and binary 1, and the counts; of a number, whose
 -- only refusal is 1, also its value
-abbrev pub passed_values : Passed → List ℕ
-passed_values (passed.To next) = 0 ∷ 0 ∷ next ∷ []
-passed_values (passed.Refused r) = refusal_values r (0 ∷ [])
+abbrev pub passed_values : Result ℕ Refusal → List ℕ
+passed_values (Ok next) = 0 ∷ 0 ∷ next ∷ []
+passed_values (Err r) = refusal_values r (0 ∷ [])
 
-abbrev pub headed_values : Headed → List ℕ
-headed_values (headed.Accepted is_binary n next) = 0 ∷ 0 ∷ cond is_binary 1 0 ∷ next ∷ list_of n
-headed_values (headed.Refused r) = refusal_values r (0 ∷ 0 ∷ 0 ∷ 0 ∷ 0 ∷ 0 ∷ 0 ∷ 0 ∷ 0 ∷ [])
+abbrev pub headed_values : Result (Bool × Counts × ℕ) Refusal → List ℕ
+headed_values (Ok (is_binary, n, next)) = 0 ∷ 0 ∷ cond is_binary 1 0 ∷ next ∷ list_of n
+headed_values (Err r) = refusal_values r (0 ∷ 0 ∷ 0 ∷ 0 ∷ 0 ∷ 0 ∷ 0 ∷ 0 ∷ 0 ∷ [])
 
-abbrev pub number_values : Number → List ℕ
-number_values (Value v next) = 0 ∷ 0 ∷ next ∷ v ∷ []
-number_values (Wrong place) = refusal_values (WrongByte place) (0 ∷ 0 ∷ [])
+abbrev pub number_values : Result (ℕ × ℕ) Refusal → List ℕ
+number_values (Ok (v, next)) = 0 ∷ 0 ∷ next ∷ v ∷ []
+number_values (Err r) = refusal_values r (0 ∷ 0 ∷ [])
 
 -- a number at a position, cut above every limit
-abbrev pub cut_number : Parse ℕ → Number
-cut_number (got v next) = Value (min v beyond) next
-cut_number (refused r) = Wrong (place_of r)
+abbrev pub cut_number : Parse ℕ → Result (ℕ × ℕ) Refusal
+cut_number (got v next) = Ok (min v beyond, next)
+cut_number (refused r) = Err r
 
-abbrev pub number_at : List ℕ → ℕ → Number
+abbrev pub number_at : List ℕ → ℕ → Result (ℕ × ℕ) Refusal
 number_at file at = cut_number (number file at)
 
 -- a part of a file, and its header
-abbrev pub passed_by : {A : Type 0} → Parse A → Passed
-passed_by (got a next) = passed.To next
-passed_by (refused r) = passed.Refused r
+abbrev pub passed_by : {A : Type 0} → Parse A → Result ℕ Refusal
+passed_by (got a next) = Ok next
+passed_by (refused r) = Err r
 
 abbrev pub is_binary : Form → Bool
 is_binary text = false
@@ -124,9 +104,9 @@ abbrev pub form_of : Bool → Form
 form_of false = text
 form_of true = binary
 
-abbrev pub headed_by : Parse Head → Headed
-headed_by (got h next) = headed.Accepted (is_binary h.form) h.counts next
-headed_by (refused r) = headed.Refused r
+abbrev pub headed_by : Parse Head → Result (Bool × Counts × ℕ) Refusal
+headed_by (got h next) = Ok (is_binary h.form, h.counts, next)
+headed_by (refused r) = Err r
 
 -- bytes put into a buffer from a position on, all else as it was
 abbrev pub put : List ℕ → ℕ → List ℕ → List ℕ
@@ -138,12 +118,12 @@ pub record WriteEntry : Type 0 where
   pub value : ℕ
 
 pub record WriteExit : Type 0 where
-  pub answer : Written
+  pub answer : Result ℕ Refusal
   pub out : List ℕ
 
 abbrev pub put_by : Option ℕ → List ℕ → ℕ → List ℕ → WriteExit
-put_by none out at bytes = record { answer = written.Bytes (length bytes); out = put out at bytes }
-put_by (some place) out at bytes = record { answer = written.Refused (ShortBuffer place); out = out }
+put_by None out at bytes = record { answer = Ok (length bytes); out = put out at bytes }
+put_by (Some place) out at bytes = record { answer = Err (ShortBuffer place); out = out }
 
 abbrev pub put_bytes : List ℕ → ℕ → List ℕ → WriteExit
 put_bytes out at bytes = put_by (lacking_room out at bytes) out at bytes
@@ -161,18 +141,18 @@ pub record ReadEntry : Type 0 where
   pub scratch : List ℕ
 
 pub record LoadExit : Type 0 where
-  pub answer : Loaded
+  pub answer : Result (Counts × ℕ) Refusal
   pub tables : Tables
   pub scratch : List ℕ
 
 abbrev pub load_by : ReadEntry → Parse Circuit → LoadExit
 load_by e (got c start) = record {
-  answer = loaded.Accepted (counts_of c) start;
+  answer = Ok (counts_of c, start);
   tables = holding e.tables c;
   scratch = cleared e.scratch;
 }
 load_by e (refused r) =
-    record { answer = loaded.Refused r; tables = all_cleared e.tables; scratch = cleared e.scratch }
+    record { answer = Err r; tables = all_cleared e.tables; scratch = cleared e.scratch }
 
 -- by a version of the report
 abbrev pub load_as : Version → ReadEntry → LoadExit
@@ -188,9 +168,9 @@ pub record ReadExit : Type 0 where
   pub scratch : List ℕ
 
 -- the tail is a part of the file, empty after a refusal
-abbrev pub tail_of : List ℕ → Loaded → List ℕ
-tail_of file (loaded.Accepted n start) = drop start file
-tail_of file (loaded.Refused r) = []
+abbrev pub tail_of : List ℕ → Result (Counts × ℕ) Refusal → List ℕ
+tail_of file (Ok (n, start)) = drop start file
+tail_of file (Err r) = []
 
 abbrev pub read_as : Version → ReadEntry → ReadExit
 read_as v e =
@@ -211,12 +191,12 @@ read2007 e = read_as V2007 e
 
 -- check: given tables alone
 pub record CheckExit : Type 0 where
-  pub answer : Checked
+  pub answer : Result Unit Refusal
   pub scratch : List ℕ
 
-abbrev pub checked_by : Option Refusal → Checked
-checked_by none = checked.Good
-checked_by (some r) = checked.Refused r
+abbrev pub checked_by : Option Refusal → Result Unit Refusal
+checked_by None = Ok tt
+checked_by (Some r) = Err r
 
 abbrev pub check_by : List (Option Refusal) → Given → CheckExit
 check_by all g = record { answer = checked_by (first_of all); scratch = cleared g.scratch }
@@ -235,18 +215,18 @@ pub record FileEntry : Type 0 where
   pub out : List ℕ
 
 pub record FileExit : Type 0 where
-  pub answer : Written
+  pub answer : Result ℕ Refusal
   pub scratch : List ℕ
   pub out : List ℕ
 
 abbrev pub written_by : Option Refusal → FileEntry → List ℕ → FileExit
-written_by none e bytes = record {
-  answer = written.Bytes (length bytes);
+written_by None e bytes = record {
+  answer = Ok (length bytes);
   scratch = cleared e.circuit.scratch;
   out = put e.out 0 bytes;
 }
-written_by (some r) e bytes =
-    record { answer = written.Refused r; scratch = cleared e.circuit.scratch; out = e.out }
+written_by (Some r) e bytes =
+    record { answer = Err r; scratch = cleared e.circuit.scratch; out = e.out }
 
 abbrev pub write_text : FileEntry → FileExit
 write_text e =
@@ -266,18 +246,18 @@ pub record MakeEntry : Type 0 where
   pub written : Tables
 
 pub record MakeExit : Type 0 where
-  pub answer : Made
+  pub answer : Result Counts Refusal
   pub written : Tables
   pub scratch : List ℕ
 
 abbrev pub made_by : Option Refusal → MakeEntry → Circuit → MakeExit
-made_by none e c = record {
-  answer = made.Accepted (counts_of c);
+made_by None e c = record {
+  answer = Ok (counts_of c);
   written = holding e.written c;
   scratch = cleared e.circuit.scratch;
 }
-made_by (some r) e c =
-    record { answer = made.Refused r; written = all_cleared e.written; scratch = cleared e.circuit.scratch }
+made_by (Some r) e c =
+    record { answer = Err r; written = all_cleared e.written; scratch = cleared e.circuit.scratch }
 
 abbrev pub conversion : MakeEntry → MakeExit
 conversion e =
@@ -305,7 +285,7 @@ pub record StepEntry : Type 0 where
   pub outputs : List ℕ
 
 pub record StepExit : Type 0 where
-  pub answer : Stepped
+  pub answer : Result Unit Refusal
   pub scratch : List ℕ
   pub state : List ℕ
   pub outputs : List ℕ
@@ -319,14 +299,14 @@ step_stage e =
     (failing_at 3 (eqb (length e.outputs) n.O))))
 
 abbrev pub stepped_by : Option Refusal → StepEntry → StepExit
-stepped_by none e = record {
-  answer = stepped.Done;
+stepped_by None e = record {
+  answer = Ok tt;
   scratch = cleared e.circuit.scratch;
   state = map code_of (next_of (given_circuit e.circuit) (map value_of e.state) (map value_of e.inputs));
   outputs = map code_of (outputs_of (given_circuit e.circuit) (map value_of e.state) (map value_of e.inputs));
 }
-stepped_by (some r) e = record {
-  answer = stepped.Refused r;
+stepped_by (Some r) e = record {
+  answer = Err r;
   scratch = cleared e.circuit.scratch;
   state = e.state;
   outputs = e.outputs;
@@ -344,13 +324,13 @@ pub record WitnessEntry : Type 0 where
   pub bytes : List ℕ
 
 pub record WitnessExit : Type 0 where
-  pub answer : Verdict
+  pub answer : Result Bool Refusal
   pub scratch : List ℕ
 
-abbrev pub verdict_by : Option Refusal → Bool → Verdict
-verdict_by none true = verdict.Yes
-verdict_by none false = verdict.No
-verdict_by (some r) seen = verdict.Refused r
+abbrev pub verdict_by : Option Refusal → Bool → Result Bool Refusal
+verdict_by None true = Ok true
+verdict_by None false = Ok false
+verdict_by (Some r) seen = Err r
 
 abbrev pub list_stage : WitnessEntry → Option Refusal
 list_stage e = stage BadVector (vector_of 2 (e.number * e.circuit.counts.I) e.bytes)

@@ -1,6 +1,5 @@
 -- The plain engine, for teaching circuits of at most 24 gates; and the comparer, which runs it beside the stepper.
-use Rattle.std.specs.Prelude.{ℕ, List, [], ◌∷◌, map, leb, length}
-use Rattle.std.proofs.Math.Option.{Option}
+use Rattle.std.specs.Prelude.{ℕ, List, [], ◌∷◌, map, leb, length, Option}
 use Rattle.plan.specs.declared.Refusal.{Refusal}
 use Rattle.plan.specs.declared.Refusal.TheVariants.{ManyGates}
 use Rattle.plan.specs.Refusals.{got, ◌then◌, unless, stage, first_of}

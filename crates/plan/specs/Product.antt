@@ -1,10 +1,8 @@
 -- Do two plans always do the same? Two circuits as one: shared inputs, latches of one after those of the other, and one bad state: some output
 -- differs.
-use Rattle.std.specs.Prelude.{ℕ, suc, ◌+◌, ◌*◌, ◌≡◌, Bool, true, false, not, cond, ◌&&◌, ◌||◌, List, [], ◌∷◌, ◌++◌, map, eqb, ltb, length}
-use Rattle.std.proofs.Math.Option.{Option, none, some}
+use Rattle.std.specs.Prelude.{ℕ, suc, ◌+◌, ◌*◌, ◌≡◌, Bool, true, false, not, cond, ◌&&◌, ◌||◌, List, [], ◌∷◌, ◌++◌, map, eqb, ltb, length, Ok, Err, Option, Some, None}
 use Rattle.plan.specs.declared.Refusal.{Refusal}
 use Rattle.plan.specs.declared.Refusal.TheVariants.{LargeCount, ShortTable, NotAlike}
-use Rattle.plan.specs.declared.Made.TheVariants as made
 use Rattle.plan.specs.Literals.{lit_of, var_of, sign_of, neg_of}
 use Rattle.plan.specs.Refusals.{stage, first_of}
 use Rattle.plan.specs.Circuit.{Gate, Circuit, Tables, counts_of, nexts, words_with, against, least_short, lengths_of, holding, all_cleared, cleared}
@@ -114,12 +112,12 @@ product_stages e =
     ∷ []))
 
 abbrev pub paired_by : Option Refusal → ProductEntry → MakeExit
-paired_by none e = record {
-  answer = made.Accepted (counts_of (product_of e));
+paired_by None e = record {
+  answer = Ok (counts_of (product_of e));
   written = holding e.written (product_of e);
   scratch = cleared e.first.scratch;
 }
-paired_by (some r) e = record { answer = made.Refused r; written = all_cleared e.written; scratch = cleared e.first.scratch }
+paired_by (Some r) e = record { answer = Err r; written = all_cleared e.written; scratch = cleared e.first.scratch }
 
 abbrev pub pairing : ProductEntry → MakeExit
 pairing e = paired_by (first_of (product_stages e)) e

@@ -1,8 +1,7 @@
 -- Programs and their output: every byte that each writes.
-use Rattle.std.specs.Prelude.{ℕ, Bool, true, cond, ◌&&◌, ◌||◌, List, [], ◌∷◌, ◌++◌, map, eqb, leb, length, drop}
+use Rattle.std.specs.Prelude.{ℕ, Bool, true, cond, ◌&&◌, ◌||◌, List, [], ◌∷◌, ◌++◌, map, eqb, leb, length, drop, Option, Some, None}
 use Prim.Native.Char.{code}
 use Prim.Native.String.{String, [] as nil, ◌∷◌ as ◌&◌}
-use Rattle.std.proofs.Math.Option.{Option, none, some}
 use Rattle.plan.specs.declared.Refusal.{Refusal}
 use Rattle.plan.specs.declared.Version.TheVariants.{V19}
 use Rattle.plan.specs.declared.Refusal.TheVariants.{WrongByte, ShortBuffer, BadVector, LongInput, Unreadable}
@@ -40,8 +39,8 @@ printed (refused r) = refusal_line r
 
 -- an input, none if it can't be read: 14, then 13, then the rest
 abbrev pub input : {A : Type 0} → Option (List ℕ) → (List ℕ → Parse A) → Parse A
-input none rest = refused (Unreadable 0)
-input (some bytes) rest = cond (leb (length bytes) 65536) (rest bytes) (refused (LongInput 65536))
+input None rest = refused (Unreadable 0)
+input (Some bytes) rest = cond (leb (length bytes) 65536) (rest bytes) (refused (LongInput 65536))
 
 abbrev pub fitting : List ℕ → Parse (List ℕ)
 fitting bytes = cond (leb (length bytes) lent_bytes) (got bytes (length bytes)) (refused (ShortBuffer (length bytes)))

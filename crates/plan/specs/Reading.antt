@@ -1,6 +1,5 @@
 -- The order of checks on a file; and what a file states, which names no reader and no position.
-use Rattle.std.specs.Prelude.{ℕ, zero, ◌+◌, ◌≤◌, ◌≡◌, true, false, List, [], ◌∷◌, ◌++◌, map, length}
-use Rattle.std.proofs.Math.Option.{none}
+use Rattle.std.specs.Prelude.{ℕ, zero, ◌+◌, ◌≤◌, ◌≡◌, true, false, List, [], ◌∷◌, ◌++◌, map, length, None}
 use Rattle.plan.specs.declared.Counts.{Counts}
 use Rattle.plan.specs.declared.Version.{Version}
 use Rattle.plan.specs.declared.Version.TheVariants.{V19}
@@ -82,7 +81,7 @@ pub data Shortest (file : List ℕ) (c : Circuit) (tail : List ℕ) : Type 0 whe
 
 -- the tables are long enough: for every call; to read the circuit from a file
 abbrev pub LongEnough : Circuit → List ℕ → Type 0
-LongEnough c lengths = least_short (against 1 (words_to_work (counts_of c)) lengths) ≡ none
+LongEnough c lengths = least_short (against 1 (words_to_work (counts_of c)) lengths) ≡ None
 
 abbrev pub LongEnoughToRead : List ℕ → Circuit → List ℕ → Type 0
-LongEnoughToRead file c lengths = least_short (against 1 (words_to_read (form_in file) (counts_of c)) lengths) ≡ none
+LongEnoughToRead file c lengths = least_short (against 1 (words_to_read (form_in file) (counts_of c)) lengths) ≡ None

@@ -1,6 +1,5 @@
 -- Reduction, on a converted circuit.
-use Rattle.std.specs.Prelude.{ℕ, suc, ◌+◌, max, min, cond, ◌&&◌, ◌||◌, List, [], ◌∷◌, ◌++◌, map, eqb, length, get_or}
-use Rattle.std.proofs.Math.Option.{Option, none, some}
+use Rattle.std.specs.Prelude.{ℕ, suc, ◌+◌, max, min, cond, ◌&&◌, ◌||◌, List, [], ◌∷◌, ◌++◌, map, eqb, length, get_or, Option, Some, None}
 use Rattle.plan.specs.Literals.{lit_of, var_of, sign_of, neg_of, signed}
 use Rattle.plan.specs.Circuit.{Gate, Latch, Circuit}
 use Rattle.plan.specs.Binary.{lits_from}
@@ -18,24 +17,24 @@ becomes m l = signed (sign_of l) (get_or m (var_of l) 0)
 
 -- an earlier retained gate with the same pair
 abbrev pub twin : ℕ → ℕ → List Gate → Option ℕ
-twin a b [] = none
-twin a b (g ∷ gs) = cond (eqb g.rhs0 a && eqb g.rhs1 b) (some g.lhs) (twin a b gs)
+twin a b [] = None
+twin a b (g ∷ gs) = cond (eqb g.rhs0 a && eqb g.rhs1 b) (Some g.lhs) (twin a b gs)
 
 -- the literal that stands in for a gate, if one does: equal sides give that side; a side and its negation give 0; a
 -- side 0 gives 0; a side 1 gives the other; otherwise, larger first, an earlier retained gate with the same pair
 abbrev pub stand_in : ℕ → ℕ → List Gate → Option ℕ
 stand_in a b retained =
-    cond (eqb a b) (some a)
-    (cond (eqb a (neg_of b)) (some 0)
-    (cond (eqb a 0 || eqb b 0) (some 0)
-    (cond (eqb a 1) (some b)
-    (cond (eqb b 1) (some a)
+    cond (eqb a b) (Some a)
+    (cond (eqb a (neg_of b)) (Some 0)
+    (cond (eqb a 0 || eqb b 0) (Some 0)
+    (cond (eqb a 1) (Some b)
+    (cond (eqb b 1) (Some a)
     (twin (max a b) (min a b) retained)))))
 
 -- otherwise the gate is retained with the next variable
 abbrev pub retain : Reduced → ℕ → ℕ → Option ℕ → Reduced
-retain r a b (some l) = record { became = r.became ++ (l ∷ []); retained = r.retained; fresh = r.fresh }
-retain r a b none = record {
+retain r a b (Some l) = record { became = r.became ++ (l ∷ []); retained = r.retained; fresh = r.fresh }
+retain r a b None = record {
   became = r.became ++ (lit_of r.fresh ∷ []);
   retained = r.retained ++ (gate_for r.fresh a b ∷ []);
   fresh = suc r.fresh;

@@ -1,6 +1,5 @@
 -- Refusal numbers: the number and the place of each; what reading at a position gives; stages, of which the first refusal wins.
-use Rattle.std.specs.Prelude.{ℕ, List, [], ◌∷◌}
-use Rattle.std.proofs.Math.Option.{Option, none, some}
+use Rattle.std.specs.Prelude.{ℕ, List, [], ◌∷◌, Option, Some, None}
 use Rattle.plan.specs.declared.Refusal.{Refusal}
 use Rattle.plan.specs.declared.Refusal.TheVariants.{WrongByte, LargeCount, WrongSum, ShortTable, OutOfRange, DefinedTwice, NotDefined, Cyclic, BadDifference, BadSymbol, ShortBuffer, BadVector, LongInput, Unreadable, NotInOrder, LongDifference, NotExplained, WrongMark, NotOnCards, ManyX, Justice, NoGate, WrongValue, ManyGates, ManyLatches, ManyInputs, NotAlike}
 
@@ -54,15 +53,15 @@ module _ {A B : Type 0} where
 module _ {A : Type 0} where
   -- refused at the place found, if one is found
   abbrev pub unless : Option ℕ → (ℕ → Refusal) → Parse A → Parse A
-  unless none r p = p
-  unless (some place) r p = refused (r place)
+  unless None r p = p
+  unless (Some place) r p = refused (r place)
 
 -- a stage of checks: a refusal at the place found, if one is found
 abbrev pub stage : (ℕ → Refusal) → Option ℕ → Option Refusal
-stage r none = none
-stage r (some place) = some (r place)
+stage r None = None
+stage r (Some place) = Some (r place)
 
 abbrev pub first_of : List (Option Refusal) → Option Refusal
-first_of [] = none
-first_of (none ∷ stages) = first_of stages
-first_of (some r ∷ stages) = some r
+first_of [] = None
+first_of (None ∷ stages) = first_of stages
+first_of (Some r ∷ stages) = Some r

@@ -1,11 +1,8 @@
 -- The needle report: for each output and each latch, over a list of vectors, the steps at 0, at 1, at x, and the
 -- steps whose value differs from the step before.
-use Rattle.std.specs.Prelude.{ℕ, zero, suc, ◌+◌, ◌*◌, cond, List, [], ◌∷◌, ◌++◌, map, leb, length, get_or}
-use Rattle.std.proofs.Math.Option.{Option, none, some}
+use Rattle.std.specs.Prelude.{ℕ, zero, suc, ◌+◌, ◌*◌, cond, List, [], ◌∷◌, ◌++◌, map, leb, length, get_or, Result, Ok, Err, Option, Some, None}
 use Rattle.plan.specs.declared.Refusal.{Refusal}
 use Rattle.plan.specs.declared.Refusal.TheVariants.{LongInput}
-use Rattle.plan.specs.declared.Stepped.{Stepped}
-use Rattle.plan.specs.declared.Stepped.TheVariants.{Done, Refused}
 use Rattle.plan.specs.Refusals.{stage, first_of}
 use Rattle.plan.specs.Circuit.{Circuit, filled, cleared}
 use Rattle.plan.specs.Given.{Given, given_circuit, failing_at}
@@ -63,7 +60,7 @@ pub record ReportEntry : Type 0 where
   pub six : List ℕ
 
 pub record ReportExit : Type 0 where
-  pub answer : Stepped
+  pub answer : Result Unit Refusal
   pub scratch : List ℕ
   pub six : List ℕ
 
@@ -75,12 +72,12 @@ abbrev pub long_stage : ℕ → Option Refusal
 long_stage number = stage LongInput (failing_at most_steps (leb number most_steps))
 
 abbrev pub reported_by : Option Refusal → ReportEntry → ReportExit
-reported_by none e = record {
-  answer = Done;
+reported_by None e = record {
+  answer = Ok tt;
   scratch = cleared e.circuit.scratch;
   six = filled e.six (report_of (given_circuit e.circuit) e.number e.bytes);
 }
-reported_by (some r) e = record { answer = Refused r; scratch = cleared e.circuit.scratch; six = cleared e.six }
+reported_by (Some r) e = record { answer = Err r; scratch = cleared e.circuit.scratch; six = cleared e.six }
 
 -- 2, 3, 4 with table 6, 5, 6, 7, 8, 15, then 13, then 12 at 2
 abbrev pub report_stages : ReportEntry → List (Option Refusal)

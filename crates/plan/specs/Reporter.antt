@@ -1,6 +1,5 @@
 -- The program `reporter` and its output: every byte that it writes.
-use Rattle.std.specs.Prelude.{ℕ, ◌+◌, ◌*◌, List, ◌∷◌, ◌++◌, map, leb, length, take, drop}
-use Rattle.std.proofs.Math.Option.{Option}
+use Rattle.std.specs.Prelude.{ℕ, ◌+◌, ◌*◌, List, ◌∷◌, ◌++◌, map, leb, length, take, drop, Option}
 use Rattle.plan.specs.declared.Refusal.TheVariants.{ShortTable}
 use Rattle.plan.specs.Refusals.{got, ◌then◌, unless}
 use Rattle.plan.specs.Bytes.{digits, line_of}

@@ -1,11 +1,8 @@
 -- Rewire one gate at the desk: its two right sides are changed while a step's values are on the screen.
-use Rattle.std.specs.Prelude.{ℕ, zero, suc, ◌+◌, ◌*◌, min, max, false, cond, ◌&&◌, List, [], ◌∷◌, ◌++◌, map, eqb, ltb, length, get_or, take, drop}
-use Rattle.std.proofs.Math.Option.{Option, none, some}
+use Rattle.std.specs.Prelude.{ℕ, zero, suc, ◌+◌, ◌*◌, min, max, false, cond, ◌&&◌, List, [], ◌∷◌, ◌++◌, map, eqb, ltb, length, get_or, take, drop, Result, Ok, Err, Option, Some, None}
 use Rattle.plan.specs.declared.Counts.{Counts}
 use Rattle.plan.specs.declared.Refusal.{Refusal}
 use Rattle.plan.specs.declared.Refusal.TheVariants.{OutOfRange, NotInOrder, BadVector, NoGate, WrongValue}
-use Rattle.plan.specs.declared.Stepped.{Stepped}
-use Rattle.plan.specs.declared.Stepped.TheVariants as stepped
 use Rattle.plan.specs.Literals.{lit_of, in_range}
 use Rattle.plan.specs.Refusals.{stage, first_of}
 use Rattle.plan.specs.Circuit.{Gate, Circuit, cleared}
@@ -54,9 +51,9 @@ follows gs bytes v = gate_value (value_on bytes) (cond (eqb v 0) v0 (value_on by
 
 -- 23: the least variable, of n from v on, whose byte is another
 abbrev pub wrong_from : List Gate → List ℕ → ℕ → ℕ → Option ℕ
-wrong_from gs bytes v zero = none
+wrong_from gs bytes v zero = None
 wrong_from gs bytes v (suc n) =
-    cond (eqb (get_or bytes v 0) (code_of (follows gs bytes v))) (wrong_from gs bytes (suc v) n) (some v)
+    cond (eqb (get_or bytes v 0) (code_of (follows gs bytes v))) (wrong_from gs bytes (suc v) n) (Some v)
 
 abbrev pub wrong_on : Circuit → List ℕ → Option ℕ
 wrong_on c bytes = wrong_from c.gates bytes 0 (c.M + 1)
@@ -88,21 +85,21 @@ pub record RewireEntry : Type 0 where
   pub values : List ℕ
 
 pub record RewireExit : Type 0 where
-  pub answer : Stepped
+  pub answer : Result Unit Refusal
   pub gates : List ℕ
   pub scratch : List ℕ
   pub values : List ℕ
 
 -- two words of the gates' table change; a refusal leaves it as it came
 abbrev pub rewired_by : Option Refusal → RewireEntry → RewireExit
-rewired_by none e = record {
-  answer = stepped.Done;
+rewired_by None e = record {
+  answer = Ok tt;
   gates = put e.circuit.tables.gates (3 * e.gate + 1) (max e.rhs0 e.rhs1 ∷ min e.rhs0 e.rhs1 ∷ []);
   scratch = cleared e.circuit.scratch;
   values = rewired_screen (given_circuit e.circuit) e.gate e.rhs0 e.rhs1 e.values;
 }
-rewired_by (some r) e = record {
-  answer = stepped.Refused r;
+rewired_by (Some r) e = record {
+  answer = Err r;
   gates = e.circuit.tables.gates;
   scratch = cleared e.circuit.scratch;
   values = e.values;

@@ -1,11 +1,8 @@
 -- Many rows at once: each row is one input vector, stepped once from the resets. Their outputs and next states as
 -- bytes, and their report.
-use Rattle.std.specs.Prelude.{ℕ, ◌*◌, List, [], ◌∷◌, ◌++◌, map, eqb, leb, length}
-use Rattle.std.proofs.Math.Option.{Option, none, some}
+use Rattle.std.specs.Prelude.{ℕ, ◌*◌, List, [], ◌∷◌, ◌++◌, map, eqb, leb, length, Result, Ok, Err, Option, Some, None}
 use Rattle.plan.specs.declared.Refusal.{Refusal}
 use Rattle.plan.specs.declared.Refusal.TheVariants.{BadVector, LongInput}
-use Rattle.plan.specs.declared.Stepped.{Stepped}
-use Rattle.plan.specs.declared.Stepped.TheVariants as stepped
 use Rattle.plan.specs.Refusals.{stage, first_of}
 use Rattle.plan.specs.Circuit.{Circuit, flat, filled, cleared}
 use Rattle.plan.specs.Given.{Given, given_circuit, or_else, failing_at, in_order_then}
@@ -52,7 +49,7 @@ pub record RowsEntry : Type 0 where
   pub outputs : List ℕ
 
 pub record RowsExit : Type 0 where
-  pub answer : Stepped
+  pub answer : Result Unit Refusal
   pub scratch : List ℕ
   pub nexts : List ℕ
   pub outputs : List ℕ
@@ -69,14 +66,14 @@ abbrev pub row_stage : RowsEntry → Option Refusal
 row_stage e = first_of (many_rows e.rows ∷ stage BadVector (row_vectors e) ∷ [])
 
 abbrev pub stepped_rows : Option Refusal → RowsEntry → RowsExit
-stepped_rows none e = record {
-  answer = stepped.Done;
+stepped_rows None e = record {
+  answer = Ok tt;
   scratch = cleared e.circuit.scratch;
   nexts = next_bytes (row_steps (given_circuit e.circuit) e.rows e.inputs);
   outputs = output_bytes (row_steps (given_circuit e.circuit) e.rows e.inputs);
 }
-stepped_rows (some r) e = record {
-  answer = stepped.Refused r;
+stepped_rows (Some r) e = record {
+  answer = Err r;
   scratch = cleared e.circuit.scratch;
   nexts = e.nexts;
   outputs = e.outputs;
@@ -95,7 +92,7 @@ pub record RowReportEntry : Type 0 where
   pub report : List ℕ
 
 pub record RowReportExit : Type 0 where
-  pub answer : Stepped
+  pub answer : Result Unit Refusal
   pub scratch : List ℕ
   pub report : List ℕ
 
@@ -104,13 +101,13 @@ row_report_stage e =
     first_of (many_rows e.rows ∷ stage BadVector (vector_of 2 (e.rows * e.circuit.counts.I) e.inputs) ∷ [])
 
 abbrev pub reported_rows : Option Refusal → RowReportEntry → RowReportExit
-reported_rows none e = record {
-  answer = stepped.Done;
+reported_rows None e = record {
+  answer = Ok tt;
   scratch = cleared e.circuit.scratch;
   report = filled e.report (row_report (given_circuit e.circuit) (row_steps (given_circuit e.circuit) e.rows e.inputs));
 }
-reported_rows (some r) e =
-    record { answer = stepped.Refused r; scratch = cleared e.circuit.scratch; report = cleared e.report }
+reported_rows (Some r) e =
+    record { answer = Err r; scratch = cleared e.circuit.scratch; report = cleared e.report }
 
 abbrev pub report_rows : RowReportEntry → RowReportExit
 report_rows e =

@@ -1,6 +1,5 @@
 -- Can it ever happen? What can happen, and a search of all states of a small circuit, breadth first.
-use Rattle.std.specs.Prelude.{ℕ, zero, suc, ◌+◌, ◌*◌, ◌/◌, ◌%◌, ◌^◌, ◌<◌, max, ◌≡◌, Bool, true, false, cond, ◌&&◌, ◌||◌, ◌⊎◌, List, [], ◌∷◌, ◌++◌, map, ltb, leb, length, get_or, take, drop}
-use Rattle.std.proofs.Math.Option.{Option, none, some}
+use Rattle.std.specs.Prelude.{ℕ, zero, suc, ◌+◌, ◌*◌, ◌/◌, ◌%◌, ◌^◌, ◌<◌, max, ◌≡◌, Bool, true, false, cond, ◌&&◌, ◌||◌, ◌⊎◌, List, [], ◌∷◌, ◌++◌, map, ltb, leb, length, get_or, take, drop, Err, Option, Some, None, Result, Ok}
 use Rattle.plan.specs.declared.Refusal.{Refusal}
 use Rattle.plan.specs.declared.Refusal.TheVariants.{ShortTable, NotExplained, ManyLatches, ManyInputs}
 use Rattle.plan.specs.declared.Happening.{Happening}
@@ -216,18 +215,18 @@ pub record SearchEntry : Type 0 where
   pub out : List ℕ
 
 pub record SearchExit : Type 0 where
-  pub answer : Happening
+  pub answer : Result Happening Refusal
   pub scratch : List ℕ
   pub met : List ℕ
   pub marks : List ℕ
   pub out : List ℕ
 
 -- never: 0, it can: 1, undecided: 2; then the states reached or the steps, and the tries
-abbrev pub happening_values : Happening → List ℕ
-happening_values (happening.Never states tries) = 0 ∷ 0 ∷ 0 ∷ states ∷ tries ∷ []
-happening_values (happening.Can steps tries) = 0 ∷ 0 ∷ 1 ∷ steps ∷ tries ∷ []
-happening_values (happening.Undecided tries) = 0 ∷ 0 ∷ 2 ∷ 0 ∷ tries ∷ []
-happening_values (happening.Refused r) = refusal_values r (0 ∷ 0 ∷ 0 ∷ [])
+abbrev pub happening_values : Result Happening Refusal → List ℕ
+happening_values (Ok (happening.Never states tries)) = 0 ∷ 0 ∷ 0 ∷ states ∷ tries ∷ []
+happening_values (Ok (happening.Can steps tries)) = 0 ∷ 0 ∷ 1 ∷ steps ∷ tries ∷ []
+happening_values (Ok (happening.Undecided tries)) = 0 ∷ 0 ∷ 2 ∷ 0 ∷ tries ∷ []
+happening_values (Err r) = refusal_values r (0 ∷ 0 ∷ 0 ∷ [])
 
 abbrev pub happening_of : Found → Happening
 happening_of (never states tries) = happening.Never states tries
@@ -259,15 +258,15 @@ search_stages e =
     ∷ []
 
 abbrev pub searched_by : Option Refusal → SearchEntry → SearchExit
-searched_by none e = record {
-  answer = happening_of (found e);
+searched_by None e = record {
+  answer = Ok (happening_of (found e));
   scratch = cleared e.circuit.scratch;
   met = cleared e.met;
   marks = cleared e.marks;
   out = put e.out 0 (way_bytes (searched e) (found e));
 }
-searched_by (some r) e = record {
-  answer = happening.Refused r;
+searched_by (Some r) e = record {
+  answer = Err r;
   scratch = cleared e.circuit.scratch;
   met = cleared e.met;
   marks = cleared e.marks;

@@ -1,6 +1,5 @@
 -- Table 6, lent for a report's numbers: it is judged among the tables, of which 4 names the least that is too short.
-use Rattle.std.specs.Prelude.{ℕ, List, [], ◌∷◌, ◌++◌, length}
-use Rattle.std.proofs.Math.Option.{Option}
+use Rattle.std.specs.Prelude.{ℕ, List, [], ◌∷◌, ◌++◌, length, Option}
 use Rattle.plan.specs.declared.Refusal.{Refusal}
 use Rattle.plan.specs.Circuit.{Lent}
 use Rattle.plan.specs.Given.{Given, lent_alone, stages, order_stage}

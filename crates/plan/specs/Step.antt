@@ -1,6 +1,5 @@
 -- Stepping in 0, 1 and x, for any order of gates; the witness question in three values.
-use Rattle.std.specs.Prelude.{ℕ, zero, suc, Bool, true, false, cond, ◌&&◌, ◌||◌, List, [], ◌∷◌, ◌++◌, map, eqb, length, get_or}
-use Rattle.std.proofs.Math.Option.{Option, none, some}
+use Rattle.std.specs.Prelude.{ℕ, zero, suc, Bool, true, false, cond, ◌&&◌, ◌||◌, List, [], ◌∷◌, ◌++◌, map, eqb, length, get_or, Option, Some, None}
 use Rattle.plan.specs.Literals.{var_of, sign_of}
 use Rattle.plan.specs.Circuit.{Gate, Circuit, nexts, rows_of, leaves, index}
 use Rattle.plan.specs.Depends.{find}
@@ -52,8 +51,8 @@ lit w l = signed_value (sign_of l) (w (var_of l))
 
 -- a variable's value, if the variables' values are w: the And of its gate's two right sides, or what it is given
 abbrev pub gate_value : (ℕ → Value) → Value → Option Gate → Value
-gate_value w a none = a
-gate_value w a (some g) = and (lit w g.rhs0) (lit w g.rhs1)
+gate_value w a None = a
+gate_value w a (Some g) = and (lit w g.rhs0) (lit w g.rhs1)
 
 -- the value of variable v, looking k gates deep; as many as there are gates is no limit, since no gate depends on itself: the values are
 -- those of the gates' own right sides, and there are no others (laws, Running.Values: value-solves, unique)

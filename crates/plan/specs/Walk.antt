@@ -1,6 +1,5 @@
 -- Walks through gates, from some variables on, in any number of steps.
-use Rattle.std.specs.Prelude.{ℕ, ◌≡◌, true, cond, List, [], ◌∷◌, ◌++◌}
-use Rattle.std.proofs.Math.Option.{some}
+use Rattle.std.specs.Prelude.{ℕ, ◌≡◌, true, cond, List, [], ◌∷◌, ◌++◌, Some}
 use Rattle.plan.specs.Literals.{var_of}
 use Rattle.plan.specs.Circuit.{Gate, has}
 use Rattle.plan.specs.Depends.{find}
@@ -9,7 +8,7 @@ use Rattle.plan.specs.Depends.{find}
 -- where a gate leads
 pub data Walked (on : Gate → List ℕ) (gs : List Gate) (from : List ℕ) : ℕ → Type 0 where
   start : {v : ℕ} → has v from ≡ true → Walked on gs from v
-  onward : {u v : ℕ} {g : Gate} → Walked on gs from u → find u gs ≡ some g → has v (on g) ≡ true → Walked on gs from v
+  onward : {u v : ℕ} {g : Gate} → Walked on gs from u → find u gs ≡ Some g → has v (on g) ≡ true → Walked on gs from v
 
 -- the list that computes it in binary order, from the last gate to the first
 abbrev pub walk : (Gate → List ℕ) → List Gate → List ℕ → List ℕ

@@ -1,16 +1,9 @@
 -- Whole files: from the bytes of an input to the bytes that are written, for any tables lent.
-use Rattle.std.specs.Prelude.{ℕ, ◌+◌, ◌*◌, ◌/◌, min, Bool, true, false, ◌&&◌, ◌||◌, List, [], ◌∷◌, ◌++◌, map, eqb, length, take, drop}
-use Rattle.std.proofs.Math.Option.{Option, none, some}
+use Rattle.std.specs.Prelude.{ℕ, ◌+◌, ◌*◌, ◌/◌, min, Bool, true, false, ◌&&◌, ◌||◌, List, [], ◌∷◌, ◌++◌, map, eqb, length, take, drop, Result, Ok, Err, Option, Some, None}
 use Rattle.plan.specs.declared.Counts.{Counts}
 use Rattle.plan.specs.declared.Version.TheVariants.{V19}
 use Rattle.plan.specs.declared.Refusal.{Refusal}
 use Rattle.plan.specs.declared.Refusal.TheVariants.{ShortBuffer, BadVector}
-use Rattle.plan.specs.declared.Made.{Made}
-use Rattle.plan.specs.declared.Made.TheVariants as made
-use Rattle.plan.specs.declared.Written.{Written}
-use Rattle.plan.specs.declared.Written.TheVariants as written
-use Rattle.plan.specs.declared.Traced.{Traced}
-use Rattle.plan.specs.declared.Traced.TheVariants as traced
 use Rattle.plan.specs.Refusals.{Parse, got, refused, ◌then◌, unless, stage, first_of}
 use Rattle.plan.specs.Circuit.{Circuit, Tables, counts_of, lengths_of, holding, all_cleared, cleared}
 use Rattle.plan.specs.Header.{header}
@@ -31,8 +24,8 @@ tell_refusal r out = put_bytes out 0 (refusal_line r)
 
 -- an input that can be read, or not
 abbrev pub input_of : Bool → List ℕ → Option (List ℕ)
-input_of true bytes = some bytes
-input_of false bytes = none
+input_of true bytes = Some bytes
+input_of false bytes = None
 
 -- what is lent: tables to read a circuit into, tables to make one in, which bear the same numbers, scratch and a buffer
 pub record WholeEntry : Type 0 where
@@ -43,7 +36,7 @@ pub record WholeEntry : Type 0 where
   pub out : List ℕ
 
 pub record WholeExit : Type 0 where
-  pub answer : Written
+  pub answer : Result ℕ Refusal
   pub read : Tables
   pub made : Tables
   pub scratch : List ℕ
@@ -61,14 +54,14 @@ fitting_in out bytes = unless (lacking_room out 0 bytes) ShortBuffer (got bytes 
 -- all tables are zero afterwards
 abbrev pub whole_by : WholeEntry → Parse (List ℕ) → WholeExit
 whole_by e (got bytes n) = record {
-  answer = written.Bytes (length bytes);
+  answer = Ok (length bytes);
   read = all_cleared e.read;
   made = all_cleared e.made;
   scratch = cleared e.scratch;
   out = put e.out 0 bytes;
 }
 whole_by e (refused r) = record {
-  answer = written.Refused r;
+  answer = Err r;
   read = all_cleared e.read;
   made = all_cleared e.made;
   scratch = cleared e.scratch;
@@ -108,20 +101,20 @@ drop_whole e = whole_by e (dropped_file e)
 
 -- the converted circuit of a file, in the tables to make one in
 pub record OpenExit : Type 0 where
-  pub answer : Made
+  pub answer : Result Counts Refusal
   pub read : Tables
   pub made : Tables
   pub scratch : List ℕ
 
 abbrev pub open_by : WholeEntry → Parse Circuit → OpenExit
 open_by e (got c start) = record {
-  answer = made.Accepted (counts_of (convert c));
+  answer = Ok (counts_of (convert c));
   read = all_cleared e.read;
   made = holding e.made (convert c);
   scratch = cleared e.scratch;
 }
 open_by e (refused r) = record {
-  answer = made.Refused r;
+  answer = Err r;
   read = all_cleared e.read;
   made = all_cleared e.made;
   scratch = cleared e.scratch;
@@ -131,11 +124,11 @@ abbrev pub open_whole : WholeEntry → OpenExit
 open_whole e = open_by e (input e.plan (file_circuit e))
 
 -- the lines of standard input: how many, by 14, 13, 1 and 12
-abbrev pub counted_by : Parse (List (List ℕ)) → Traced
-counted_by (got list end) = traced.Lines (length list)
-counted_by (refused r) = traced.Refused r
+abbrev pub counted_by : Parse (List (List ℕ)) → Result ℕ Refusal
+counted_by (got list end) = Ok (length list)
+counted_by (refused r) = Err r
 
-abbrev pub count_lines : Option (List ℕ) → ℕ → Traced
+abbrev pub count_lines : Option (List ℕ) → ℕ → Result ℕ Refusal
 count_lines standard_in width = counted_by (input standard_in (stimulus width))
 
 -- a part of a run: the circuit in binary order, the state, whole lines of vectors and a buffer for lines of steps
@@ -146,7 +139,7 @@ pub record TraceEntry : Type 0 where
   pub out : List ℕ
 
 pub record TraceExit : Type 0 where
-  pub answer : Traced
+  pub answer : Result ℕ Refusal
   pub scratch : List ℕ
   pub state : List ℕ
   pub out : List ℕ
@@ -174,17 +167,17 @@ state_after c state [] = state
 state_after c state (ins ∷ list) = state_after c (next_of c state ins) list
 
 abbrev pub traced_by : Option Refusal → TraceEntry → TraceExit
-traced_by none e =
+traced_by None e =
     let c = given_circuit e.circuit in
     let state = map value_of e.state in
     record {
-      answer = traced.Lines (length (next_lines e));
+      answer = Ok (length (next_lines e));
       scratch = cleared e.circuit.scratch;
       state = map code_of (state_after c state (next_lines e));
       out = put e.out 0 (step_lines (run c state (next_lines e)));
     }
-traced_by (some r) e =
-    record { answer = traced.Refused r; scratch = cleared e.circuit.scratch; state = e.state; out = e.out }
+traced_by (Some r) e =
+    record { answer = Err r; scratch = cleared e.circuit.scratch; state = e.state; out = e.out }
 
 abbrev pub trace : TraceEntry → TraceExit
 trace e =

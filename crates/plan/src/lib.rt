@@ -221,105 +221,19 @@ pub enum Refusal {
     NotAlike(usize),
 }
 
-// A number at a position of a file.
-#[derive(Clone, Copy)]
-pub enum Number {
-    // The value, cut at 2 ^ 21, and the position after it.
-    Value(u32, usize),
-    // The offset of the byte that can't stand there, or of the file's end.
-    Wrong(usize),
-}
-
-// A difference at a position of a file.
-#[derive(Clone, Copy)]
-pub enum Difference {
-    // The value and the position after it.
-    Value(u32, usize),
-    // The file ends, at this length, before the difference does.
-    Ends(usize),
-    // More than three bytes, or longer than needed; where its first byte stands.
-    Bad(usize),
-}
-
-// What a part of a file answers: the position after it.
-#[derive(Clone, Copy)]
-pub enum Passed {
-    To(usize),
-    Refused(Refusal),
-}
-
-// What a header answers: whether it is binary, the counts, and the position after it.
-#[derive(Clone, Copy)]
-pub enum Headed {
-    Accepted(bool, Counts, usize),
-    Refused(Refusal),
-}
-
-// What a reader answers: the counts and where the tail starts.
-#[derive(Clone, Copy)]
-pub enum Loaded {
-    Accepted(Counts, usize),
-    Refused(Refusal),
-}
-
-// What a check of given tables answers.
-#[derive(Clone, Copy)]
-pub enum Checked {
-    Good,
-    Refused(Refusal),
-}
-
-// What a writer answers: the number of bytes written.
-#[derive(Clone, Copy)]
-pub enum Written {
-    Bytes(usize),
-    Refused(Refusal),
-}
-
-// What conversion and reduction answer: the counts of the circuit made.
-#[derive(Clone, Copy)]
-pub enum Made {
-    Accepted(Counts),
-    Refused(Refusal),
-}
-
-// What the stepper answers.
-#[derive(Clone, Copy)]
-pub enum Stepped {
-    Done,
-    Refused(Refusal),
-}
-
-// What the witness question in three values answers.
-#[derive(Clone, Copy)]
-pub enum Verdict {
-    Yes,
-    No,
-    Refused(Refusal),
-}
-
-// What the witness question answers: whether every filling of the x shows a 1, and how many were tried.
+// What the witness question finds: whether every filling of the x shows a 1, and how many were tried.
 #[derive(Clone, Copy)]
 pub enum Finding {
     Yes(usize),
     No(usize),
     Undecided(usize),
-    Refused(Refusal),
 }
 
-// What the search answers: it never happens, and how many states are reached; it can, by a list of so many steps; or the allowance is used up.
+// What the search finds: it never happens, and how many states are reached; it can, by a list of so many steps; or the allowance is used up.
 // Each with the tries made.
 #[derive(Clone, Copy)]
 pub enum Happening {
     Never(usize, usize),
     Can(usize, usize),
     Undecided(usize),
-    Refused(Refusal),
-}
-
-// What a part of a run answers: how many lines of it.
-#[derive(Clone, Copy)]
-pub enum Traced {
-    Lines(usize),
-    Refused(Refusal),
 }

@@ -2,17 +2,14 @@
 use Prim.Native.Nat.{ℕ, ◌+◌, ◌≤◌}
 use mathlib.Core.Path.{◌≡◌, refl, sym, ap, ◌∙◌, subst}
 use mathlib.Core.Bool.{Bool, true, false}
-use mathlib.Core.Option.{none, some}
 use mathlib.Core.List.{List}
+use Rattle.std.specs.Prelude.{Result, Ok, Err, Some, None}
 use borrow.Author.Tests.{eqb-true, leb-true}
 use lib.ListN.{get_or}
 use Rattle.plan.specs.declared.Counts.{Counts}
 use Rattle.plan.specs.declared.Version.{Version}
 use Rattle.plan.specs.declared.Refusal.{Refusal}
 use Rattle.plan.specs.declared.Refusal.TheVariants.{ShortTable}
-use Rattle.plan.specs.declared.Passed.{Passed}
-use Rattle.plan.specs.declared.Passed.TheVariants as passed
-use Rattle.plan.specs.declared.Loaded.TheVariants.{Accepted, Refused}
 use Rattle.plan.specs.Refusals.{Parse, got, refused}
 use Rattle.plan.specs.Circuit.{Circuit, Tables, counts_of, lengths_of, against, least_short}
 use Rattle.plan.specs.Header.{Form, text, binary, header, adds, list_of, words_to_read}
@@ -45,37 +42,37 @@ rest-counts v file bytes f n at c e s q =
     let z = unless-got (cyclic_in t.0) _ _ c e w.1 in
     ap counts_of (sym (got-value t.0 c t.1 e z.1)) ∙ body-counts v file bytes f n at t.0 t.1 s t.2
 
-loaded-refused : (t t' : Tables) (p : Parse Circuit) (k : Refusal) → p ≡ refused k → LoadedSays t p (Refused k) t'
-loaded-refused t t' p k e = subst (λ (q : Parse Circuit). LoadedSays t q (Refused k) t') (sym e) refl
+loaded-refused : (t t' : Tables) (p : Parse Circuit) (k : Refusal) → p ≡ refused k → LoadedSays t p (Err k) t'
+loaded-refused t t' p k e = subst (λ (q : Parse Circuit). LoadedSays t q (Err k) t') (sym e) refl
 
 module _ (v : Version) (file : List ℕ) (t t' : Tables) (scratch : List ℕ) where
-  pub header-told : (k : Refusal) → header v file 0 ≡ refused k → LoadedSays t (read_file v file (lengths_of t scratch)) (Refused k) t'
+  pub header-told : (k : Refusal) → header v file 0 ≡ refused k → LoadedSays t (read_file v file (lengths_of t scratch)) (Err k) t'
   header-told k e = loaded-refused t t' (read_file v file (lengths_of t scratch)) k (rw e)
 
   module _ (f : Form) (n : Counts) (at : ℕ) (e : header v file 0 ≡ got (record { form = f; counts = n }) at) where
-    pub short-told : (k : ℕ) → least_short (against 1 (words_to_read f n) (lengths_of t scratch)) ≡ some k
-        → LoadedSays t (read_file v file (lengths_of t scratch)) (Refused (ShortTable k)) t'
+    pub short-told : (k : ℕ) → least_short (against 1 (words_to_read f n) (lengths_of t scratch)) ≡ Some k
+        → LoadedSays t (read_file v file (lengths_of t scratch)) (Err (ShortTable k)) t'
     short-told k s = loaded-refused t t' (read_file v file (lengths_of t scratch)) (ShortTable k) (rw (e, s))
 
-    module _ (s : least_short (against 1 (words_to_read f n) (lengths_of t scratch)) ≡ none) where
+    module _ (s : least_short (against 1 (words_to_read f n) (lengths_of t scratch)) ≡ None) where
       whole : read_file v file (lengths_of t scratch) ≡ rest v file f n at
       whole = rw (e, s)
 
-      pub rest-refused : (k : Refusal) (r : Passed) → BodySays t (rest v file f n at) r t' → r ≡ passed.Refused k
-          → LoadedSays t (read_file v file (lengths_of t scratch)) (Refused k) t'
+      pub rest-refused : (k : Refusal) (r : Result ℕ Refusal) → BodySays t (rest v file f n at) r t' → r ≡ Err k
+          → LoadedSays t (read_file v file (lengths_of t scratch)) (Err k) t'
       rest-refused k r h q =
           loaded-refused t t' (read_file v file (lengths_of t scratch)) k
-          (whole ∙ body_refused t (rest v file f n at) k t' (subst (λ (x : Passed). BodySays t (rest v file f n at) x t') q h))
+          (whole ∙ body_refused t (rest v file f n at) k t' (subst (λ (x : Result ℕ Refusal). BodySays t (rest v file f n at) x t') q h))
 
-      pub rest-accepted : (next : ℕ) (r : Passed) → Bytes file → adds f n ≡ true → BodySays t (rest v file f n at) r t' → r ≡ passed.To next
-          → LoadedSays t (read_file v file (lengths_of t scratch)) (Accepted n next) t'
+      pub rest-accepted : (next : ℕ) (r : Result ℕ Refusal) → Bytes file → adds f n ≡ true → BodySays t (rest v file f n at) r t' → r ≡ Ok next
+          → LoadedSays t (read_file v file (lengths_of t scratch)) (Ok (n, next)) t'
       rest-accepted next r bytes sum h q =
-          let p = body-passed t (rest v file f n at) next t' (subst (λ (x : Passed). BodySays t (rest v file f n at) x t') q h) in
-          subst (λ (q : Parse Circuit). LoadedSays t q (Accepted n next) t') (sym (whole ∙ p.1))
-          (ap (λ (m : Counts). Accepted m next) (sym (rest-counts v file bytes f n at p.0 next sum p.1)), p.2)
+          let p = body-passed t (rest v file f n at) next t' (subst (λ (x : Result ℕ Refusal). BodySays t (rest v file f n at) x t') q h) in
+          subst (λ (q : Parse Circuit). LoadedSays t q (Ok (n, next)) t') (sym (whole ∙ p.1))
+          (ap (λ (m : Counts). Ok (m, next)) (sym (rest-counts v file bytes f n at p.0 next sum p.1)), p.2)
 
 -- by the header's form
-module _ (v : Version) (file : List ℕ) (n : Counts) (at : ℕ) (t t' : Tables) (r : Passed) (b : Bool) where
+module _ (v : Version) (file : List ℕ) (n : Counts) (at : ℕ) (t t' : Tables) (r : Result ℕ Refusal) (b : Bool) where
   pub as-binary : b ≡ true → BodySays t (rest v file binary n at) r t' → BodySays t (rest v file (form_of b) n at) r t'
   as-binary e h = subst (λ (x : Bool). BodySays t (rest v file (form_of x) n at) r t') (sym e) h
 
@@ -93,7 +90,7 @@ pub text-sum : (n : Counts) (b : Bool) → b ≡ false → adds (form_of b) n �
 text-sum n b e h = leb-true _ _ (subst (λ (x : Bool). adds (form_of x) n ≡ true) e h)
 
 pub room_for : (f : Form) (n : Counts) (t : Tables) (scratch : List ℕ) → AllMost (list_of n)
-    → least_short (against 1 (words_to_read f n) (lengths_of t scratch)) ≡ none
+    → least_short (against 1 (words_to_read f n) (lengths_of t scratch)) ≡ None
     → ((i : ℕ) → get_or scratch i 0 ≡ 0) → Room f n t scratch
 room_for f n t scratch small s blank =
     let l = (short_none (against 1 (words_to_read f n) (lengths_of t scratch))).0 s in

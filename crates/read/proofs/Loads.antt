@@ -2,13 +2,12 @@
 use Prim.Native.Nat.{ℕ}
 use mathlib.Core.Path.{◌≡◌, sym, ap, ap₂, ◌∙◌, subst₂}
 use mathlib.Core.List.{List}
+use Rattle.std.specs.Prelude.{Result, Ok, Err}
 use native.Mathlib.Omega.{arith}
 use lib.ListN.{length, replicate, length-replicate}
 use Rattle.plan.specs.declared.Counts.{Counts}
 use Rattle.plan.specs.declared.Version.{Version}
 use Rattle.plan.specs.declared.Refusal.{Refusal}
-use Rattle.plan.specs.declared.Loaded.{Loaded}
-use Rattle.plan.specs.declared.Loaded.TheVariants.{Accepted, Refused}
 use Rattle.plan.specs.Refusals.{Parse, got, refused}
 use Rattle.plan.specs.Circuit.{Circuit, Tables, lengths_of, cleared, all_cleared}
 use Rattle.plan.specs.Reading.{read_file}
@@ -22,29 +21,29 @@ lengths-cleared t scratch = simp length-replicate
 
 -- the outcome by the answer of the filled tables
 module _ (v : Version) (e : ReadEntry) (t' : Tables) where
-  by-parse : (p : Parse Circuit) (r : Loaded) → LoadedSays (all_cleared e.tables) p r t' → (n : Counts) (start : ℕ) → r ≡ Accepted n start
-      → record { answer = Accepted n start; tables = t'; scratch = cleared e.scratch } ≡ load_by e p
+  by-parse : (p : Parse Circuit) (r : Result (Counts × ℕ) Refusal) → LoadedSays (all_cleared e.tables) p r t' → (n : Counts) (start : ℕ) → r ≡ Ok (n, start)
+      → record { answer = Ok (n, start); tables = t'; scratch = cleared e.scratch } ≡ load_by e p
   by-parse (got c s) r h n start q =
-      ap₂ (λ (x : Loaded) (y : Tables). record { answer = x; tables = y; scratch = cleared e.scratch }) (sym q ∙ h.0) (holds-filled e.tables t' c h.1)
+      ap₂ (λ (x : Result (Counts × ℕ) Refusal) (y : Tables). record { answer = x; tables = y; scratch = cleared e.scratch }) (sym q ∙ h.0) (holds-filled e.tables t' c h.1)
   by-parse (refused k) r h n start q = let z : ◌≡◌ {A = ℕ} 0 1 = cc in absurd (omega arith)
 
-  pub accepted : (r : Loaded) → LoadedSays (all_cleared e.tables) (read_file v e.file (lengths_of (all_cleared e.tables) (cleared e.scratch))) r t'
-      → (n : Counts) (start : ℕ) → r ≡ Accepted n start → record { answer = Accepted n start; tables = t'; scratch = cleared e.scratch } ≡ load_as v e
+  pub accepted : (r : Result (Counts × ℕ) Refusal) → LoadedSays (all_cleared e.tables) (read_file v e.file (lengths_of (all_cleared e.tables) (cleared e.scratch))) r t'
+      → (n : Counts) (start : ℕ) → r ≡ Ok (n, start) → record { answer = Ok (n, start); tables = t'; scratch = cleared e.scratch } ≡ load_as v e
   accepted r h n start q =
       by-parse (read_file v e.file (lengths_of (all_cleared e.tables) (cleared e.scratch))) r h n start q
       ∙ ap (λ (x : List ℕ). load_by e (read_file v e.file x)) (lengths-cleared e.tables e.scratch)
 
-by-refusal : (e : ReadEntry) (t' : Tables) (p : Parse Circuit) (r : Loaded) → LoadedSays (all_cleared e.tables) p r t' → (k : Refusal) → r ≡ Refused k
-    → record { answer = Refused k; tables = all_cleared e.tables; scratch = cleared e.scratch } ≡ load_by e p
+by-refusal : (e : ReadEntry) (t' : Tables) (p : Parse Circuit) (r : Result (Counts × ℕ) Refusal) → LoadedSays (all_cleared e.tables) p r t' → (k : Refusal) → r ≡ Err k
+    → record { answer = Err k; tables = all_cleared e.tables; scratch = cleared e.scratch } ≡ load_by e p
 by-refusal e t' (got c s) r h k q = let a = h.0 in let z : ◌≡◌ {A = ℕ} 0 1 = cc in absurd (omega arith)
 by-refusal e t' (refused j) r h k q =
     let same : k ≡ j = cc in
-    ap (λ (x : Refusal). record { answer = Refused x; tables = all_cleared e.tables; scratch = cleared e.scratch }) same
+    ap (λ (x : Refusal). record { answer = Err x; tables = all_cleared e.tables; scratch = cleared e.scratch }) same
 
-pub not-accepted : (v : Version) (e : ReadEntry) (t' : Tables) (r : Loaded)
+pub not-accepted : (v : Version) (e : ReadEntry) (t' : Tables) (r : Result (Counts × ℕ) Refusal)
     → LoadedSays (all_cleared e.tables) (read_file v e.file (lengths_of (all_cleared e.tables) (cleared e.scratch))) r t' → (k : Refusal) → r
-    ≡ Refused k
-    → record { answer = Refused k; tables = all_cleared e.tables; scratch = cleared e.scratch } ≡ load_as v e
+    ≡ Err k
+    → record { answer = Err k; tables = all_cleared e.tables; scratch = cleared e.scratch } ≡ load_as v e
 not-accepted v e t' r h k q =
     by-refusal e t' (read_file v e.file (lengths_of (all_cleared e.tables) (cleared e.scratch))) r h k q
     ∙ ap (λ (x : List ℕ). load_by e (read_file v e.file x)) (lengths-cleared e.tables e.scratch)
@@ -67,14 +66,14 @@ all_same t u i l o g r b c = λ j. record {
 }
 
 -- the whole call: cleared, filled, and cleared again
-module _ (v : Version) (e : ReadEntry) (T t' : Tables) (S : List ℕ) (r : Loaded) (T-is : T ≡ all_cleared e.tables) (S-is : S ≡ cleared e.scratch)
+module _ (v : Version) (e : ReadEntry) (T t' : Tables) (S : List ℕ) (r : Result (Counts × ℕ) Refusal) (T-is : T ≡ all_cleared e.tables) (S-is : S ≡ cleared e.scratch)
     (h : LoadedSays T (read_file v e.file (lengths_of T S)) r t') (scratch : List ℕ) (s-is : scratch ≡ cleared e.scratch) where
   carried : LoadedSays (all_cleared e.tables) (read_file v e.file (lengths_of (all_cleared e.tables) (cleared e.scratch))) r t'
   carried = subst₂ (λ (x : Tables) (y : List ℕ). LoadedSays x (read_file v e.file (lengths_of x y)) r t') T-is S-is h
 
-  pub load-accepted : (n : Counts) (start : ℕ) → r ≡ Accepted n start → record { answer = r; tables = t'; scratch = scratch } ≡ load_as v e
+  pub load-accepted : (n : Counts) (start : ℕ) → r ≡ Ok (n, start) → record { answer = r; tables = t'; scratch = scratch } ≡ load_as v e
   load-accepted n start q = (λ i. record { answer = q i; tables = t'; scratch = s-is i }) ∙ accepted v e t' r carried n start q
 
-  pub load-refused : (k : Refusal) → r ≡ Refused k → (x : Tables) → x ≡ all_cleared e.tables
-      → record { answer = Refused k; tables = x; scratch = scratch } ≡ load_as v e
-  load-refused k q x x-is = (λ i. record { answer = Refused k; tables = x-is i; scratch = s-is i }) ∙ not-accepted v e t' r carried k q
+  pub load-refused : (k : Refusal) → r ≡ Err k → (x : Tables) → x ≡ all_cleared e.tables
+      → record { answer = Err k; tables = x; scratch = scratch } ≡ load_as v e
+  load-refused k q x x-is = (λ i. record { answer = Err k; tables = x-is i; scratch = s-is i }) ∙ not-accepted v e t' r carried k q

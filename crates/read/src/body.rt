@@ -10,7 +10,7 @@ use judge::at_end;
 use lines::binary::read_binary;
 use lines::tail;
 use lines::text::read_text;
-use plan::{Checked, Counts, Passed, Version};
+use plan::{Counts, Refusal, Version};
 
 // What follows the header of a text file: the body, the tail, then 7 and 8. Marks of symbols stand at the start of
 // the scratch, marks of variables after them.
@@ -27,7 +27,7 @@ pub fn rest_of_text(
     bads: &mut [u32],
     constraints: &mut [u32],
     scratch: &mut [u32],
-) -> Passed
+) -> Result<usize, Refusal>
     requires room { Room text n (seven inputs.old latches.old outputs.old gates.old resets.old bads.old
         constraints.old) scratch.old }
     requires a_bound { n.I + n.L + n.A ≤ n.M }
@@ -37,7 +37,7 @@ pub fn rest_of_text(
         (after inputs latches outputs gates resets bads constraints) }
 {
     let base = n.I + n.L + n.O + n.B + n.C;
-    let read = read_text(
+    let next = read_text(
         version,
         file,
         at,
@@ -50,28 +50,21 @@ pub fn rest_of_text(
         bads,
         constraints,
         &mut scratch[base..],
-    );
-    let Passed::To(next) = read else {
-        return read;
-    };
-    match tail::check(version, file, next, n, &mut scratch[0..base]) {
-        Checked::Refused(r) => Passed::Refused(r),
-        Checked::Good => match at_end::check(
-            n,
-            inputs,
-            latches,
-            outputs,
-            gates,
-            bads,
-            constraints,
-            scratch,
-            base,
-            false,
-        ) {
-            Checked::Refused(r) => Passed::Refused(r),
-            Checked::Good => Passed::To(next),
-        },
-    }
+    )?;
+    tail::check(version, file, next, n, &mut scratch[0..base])?;
+    at_end::check(
+        n,
+        inputs,
+        latches,
+        outputs,
+        gates,
+        bads,
+        constraints,
+        scratch,
+        base,
+        false,
+    )?;
+    Ok(next)
 }
 
 // What follows the header of a binary file: the body and the tail. Marks of symbols are all that stands in the
@@ -89,7 +82,7 @@ pub fn rest_of_binary(
     bads: &mut [u32],
     constraints: &mut [u32],
     scratch: &mut [u32],
-) -> Passed
+) -> Result<usize, Refusal>
     requires room { Room binary n (seven inputs.old latches.old outputs.old gates.old resets.old bads.old
         constraints.old) scratch.old }
     requires a_value { n.I + n.L + n.A ≡ n.M }
@@ -99,7 +92,7 @@ pub fn rest_of_binary(
         (after inputs latches outputs gates resets bads constraints) }
 {
     let base = n.I + n.L + n.O + n.B + n.C;
-    let read = read_binary(
+    let end = read_binary(
         version,
         file,
         at,
@@ -112,12 +105,7 @@ pub fn rest_of_binary(
         bads,
         constraints,
         &mut scratch[base..],
-    );
-    let Passed::To(end) = read else {
-        return read;
-    };
-    match tail::check(version, file, end, n, &mut scratch[0..base]) {
-        Checked::Refused(r) => Passed::Refused(r),
-        Checked::Good => Passed::To(end),
-    }
+    )?;
+    tail::check(version, file, end, n, &mut scratch[0..base])?;
+    Ok(end)
 }

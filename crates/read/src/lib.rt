@@ -14,7 +14,7 @@ use crate::body::{rest_of_binary, rest_of_text};
 use answers::numbers::{no_counts, tell};
 use answers::refusals::{told_number, told_place};
 use lines::header::read_header;
-use plan::{Counts, Headed, Loaded, Passed, Refusal, Version};
+use plan::{Counts, Refusal, Version};
 use tables::{clear, clear_all, lengths, scratch_to_read, too_short};
 
 pub mod body;
@@ -33,7 +33,7 @@ fn rest_of(
     bads: &mut [u32],
     constraints: &mut [u32],
     scratch: &mut [u32],
-) -> Passed
+) -> Result<usize, Refusal>
     requires room { Room (form_of binary) n (seven inputs.old latches.old outputs.old gates.old resets.old
         bads.old constraints.old) scratch.old }
     requires n_value { adds (form_of binary) n ≡ true }
@@ -87,42 +87,35 @@ fn fill(
     bads: &mut [u32],
     constraints: &mut [u32],
     scratch: &mut [u32],
-) -> Loaded
+) -> Result<(Counts, usize), Refusal>
     requires { (i : ℕ) → get_or scratch.old i 0 ≡ 0 }
     ensures { LoadedSays (before inputs latches outputs gates resets bads constraints)
         (read_file version file.now (lengths_of
         (before inputs latches outputs gates resets bads constraints) scratch.old)) result
         (after inputs latches outputs gates resets bads constraints) }
 {
-    match read_header(version, file) {
-        Headed::Refused(r) => Loaded::Refused(r),
-        Headed::Accepted(binary, n, at) => {
-            let to = lengths(inputs, latches, outputs, gates, resets, bads, constraints);
-            let needed = scratch_to_read(binary, n);
-            let short = too_short(n, to, needed, scratch.len());
-            if short != 0 {
-                return Loaded::Refused(Refusal::ShortTable(short));
-            }
-            match rest_of(
-                version,
-                binary,
-                file,
-                at,
-                n,
-                inputs,
-                latches,
-                outputs,
-                gates,
-                resets,
-                bads,
-                constraints,
-                scratch,
-            ) {
-                Passed::Refused(r) => Loaded::Refused(r),
-                Passed::To(next) => Loaded::Accepted(n, next),
-            }
-        }
+    let (binary, n, at) = read_header(version, file)?;
+    let to = lengths(inputs, latches, outputs, gates, resets, bads, constraints);
+    let needed = scratch_to_read(binary, n);
+    if let Some(short) = too_short(n, to, needed, scratch.len()) {
+        return Err(Refusal::ShortTable(short));
     }
+    let next = rest_of(
+        version,
+        binary,
+        file,
+        at,
+        n,
+        inputs,
+        latches,
+        outputs,
+        gates,
+        resets,
+        bads,
+        constraints,
+        scratch,
+    )?;
+    Ok((n, next))
 }
 
 // Reads a file by a version of the report into tables 1 to 4 and 7 to 9, whatever they hold on entry: the counts
@@ -138,7 +131,7 @@ pub fn load(
     bads: &mut [u32],
     constraints: &mut [u32],
     scratch: &mut [u32],
-) -> Loaded
+) -> Result<(Counts, usize), Refusal>
     ensures { Loads (load_as version) file inputs latches outputs gates resets bads constraints scratch result }
 {
     clear_all(inputs, latches, outputs, gates, resets, bads, constraints);
@@ -156,9 +149,9 @@ pub fn load(
         scratch,
     );
     tables::clear(scratch);
-    if let Loaded::Refused(r) = read {
+    if let Err(r) = read {
         clear_all(inputs, latches, outputs, gates, resets, bads, constraints);
-        return Loaded::Refused(r);
+        return Err(r);
     }
     read
 }
@@ -199,11 +192,11 @@ pub fn read<'a>(
         constraints,
         scratch,
     ) {
-        Loaded::Accepted(n, start) => {
+        Ok((n, start)) => {
             tell(answer, 0, 0, n);
             &file[start..]
         }
-        Loaded::Refused(r) => {
+        Err(r) => {
             tell(answer, told_number(r), told_place(r) as u64, no_counts());
             let end = file.len();
             &file[end..]

@@ -2,15 +2,12 @@
 use Prim.Native.Nat.{ℕ, ◌+◌, ◌≤◌}
 use mathlib.Core.Path.{◌≡◌, sym, ap, ap₂, ◌∙◌, subst}
 use mathlib.Core.Bool.{true}
-use mathlib.Core.Option.{Option, none, some}
 use mathlib.Core.List.{List}
+use Rattle.std.specs.Prelude.{Result, Ok, Err, Option, Some, None}
 use native.Mathlib.Omega.{arith}
 use lib.ListN.{length, get_or, replicate, length-replicate}
 use Rattle.plan.specs.declared.Counts.{Counts}
 use Rattle.plan.specs.declared.Refusal.{Refusal}
-use Rattle.plan.specs.declared.Checked.{Checked}
-use Rattle.plan.specs.declared.Checked.TheVariants as checked
-use Rattle.plan.specs.declared.Made.TheVariants as made
 use Rattle.plan.specs.Literals.{most}
 use Rattle.plan.specs.Refusals.{first_of}
 use Rattle.plan.specs.Circuit.{Circuit, Tables, counts_of, cleared, all_cleared, holding}
@@ -49,10 +46,10 @@ module _ (g : Given) (t : Tables) where
   first = first_of (all_stages true g (lent_with g t))
 
   -- what the check says of tables as long as those lent for writing
-  abbrev pub Judged : Checked → List ℕ → Type 0
+  abbrev pub Judged : Result Unit Refusal → List ℕ → Type 0
   Judged r s = ◌≡◌ {A = CheckExit} (record { answer = r; scratch = s }) (check_by (all_stages true g (lent_with g t)) g)
 
-  module _ (r : Checked) (s : List ℕ) (judged : Judged r s) where
+  module _ (r : Result Unit Refusal) (s : List ℕ) (judged : Judged r s) where
     answer-is : r ≡ checked_by first
     answer-is = ap (λ (x : CheckExit). x.answer) judged
 
@@ -60,16 +57,16 @@ module _ (g : Given) (t : Tables) where
     scratch-is = ap (λ (x : CheckExit). x.scratch) judged
 
     -- a refusal leaves the tables cleared
-    pub refused : (d : Circuit) (x : Refusal) → r ≡ checked.Refused x → (to : Tables) → to ≡ all_cleared t
-        → ◌≡◌ {A = MakeExit} (record { answer = made.Refused x; written = to; scratch = s })
+    pub refused : (d : Circuit) (x : Refusal) → r ≡ Err x → (to : Tables) → to ≡ all_cleared t
+        → ◌≡◌ {A = MakeExit} (record { answer = Err x; written = to; scratch = s })
         (made_by first (record { circuit = g; written = t }) d)
     refused d x e to cleared-is =
-        let found : first ≡ some x = refused-some x first (sym e ∙ answer-is) in
-        ap₂ (λ (w : Tables) (z : List ℕ). record { answer = made.Refused x; written = w; scratch = z }) cleared-is scratch-is
+        let found : first ≡ Some x = refused-some x first (sym e ∙ answer-is) in
+        ap₂ (λ (w : Tables) (z : List ℕ). record { answer = Err x; written = w; scratch = z }) cleared-is scratch-is
         ∙ sym (ap (λ (o : Option Refusal). made_by o (record { circuit = g; written = t }) d) found)
 
-    module _ (e : r ≡ checked.Good) where
-      no-refusal : first ≡ none
+    module _ (e : r ≡ Ok tt) where
+      no-refusal : first ≡ None
       no-refusal = good_none first (sym e ∙ answer-is)
 
       pub passed : Good true g
@@ -119,9 +116,9 @@ module _ (g : Given) (t : Tables) where
 
           pub accepted : (m : ℕ) (s' : List ℕ) → m ≡ length s → s' ≡ replicate m 0
               → ◌≡◌ {A = MakeExit}
-              (record { answer = made.Accepted (counts_with g.counts k); written = to; scratch = s' })
+              (record { answer = Ok (counts_with g.counts k); written = to; scratch = s' })
               (made_by first (record { circuit = g; written = t }) d)
           accepted m s' same blank =
               let clean : s' ≡ cleared g.scratch = blank ∙ ap (λ (j : ℕ). replicate j 0) (same ∙ size) in
-              (λ j. record { answer = made.Accepted (counts-are j); written = tables-are j; scratch = clean j })
+              (λ j. record { answer = Ok (counts-are j); written = tables-are j; scratch = clean j })
               ∙ sym (ap (λ (o : Option Refusal). made_by o (record { circuit = g; written = t }) d) no-refusal)

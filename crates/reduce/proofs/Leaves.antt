@@ -2,8 +2,8 @@
 use Prim.Native.Nat.{ℕ, zero, suc, ◌+◌, ◌*◌, ◌%◌, ◌/◌, ◌<◌, ◌≤◌}
 use mathlib.Core.Path.{◌≡◌, refl, sym, ap, ap₂, ◌∙◌}
 use mathlib.Core.Bool.{true, false≢true}
-use mathlib.Core.Option.{Option, none, some}
 use mathlib.Core.List.{List, [], ◌∷◌, map}
+use Rattle.std.specs.Prelude.{Option, Some, None}
 use native.Mathlib.Omega.{arith}
 use lib.ListN.{length, get_or, take, length-append, get_or-append}
 use lib.Seq.{get_or-take}
@@ -20,12 +20,12 @@ use Rattle.laws.proofs.Running.Resets.{by-reset}
 -- what variables became stays
 retain-stays : (r : Reduced) (a b : ℕ) (o : Option ℕ) (v : ℕ) → v < length r.became
     → get_or (retain r a b o).became v 0 ≡ get_or r.became v 0
-retain-stays r a b (some l) v h = get_or-append r.became (l ∷ []) 0 v h
-retain-stays r a b none v h = get_or-append r.became (lit_of r.fresh ∷ []) 0 v h
+retain-stays r a b (Some l) v h = get_or-append r.became (l ∷ []) 0 v h
+retain-stays r a b None v h = get_or-append r.became (lit_of r.fresh ∷ []) 0 v h
 
 retain-longer : (r : Reduced) (a b : ℕ) (o : Option ℕ) → length r.became ≤ length (retain r a b o).became
-retain-longer r a b (some l) = omega (arith, length-append r.became (l ∷ []))
-retain-longer r a b none = omega (arith, length-append r.became (lit_of r.fresh ∷ []))
+retain-longer r a b (Some l) = omega (arith, length-append r.became (l ∷ []))
+retain-longer r a b None = omega (arith, length-append r.became (lit_of r.fresh ∷ []))
 
 stays : (r : Reduced) (gs : List Gate) (v : ℕ) → v < length r.became → get_or (reduce_gates r gs).became v 0 ≡ get_or r.became v 0
 stays r [] v h = refl

@@ -13,13 +13,6 @@ use crate::pairs;
 use crate::pairs::{Place, left_side};
 use plan::{Lit, Var};
 
-// What two sides give with no look at the retained gates.
-#[derive(Clone, Copy)]
-enum Rule {
-    Gives(u32),
-    Open,
-}
-
 // What a literal became, where the table's words are what the variables became.
 pub fn becomes(became: &[u32], l: Lit) -> Lit
     requires { var_of (word_of l) < length became.now }
@@ -29,31 +22,32 @@ pub fn becomes(became: &[u32], l: Lit) -> Lit
     Lit::at(became[v]).signed_as(l)
 }
 
-// Equal sides give that side; a side and its negation give 0; a side 0 gives 0; a side 1 gives the other.
-fn by_sides(a: Lit, b: Lit) -> Rule
+// What two sides give with no look at the retained gates. Equal sides give that side; a side and its negation give
+// 0; a side 0 gives 0; a side 1 gives the other.
+fn by_sides(a: Lit, b: Lit) -> Option<u32>
     ensures { Ruled (word_of a) (word_of b) result }
 {
     let x = a.word();
     let y = b.word();
     if x == y {
-        return Rule::Gives(x);
+        return Some(x);
     }
     if x == b.negated().word() {
-        return Rule::Gives(0); // a side and its negation
+        return Some(0); // a side and its negation
     }
     if x == 0 {
-        return Rule::Gives(0);
+        return Some(0);
     }
     if y == 0 {
-        return Rule::Gives(0);
+        return Some(0);
     }
     if x == 1 {
-        return Rule::Gives(y);
+        return Some(y);
     }
     if y == 1 {
-        return Rule::Gives(x);
+        return Some(x);
     }
-    Rule::Open
+    None
 }
 
 // The literal that stands in for a gate with the sides a and b, or where the gate is to hang, larger side first.
@@ -73,8 +67,8 @@ fn stand_in(
     ensures { StandsIn gates.now scratch.now base w n (word_of a) (word_of b) result }
 {
     match by_sides(a, b) {
-        Rule::Gives(l) => Place::Taken(l),
-        Rule::Open => pairs::find(gates, scratch, base, w, n, a.larger(b), a.smaller(b)),
+        Some(l) => Place::Taken(l),
+        None => pairs::find(gates, scratch, base, w, n, a.larger(b), a.smaller(b)),
     }
 }
 

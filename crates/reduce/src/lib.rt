@@ -9,7 +9,7 @@ ghost use Rattle.plan.specs.Lent.{Makes};
 
 use crate::folding::{becomes, fold_gates};
 use judge::check_to_make;
-use plan::{Checked, Counts, Lit, Made};
+use plan::{Counts, Lit, Refusal};
 use tables::{clear, clear_all, lengths};
 
 pub mod folding;
@@ -71,7 +71,7 @@ pub fn reduce(
     to_bads: &mut [u32],
     to_constraints: &mut [u32],
     scratch: &mut [u32],
-) -> Made
+) -> Result<Counts, Refusal>
     ensures { Makes reduction n inputs latches outputs gates resets bads constraints to_inputs to_latches
         to_outputs to_gates to_resets to_bads to_constraints scratch result }
 {
@@ -93,7 +93,7 @@ pub fn reduce(
         to_bads,
         to_constraints,
     );
-    match check_to_make(
+    check_to_make(
         n,
         inputs,
         latches,
@@ -105,44 +105,40 @@ pub fn reduce(
         scratch,
         to,
         true,
-    ) {
-        Checked::Refused(r) => Made::Refused(r),
-        Checked::Good => {
-            let retained = fold_gates(gates, 1 + n.I + n.L, n.A, to_gates, scratch);
-            three_become(
-                inputs,
-                n.I,
-                latches,
-                2 * n.L,
-                outputs,
-                n.O,
-                scratch,
-                to_inputs,
-                to_latches,
-                to_outputs,
-            );
-            three_become(
-                resets,
-                n.L,
-                bads,
-                n.B,
-                constraints,
-                n.C,
-                scratch,
-                to_resets,
-                to_bads,
-                to_constraints,
-            );
-            clear(scratch);
-            Made::Accepted(Counts {
-                M: n.I + n.L + retained,
-                I: n.I,
-                L: n.L,
-                O: n.O,
-                A: retained,
-                B: n.B,
-                C: n.C,
-            })
-        }
-    }
+    )?;
+    let retained = fold_gates(gates, 1 + n.I + n.L, n.A, to_gates, scratch);
+    three_become(
+        inputs,
+        n.I,
+        latches,
+        2 * n.L,
+        outputs,
+        n.O,
+        scratch,
+        to_inputs,
+        to_latches,
+        to_outputs,
+    );
+    three_become(
+        resets,
+        n.L,
+        bads,
+        n.B,
+        constraints,
+        n.C,
+        scratch,
+        to_resets,
+        to_bads,
+        to_constraints,
+    );
+    clear(scratch);
+    Ok(Counts {
+        M: n.I + n.L + retained,
+        I: n.I,
+        L: n.L,
+        O: n.O,
+        A: retained,
+        B: n.B,
+        C: n.C,
+    })
 }

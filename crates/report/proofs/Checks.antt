@@ -2,13 +2,11 @@
 use Prim.Native.Nat.{ℕ, ◌+◌, ◌*◌, ◌≤◌, ◌<◌}
 use mathlib.Core.Path.{◌≡◌, refl, sym, ap, ap₂, ◌∙◌}
 use mathlib.Core.Bool.{Bool, true, false}
-use mathlib.Core.Option.{Option, none}
 use mathlib.Core.List.{List, [], ◌∷◌}
+use Rattle.std.specs.Prelude.{Result, Ok, Err, Option, None}
 use borrow.Author.Tests.{ltb-false, leb-true, le-leb, lt-leb, eqb-true}
 use lib.Dec.{eqb, ltb, leb}
 use lib.ListN.{length}
-use Rattle.plan.specs.declared.Checked.{Checked}
-use Rattle.plan.specs.declared.Checked.TheVariants as checked
 use Rattle.plan.specs.declared.Refusal.{Refusal}
 use Rattle.plan.specs.declared.Refusal.TheVariants.{LongInput, BadVector}
 use Rattle.plan.specs.Refusals.{stage, first_of}
@@ -43,45 +41,45 @@ module _ (e : ReportEntry) where
   whole = codes_in e.bytes (e.number * g.counts.I)
 
   -- the answer with table 6
-  module _ {a b : Checked} {short : Bool} (told : a ≡ (check_in_order g).answer) (few : short ≡ ltb (length e.six) needed) (both : b ≡ with_sixth a short) where
+  module _ {a b : Result Unit Refusal} {short : Bool} (told : a ≡ (check_in_order g).answer) (few : short ≡ ltb (length e.six) needed) (both : b ≡ with_sixth a short) where
     sixth-is : b ≡ checked_by (first_of sixth)
-    sixth-is = both ∙ (ap (λ (x : Checked). with_sixth x short) told ∙ with-sixth g needed e.six short few)
+    sixth-is = both ∙ (ap (λ (x : Result Unit Refusal). with_sixth x short) told ∙ with-sixth g needed e.six short few)
 
-    pub refused-first : (r : Refusal) → b ≡ checked.Refused r → checked.Refused r ≡ checked_by (first_of (report_stages e))
+    pub refused-first : (r : Refusal) → b ≡ Err r → Err r ≡ checked_by (first_of (report_stages e))
     refused-first r q = sym (ap checked_by (some_first r sixth later (refused-some r (first_of sixth) (sym q ∙ sixth-is))))
 
-    module _ (q : b ≡ checked.Good) where
+    module _ (q : b ≡ Ok tt) where
       past : first_of (report_stages e) ≡ first_of later
       past = both_first sixth later (good_none (first_of sixth) (sym q ∙ sixth-is))
 
-      pub refused-long : most_steps < e.number → checked.Refused (LongInput most_steps) ≡ checked_by (first_of (report_stages e))
+      pub refused-long : most_steps < e.number → Err (LongInput most_steps) ≡ checked_by (first_of (report_stages e))
       refused-long h =
           sym (ap checked_by (past ∙ ap (λ (t : Bool). first_of (stage LongInput (failing_at most_steps t) ∷ list_stage list ∷ []))
           (lt-leb e.number most_steps h)))
 
       module _ (h : e.number ≤ most_steps) where
-        by-list : (t : Bool) → whole ≡ t → first_of (report_stages e) ≡ first_of (none ∷ stage BadVector (failing_at 2 t) ∷ [])
+        by-list : (t : Bool) → whole ≡ t → first_of (report_stages e) ≡ first_of (None ∷ stage BadVector (failing_at 2 t) ∷ [])
         by-list t w =
             past ∙ ap₂ (λ (s t : Bool). first_of (stage LongInput (failing_at most_steps s) ∷ stage BadVector (failing_at 2 t) ∷ []))
             (le-leb e.number most_steps h) w
 
-        pub refused-list : whole ≡ false → checked.Refused (BadVector 2) ≡ checked_by (first_of (report_stages e))
+        pub refused-list : whole ≡ false → Err (BadVector 2) ≡ checked_by (first_of (report_stages e))
         refused-list w = sym (ap checked_by (by-list false w))
 
-        pub nothing-found : whole ≡ true → checked.Good ≡ checked_by (first_of (report_stages e))
+        pub nothing-found : whole ≡ true → Ok tt ≡ checked_by (first_of (report_stages e))
         nothing-found w = sym (ap checked_by (by-list true w))
 
   -- nothing is refused
-  module _ (found : first_of (report_stages e) ≡ none) where
-    parts : (first_of sixth ≡ none) × (first_of later ≡ none)
+  module _ (found : first_of (report_stages e) ≡ None) where
+    parts : (first_of sixth ≡ None) × (first_of later ≡ None)
     parts = first-both sixth later found
 
-    six-good : ((check_in_order g).answer ≡ checked.Good) × (ltb (length e.six) needed ≡ false)
+    six-good : ((check_in_order g).answer ≡ Ok tt) × (ltb (length e.six) needed ≡ false)
     six-good =
         nothing-refused (check_in_order g).answer (ltb (length e.six) needed)
         (with-sixth g needed e.six (ltb (length e.six) needed) refl ∙ ap checked_by parts.0)
 
-    pub tables-good : checked.Good ≡ (check_in_order g).answer
+    pub tables-good : Ok tt ≡ (check_in_order g).answer
     tables-good = sym six-good.0
 
     pub six-long : needed ≤ length e.six

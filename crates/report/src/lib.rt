@@ -15,7 +15,7 @@ ghost use Rattle.plan.specs.Lent.{Reports};
 use crate::needles::{count_all, finish};
 use judge::check_in_order;
 use judge::table_six::with_sixth;
-use plan::{Checked, Counts, Refusal, Stepped};
+use plan::{Counts, Refusal};
 use step::codes::whole_list;
 use step::sweep::{start_values, step_values};
 use step::values::load;
@@ -127,7 +127,7 @@ fn judge(
     number: usize,
     bytes: &[u8],
     words: usize,
-) -> Checked
+) -> Result<(), Refusal>
     ensures by_index { (six : List ℕ) → words ≡ length six → result ≡ checked_by (first_of (report_stages
         (record {
           circuit = (record {
@@ -155,20 +155,16 @@ fn judge(
         scratch,
     );
     let short = too_few(words, n);
-    match with_sixth(checked, short) {
-        Checked::Refused(refusal) => Checked::Refused(refusal),
-        Checked::Good => {
-            let broken = !whole_list(bytes, number, n.I);
-            let long = MOST < number;
-            if long {
-                return Checked::Refused(Refusal::LongInput(MOST));
-            }
-            if broken {
-                return Checked::Refused(Refusal::BadVector(2));
-            }
-            Checked::Good
-        }
+    with_sixth(checked, short)?;
+    let broken = !whole_list(bytes, number, n.I);
+    let long = MOST < number;
+    if long {
+        return Err(Refusal::LongInput(MOST));
     }
+    if broken {
+        return Err(Refusal::BadVector(2));
+    }
+    Ok(())
 }
 
 // Table 6 is zero from the start, so that it is after a refusal, and past the numbers.
@@ -195,11 +191,11 @@ pub fn report(
     number: usize,
     bytes: &[u8],
     six: &mut [u32],
-) -> Stepped
+) -> Result<(), Refusal>
     ensures { Reports report n inputs latches outputs gates resets bads constraints scratch number bytes six result }
 {
     blank(six);
-    match judge(
+    judge(
         n,
         inputs,
         latches,
@@ -212,14 +208,10 @@ pub fn report(
         number,
         bytes,
         six.len(),
-    ) {
-        Checked::Refused(refusal) => Stepped::Refused(refusal),
-        Checked::Good => {
-            fill(
-                n, latches, outputs, gates, resets, scratch, number, bytes, six,
-            );
-            clear(scratch);
-            Stepped::Done
-        }
-    }
+    )?;
+    fill(
+        n, latches, outputs, gates, resets, scratch, number, bytes, six,
+    );
+    clear(scratch);
+    Ok(())
 }

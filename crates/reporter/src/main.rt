@@ -3,7 +3,7 @@
 // table 6 here, those of standard input by runs::stimulus.
 #![tactic(auto)]
 
-use plan::{Counts, Made, Refusal, Stepped, Traced};
+use plan::{Counts, Refusal};
 use runs::{reporting, stimulus};
 use std::io::{self, Read, Write};
 use whole::ordered;
@@ -57,8 +57,8 @@ fn report_lines<W: Write>(
         six,
     );
     match answer {
-        Stepped::Refused(r) => office::refuse(to, r),
-        Stepped::Done => print_report(to, n.O, n.L, six, out),
+        Err(r) => office::refuse(to, r),
+        Ok(()) => print_report(to, n.O, n.L, six, out),
     }
 }
 
@@ -83,8 +83,8 @@ fn report_input<R: Read, W: Write>(
     let input = office::read_input(from, &mut bytes);
     let size = office::size(input);
     match stimulus::count_lines(office::readable(input), &bytes[0..size], n.I) {
-        Traced::Refused(r) => office::refuse(to, r),
-        Traced::Lines(lines) => report_lines(
+        Err(r) => office::refuse(to, r),
+        Ok(lines) => report_lines(
             to,
             n,
             inputs,
@@ -180,8 +180,8 @@ fn main(rt: HostRuntime) -> io::Result<()> {
         &mut made_constraints,
         &mut scratch,
     ) {
-        Made::Refused(r) => office::refuse(&mut rt.stdout(), r),
-        Made::Accepted(n) => report_opened(
+        Err(r) => office::refuse(&mut rt.stdout(), r),
+        Ok(n) => report_opened(
             &mut rt.stdin(),
             &mut rt.stdout(),
             n,

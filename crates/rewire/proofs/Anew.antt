@@ -2,8 +2,8 @@
 use Prim.Native.Nat.{ℕ, ◌+◌, ◌<◌}
 use mathlib.Core.Path.{◌≡◌, sym, ap, ◌∙◌, subst}
 use mathlib.Core.Bool.{true}
-use mathlib.Core.Option.{none}
 use mathlib.Core.List.{List}
+use Rattle.std.specs.Prelude.{None}
 use native.Mathlib.Omega.{arith}
 use lib.ListN.{length, get_or}
 use lib.Seq.{ext_get_or}
@@ -27,7 +27,7 @@ use Rattle.laws.proofs.Rewiring.Rows.{all-places}
 use Rattle.rewire.specs.Shown.{Shows, Follows}
 
 module _ (c : Circuit) (w : WellFormed c) (t : binary_order c ≡ true) (k a b : ℕ) (ka : a < lit_of (inner c + k)) (kb : b < lit_of (inner c + k))
-    (bytes : List ℕ) (size : length bytes ≡ c.M + 1) (right : wrong_on c bytes ≡ none) (gates : List ℕ) (base n : ℕ) (at : inner c ≡ base)
+    (bytes : List ℕ) (size : length bytes ≡ c.M + 1) (right : wrong_on c bytes ≡ None) (gates : List ℕ) (base n : ℕ) (at : inner c ≡ base)
     (len : length c.gates ≡ n) (there : k < n) (table : gates_at gates n ≡ (rewire c k a b).gates) where
   abbrev edited : Circuit
   edited = rewire c k a b

@@ -2,8 +2,8 @@
 use Prim.Native.Nat.{ℕ, ◌+◌, ◌*◌, ◌≤◌, ◌<◌, min, max}
 use mathlib.Core.Path.{◌≡◌, refl, sym, ap, ap₂, ◌∙◌, subst}
 use mathlib.Core.Bool.{true}
-use mathlib.Core.Option.{Option, none, some}
 use mathlib.Core.List.{List, [], ◌∷◌, ◌++◌}
+use Rattle.std.specs.Prelude.{Result, Ok, Err, Option, Some, None}
 use native.Mathlib.Omega.{arith}
 use borrow.Author.Tests.{eqb-true}
 use lib.Dec.{eqb}
@@ -11,9 +11,6 @@ use lib.ListN.{length}
 use Rattle.plan.specs.declared.Counts.{Counts}
 use Rattle.plan.specs.declared.Refusal.{Refusal}
 use Rattle.plan.specs.declared.Refusal.TheVariants.{BadVector, WrongValue}
-use Rattle.plan.specs.declared.Checked.{Checked}
-use Rattle.plan.specs.declared.Checked.TheVariants as checked
-use Rattle.plan.specs.declared.Stepped.TheVariants as stepped
 use Rattle.plan.specs.Refusals.{stage, first_of}
 use Rattle.plan.specs.Circuit.{Gate, Circuit, cleared}
 use Rattle.plan.specs.Given.{Given, given_circuit, lent_alone, failing_at}
@@ -62,26 +59,26 @@ module _ (e : RewireEntry) where
   abbrev edited-table : List ℕ
   edited-table = put table (3 * e.gate + 1) (max e.rhs0 e.rhs1 ∷ min e.rhs0 e.rhs1 ∷ [])
 
-  module _ (a : Checked) (t : List ℕ) (said : ◌≡◌ {A = CheckExit} (record { answer = a; scratch = t }) (check_in_order g)) where
+  module _ (a : Result Unit Refusal) (t : List ℕ) (said : ◌≡◌ {A = CheckExit} (record { answer = a; scratch = t }) (check_in_order g)) where
     blank : t ≡ cleared g.scratch
     blank = ap (λ (x : CheckExit). x.scratch) said
 
     told : a ≡ checked_by (first_of tables)
     told = ap (λ (x : CheckExit). x.answer) said
 
-    refused : (r : Refusal) → first_of (tables ++ (edits ++ (last ∷ []))) ≡ some r
-        → ◌≡◌ {A = RewireExit} (record { answer = stepped.Refused r; gates = table; scratch = t; values = e.values }) (rewiring e)
+    refused : (r : Refusal) → first_of (tables ++ (edits ++ (last ∷ []))) ≡ Some r
+        → ◌≡◌ {A = RewireExit} (record { answer = Err r; gates = table; scratch = t; values = e.values }) (rewiring e)
     refused r q =
-        (λ j. record { answer = stepped.Refused r; gates = table; scratch = blank j; values = e.values })
+        (λ j. record { answer = Err r; gates = table; scratch = blank j; values = e.values })
         ∙ sym (ap (λ (o : Option Refusal). rewired_by o e) q)
 
-    pub refused-tables : (r : Refusal) → a ≡ checked.Refused r
-        → ◌≡◌ {A = RewireExit} (record { answer = stepped.Refused r; gates = table; scratch = t; values = e.values }) (rewiring e)
+    pub refused-tables : (r : Refusal) → a ≡ Err r
+        → ◌≡◌ {A = RewireExit} (record { answer = Err r; gates = table; scratch = t; values = e.values }) (rewiring e)
     refused-tables r q = refused r (some_first r tables (edits ++ (last ∷ [])) (refused-some r (first_of tables) (sym q ∙ told)))
 
     -- the tables are good
-    module _ (q : a ≡ checked.Good) where
-      none-tables : first_of tables ≡ none
+    module _ (q : a ≡ Ok tt) where
+      none-tables : first_of tables ≡ None
       none-tables = good_none (first_of tables) (sym q ∙ told)
 
       good : Good true g
@@ -107,14 +104,14 @@ module _ (e : RewireEntry) where
           subst (λ (x : ℕ). Binary x (gates_at table n.A)) leaves-are (subst (λ (gs : List Gate). Binary (inner c) gs) (gates-rows table n.A)
           (order-binary (inner c) c.gates ((order-exactly c).0 (good.order refl)).gates))
 
-      module _ (s : Checked) (sides-told : s ≡ checked_by (first_of edits)) where
-        pub refused-sides : (r : Refusal) → s ≡ checked.Refused r
-            → ◌≡◌ {A = RewireExit} (record { answer = stepped.Refused r; gates = table; scratch = t; values = e.values }) (rewiring e)
+      module _ (s : Result Unit Refusal) (sides-told : s ≡ checked_by (first_of edits)) where
+        pub refused-sides : (r : Refusal) → s ≡ Err r
+            → ◌≡◌ {A = RewireExit} (record { answer = Err r; gates = table; scratch = t; values = e.values }) (rewiring e)
         refused-sides r p = refused r (past-tables ∙ some_first r edits (last ∷ []) (refused-some r (first_of edits) (sym p ∙ sides-told)))
 
         -- the edit is good
-        module _ (p : s ≡ checked.Good) where
-          none-edits : first_of edits ≡ none
+        module _ (p : s ≡ Ok tt) where
+          none-edits : first_of edits ≡ None
           none-edits = good_none (first_of edits) (sym p ∙ sides-told)
 
           size : length e.values ≡ n.M + 1
@@ -125,19 +122,19 @@ module _ (e : RewireEntry) where
           pub ordered : Ordered table n.A base e.values
           ordered = record { gates-long = good.fits.gates-long; values-long = omega (arith, size, variables-are); binary = binary }
 
-          module _ (v : Checked) (value-told : v ≡ judged (wrong_from (gates_at table n.A) e.values 0 (base + n.A))) where
+          module _ (v : Result Unit Refusal) (value-told : v ≡ judged (wrong_from (gates_at table n.A) e.values 0 (base + n.A))) where
             value-is : v ≡ checked_by last
             value-is =
                 value-told ∙ ap₂ (λ (gs : List Gate) (m : ℕ). judged (wrong_from gs e.values 0 m)) (sym (gates-rows table n.A)) variables-are
 
-            pub refused-value : (r : Refusal) → v ≡ checked.Refused r
-                → ◌≡◌ {A = RewireExit} (record { answer = stepped.Refused r; gates = table; scratch = t; values = e.values }) (rewiring e)
+            pub refused-value : (r : Refusal) → v ≡ Err r
+                → ◌≡◌ {A = RewireExit} (record { answer = Err r; gates = table; scratch = t; values = e.values }) (rewiring e)
             refused-value r m =
                 refused r (past-tables ∙ both_first edits (last ∷ []) none-edits ∙ one-stage last ∙ refused-some r last (sym m ∙ value-is))
 
             -- the values are good
-            module _ (m : v ≡ checked.Good) where
-              nothing : first_of (tables ++ (edits ++ (last ∷ []))) ≡ none
+            module _ (m : v ≡ Ok tt) where
+              nothing : first_of (tables ++ (edits ++ (last ∷ []))) ≡ None
               nothing = past-tables ∙ both_first edits (last ∷ []) none-edits ∙ one-stage last ∙ good_none last (sym m ∙ value-is)
 
               ok : Edits e
@@ -172,7 +169,7 @@ module _ (e : RewireEntry) where
 
                 pub done : (values' : List ℕ) → length values' ≡ length e.values
                     → ((w : ℕ → Value) → Shows w (base + e.gate) e.values → Follows w gates' base e.gate n.A → Shows w (base + n.A) values')
-                    → ◌≡◌ {A = RewireExit} (record { answer = stepped.Done; gates = gates'; scratch = t; values = values' }) (rewiring e)
+                    → ◌≡◌ {A = RewireExit} (record { answer = Ok tt; gates = gates'; scratch = t; values = values' }) (rewiring e)
                 done values' same passes =
                     let k = e.gate in
                     let x = e.rhs0 in
@@ -185,5 +182,5 @@ module _ (e : RewireEntry) where
                     = screen-anew c ok.formed ok.order k x y ok.below0 ok.below1 e.values ok.size ok.right
                     gates' base n.A leaves-are gates-are ok.there edited-gates
                     values' (same ∙ ok.size) (passes _ below follow) in
-                    (λ j. record { answer = stepped.Done; gates = stored j; scratch = blank j; values = anew j })
+                    (λ j. record { answer = Ok tt; gates = stored j; scratch = blank j; values = anew j })
                     ∙ sym (ap (λ (o : Option Refusal). rewired_by o e) nothing)

@@ -3,12 +3,12 @@ use Prim.Native.Nat.{ℕ, ◌+◌, ◌%◌, ◌^◌, ◌<◌}
 use mathlib.Core.Path.{◌≡◌, sym, ap, ◌∙◌}
 use mathlib.Core.Bool.{Bool, true, false, ◌&&◌}
 use mathlib.Core.List.{[], ◌∷◌}
+use Rattle.std.specs.Prelude.{Result, Ok, Err}
+use Rattle.plan.specs.declared.Refusal.{Refusal}
 use native.Mathlib.Omega.{arith}
 use lib.Dec.{eqb, ltb}
 use Rattle.plan.specs.declared.Counts.{Counts}
 use Rattle.plan.specs.declared.Refusal.TheVariants.{OutOfRange, NotInOrder, BadVector, NoGate}
-use Rattle.plan.specs.declared.Checked.{Checked}
-use Rattle.plan.specs.declared.Checked.TheVariants.{Good, Refused}
 use Rattle.plan.specs.Literals.{lit_of, in_range}
 use Rattle.plan.specs.Refusals.{stage, first_of}
 use Rattle.plan.specs.Given.{failing_at, failing}
@@ -17,7 +17,7 @@ use Rattle.plan.specs.Rewire.{left_at, edit_stages}
 use Rattle.rewire.specs.Shown.{Counted}
 
 -- by what the tests said
-abbrev answer_by : ℕ → Bool → Bool → Bool → Bool → Bool → Bool → Checked
+abbrev answer_by : ℕ → Bool → Bool → Bool → Bool → Bool → Bool → Result Unit Refusal
 answer_by k t u v x y z =
     checked_by (first_of (stage NoGate (failing_at k t) ∷ stage OutOfRange (failing_at 4 (u && v)) ∷ stage NotInOrder (failing (x && y))
     ∷ stage BadVector (failing_at 4 z) ∷ []))
@@ -45,46 +45,46 @@ module _ (n : Counts) (k a b len : ℕ) where
   abbrev z : Bool
   z = eqb len (n.M + 1)
 
-  abbrev answer : Checked
+  abbrev answer : Result Unit Refusal
   answer = checked_by (first_of (edit_stages n k a b len))
 
-  pub no-gate : t ≡ false → Refused (NoGate k) ≡ answer
+  pub no-gate : t ≡ false → Err (NoGate k) ≡ answer
   no-gate e = sym (ap (λ (t : Bool). answer_by k t u v x y z) e)
 
   module _ (there : t ≡ true) where
     past-gate : answer ≡ answer_by k true u v x y z
     past-gate = ap (λ (t : Bool). answer_by k t u v x y z) there
 
-    pub out_first : u ≡ false → Refused (OutOfRange 4) ≡ answer
+    pub out_first : u ≡ false → Err (OutOfRange 4) ≡ answer
     out_first e = sym (past-gate ∙ ap (λ (u : Bool). answer_by k true u v x y z) e)
 
     module _ (in0 : u ≡ true) where
       past_first : answer ≡ answer_by k true true v x y z
       past_first = past-gate ∙ ap (λ (u : Bool). answer_by k true u v x y z) in0
 
-      pub out-second : v ≡ false → Refused (OutOfRange 4) ≡ answer
+      pub out-second : v ≡ false → Err (OutOfRange 4) ≡ answer
       out-second e = sym (past_first ∙ ap (λ (v : Bool). answer_by k true true v x y z) e)
 
       module _ (in1 : v ≡ true) where
         past-range : answer ≡ answer_by k true true true x y z
         past-range = past_first ∙ ap (λ (v : Bool). answer_by k true true v x y z) in1
 
-        pub high-first : x ≡ false → Refused (NotInOrder 0) ≡ answer
+        pub high-first : x ≡ false → Err (NotInOrder 0) ≡ answer
         high-first e = sym (past-range ∙ ap (λ (x : Bool). answer_by k true true true x y z) e)
 
         module _ (low0 : x ≡ true) where
           past-low : answer ≡ answer_by k true true true true y z
           past-low = past-range ∙ ap (λ (x : Bool). answer_by k true true true x y z) low0
 
-          pub high-second : y ≡ false → Refused (NotInOrder 0) ≡ answer
+          pub high-second : y ≡ false → Err (NotInOrder 0) ≡ answer
           high-second e = sym (past-low ∙ ap (λ (y : Bool). answer_by k true true true true y z) e)
 
           module _ (low1 : y ≡ true) where
             past-order : answer ≡ answer_by k true true true true true z
             past-order = past-low ∙ ap (λ (y : Bool). answer_by k true true true true y z) low1
 
-            pub wrong-length : z ≡ false → Refused (BadVector 4) ≡ answer
+            pub wrong-length : z ≡ false → Err (BadVector 4) ≡ answer
             wrong-length e = sym (past-order ∙ ap (λ (z : Bool). answer_by k true true true true true z) e)
 
-            pub all_pass : z ≡ true → Good ≡ answer
+            pub all_pass : z ≡ true → Ok tt ≡ answer
             all_pass e = sym (past-order ∙ ap (λ (z : Bool). answer_by k true true true true true z) e)

@@ -2,8 +2,8 @@
 use Prim.Native.Nat.{ℕ, zero, suc, ◌+◌, ◌-◌, ◌≤◌, ◌<◌}
 use mathlib.Core.Path.{◌≡◌, refl, sym, ap, ap₂, ◌∙◌}
 use mathlib.Core.Bool.{Bool, true, false, cond, ◌||◌, false≢true}
-use mathlib.Core.Option.{Option, none, some}
 use mathlib.Core.List.{List, []}
+use Rattle.std.specs.Prelude.{Result, Ok, Err, Option, Some, None}
 use native.Mathlib.Omega.{arith}
 use native.Mathlib.Numerals.{add-one}
 use native.Mathlib.Decide.{dec_lt}
@@ -12,8 +12,6 @@ use lib.Dec.{eqb}
 use lib.ListN.{get_or}
 use Rattle.plan.specs.declared.Refusal.{Refusal}
 use Rattle.plan.specs.declared.Refusal.TheVariants.{WrongValue}
-use Rattle.plan.specs.declared.Checked.{Checked}
-use Rattle.plan.specs.declared.Checked.TheVariants.{Good, Refused}
 use Rattle.plan.specs.Literals.{var_of}
 use Rattle.plan.specs.Refusals.{stage}
 use Rattle.plan.specs.Circuit.{Gate}
@@ -30,7 +28,7 @@ use Rattle.laws.proofs.Rewiring.Rows.{found_at}
 use Rattle.rewire.specs.Shown.{Shows, Row, Ordered}
 
 -- the answer of a stage of 23
-abbrev pub judged : Option ℕ → Checked
+abbrev pub judged : Option ℕ → Result Unit Refusal
 judged o = checked_by (stage WrongValue o)
 
 -- a byte is right exactly where a code was to stand
@@ -57,13 +55,13 @@ module _ (gs : List Gate) (bytes : List ℕ) (from n v : ℕ) (g : Judging gs by
   pub judging-turn : v < from + n → Right gs bytes v → Judging gs bytes from n (v + 1)
   judging-turn h r =
       one_left h
-      ∙ ap (λ (t : Bool). cond t (wrong_from gs bytes (suc v) (from + n - (v + 1))) (some v)) (eq-eqb (get_or bytes v 0) (code_of (follows gs bytes v)) r)
+      ∙ ap (λ (t : Bool). cond t (wrong_from gs bytes (suc v) (from + n - (v + 1))) (Some v)) (eq-eqb (get_or bytes v 0) (code_of (follows gs bytes v)) r)
       ∙ ap (λ (u : ℕ). wrong_from gs bytes u (from + n - (v + 1))) (sym (add-one v))
 
-  pub judging-stop : v < from + n → (Right gs bytes v → ⊥) → Refused (WrongValue v) ≡ judged (wrong_from gs bytes from n)
+  pub judging-stop : v < from + n → (Right gs bytes v → ⊥) → Err (WrongValue v) ≡ judged (wrong_from gs bytes from n)
   judging-stop h r =
       sym (ap judged (one_left h
-      ∙ ap (λ (t : Bool). cond t (wrong_from gs bytes (suc v) (from + n - (v + 1))) (some v)) (ne_eqb (get_or bytes v 0) (code_of (follows gs bytes v)) r)))
+      ∙ ap (λ (t : Bool). cond t (wrong_from gs bytes (suc v) (from + n - (v + 1))) (Some v)) (ne_eqb (get_or bytes v 0) (code_of (follows gs bytes v)) r)))
 
 -- what is an input's or a latch's
 pub leaf-right : (bytes : List ℕ) (v : ℕ) → 1 ≤ v → is_code (get_or bytes v 0) ≡ true → Right [] bytes v
@@ -109,7 +107,7 @@ module _ (gates : List ℕ) (a base : ℕ) (values : List ℕ) (o : Ordered gate
         here v k (no q) f = let at : base + j ≡ v = omega arith in
             sym (ap (λ (u : ℕ). get_or values u 0) at) ∙ f ∙ ap (λ (u : ℕ). code_of (value_on values u)) at
 
-    pub gating-stop : (get_or values (base + j) 0 ≡ r → ⊥) → Refused (WrongValue (base + j)) ≡ judged (wrong_from (gates_at gates a) values base a)
+    pub gating-stop : (get_or values (base + j) 0 ≡ r → ⊥) → Err (WrongValue (base + j)) ≡ judged (wrong_from (gates_at gates a) values base a)
     gating-stop n = judging-stop (gates_at gates a) values base a (base + j) g.judging (omega arith) (λ e. n (e ∙ sym computed))
 
 -- one after the other: first the leaves, which no gate defines
@@ -126,14 +124,14 @@ split gs bytes (suc n) v m =
     (split gs bytes n (suc v) m ∙ ap (λ (u : ℕ). or_else (wrong_from gs bytes (suc v) n) (wrong_from gs bytes u m)) q)
   where
     go : (t : Bool) → wrong_from gs bytes (suc v) (n + m) ≡ or_else (wrong_from gs bytes (suc v) n) (wrong_from gs bytes (v + suc n) m)
-        → cond t (wrong_from gs bytes (suc v) (n + m)) (some v) ≡ or_else (cond t (wrong_from gs bytes (suc v) n) (some v)) (wrong_from gs bytes (v + suc n) m)
+        → cond t (wrong_from gs bytes (suc v) (n + m)) (Some v) ≡ or_else (cond t (wrong_from gs bytes (suc v) n) (Some v)) (wrong_from gs bytes (v + suc n) m)
     go true e = e
     go false e = refl
 
-low : (gs : List Gate) (bytes : List ℕ) (n v : ℕ) → ((u : ℕ) → u < v + n → find u gs ≡ none) → wrong_from gs bytes v n ≡ wrong_from [] bytes v n
+low : (gs : List Gate) (bytes : List ℕ) (n v : ℕ) → ((u : ℕ) → u < v + n → find u gs ≡ None) → wrong_from gs bytes v n ≡ wrong_from [] bytes v n
 low gs bytes zero v h = refl
 low gs bytes (suc n) v h =
-    ap₂ (λ (a : Value) (o : Option ℕ). cond (eqb (get_or bytes v 0) (code_of a)) o (some v))
+    ap₂ (λ (a : Value) (o : Option ℕ). cond (eqb (get_or bytes v 0) (code_of a)) o (Some v))
     (ap (gate_value (value_on bytes) (cond (eqb v 0) v0 (value_on bytes v))) (h v (omega arith)))
     (low gs bytes n (suc v) (λ u k. h u (omega arith)))
 
@@ -145,27 +143,27 @@ module _ (gates : List ℕ) (a base : ℕ) (values : List ℕ) (b : Binary base 
       split gs values base 0 a
       ∙ ap₂ (λ (o : Option ℕ) (v : ℕ). or_else o (wrong_from gs values v a)) (low gs values base 0 (λ u h. find_none base gs b u (omega arith))) q
 
-refused-first : (o p : Option ℕ) (r : Refusal) → Refused r ≡ judged o → Refused r ≡ judged (or_else o p)
-refused-first none p r e = let z : ◌≡◌ {A = ℕ} 0 1 = cc in absurd (omega arith)
-refused-first (some v) p r e = e
+refused-first : (o p : Option ℕ) (r : Refusal) → Err r ≡ judged o → Err r ≡ judged (or_else o p)
+refused-first None p r e = let z : ◌≡◌ {A = ℕ} 0 1 = cc in absurd (omega arith)
+refused-first (Some v) p r e = e
 
-good-wrong : (o : Option ℕ) → Good ≡ judged o → o ≡ none
-good-wrong none e = refl
-good-wrong (some v) e = let z : ◌≡◌ {A = ℕ} 0 1 = cc in absurd (omega arith)
+good-wrong : (o : Option ℕ) → Ok tt ≡ judged o → o ≡ None
+good-wrong None e = refl
+good-wrong (Some v) e = let z : ◌≡◌ {A = ℕ} 0 1 = cc in absurd (omega arith)
 
 module _ (gates : List ℕ) (a base : ℕ) (values : List ℕ) (b : Binary base (gates_at gates a)) where
-  pub leaf-refused : (r : Refusal) → Refused r ≡ judged (wrong_from [] values 0 base)
-      → Refused r ≡ judged (wrong_from (gates_at gates a) values 0 (base + a))
+  pub leaf-refused : (r : Refusal) → Err r ≡ judged (wrong_from [] values 0 base)
+      → Err r ≡ judged (wrong_from (gates_at gates a) values 0 (base + a))
   leaf-refused r e =
       refused-first (wrong_from [] values 0 base) (wrong_from (gates_at gates a) values base a) r e ∙ sym (ap judged (in-turn gates a base values b))
 
-  pub leaves-good : Good ≡ judged (wrong_from [] values 0 base)
+  pub leaves-good : Ok tt ≡ judged (wrong_from [] values 0 base)
       → judged (wrong_from (gates_at gates a) values base a) ≡ judged (wrong_from (gates_at gates a) values 0 (base + a))
   leaves-good e =
       sym (ap judged (in-turn gates a base values b ∙ ap (λ (o : Option ℕ). or_else o (wrong_from (gates_at gates a) values base a))
       (good-wrong (wrong_from [] values 0 base) e)))
 
-pub leaves-shown : (values : List ℕ) (base : ℕ) → Good ≡ judged (wrong_from [] values 0 base) → Shows (value_on values) base values
+pub leaves-shown : (values : List ℕ) (base : ℕ) → Ok tt ≡ judged (wrong_from [] values 0 base) → Shows (value_on values) base values
 leaves-shown values base e v h =
     is-shown (get_or values v 0) (follows [] values v)
     (all_right [] values base 0 (good-wrong (wrong_from [] values 0 base) e) v (omega arith) (omega arith))

@@ -14,7 +14,7 @@ ghost use Rattle.rewire.specs.Shown.{Shows, Follows, Row, Ordered, Counted};
 ghost use Rattle.plan.specs.Lent.{Rewires};
 
 use judge::check_in_order;
-use plan::{Checked, Counts, Lit, Refusal, Stepped, Var};
+use plan::{Counts, Lit, Refusal, Var};
 use step::codes::is_code;
 
 // A code, negated if the sign is 1: "0" and "1" differ in the lowest bit, and "x", which stays, alone has the bit
@@ -59,25 +59,25 @@ fn gate_code(gates: &[u32], j: usize, values: &[u8]) -> u8
 }
 
 // 23 among the first n variables, which are no gates': the constant, inputs and latches.
-fn wrong_leaf(values: &[u8], n: usize) -> Checked
+fn wrong_leaf(values: &[u8], n: usize) -> Result<(), Refusal>
     requires le_n { 1 ≤ n }
     requires n_in_bounds { n ≤ length values.now }
     ensures { result ≡ checked_by (stage WrongValue (wrong_from [] values.now 0 n)) }
 {
     if values[0] != b'0' {
-        return Checked::Refused(Refusal::WrongValue(0));
+        return Err(Refusal::WrongValue(0));
     }
     for v in 1..n {
         if !is_code(values[v]) {
-            return Checked::Refused(Refusal::WrongValue(v));
+            return Err(Refusal::WrongValue(v));
         }
     }
-    Checked::Good
+    Ok(())
 }
 
 // 23 among the gates, whose variables run on from `base`, where all values below are right: each is judged by those
 // of its right sides.
-fn wrong_gate(gates: &[u32], a: usize, base: usize, values: &[u8]) -> Checked
+fn wrong_gate(gates: &[u32], a: usize, base: usize, values: &[u8]) -> Result<(), Refusal>
     requires ordered { Ordered gates.now a base values.now }
     requires shows { Shows (value_on values.now) base values.now }
     ensures { result ≡ checked_by (stage WrongValue
@@ -85,52 +85,49 @@ fn wrong_gate(gates: &[u32], a: usize, base: usize, values: &[u8]) -> Checked
 {
     for j in 0..a {
         if values[base + j] != gate_code(gates, j, values) {
-            return Checked::Refused(Refusal::WrongValue(base + j));
+            return Err(Refusal::WrongValue(base + j));
         }
     }
-    Checked::Good
+    Ok(())
 }
 
 // 23: the least variable whose value is wrong.
-fn wrong_value(gates: &[u32], a: usize, base: usize, values: &[u8]) -> Checked
+fn wrong_value(gates: &[u32], a: usize, base: usize, values: &[u8]) -> Result<(), Refusal>
     requires ordered { Ordered gates.now a base values.now }
     requires le_base { 1 ≤ base }
     ensures { result ≡ checked_by (stage WrongValue
         (wrong_from (gates_at gates.now a) values.now 0 (base + a))) }
 {
-    let leaf = wrong_leaf(values, base);
-    if let Checked::Refused(r) = leaf {
-        return Checked::Refused(r);
-    }
+    wrong_leaf(values, base)?;
     wrong_gate(gates, a, base, values)
 }
 
 // 22, 5, 15, then 12, of a gate's number, its right sides and the length of the values.
-fn judge_sides(n: Counts, gate: usize, rhs0: Lit, rhs1: Lit, len: usize) -> Checked
+fn judge_sides(n: Counts, gate: usize, rhs0: Lit, rhs1: Lit, len: usize) -> Result<(), Refusal>
     requires { Counted n }
     ensures { result ≡ checked_by (first_of (edit_stages n gate (word_of rhs0) (word_of rhs1) len)) }
 {
     if gate >= n.A {
-        return Checked::Refused(Refusal::NoGate(gate));
+        return Err(Refusal::NoGate(gate));
     }
     let m = n.M as u32;
     if !rhs0.within(false, m) {
-        return Checked::Refused(Refusal::OutOfRange(4));
+        return Err(Refusal::OutOfRange(4));
     }
     if !rhs1.within(false, m) {
-        return Checked::Refused(Refusal::OutOfRange(4));
+        return Err(Refusal::OutOfRange(4));
     }
     let left = Var::at((1 + n.I + n.L + gate) as u32).lit();
     if !rhs0.below(left) {
-        return Checked::Refused(Refusal::NotInOrder(0));
+        return Err(Refusal::NotInOrder(0));
     }
     if !rhs1.below(left) {
-        return Checked::Refused(Refusal::NotInOrder(0));
+        return Err(Refusal::NotInOrder(0));
     }
     if len != n.M + 1 {
-        return Checked::Refused(Refusal::BadVector(4));
+        return Err(Refusal::BadVector(4));
     }
-    Checked::Good
+    Ok(())
 }
 
 // The gate gets these right sides, larger first.
@@ -172,11 +169,11 @@ pub fn rewire(
     rhs0: u32,
     rhs1: u32,
     values: &mut [u8],
-) -> Stepped
+) -> Result<(), Refusal>
     ensures { Rewires rewiring n inputs latches outputs gates resets bads constraints scratch gate rhs0 rhs1
         values result }
 {
-    match check_in_order(
+    check_in_order(
         n,
         inputs,
         latches,
@@ -186,23 +183,13 @@ pub fn rewire(
         bads,
         constraints,
         scratch,
-    ) {
-        Checked::Refused(r) => Stepped::Refused(r),
-        Checked::Good => {
-            let a = Lit::at(rhs0);
-            let b = Lit::at(rhs1);
-            let sides = judge_sides(n, gate, a, b, values.len());
-            if let Checked::Refused(r) = sides {
-                return Stepped::Refused(r);
-            }
-            let base = 1 + n.I + n.L;
-            let shown = wrong_value(gates, n.A, base, values);
-            if let Checked::Refused(r) = shown {
-                return Stepped::Refused(r);
-            }
-            set_sides(gates, gate, a, b);
-            recompute(gates, gate, n.A, base, values);
-            Stepped::Done
-        }
-    }
+    )?;
+    let a = Lit::at(rhs0);
+    let b = Lit::at(rhs1);
+    judge_sides(n, gate, a, b, values.len())?;
+    let base = 1 + n.I + n.L;
+    wrong_value(gates, n.A, base, values)?;
+    set_sides(gates, gate, a, b);
+    recompute(gates, gate, n.A, base, values);
+    Ok(())
 }

@@ -2,8 +2,8 @@
 use Prim.Native.Nat.{ℕ, suc, ◌+◌, ◌*◌, ◌≤◌, ◌<◌}
 use mathlib.Core.Path.{◌≡◌, refl, sym, ap, ap₂, ◌∙◌}
 use mathlib.Core.Bool.{Bool, true, false, cond, ◌&&◌}
-use mathlib.Core.Option.{Option, none, some}
 use mathlib.Core.List.{List, [], ◌∷◌}
+use Rattle.std.specs.Prelude.{Ok, Err, Option, Some, None}
 use native.Mathlib.Nat.{mul_comm, mul-le-mul_right}
 use native.Mathlib.Numerals.{add-one}
 use native.Mathlib.Omega.{arith}
@@ -15,7 +15,6 @@ use lib.Seq.{drop-cons}
 use Rattle.plan.specs.declared.Counts.{Counts}
 use Rattle.plan.specs.declared.Refusal.{Refusal}
 use Rattle.plan.specs.declared.Refusal.TheVariants.{BadVector, LongInput}
-use Rattle.plan.specs.declared.Stepped.TheVariants.{Done, Refused}
 use Rattle.plan.specs.Refusals.{first_of}
 use Rattle.plan.specs.Circuit.{cleared}
 use Rattle.plan.specs.Given.{given_circuit}
@@ -102,7 +101,7 @@ module _ {n : Counts} {latches outputs gates resets scratch : List ℕ} (b : Roo
   outs-room = l.outs-length ∙ mul_comm rows n.O
 
 -- no list is refused
-all-good : (s i o : Bool) → first_bad s i o ≡ none → (s ≡ true) × (i ≡ true) × (o ≡ true)
+all-good : (s i o : Bool) → first_bad s i o ≡ None → (s ≡ true) × (i ≡ true) × (o ≡ true)
 all-good true true true e = (refl, refl, refl)
 all-good true true false e = let z : ◌≡◌ {A = ℕ} 0 1 = cc in absurd (omega arith)
 all-good true false o e = let z : ◌≡◌ {A = ℕ} 0 1 = cc in absurd (omega arith)
@@ -112,7 +111,7 @@ module _ (e : RowsEntry) where
   abbrev pub bad : Option ℕ
   bad = row_vectors e
 
-  pub good-lists : e.rows ≤ 64 → bad ≡ none → Lists e.circuit.counts e.rows e.nexts e.inputs e.outputs
+  pub good-lists : e.rows ≤ 64 → bad ≡ None → Lists e.circuit.counts e.rows e.nexts e.inputs e.outputs
   good-lists most q =
       let n = e.circuit.counts in
       let p = all-good (eqb (length e.nexts) (e.rows * n.L)) (eqb (length e.inputs) (e.rows * n.I) && all_codes e.inputs)
@@ -125,30 +124,30 @@ module _ (e : RowsEntry) where
       }
 
   -- 13, then 12
-  pub too_many : 64 < e.rows → row_stage e ≡ some (LongInput 64)
+  pub too_many : 64 < e.rows → row_stage e ≡ Some (LongInput 64)
   too_many h = simp (lt-leb _ _ h)
 
-  pub few-bad : (k : ℕ) → e.rows ≤ 64 → bad ≡ some k → row_stage e ≡ some (BadVector k)
+  pub few-bad : (k : ℕ) → e.rows ≤ 64 → bad ≡ Some k → row_stage e ≡ Some (BadVector k)
   few-bad k h q = simp (le-leb _ _ h, q)
 
-  pub few-good : e.rows ≤ 64 → bad ≡ none → row_stage e ≡ none
+  pub few-good : e.rows ≤ 64 → bad ≡ None → row_stage e ≡ None
   few-good h q = simp (le-leb _ _ h, q)
 
   module _ (t : List ℕ) (blank : t ≡ cleared e.circuit.scratch) where
-    pub refused-rows : (r : Refusal) → answer e.circuit (row_stage e) ≡ some r
-        → ◌≡◌ {A = RowsExit} (record { answer = Refused r; scratch = t; nexts = e.nexts; outputs = e.outputs }) (step_rows e)
+    pub refused-rows : (r : Refusal) → answer e.circuit (row_stage e) ≡ Some r
+        → ◌≡◌ {A = RowsExit} (record { answer = Err r; scratch = t; nexts = e.nexts; outputs = e.outputs }) (step_rows e)
     refused-rows r q =
-        (λ j. record { answer = Refused r; scratch = blank j; nexts = e.nexts; outputs = e.outputs })
+        (λ j. record { answer = Err r; scratch = blank j; nexts = e.nexts; outputs = e.outputs })
         ∙ sym (ap (λ (o : Option Refusal). stepped_rows o e) q)
 
     -- the tables are good
     module _ (past : answer e.circuit (row_stage e) ≡ first_of (row_stage e ∷ [])) where
-      pub refused-late : (r : Refusal) → row_stage e ≡ some r
-          → ◌≡◌ {A = RowsExit} (record { answer = Refused r; scratch = t; nexts = e.nexts; outputs = e.outputs }) (step_rows e)
+      pub refused-late : (r : Refusal) → row_stage e ≡ Some r
+          → ◌≡◌ {A = RowsExit} (record { answer = Err r; scratch = t; nexts = e.nexts; outputs = e.outputs }) (step_rows e)
       refused-late r q = refused-rows r (past ∙ ap (λ (o : Option Refusal). first_of (o ∷ [])) q)
 
-      pub done-rows : row_stage e ≡ none → (nexts' outs' : List ℕ) → Leaves (given_circuit e.circuit) e.rows e.inputs nexts' outs'
-          → ◌≡◌ {A = RowsExit} (record { answer = Done; scratch = t; nexts = nexts'; outputs = outs' }) (step_rows e)
+      pub done-rows : row_stage e ≡ None → (nexts' outs' : List ℕ) → Leaves (given_circuit e.circuit) e.rows e.inputs nexts' outs'
+          → ◌≡◌ {A = RowsExit} (record { answer = Ok tt; scratch = t; nexts = nexts'; outputs = outs' }) (step_rows e)
       done-rows q nexts' outs' l =
-          (λ j. record { answer = Done; scratch = blank j; nexts = l.next j; outputs = l.outputs j })
+          (λ j. record { answer = Ok tt; scratch = blank j; nexts = l.next j; outputs = l.outputs j })
           ∙ sym (ap (λ (o : Option Refusal). stepped_rows o e) (past ∙ ap (λ (o : Option Refusal). first_of (o ∷ [])) q))

@@ -2,8 +2,8 @@
 use Prim.Native.Nat.{ℕ, zero, suc, ◌+◌, ◌-◌, ◌*◌, ◌/◌, ◌≤◌, ◌<◌}
 use mathlib.Core.Path.{◌≡◌, sym, ap, ◌∙◌}
 use mathlib.Core.Bool.{Bool, true, false, ◌&&◌}
-use mathlib.Core.Option.{Option, none, some}
 use mathlib.Core.List.{List, [], ◌∷◌, ◌++◌}
+use Rattle.std.specs.Prelude.{Result, Ok, Err, Option, Some, None}
 use native.Mathlib.Nat.{mul_comm}
 use native.Mathlib.Decide.{dec_lt}
 use native.Mathlib.Omega.{arith}
@@ -11,12 +11,8 @@ use borrow.Author.Tests.{eqb-true, lt-ltb, le-ltb, ltb-false, le-leb, lt-leb}
 use lib.Dec.{eqb, ltb}
 use lib.ListN.{length, drop, replicate}
 use Rattle.plan.specs.declared.Counts.{Counts}
-use Rattle.plan.specs.declared.Checked.{Checked}
-use Rattle.plan.specs.declared.Checked.TheVariants as checked
 use Rattle.plan.specs.declared.Refusal.{Refusal}
 use Rattle.plan.specs.declared.Refusal.TheVariants.{BadVector, LongInput}
-use Rattle.plan.specs.declared.Stepped.{Stepped}
-use Rattle.plan.specs.declared.Stepped.TheVariants.{Done, Refused}
 use Rattle.plan.specs.Refusals.{first_of}
 use Rattle.plan.specs.Circuit.{filled, cleared}
 use Rattle.plan.specs.Given.{given_circuit}
@@ -92,28 +88,28 @@ module _ (e : RowReportEntry) where
   reply = first_of (sixth_stages e.circuit needed e.report ++ (row_report_stage e ∷ []))
 
   -- 13, then 12
-  pub many : 64 < e.rows → row_report_stage e ≡ some (LongInput 64)
+  pub many : 64 < e.rows → row_report_stage e ≡ Some (LongInput 64)
   many h = simp (lt-leb _ _ h)
 
   pub wrong : e.rows ≤ 64 → (eqb (length e.inputs) (e.rows * e.circuit.counts.I) && all_codes e.inputs) ≡ false
-      → row_report_stage e ≡ some (BadVector 2)
+      → row_report_stage e ≡ Some (BadVector 2)
   wrong h q = simp (le-leb _ _ h, q)
 
   pub right : e.rows ≤ 64 → (eqb (length e.inputs) (e.rows * e.circuit.counts.I) && all_codes e.inputs) ≡ true
-      → row_report_stage e ≡ none
+      → row_report_stage e ≡ None
   right h q = simp (le-leb _ _ h, q)
 
   -- a: the answer of the checks without table 6; b: whether that is too short
-  module _ (a r : Checked) (b : Bool) (judged : a ≡ (check_in_order e.circuit).answer) (short : b ≡ ltb (length e.report) needed)
+  module _ (a r : Result Unit Refusal) (b : Bool) (judged : a ≡ (check_in_order e.circuit).answer) (short : b ≡ ltb (length e.report) needed)
       (told : r ≡ with_sixth a b) where
     says : r ≡ checked_by (first_of (sixth_stages e.circuit needed e.report))
-    says = told ∙ (ap (λ (x : Checked). with_sixth x b) judged ∙ with-sixth e.circuit needed e.report b short)
+    says = told ∙ (ap (λ (x : Result Unit Refusal). with_sixth x b) judged ∙ with-sixth e.circuit needed e.report b short)
 
-    pub refused-six : (q : Refusal) → r ≡ checked.Refused q → reply ≡ some q
+    pub refused-six : (q : Refusal) → r ≡ Err q → reply ≡ Some q
     refused-six q h = some_first q (sixth_stages e.circuit needed e.report) (row_report_stage e ∷ []) (refused-some q _ (sym h ∙ says))
 
-    module _ (h : r ≡ checked.Good) where
-      both : (a ≡ checked.Good) × (b ≡ false)
+    module _ (h : r ≡ Ok tt) where
+      both : (a ≡ Ok tt) × (b ≡ false)
       both = nothing-refused a b (sym told ∙ h)
 
       pub past-six : reply ≡ first_of (row_report_stage e ∷ [])
@@ -136,7 +132,7 @@ module _ (e : RowReportEntry) where
       }
 
   module _ (t : List ℕ) (blank : t ≡ cleared e.circuit.scratch) where
-    pub refused-report : (a : Stepped) (w : List ℕ) (q : Refusal) → a ≡ Refused q → w ≡ cleared e.report → reply ≡ some q
+    pub refused-report : (a : Result Unit Refusal) (w : List ℕ) (q : Refusal) → a ≡ Err q → w ≡ cleared e.report → reply ≡ Some q
         → ◌≡◌ {A = RowReportExit} (record { answer = a; scratch = t; report = w }) (report_rows e)
     refused-report a w q ea ew h =
         (λ j. record { answer = ea j; scratch = blank j; report = ew j })
@@ -144,10 +140,10 @@ module _ (e : RowReportEntry) where
 
     pub done-report : (w : List ℕ)
         → w ≡ filled e.report (row_report (given_circuit e.circuit) (row_steps (given_circuit e.circuit) e.rows e.inputs))
-        → reply ≡ none
-        → ◌≡◌ {A = RowReportExit} (record { answer = Done; scratch = t; report = w }) (report_rows e)
+        → reply ≡ None
+        → ◌≡◌ {A = RowReportExit} (record { answer = Ok tt; scratch = t; report = w }) (report_rows e)
     done-report w ew h =
-        (λ j. record { answer = Done; scratch = blank j; report = ew j })
+        (λ j. record { answer = Ok tt; scratch = blank j; report = ew j })
         ∙ sym (ap (λ (o : Option Refusal). reported_rows o e) h)
 
   -- a stage after the tables decides

@@ -2,13 +2,11 @@
 // from the resets (the paper, many rows).
 #![tactic(auto)]
 
-ghost use Rattle.std.specs.Prelude.{◌≡◌, cond, ◌&&◌, ◌*◌, ◌≤◌, eqb, length};
-ghost use Rattle.plan.specs.declared.Stepped.TheVariants.{Refused};
+ghost use Rattle.std.specs.Prelude.{◌≡◌, cond, ◌&&◌, ◌*◌, ◌≤◌, eqb, length, Err};
 ghost use Rattle.plan.specs.Literals.{most};
 ghost use Rattle.plan.specs.Circuit.{Tables, circuit_of, filled, cleared};
 ghost use Rattle.plan.specs.Step.{is_code};
 ghost use Rattle.plan.specs.Outcome.{all_codes};
-ghost use Rattle.tables.specs.Lengths.{table_of};
 ghost use Rattle.step.specs.sweep.Running.{Runs};
 ghost use Rattle.plan.specs.Rows.{step_rows, row_steps, row_report, report_rows};
 ghost use Rattle.rows.specs.lanes.Working.{these};
@@ -18,7 +16,7 @@ ghost use Rattle.plan.specs.Lent.{StepsRows, ReportsRows};
 use crate::lanes::{count_rows, step_lanes, store_rows};
 use judge::judge_in_order;
 use judge::table_six::with_sixth;
-use plan::{Checked, Counts, Refusal, Stepped};
+use plan::{Counts, Refusal};
 use step::codes::is_code;
 use tables::clear;
 
@@ -57,23 +55,22 @@ fn whole_rows(ins: &[u8], rows: usize, each: usize) -> bool
     only_codes(ins)
 }
 
-// The first list that is refused: 1 the next states and 3 the outputs, of which the length is judged, 2 the inputs;
-// or 0.
-fn bad_rows(n: Counts, rows: usize, nexts: usize, ins: &[u8], outs: usize) -> usize
+// The first list that is refused: 1 the next states and 3 the outputs, of which the length is judged, 2 the inputs.
+fn bad_rows(n: Counts, rows: usize, nexts: usize, ins: &[u8], outs: usize) -> Option<usize>
     requires rows_bound { rows ≤ 64 }
     requires i_le_most { (n.I ≤ most) × (n.L ≤ most) × (n.O ≤ most) }
-    ensures { table_of result ≡ bad_rows n rows nexts ins.now outs }
+    ensures { result ≡ bad_rows n rows nexts ins.now outs }
 {
     if nexts != rows * n.L {
-        return 1;
+        return Some(1);
     }
     if !whole_rows(ins, rows, n.I) {
-        return 2;
+        return Some(2);
     }
     if outs != rows * n.O {
-        return 3;
+        return Some(3);
     }
-    0
+    None
 }
 
 // A step of rows whose tables and lists are good. Of scratch it asks the length alone: every word is written before
@@ -118,11 +115,11 @@ pub fn step_rows(
     nexts: &mut [u8],
     ins: &[u8],
     outs: &mut [u8],
-) -> Stepped
+) -> Result<(), Refusal>
     ensures { StepsRows step_rows n inputs latches outputs gates resets bads constraints scratch rows nexts ins
         outs result }
 {
-    match judge_in_order(
+    judge_in_order(
         n,
         inputs,
         latches,
@@ -132,25 +129,20 @@ pub fn step_rows(
         bads,
         constraints,
         scratch,
-    ) {
-        Checked::Refused(refusal) => Stepped::Refused(refusal),
-        Checked::Good => {
-            if 64 < rows {
-                clear(scratch);
-                return Stepped::Refused(Refusal::LongInput(64));
-            }
-            let bad = bad_rows(n, rows, nexts.len(), ins, outs.len());
-            if bad != 0 {
-                clear(scratch);
-                return Stepped::Refused(Refusal::BadVector(bad));
-            }
-            step_lists(
-                n, latches, outputs, gates, resets, scratch, rows, nexts, ins, outs,
-            );
-            clear(scratch);
-            Stepped::Done
-        }
+    )?;
+    if 64 < rows {
+        clear(scratch);
+        return Err(Refusal::LongInput(64));
     }
+    if let Some(bad) = bad_rows(n, rows, nexts.len(), ins, outs.len()) {
+        clear(scratch);
+        return Err(Refusal::BadVector(bad));
+    }
+    step_lists(
+        n, latches, outputs, gates, resets, scratch, rows, nexts, ins, outs,
+    );
+    clear(scratch);
+    Ok(())
 }
 
 // The row report of rows whose tables and inputs are good: per output the rows at 0, at 1 and at x, and zero past them.
@@ -178,13 +170,13 @@ fn report_lists(
 }
 
 // A refusal leaves table 6 zero, and scratch.
-fn refuse(refusal: Refusal, scratch: &mut [u32], report: &mut [u32]) -> Stepped
-    ensures { (result ≡ Refused refusal) × (scratch.new ≡ cleared scratch.old)
+fn refuse(refusal: Refusal, scratch: &mut [u32], report: &mut [u32]) -> Result<(), Refusal>
+    ensures { (result ≡ Err refusal) × (scratch.new ≡ cleared scratch.old)
         × (report.new ≡ cleared report.old) }
 {
     clear(scratch);
     clear(report);
-    Stepped::Refused(refusal)
+    Err(refusal)
 }
 
 // The row report, into table 6: three numbers for each output, which add up to the rows. On a refusal table 6 is
@@ -202,7 +194,7 @@ pub fn report_rows(
     rows: usize,
     ins: &[u8],
     report: &mut [u32],
-) -> Stepped
+) -> Result<(), Refusal>
     ensures { ReportsRows report_rows n inputs latches outputs gates resets bads constraints scratch rows ins
         report result }
 {
@@ -218,18 +210,16 @@ pub fn report_rows(
         constraints,
         scratch,
     );
-    match with_sixth(answer, short) {
-        Checked::Refused(refusal) => refuse(refusal, scratch, report),
-        Checked::Good => {
-            if 64 < rows {
-                return refuse(Refusal::LongInput(64), scratch, report);
-            }
-            if !whole_rows(ins, rows, n.I) {
-                return refuse(Refusal::BadVector(2), scratch, report);
-            }
-            report_lists(n, outputs, gates, resets, scratch, rows, ins, report);
-            clear(scratch);
-            Stepped::Done
-        }
+    if let Err(refusal) = with_sixth(answer, short) {
+        return refuse(refusal, scratch, report);
     }
+    if 64 < rows {
+        return refuse(Refusal::LongInput(64), scratch, report);
+    }
+    if !whole_rows(ins, rows, n.I) {
+        return refuse(Refusal::BadVector(2), scratch, report);
+    }
+    report_lists(n, outputs, gates, resets, scratch, rows, ins, report);
+    clear(scratch);
+    Ok(())
 }

@@ -3,7 +3,6 @@ pub mod Writing
 pub mod Lines
 pub mod Running
 pub mod Buffers
-pub mod Judging
 pub mod Answers
 pub mod Together
 pub mod InParts

@@ -18,17 +18,9 @@ use answers::refusals::{told_number, told_place};
 use check::same;
 use judge::judge_in_order;
 use plain::{TEACHING, plain_vectors};
-use plan::{Checked, Counts, Refusal, Traced};
+use plan::{Counts, Refusal};
 use tables::clear;
 use write::forms::append;
-
-// What both engines answer, or that they part.
-#[derive(Clone, Copy)]
-pub enum Compared {
-    Lines(usize),
-    Differ,
-    Refused(Refusal),
-}
 
 // Bytes, and the byte after them; the position past it.
 fn put_bytes(bytes: &[u8], last: u8, out: &mut [u8], at: usize) -> usize
@@ -118,11 +110,11 @@ fn plain_lines(
 }
 
 // The lines of vectors, by 24 and then 12 (the paper, the plain engine).
-fn judge_plain(n: Counts, state: &[u8], vectors: &[u8]) -> Traced
+fn judge_plain(n: Counts, state: &[u8], vectors: &[u8]) -> Result<usize, Refusal>
     ensures { result ≡ plain_judged n state.now vectors.now }
 {
     if TEACHING < n.A {
-        return Traced::Refused(Refusal::ManyGates(n.A));
+        return Err(Refusal::ManyGates(n.A));
     }
     judge(n, state, vectors)
 }
@@ -143,7 +135,7 @@ pub fn trace_plain(
     state: &mut [u8],
     vectors: &[u8],
     out: &mut [u8],
-) -> Traced
+) -> Result<usize, Refusal>
     ensures { Says plain_trace
         (record {
           circuit = (record {
@@ -159,7 +151,7 @@ pub fn trace_plain(
         })
         (record { answer = result; scratch = scratch.new; state = state.new; out = out.new }) }
 {
-    match judge_in_order(
+    judge_in_order(
         n,
         inputs,
         latches,
@@ -169,23 +161,18 @@ pub fn trace_plain(
         bads,
         constraints,
         scratch,
-    ) {
-        Checked::Refused(refusal) => Traced::Refused(refusal),
-        Checked::Good => match judge_plain(n, state, vectors) {
-            Traced::Refused(refusal) => {
-                clear(scratch);
-                Traced::Refused(refusal)
-            }
-            Traced::Lines(lines) => {
-                let number = fitting(n, lines, out.len());
-                plain_lines(
-                    n, latches, outputs, gates, scratch, state, number, vectors, out,
-                );
-                clear(scratch);
-                Traced::Lines(number)
-            }
-        },
-    }
+    )?;
+    let judged = judge_plain(n, state, vectors);
+    let Ok(lines) = judged else {
+        clear(scratch);
+        return judged;
+    };
+    let number = fitting(n, lines, out.len());
+    plain_lines(
+        n, latches, outputs, gates, scratch, state, number, vectors, out,
+    );
+    clear(scratch);
+    Ok(number)
 }
 
 fn same_refusal(r: Refusal, s: Refusal) -> bool
@@ -198,23 +185,25 @@ fn same_refusal(r: Refusal, s: Refusal) -> bool
 }
 
 // As many lines, or the same refusal.
-fn same_answer(a: Traced, b: Traced) -> bool
+fn same_answer(a: Result<usize, Refusal>, b: Result<usize, Refusal>) -> bool
     ensures { result ≡ same_answer a b }
 {
-    match a {
-        Traced::Lines(k) => match b {
-            Traced::Lines(m) => k == m,
-            Traced::Refused(_) => false,
-        },
-        Traced::Refused(r) => match b {
-            Traced::Lines(_) => false,
-            Traced::Refused(s) => same_refusal(r, s),
-        },
+    match (a, b) {
+        (Ok(k), Ok(m)) => k == m,
+        (Err(r), Err(s)) => same_refusal(r, s),
+        _ => false,
     }
 }
 
 // Whether both engines answer the same, and leave the same state and the same lines.
-fn agree(part: Traced, plain: Traced, state: &[u8], twin: &[u8], out: &[u8], again: &[u8]) -> bool
+fn agree(
+    part: Result<usize, Refusal>,
+    plain: Result<usize, Refusal>,
+    state: &[u8],
+    twin: &[u8],
+    out: &[u8],
+    again: &[u8],
+) -> bool
     ensures { result ≡ (same_answer part plain &&
         (same_bytes state.now twin.now && same_bytes out.now again.now)) }
 {
@@ -227,8 +216,9 @@ fn agree(part: Traced, plain: Traced, state: &[u8], twin: &[u8], out: &[u8], aga
     same(out, again)
 }
 
-// A part of a run by both engines, the stepper into `state` and `out`, the plain engine into `twin` and `again`;
-// and whether they leave the same. From the same state and buffer, and with at most 24 gates, they never part.
+// A part of a run by both engines, the stepper into `state` and `out`, the plain engine into `twin` and `again`: the
+// number of lines where they leave the same, and none where they part. From the same state and buffer, and with at
+// most 24 gates, they never part.
 pub fn compare(
     n: Counts,
     inputs: &[u32],
@@ -244,7 +234,7 @@ pub fn compare(
     out: &mut [u8],
     twin: &mut [u8],
     again: &mut [u8],
-) -> Compared
+) -> Result<Option<usize>, Refusal>
     ensures { Says compare
         (record {
           part = (record {
@@ -300,10 +290,8 @@ pub fn compare(
         again,
     );
     if !agree(part, plain, state, twin, out, again) {
-        return Compared::Differ;
+        return Ok(None);
     }
-    match part {
-        Traced::Lines(k) => Compared::Lines(k),
-        Traced::Refused(refusal) => Compared::Refused(refusal),
-    }
+    let k = part?;
+    Ok(Some(k))
 }

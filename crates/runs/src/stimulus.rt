@@ -4,7 +4,7 @@ ghost use Rattle.plan.specs.Programs.{stimulus};
 ghost use Rattle.plan.specs.Whole.{input_of, counted_by, count_lines};
 ghost use Rattle.runs.specs.stimulus.Scan.{ended, scan};
 
-use plan::{Refusal, Traced};
+use plan::Refusal;
 use step::codes::is_code;
 
 // Whether the last line has its end. No bytes are no line.
@@ -20,7 +20,7 @@ fn ends(bytes: &[u8]) -> bool
 
 // The lines of `width` codes each, in one pass: past the width of a line only a new line can stand, and before it
 // only a code.
-fn scan_lines(bytes: &[u8], width: usize) -> Traced
+fn scan_lines(bytes: &[u8], width: usize) -> Result<usize, Refusal>
     ensures { result ≡ scan width 0 0 bytes.now }
 {
     let mut column = 0;
@@ -28,39 +28,39 @@ fn scan_lines(bytes: &[u8], width: usize) -> Traced
     for b in bytes {
         if column == width {
             if *b != b'\n' {
-                return Traced::Refused(Refusal::BadVector(2));
+                return Err(Refusal::BadVector(2));
             }
             column = 0;
             number += 1;
         } else {
             if !is_code(*b) {
-                return Traced::Refused(Refusal::BadVector(2));
+                return Err(Refusal::BadVector(2));
             }
             column += 1;
         }
     }
-    Traced::Lines(number)
+    Ok(number)
 }
 
 // The number of lines: 1 at the length where the last has no end, then 12 (the paper, programs and their output).
-pub fn whole_lines(bytes: &[u8], width: usize) -> Traced
+pub fn whole_lines(bytes: &[u8], width: usize) -> Result<usize, Refusal>
     ensures { result ≡ counted_by (stimulus width bytes.now) }
 {
     if !ends(bytes) {
-        return Traced::Refused(Refusal::WrongByte(bytes.len()));
+        return Err(Refusal::WrongByte(bytes.len()));
     }
     scan_lines(bytes, width)
 }
 
 // The lines of standard input, each a vector of `width` codes: how many, by 14, 13, 1 and 12.
-pub fn count_lines(readable: bool, bytes: &[u8], width: usize) -> Traced
+pub fn count_lines(readable: bool, bytes: &[u8], width: usize) -> Result<usize, Refusal>
     ensures { result ≡ count_lines (input_of readable bytes.now) width }
 {
     if !readable {
-        return Traced::Refused(Refusal::Unreadable(0));
+        return Err(Refusal::Unreadable(0));
     }
     if bytes.len() > 65536 {
-        return Traced::Refused(Refusal::LongInput(65536));
+        return Err(Refusal::LongInput(65536));
     }
     whole_lines(bytes, width)
 }

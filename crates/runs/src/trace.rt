@@ -13,7 +13,7 @@ ghost use Rattle.runs.specs.trace.Tracing.{part, Resting, Wrote, Listed, first_o
 
 use crate::stimulus::whole_lines;
 use judge::judge_in_order;
-use plan::{Checked, Counts, Refusal, Traced};
+use plan::{Counts, Refusal};
 use step::codes::codes_in;
 use step::sweep::step_values;
 use step::values::{MAY0, load, store};
@@ -129,18 +129,15 @@ pub fn fitting(n: Counts, lines: usize, room: usize) -> usize
 }
 
 // The lines of vectors, by 12: place 1 the state, 2 the vectors.
-pub fn judge(n: Counts, state: &[u8], vectors: &[u8]) -> Traced
+pub fn judge(n: Counts, state: &[u8], vectors: &[u8]) -> Result<usize, Refusal>
     ensures { result ≡ judged (eqb (length state.now) n.L && all_codes state.now)
         (ended vectors.now && all_vectors n.I (lines_in vectors.now))
         (length (lines_in vectors.now)) }
 {
     if !codes_in(state, n.L) {
-        return Traced::Refused(Refusal::BadVector(1));
+        return Err(Refusal::BadVector(1));
     }
-    match whole_lines(vectors, n.I) {
-        Traced::Lines(lines) => Traced::Lines(lines),
-        Traced::Refused(_) => Traced::Refused(Refusal::BadVector(2)),
-    }
+    whole_lines(vectors, n.I).map_err(|_| Refusal::BadVector(2))
 }
 
 // The position past the next `count` lines, or the end of the bytes; it starts at their end where `from` is past it.
@@ -176,7 +173,7 @@ pub fn trace(
     state: &mut [u8],
     vectors: &[u8],
     out: &mut [u8],
-) -> Traced
+) -> Result<usize, Refusal>
     ensures { Says trace
         (record {
           circuit = (record {
@@ -192,7 +189,7 @@ pub fn trace(
         })
         (record { answer = result; scratch = scratch.new; state = state.new; out = out.new }) }
 {
-    match judge_in_order(
+    judge_in_order(
         n,
         inputs,
         latches,
@@ -202,21 +199,16 @@ pub fn trace(
         bads,
         constraints,
         scratch,
-    ) {
-        Checked::Refused(refusal) => Traced::Refused(refusal),
-        Checked::Good => match judge(n, state, vectors) {
-            Traced::Refused(refusal) => {
-                clear(scratch);
-                Traced::Refused(refusal)
-            }
-            Traced::Lines(lines) => {
-                let number = fitting(n, lines, out.len());
-                trace_from(
-                    n, latches, outputs, gates, scratch, state, number, vectors, out,
-                );
-                clear(scratch);
-                Traced::Lines(number)
-            }
-        },
-    }
+    )?;
+    let judged = judge(n, state, vectors);
+    let Ok(lines) = judged else {
+        clear(scratch);
+        return judged;
+    };
+    let number = fitting(n, lines, out.len());
+    trace_from(
+        n, latches, outputs, gates, scratch, state, number, vectors, out,
+    );
+    clear(scratch);
+    Ok(number)
 }

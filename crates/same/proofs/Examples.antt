@@ -3,8 +3,8 @@
 use Prim.Native.Nat.{ℕ, zero, suc, ◌-◌, ◌≤◌}
 use mathlib.Core.Path.{◌≡◌, refl, sym, ap, ◌∙◌}
 use mathlib.Core.Bool.{Bool, true, false, cond}
-use mathlib.Core.Option.{some}
 use mathlib.Core.List.{List, [], ◌∷◌, ◌++◌}
+use Rattle.std.specs.Prelude.{Some}
 use native.Mathlib.Omega.{arith}
 use borrow.Author.Tests.{leb-true, leb-false}
 use lib.Dec.{leb}
@@ -80,7 +80,7 @@ toggles-agree = record {
 }
 
 -- so both programs write the same; and here are the bytes
-pub toggles-alike : (converter (some toggle) ≡ converter (some other)) × (reducer (some toggle) ≡ reducer (some other))
+pub toggles-alike : (converter (Some toggle) ≡ converter (Some other)) × (reducer (Some toggle) ≡ reducer (Some other))
 toggles-alike =
     let small : length toggle ≤ 65536 = omega arith in
     let small' : length other ≤ 65536 = omega arith in
@@ -89,20 +89,20 @@ toggles-alike =
 abbrev start : List ℕ
 start = bytes_of "aig 7 2 1 2 4\n14\n6\n7\n" ++ (2 ∷ 4 ∷ 3 ∷ 4 ∷ 1 ∷ [])
 
-pub toggle-bytes : converter (some toggle) ≡ start ++ (2 ∷ 2 ∷ 8 ∷ tail)
+pub toggle-bytes : converter (Some toggle) ≡ start ++ (2 ∷ 2 ∷ 8 ∷ tail)
 toggle-bytes = refl
 
-pub other-bytes : converter (some other) ≡ start ++ (2 ∷ 2 ∷ 8 ∷ tail)
+pub other-bytes : converter (Some other) ≡ start ++ (2 ∷ 2 ∷ 8 ∷ tail)
 other-bytes = refl
 
 -- the near miss is accepted; its gates don't agree, and it converts to other bytes
 pub missed-gates : entry_by_entry (same_gate reversed) toggle_gates (other_gates 4) ≡ false
 missed-gates = refl
 
-pub missed-bytes : converter (some missed) ≡ start ++ (3 ∷ 2 ∷ 8 ∷ tail)
+pub missed-bytes : converter (Some missed) ≡ start ++ (3 ∷ 2 ∷ 8 ∷ tail)
 missed-bytes = refl
 
-pub missed-differs : converter (some toggle) ≡ converter (some missed) → ⊥
+pub missed-differs : converter (Some toggle) ≡ converter (Some missed) → ⊥
 missed-differs e =
     let z : ◌≡◌ {A = ℕ} 2 3 = ap (λ (l : List ℕ). get_or l 26 0) (sym toggle-bytes ∙ (e ∙ missed-bytes)) in
     omega arith
@@ -126,7 +126,7 @@ pairs-agree = record {
   second = record { form = refl; start = 42; accepted = refl; rest = refl };
 }
 
-pub pair-bytes : (reducer (some paired) ≡ bytes_of "aig 3 2 0 2 1\n6\n7\n" ++ (2 ∷ 2 ∷ tail)) × (reducer (some other_paired) ≡ reducer (some paired))
+pub pair-bytes : (reducer (Some paired) ≡ bytes_of "aig 3 2 0 2 1\n6\n7\n" ++ (2 ∷ 2 ∷ tail)) × (reducer (Some other_paired) ≡ reducer (Some paired))
 pair-bytes = (refl, refl)
 
 -- the toggle as 1.9 has it: it starts as x, one bad state, one constraint. The other file spells a zero that the first leaves off
@@ -148,8 +148,8 @@ observed-agree = record {
   second = record { form = refl; start = 74; accepted = refl; rest = refl };
 }
 
-pub observed-bytes : (converter (some observed) ≡ bytes_of "aig 7 2 1 2 4 1 1\n14 6\n6\n7\n11\n4\n" ++ (2 ∷ 4 ∷ 3 ∷ 4 ∷ 1 ∷ 2 ∷ 2 ∷ 8 ∷ tail))
-    × (converter (some other_observed) ≡ converter (some observed))
+pub observed-bytes : (converter (Some observed) ≡ bytes_of "aig 7 2 1 2 4 1 1\n14 6\n6\n7\n11\n4\n" ++ (2 ∷ 4 ∷ 3 ∷ 4 ∷ 1 ∷ 2 ∷ 2 ∷ 8 ∷ tail))
+    × (converter (Some other_observed) ≡ converter (Some observed))
 observed-bytes = (refl, refl)
 
 -- a reset 1 and one that is the latch's own don't agree, nor do 0 and 1
@@ -157,6 +157,6 @@ pub resets-differ : (entry_by_entry (same_literal reversed) (6 ∷ []) (1 ∷ []
 resets-differ = (refl, refl)
 
 -- room: M alone, which may differ, makes the one accepted and the other refused by 4
-pub room-differs : (converter (some (bytes_of "aag 4095 0 0 0 0\n")) ≡ bytes_of "aig 0 0 0 0 0\n")
-    × (converter (some (bytes_of "aag 4096 0 0 0 0\n")) ≡ bytes_of "refused 4 at 5\n")
+pub room-differs : (converter (Some (bytes_of "aag 4095 0 0 0 0\n")) ≡ bytes_of "aig 0 0 0 0 0\n")
+    × (converter (Some (bytes_of "aag 4096 0 0 0 0\n")) ≡ bytes_of "refused 4 at 5\n")
 room-differs = (refl, refl)

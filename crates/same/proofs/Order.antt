@@ -2,8 +2,8 @@
 use Prim.Native.Nat.{ℕ, suc, zero}
 use mathlib.Core.Path.{◌≡◌, sym, ap, ◌∙◌, subst}
 use mathlib.Core.Bool.{Bool, true, false, cond}
-use mathlib.Core.Option.{Option, none, some}
 use mathlib.Core.List.{List, [], ◌∷◌, ◌++◌, map, map-append}
+use Rattle.std.specs.Prelude.{Option, Some, None}
 use Rattle.plan.specs.Literals.{var_of}
 use Rattle.plan.specs.Circuit.{Gate}
 use Rattle.plan.specs.Convert.{ready, Picked, past, pick, order_by, order}
@@ -15,8 +15,8 @@ use Rattle.same.proofs.Variables.{ready-renamed}
 module _ (rename : ℕ → ℕ) (P : ℕ → Type 0) (apart : (u v : ℕ) → P u → P v → rename u ≡ rename v → u ≡ v) where
   -- neither, or both, with gates that agree
   data Alike : Option Picked → Option Picked → Type 0 where
-    neither : Alike none none
-    both : {p q : Picked} → NamedGate rename P p.gate q.gate → Each (NamedGate rename P) p.rest q.rest → Alike (some p) (some q)
+    neither : Alike None None
+    both : {p q : Picked} → NamedGate rename P p.gate q.gate → Each (NamedGate rename P) p.rest q.rest → Alike (Some p) (Some q)
 
   past-alike : {g h : Gate} {o r : Option Picked} → NamedGate rename P g h → Alike o r → Alike (past g o) (past h r)
   past-alike n neither = neither
@@ -25,13 +25,13 @@ module _ (rename : ℕ → ℕ) (P : ℕ → Type 0) (apart : (u v : ℕ) → P 
   pick-alike : (xs : List ℕ) → All P xs → {gs hs : List Gate} → Each (NamedGate rename P) gs hs → Alike (pick xs gs) (pick (map rename xs) hs)
   pick-alike xs a entries.none = neither
   pick-alike xs a (entries.more {x = g} {y = h} {xs = gs} {ys = hs} n e) =
-      subst (λ (t : Bool). Alike (pick xs (g ∷ gs)) (cond t (some (record { gate = h; rest = hs })) (past h (pick (map rename xs) hs))))
+      subst (λ (t : Bool). Alike (pick xs (g ∷ gs)) (cond t (Some (record { gate = h; rest = hs })) (past h (pick (map rename xs) hs))))
       (sym (ready-renamed rename P apart xs a g h n))
       (go (ready xs g) (past-alike n (pick-alike xs a e)))
     where
       go : (t : Bool) → Alike (past g (pick xs gs)) (past h (pick (map rename xs) hs))
-          → Alike (cond t (some (record { gate = g; rest = gs })) (past g (pick xs gs)))
-          (cond t (some (record { gate = h; rest = hs })) (past h (pick (map rename xs) hs)))
+          → Alike (cond t (Some (record { gate = g; rest = gs })) (past g (pick xs gs)))
+          (cond t (Some (record { gate = h; rest = hs })) (past h (pick (map rename xs) hs)))
       go true r = both n e
       go false r = r
 

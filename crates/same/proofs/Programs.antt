@@ -3,8 +3,8 @@
 -- refused by 11 at the same length.
 use Prim.Native.Nat.{ℕ, ◌≤◌}
 use mathlib.Core.Path.{◌≡◌, sym, ap, ◌∙◌}
-use mathlib.Core.Option.{some}
 use mathlib.Core.List.{List, ◌++◌}
+use Rattle.std.specs.Prelude.{Some}
 use borrow.Author.Tests.{le-leb}
 use lib.ListN.{length}
 use Rattle.plan.specs.Circuit.{Circuit}
@@ -20,12 +20,12 @@ use Rattle.same.proofs.Files.{text-header, text-room, text-formed}
 
 -- on one accepted text file
 module _ (file : List ℕ) (small : length file ≤ 65536) (c : Circuit) (tail : List ℕ) (t : AcceptedText file lent_words c tail) where
-  pub converter-on-text : converter (some file) ≡ printed (fitting (binary_of (convert c) ++ tail))
+  pub converter-on-text : converter (Some file) ≡ printed (fitting (binary_of (convert c) ++ tail))
   converter-on-text =
       rw (le-leb (length file) 65536 small, t.accepted, text-room t, (text-header t).2)
       (ap (λ (x : List ℕ). printed (fitting (binary_of (convert c) ++ x))) t.rest)
 
-  pub reducer-on-text : reducer (some file) ≡ printed (fitting (binary_of (reduce (convert c)) ++ tail))
+  pub reducer-on-text : reducer (Some file) ≡ printed (fitting (binary_of (reduce (convert c)) ++ tail))
   reducer-on-text =
       rw (le-leb (length file) 65536 small, t.accepted, text-room t)
       (ap (λ (x : List ℕ). printed (fitting (binary_of (reduce (convert c)) ++ x))) t.rest)
@@ -34,12 +34,12 @@ module _ (file other : List ℕ) (small : length file ≤ 65536) (small' : lengt
   -- on two, whose circuits convert to the same
   module _ (c d : Circuit) (tail : List ℕ) (t : AcceptedText file lent_words c tail) (u : AcceptedText other lent_words d tail)
       (same : convert c ≡ convert d) where
-    converter-alike : converter (some file) ≡ converter (some other)
+    converter-alike : converter (Some file) ≡ converter (Some other)
     converter-alike =
         converter-on-text file small c tail t
         ∙ (ap (λ (x : Circuit). printed (fitting (binary_of x ++ tail))) same ∙ sym (converter-on-text other small' d tail u))
 
-    reducer-alike : reducer (some file) ≡ reducer (some other)
+    reducer-alike : reducer (Some file) ≡ reducer (Some other)
     reducer-alike =
         reducer-on-text file small c tail t
         ∙ (ap (λ (x : Circuit). printed (fitting (binary_of (reduce x) ++ tail))) same ∙ sym (reducer-on-text other small' d tail u))
@@ -48,10 +48,10 @@ module _ (file other : List ℕ) (small : length file ≤ 65536) (small' : lengt
     same : convert plan.c ≡ convert plan.d
     same = same-conversion plan.rename plan.one-to-one plan.c plan.d plan.agree
 
-    pub same-converter : converter (some file) ≡ converter (some other)
+    pub same-converter : converter (Some file) ≡ converter (Some other)
     same-converter = converter-alike plan.c plan.d plan.tail plan.first plan.second same
 
-    pub same-reducer : reducer (some file) ≡ reducer (some other)
+    pub same-reducer : reducer (Some file) ≡ reducer (Some other)
     same-reducer = reducer-alike plan.c plan.d plan.tail plan.first plan.second same
 
   -- nothing need be said of the renaming but that it fixes the constants
@@ -60,8 +60,8 @@ module _ (file other : List ℕ) (small : length file ≤ 65536) (small' : lengt
     formed-same : convert c ≡ convert d
     formed-same = accepted-same-conversion rename fixed c d agree (text-formed bytes t) (text-formed bytes' u)
 
-    pub any-converter : converter (some file) ≡ converter (some other)
+    pub any-converter : converter (Some file) ≡ converter (Some other)
     any-converter = converter-alike c d tail t u formed-same
 
-    pub any-reducer : reducer (some file) ≡ reducer (some other)
+    pub any-reducer : reducer (Some file) ≡ reducer (Some other)
     any-reducer = reducer-alike c d tail t u formed-same

@@ -1,8 +1,8 @@
 -- The same of the whole-file functions, for any tables and any buffer lent: answer, tables and buffer are the same afterwards.
 use Prim.Native.Nat.{ℕ, ◌≤◌}
 use mathlib.Core.Path.{◌≡◌, refl, sym, ap, ap₂, ◌∙◌}
-use mathlib.Core.Option.{Option, none, some}
 use mathlib.Core.List.{List, ◌++◌}
+use Rattle.std.specs.Prelude.{Option, Some, None}
 use borrow.Author.Tests.{le-leb}
 use lib.ListN.{length, drop}
 use Rattle.plan.specs.declared.Version.TheVariants.{V19}
@@ -24,7 +24,7 @@ use Rattle.same.proofs.Files.{text-header, text-room}
 
 -- the same tables, scratch and buffer, with a file
 abbrev pub handed : WholeEntry → List ℕ → WholeEntry
-handed e file = record { plan = some file; read = e.read; made = e.made; scratch = e.scratch; out = e.out }
+handed e file = record { plan = Some file; read = e.read; made = e.made; scratch = e.scratch; out = e.out }
 
 abbrev pub lengths_read : WholeEntry → List ℕ
 lengths_read e = lengths_of e.read e.scratch
@@ -49,8 +49,8 @@ module _ (e : WholeEntry) where
             header V19 file 0 then λ h _.
             fitting_in e.out (other_form h.form c ++ drop start file))
             ≡ unless o ShortTable (fitting_in e.out (binary_of (convert c) ++ tail))
-        go none = rw (text-header t).2 (ap (λ (x : List ℕ). fitting_in e.out (binary_of (convert c) ++ x)) t.rest)
-        go (some place) = refl
+        go None = rw (text-header t).2 (ap (λ (x : List ℕ). fitting_in e.out (binary_of (convert c) ++ x)) t.rest)
+        go (Some place) = refl
 
     reduce-on-text : reduce_whole (handed e file) ≡ whole_by (handed e file) (wrote c (binary_of (reduce (convert c)) ++ tail))
     reduce-on-text =
@@ -60,8 +60,8 @@ module _ (e : WholeEntry) where
         go : (o : Option ℕ) → (unless o ShortTable (got c t.start) then λ c start.
             fitting_in e.out (binary_of (reduce (convert c)) ++ drop start file))
             ≡ unless o ShortTable (fitting_in e.out (binary_of (reduce (convert c)) ++ tail))
-        go none = ap (λ (x : List ℕ). fitting_in e.out (binary_of (reduce (convert c)) ++ x)) t.rest
-        go (some place) = refl
+        go None = ap (λ (x : List ℕ). fitting_in e.out (binary_of (reduce (convert c)) ++ x)) t.rest
+        go (Some place) = refl
 
   -- scratch, for which M counts, is long enough for both, since both were read
   wrote-alike : (rename : ℕ → ℕ) (c d : Circuit) → Agree rename c d → LongEnough c (lengths_read e) → LongEnough d (lengths_read e)

@@ -2,10 +2,9 @@
 use Prim.Native.Nat.{ℕ, zero, suc, ◌+◌, ◌-◌, ◌*◌, ◌/◌, ◌^◌, ◌≤◌, ◌<◌, min}
 use mathlib.Core.Path.{◌≡◌, refl, sym, ap, ap₂, ◌∙◌, subst}
 use mathlib.Core.Bool.{Bool, true, false, cond}
-use mathlib.Core.Option.{Option, none, some}
 use mathlib.Core.List.{List, [], ◌∷◌, ◌++◌, map}
+use Rattle.std.specs.Prelude.{Result, Ok, Err, Option, Some, None}
 use native.Mathlib.Nat.{zero-add, pow-le-pow_right}
-use native.Mathlib.Decide.{dec_le}
 use native.Mathlib.Omega.{arith}
 use borrow.Author.Tests.{le-leb, lt-leb, leb-true}
 use lib.Dec.{leb}
@@ -13,10 +12,8 @@ use lib.ListN.{length, get_or, replicate, length-append}
 use Rattle.plan.specs.declared.Counts.{Counts}
 use Rattle.plan.specs.declared.Refusal.TheVariants.{ShortTable, NotExplained, ShortBuffer, ManyLatches, ManyInputs}
 use Rattle.plan.specs.declared.Refusal.{Refusal}
-use Rattle.plan.specs.declared.Checked.{Checked}
-use Rattle.plan.specs.declared.Checked.TheVariants as checked
 use Rattle.plan.specs.declared.Happening.{Happening}
-use Rattle.plan.specs.declared.Happening.TheVariants.{Can, Refused}
+use Rattle.plan.specs.declared.Happening.TheVariants.{Can}
 use Rattle.plan.specs.declared.Happening.TheVariants as happening
 use Rattle.plan.specs.Refusals.{stage, first_of}
 use Rattle.plan.specs.Circuit.{Circuit, Tables, circuit_of, or_less, cleared}
@@ -32,7 +29,7 @@ use Rattle.tables.proofs.bitmap.Telling.{blank-off}
 use Rattle.step.specs.sweep.Running.{Runs}
 use Rattle.search.specs.declared.Reach.{Reach}
 use Rattle.search.specs.declared.Reach.TheVariants as reach
-use Rattle.search.specs.Rows.{at, From, Rows}
+use Rattle.search.specs.Rows.{at, Rows}
 use Rattle.search.specs.Walking.{Walks, way_codes, Tells}
 use Rattle.search.specs.Exploring.{ExploredBy}
 use Rattle.search.specs.Asking.{fit_stages, answer_by, out_by, Answered, Asks}
@@ -40,28 +37,28 @@ use Rattle.search.proofs.Walking.{way_long, few_bytes, list-low}
 
 -- 25, 26, 4 and 17
 module _ (n : Counts) (watch met marks : ℕ) where
-  abbrev judged : Bool → Bool → Bool → Bool → Bool → checked.the_data
+  abbrev judged : Bool → Bool → Bool → Bool → Bool → Result Unit Refusal
   judged a b c d e =
       checked_by (first_of (stage ManyLatches (failing_at n.L a) ∷ stage ManyInputs (failing_at n.I b)
-      ∷ stage ShortTable (cond c (cond d none (or_less 11 none)) (or_less 10 (cond d none (or_less 11 none)))) ∷ stage NotExplained (failing_at 1 e) ∷ []))
+      ∷ stage ShortTable (cond c (cond d None (or_less 11 None)) (or_less 10 (cond d None (or_less 11 None)))) ∷ stage NotExplained (failing_at 1 e) ∷ []))
 
   by_tests : (a b c d e : Bool) → leb n.L 20 ≡ a → leb n.I 20 ≡ b → leb (3 * 2 ^ n.L) met ≡ c → leb ((2 ^ n.L + 31) / 32) marks ≡ d → leb
       watch n.O ≡ e
       → judged a b c d e ≡ checked_by (first_of (fit_stages n watch met marks))
   by_tests a b c d e pa pb pc pd pe = λ j. judged (sym pa j) (sym pb j) (sym pc j) (sym pd j) (sym pe j)
 
-  pub fit-latches : 20 < n.L → checked.Refused (ManyLatches n.L) ≡ checked_by (first_of (fit_stages n watch met marks))
+  pub fit-latches : 20 < n.L → Err (ManyLatches n.L) ≡ checked_by (first_of (fit_stages n watch met marks))
   fit-latches h = by_tests false _ _ _ _ (lt-leb n.L 20 h) refl refl refl refl
 
   module _ (hl : n.L ≤ 20) where
-    pub fit-inputs : 20 < n.I → checked.Refused (ManyInputs n.I) ≡ checked_by (first_of (fit_stages n watch met marks))
+    pub fit-inputs : 20 < n.I → Err (ManyInputs n.I) ≡ checked_by (first_of (fit_stages n watch met marks))
     fit-inputs h = by_tests true false _ _ _ (le-leb n.L 20 hl) (lt-leb n.I 20 h) refl refl refl
 
     module _ (hi : n.I ≤ 20) (states : ℕ) (es : states ≡ 2 ^ n.L) where
-      pub fit-ten : met < 3 * states → checked.Refused (ShortTable 10) ≡ checked_by (first_of (fit_stages n watch met marks))
+      pub fit-ten : met < 3 * states → Err (ShortTable 10) ≡ checked_by (first_of (fit_stages n watch met marks))
       fit-ten h = go (leb ((2 ^ n.L + 31) / 32) marks) refl
         where
-          go : (d : Bool) → leb ((2 ^ n.L + 31) / 32) marks ≡ d → checked.Refused (ShortTable 10) ≡ checked_by (first_of (fit_stages n watch met marks))
+          go : (d : Bool) → leb ((2 ^ n.L + 31) / 32) marks ≡ d → Err (ShortTable 10) ≡ checked_by (first_of (fit_stages n watch met marks))
           go true q = by_tests true true false true _ (le-leb n.L 20 hl) (le-leb n.I 20 hi) (lt-leb (3 * 2 ^ n.L) met (omega arith)) q refl
           go false q = by_tests true true false false _ (le-leb n.L 20 hl) (le-leb n.I 20 hi) (lt-leb (3 * 2 ^ n.L) met (omega arith)) q refl
 
@@ -69,7 +66,7 @@ module _ (n : Counts) (watch met marks : ℕ) where
         met-fits : leb (3 * 2 ^ n.L) met ≡ true
         met-fits = le-leb (3 * 2 ^ n.L) met (omega arith)
 
-        pub fit-eleven : marks < (states + 31) / 32 → checked.Refused (ShortTable 11) ≡ checked_by (first_of (fit_stages n watch met marks))
+        pub fit-eleven : marks < (states + 31) / 32 → Err (ShortTable 11) ≡ checked_by (first_of (fit_stages n watch met marks))
         fit-eleven h =
             by_tests true true true false _ (le-leb n.L 20 hl) (le-leb n.I 20 hi) met-fits
             (lt-leb ((2 ^ n.L + 31) / 32) marks (subst (λ (k : ℕ). marks < (k + 31) / 32) es h)) refl
@@ -78,10 +75,10 @@ module _ (n : Counts) (watch met marks : ℕ) where
           marks-fit : leb ((2 ^ n.L + 31) / 32) marks ≡ true
           marks-fit = le-leb ((2 ^ n.L + 31) / 32) marks (subst (λ (k : ℕ). (k + 31) / 32 ≤ marks) es hk)
 
-          pub fit-watch : n.O < watch → checked.Refused (NotExplained 1) ≡ checked_by (first_of (fit_stages n watch met marks))
+          pub fit-watch : n.O < watch → Err (NotExplained 1) ≡ checked_by (first_of (fit_stages n watch met marks))
           fit-watch h = by_tests true true true true false (le-leb n.L 20 hl) (le-leb n.I 20 hi) met-fits marks-fit (lt-leb watch n.O h)
 
-          pub fit-good : watch ≤ n.O → checked.Good ≡ checked_by (first_of (fit_stages n watch met marks))
+          pub fit-good : watch ≤ n.O → Ok tt ≡ checked_by (first_of (fit_stages n watch met marks))
           fit-good h = by_tests true true true true true (le-leb n.L 20 hl) (le-leb n.I 20 hi) met-fits marks-fit (le-leb watch n.O h)
 
 -- nothing of it is refused
@@ -93,7 +90,7 @@ module _ (n : Counts) (watch met marks : ℕ) where
     pub marks-long : 2 ^ n.L ≤ 32 * marks
     pub there : watch ≤ n.O
 
-  all_true : (a b c d e : Bool) → checked.Good ≡ judged n watch met marks a b c d e
+  all_true : (a b c d e : Bool) → Ok tt ≡ judged n watch met marks a b c d e
       → (a ≡ true) × (b ≡ true) × (c ≡ true) × (d ≡ true) × (e ≡ true)
   all_true true true true true true q = (refl, refl, refl, refl, refl)
   all_true true true true true false q = let z : ◌≡◌ {A = ℕ} 0 1 = cc in absurd (omega arith)
@@ -103,7 +100,7 @@ module _ (n : Counts) (watch met marks : ℕ) where
   all_true true false c d e q = let z : ◌≡◌ {A = ℕ} 0 1 = cc in absurd (omega arith)
   all_true false b c d e q = let z : ◌≡◌ {A = ℕ} 0 1 = cc in absurd (omega arith)
 
-  pub fitting : checked.Good ≡ checked_by (first_of (fit_stages n watch met marks)) → Fitting
+  pub fitting : Ok tt ≡ checked_by (first_of (fit_stages n watch met marks)) → Fitting
   fitting q =
       let t = all_true (leb n.L 20) (leb n.I 20) (leb (3 * 2 ^ n.L) met) (leb ((2 ^ n.L + 31) / 32) marks) (leb watch n.O) q in
       record {
@@ -119,19 +116,19 @@ module _ (n : Counts) (watch met marks : ℕ) where
 
 -- the outcome of the call, from what was told on the way
 module _ (e : SearchEntry) where
-  pub asks-refused : (r : Refusal) → answer e.circuit (search_stages e) ≡ some r → Asks e (Refused r) e.out
+  pub asks-refused : (r : Refusal) → answer e.circuit (search_stages e) ≡ Some r → Asks e (Err r) e.out
   asks-refused r q = (sym (ap (λ (o : Option Refusal). (searched_by o e).answer) q), sym (ap (λ (o : Option Refusal). (searched_by o e).out) q))
 
   abbrev early : List (Option Refusal)
   early = fit_stages e.circuit.counts e.watch (length e.met) (length e.marks)
 
-  module _ (past : answer e.circuit (search_stages e) ≡ first_of (search_stages e)) (a : Checked)
+  module _ (past : answer e.circuit (search_stages e) ≡ first_of (search_stages e)) (a : Result Unit Refusal)
       (told : a ≡ checked_by (first_of (fit_stages e.circuit.counts e.watch (length e.met) (length e.marks)))) where
-    pub asks-early : (r : Refusal) → a ≡ checked.Refused r → Asks e (Refused r) e.out
+    pub asks-early : (r : Refusal) → a ≡ Err r → Asks e (Err r) e.out
     asks-early r q =
         asks-refused r (past ∙ some_first r early (room_stage e.out (way_bytes (searched e) (found e)) ∷ []) (refused-some r (first_of early) (sym q ∙ told)))
 
-    pub asks-found : a ≡ checked.Good → (h : Happening) (out' : List ℕ) → Answered (searched e) (found e) e.out h out' → Asks e h out'
+    pub asks-found : a ≡ Ok tt → (h : Result Happening Refusal) (out' : List ℕ) → Answered (searched e) (found e) e.out h out' → Asks e h out'
     asks-found q h out' w = (
       w.0 ∙ sym (ap (λ (o : Option Refusal). (searched_by o e).answer) whole ∙ by_answer (lacking_room e.out 0 (way_bytes (searched e) (found e)))),
       w.1 ∙ sym (ap (λ (o : Option Refusal). (searched_by o e).out) whole ∙ by_out (lacking_room e.out 0 (way_bytes (searched e) (found e)))),
@@ -141,23 +138,23 @@ module _ (e : SearchEntry) where
         whole = past ∙ both_first early (room_stage e.out (way_bytes (searched e) (found e)) ∷ []) (good_none (first_of early) (sym q ∙ told))
 
         by_answer : (o : Option ℕ) → (searched_by (first_of (stage ShortBuffer o ∷ [])) e).answer ≡ answer_by o (found e)
-        by_answer none = refl
-        by_answer (some place) = refl
+        by_answer None = refl
+        by_answer (Some place) = refl
 
         by_out : (o : Option ℕ) → (searched_by (first_of (stage ShortBuffer o ∷ [])) e).out ≡ out_by o e.out (way_bytes (searched e) (found e))
-        by_out none = refl
-        by_out (some place) = refl
+        by_out None = refl
+        by_out (Some place) = refl
 
 -- all else is cleared
-pub searched-clear : (e : SearchEntry) (h : Happening) (out' scratch met marks : List ℕ) → Asks e h out' → scratch ≡ cleared e.circuit.scratch
+pub searched-clear : (e : SearchEntry) (h : Result Happening Refusal) (out' scratch met marks : List ℕ) → Asks e h out' → scratch ≡ cleared e.circuit.scratch
     → met ≡ cleared e.met → marks ≡ cleared e.marks
     → ◌≡◌ {A = SearchExit} (record { answer = h; scratch = scratch; met = met; marks = marks; out = out' }) (search e)
 searched-clear e h out' scratch met marks a es em ek = go (first_of (in_order_then e.circuit (search_stages e))) a.0 a.1
   where
     go : (o : Option Refusal) → h ≡ (searched_by o e).answer → out' ≡ (searched_by o e).out
         → ◌≡◌ {A = SearchExit} (record { answer = h; scratch = scratch; met = met; marks = marks; out = out' }) (searched_by o e)
-    go none p q = λ j. record { answer = p j; scratch = es j; met = em j; marks = ek j; out = q j }
-    go (some r) p q = λ j. record { answer = p j; scratch = es j; met = em j; marks = ek j; out = q j }
+    go None p q = λ j. record { answer = p j; scratch = es j; met = em j; marks = ek j; out = q j }
+    go (Some r) p q = λ j. record { answer = p j; scratch = es j; met = em j; marks = ek j; out = q j }
 
 -- marks that are cleared are blank
 zeros-at : (n i : ℕ) → ◌≡◌ {A = ℕ} (get_or (replicate n 0) i 0) 0
@@ -184,38 +181,38 @@ shown-walks y l allowance place m tries met q e h long ex =
     }
 
 -- nothing to write
-pub answered-nothing : (c : Circuit) (f : Found) (out : List ℕ) → way_bytes c f ≡ [] → Answered c f out (happening_of f) out
+pub answered-nothing : (c : Circuit) (f : Found) (out : List ℕ) → way_bytes c f ≡ [] → Answered c f out (Ok (happening_of f)) out
 answered-nothing c f out e =
-    let r : lacking_room out 0 (way_bytes c f) ≡ none =
-    ap (lacking_room out 0) e ∙ ap (λ (b : Bool). cond b none (some (min (0 + 0) (2 ^ 64 - 1)))) (le-leb (0 + 0) (length out) (omega arith)) in (
+    let r : lacking_room out 0 (way_bytes c f) ≡ None =
+    ap (lacking_room out 0) e ∙ ap (λ (b : Bool). cond b None (Some (min (0 + 0) (2 ^ 64 - 1)))) (le-leb (0 + 0) (length out) (omega arith)) in (
       sym (ap (λ (o : Option ℕ). answer_by o f) r),
       sym (put-none out 0) ∙ sym (ap₂ (λ (o : Option ℕ) (b : List ℕ). out_by o out b) r e),
     )
 
 -- the start and the list written, or their length told
-pub answered-told : (c : Circuit) (w : Way) (tries : ℕ) (out codes : List ℕ) (r : Happening) (out' : List ℕ) → way_bytes c (happens w tries) ≡ codes
+pub answered-told : (c : Circuit) (w : Way) (tries : ℕ) (out codes : List ℕ) (r : Result Happening Refusal) (out' : List ℕ) → way_bytes c (happens w tries) ≡ codes
     → length codes ≤ 2 ^ 64 - 1
-    → r ≡ cond (leb (length codes) (length out)) (Can (length w.list) tries) (Refused (ShortBuffer (length codes)))
+    → r ≡ cond (leb (length codes) (length out)) (Ok (Can (length w.list) tries)) (Err (ShortBuffer (length codes)))
     → out' ≡ cond (leb (length codes) (length out)) (put out 0 codes) out → Answered c (happens w tries) out r out'
 answered-told c w tries out codes r out' e few er eo = go (leb (length codes) (length out)) refl
   where
-    big : (b : Bool) → leb (length codes) (length out) ≡ b → lacking_room out 0 (way_bytes c (happens w tries)) ≡ cond b none (some (length codes))
+    big : (b : Bool) → leb (length codes) (length out) ≡ b → lacking_room out 0 (way_bytes c (happens w tries)) ≡ cond b None (Some (length codes))
     big b q =
         let none_more : 0 + length codes ≡ length codes = zero-add (length codes) in
         let cut : min (length codes) (2 ^ 64 - 1) ≡ length codes = omega arith in
         ap (lacking_room out 0) e
-        ∙ ap (λ (k : ℕ). cond (leb k (length out)) none (some (min k (2 ^ 64 - 1)))) none_more
-        ∙ ap₂ (λ (t : Bool) (k : ℕ). cond t none (some k)) q cut
+        ∙ ap (λ (k : ℕ). cond (leb k (length out)) None (Some (min k (2 ^ 64 - 1)))) none_more
+        ∙ ap₂ (λ (t : Bool) (k : ℕ). cond t None (Some k)) q cut
 
     go : (b : Bool) → leb (length codes) (length out) ≡ b → Answered c (happens w tries) out r out'
     go true q = (
-      er ∙ ap (λ (t : Bool). cond t (Can (length w.list) tries) (Refused (ShortBuffer (length codes)))) q
+      er ∙ ap (λ (t : Bool). cond t (Ok (Can (length w.list) tries)) (Err (ShortBuffer (length codes)))) q
           ∙ sym (ap (λ (o : Option ℕ). answer_by o (happens w tries)) (big true q)),
       eo ∙ ap (λ (t : Bool). cond t (put out 0 codes) out) q
           ∙ sym (ap₂ (λ (o : Option ℕ) (l : List ℕ). out_by o out l) (big true q) e),
     )
     go false q = (
-      er ∙ ap (λ (t : Bool). cond t (Can (length w.list) tries) (Refused (ShortBuffer (length codes)))) q
+      er ∙ ap (λ (t : Bool). cond t (Ok (Can (length w.list) tries)) (Err (ShortBuffer (length codes)))) q
           ∙ sym (ap (λ (o : Option ℕ). answer_by o (happens w tries)) (big false q)),
       eo ∙ ap (λ (t : Bool). cond t (put out 0 codes) out) q
           ∙ sym (ap₂ (λ (o : Option ℕ) (l : List ℕ). out_by o out l) (big false q) e),
@@ -243,20 +240,20 @@ codes-few n y ways met place m hl hi rows h few =
 
 -- what the search of the states came to, told
 module _ (split : ℕ) (c : Circuit) (most allowance : ℕ) (met out : List ℕ) (q : Reach) (ex : ExploredBy (system_of split c) most allowance q met) where
-  pub told-never : (k t : ℕ) → q ≡ reach.Never k t → Answered c (can_happen split c allowance) out (happening.Never k t) out
+  pub told-never : (k t : ℕ) → q ≡ reach.Never k t → Answered c (can_happen split c allowance) out (Ok (happening.Never k t)) out
   told-never k t e =
       let s : can_happen split c allowance ≡ never k t = subst (λ (v : Reach). ExploredBy (system_of split c) most allowance v met) e ex in
-      subst (λ (f : Found). Answered c f out (happening.Never k t) out) (sym s) (answered-nothing c (never k t) out refl)
+      subst (λ (f : Found). Answered c f out (Ok (happening.Never k t)) out) (sym s) (answered-nothing c (never k t) out refl)
 
-  pub told-undecided : (t : ℕ) → q ≡ reach.Undecided t → Answered c (can_happen split c allowance) out (happening.Undecided t) out
+  pub told-undecided : (t : ℕ) → q ≡ reach.Undecided t → Answered c (can_happen split c allowance) out (Ok (happening.Undecided t)) out
   told-undecided t e =
       let s : can_happen split c allowance ≡ undecided t = subst (λ (v : Reach). ExploredBy (system_of split c) most allowance v met) e ex in
-      subst (λ (f : Found). Answered c f out (happening.Undecided t) out) (sym s) (answered-nothing c (undecided t) out refl)
+      subst (λ (f : Found). Answered c f out (Ok (happening.Undecided t)) out) (sym s) (answered-nothing c (undecided t) out refl)
 
 pub told-shown : {n : Counts} {x : Tables} → Runs n x → (split watch allowance : ℕ) (met out : List ℕ) (q : Reach)
     → ExploredBy (system_of split (watched watch (circuit_of n x))) (2 ^ n.L) allowance q met → (place m t : ℕ) → q ≡ reach.Shown place m t → n.L ≤
     20 → n.I ≤ 20
-    → (r : Happening) (out' : List ℕ) → Tells n met place m t out r out'
+    → (r : Result Happening Refusal) (out' : List ℕ) → Tells n met place m t out r out'
     → Answered (watched watch (circuit_of n x)) (can_happen split (watched watch (circuit_of n x)) allowance) out r out'
 told-shown {n} {x} runs split watch allowance met out q ex place m t e hl hi r out' tells =
     let c = watched watch (circuit_of n x) in

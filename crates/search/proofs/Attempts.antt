@@ -1,26 +1,24 @@
 -- A try over words: what is loaded, and what is read after the step.
-use Prim.Native.Nat.{ℕ, ◌+◌, ◌≤◌, ◌<◌}
-use mathlib.Core.Path.{◌≡◌, refl, sym, ap, ap₂, ◌∙◌, subst}
+use Prim.Native.Nat.{ℕ, ◌+◌, ◌≤◌}
+use mathlib.Core.Path.{◌≡◌, refl, sym, ap, ap₂, ◌∙◌}
 use mathlib.Core.Bool.{Bool, true, false, cond, ◌||◌}
-use mathlib.Core.List.{List, [], ◌∷◌, map}
+use mathlib.Core.List.{List, map}
 use native.Mathlib.Omega.{arith}
-use lib.ListN.{length, take, drop, set, length-set, length-map}
+use lib.ListN.{length, take, set, length-set, length-map}
 use Rattle.plan.specs.declared.Counts.{Counts}
 use Rattle.plan.specs.Circuit.{Circuit, Tables, circuit_of}
-use Rattle.plan.specs.Step.{Value, v0, outputs_of, bads_of, constraints_of, next_of, any1, all1}
+use Rattle.plan.specs.Step.{Value, outputs_of, bads_of, constraints_of, next_of, any1, all1}
 use Rattle.plan.specs.Outcome.{put}
 use Rattle.laws.proofs.Put.{put-length}
-use Rattle.tables.specs.Held.{Scratch}
 use Rattle.step.specs.values.Words.{word, words, told, values_at}
 use Rattle.step.proofs.values.Codes.{told-words}
 use Rattle.step.specs.sweep.Lookup.{seen}
-use Rattle.step.specs.sweep.Running.{Runs, Rests, Stands, Stepped, Ready, lits_of}
+use Rattle.step.specs.sweep.Running.{Runs, Stands, Stepped, lits_of}
 use Rattle.step.proofs.sweep.Loading.{constant-set, rests-loaded, stands-loaded}
 use Rattle.step.proofs.sweep.Seeing.{bads-seen, constraints-seen}
 use Rattle.step.proofs.Buffers.{told_part}
-use Rattle.plan.specs.Search.{bits, as_number, System, system_of}
+use Rattle.plan.specs.Search.{bits, as_number, system_of}
 use Rattle.search.proofs.Vectors.{bits-length}
-use Rattle.search.specs.declared.Attempt.{Attempt}
 use Rattle.search.specs.declared.Attempt.TheVariants.{Barred, Seen, To}
 use Rattle.search.specs.Trying.{attempt}
 

@@ -1,20 +1,20 @@
 -- Breadth first: what is true of the states met after p tries.
 use Prim.Native.Nat.{ℕ, zero, suc, ◌+◌, ◌*◌, ◌/◌, ◌%◌, ◌≤◌, ◌<◌}
-use mathlib.Core.Path.{◌≡◌, refl, sym, ap, ap₂, ◌∙◌, subst}
-use mathlib.Core.Bool.{Bool, true, false, cond, not, ◌&&◌, ◌||◌, false≢true}
+use mathlib.Core.Path.{◌≡◌, refl, sym, ap, ◌∙◌, subst}
+use mathlib.Core.Bool.{Bool, true, false, ◌||◌, false≢true}
 use mathlib.Core.List.{List, [], ◌∷◌, ◌++◌, map}
-use native.Mathlib.Nat.{mul-add-div_right, mul-add-mod_self_right, div-eq_of_lt, mod-eq_of_lt, mod-lt, mul-le-mul_right, suc-mul, div-add-mod', le-div_iff_mul-le, div-lt_iff_lt-mul, add-zero, zero-div}
+use native.Mathlib.Nat.{mul-add-div_right, mul-add-mod_self_right, div-eq_of_lt, mod-eq_of_lt, mul-le-mul_right, suc-mul, div-add-mod', le-div_iff_mul-le, add-zero}
 use native.Mathlib.Decide.{dec_le}
 use native.Mathlib.Omega.{arith}
-use borrow.Author.Tests.{ltb-true, ltb-false, eqb-true, eq-eqb}
-use lib.Dec.{eqb, ltb}
-use lib.ListN.{length, get_or, length-append, get_or-append, get_or-map}
+use borrow.Author.Tests.{eqb-true, eq-eqb}
+use lib.Dec.{eqb}
+use lib.ListN.{length, length-append, get_or-append}
 use lib.Seq.{get_or-append_seam}
 use Rattle.plan.specs.Circuit.{has}
 use Rattle.laws.proofs.Reading.Members.{distinct, has-cases}
-use Rattle.laws.proofs.Running.Lists.{distinct_cons, distinct_head, distinct_tail, has-at}
-use Rattle.search.specs.Rows.{at, depth, Sits, Sound, Met}
-use Rattle.plan.specs.Search.{System, Leads, Way, begin, state_of, onward, meet, Tried, past, shown, left, try_move, try_at}
+use Rattle.laws.proofs.Running.Lists.{distinct_cons, distinct_head, distinct_tail}
+use Rattle.search.specs.Rows.{at, Sits}
+use Rattle.plan.specs.Search.{System, Leads, Way, begin, state_of}
 
 -- one state more at the end
 module _ (met : List Way) (w : Way) where

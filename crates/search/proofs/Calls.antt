@@ -1,35 +1,34 @@
 -- The laws over the whole call: what never and shown say of the circuit given, and a larger allowance.
-use Prim.Native.Nat.{ℕ, zero, suc, ◌+◌, ◌*◌, ◌^◌, ◌≤◌, ◌<◌}
-use mathlib.Core.Path.{◌≡◌, refl, sym, ap, ap₂, ◌∙◌, subst}
-use mathlib.Core.Bool.{Bool, true, false}
-use mathlib.Core.Option.{Option, none, some}
-use mathlib.Core.List.{List, [], ◌∷◌, ◌++◌, map}
+use Prim.Native.Nat.{ℕ, zero, suc, ◌≤◌}
+use mathlib.Core.Path.{◌≡◌, refl, sym, ap, ap₂, ◌∙◌}
+use mathlib.Core.Bool.{true}
+use mathlib.Core.List.{List, [], ◌∷◌, ◌++◌}
+use Rattle.std.specs.Prelude.{Result, Ok, Err, Option, Some, None}
 use native.Mathlib.Omega.{arith}
 use borrow.Author.Tests.{leb-true}
 use lib.Dec.{leb}
 use lib.ListN.{length}
 use Rattle.plan.specs.declared.Counts.{Counts}
 use Rattle.plan.specs.declared.Refusal.{Refusal}
-use Rattle.plan.specs.declared.Refusal.TheVariants.{ShortTable, NotExplained, ManyLatches, ManyInputs}
-use Rattle.plan.specs.Refusals.{stage, first_of}
-use Rattle.plan.specs.Circuit.{Circuit, counts_of, least_short}
+use Rattle.plan.specs.declared.Refusal.TheVariants.{NotExplained, ManyLatches, ManyInputs}
+use Rattle.plan.specs.Refusals.{first_of}
+use Rattle.plan.specs.Circuit.{Circuit}
 use Rattle.plan.specs.Reading.{WellFormed}
-use Rattle.plan.specs.Given.{Given, given_circuit, lent_alone, failing_at, room_stage, stages, order_stage, in_order_then}
+use Rattle.plan.specs.Given.{given_circuit, lent_alone, failing_at, room_stage, stages, order_stage, in_order_then}
 use Rattle.plan.specs.Step.{first_state}
-use Rattle.plan.specs.Fillings.{Fills, start_of, shows_at}
+use Rattle.plan.specs.Fillings.{shows_at}
 use Rattle.plan.specs.Outcome.{put}
 use Rattle.laws.proofs.Writing.Nothing.{stage-none, at_none, first-all, first-both}
-use Rattle.laws.proofs.Writing.Fine.{Fine, nothing-fine, counts-given}
+use Rattle.laws.proofs.Writing.Fine.{nothing-fine, counts-given}
 use Rattle.laws.proofs.Running.Accepted.{Accepted, accepted}
 use Rattle.laws.proofs.Running.Resets.{first-length}
-use Rattle.plan.specs.Search.{Best, Way, Found, never, happens, undecided, watching, watched, start_bytes, list_bytes, can_happen, system_of}
+use Rattle.plan.specs.Search.{Best, Way, Found, never, happens, undecided, watched, start_bytes, list_bytes, can_happen, system_of}
 use Rattle.plan.specs.declared.Happening.{Happening}
-use Rattle.plan.specs.declared.Happening.TheVariants.{Never, Can, Refused}
+use Rattle.plan.specs.declared.Happening.TheVariants.{Never, Can}
 use Rattle.search.specs.Asking.{fit_stages}
-use Rattle.plan.specs.Search.{SearchEntry, SearchExit, start_at, searched, found, way_bytes, happening_of, lent_to_search, search_stages, searched_by, search}
+use Rattle.plan.specs.Search.{SearchEntry, start_at, searched, found, way_bytes, happening_of, search_stages, searched_by, search}
 use Rattle.search.proofs.Answers.{Decided, all-stays}
-use Rattle.search.proofs.Circuits.{NoneShows, never-none, happens-best, larger}
-use Rattle.search.proofs.Circuits as circuits
+use Rattle.search.proofs.Circuits.{NoneShows, never-none, happens-best}
 use Rattle.search.proofs.Witnesses.{watched-accepted, found-fills, found-shows}
 
 first-watched : (k : ℕ) (c : Circuit) → first_state (watched k c) ≡ first_state c
@@ -41,13 +40,13 @@ latches-watched zero c = refl
 latches-watched (suc k) c = refl
 
 -- the answer and the buffer, by what is refused and what is found
-abbrev answer_with : Option Refusal → Found → Happening
-answer_with none f = happening_of f
-answer_with (some r) f = Refused r
+abbrev answer_with : Option Refusal → Found → Result Happening Refusal
+answer_with None f = Ok (happening_of f)
+answer_with (Some r) f = Err r
 
 abbrev out_with : Option Refusal → List ℕ → List ℕ → List ℕ
-out_with none out bytes = put out 0 bytes
-out_with (some r) out bytes = out
+out_with None out bytes = put out 0 bytes
+out_with (Some r) out bytes = out
 
 module _ (e : SearchEntry) where
   abbrev refusal : Option Refusal
@@ -60,7 +59,7 @@ module _ (e : SearchEntry) where
     pub few-inputs : e.circuit.counts.I ≤ 20
     pub there : e.watch ≤ length (given_circuit e.circuit).outputs
 
-  pub not-refused : first_of (in_order_then e.circuit (search_stages e)) ≡ none → NotRefused
+  pub not-refused : first_of (in_order_then e.circuit (search_stages e)) ≡ None → NotRefused
   not-refused q =
       let g = e.circuit in
       let both = first-both (stages g (lent_alone g)) (order_stage g ∷ search_stages e) q in
@@ -88,16 +87,16 @@ module _ (e : SearchEntry) where
         ∙ sym (latches-watched e.watch (given_circuit e.circuit))
 
   -- never: no start and no list, with x or without, shows it
-  never-only : (o : Option Refusal) (n t : ℕ) → (searched_by o e).answer ≡ Never n t → (o ≡ none) × (found e ≡ never n t)
-  never-only (some r) n t q = let z : ◌≡◌ {A = ℕ} 0 1 = cc in absurd (omega arith)
-  never-only none n t q = (refl, go (found e) q)
+  never-only : (o : Option Refusal) (n t : ℕ) → (searched_by o e).answer ≡ Ok (Never n t) → (o ≡ None) × (found e ≡ never n t)
+  never-only (Some r) n t q = let z : ◌≡◌ {A = ℕ} 0 1 = cc in absurd (omega arith)
+  never-only None n t q = (refl, go (found e) q)
     where
-      go : (f : Found) → happening_of f ≡ Never n t → f ≡ never n t
+      go : (f : Found) → ◌≡◌ {A = Result Happening Refusal} (Ok (happening_of f)) (Ok (Never n t)) → f ≡ never n t
       go (never a b) h = let p : a ≡ n = cc in let r : b ≡ t = cc in ap₂ never p r
       go (happens w b) h = let z : ◌≡◌ {A = ℕ} 0 1 = cc in absurd (omega arith)
       go (undecided b) h = let z : ◌≡◌ {A = ℕ} 0 1 = cc in absurd (omega arith)
 
-  pub call-never : (n t : ℕ) → (search e).answer ≡ Never n t → (s : NotRefused) × NoneShows e.split (searched e) (ok s) (sized s)
+  pub call-never : (n t : ℕ) → (search e).answer ≡ Ok (Never n t) → (s : NotRefused) × NoneShows e.split (searched e) (ok s) (sized s)
   call-never n t q =
       let r = never-only (first_of (in_order_then e.circuit (search_stages e))) n t q in
       let s = not-refused r.0 in
@@ -113,17 +112,17 @@ module _ (e : SearchEntry) where
     pub shows : shows_at (searched e) (start_bytes (searched e) way) steps (list_bytes (searched e) way) ≡ true
     pub written : (search e).out ≡ put e.out 0 (start_bytes (searched e) way ++ list_bytes (searched e) way)
 
-  shown-only : (o : Option Refusal) (n t : ℕ) → (searched_by o e).answer ≡ Can n t
-      → (o ≡ none) × ((w : Way) × (found e ≡ happens w t) × (n ≡ length w.list))
-  shown-only (some r) n t q = let z : ◌≡◌ {A = ℕ} 0 1 = cc in absurd (omega arith)
-  shown-only none n t q = (refl, go (found e) refl q)
+  shown-only : (o : Option Refusal) (n t : ℕ) → (searched_by o e).answer ≡ Ok (Can n t)
+      → (o ≡ None) × ((w : Way) × (found e ≡ happens w t) × (n ≡ length w.list))
+  shown-only (Some r) n t q = let z : ◌≡◌ {A = ℕ} 0 1 = cc in absurd (omega arith)
+  shown-only None n t q = (refl, go (found e) refl q)
     where
-      go : (f : Found) → found e ≡ f → happening_of f ≡ Can n t → (w : Way) × (found e ≡ happens w t) × (n ≡ length w.list)
+      go : (f : Found) → found e ≡ f → ◌≡◌ {A = Result Happening Refusal} (Ok (happening_of f)) (Ok (Can n t)) → (w : Way) × (found e ≡ happens w t) × (n ≡ length w.list)
       go (never a b) p h = let z : ◌≡◌ {A = ℕ} 0 1 = cc in absurd (omega arith)
       go (happens w b) p h = let r : b ≡ t = cc in let l : n ≡ length w.list = cc in (w, p ∙ ap (happens w) r, l)
       go (undecided b) p h = let z : ◌≡◌ {A = ℕ} 0 1 = cc in absurd (omega arith)
 
-  pub call-shown : (n t : ℕ) → (search e).answer ≡ Can n t → Told n
+  pub call-shown : (n t : ℕ) → (search e).answer ≡ Ok (Can n t) → Told n
   call-shown n t q =
       let r = shown-only (first_of (in_order_then e.circuit (search_stages e))) n t q in
       let s = not-refused r.0 in
@@ -159,12 +158,12 @@ module _ (e : SearchEntry) where
       ++ (room_stage e.out (way_bytes (searched e) f) ∷ [])))
 
   answer-by : (a : ℕ) (o : Option Refusal) → (searched_by o (allowing a)).answer ≡ answer_with o (found (allowing a))
-  answer-by a none = refl
-  answer-by a (some r) = refl
+  answer-by a None = refl
+  answer-by a (Some r) = refl
 
   out-by : (a : ℕ) (o : Option Refusal) → (searched_by o (allowing a)).out ≡ out_with o e.out (way_bytes (searched e) (found (allowing a)))
-  out-by a none = refl
-  out-by a (some r) = refl
+  out-by a None = refl
+  out-by a (Some r) = refl
 
   pub call-larger : (b : ℕ) → e.allowance ≤ b → Decided (system_of e.split (searched e)) (found e)
       → ((search (allowing b)).answer ≡ (search e).answer) × ((search (allowing b)).out ≡ (search e).out)

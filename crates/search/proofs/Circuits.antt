@@ -1,14 +1,12 @@
 -- Can it ever happen: what the search of a circuit's states says of every start and every list of vectors, with x and without.
-use Prim.Native.Nat.{ℕ, zero, suc, ◌+◌, ◌*◌, ◌^◌, ◌≤◌, ◌<◌}
+use Prim.Native.Nat.{ℕ, ◌+◌, ◌*◌, ◌^◌, ◌≤◌, ◌<◌}
 use mathlib.Core.Path.{◌≡◌, refl, sym, ap, ap₂, ◌∙◌, subst}
 use mathlib.Core.Bool.{Bool, true, false, ◌&&◌, ◌||◌, false≢true}
-use mathlib.Core.Logic.{◌↔◌}
 use mathlib.Core.List.{List, [], ◌∷◌, map}
 use native.Mathlib.Nat.{one-le-pow, zero-add}
 use native.Mathlib.Omega.{arith}
 use lib.ListN.{length, get_or, length-map}
 use Rattle.plan.specs.Circuit.{Circuit, nexts, has, index}
-use Rattle.plan.specs.Reading.{WellFormed}
 use Rattle.plan.specs.Step.{Value, code_of, value_of, outputs_of, bads_of, constraints_of, next_of, Step, run, first_state, any1, all1, shows1}
 use Rattle.plan.specs.Fillings.{Fills, start_of}
 use Rattle.laws.proofs.Reading.Members.{distinct}
@@ -20,12 +18,12 @@ use Rattle.laws.proofs.Running.Runs.{Sized, next-length}
 use Rattle.laws.proofs.Running.Lists.{absent, index_at}
 use Rattle.laws.proofs.Writing.Stepping.{codes-values, all_codes_lem}
 use Rattle.laws.proofs.Fillings.Question.{fills-two-valued}
-use Rattle.plan.specs.Search.{bits, as_number, System, shows_by, Leads, AllMoves, Reached, Best, Way, Found, never, happens, undecided, search_all, x_both, start_at, start_number, system_of, start_bytes, can_happen}
+use Rattle.plan.specs.Search.{bits, as_number, System, shows_by, Leads, AllMoves, Reached, Best, Way, Found, never, happens, undecided, x_both, start_at, start_number, system_of, start_bytes, can_happen}
 use Rattle.search.proofs.Pairs.{cut, cut_small, both-cut, both-fills, both-length, both-once, whole-number}
-use Rattle.search.proofs.Answers.{Never, Happens, Undecided, Means, Decided, all-means, all-stays}
+use Rattle.search.proofs.Answers.{Never, Happens, Means, Decided, all-means, all-stays}
 use Rattle.search.proofs.Deciding.{up-length, up_at, up-has, up-only, up-distinct, decides}
 use Rattle.search.proofs.First.{found-best, best-once}
-use Rattle.search.proofs.Vectors.{bits-nox, bits-length, bits-number, number_small, vectors-number, vectors-sized, zeroed, zeroed-les, zeroed-nox, zeroed-replaced, zeroed-noxs, zeroed-sized, les-trans, les-length, les-fills, fills-les}
+use Rattle.search.proofs.Vectors.{bits-nox, bits-length, bits-number, number_small, vectors-number, zeroed, zeroed-les, zeroed-nox, zeroed-replaced, zeroed-noxs, zeroed-sized, les-trans, les-fills}
 
 or_assoc : (a b d : Bool) → (a || (b || d)) ≡ ((a || b) || d)
 or_assoc true b d = refl

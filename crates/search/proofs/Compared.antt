@@ -1,12 +1,11 @@
 -- The gates that compare: their order, and that the last of them is 1 exactly if all pairs are the same.
-use Prim.Native.Nat.{ℕ, zero, suc, ◌+◌, ◌*◌, ◌≤◌, ◌<◌, min, max}
+use Prim.Native.Nat.{ℕ, suc, ◌+◌, ◌≤◌, ◌<◌}
 use mathlib.Core.Path.{◌≡◌, refl, sym, ap, ap₂, ◌∙◌, subst}
 use mathlib.Core.Bool.{Bool, true, false, not, ◌&&◌}
 use mathlib.Core.List.{List, [], ◌∷◌, map}
 use native.Mathlib.Omega.{arith}
 use lib.ListN.{length}
-use Rattle.plan.specs.Literals.{lit_of, var_of, sign_of, neg_of}
-use Rattle.plan.specs.Circuit.{Gate}
+use Rattle.plan.specs.Literals.{lit_of, var_of, neg_of}
 use Rattle.plan.specs.Convert.{gate_for}
 use Rattle.plan.specs.Step.{Value, v0, v1, vx, same, inv, and, lit, is1}
 use Rattle.laws.proofs.Reading.Order.{InOrder}

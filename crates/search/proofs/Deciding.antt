@@ -1,19 +1,18 @@
 -- Where all states are below a number, an allowance for that many states decides.
 use Prim.Native.Nat.{ℕ, zero, suc, ◌+◌, ◌*◌, ◌≤◌, ◌<◌}
-use mathlib.Core.Path.{◌≡◌, refl, sym, ap, ◌∙◌, subst}
-use mathlib.Core.Bool.{Bool, true, false, cond, ◌||◌, false≢true}
-use mathlib.Core.List.{List, [], ◌∷◌}
+use mathlib.Core.Path.{◌≡◌, refl, sym, ap, ◌∙◌}
+use mathlib.Core.Bool.{Bool, true, ◌||◌, false≢true}
+use mathlib.Core.List.{List, ◌∷◌}
 use native.Mathlib.Nat.{mul-le-mul_right, add-zero}
 use native.Mathlib.Decide.{dec_le}
 use native.Mathlib.Omega.{arith}
-use borrow.Author.Tests.{eqb-true, eq-eqb, ne_eqb}
-use lib.Dec.{eqb}
+use borrow.Author.Tests.{eq-eqb}
 use lib.ListN.{length, get_or}
 use Rattle.plan.specs.Circuit.{has}
 use Rattle.laws.proofs.Reading.Members.{distinct, has-cases, has-later, pigeon}
 use Rattle.laws.proofs.Running.Lists.{distinct_cons, absent}
 use Rattle.plan.specs.Search.{System, Reached, Found, never, happens, undecided, search_all, up_to}
-use Rattle.search.proofs.Answers.{Undecided, Means, Decided, all-means}
+use Rattle.search.proofs.Answers.{Means, Decided, all-means}
 
 -- numbers in a row, each made into another
 module _ (f : ℕ → ℕ) where

@@ -7,7 +7,7 @@ use mathlib.Core.List.{List, [], ◌∷◌, ◌++◌, map, append-nil}
 use native.Mathlib.Nat.{mod-lt, mul-le-mul_right, suc-mul, div-add-mod'}
 use native.Mathlib.Decide.{dec_le}
 use native.Mathlib.Omega.{arith}
-use borrow.Author.Tests.{ltb-true, ltb-false, eqb-true}
+use borrow.Author.Tests.{ltb-true, eqb-true}
 use lib.Dec.{eqb, ltb}
 use lib.ListN.{length, get_or, length-append}
 use Rattle.plan.specs.Circuit.{has, index}
@@ -16,7 +16,7 @@ use Rattle.laws.proofs.Running.Lists.{index_at, absent}
 use Rattle.plan.specs.Search.{System, shows_by, Leads, AllMoves, Before, ranked, Best, Way, begin, state_of, onward, meet, Tried, past, shown, left, try_move, try_at, Found, never, happens, undecided, at_end, go_on, search_from, search_all}
 use Rattle.search.specs.Rows.{at, depth, Sits, Met}
 use Rattle.search.proofs.Breadth.{length_more, at_old, at_new, has-place, before-tried}
-use Rattle.search.proofs.Trying.{Shown, Keeps, try-keeps}
+use Rattle.search.proofs.Trying.{Keeps, try-keeps}
 use Rattle.search.proofs.Answers.{Happens, Means, last-shows, all-means, met_start, at-begin, depth-begin, begin-length}
 
 -- the order of lists

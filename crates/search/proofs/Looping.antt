@@ -2,6 +2,7 @@
 use Prim.Native.Nat.{ℕ, suc, ◌+◌, ◌-◌, ◌/◌, ◌%◌, ◌^◌, ◌≤◌, ◌<◌}
 use mathlib.Core.Path.{◌≡◌, sym, ap, ap₂, ◌∙◌, subst}
 use mathlib.Core.List.{List}
+use Rattle.std.specs.Prelude.{Option, Some, None}
 use native.Mathlib.Nat.{pow-le-pow_right}
 use native.Mathlib.Omega.{arith}
 use lib.ListN.{length}
@@ -11,8 +12,6 @@ use Rattle.step.specs.sweep.Running.{Runs}
 use Rattle.plan.specs.Search.{System, onward, never, happens, search_from, system_of}
 use Rattle.search.specs.Rows.{at}
 use Rattle.search.proofs.Tabled.{turn-past, turn-out, turn-shown}
-use Rattle.search.specs.declared.Turn.{Turn}
-use Rattle.search.specs.declared.Turn.TheVariants as turn
 use Rattle.search.specs.declared.Reach.TheVariants as reach
 use Rattle.search.specs.Exploring.{LeftBy, Turned, Exploring, Explored}
 use Rattle.search.proofs.Turning.{ways-few}
@@ -56,10 +55,10 @@ module _ {split : ℕ} {n : Counts} {x : Tables} (r : Runs n x) (allowance tries
     one_left : allowance - tries ≡ suc (allowance - (tries + 1))
     one_left = omega arith
 
-    module _ (v : Turn) (met' marks' : List ℕ) (t : Turned split n x tries ex.ways v met' marks') where
-      pub found_here : v ≡ turn.Found → tries / moves < reached → Explored split n x allowance (reach.Shown (tries / moves) (tries % moves) (tries + 1)) met'
+    module _ (v : Option ℕ) (met' marks' : List ℕ) (t : Turned split n x tries ex.ways v met' marks') where
+      pub found_here : v ≡ None → tries / moves < reached → Explored split n x allowance (reach.Shown (tries / moves) (tries % moves) (tries + 1)) met'
       found_here e h =
-          let f = subst (λ (w : Turn). Turned split n x tries ex.ways w met' marks') e t in
+          let f = subst (λ (w : Option ℕ). Turned split n x tries ex.ways w met' marks') e t in
           let q : tries / y.moves < length ex.ways = omega (arith, ex.count, place_is) in (
             ex.ways,
             f.2,
@@ -70,9 +69,9 @@ module _ {split : ℕ} {n : Counts} {x : Tables} (r : Runs n x) (allowance tries
                 ∙ ap₂ (λ (i m : ℕ). happens (onward y (at ex.ways i) m) (tries + 1)) place_is move-is,
           )
 
-      pub left_here : (k : ℕ) → v ≡ turn.Left k → Exploring split n x allowance (tries + 1) k met' marks'
+      pub left_here : (k : ℕ) → v ≡ Some k → Exploring split n x allowance (tries + 1) k met' marks'
       left_here k e =
-          let l : LeftBy split n x tries ex.ways k met' marks' = subst (λ (w : Turn). Turned split n x tries ex.ways w met' marks') e t in
+          let l : LeftBy split n x tries ex.ways k met' marks' = subst (λ (w : Option ℕ). Turned split n x tries ex.ways w met' marks') e t in
           record {
             ways = l.later;
             count = l.count;

@@ -1,19 +1,18 @@
 -- A circuit's gates moved up in another: their order, and the values of moved literals.
-use Prim.Native.Nat.{ℕ, zero, suc, ◌+◌, ◌*◌, ◌/◌, ◌%◌, ◌≤◌, ◌<◌}
+use Prim.Native.Nat.{ℕ, suc, ◌+◌, ◌*◌, ◌/◌, ◌%◌, ◌≤◌, ◌<◌}
 use mathlib.Core.Path.{◌≡◌, refl, sym, ap, ap₂, ◌∙◌, subst}
-use mathlib.Core.Bool.{Bool, true, false, cond, false≢true}
-use mathlib.Core.Option.{none, some}
+use mathlib.Core.Bool.{Bool, true, false, cond}
 use mathlib.Core.List.{List, [], ◌∷◌, ◌++◌, map}
 use native.Mathlib.Omega.{arith}
 use borrow.Author.Tests.{ltb-true, ltb-false, lt-ltb, le-ltb, leb-true, leb-false}
 use lib.Dec.{ltb, leb}
 use lib.ListN.{length, get_or, length-append, get_or-eq_default}
-use Rattle.plan.specs.Literals.{lit_of, var_of, sign_of}
-use Rattle.plan.specs.Circuit.{Gate, Circuit, nexts, leaves}
+use Rattle.plan.specs.Literals.{var_of, sign_of}
+use Rattle.plan.specs.Circuit.{Gate, Circuit}
 use Rattle.plan.specs.Depends.{find}
-use Rattle.plan.specs.Step.{Value, v0, vx, and, signed_value, lit, gate_value, leaf_value, values_of}
+use Rattle.plan.specs.Step.{Value, vx, and, signed_value, lit, gate_value, leaf_value, values_of}
 use Rattle.laws.proofs.Reading.Order.{InOrder}
-use Rattle.laws.proofs.Reading.Runs.{up_from, BinaryOrder}
+use Rattle.laws.proofs.Reading.Runs.{BinaryOrder}
 use Rattle.laws.proofs.Running.Values.{Solves, unique, value-solves}
 use Rattle.laws.proofs.Running.Binary.{Binary, Holds, holds, find_none, find-above, settled-binary, solves-in, leaf-given, inner, Bounded}
 use Rattle.laws.proofs.Running.InOrder.{order-binary, leaves-order}

@@ -1,5 +1,5 @@
 -- Fillings of two parts at once: every number gives a filling, the numbers below 2 to the larger count of x give all, and each another one.
-use Prim.Native.Nat.{ℕ, zero, suc, ◌+◌, ◌*◌, ◌/◌, ◌%◌, ◌^◌, ◌≤◌, ◌<◌, max}
+use Prim.Native.Nat.{ℕ, zero, suc, ◌+◌, ◌*◌, ◌/◌, ◌%◌, ◌^◌, ◌≤◌, ◌<◌}
 use mathlib.Core.Path.{◌≡◌, refl, sym, ap, ap₂, ◌∙◌, subst}
 use mathlib.Core.Bool.{Bool, true, false, cond}
 use mathlib.Core.Logic.{◌↔◌}
@@ -9,7 +9,7 @@ use native.Mathlib.Decide.{dec_le}
 use native.Mathlib.Omega.{arith}
 use lib.ListN.{length, get_or, take, drop, length-append, length-take, take-append-drop, drop_of_length-le}
 use lib.Seq.{take_at, drop_at, take_all}
-use Rattle.plan.specs.Fillings.{is_x, x_of, x_count, bit_of, FillsAt, Fills, fill_from, filling}
+use Rattle.plan.specs.Fillings.{is_x, x_count, bit_of, FillsAt, Fills, fill_from, filling}
 use Rattle.plan.specs.Search.{fill_both, x_both}
 use Rattle.laws.proofs.Fillings.Numbering.{fill-length, fill-fills, fill-once, bit-half, bit-first, fills-number}
 

@@ -1,11 +1,10 @@
 -- A circuit and what it converts, reduces and drops to: the search gives the same answer, and the two are alike.
-use Prim.Native.Nat.{ℕ, zero, suc, ◌+◌, ◌*◌, ◌^◌, ◌≤◌, ◌<◌}
-use mathlib.Core.Path.{◌≡◌, refl, sym, ap, ap₂, ◌∙◌, subst, fun_ext}
+use Prim.Native.Nat.{ℕ, zero, suc, ◌^◌, ◌≤◌, ◌<◌}
+use mathlib.Core.Path.{◌≡◌, refl, sym, ap, ap₂, ◌∙◌, fun_ext}
 use mathlib.Core.Bool.{Bool, true, false, not, ◌&&◌, ◌||◌}
 use mathlib.Core.List.{List, [], ◌∷◌, map}
 use native.Mathlib.Omega.{arith}
 use borrow.Author.Tests.{eq-eqb}
-use lib.Dec.{eqb}
 use lib.ListN.{length, get_or, length-map}
 use Rattle.plan.specs.Circuit.{Circuit, rows_of}
 use Rattle.plan.specs.Reading.{WellFormed}
@@ -13,9 +12,8 @@ use Rattle.plan.specs.Binary.{binary_order}
 use Rattle.plan.specs.Convert.{convert}
 use Rattle.plan.specs.Reduce.{reduced, latch_becomes, reduce}
 use Rattle.plan.specs.Drop.{latch_renumbered, left, used, drop_unused}
-use Rattle.plan.specs.Step.{Value, code_of, value_of, same, lit, values_of, outputs_of, bads_of, constraints_of, next_of, Step, step_of, run, vectors_of, first_state, any1, all1}
-use Rattle.plan.specs.Outcome.{all_codes}
-use Rattle.plan.specs.Fillings.{x_count, filling, start_of}
+use Rattle.plan.specs.Step.{Value, code_of, value_of, lit, values_of, constraints_of, next_of, Step, step_of, run, first_state, any1, all1}
+use Rattle.plan.specs.Fillings.{filling, start_of}
 use Rattle.plan.specs.Search.{bits, as_number, System, fill_both, x_both, up_to, system_of, search_all, watching, watched, can_happen}
 use Rattle.plan.specs.Product.{same_all, differ, Alike}
 use Rattle.laws.proofs.Reading.Runs.{length-lits}

@@ -6,15 +6,15 @@ use mathlib.Core.List.{List, [], ◌∷◌, ◌++◌, map}
 use native.Mathlib.Decide.{dec_le}
 use native.Mathlib.Omega.{arith}
 use borrow.Author.Tests.{eqb-true, eq-eqb, ne_eqb, lt-ltb, le-ltb}
-use lib.Dec.{eqb, ltb}
+use lib.Dec.{eqb}
 use lib.ListN.{length, get_or, set, length-append, length-set}
 use lib.Seq.{get_or-set_same, get_or-set_other}
 use Rattle.tables.specs.bitmap.Bitmap.{is_on, raised}
 use Rattle.tables.proofs.bitmap.Telling.{raised-on, raised-others}
 use Rattle.plan.specs.Circuit.{has}
-use Rattle.laws.proofs.Reading.Members.{distinct, pigeon}
-use Rattle.plan.specs.Search.{System, Reached, Way, begin, state_of, onward, meet, Tried, past, shown, left, try_move, try_at, Found, never, happens, undecided, at_end, go_on, search_from, search_all, up_to}
-use Rattle.search.specs.Rows.{at, depth, Met}
+use Rattle.laws.proofs.Reading.Members.{distinct}
+use Rattle.plan.specs.Search.{System, Reached, Way, begin, state_of, onward, meet, Tried, past, shown, left, try_move, try_at, never, happens, undecided, at_end, go_on, search_from}
+use Rattle.search.specs.Rows.{at, Met}
 use Rattle.search.proofs.Breadth.{length_more, at_old, at_new, map_snoc, has-snoc, distinct_snoc, leads-snoc}
 use Rattle.search.proofs.Answers.{length-states, met-reached}
 use Rattle.search.proofs.Deciding.{few}

@@ -1,17 +1,17 @@
 -- A try keeps what holds of the states met.
-use Prim.Native.Nat.{ℕ, zero, suc, ◌+◌, ◌*◌, ◌/◌, ◌%◌, ◌≤◌, ◌<◌}
+use Prim.Native.Nat.{ℕ, suc, ◌+◌, ◌*◌, ◌/◌, ◌%◌, ◌≤◌, ◌<◌}
 use mathlib.Core.Path.{◌≡◌, refl, sym, ap, ap₂, ◌∙◌, subst}
-use mathlib.Core.Bool.{Bool, true, false, cond, not, ◌&&◌, ◌||◌, false≢true}
+use mathlib.Core.Bool.{Bool, true, false, cond, false≢true}
 use mathlib.Core.List.{List, [], ◌∷◌, ◌++◌, map}
-use native.Mathlib.Nat.{mod-lt, mul-le-mul_right, suc-mul, div-lt_iff_lt-mul}
+use native.Mathlib.Nat.{mod-lt, mul-le-mul_right, div-lt_iff_lt-mul}
 use native.Mathlib.Decide.{dec_le}
 use native.Mathlib.Omega.{arith}
 use borrow.Author.Tests.{ltb-true, ltb-false}
-use lib.Dec.{eqb, ltb}
-use lib.ListN.{length, get_or, length-append}
+use lib.Dec.{ltb}
+use lib.ListN.{length, length-append}
 use Rattle.plan.specs.Circuit.{has}
 use Rattle.laws.proofs.Reading.Members.{distinct}
-use Rattle.plan.specs.Search.{System, Leads, Way, begin, state_of, onward, meet, Tried, past, shown, left, try_move, try_at}
+use Rattle.plan.specs.Search.{System, Way, state_of, onward, meet, Tried, past, shown, left, try_move, try_at}
 use Rattle.search.specs.Rows.{at, depth, Sits, Sound, Met}
 use Rattle.search.proofs.Breadth.{length_more, at_old, at_new, sits-more, all_more, place_of, map_snoc, distinct_snoc, leads-snoc, pair_place, pair-move, place-later}
 

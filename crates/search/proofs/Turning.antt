@@ -1,7 +1,7 @@
 -- A turn of the search over tables.
-use Prim.Native.Nat.{ℕ, zero, suc, ◌+◌, ◌*◌, ◌/◌, ◌%◌, ◌^◌, ◌≤◌, ◌<◌}
+use Prim.Native.Nat.{ℕ, suc, ◌+◌, ◌*◌, ◌/◌, ◌%◌, ◌^◌, ◌≤◌, ◌<◌}
 use mathlib.Core.Path.{◌≡◌, refl, sym, ap, ap₂, ◌∙◌, subst}
-use mathlib.Core.Bool.{Bool, true, false, cond, false≢true}
+use mathlib.Core.Bool.{Bool, true, false, cond}
 use mathlib.Core.List.{List, [], ◌∷◌, ◌++◌, map}
 use native.Mathlib.Nat.{mod-lt, pow-le-pow_right}
 use native.Mathlib.Numerals.{add-one}
@@ -9,13 +9,13 @@ use native.Mathlib.Omega.{arith}
 use lib.ListN.{length, get_or}
 use Rattle.tables.specs.bitmap.Bitmap.{is_on, raised}
 use Rattle.plan.specs.declared.Counts.{Counts}
-use Rattle.plan.specs.Circuit.{Circuit, Tables, circuit_of, has}
+use Rattle.plan.specs.Circuit.{Tables, circuit_of, has}
 use Rattle.plan.specs.Step.{first_state}
 use Rattle.laws.proofs.Reading.Members.{distinct}
 use Rattle.laws.proofs.Running.Accepted.{Accepted, accepted}
 use Rattle.laws.proofs.Running.Resets.{first-length}
 use Rattle.step.specs.sweep.Running.{Runs}
-use Rattle.plan.specs.Search.{System, Reached, Way, state_of, onward, Tried, left, try_at, search_from, system_of}
+use Rattle.plan.specs.Search.{System, Reached, Way, state_of, onward, left, try_at, system_of}
 use Rattle.search.specs.Rows.{at, Met}
 use Rattle.search.proofs.Breadth.{length_more}
 use Rattle.search.proofs.Trying.{Keeps, try-keeps}

@@ -1,8 +1,9 @@
 -- Walking back over the rows: the steps are counted, and the bytes put from the last vector back.
-use Prim.Native.Nat.{ℕ, zero, suc, ◌+◌, ◌-◌, ◌*◌, ◌/◌, ◌%◌, ◌^◌, ◌≤◌, ◌<◌}
+use Prim.Native.Nat.{ℕ, zero, suc, ◌+◌, ◌-◌, ◌*◌, ◌≤◌, ◌<◌}
 use mathlib.Core.Path.{◌≡◌, refl, sym, ap, ap₂, ◌∙◌, subst}
 use mathlib.Core.Bool.{Bool, true, false, cond}
 use mathlib.Core.List.{List, [], ◌∷◌, ◌++◌, map, append_assoc, append-nil}
+use Rattle.std.specs.Prelude.{Ok, Err}
 use native.Mathlib.Nat.{suc-mul, mul-le-mul_right}
 use native.Mathlib.Decide.{dec_le}
 use native.Mathlib.Omega.{arith}
@@ -12,12 +13,12 @@ use lib.ListN.{length, get_or, take, drop, length-append, length-map, length-tak
 use lib.Seq.{take-append-le, take-take, drop_at}
 use Rattle.plan.specs.declared.Counts.{Counts}
 use Rattle.plan.specs.Circuit.{flat}
-use Rattle.plan.specs.Step.{Value, code_of}
+use Rattle.plan.specs.Step.{code_of}
 use Rattle.plan.specs.Outcome.{put}
-use Rattle.plan.specs.Search.{System, Way, begin, state_of, onward, bit_value, bits}
+use Rattle.plan.specs.Search.{System, Way, begin, onward, bit_value, bits}
 use Rattle.search.specs.Rows.{at, From, Rows}
 use Rattle.plan.specs.declared.Refusal.TheVariants.{ShortBuffer}
-use Rattle.plan.specs.declared.Happening.TheVariants.{Can, Refused}
+use Rattle.plan.specs.declared.Happening.TheVariants.{Can}
 use Rattle.search.specs.Walking.{way_codes, StepsTo, StoresWay, Tells}
 use Rattle.search.proofs.Vectors.{bits-length}
 
@@ -260,26 +261,26 @@ module _ (n : Counts) (met : List ℕ) (place m tries steps needed : ℕ) (out :
       let l : length ((at ways place).list ++ (m ∷ [])) ≡ steps = omega (arith, length-append (at ways place).list (m ∷ []), w) in
       way_long n (onward y (at ways place) m) ∙ ap (λ (k : ℕ). n.L + k * n.I) l ∙ sym e
 
-  pub told-short : length out < needed → Tells n met place m tries out (Refused (ShortBuffer needed)) out
+  pub told-short : length out < needed → Tells n met place m tries out (Err (ShortBuffer needed)) out
   told-short q y ways r h =
       let l = long y ways r h in
       let c : leb (length (way_codes n (onward y (at ways place) m))) (length out) ≡ false =
       lt-leb (length (way_codes n (onward y (at ways place) m))) (length out) (omega (arith, l)) in (
-        ap (λ (k : ℕ). Refused (ShortBuffer k)) (sym l)
-            ∙ sym (ap (λ (b : Bool). cond b (Can (length (onward y (at ways place) m).list) tries)
-            (Refused (ShortBuffer (length (way_codes n (onward y (at ways place) m)))))) c),
+        ap (λ (k : ℕ). Err (ShortBuffer k)) (sym l)
+            ∙ sym (ap (λ (b : Bool). cond b (Ok (Can (length (onward y (at ways place) m).list) tries))
+            (Err (ShortBuffer (length (way_codes n (onward y (at ways place) m)))))) c),
         sym (ap (λ (b : Bool). cond b (put out 0 (way_codes n (onward y (at ways place) m))) out) c),
       )
 
-  pub told-long : needed ≤ length out → (out' : List ℕ) → StoresWay n met place m steps out out' → Tells n met place m tries out (Can steps tries) out'
+  pub told-long : needed ≤ length out → (out' : List ℕ) → StoresWay n met place m steps out out' → Tells n met place m tries out (Ok (Can steps tries)) out'
   told-long q out' s y ways r h =
       let l = long y ways r h in
       let w : steps ≡ length ((at ways place).list ++ (m ∷ [])) =
       (many y ways r h).0 ∙ omega (arith, length-append (at ways place).list (m ∷ [])) in
       let c : leb (length (way_codes n (onward y (at ways place) m))) (length out) ≡ true =
       le-leb (length (way_codes n (onward y (at ways place) m))) (length out) (omega (arith, l)) in (
-        ap (λ (k : ℕ). Can k tries) w
-            ∙ sym (ap (λ (b : Bool). cond b (Can (length (onward y (at ways place) m).list) tries)
-            (Refused (ShortBuffer (length (way_codes n (onward y (at ways place) m)))))) c),
+        ap (λ (k : ℕ). Ok (Can k tries)) w
+            ∙ sym (ap (λ (b : Bool). cond b (Ok (Can (length (onward y (at ways place) m).list) tries))
+            (Err (ShortBuffer (length (way_codes n (onward y (at ways place) m)))))) c),
         s y ways r h ∙ sym (ap (λ (b : Bool). cond b (put out 0 (way_codes n (onward y (at ways place) m))) out) c),
       )

@@ -1,11 +1,10 @@
 -- What is watched, as outputs of a circuit of its own.
-use Prim.Native.Nat.{ℕ, zero, suc, ◌+◌, ◌-◌, ◌^◌, ◌≤◌, ◌<◌}
-use mathlib.Core.Path.{◌≡◌, refl, sym, ap, ap₂, ◌∙◌, subst}
-use mathlib.Core.Bool.{true}
+use Prim.Native.Nat.{ℕ, zero, suc, ◌+◌, ◌^◌, ◌≤◌, ◌<◌}
+use mathlib.Core.Path.{◌≡◌, sym, ap, ◌∙◌, subst}
 use mathlib.Core.List.{List, [], ◌∷◌}
 use native.Mathlib.Omega.{arith}
-use lib.ListN.{length, get_or, take, drop, length-take, length-drop}
-use lib.Seq.{take-suc, drop-cons, get_or-take}
+use lib.ListN.{length, get_or, take, drop, length-drop}
+use lib.Seq.{drop-cons, get_or-take}
 use Rattle.plan.specs.declared.Counts.{Counts}
 use Rattle.plan.specs.Literals.{most}
 use Rattle.plan.specs.Circuit.{Circuit, Tables, counts_of, circuit_of, seven, nexts}
@@ -14,9 +13,8 @@ use Rattle.plan.specs.Binary.{binary_order}
 use Rattle.plan.specs.Search.{watching, watched, system_of}
 use Rattle.laws.proofs.Reading.Runs.{BinaryOrder}
 use Rattle.laws.proofs.Reading.Runs.{order-exactly}
-use Rattle.laws.proofs.Running.Binary.{inner, Bounded, Ordered}
+use Rattle.laws.proofs.Running.Binary.{inner, Bounded}
 use Rattle.laws.proofs.Running.InOrder.{well-ordered, well-formed}
-use Rattle.tables.specs.Held.{Scratch}
 use Rattle.step.specs.sweep.Running.{Runs}
 use Rattle.search.specs.declared.Reach.{Reach}
 use Rattle.search.specs.Exploring.{ExploredBy, SearchesAll}

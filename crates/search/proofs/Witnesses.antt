@@ -1,9 +1,9 @@
 -- The search and the witness questions: never, and no list is a witness; a way that is found is one, from its start.
 use Prim.Native.Nat.{ℕ, zero, suc, ◌+◌, ◌*◌, ◌^◌, ◌≤◌, ◌<◌}
 use mathlib.Core.Path.{◌≡◌, refl, sym, ap, ap₂, ◌∙◌, subst}
-use mathlib.Core.Bool.{Bool, true, false, cond, ◌&&◌, ◌||◌, false≢true}
-use mathlib.Core.Option.{Option, none, some}
+use mathlib.Core.Bool.{Bool, true, false, cond, ◌&&◌, false≢true}
 use mathlib.Core.List.{List, [], ◌∷◌, ◌++◌, map}
+use Rattle.std.specs.Prelude.{Ok, Option, Some, None}
 use native.Mathlib.Nat.{suc-mul, pow-zero}
 use native.Mathlib.Omega.{arith}
 use borrow.Author.Tests.{eqb-true}
@@ -13,17 +13,15 @@ use lib.Seq.{take_at, drop_at}
 use Rattle.plan.specs.declared.Counts.{Counts}
 use Rattle.plan.specs.declared.Refusal.{Refusal}
 use Rattle.plan.specs.declared.Refusal.TheVariants.{BadVector}
-use Rattle.plan.specs.declared.Verdict.TheVariants as verdict
 use Rattle.plan.specs.declared.Finding.TheVariants.{Yes}
 use Rattle.plan.specs.Refusals.{first_of}
-use Rattle.plan.specs.Given.{Given, given_circuit, lent_alone, stages, order_stage, in_order_then}
+use Rattle.plan.specs.Given.{given_circuit, lent_alone, stages, order_stage, in_order_then}
 use Rattle.plan.specs.Outcome.{all_codes, vector_of, WitnessEntry, verdict_by, list_stage, witness3}
-use Rattle.plan.specs.Circuit.{Circuit, rows_of, flat, left_vars, has, leaves}
-use Rattle.plan.specs.Literals.{var_of}
+use Rattle.plan.specs.Circuit.{Circuit, rows_of, flat, left_vars, leaves}
 use Rattle.plan.specs.Step.{Value, v0, v1, vx, code_of, value_of, reset_value, first_state, run, next_of, vectors_of, shows1, witnessed, is1}
-use Rattle.plan.specs.Fillings.{is_x, x_count, FillsAt, Fills, fill_from, filling, start_of, asked, shows_at, total_of, question}
-use Rattle.laws.proofs.Running.Refinement.{Les, les-refl}
-use Rattle.laws.proofs.Running.WithoutX.{NotX, NoX, NoXs}
+use Rattle.plan.specs.Fillings.{x_count, Fills, fill_from, start_of, shows_at, total_of, question}
+use Rattle.laws.proofs.Running.Refinement.{les-refl}
+use Rattle.laws.proofs.Running.WithoutX.{NoX, NoXs}
 use Rattle.laws.proofs.Reading.Common.{and_left}
 use Rattle.laws.proofs.Writing.Nothing.{stage-none, at_none, first-all, first-both}
 use Rattle.laws.proofs.Writing.Fine.{nothing-fine, counts-given}
@@ -36,8 +34,8 @@ use Rattle.laws.proofs.Fillings.Numbering.{fill-length, count-append, fill-fills
 use Rattle.laws.proofs.Fillings.Question.{EveryShows, yes-every, every-yes}
 use Rattle.plan.specs.Search.{bits, Way, never, happens, watching, watched, start_at, start_bytes, list_bytes, can_happen}
 use Rattle.search.proofs.Pairs.{both-fills}
-use Rattle.search.proofs.Vectors.{bits-nox, bits-length, vectors-sized, vectors-nox, fills-les}
-use Rattle.search.proofs.Circuits.{NoneShows, never-none, Shown, happens-shown}
+use Rattle.search.proofs.Vectors.{bits-nox, vectors-sized, vectors-nox, fills-les}
+use Rattle.search.proofs.Circuits.{never-none, happens-shown}
 
 -- vectors as bytes and back
 pub rows-sized : (k n : ℕ) (t : List ℕ) → length t ≡ n * k → Sized k (map (map value_of) (rows_of k n t))
@@ -212,12 +210,12 @@ watched-accepted c ok (suc k) h =
     watching-accepted c ok (get_or c.outputs k 0 ∷ []) (one_in c.outputs (leaves c ++ left_vars c.gates) ok.used-output k h)
 
 -- over a whole call of the question in three values: never, and it does not say yes
-yes-only : (o : Option Refusal) (b : Bool) → verdict_by o b ≡ verdict.Yes → (o ≡ none) × (b ≡ true)
-yes-only none true e = (refl, refl)
-yes-only none false e = let z : ◌≡◌ {A = ℕ} 0 1 = cc in absurd (omega arith)
-yes-only (some r) b e = let z : ◌≡◌ {A = ℕ} 0 1 = cc in absurd (omega arith)
+yes-only : (o : Option Refusal) (b : Bool) → verdict_by o b ≡ Ok true → (o ≡ None) × (b ≡ true)
+yes-only None true e = (refl, refl)
+yes-only None false e = let z : ◌≡◌ {A = ℕ} 0 1 = cc in absurd (omega arith)
+yes-only (Some r) b e = let z : ◌≡◌ {A = ℕ} 0 1 = cc in absurd (omega arith)
 
-pub never-three : (split : ℕ) (w : WitnessEntry) (a n t : ℕ) → can_happen split (given_circuit w.circuit) a ≡ never n t → (witness3 w).answer ≡ verdict.Yes → ⊥
+pub never-three : (split : ℕ) (w : WitnessEntry) (a n t : ℕ) → can_happen split (given_circuit w.circuit) a ≡ never n t → (witness3 w).answer ≡ Ok true → ⊥
 never-three split w a n t e q =
     let g = w.circuit in
     let r = yes-only (first_of (in_order_then g (list_stage w ∷ []))) (witnessed (given_circuit g) w.number w.bytes) q in

@@ -1,16 +1,14 @@
 -- The call, stage by stage.
-use Rattle.std.specs.Prelude.{ℕ, ◌+◌, ◌*◌, ◌/◌, ◌^◌, ◌≤◌, ◌≡◌, false, List, [], ◌∷◌, map, leb, length}
-use Rattle.std.proofs.Math.Option.{Option, none, some}
+use Rattle.std.specs.Prelude.{ℕ, ◌+◌, ◌*◌, ◌/◌, ◌^◌, ◌≤◌, ◌≡◌, false, List, [], ◌∷◌, leb, length, Result, Ok, Err, Option, Some, None}
 use Rattle.plan.specs.declared.Counts.{Counts}
 use Rattle.plan.specs.declared.Refusal.{Refusal}
 use Rattle.plan.specs.declared.Refusal.TheVariants.{ShortTable, NotExplained, ShortBuffer, ManyLatches, ManyInputs}
 use Rattle.plan.specs.declared.Happening.{Happening}
-use Rattle.plan.specs.declared.Happening.TheVariants.{Refused}
 use Rattle.plan.specs.Refusals.{stage}
-use Rattle.plan.specs.Circuit.{Circuit, Tables, circuit_of, seven, least_short}
+use Rattle.plan.specs.Circuit.{Circuit, circuit_of, seven, least_short}
 use Rattle.plan.specs.Given.{failing_at, lacking_room}
 use Rattle.plan.specs.Outcome.{put}
-use Rattle.plan.specs.Search.{Found, system_of, search_all, watched, way_bytes, happening_of, can_happen, SearchEntry, search}
+use Rattle.plan.specs.Search.{Found, system_of, watched, way_bytes, happening_of, can_happen, SearchEntry, search}
 use Rattle.tables.specs.bitmap.Bitmap.{is_on}
 use Rattle.tables.specs.Held.{Scratch}
 use Rattle.step.specs.sweep.Running.{Runs}
@@ -49,24 +47,24 @@ WatchesAll split watch n latches outputs gates resets bads constraints allowance
     → ExploredBy (system_of split (watched watch (circuit_of n (seven inputs latches outputs gates resets bads constraints)))) (2 ^ n.L) allowance r met'
 
 -- what is found is told if it has room
-abbrev pub answer_by : Option ℕ → Found → Happening
-answer_by none f = happening_of f
-answer_by (some place) f = Refused (ShortBuffer place)
+abbrev pub answer_by : Option ℕ → Found → Result Happening Refusal
+answer_by None f = Ok (happening_of f)
+answer_by (Some place) f = Err (ShortBuffer place)
 
 abbrev pub out_by : Option ℕ → List ℕ → List ℕ → List ℕ
-out_by none out bytes = put out 0 bytes
-out_by (some place) out bytes = out
+out_by None out bytes = put out 0 bytes
+out_by (Some place) out bytes = out
 
-abbrev pub Answered : Circuit → Found → List ℕ → Happening → List ℕ → Type 0
+abbrev pub Answered : Circuit → Found → List ℕ → Result Happening Refusal → List ℕ → Type 0
 Answered c f out r out' =
     (r ≡ answer_by (lacking_room out 0 (way_bytes c f)) f) × (out' ≡ out_by (lacking_room out 0 (way_bytes c f)) out (way_bytes c f))
 
-abbrev pub FindsAll : ℕ → ℕ → Counts → List ℕ → List ℕ → List ℕ → List ℕ → List ℕ → List ℕ → ℕ → List ℕ → Happening → List ℕ → Type 0
+abbrev pub FindsAll : ℕ → ℕ → Counts → List ℕ → List ℕ → List ℕ → List ℕ → List ℕ → List ℕ → ℕ → List ℕ → Result Happening Refusal → List ℕ → Type 0
 FindsAll split watch n latches outputs gates resets bads constraints allowance out r out' =
     (inputs : List ℕ) → Runs n (seven inputs latches outputs gates resets bads constraints)
     → Answered (watched watch (circuit_of n (seven inputs latches outputs gates resets bads constraints)))
     (can_happen split (watched watch (circuit_of n (seven inputs latches outputs gates resets bads constraints))) allowance) out r out'
 
 -- the answer and the buffer of the call; what is left in its other tables is cleared after it
-abbrev pub Asks : SearchEntry → Happening → List ℕ → Type 0
+abbrev pub Asks : SearchEntry → Result Happening Refusal → List ℕ → Type 0
 Asks e r out' = (r ≡ (search e).answer) × (out' ≡ (search e).out)

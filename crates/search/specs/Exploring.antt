@@ -1,18 +1,16 @@
 -- The search over tables: what is met stands in rows, and has marks.
-use Rattle.std.specs.Prelude.{ℕ, suc, ◌+◌, ◌-◌, ◌*◌, ◌/◌, ◌%◌, ◌^◌, ◌≤◌, ◌<◌, ◌≡◌, Bool, true, false, List, map, length}
+use Rattle.std.specs.Prelude.{ℕ, suc, ◌+◌, ◌-◌, ◌*◌, ◌/◌, ◌%◌, ◌^◌, ◌≤◌, ◌<◌, ◌≡◌, Bool, true, false, List, map, length, Option, Some, None}
 use Rattle.tables.specs.bitmap.Bitmap.{is_on, raised}
 use Rattle.plan.specs.declared.Counts.{Counts}
 use Rattle.plan.specs.Circuit.{Tables, circuit_of, seven}
 use Rattle.tables.specs.Held.{Scratch}
 use Rattle.step.specs.sweep.Running.{Runs}
-use Rattle.plan.specs.Search.{System, Way, begin, onward, Found, never, happens, undecided, search_from, search_all, system_of}
+use Rattle.plan.specs.Search.{System, Way, begin, onward, never, happens, undecided, search_from, search_all, system_of}
 use Rattle.search.specs.Rows.{at, Met, Rows, Marked, new_row}
 use Rattle.search.specs.declared.Reach.{Reach}
 use Rattle.search.specs.declared.Reach.TheVariants as reach
 use Rattle.search.specs.declared.Attempt.{Attempt}
 use Rattle.search.specs.Trying.{attempt}
-use Rattle.search.specs.declared.Turn.{Turn}
-use Rattle.search.specs.declared.Turn.TheVariants as turn
 
 -- room for a state that is not marked
 pub record Meets (met marks : List ℕ) (reached s place m : ℕ) : Type 0 where
@@ -61,12 +59,12 @@ pub record LeftBy (split : ℕ) (n : Counts) (x : Tables) (p : ℕ) (ways : List
   pub searched : Searched split n x (p + 1) later met marks
   pub follows : (a : ℕ) → search_from (system_of split (circuit_of n x)) (suc a) p ways ≡ search_from (system_of split (circuit_of n x)) a (p + 1) later
 
-abbrev pub Turned : ℕ → Counts → Tables → ℕ → List Way → Turn → List ℕ → List ℕ → Type 0
-Turned split n x p ways turn.Found met marks =
+abbrev pub Turned : ℕ → Counts → Tables → ℕ → List Way → Option ℕ → List ℕ → List ℕ → Type 0
+Turned split n x p ways None met marks =
     let y = system_of split (circuit_of n x) in
     (y.allows (at ways (p / y.moves)).state (p % y.moves) ≡ true) × (y.shows (at ways (p / y.moves)).state (p % y.moves) ≡ true)
     × Rows y ways met
-Turned split n x p ways (turn.Left k) met marks = LeftBy split n x p ways k met marks
+Turned split n x p ways (Some k) met marks = LeftBy split n x p ways k met marks
 
 -- the whole search: the starts stand in the first rows, and have their marks
 pub record Explores (n : Counts) (latches outputs gates bads constraints scratch met marks : List ℕ) (starts : ℕ) : Type 0 where
@@ -107,7 +105,7 @@ Tried n latches outputs gates bads constraints s m r =
     (inputs resets : List ℕ) → Runs n (seven inputs latches outputs gates resets bads constraints)
     → r ≡ attempt (system_of 0 (circuit_of n (seven inputs latches outputs gates resets bads constraints))) s m
 
-abbrev pub TakesTurn : Counts → List ℕ → List ℕ → List ℕ → List ℕ → List ℕ → ℕ → ℕ → ℕ → List ℕ → List ℕ → Turn → List ℕ → List ℕ → Type 0
+abbrev pub TakesTurn : Counts → List ℕ → List ℕ → List ℕ → List ℕ → List ℕ → ℕ → ℕ → ℕ → List ℕ → List ℕ → Option ℕ → List ℕ → List ℕ → Type 0
 TakesTurn n latches outputs gates bads constraints reached place m met marks r met' marks' =
     (split : ℕ) (inputs resets : List ℕ) (p : ℕ) (ways : List Way) → Runs n (seven inputs latches outputs gates resets bads constraints)
     → Searched split n (seven inputs latches outputs gates resets bads constraints) p ways met marks → length ways ≡ reached

@@ -1,9 +1,10 @@
 -- The way back from a row to its start, and the bytes of both.
-use Rattle.std.specs.Prelude.{ℕ, suc, ◌+◌, ◌*◌, ◌≤◌, ◌<◌, ◌≡◌, cond, List, ◌++◌, map, leb, length}
+use Rattle.std.specs.Prelude.{ℕ, suc, ◌+◌, ◌*◌, ◌≤◌, ◌<◌, ◌≡◌, cond, List, ◌++◌, map, leb, length, Result, Ok, Err}
 use Rattle.plan.specs.declared.Counts.{Counts}
+use Rattle.plan.specs.declared.Refusal.{Refusal}
 use Rattle.plan.specs.declared.Refusal.TheVariants.{ShortBuffer}
 use Rattle.plan.specs.declared.Happening.{Happening}
-use Rattle.plan.specs.declared.Happening.TheVariants.{Can, Refused}
+use Rattle.plan.specs.declared.Happening.TheVariants.{Can}
 use Rattle.plan.specs.Circuit.{flat}
 use Rattle.plan.specs.Step.{code_of}
 use Rattle.plan.specs.Outcome.{put}
@@ -40,9 +41,9 @@ StoresWay n met place m steps out out' =
     (y : System) (ways : List Way) → Rows y ways met → place < length ways → out' ≡ put out 0 (way_codes n (onward y (at ways place) m))
 
 -- what is told: the steps, or how many bytes are needed
-abbrev pub Tells : Counts → List ℕ → ℕ → ℕ → ℕ → List ℕ → Happening → List ℕ → Type 0
+abbrev pub Tells : Counts → List ℕ → ℕ → ℕ → ℕ → List ℕ → Result Happening Refusal → List ℕ → Type 0
 Tells n met place m tries out r out' =
     (y : System) (ways : List Way) → Rows y ways met → place < length ways
-    → (r ≡ cond (leb (length (way_codes n (onward y (at ways place) m))) (length out)) (Can (length (onward y (at ways place) m).list) tries)
-    (Refused (ShortBuffer (length (way_codes n (onward y (at ways place) m))))))
+    → (r ≡ cond (leb (length (way_codes n (onward y (at ways place) m))) (length out)) (Ok (Can (length (onward y (at ways place) m).list) tries))
+    (Err (ShortBuffer (length (way_codes n (onward y (at ways place) m))))))
     × (out' ≡ cond (leb (length (way_codes n (onward y (at ways place) m))) (length out)) (put out 0 (way_codes n (onward y (at ways place) m))) out)

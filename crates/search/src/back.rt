@@ -69,15 +69,22 @@ fn store_way(n: Counts, met: &[u32], place: usize, m: u32, steps: usize, out: &m
 }
 
 // The answer where it is shown: the start and the list are written if they have room.
-pub fn tell(n: Counts, met: &[u32], place: usize, m: u32, tries: usize, out: &mut [u8]) -> Happening
+pub fn tell(
+    n: Counts,
+    met: &[u32],
+    place: usize,
+    m: u32,
+    tries: usize,
+    out: &mut [u8],
+) -> Result<Happening, Refusal>
     requires { (n.L ≤ 20) × (n.I ≤ 20) × Walks met.now place }
     ensures { Tells n met.now place m tries out.old result out.new }
 {
     let steps = steps_to(met, place);
     let needed = n.L + steps * n.I;
     if out.len() < needed {
-        return Happening::Refused(Refusal::ShortBuffer(needed));
+        return Err(Refusal::ShortBuffer(needed));
     }
     store_way(n, met, place, m, steps, out);
-    Happening::Can(steps, tries)
+    Ok(Happening::Can(steps, tries))
 }

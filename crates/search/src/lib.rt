@@ -19,7 +19,7 @@ ghost use Rattle.search.specs.Asking.{fit_stages, Watches, WatchesAll, Finds, Fi
 
 use crate::back::tell;
 use judge::check_in_order;
-use plan::{Checked, Counts, Happening, Refusal};
+use plan::{Counts, Happening, Refusal};
 use step::sweep::{all_lits, step_values};
 use step::values::{MAY0, MAY1};
 use tables::bitmap::{is_on, raise};
@@ -106,13 +106,6 @@ fn try_move(
     Attempt::To(number_in(scratch, 1 + n.I, n.L))
 }
 
-// What a turn of the search comes to: it is found, or so many states are met.
-#[derive(Clone, Copy)]
-pub enum Turn {
-    Found,
-    Left(usize),
-}
-
 // A state that has no mark gets the next row and a mark. The answer is how many rows there are.
 fn meet(met: &mut [u32], marks: &mut [u32], reached: usize, s: u32, place: usize, m: u32) -> usize
     requires { Meets met.old marks.old reached s place m }
@@ -131,7 +124,8 @@ fn meet(met: &mut [u32], marks: &mut [u32], reached: usize, s: u32, place: usize
     reached + 1
 }
 
-// One turn: a move at the state of a row.
+// One turn: a move at the state of a row. The answer is how many states are met then, and none where the move shows
+// what is looked for.
 fn take_turn(
     n: Counts,
     latches: &[u32],
@@ -145,7 +139,7 @@ fn take_turn(
     reached: usize,
     place: usize,
     m: u32,
-) -> Turn
+) -> Option<usize>
     requires { Turns n latches.now outputs.now gates.now bads.now constraints.now scratch.old met.old marks.old
         reached place m }
     ensures { TakesTurn n latches.now outputs.now gates.now bads.now
@@ -154,9 +148,9 @@ fn take_turn(
     let s = met[3 * place];
     let found = try_move(n, latches, outputs, gates, bads, constraints, scratch, s, m);
     match found {
-        Attempt::Barred => Turn::Left(reached),
-        Attempt::Seen => Turn::Found,
-        Attempt::To(t) => Turn::Left(meet(met, marks, reached, t, place, m)),
+        Attempt::Barred => Some(reached),
+        Attempt::Seen => None,
+        Attempt::To(t) => Some(meet(met, marks, reached, t, place, m)),
     }
 }
 
@@ -203,7 +197,7 @@ fn explore(
             return Reach::Never(reached, tries);
         }
         let m = (tries % moves) as u32;
-        let Turn::Left(k) = take_turn(
+        let Some(k) = take_turn(
             n,
             latches,
             outputs,
@@ -392,26 +386,26 @@ fn watch_states(
 }
 
 // 25, 26, 4 for tables 10 and 11, which are lent so many words, and 17.
-fn fit(n: Counts, watch: usize, met: usize, marks: usize) -> Checked
+fn fit(n: Counts, watch: usize, met: usize, marks: usize) -> Result<(), Refusal>
     ensures { result ≡ checked_by (first_of (fit_stages n watch met marks)) }
 {
     if 20 < n.L {
-        return Checked::Refused(Refusal::ManyLatches(n.L));
+        return Err(Refusal::ManyLatches(n.L));
     }
     if 20 < n.I {
-        return Checked::Refused(Refusal::ManyInputs(n.I));
+        return Err(Refusal::ManyInputs(n.I));
     }
     let states = power(n.L);
     if met < 3 * states {
-        return Checked::Refused(Refusal::ShortTable(10));
+        return Err(Refusal::ShortTable(10));
     }
     if marks < (states + 31) / 32 {
-        return Checked::Refused(Refusal::ShortTable(11));
+        return Err(Refusal::ShortTable(11));
     }
     if n.O < watch {
-        return Checked::Refused(Refusal::NotExplained(1));
+        return Err(Refusal::NotExplained(1));
     }
-    Checked::Good
+    Ok(())
 }
 
 // The answer for a circuit that nothing is wrong with: `marks` are cleared first.
@@ -430,7 +424,7 @@ fn find(
     met: &mut [u32],
     marks: &mut [u32],
     out: &mut [u8],
-) -> Happening
+) -> Result<Happening, Refusal>
     requires { Finds n latches.now outputs.now gates.now resets.now bads.now constraints.now scratch.old watch met.old
         marks.old }
     ensures { FindsAll split watch n latches.now outputs.now gates.now resets.now
@@ -453,9 +447,9 @@ fn find(
         allowance,
     );
     match reach {
-        Reach::Never(states, tries) => Happening::Never(states, tries),
+        Reach::Never(states, tries) => Ok(Happening::Never(states, tries)),
         Reach::Shown(place, m, tries) => tell(n, met, place, m, tries, out),
-        Reach::Undecided(tries) => Happening::Undecided(tries),
+        Reach::Undecided(tries) => Ok(Happening::Undecided(tries)),
     }
 }
 
@@ -476,11 +470,11 @@ fn ask(
     met: &mut [u32],
     marks: &mut [u32],
     out: &mut [u8],
-) -> Happening
+) -> Result<Happening, Refusal>
     ensures { Asks (to_search n inputs latches outputs gates resets bads constraints scratch split watch allowance met marks out) result
         out.new }
 {
-    match check_in_order(
+    check_in_order(
         n,
         inputs,
         latches,
@@ -490,31 +484,24 @@ fn ask(
         bads,
         constraints,
         scratch,
-    ) {
-        Checked::Refused(refusal) => Happening::Refused(refusal),
-        Checked::Good => {
-            let fits = fit(n, watch, met.len(), marks.len());
-            match fits {
-                Checked::Refused(refusal) => Happening::Refused(refusal),
-                Checked::Good => find(
-                    n,
-                    latches,
-                    outputs,
-                    gates,
-                    resets,
-                    bads,
-                    constraints,
-                    scratch,
-                    split,
-                    watch,
-                    allowance,
-                    met,
-                    marks,
-                    out,
-                ),
-            }
-        }
-    }
+    )?;
+    fit(n, watch, met.len(), marks.len())?;
+    find(
+        n,
+        latches,
+        outputs,
+        gates,
+        resets,
+        bads,
+        constraints,
+        scratch,
+        split,
+        watch,
+        allowance,
+        met,
+        marks,
+        out,
+    )
 }
 
 // Whether what is watched can ever happen: 0 the bad states, k + 1 output k. The latches before `split` are one plan's and those from there on
@@ -536,7 +523,7 @@ pub fn search(
     met: &mut [u32],
     marks: &mut [u32],
     out: &mut [u8],
-) -> Happening
+) -> Result<Happening, Refusal>
     ensures { Searches search n inputs latches outputs gates resets bads constraints scratch split watch allowance met marks out result }
 {
     let answer = ask(

@@ -2,15 +2,14 @@
 use Prim.Native.Nat.{ℕ}
 use mathlib.Core.Path.{◌≡◌, refl, sym, ap, ◌∙◌}
 use mathlib.Core.Bool.{Bool, true, false}
-use mathlib.Core.Option.{Option, none, some}
 use mathlib.Core.List.{List, [], ◌∷◌}
+use Rattle.std.specs.Prelude.{Ok, Err, Option, Some, None}
 use native.Mathlib.Omega.{arith}
 use borrow.Author.Tests.{eqb-true}
 use lib.Dec.{eqb}
 use lib.ListN.{length}
 use Rattle.plan.specs.declared.Refusal.{Refusal}
 use Rattle.plan.specs.declared.Refusal.TheVariants.{BadVector}
-use Rattle.plan.specs.declared.Stepped.TheVariants.{Done, Refused}
 use Rattle.plan.specs.Refusals.{stage, first_of}
 use Rattle.plan.specs.Circuit.{cleared}
 use Rattle.plan.specs.Given.{given_circuit}
@@ -21,7 +20,7 @@ use Rattle.step.specs.Asked.{Vectors, Leaves}
 use Rattle.step.proofs.Checks.{answer}
 
 -- no vector is refused
-all-good : (s i o : Bool) → first_bad s i o ≡ none → (s ≡ true) × (i ≡ true) × (o ≡ true)
+all-good : (s i o : Bool) → first_bad s i o ≡ None → (s ≡ true) × (i ≡ true) × (o ≡ true)
 all-good true true true e = (refl, refl, refl)
 all-good true true false e = let z : ◌≡◌ {A = ℕ} 0 1 = cc in absurd (omega arith)
 all-good true false o e = let z : ◌≡◌ {A = ℕ} 0 1 = cc in absurd (omega arith)
@@ -33,7 +32,7 @@ module _ (e : StepEntry) where
       let n = e.circuit.counts in
       first_bad (codes_in e.state n.L) (codes_in e.inputs n.I) (eqb (length e.outputs) n.O)
 
-  pub good-vectors : bad ≡ none → Vectors e.circuit.counts e.state e.inputs e.outputs
+  pub good-vectors : bad ≡ None → Vectors e.circuit.counts e.state e.inputs e.outputs
   good-vectors q =
       let n = e.circuit.counts in
       let p = all-good (codes_in e.state n.L) (codes_in e.inputs n.I) (eqb (length e.outputs) n.O) q in
@@ -44,20 +43,20 @@ module _ (e : StepEntry) where
       }
 
   module _ (t : List ℕ) (blank : t ≡ cleared e.circuit.scratch) where
-    pub refused-step : (r : Refusal) → answer e.circuit (step_stage e) ≡ some r
-        → ◌≡◌ {A = StepExit} (record { answer = Refused r; scratch = t; state = e.state; outputs = e.outputs }) (step e)
+    pub refused-step : (r : Refusal) → answer e.circuit (step_stage e) ≡ Some r
+        → ◌≡◌ {A = StepExit} (record { answer = Err r; scratch = t; state = e.state; outputs = e.outputs }) (step e)
     refused-step r q =
-        (λ j. record { answer = Refused r; scratch = blank j; state = e.state; outputs = e.outputs })
+        (λ j. record { answer = Err r; scratch = blank j; state = e.state; outputs = e.outputs })
         ∙ sym (ap (λ (o : Option Refusal). stepped_by o e) q)
 
     -- the tables are good
     module _ (past : answer e.circuit (step_stage e) ≡ first_of (step_stage e ∷ [])) where
-      pub refused-vector : (k : ℕ) → bad ≡ some k
-          → ◌≡◌ {A = StepExit} (record { answer = Refused (BadVector k); scratch = t; state = e.state; outputs = e.outputs }) (step e)
+      pub refused-vector : (k : ℕ) → bad ≡ Some k
+          → ◌≡◌ {A = StepExit} (record { answer = Err (BadVector k); scratch = t; state = e.state; outputs = e.outputs }) (step e)
       refused-vector k q = refused-step (BadVector k) (past ∙ ap (λ (o : Option ℕ). first_of (stage BadVector o ∷ [])) q)
 
-      pub done-step : bad ≡ none → (state' outs' : List ℕ) → Leaves (given_circuit e.circuit) e.state e.inputs state' outs'
-          → ◌≡◌ {A = StepExit} (record { answer = Done; scratch = t; state = state'; outputs = outs' }) (step e)
+      pub done-step : bad ≡ None → (state' outs' : List ℕ) → Leaves (given_circuit e.circuit) e.state e.inputs state' outs'
+          → ◌≡◌ {A = StepExit} (record { answer = Ok tt; scratch = t; state = state'; outputs = outs' }) (step e)
       done-step q state' outs' l =
-          (λ j. record { answer = Done; scratch = blank j; state = l.next j; outputs = l.outputs j })
+          (λ j. record { answer = Ok tt; scratch = blank j; state = l.next j; outputs = l.outputs j })
           ∙ sym (ap (λ (o : Option Refusal). stepped_by o e) (past ∙ ap (λ (o : Option ℕ). first_of (stage BadVector o ∷ [])) q))

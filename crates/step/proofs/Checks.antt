@@ -2,13 +2,11 @@
 use Prim.Native.Nat.{ℕ}
 use mathlib.Core.Path.{◌≡◌, refl, sym, ◌∙◌}
 use mathlib.Core.Bool.{true}
-use mathlib.Core.Option.{Option, some}
 use mathlib.Core.List.{List, [], ◌∷◌}
+use Rattle.std.specs.Prelude.{Result, Ok, Err, Option, Some}
 use native.Mathlib.Omega.{arith}
 use lib.ListN.{length}
 use Rattle.plan.specs.declared.Refusal.{Refusal}
-use Rattle.plan.specs.declared.Checked.{Checked}
-use Rattle.plan.specs.declared.Checked.TheVariants as checked
 use Rattle.plan.specs.Refusals.{first_of}
 use Rattle.plan.specs.Given.{Given, lent_alone}
 use Rattle.plan.specs.Outcome.{check_in_order}
@@ -23,11 +21,11 @@ module _ (g : Given) (last : Option Refusal) where
   abbrev pub answer : Option Refusal
   answer = beyond.answer g (last ∷ [])
 
-  module _ {a : Checked} (told : a ≡ (check_in_order g).answer) where
-    pub refused-by : (r : Refusal) → a ≡ checked.Refused r → answer ≡ some r
+  module _ {a : Result Unit Refusal} (told : a ≡ (check_in_order g).answer) where
+    pub refused-by : (r : Refusal) → a ≡ Err r → answer ≡ Some r
     refused-by = beyond.refused-by g (last ∷ []) told
 
-    module _ (q : a ≡ checked.Good) where
+    module _ (q : a ≡ Ok tt) where
       pub past-check : answer ≡ first_of (last ∷ [])
       past-check = beyond.past-check g (last ∷ []) told q
 

@@ -4,7 +4,6 @@ ghost use Rattle.std.specs.Prelude.{◌≡◌, ◌&&◌, ◌*◌, eqb, length};
 ghost use Rattle.plan.specs.Given.{or_else, failing_at};
 ghost use Rattle.plan.specs.Step.{is_code};
 ghost use Rattle.plan.specs.Outcome.{all_codes};
-ghost use Rattle.tables.specs.Lengths.{table_of};
 
 use plan::Counts;
 
@@ -36,23 +35,23 @@ pub fn codes_in(bytes: &[u8], n: usize) -> bool
     all_codes(bytes)
 }
 
-// The first failing_at that is refused: 1 the state, 2 the inputs, 3 the outputs, of which only the length is judged; or 0.
-pub fn bad_vector(n: Counts, state: &[u8], ins: &[u8], outs: usize) -> usize
-    ensures { table_of result ≡ or_else (failing_at 1
+// The first failing_at that is refused: 1 the state, 2 the inputs, 3 the outputs, of which only the length is judged.
+pub fn bad_vector(n: Counts, state: &[u8], ins: &[u8], outs: usize) -> Option<usize>
+    ensures { result ≡ or_else (failing_at 1
         (eqb (length state.now) n.L && all_codes state.now))
         (or_else (failing_at 2 (eqb (length ins.now) n.I && all_codes ins.now))
         (failing_at 3 (eqb outs n.O))) }
 {
     if !codes_in(state, n.L) {
-        return 1;
+        return Some(1);
     }
     if !codes_in(ins, n.I) {
-        return 2;
+        return Some(2);
     }
     if outs != n.O {
-        return 3;
+        return Some(3);
     }
-    0
+    None
 }
 
 // Whether the bytes of a list are `number` times `each`, as a true product.

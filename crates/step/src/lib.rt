@@ -11,7 +11,7 @@ use crate::codes::bad_vector;
 use crate::sweep::step_values;
 use crate::values::{MAY0, load, store};
 use judge::judge_in_order;
-use plan::{Checked, Counts, Refusal, Stepped};
+use plan::{Counts, Refusal};
 use tables::clear;
 
 pub mod codes;
@@ -60,10 +60,10 @@ pub fn step(
     state: &mut [u8],
     ins: &[u8],
     outs: &mut [u8],
-) -> Stepped
+) -> Result<(), Refusal>
     ensures { Steps step n inputs latches outputs gates resets bads constraints scratch state ins outs result }
 {
-    match judge_in_order(
+    judge_in_order(
         n,
         inputs,
         latches,
@@ -73,17 +73,12 @@ pub fn step(
         bads,
         constraints,
         scratch,
-    ) {
-        Checked::Refused(refusal) => Stepped::Refused(refusal),
-        Checked::Good => {
-            let bad = bad_vector(n, state, ins, outs.len());
-            if bad != 0 {
-                clear(scratch);
-                return Stepped::Refused(Refusal::BadVector(bad));
-            }
-            step_vectors(n, latches, outputs, gates, scratch, state, ins, outs);
-            clear(scratch);
-            Stepped::Done
-        }
+    )?;
+    if let Some(bad) = bad_vector(n, state, ins, outs.len()) {
+        clear(scratch);
+        return Err(Refusal::BadVector(bad));
     }
+    step_vectors(n, latches, outputs, gates, scratch, state, ins, outs);
+    clear(scratch);
+    Ok(())
 }

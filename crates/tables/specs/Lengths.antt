@@ -1,6 +1,5 @@
 -- The lengths of lent tables, and an answer's table.
-use Rattle.std.specs.Prelude.{ℕ, suc, zero, min, List, [], ◌∷◌, length}
-use Rattle.std.proofs.Math.Option.{Option, none, some}
+use Rattle.std.specs.Prelude.{ℕ, suc, zero, min, List, [], ◌∷◌, length, Option, Some, None}
 use Rattle.plan.specs.Circuit.{Tables}
 use Rattle.tables.specs.declared.Sizes.{Sizes}
 
@@ -34,5 +33,5 @@ shorter_of a b = record {
 
 -- 0: no table
 abbrev pub table_of : ℕ → Option ℕ
-table_of zero = none
-table_of (suc t) = some (suc t)
+table_of zero = None
+table_of (suc t) = Some (suc t)

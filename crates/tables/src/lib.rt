@@ -6,7 +6,7 @@ ghost use Rattle.plan.specs.Literals.{most};
 ghost use Rattle.plan.specs.Circuit.{seven, cleared, all_cleared, words_with, scratch_to_work, against, least_short};
 ghost use Rattle.plan.specs.Header.{scratch_to_read};
 ghost use Rattle.plan.specs.Outcome.{form_of};
-ghost use Rattle.tables.specs.Lengths.{lengths_in, sizes_of, shorter_of, table_of};
+ghost use Rattle.tables.specs.Lengths.{lengths_in, sizes_of, shorter_of};
 
 use plan::Counts;
 
@@ -100,36 +100,36 @@ pub fn scratch_to_read(binary: bool, n: Counts) -> usize
 }
 
 // Refusal 4: the least of tables 1 to 5 and 7 to 9 that is shorter than the counts ask and, for table 5, than
-// `needed`, or 0. Tables are looked at in the order of their numbers.
-pub fn too_short(n: Counts, to: Sizes, needed: usize, scratch: usize) -> usize
+// `needed`. Tables are looked at in the order of their numbers.
+pub fn too_short(n: Counts, to: Sizes, needed: usize, scratch: usize) -> Option<usize>
     requires { (n.L ≤ most) × (n.A ≤ most) }
-    ensures { table_of result ≡ least_short (against 1 (words_with needed n) (lengths_in to scratch)) }
+    ensures { result ≡ least_short (against 1 (words_with needed n) (lengths_in to scratch)) }
 {
     if to.inputs < n.I {
-        return 1;
+        return Some(1);
     }
     if to.latches < 2 * n.L {
-        return 2;
+        return Some(2);
     }
     if to.outputs < n.O {
-        return 3;
+        return Some(3);
     }
     if to.gates < 3 * n.A {
-        return 4;
+        return Some(4);
     }
     if scratch < needed {
-        return 5;
+        return Some(5);
     }
     if to.resets < n.L {
-        return 7;
+        return Some(7);
     }
     if to.bads < n.B {
-        return 8;
+        return Some(8);
     }
     if to.constraints < n.C {
-        return 9;
+        return Some(9);
     }
-    0
+    None
 }
 
 // The lesser of two lengths.

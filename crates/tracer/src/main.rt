@@ -3,7 +3,7 @@
 // those of standard input by runs::trace.
 #![tactic(auto)]
 
-use plan::{Counts, Made, Traced};
+use plan::{Counts, Refusal};
 use runs::{stimulus, trace};
 use std::io::{self, Read, Write};
 use step::values;
@@ -43,7 +43,7 @@ fn trace_all<W: Write>(
             &vectors[at..],
             out,
         );
-        let Traced::Lines(k) = part else {
+        let Ok(k) = part else {
             return Ok(());
         };
         office::print(to, out, trace::past(out, 0, k))?;
@@ -112,8 +112,8 @@ fn trace_input<R: Read, W: Write>(
     let mut state = [b'0'; 4096];
     let wide = tables::lesser(n.L, 4096);
     match stimulus::count_lines(office::readable(input), &bytes[0..size], n.I) {
-        Traced::Refused(r) => office::refuse(to, r),
-        Traced::Lines(lines) => trace_first(
+        Err(r) => office::refuse(to, r),
+        Ok(lines) => trace_first(
             to,
             n,
             inputs,
@@ -171,8 +171,8 @@ fn main(rt: HostRuntime) -> io::Result<()> {
         &mut made_constraints,
         &mut scratch,
     ) {
-        Made::Refused(r) => office::refuse(&mut rt.stdout(), r),
-        Made::Accepted(n) => trace_input(
+        Err(r) => office::refuse(&mut rt.stdout(), r),
+        Ok(n) => trace_input(
             &mut rt.stdin(),
             &mut rt.stdout(),
             n,

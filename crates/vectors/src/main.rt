@@ -6,7 +6,7 @@ ghost use Rattle.std.specs.Prelude.{◌≤◌, length};
 
 use codec::differences;
 use making::{convert_whole, reduce_whole};
-use plan::{Counts, Difference, Loaded, Made, Refusal, Traced, Version, Written};
+use plan::{Counts, Refusal, Version};
 use runs::trace;
 use std::env::FillError;
 use std::io::{self, Write};
@@ -51,10 +51,10 @@ fn say_bytes<W: Write>(to: &mut W, bytes: &[u8], n: usize) -> io::Result<()> {
     Ok(())
 }
 
-fn say_written<W: Write>(to: &mut W, answer: Written, out: &[u8]) -> io::Result<()> {
+fn say_written<W: Write>(to: &mut W, answer: Result<usize, Refusal>, out: &[u8]) -> io::Result<()> {
     match answer {
-        Written::Refused(r) => office::refuse(to, r),
-        Written::Bytes(n) => {
+        Err(r) => office::refuse(to, r),
+        Ok(n) => {
             say(to, b"bytes")?;
             say_bytes(to, out, n)?;
             say(to, b"\n")
@@ -113,8 +113,8 @@ fn show_tables<W: Write>(to: &mut W, file: &[u8]) -> io::Result<()> {
         &mut constraints,
         &mut scratch,
     ) {
-        Loaded::Refused(r) => office::refuse(to, r),
-        Loaded::Accepted(n, tail) => {
+        Err(r) => office::refuse(to, r),
+        Ok((n, tail)) => {
             say(to, b"accepted")?;
             say_counts(to, n)?;
             say_circuit(to, n, &inputs, &latches, &outputs, &gates)?;
@@ -231,7 +231,7 @@ fn trace_first(
     state: &mut [u8],
     vectors: &[u8],
     out: &mut [u8],
-) -> Traced {
+) -> Result<usize, Refusal> {
     values::first_state(resets, state);
     trace::trace(
         n,
@@ -280,8 +280,8 @@ fn say_lines<W: Write>(
         vectors,
         &mut out,
     ) {
-        Traced::Refused(r) => office::refuse(to, r),
-        Traced::Lines(_) => {
+        Err(r) => office::refuse(to, r),
+        Ok(_) => {
             say(to, b"steps\n")?;
             office::print(to, &out, before_zero(&out))
         }
@@ -323,8 +323,8 @@ fn show_lines<W: Write>(to: &mut W, file: &[u8], vectors: &[u8]) -> io::Result<(
         &mut made_constraints,
         &mut scratch,
     ) {
-        Made::Refused(r) => office::refuse(to, r),
-        Made::Accepted(n) => say_lines(
+        Err(r) => office::refuse(to, r),
+        Ok(n) => say_lines(
             to,
             n,
             &made_inputs,
@@ -343,9 +343,8 @@ fn show_lines<W: Write>(to: &mut W, file: &[u8], vectors: &[u8]) -> io::Result<(
 // A difference's value, and its bytes as they are written.
 fn show_difference<W: Write>(to: &mut W, bytes: &[u8]) -> io::Result<()> {
     match differences::read_difference(bytes, 0) {
-        Difference::Ends(at) => office::refuse(to, Refusal::WrongByte(at)),
-        Difference::Bad(at) => office::refuse(to, Refusal::LongDifference(at)),
-        Difference::Value(d, _) => {
+        Err(r) => office::refuse(to, r),
+        Ok((d, _)) => {
             let mut out = [0u8; 8];
             say(to, b"value")?;
             say_word(to, d)?;
@@ -383,10 +382,7 @@ fn read_named<R: Env + Files>(rt: &R, at: usize, bytes: &mut [u8]) -> usize
 fn argument<R: Env>(rt: &R, at: usize, word: &mut [u8]) -> usize
     ensures { result ≤ length word.new }
 {
-    match rt.arg(at, word) {
-        Ok(n) => n,
-        Err(_) => 0,
-    }
+    rt.arg(at, word).unwrap_or(0)
 }
 
 // How many arguments there are with the program's name, as far as the examples go.

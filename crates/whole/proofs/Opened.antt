@@ -2,8 +2,8 @@
 use Prim.Native.Nat.{ℕ, ◌<◌, ◌≤◌}
 use mathlib.Core.Path.{◌≡◌, sym, ap, ap₂, ◌∙◌, subst}
 use mathlib.Core.Bool.{Bool, true, false, cond}
-use mathlib.Core.Option.{Option, some}
 use mathlib.Core.List.{List}
+use Rattle.std.specs.Prelude.{Ok, Err, Option, Some, None}
 use native.Mathlib.Omega.{arith}
 use borrow.Author.Tests.{le-leb, lt-leb}
 use lib.ListN.{length, drop, length-replicate}
@@ -11,7 +11,6 @@ use Rattle.plan.specs.declared.Counts.{Counts}
 use Rattle.plan.specs.declared.Version.TheVariants.{V19}
 use Rattle.plan.specs.declared.Refusal.{Refusal}
 use Rattle.plan.specs.declared.Refusal.TheVariants.{ShortTable, LongInput, Unreadable}
-use Rattle.plan.specs.declared.Loaded.TheVariants as loaded
 use Rattle.plan.specs.Refusals.{Parse, got, refused, ◌then◌, unless}
 use Rattle.plan.specs.Circuit.{Circuit, counts_of, circuit_of, lengths_of, words_with, scratch_to_work, words_to_work, against, least_short}
 use Rattle.plan.specs.Header.{list_of}
@@ -27,8 +26,7 @@ use Rattle.laws.proofs.Reading.Headers.{AllMost}
 use Rattle.laws.proofs.Reading.Places.{start-within}
 use Rattle.laws.proofs.Reading.Short.{short_none}
 use Rattle.laws.proofs.Writing.Later.{Left, load-left}
-use Rattle.tables.specs.Lengths.{lengths_in, table_of}
-use Rattle.tables.proofs.Told.{some-table, no_table}
+use Rattle.tables.specs.Lengths.{lengths_in}
 use Rattle.whole.specs.Opening.{OpenEntry, short_in, opening, opened, Opens}
 
 abbrev reading : OpenEntry → ReadEntry
@@ -42,7 +40,7 @@ module _ (e : OpenEntry) where
   not-readable h = ap (λ (b : Bool). input (input_of b e.file) λ file. opening e file) h
 
   module _ (readable : e.readable ≡ true) where
-    on-file : opened e ≡ input (some e.file) λ file. opening e file
+    on-file : opened e ≡ input (Some e.file) λ file. opening e file
     on-file = ap (λ (b : Bool). input (input_of b e.file) λ file. opening e file) readable
 
     pub too_long : 65536 < length e.file → opened e ≡ refused (LongInput 65536)
@@ -53,11 +51,11 @@ module _ (e : OpenEntry) where
       here = on-file ∙ ap (λ (b : Bool). cond b (opening e e.file) (refused (LongInput 65536))) (le-leb (length e.file) 65536 fits)
 
       module _ (x : LoadExit) (said : x ≡ load (reading e)) where
-        by-parse : (p : Parse Circuit) (r : Refusal) → (load_by (reading e) p).answer ≡ loaded.Refused r → p ≡ refused r
+        by-parse : (p : Parse Circuit) (r : Refusal) → (load_by (reading e) p).answer ≡ Err r → p ≡ refused r
         by-parse (got c s) r q = let z : ◌≡◌ {A = ℕ} 0 1 = cc in absurd (omega arith)
         by-parse (refused k) r q = let same : k ≡ r = cc in ap refused same
 
-        pub not-read : (r : Refusal) → x.answer ≡ loaded.Refused r → opened e ≡ refused r
+        pub not-read : (r : Refusal) → x.answer ≡ Err r → opened e ≡ refused r
         not-read r a =
             let p = by-parse parse r (ap (λ (y : LoadExit). y.answer) (sym said) ∙ a) in
             here ∙ ap (λ (q : Parse Circuit). q then λ c start.
@@ -71,7 +69,7 @@ module _ (e : OpenEntry) where
             go (got c s) = length-replicate (length e.scratch) 0
             go (refused k) = length-replicate (length e.scratch) 0
 
-        module _ (bytes : Bytes e.file) (n : Counts) (start : ℕ) (a : x.answer ≡ loaded.Accepted n start) where
+        module _ (bytes : Bytes e.file) (n : Counts) (start : ℕ) (a : x.answer ≡ Ok (n, start)) where
           abbrev g : Given
           g = record { counts = n; tables = x.tables; scratch = x.scratch }
 
@@ -104,26 +102,26 @@ module _ (e : OpenEntry) where
               (sym read_is.2) (sym read_is.3))
 
           -- the answer on tables of these sizes, and scratch as it is now
-          module _ (needed : ℕ) (needed-is : needed ≡ scratch_to_work n) (k : ℕ)
-              (answer : table_of k ≡ least_short (against 1 (words_with needed n) (lengths_in e.made (length x.scratch)))) where
-            told : table_of k ≡ short_in n e.made x.scratch
+          module _ (needed : ℕ) (needed-is : needed ≡ scratch_to_work n) (o : Option ℕ)
+              (answer : o ≡ least_short (against 1 (words_with needed n) (lengths_in e.made (length x.scratch)))) where
+            told : o ≡ short_in n e.made x.scratch
             told = answer ∙ ap (λ (s : ℕ). least_short (against 1 (words_with s n) (lengths_in e.made (length x.scratch)))) needed-is
 
-            told-before : table_of k ≡ short_in n e.made e.scratch
+            told-before : o ≡ short_in n e.made e.scratch
             told-before = told ∙ ap (λ (m : ℕ). least_short (against 1 (words_to_work n) (lengths_in e.made m))) scratch-kept
 
-            pub made-short : (k ≡ 0 → ⊥) → opened e ≡ refused (ShortTable k)
-            made-short h =
+            pub made-short : (k : ℕ) → o ≡ Some k → opened e ≡ refused (ShortTable k)
+            made-short k h =
                 opens-to ∙ ap (λ (s : Option ℕ). unless s ShortTable (got (given_circuit g) start))
-                (some-table k (short_in n e.made e.scratch) h told-before)
+                (sym told-before ∙ h)
 
             stated-tail : (c : Circuit) (tail : List ℕ) → States V19 e.file c tail → TailOk V19 (counts_of c) tail
             stated-tail c tail (as_text s q w t) = t
             stated-tail c tail (as_binary s q b w t) = t
 
-            pub made-long : k ≡ 0 → Opens e (loaded.Accepted n start) x.tables x.scratch
+            pub made-long : o ≡ None → Opens e (Ok (n, start)) x.tables x.scratch
             made-long h =
-                let long = no_table k (short_in n e.made e.scratch) h told-before in
+                let long = sym told-before ∙ h in
                 let five = ((short_none (against 1 (words_to_work n) (lengths_in e.made (length e.scratch)))).0 long).1.1.1.1.0 in (
                   opens-to ∙ ap (λ (s : Option ℕ). unless s ShortTable (got (given_circuit g) start)) long,
                   start-within e.file V19 (lengths_of e.tables e.scratch) read_is.0 start read_is.1,
@@ -131,6 +129,6 @@ module _ (e : OpenEntry) where
                     fine = (read_is.4 five).fine;
                     tail-ok = subst (λ (m : Counts). TailOk V19 m (drop start e.file)) (sym read_is.2)
                         (stated-tail read_is.0 (drop start e.file) states);
-                    long = no_table k (short_in n e.made x.scratch) h told;
+                    long = sym told ∙ h;
                   },
                 )

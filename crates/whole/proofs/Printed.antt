@@ -2,8 +2,8 @@
 use Prim.Native.Nat.{ℕ, ◌+◌, ◌-◌, ◌^◌, ◌<◌, ◌≤◌, min}
 use mathlib.Core.Path.{◌≡◌, refl, ap, ap₂, ◌∙◌}
 use mathlib.Core.Bool.{Bool, true, false, cond}
-use mathlib.Core.Option.{Option, none, some}
 use mathlib.Core.List.{List, ◌++◌}
+use Rattle.std.specs.Prelude.{Ok, Err, Option, Some, None}
 use native.Mathlib.Omega.{arith}
 use borrow.Author.Tests.{leb-true}
 use lib.Dec.{leb}
@@ -11,7 +11,6 @@ use lib.ListN.{length, take, drop, length-append, length-drop}
 use Rattle.plan.specs.declared.Version.TheVariants.{V19}
 use Rattle.plan.specs.declared.Refusal.{Refusal}
 use Rattle.plan.specs.declared.Refusal.TheVariants.{ShortBuffer, LongInput}
-use Rattle.plan.specs.declared.Written.TheVariants as written
 use Rattle.plan.specs.Refusals.{Parse, got, refused, ◌then◌, unless}
 use Rattle.plan.specs.Circuit.{Circuit, lengths_of}
 use Rattle.plan.specs.Header.{Form, text, binary, Head, header}
@@ -33,18 +32,18 @@ pub record Lends (e : WholeEntry) : Type 0 where
   pub words : lengths_of e.read e.scratch ≡ lent_words
   pub made : lengths_of e.made e.scratch ≡ lent_words
   pub room : length e.out ≡ lent_bytes
-  pub bytes : (file : List ℕ) → e.plan ≡ some file → Bytes file
+  pub bytes : (file : List ℕ) → e.plan ≡ Some file → Bytes file
 
 -- a buffer of the programs' length
 pub fits-alike : (out bytes : List ℕ) → length out ≡ lent_bytes → length bytes < 2 ^ 64 → fitting_in out bytes ≡ fitting bytes
 fits-alike out bytes e h =
     let same : 0 + length bytes ≡ length bytes = omega arith in
     let least : min (0 + length bytes) (2 ^ 64 - 1) ≡ length bytes = omega arith in
-    ap₂ (λ (t : Bool) (k : ℕ). unless (cond t none (some k)) ShortBuffer (got bytes (length bytes)))
+    ap₂ (λ (t : Bool) (k : ℕ). unless (cond t None (Some k)) ShortBuffer (got bytes (length bytes)))
     (ap₂ leb same e) least
     ∙ go (leb (length bytes) lent_bytes)
   where
-    go : (t : Bool) → unless (cond t none (some (length bytes))) ShortBuffer (got bytes (length bytes))
+    go : (t : Bool) → unless (cond t None (Some (length bytes))) ShortBuffer (got bytes (length bytes))
         ≡ cond t (got bytes (length bytes)) (refused (ShortBuffer (length bytes)))
     go true = refl
     go false = refl
@@ -100,8 +99,8 @@ module _ (e : WholeEntry) (lends : Lends e) where
   -- an input in its limit
   input-alike : (f g : List ℕ → Parse (List ℕ)) → ((file : List ℕ) → length file ≤ 65536 → Bytes file → f file ≡ g file)
       → (p : Option (List ℕ)) → e.plan ≡ p → input p f ≡ input p g
-  input-alike f g h none q = refl
-  input-alike f g h (some file) q = go (leb (length file) 65536) refl
+  input-alike f g h None q = refl
+  input-alike f g h (Some file) q = go (leb (length file) 65536) refl
     where
       go : (t : Bool) → leb (length file) 65536 ≡ t → cond t (f file) (refused (LongInput 65536)) ≡ cond t (g file) (refused (LongInput
           65536))
@@ -119,24 +118,24 @@ module _ (e : WholeEntry) (lends : Lends e) where
       start q))) e.plan refl
 
   -- the first bytes of the buffer, or the line of the refusal
-  bytes-printed : (p : Parse (List ℕ)) (k : ℕ) → (whole_by e p).answer ≡ written.Bytes k → take k (whole_by e p).out ≡ printed p
+  bytes-printed : (p : Parse (List ℕ)) (k : ℕ) → (whole_by e p).answer ≡ Ok k → take k (whole_by e p).out ≡ printed p
   bytes-printed (got bytes n) k a =
       let k-is : k ≡ length bytes = cc in
       ap (λ (i : ℕ). take i (whole_by e (got bytes n)).out) k-is ∙ put_first e.out bytes
   bytes-printed (refused r) k a = let z : ◌≡◌ {A = ℕ} 0 1 = cc in absurd (omega arith)
 
-  line-printed : (p : Parse (List ℕ)) (r : Refusal) → (whole_by e p).answer ≡ written.Refused r → refusal_line r ≡ printed p
+  line-printed : (p : Parse (List ℕ)) (r : Refusal) → (whole_by e p).answer ≡ Err r → refusal_line r ≡ printed p
   line-printed (got bytes n) r a = let z : ◌≡◌ {A = ℕ} 0 1 = cc in absurd (omega arith)
   line-printed (refused q) r a = let same : r ≡ q = cc in ap refusal_line same
 
-  pub converter-bytes : (k : ℕ) → (convert_whole e).answer ≡ written.Bytes k → take k (convert_whole e).out ≡ converter e.plan
+  pub converter-bytes : (k : ℕ) → (convert_whole e).answer ≡ Ok k → take k (convert_whole e).out ≡ converter e.plan
   converter-bytes k a = bytes-printed (converted_file e) k a ∙ ap printed converter-file
 
-  pub converter-refusal : (r : Refusal) → (convert_whole e).answer ≡ written.Refused r → refusal_line r ≡ converter e.plan
+  pub converter-refusal : (r : Refusal) → (convert_whole e).answer ≡ Err r → refusal_line r ≡ converter e.plan
   converter-refusal r a = line-printed (converted_file e) r a ∙ ap printed converter-file
 
-  pub reducer-bytes : (k : ℕ) → (reduce_whole e).answer ≡ written.Bytes k → take k (reduce_whole e).out ≡ reducer e.plan
+  pub reducer-bytes : (k : ℕ) → (reduce_whole e).answer ≡ Ok k → take k (reduce_whole e).out ≡ reducer e.plan
   reducer-bytes k a = bytes-printed (reduced_file e) k a ∙ ap printed reducer-file
 
-  pub reducer-refusal : (r : Refusal) → (reduce_whole e).answer ≡ written.Refused r → refusal_line r ≡ reducer e.plan
+  pub reducer-refusal : (r : Refusal) → (reduce_whole e).answer ≡ Err r → refusal_line r ≡ reducer e.plan
   reducer-refusal r a = line-printed (reduced_file e) r a ∙ ap printed reducer-file

@@ -2,15 +2,14 @@
 use Prim.Native.Nat.{ℕ, ◌+◌, ◌*◌, ◌≤◌}
 use mathlib.Core.Path.{◌≡◌, refl, sym, ap, ap₂, ◌∙◌, subst}
 use mathlib.Core.Bool.{true}
-use mathlib.Core.Option.{Option, none, some}
 use mathlib.Core.List.{List, [], ◌∷◌, ◌++◌}
+use Rattle.std.specs.Prelude.{Ok, Err, Option, Some, None}
 use native.Mathlib.Omega.{arith}
 use lib.ListN.{length, length-replicate}
 use Rattle.plan.specs.declared.Counts.{Counts}
 use Rattle.plan.specs.declared.Version.TheVariants.{V19}
 use Rattle.plan.specs.declared.Refusal.{Refusal}
 use Rattle.plan.specs.declared.Refusal.TheVariants.{ShortBuffer}
-use Rattle.plan.specs.declared.Made.TheVariants as made
 use Rattle.plan.specs.Refusals.{stage, first_of}
 use Rattle.plan.specs.Circuit.{Circuit, Tables, counts_of, lengths_of, words_to_work, against, least_short}
 use Rattle.plan.specs.Text.{text_of}
@@ -36,19 +35,19 @@ abbrev pub shown : FileExit → WriteExit
 shown x = record { answer = x.answer; out = x.out }
 
 last : (o : Option Refusal) → first_of (o ∷ []) ≡ o
-last none = refl
-last (some r) = refl
+last None = refl
+last (Some r) = refl
 
 put_is : (e : FileEntry) (bytes : List ℕ) (o : Option ℕ) → shown (written_by (stage ShortBuffer o) e bytes) ≡ put_by o e.out 0 bytes
-put_is e bytes none = refl
-put_is e bytes (some k) = refl
+put_is e bytes None = refl
+put_is e bytes (Some k) = refl
 
 -- the writers, on tables and a tail that pass
-module _ (g : Given) (tail out : List ℕ) (fine : first_of (stages g (lent_alone g)) ≡ none) (t : TailOk V19 g.counts tail) where
+module _ (g : Given) (tail out : List ℕ) (fine : first_of (stages g (lent_alone g)) ≡ None) (t : TailOk V19 g.counts tail) where
   abbrev entry : FileEntry
   entry = record { circuit = g; tail = tail; out = out }
 
-  tail-passes : tail_stage g tail ≡ none
+  tail-passes : tail_stage g tail ≡ None
   tail-passes = let r = (tail-exactly V19 tail g.counts 0).1 t in ap refusal_of r.2
 
   pub text-put : (x : FileExit) → x ≡ write_text entry → shown x ≡ put_bytes out 0 (text_of (given_circuit g) ++ tail)
@@ -65,7 +64,7 @@ module _ (g : Given) (tail out : List ℕ) (fine : first_of (stages g (lent_alon
       → shown x ≡ put_bytes out 0 (binary_of (given_circuit g) ++ tail)
   binary-put order x said =
       let bytes = binary_of (given_circuit g) ++ tail in
-      let ordered : order_stage g ≡ none = rw order in
+      let ordered : order_stage g ≡ None = rw order in
       let rest : first_of (order_stage g ∷ tail_stage g tail ∷ room_stage out bytes ∷ []) ≡ room_stage out bytes
       = ap₂ (λ (p o : Option Refusal). first_of (p ∷ o ∷ room_stage out bytes ∷ [])) ordered tail-passes ∙ last (room_stage out bytes) in
       ap shown said
@@ -79,17 +78,17 @@ after n x = record { counts = n; tables = x.written; scratch = x.scratch }
 
 -- a making that is not refused: its circuit is in binary order, stands in tables that no check refuses, and takes the tail
 pub record Passed (y : MakeExit) (d : Circuit) (tail : List ℕ) : Type 0 where
-  pub took : y.answer ≡ made.Accepted (counts_of d)
-  pub lefts : (n : Counts) → y.answer ≡ made.Accepted n → Left (after n y) d × (binary_order d ≡ true)
+  pub took : y.answer ≡ Ok (counts_of d)
+  pub lefts : (n : Counts) → y.answer ≡ Ok n → Left (after n y) d × (binary_order d ≡ true)
   pub tail-ok : TailOk V19 (counts_of d) tail
 
 module _ (y : MakeExit) (d : Circuit) (tail : List ℕ) (p : Passed y d tail) (x : MakeExit) (said : x ≡ y) where
-  pub not-refused : (r : Refusal) → x.answer ≡ made.Refused r → ⊥
+  pub not-refused : (r : Refusal) → x.answer ≡ Err r → ⊥
   not-refused r a =
-      let b : made.Refused r ≡ made.Accepted (counts_of d) = sym a ∙ (ap (λ (z : MakeExit). z.answer) said ∙ p.took) in
+      let b : Err r ≡ Ok (counts_of d) = sym a ∙ (ap (λ (z : MakeExit). z.answer) said ∙ p.took) in
       let z : ◌≡◌ {A = ℕ} 0 1 = cc in omega arith
 
-  module _ (n : Counts) (a : x.answer ≡ made.Accepted n) where
+  module _ (n : Counts) (a : x.answer ≡ Ok n) where
     left_is : Left (after n x) d × (binary_order d ≡ true)
     left_is =
         subst (λ (z : MakeExit). Left (after n z) d × (binary_order d ≡ true)) (sym said)
@@ -115,7 +114,7 @@ module _ (y : MakeExit) (d : Circuit) (tail : List ℕ) (p : Passed y d tail) (x
         ∙ ap (λ (c : Circuit). put_bytes out 0 (binary_of c ++ tail)) made-is
 
     -- it stands ready for the next making, beside tables that are long enough
-    pub made-ready : (sizes : Sizes) → short_in n sizes x.scratch ≡ none → Ready (after n x) tail sizes
+    pub made-ready : (sizes : Sizes) → short_in n sizes x.scratch ≡ None → Ready (after n x) tail sizes
     made-ready sizes long = record { fine = left_is.0.fine; tail-ok = tail-is; long = long }
 
 -- the counts with k gates, and as many variables as are defined
@@ -136,12 +135,12 @@ module _ (g : Given) (tail : List ℕ) (made : Sizes) (ready : Ready g tail made
   pub tail-here : TailOk V19 (counts_of (given_circuit g)) tail
   tail-here = subst (λ (m : Counts). TailOk V19 m tail) (sym counts-are) ready.tail-ok
 
-  pub long-here : short_in (counts_of (given_circuit g)) made g.scratch ≡ none
+  pub long-here : short_in (counts_of (given_circuit g)) made g.scratch ≡ None
   long-here = ap (λ (m : Counts). short_in m made g.scratch) counts-are ∙ ready.long
 
   -- no more gates ask for no more of the tables they came from
   pub smaller-long : (n : Counts) (k : ℕ) → n ≡ smaller g.counts k → k ≤ g.counts.A → (s : List ℕ) → length s ≡ length g.scratch
-      → short_in n (sizes_of g.tables) s ≡ none
+      → short_in n (sizes_of g.tables) s ≡ None
   smaller-long n k same few s kept =
       let l = (short_none (lent_alone g)).0 fine-is.room in
       let sum = fine-is.sum in
@@ -154,8 +153,8 @@ module _ (g : Given) (tail : List ℕ) (made : Sizes) (ready : Ready g tail made
 
 -- a making clears scratch, and leaves its length
 pub scratch-kept : (o : Option Refusal) (e : MakeEntry) (d : Circuit) → length (made_by o e d).scratch ≡ length e.circuit.scratch
-scratch-kept none e d = length-replicate (length e.circuit.scratch) 0
-scratch-kept (some r) e d = length-replicate (length e.circuit.scratch) 0
+scratch-kept None e d = length-replicate (length e.circuit.scratch) 0
+scratch-kept (Some r) e d = length-replicate (length e.circuit.scratch) 0
 
 -- the conversion
 module _ (g : Given) (t : Tables) (tail : List ℕ) (ready : Ready g tail (sizes_of t)) where
@@ -170,7 +169,7 @@ module _ (g : Given) (t : Tables) (tail : List ℕ) (ready : Ready g tail (sizes
   }
 
   -- it stands ready for the next making, back into the tables it was read into
-  pub converted-ready : (x : MakeExit) → x ≡ conversion (record { circuit = g; written = t }) → (n : Counts) → x.answer ≡ made.Accepted n
+  pub converted-ready : (x : MakeExit) → x ≡ conversion (record { circuit = g; written = t }) → (n : Counts) → x.answer ≡ Ok n
       → Ready (after n x) tail (sizes_of g.tables)
   converted-ready x said n a =
       let w : WellFormed (given_circuit g) = (fine-is g tail (sizes_of t) ready).formed in

@@ -1,10 +1,8 @@
 -- Opening a file: 14, 13, what a reader checks, then 4 for the tables to make a circuit in; and what stands ready then.
-use Rattle.std.specs.Prelude.{ℕ, ◌≤◌, ◌≡◌, Bool, List, length, drop}
-use Rattle.std.proofs.Math.Option.{Option, none}
+use Rattle.std.specs.Prelude.{ℕ, ◌≤◌, ◌≡◌, Bool, List, length, drop, Result, Ok, Err, Option, None}
+use Rattle.plan.specs.declared.Refusal.{Refusal}
 use Rattle.plan.specs.declared.Counts.{Counts}
 use Rattle.plan.specs.declared.Version.TheVariants.{V19}
-use Rattle.plan.specs.declared.Loaded.{Loaded}
-use Rattle.plan.specs.declared.Loaded.TheVariants as loaded
 use Rattle.plan.specs.Refusals.{Parse, got, refused, first_of}
 use Rattle.plan.specs.Circuit.{Circuit, Tables, lengths_of, words_to_work, against, least_short}
 use Rattle.plan.specs.Tail.{TailOk}
@@ -35,13 +33,13 @@ opened e = input (input_of e.readable e.file) λ file. opening e file
 
 -- tables that no check refuses, their tail, and tables long enough to make a circuit in
 pub record Ready (g : Given) (tail : List ℕ) (made : Sizes) : Type 0 where
-  pub fine : first_of (stages g (lent_alone g)) ≡ none
+  pub fine : first_of (stages g (lent_alone g)) ≡ None
   pub tail-ok : TailOk V19 g.counts tail
-  pub long : short_in g.counts made g.scratch ≡ none
+  pub long : short_in g.counts made g.scratch ≡ None
 
 -- the answer, with what stands in the tables and in scratch then
-abbrev pub Opens : OpenEntry → Loaded → Tables → List ℕ → Type 0
-Opens e (loaded.Accepted n start) t scratch =
+abbrev pub Opens : OpenEntry → Result (Counts × ℕ) Refusal → Tables → List ℕ → Type 0
+Opens e (Ok (n, start)) t scratch =
     let g : Given = record { counts = n; tables = t; scratch = scratch } in
     (opened e ≡ got (given_circuit g) start) × (start ≤ length e.file) × Ready g (drop start e.file) e.made
-Opens e (loaded.Refused r) t scratch = opened e ≡ refused r
+Opens e (Err r) t scratch = opened e ≡ refused r

@@ -6,7 +6,7 @@ ghost use Rattle.plan.specs.Cards.{file_whole, card_whole, filed_cards, carded_f
 use crate::open_file;
 use cards::reading::read_cards;
 use cards::writing::write_cards;
-use plan::{Loaded, Refusal, Written};
+use plan::Refusal;
 use tables::{clear, clear_all, lengths};
 use write::write_binary;
 
@@ -26,17 +26,17 @@ fn file_cards(
     constraints: &mut [u32],
     scratch: &mut [u32],
     out: &mut [u8],
-) -> Written
+) -> Result<usize, Refusal>
     ensures { TellsMove filed_cards readable file inputs latches outputs gates resets bads constraints scratch
         out result }
 {
     if !readable {
-        return Written::Refused(Refusal::Unreadable(0));
+        return Err(Refusal::Unreadable(0));
     }
     if LONGEST < file.len() {
-        return Written::Refused(Refusal::LongInput(LONGEST));
+        return Err(Refusal::LongInput(LONGEST));
     }
-    match read_cards(
+    let (n, end) = read_cards(
         file,
         inputs,
         latches,
@@ -46,22 +46,20 @@ fn file_cards(
         bads,
         constraints,
         scratch,
-    ) {
-        Loaded::Refused(r) => Written::Refused(r),
-        Loaded::Accepted(n, end) => write_binary(
-            n,
-            inputs,
-            latches,
-            outputs,
-            gates,
-            resets,
-            bads,
-            constraints,
-            scratch,
-            &file[end..],
-            out,
-        ),
-    }
+    )?;
+    write_binary(
+        n,
+        inputs,
+        latches,
+        outputs,
+        gates,
+        resets,
+        bads,
+        constraints,
+        scratch,
+        &file[end..],
+        out,
+    )
 }
 
 // The cards of an AIGER file in either form, by 14, 13, what a reader checks, 4, 15, 19 and 11. The tables hold
@@ -78,12 +76,12 @@ fn card_file(
     constraints: &mut [u32],
     scratch: &mut [u32],
     out: &mut [u8],
-) -> Written
+) -> Result<usize, Refusal>
     ensures { TellsMove carded_file readable file inputs latches outputs gates resets bads constraints scratch
         out result }
 {
     let own = lengths(inputs, latches, outputs, gates, resets, bads, constraints);
-    match open_file(
+    let (n, start) = open_file(
         readable,
         file,
         inputs,
@@ -95,22 +93,20 @@ fn card_file(
         constraints,
         scratch,
         own,
-    ) {
-        Loaded::Refused(r) => Written::Refused(r),
-        Loaded::Accepted(n, start) => write_cards(
-            n,
-            inputs,
-            latches,
-            outputs,
-            gates,
-            resets,
-            bads,
-            constraints,
-            scratch,
-            &file[start..],
-            out,
-        ),
-    }
+    )?;
+    write_cards(
+        n,
+        inputs,
+        latches,
+        outputs,
+        gates,
+        resets,
+        bads,
+        constraints,
+        scratch,
+        &file[start..],
+        out,
+    )
 }
 
 // The binary file of a whole file of cards: the number of bytes, or a refusal, which changes no byte of `out`. All
@@ -127,7 +123,7 @@ pub fn file_whole(
     constraints: &mut [u32],
     scratch: &mut [u32],
     out: &mut [u8],
-) -> Written
+) -> Result<usize, Refusal>
     ensures { Moves file_whole readable file inputs latches outputs gates resets bads constraints scratch out result }
 {
     let answer = file_cards(
@@ -162,7 +158,7 @@ pub fn card_whole(
     constraints: &mut [u32],
     scratch: &mut [u32],
     out: &mut [u8],
-) -> Written
+) -> Result<usize, Refusal>
     ensures { Moves card_whole readable file inputs latches outputs gates resets bads constraints scratch out result }
 {
     let answer = card_file(

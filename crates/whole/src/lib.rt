@@ -3,7 +3,7 @@
 
 ghost use Rattle.whole.specs.Lent.{OpensFile};
 
-use plan::{Loaded, Refusal, Version};
+use plan::{Counts, Refusal, Version};
 use read::load;
 use tables::{Sizes, scratch_to_work, too_short};
 
@@ -27,16 +27,16 @@ pub fn open_file(
     constraints: &mut [u32],
     scratch: &mut [u32],
     made: Sizes,
-) -> Loaded
+) -> Result<(Counts, usize), Refusal>
     ensures { OpensFile readable file inputs latches outputs gates resets bads constraints scratch made result }
 {
     if !readable {
-        return Loaded::Refused(Refusal::Unreadable(0));
+        return Err(Refusal::Unreadable(0));
     }
     if LONGEST < file.len() {
-        return Loaded::Refused(Refusal::LongInput(LONGEST));
+        return Err(Refusal::LongInput(LONGEST));
     }
-    match load(
+    let (n, start) = load(
         Version::V19,
         file,
         inputs,
@@ -47,15 +47,10 @@ pub fn open_file(
         bads,
         constraints,
         scratch,
-    ) {
-        Loaded::Refused(r) => Loaded::Refused(r),
-        Loaded::Accepted(n, start) => {
-            let needed = scratch_to_work(n);
-            let short = too_short(n, made, needed, scratch.len());
-            if short != 0 {
-                return Loaded::Refused(Refusal::ShortTable(short));
-            }
-            Loaded::Accepted(n, start)
-        }
+    )?;
+    let needed = scratch_to_work(n);
+    if let Some(short) = too_short(n, made, needed, scratch.len()) {
+        return Err(Refusal::ShortTable(short));
     }
+    Ok((n, start))
 }

@@ -2,7 +2,7 @@
 ghost use Rattle.whole.specs.Lent.{OpensMade, OpensWhole};
 
 use crate::open_file;
-use plan::{Loaded, Made};
+use plan::{Counts, Refusal};
 use tables::{clear, clear_all, lengths};
 
 // The circuit of a file, converted into the tables to make one in; or a refusal, after which those are zero. The
@@ -25,7 +25,7 @@ fn open_made(
     made_bads: &mut [u32],
     made_constraints: &mut [u32],
     scratch: &mut [u32],
-) -> Made
+) -> Result<Counts, Refusal>
     ensures { OpensMade readable file inputs latches outputs gates resets bads constraints made_inputs
         made_latches made_outputs made_gates made_resets made_bads made_constraints scratch result }
 {
@@ -51,7 +51,7 @@ fn open_made(
         scratch,
         made,
     ) {
-        Loaded::Refused(r) => {
+        Err(r) => {
             clear_all(
                 made_inputs,
                 made_latches,
@@ -62,9 +62,9 @@ fn open_made(
                 made_constraints,
             );
             clear(scratch);
-            Made::Refused(r)
+            Err(r)
         }
-        Loaded::Accepted(n, _) => convert::convert(
+        Ok((n, _)) => convert::convert(
             n,
             inputs,
             latches,
@@ -105,7 +105,7 @@ pub fn open_whole(
     made_bads: &mut [u32],
     made_constraints: &mut [u32],
     scratch: &mut [u32],
-) -> Made
+) -> Result<Counts, Refusal>
     ensures { OpensWhole readable file inputs latches outputs gates resets bads constraints made_inputs
         made_latches made_outputs made_gates made_resets made_bads made_constraints scratch result }
 {

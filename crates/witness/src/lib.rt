@@ -8,14 +8,13 @@ ghost use Rattle.plan.specs.Outcome.{put};
 ghost use Rattle.step.specs.values.Words.{word, words};
 ghost use Rattle.step.specs.sweep.Running.{Runs, Rests};
 ghost use Rattle.witness.specs.three.Listing.{Starts, shows_from};
-ghost use Rattle.plan.specs.Fillings.{is_x, x_of, x_count, bit_of, fill_from, filling, filled_shows, question, witness};
-ghost use Rattle.laws.specs.Fillings.Reaching.{Reaches};
+ghost use Rattle.plan.specs.Fillings.{is_x, x_of, x_count, bit_of, fill_from, filling, first_failing, filled_shows, question, witness};
 ghost use Rattle.witness.specs.Asked.{codes_of, Loads, Begins, Holds};
 ghost use Rattle.plan.specs.Lent.{Tries};
 
 use crate::three::shown;
 use judge::check_in_order;
-use plan::{Checked, Counts, Finding, Refusal};
+use plan::{Counts, Finding, Refusal};
 use step::codes::whole_list;
 use step::sweep::{all_lits, step_values};
 use step::values::{MAY0, MAY1};
@@ -204,7 +203,7 @@ fn filling_shows(
     )
 }
 
-// Fillings are tried from 0 up, `most` of them: the number of the first that shows no 1, or `most`.
+// Fillings are tried from 0 up, `most` of them: the number of the first that shows no 1.
 fn first_failing(
     n: Counts,
     latches: &[u32],
@@ -217,14 +216,14 @@ fn first_failing(
     number: usize,
     bytes: &[u8],
     most: usize,
-) -> usize
+) -> Option<usize>
     requires holds { Holds n latches.now outputs.now gates.now resets.now bads.now constraints.now scratch.old number bytes.now }
     requires most_bound { most ≤ 1048576 }
     ensures { (inputs : List ℕ)
         → Runs n (seven inputs latches.now outputs.now gates.now resets.now bads.now
         constraints.now)
-        → Reaches (filled_shows (circuit_of n (seven inputs latches.now outputs.now gates.now resets.now
-        bads.now constraints.now)) number bytes.now) most result }
+        → result ≡ first_failing (filled_shows (circuit_of n (seven inputs latches.now outputs.now gates.now resets.now
+        bads.now constraints.now)) number bytes.now) 0 most }
 {
     for tried in 0..most {
         if !filling_shows(
@@ -240,10 +239,10 @@ fn first_failing(
             bytes,
             tried as u32,
         ) {
-            return tried;
+            return Some(tried);
         }
     }
-    most
+    None
 }
 
 // The answer for a list whose bytes are good, where start and list have `xs` x, which are few.
@@ -284,8 +283,8 @@ fn try_fillings(
         bytes,
         most,
     );
-    if failing < most {
-        return Finding::No(failing + 1);
+    if let Some(k) = failing {
+        return Finding::No(k + 1);
     }
     if total <= allowance {
         return Finding::Yes(total);
@@ -309,10 +308,10 @@ pub fn witness(
     number: usize,
     bytes: &[u8],
     allowance: usize,
-) -> Finding
+) -> Result<Finding, Refusal>
     ensures { Tries witness n inputs latches outputs gates resets bads constraints scratch number bytes allowance result }
 {
-    match check_in_order(
+    check_in_order(
         n,
         inputs,
         latches,
@@ -322,32 +321,28 @@ pub fn witness(
         bads,
         constraints,
         scratch,
-    ) {
-        Checked::Refused(refusal) => Finding::Refused(refusal),
-        Checked::Good => {
-            if !whole_list(bytes, number, n.I) {
-                return Finding::Refused(Refusal::BadVector(2));
-            }
-            let xs = count_resets(resets, n.L) + count_x(bytes);
-            if MOST_X < xs {
-                return Finding::Refused(Refusal::ManyX(xs));
-            }
-            let found = try_fillings(
-                n,
-                latches,
-                outputs,
-                gates,
-                resets,
-                bads,
-                constraints,
-                scratch,
-                number,
-                bytes,
-                xs,
-                allowance,
-            );
-            clear(scratch);
-            found
-        }
+    )?;
+    if !whole_list(bytes, number, n.I) {
+        return Err(Refusal::BadVector(2));
     }
+    let xs = count_resets(resets, n.L) + count_x(bytes);
+    if MOST_X < xs {
+        return Err(Refusal::ManyX(xs));
+    }
+    let found = try_fillings(
+        n,
+        latches,
+        outputs,
+        gates,
+        resets,
+        bads,
+        constraints,
+        scratch,
+        number,
+        bytes,
+        xs,
+        allowance,
+    );
+    clear(scratch);
+    Ok(found)
 }

@@ -10,7 +10,7 @@ ghost use Rattle.witness.specs.three.Listing.{Shown, Starts, shows_from};
 ghost use Rattle.plan.specs.Lent.{Asks};
 
 use judge::check_in_order;
-use plan::{Checked, Counts, Refusal, Verdict};
+use plan::{Counts, Refusal};
 use step::codes::whole_list;
 use step::sweep::{all_lits, any_lit, start_values, step_values};
 use step::values::{any_one, load};
@@ -81,10 +81,10 @@ pub fn witness3(
     scratch: &mut [u32],
     number: usize,
     bytes: &[u8],
-) -> Verdict
+) -> Result<bool, Refusal>
     ensures { Asks witness3 n inputs latches outputs gates resets bads constraints scratch number bytes result }
 {
-    match check_in_order(
+    check_in_order(
         n,
         inputs,
         latches,
@@ -94,29 +94,22 @@ pub fn witness3(
         bads,
         constraints,
         scratch,
-    ) {
-        Checked::Refused(refusal) => Verdict::Refused(refusal),
-        Checked::Good => {
-            if !whole_list(bytes, number, n.I) {
-                return Verdict::Refused(Refusal::BadVector(2));
-            }
-            start_values(n, resets, scratch);
-            let shown = shows_one(
-                n,
-                latches,
-                outputs,
-                gates,
-                bads,
-                constraints,
-                scratch,
-                number,
-                bytes,
-            );
-            clear(scratch);
-            if shown {
-                return Verdict::Yes;
-            }
-            Verdict::No
-        }
+    )?;
+    if !whole_list(bytes, number, n.I) {
+        return Err(Refusal::BadVector(2));
     }
+    start_values(n, resets, scratch);
+    let shown = shows_one(
+        n,
+        latches,
+        outputs,
+        gates,
+        bads,
+        constraints,
+        scratch,
+        number,
+        bytes,
+    );
+    clear(scratch);
+    Ok(shown)
 }

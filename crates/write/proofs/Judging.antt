@@ -2,12 +2,10 @@
 use Prim.Native.Nat.{ℕ}
 use mathlib.Core.Path.{◌≡◌, sym, ap, ◌∙◌}
 use mathlib.Core.Bool.{Bool}
-use mathlib.Core.Option.{Option, some}
 use mathlib.Core.List.{List, [], ◌∷◌, ◌++◌}
+use Rattle.std.specs.Prelude.{Result, Ok, Err, Option, Some}
 use native.Mathlib.Omega.{arith}
 use lib.ListN.{length, get_or, length-replicate}
-use Rattle.plan.specs.declared.Checked.{Checked}
-use Rattle.plan.specs.declared.Checked.TheVariants as checked
 use Rattle.plan.specs.declared.Refusal.{Refusal}
 use Rattle.plan.specs.Refusals.{first_of}
 use Rattle.plan.specs.Circuit.{cleared}
@@ -20,20 +18,20 @@ use Rattle.judge.proofs.Sound.{Good, good_none, refused-some, good-alone}
 use Rattle.write.specs.Judged.{table_stages, writer_stages}
 
 -- an answer, and the stages with one more
-module _ (xs : List (Option Refusal)) (o : Option Refusal) {answer : Checked} (says : answer ≡ checked_by (first_of xs)) where
-  pub refused-before : (r : Refusal) → answer ≡ checked.Refused r → first_of (xs ++ (o ∷ [])) ≡ some r
+module _ (xs : List (Option Refusal)) (o : Option Refusal) {answer : Result Unit Refusal} (says : answer ≡ checked_by (first_of xs)) where
+  pub refused-before : (r : Refusal) → answer ≡ Err r → first_of (xs ++ (o ∷ [])) ≡ Some r
   refused-before r e = some_first r xs (o ∷ []) (refused-some r (first_of xs) (sym e ∙ says))
 
-  pub good-before : answer ≡ checked.Good → first_of (xs ++ (o ∷ [])) ≡ o
+  pub good-before : answer ≡ Ok tt → first_of (xs ++ (o ∷ [])) ≡ o
   good-before e = both_first xs (o ∷ []) (good_none (first_of xs) (sym e ∙ says)) ∙ one-stage o
 
 -- tables that are good, and those that are good before a tail that is
-pub good-tables : (ordered : Bool) (g : Given) {answer : Checked} → answer ≡ checked_by (first_of (table_stages ordered g))
-    → answer ≡ checked.Good → Good ordered g
+pub good-tables : (ordered : Bool) (g : Given) {answer : Result Unit Refusal} → answer ≡ checked_by (first_of (table_stages ordered g))
+    → answer ≡ Ok tt → Good ordered g
 good-tables ordered g says e = good-alone ordered g (good_none (first_of (table_stages ordered g)) (sym e ∙ says))
 
-pub good-judged : (ordered : Bool) (g : Given) (tail : List ℕ) {answer : Checked}
-    → answer ≡ checked_by (first_of (writer_stages ordered g tail)) → answer ≡ checked.Good → Good ordered g
+pub good-judged : (ordered : Bool) (g : Given) (tail : List ℕ) {answer : Result Unit Refusal}
+    → answer ≡ checked_by (first_of (writer_stages ordered g tail)) → answer ≡ Ok tt → Good ordered g
 good-judged ordered g tail says e =
     good-alone ordered g
     (first-both (table_stages ordered g) _ (good_none (first_of (writer_stages ordered g tail)) (sym e ∙ says))).0

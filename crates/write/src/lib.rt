@@ -14,7 +14,7 @@ ghost use Rattle.plan.specs.Lent.{Writes};
 use crate::forms::{append, binary_length, fill_binary, fill_text, text_length};
 use codec::room;
 use lines::tail;
-use plan::{Checked, Counts, Refusal, Version, Written};
+use plan::{Counts, Refusal, Version};
 use tables::clear;
 
 pub mod forms;
@@ -33,7 +33,7 @@ fn put_text(
     constraints: &[u32],
     tail: &[u8],
     out: &mut [u8],
-) -> Written
+) -> Result<usize, Refusal>
     requires { Fits n inputs.now latches.now outputs.now gates.now resets.now bads.now
         constraints.now }
     ensures { record { answer = result; out = out.new } ≡ put_bytes out.old 0
@@ -52,7 +52,7 @@ fn put_text(
         constraints,
     );
     if !room::holds(out.len(), text, tail.len()) {
-        return Written::Refused(Refusal::ShortBuffer(room::needed(text, tail.len())));
+        return Err(Refusal::ShortBuffer(room::needed(text, tail.len())));
     }
     let end = fill_text(
         out,
@@ -65,7 +65,7 @@ fn put_text(
         bads,
         constraints,
     );
-    Written::Bytes(append(out, end, tail))
+    Ok(append(out, end, tail))
 }
 
 // The same for the binary form.
@@ -79,7 +79,7 @@ fn put_binary(
     constraints: &[u32],
     tail: &[u8],
     out: &mut [u8],
-) -> Written
+) -> Result<usize, Refusal>
     requires { Printable n latches.now outputs.now gates.now resets.now bads.now constraints.now }
     ensures { record { answer = result; out = out.new } ≡ put_bytes out.old 0
         (binary_bytes n latches.now outputs.now gates.now resets.now
@@ -88,10 +88,10 @@ fn put_binary(
 {
     let binary = binary_length(n, latches, outputs, gates, resets, bads, constraints);
     if !room::holds(out.len(), binary, tail.len()) {
-        return Written::Refused(Refusal::ShortBuffer(room::needed(binary, tail.len())));
+        return Err(Refusal::ShortBuffer(room::needed(binary, tail.len())));
     }
     let end = fill_binary(out, n, latches, outputs, gates, resets, bads, constraints);
-    Written::Bytes(append(out, end, tail))
+    Ok(append(out, end, tail))
 }
 
 // Given tables by 2 to 8, and by 15 where it is asked. Scratch is zero afterwards.
@@ -106,7 +106,7 @@ fn check_tables(
     constraints: &[u32],
     scratch: &mut [u32],
     ordered: bool,
-) -> Checked
+) -> Result<(), Refusal>
     ensures value { result ≡ checked_by (first_of (table_stages ordered
         (given_in n inputs.now latches.now outputs.now gates.now
         resets.now bads.now constraints.now scratch.old))) }
@@ -152,14 +152,14 @@ pub fn judge(
     scratch: &mut [u32],
     tail: &[u8],
     ordered: bool,
-) -> Checked
+) -> Result<(), Refusal>
     ensures value { result ≡ checked_by (first_of (writer_stages ordered
         (given_in n inputs.now latches.now outputs.now gates.now
         resets.now bads.now constraints.now scratch.old)
         tail.now)) }
     ensures scratch_after { scratch.new ≡ cleared scratch.old }
 {
-    match check_tables(
+    check_tables(
         n,
         inputs,
         latches,
@@ -170,14 +170,10 @@ pub fn judge(
         constraints,
         scratch,
         ordered,
-    ) {
-        Checked::Refused(r) => Checked::Refused(r),
-        Checked::Good => {
-            let answer = tail::check(Version::V19, tail, 0, n, scratch);
-            clear(scratch);
-            answer
-        }
-    }
+    )?;
+    let answer = tail::check(Version::V19, tail, 0, n, scratch);
+    clear(scratch);
+    answer
 }
 
 // Writes the text form of given tables and the tail: the number of bytes written, or a refusal, which changes no
@@ -194,10 +190,10 @@ pub fn write_text(
     scratch: &mut [u32],
     tail: &[u8],
     out: &mut [u8],
-) -> Written
+) -> Result<usize, Refusal>
     ensures { Writes write_text n inputs latches outputs gates resets bads constraints scratch tail out result }
 {
-    match judge(
+    judge(
         n,
         inputs,
         latches,
@@ -209,21 +205,19 @@ pub fn write_text(
         scratch,
         tail,
         false,
-    ) {
-        Checked::Refused(r) => Written::Refused(r),
-        Checked::Good => put_text(
-            n,
-            inputs,
-            latches,
-            outputs,
-            gates,
-            resets,
-            bads,
-            constraints,
-            tail,
-            out,
-        ),
-    }
+    )?;
+    put_text(
+        n,
+        inputs,
+        latches,
+        outputs,
+        gates,
+        resets,
+        bads,
+        constraints,
+        tail,
+        out,
+    )
 }
 
 // Writes the binary form of given tables in binary order and the tail: the number of bytes written, or a refusal,
@@ -240,10 +234,10 @@ pub fn write_binary(
     scratch: &mut [u32],
     tail: &[u8],
     out: &mut [u8],
-) -> Written
+) -> Result<usize, Refusal>
     ensures { Writes write_binary n inputs latches outputs gates resets bads constraints scratch tail out result }
 {
-    match judge(
+    judge(
         n,
         inputs,
         latches,
@@ -255,18 +249,16 @@ pub fn write_binary(
         scratch,
         tail,
         true,
-    ) {
-        Checked::Refused(r) => Written::Refused(r),
-        Checked::Good => put_binary(
-            n,
-            latches,
-            outputs,
-            gates,
-            resets,
-            bads,
-            constraints,
-            tail,
-            out,
-        ),
-    }
+    )?;
+    put_binary(
+        n,
+        latches,
+        outputs,
+        gates,
+        resets,
+        bads,
+        constraints,
+        tail,
+        out,
+    )
 }

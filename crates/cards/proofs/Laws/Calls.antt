@@ -3,8 +3,8 @@
 use Prim.Native.Nat.{ℕ}
 use mathlib.Core.Path.{◌≡◌, refl, sym, ap, ap₂, ◌∙◌, subst}
 use mathlib.Core.Bool.{◌&&◌}
-use mathlib.Core.Option.{Option}
 use mathlib.Core.List.{List, [], ◌∷◌, ◌++◌}
+use Rattle.std.specs.Prelude.{Ok, Option}
 use native.Mathlib.Omega.{arith}
 use borrow.Author.Tests.{eqb-true}
 use lib.Dec.{eqb}
@@ -13,7 +13,6 @@ use Rattle.plan.specs.declared.Version.TheVariants.{V19}
 use Rattle.plan.specs.declared.Counts.{Counts}
 use Rattle.plan.specs.declared.Refusal.{Refusal}
 use Rattle.plan.specs.declared.Refusal.TheVariants.{NotInOrder, NotOnCards}
-use Rattle.plan.specs.declared.Loaded.TheVariants as loaded
 use Rattle.plan.specs.Refusals.{Parse, got, refused, first_of}
 use Rattle.plan.specs.Circuit.{Circuit, counts_of, circuit_of, lengths_of, holding, cleared}
 use Rattle.plan.specs.Header.{Head, binary, header, form_in}
@@ -22,6 +21,7 @@ use Rattle.plan.specs.Reading.{States, Shortest}
 use Rattle.plan.specs.Given.{Given, given_circuit, lent_alone, failing, stages, order_stage, tail_stage, room_stage}
 use Rattle.plan.specs.Outcome.{ReadEntry, load_by, load_as, write_binary}
 use Rattle.plan.specs.Cards.{cards_of, holdable, CardStates, read_cards, load_cards, card_stage, write_cards}
+use Rattle.laws.proofs.Pairs.{ok-pair}
 use Rattle.laws.proofs.Reading.Common.{and_left, and_right}
 use Rattle.laws.proofs.Reading.Differences.{Bytes}
 use Rattle.laws.proofs.Reading.Exactly.{unique}
@@ -40,27 +40,26 @@ pub record CardCall : Type 0 where
   pub counts : Counts
   pub end : ℕ
   pub bytes : Bytes entry.file
-  pub accepted : (load_cards entry).answer ≡ loaded.Accepted counts end
+  pub accepted : (load_cards entry).answer ≡ Ok (counts, end)
 
 abbrev pub card_circuit : CardCall → Circuit
 card_circuit k = circuit_of k.counts (load_cards k.entry).tables
 
 -- what a read of cards leaves every later call accepts, and it is what they state
-pub cards-left : (e : ReadEntry) (n : Counts) (end : ℕ) → (load_cards e).answer ≡ loaded.Accepted n end
+pub cards-left : (e : ReadEntry) (n : Counts) (end : ℕ) → (load_cards e).answer ≡ Ok (n, end)
     → (c : Circuit) × (read_cards e.file (lengths_of e.tables e.scratch) ≡ got c end)
     × Left (record { counts = n; tables = (load_cards e).tables; scratch = (load_cards e).scratch }) c
 cards-left e n end a = go (read_cards e.file (lengths_of e.tables e.scratch)) refl a
   where
-    go : (p : Parse Circuit) → read_cards e.file (lengths_of e.tables e.scratch) ≡ p → (load_by e p).answer ≡ loaded.Accepted n end
+    go : (p : Parse Circuit) → read_cards e.file (lengths_of e.tables e.scratch) ≡ p → (load_by e p).answer ≡ Ok (n, end)
         → (c : Circuit) × (p ≡ got c end) × Left (record { counts = n; tables = (load_by e p).tables; scratch = (load_by e p).scratch }) c
     go (got c s) q a =
         let lengths = lengths_of e.tables e.scratch in
         let after = left c e.tables e.scratch (cards-formed e.file lengths c s q) (cards-room e.file lengths c s q) in
-        let n-is : counts_of c ≡ n = cc in
-        let s-is : s ≡ end = cc in (
+        let same = ok-pair (counts_of c) n s end a in (
           c,
-          ap (got c) s-is,
-          subst (λ (m : Counts). Left (record { counts = m; tables = holding e.tables c; scratch = cleared e.scratch }) c) n-is after,
+          ap (got c) same.1,
+          subst (λ (m : Counts). Left (record { counts = m; tables = holding e.tables c; scratch = cleared e.scratch }) c) same.0 after,
         )
     go (refused r) q a = let z : ◌≡◌ {A = ℕ} 0 1 = cc in absurd (omega arith)
 

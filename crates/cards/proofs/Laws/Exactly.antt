@@ -2,9 +2,9 @@
 use Prim.Native.Nat.{ℕ, zero, suc, ◌+◌, ◌*◌, ◌≤◌}
 use mathlib.Core.Path.{◌≡◌, refl, sym, ap, ap₂, ◌∙◌, subst}
 use mathlib.Core.Bool.{Bool, true, false, cond}
-use mathlib.Core.Option.{Option, none, some}
 use mathlib.Core.Logic.{◌↔◌}
 use mathlib.Core.List.{List, [], ◌∷◌, ◌++◌, append-nil}
+use Rattle.std.specs.Prelude.{Option, Some, None}
 use native.Mathlib.Omega.{arith}
 use borrow.Author.Tests.{eqb-true, eq-eqb, ltb-false, le-ltb}
 use lib.Dec.{eqb, ltb}
@@ -53,25 +53,25 @@ all-zeros zero = refl
 all-zeros (suc n) = all-zeros n
 
 -- 1: a length that is neither cut nor continued
-length-right : (asked size : ℕ) → wrong_length asked size ≡ none → size ≡ asked
+length-right : (asked size : ℕ) → wrong_length asked size ≡ None → size ≡ asked
 length-right asked size e = go (ltb size asked) refl (ltb asked size) refl e
   where
-    go : (s : Bool) → ltb size asked ≡ s → (t : Bool) → ltb asked size ≡ t → cond s (some size) (cond t (some asked) none) ≡ none → size ≡ asked
+    go : (s : Bool) → ltb size asked ≡ s → (t : Bool) → ltb asked size ≡ t → cond s (Some size) (cond t (Some asked) None) ≡ None → size ≡ asked
     go true p t q k = let z : ◌≡◌ {A = ℕ} 0 1 = cc in absurd (omega arith)
     go false p true q k = let z : ◌≡◌ {A = ℕ} 0 1 = cc in absurd (omega arith)
     go false p false q k = omega (arith, ltb-false size asked p, ltb-false asked size q)
 
-pub right-length : (asked size : ℕ) → size ≡ asked → wrong_length asked size ≡ none
+pub right-length : (asked size : ℕ) → size ≡ asked → wrong_length asked size ≡ None
 right-length asked size e = rw (le-ltb size asked (omega arith), le-ltb asked size (omega arith))
 
-pub length_none : (file : List ℕ) → bad_length file ≡ none → length file ≡ card_bytes (counts_at file)
+pub length_none : (file : List ℕ) → bad_length file ≡ None → length file ≡ card_bytes (counts_at file)
 length_none file e = go (ltb (length file) 22) e
   where
-    go : (s : Bool) → cond s (some (length file)) (wrong_length (card_bytes (counts_at file)) (length file)) ≡ none → length file ≡ card_bytes (counts_at file)
+    go : (s : Bool) → cond s (Some (length file)) (wrong_length (card_bytes (counts_at file)) (length file)) ≡ None → length file ≡ card_bytes (counts_at file)
     go true k = let z : ◌≡◌ {A = ℕ} 0 1 = cc in absurd (omega arith)
     go false k = length-right (card_bytes (counts_at file)) (length file) k
 
-none-length : (file : List ℕ) → length file ≡ card_bytes (counts_at file) → bad_length file ≡ none
+none-length : (file : List ℕ) → length file ≡ card_bytes (counts_at file) → bad_length file ≡ None
 none-length file e =
     rw (le-ltb (length file) 22 (omega arith)) (right-length (card_bytes (counts_at file)) (length file) e)
 
@@ -149,7 +149,7 @@ module _ (c : Circuit) (w : WellFormed c) (o : binary_order c ≡ true) (k : hol
         length-gates c.gates,
       )
 
-  marks-right : wrong_marks file n ≡ none
+  marks-right : wrong_marks file n ≡ None
   marks-right =
       ap₂ or_else (ap (λ (x : ℕ). wrong_in 76 6 x latches_at (word_cards 76 (nexts c.latches) ++ second)) (sym nexts-many)
       ∙ words-marked 76 (nexts c.latches) second latches_at)
@@ -194,7 +194,7 @@ module _ (c : Circuit) (w : WellFormed c) (o : binary_order c ≡ true) (k : hol
 
   pub cards-read : (lengths : List ℕ) → LongEnough c lengths → read_cards file lengths ≡ got c (length file)
   cards-read lengths room =
-      let inside : outside_in c ≡ none
+      let inside : outside_in c ≡ None
       = inside-none c (record {
         inputs = w.inputs;
         latches = w.latches;
@@ -211,15 +211,15 @@ module _ (c : Circuit) (w : WellFormed c) (o : binary_order c ≡ true) (k : hol
       ∙ ap (λ (x : Circuit). got x (length file)) carded-is)))
 
 -- 18: no mark is wrong in any part
-four-none : (a b c d : Option ℕ) → or_else a (or_else b (or_else c d)) ≡ none → (a ≡ none) × (b ≡ none) × (c ≡ none) × (d ≡ none)
-four-none none none none d e = (refl, refl, refl, e)
-four-none none none (some x) d e = let z : ◌≡◌ {A = ℕ} 0 1 = cc in absurd (omega arith)
-four-none none (some x) c d e = let z : ◌≡◌ {A = ℕ} 0 1 = cc in absurd (omega arith)
-four-none (some x) b c d e = let z : ◌≡◌ {A = ℕ} 0 1 = cc in absurd (omega arith)
+four-none : (a b c d : Option ℕ) → or_else a (or_else b (or_else c d)) ≡ None → (a ≡ None) × (b ≡ None) × (c ≡ None) × (d ≡ None)
+four-none None None None d e = (refl, refl, refl, e)
+four-none None None (Some x) d e = let z : ◌≡◌ {A = ℕ} 0 1 = cc in absurd (omega arith)
+four-none None (Some x) c d e = let z : ◌≡◌ {A = ℕ} 0 1 = cc in absurd (omega arith)
+four-none (Some x) b c d e = let z : ◌≡◌ {A = ℕ} 0 1 = cc in absurd (omega arith)
 
-pub marks-none : (file : List ℕ) (n : Counts) → wrong_marks file n ≡ none
-    → (wrong_in 72 22 1 0 file ≡ none) × (wrong_in 76 6 n.L latches_at (drop latches_at file) ≡ none)
-    × (wrong_in 79 6 n.O (outputs_at n) (drop (outputs_at n) file) ≡ none) × (wrong_in 65 10 n.A (gates_at n) (drop (gates_at n) file) ≡ none)
+pub marks-none : (file : List ℕ) (n : Counts) → wrong_marks file n ≡ None
+    → (wrong_in 72 22 1 0 file ≡ None) × (wrong_in 76 6 n.L latches_at (drop latches_at file) ≡ None)
+    × (wrong_in 79 6 n.O (outputs_at n) (drop (outputs_at n) file) ≡ None) × (wrong_in 65 10 n.A (gates_at n) (drop (gates_at n) file) ≡ None)
 marks-none file n e =
     four-none (wrong_in 72 22 1 0 file) (wrong_in 76 6 n.L latches_at (drop latches_at file))
     (wrong_in 79 6 n.O (outputs_at n) (drop (outputs_at n) file)) (wrong_in 65 10 n.A (gates_at n) (drop (gates_at n) file)) e
@@ -250,7 +250,7 @@ module _ (file : List ℕ) where
   made_held = and_intro (all_zero (replicate told.L 0)) _ (all-zeros told.L) refl
 
   -- under the right marks and of the right length the file is the cards of the circuit that is read
-  module _ (bytes : Bytes file) (size : length file ≡ card_bytes told) (marks : wrong_marks file told ≡ none) where
+  module _ (bytes : Bytes file) (size : length file ≡ card_bytes told) (marks : wrong_marks file told ≡ None) where
     there : (at : ℕ) → at + 4 ≤ length file → drop at file ≡ word_bytes (word_at file at) ++ drop (at + 4) file
     there at h =
         let long : 4 ≤ length (drop at file) = omega (arith, length-drop at file) in
@@ -260,7 +260,7 @@ module _ (file : List ℕ) where
     head-took : file ≡ head_card told ++ drop 22 file
     head-took =
         let m = (marks-none file told marks).0 in
-        let first : file ≡ mark_bytes 72 ++ drop 2 file = mark-first 72 file (omega arith) (mark-none (marked 72 file) none 0 m).0 in
+        let first : file ≡ mark_bytes 72 ++ drop 2 file = mark-first 72 file (omega arith) (mark-none (marked 72 file) None 0 m).0 in
         first ∙ ap (λ (x : List ℕ). mark_bytes 72 ++ x)
         (there 2 (omega arith) ∙ ap (λ (x : List ℕ). word_bytes told.M ++ x)
         (there 6 (omega arith) ∙ ap (λ (x : List ℕ). word_bytes told.I ++ x)
@@ -291,15 +291,15 @@ module _ (file : List ℕ) where
 -- what each check says of an accepted file
 pub record Accepted (file lengths : List ℕ) : Type 0 where
   pub size : length file ≡ card_bytes (counts_at file)
-  pub marks : wrong_marks file (counts_at file) ≡ none
+  pub marks : wrong_marks file (counts_at file) ≡ None
   pub small : AllMost (values (counts_placed (counts_at file)))
   pub sum : adds binary (counts_at file) ≡ true
-  pub room : least_short (against 1 (words_to_work (counts_at file)) lengths) ≡ none
-  pub inside : outside_in (carded file (counts_at file)) ≡ none
+  pub room : least_short (against 1 (words_to_work (counts_at file)) lengths) ≡ None
+  pub inside : outside_in (carded file (counts_at file)) ≡ None
   pub order : binary_order (carded file (counts_at file)) ≡ true
 
 pub head-accepted : (file : List ℕ) (n : Counts) (at : ℕ) → card_head file ≡ got n at
-    → (length file ≡ card_bytes (counts_at file)) × (wrong_marks file (counts_at file) ≡ none) × AllMost (values (counts_placed (counts_at file)))
+    → (length file ≡ card_bytes (counts_at file)) × (wrong_marks file (counts_at file) ≡ None) × AllMost (values (counts_placed (counts_at file)))
     × (adds binary (counts_at file) ≡ true) × (n ≡ counts_at file)
 head-accepted file n at q =
     let a1 = past-got WrongByte _ (bad_length file) n at q in

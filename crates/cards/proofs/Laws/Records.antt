@@ -2,8 +2,8 @@
 use Prim.Native.Nat.{ℕ, zero, suc, ◌+◌, ◌*◌, ◌/◌, ◌%◌, ◌<◌, ◌≤◌}
 use mathlib.Core.Path.{◌≡◌, refl, sym, ap, ap₂, ◌∙◌}
 use mathlib.Core.Bool.{Bool, true, false, cond}
-use mathlib.Core.Option.{Option, none, some}
 use mathlib.Core.List.{List, [], ◌∷◌, ◌++◌}
+use Rattle.std.specs.Prelude.{Option, Some, None}
 use native.Mathlib.Omega.{arith}
 use borrow.Author.Tests.{eqb-true, eq-eqb}
 use lib.Dec.{eqb}
@@ -85,7 +85,7 @@ pub words_back : (letter : ℕ) (ws rest : List ℕ) → Words ws → words_in (
 words_back letter [] rest h = refl
 words_back letter (w ∷ ws) rest h = ap₂ (λ (x : ℕ) (l : List ℕ). x ∷ l) (word_back w [] h.0) (words_back letter ws rest h.1)
 
-pub words-marked : (letter : ℕ) (ws rest : List ℕ) (at : ℕ) → wrong_in letter 6 (length ws) at (word_cards letter ws ++ rest) ≡ none
+pub words-marked : (letter : ℕ) (ws rest : List ℕ) (at : ℕ) → wrong_in letter 6 (length ws) at (word_cards letter ws ++ rest) ≡ None
 words-marked letter [] rest at = refl
 words-marked letter (w ∷ ws) rest at = rw (eq-eqb letter letter refl) (words-marked letter ws rest (at + 6))
 
@@ -94,11 +94,11 @@ length-words letter [] = refl
 length-words letter (w ∷ ws) = let h = length-words letter ws in omega arith
 
 -- the first mark of several, and the others
-pub mark-none : (t : Bool) (o : Option ℕ) (at : ℕ) → cond t o (some at) ≡ none → (t ≡ true) × (o ≡ none)
+pub mark-none : (t : Bool) (o : Option ℕ) (at : ℕ) → cond t o (Some at) ≡ None → (t ≡ true) × (o ≡ None)
 mark-none true o at e = (refl, e)
 mark-none false o at e = let z : ◌≡◌ {A = ℕ} 0 1 = cc in absurd (omega arith)
 
-pub words-took : (letter n at : ℕ) (l : List ℕ) → 6 * n ≤ length l → Bytes l → wrong_in letter 6 n at l ≡ none
+pub words-took : (letter n at : ℕ) (l : List ℕ) → 6 * n ≤ length l → Bytes l → wrong_in letter 6 n at l ≡ None
     → l ≡ word_cards letter (words_in n l) ++ drop (6 * n) l
 words-took letter zero at l h b m = refl
 words-took letter (suc n) at l h b m =
@@ -129,7 +129,7 @@ gates-back v (g ∷ gs) rest o h =
     let r = gates-back (suc v) gs rest o.3 (omega arith) in
     λ i. record { lhs = sym o.0 i; rhs0 = p i; rhs1 = q i } ∷ r i
 
-pub gates-marked : (gs : List Gate) (rest : List ℕ) (at : ℕ) → wrong_in 65 10 (length gs) at (gate_cards gs ++ rest) ≡ none
+pub gates-marked : (gs : List Gate) (rest : List ℕ) (at : ℕ) → wrong_in 65 10 (length gs) at (gate_cards gs ++ rest) ≡ None
 gates-marked [] rest at = refl
 gates-marked (g ∷ gs) rest at = gates-marked gs rest (at + 10)
 
@@ -137,7 +137,7 @@ pub length-gates : (gs : List Gate) → length (gate_cards gs) ≡ 10 * length g
 length-gates [] = refl
 length-gates (g ∷ gs) = let h = length-gates gs in omega arith
 
-pub gates-took : (v n at : ℕ) (l : List ℕ) → 10 * n ≤ length l → Bytes l → wrong_in 65 10 n at l ≡ none
+pub gates-took : (v n at : ℕ) (l : List ℕ) → 10 * n ≤ length l → Bytes l → wrong_in 65 10 n at l ≡ None
     → l ≡ gate_cards (gates_in v n l) ++ drop (10 * n) l
 gates-took v zero at l h b m = refl
 gates-took v (suc n) at l h b m =

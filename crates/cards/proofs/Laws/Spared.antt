@@ -2,8 +2,8 @@
 -- itself is not in binary order: 15 comes before 8 could be asked.
 use Prim.Native.Nat.{ℕ, ◌<◌, ◌≤◌}
 use mathlib.Core.Path.{◌≡◌, refl, subst}
-use mathlib.Core.Option.{Option, none, some}
 use mathlib.Core.List.{List}
+use Rattle.std.specs.Prelude.{Option, Some, None}
 use native.Mathlib.Omega.{arith}
 use Rattle.plan.specs.declared.Counts.{Counts}
 use Rattle.plan.specs.declared.Refusal.{Refusal}
@@ -39,8 +39,8 @@ apart r k e h = record {
 
 spared-past : {A : Type 0} (o : Option ℕ) (r : ℕ → Refusal) (f : ℕ → ℕ → Parse A) (k : ℕ) → ((x : ℕ) → number_of (r x) ≡ k) → (k ≤ 8 → k ≤ 5)
     → Spared (f 0 0) → Spared (past o r then f)
-spared-past none r f k e h s = s
-spared-past (some x) r f k e h s = apart (r x) k (e x) h
+spared-past None r f k e h s = s
+spared-past (Some x) r f k e h s = apart (r x) k (e x) h
 
 spared-then : {A B : Type 0} (p : Parse A) (f : A → ℕ → Parse B) → Spared p → ((a : A) (n : ℕ) → Spared (f a n)) → Spared (p then f)
 spared-then (got a n) f h k = k a n
@@ -70,7 +70,7 @@ cards-apart file lengths r q = subst Spared q whole
 
 -- and the circuit of accepted cards would not be
 pub cards-spared : (file lengths : List ℕ) → Bytes file → (c : Circuit) (start : ℕ) → read_cards file lengths ≡ got c start
-    → (twice_in c ≡ none) × (undefined_in c ≡ none) × (cyclic_in c ≡ none)
+    → (twice_in c ≡ None) × (undefined_in c ≡ None) × (cyclic_in c ≡ None)
 cards-spared file lengths bytes c start q =
     let s = cards-state file lengths c start q bytes in
     let w = s.formed in

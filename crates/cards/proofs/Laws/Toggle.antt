@@ -4,7 +4,7 @@ use Prim.Native.Nat.{ℕ}
 use mathlib.Core.Path.{◌≡◌, refl}
 use mathlib.Core.List.{List, []}
 use lib.ListN.{take, replicate}
-use Rattle.plan.specs.declared.Written.TheVariants as written
+use Rattle.std.specs.Prelude.{Ok}
 use Rattle.plan.specs.Circuit.{seven}
 use Rattle.plan.specs.Outcome.{ReadEntry, LoadExit, load, FileEntry, FileExit, write_binary}
 use Rattle.plan.specs.Cards.{load_cards, write_cards}
@@ -32,24 +32,24 @@ to_write x = record {
 abbrev filed : FileExit
 filed = write_binary (to_write (load_cards (to_read toggle_cards)))
 
-pub toggle-filed : (filed.answer ≡ written.Bytes 29) × (take 29 filed.out ≡ toggle_binary)
+pub toggle-filed : (filed.answer ≡ Ok 29) × (take 29 filed.out ≡ toggle_binary)
 toggle-filed = (refl, refl)
 
 abbrev filed-back : FileExit
 filed-back = write_cards (to_write (load (to_read (take 29 filed.out))))
 
-pub toggle-filed-back : (filed-back.answer ≡ written.Bytes 80) × (take 80 filed-back.out ≡ toggle_cards)
+pub toggle-filed-back : (filed-back.answer ≡ Ok 80) × (take 80 filed-back.out ≡ toggle_cards)
 toggle-filed-back = (refl, refl)
 
 -- from binary, and back
 abbrev carded : FileExit
 carded = write_cards (to_write (load (to_read toggle_binary)))
 
-pub toggle-carded : (carded.answer ≡ written.Bytes 80) × (take 80 carded.out ≡ toggle_cards)
+pub toggle-carded : (carded.answer ≡ Ok 80) × (take 80 carded.out ≡ toggle_cards)
 toggle-carded = (refl, refl)
 
 abbrev carded-back : FileExit
 carded-back = write_binary (to_write (load_cards (to_read (take 80 carded.out))))
 
-pub toggle-carded-back : (carded-back.answer ≡ written.Bytes 29) × (take 29 carded-back.out ≡ toggle_binary)
+pub toggle-carded-back : (carded-back.answer ≡ Ok 29) × (take 29 carded-back.out ≡ toggle_binary)
 toggle-carded-back = (refl, refl)

@@ -3,8 +3,8 @@ use Prim.Native.Nat.{ℕ, ◌+◌, ◌≤◌}
 use mathlib.Core.Path.{◌≡◌, refl, sym, ap, ap₂, ◌∙◌, subst}
 use mathlib.Core.Bool.{true, ◌&&◌}
 use mathlib.Core.Logic.{inl}
-use mathlib.Core.Option.{Option, none}
 use mathlib.Core.List.{List, [], ◌∷◌, ◌++◌, append-nil}
+use Rattle.std.specs.Prelude.{Ok, Option, None}
 use native.Mathlib.Omega.{arith}
 use borrow.Author.Tests.{eq-eqb, le-leb}
 use lib.Dec.{eqb}
@@ -14,8 +14,6 @@ use Rattle.plan.specs.declared.Version.{Version}
 use Rattle.plan.specs.declared.Version.TheVariants.{V2007, V19}
 use Rattle.plan.specs.declared.Counts.{Counts}
 use Rattle.plan.specs.declared.Refusal.{Refusal}
-use Rattle.plan.specs.declared.Loaded.TheVariants as loaded
-use Rattle.plan.specs.declared.Written.TheVariants as written
 use Rattle.plan.specs.Refusals.{got, first_of}
 use Rattle.plan.specs.Circuit.{Circuit, Tables, counts_of, circuit_of, lengths_of, words_to_work, against, least_short}
 use Rattle.plan.specs.Header.{Head, binary, header, form_in}
@@ -44,7 +42,7 @@ use Rattle.cards.proofs.Laws.Calls.{CardCall, card_circuit, read-cards, card-sta
 pub record Roomy (e : FileEntry) (n : Counts) (t : Tables) (bytes : List ℕ) : Type 0 where
   pub handed : Handed e.circuit n t
   pub tail : e.tail ≡ []
-  pub words : least_short (against 1 (words_to_work n) (lengths_of e.circuit.tables e.circuit.scratch)) ≡ none
+  pub words : least_short (against 1 (words_to_work n) (lengths_of e.circuit.tables e.circuit.scratch)) ≡ None
   pub space : length bytes ≤ length e.out
 
 -- no stage of such a writer refuses a well-formed circuit in binary order
@@ -57,26 +55,26 @@ module _ (c : Circuit) (w : WellFormed c) (o : binary_order c ≡ true) (n : Cou
     holds : given_circuit g ≡ c
     holds = x.handed.1 ∙ left
 
-    order : order_stage g ≡ none
+    order : order_stage g ≡ None
     order = let in_order : binary_order (given_circuit g) ≡ true = ap binary_order holds ∙ o in rw in_order
 
-    tails : tail_stage g e.tail ≡ none
+    tails : tail_stage g e.tail ≡ None
     tails = ap (tail_stage g) x.tail
 
-    room : (bytes : List ℕ) → bytes ≡ file → room_stage e.out bytes ≡ none
+    room : (bytes : List ℕ) → bytes ≡ file → room_stage e.out bytes ≡ None
     room bytes same =
         let long : 0 + length file ≤ length e.out = omega (arith, x.space) in
         ap (room_stage e.out) same ∙ rw (le-leb (0 + length file) (length e.out) long)
 
-    done : (last : List (Option Refusal)) (bytes : List ℕ) → bytes ≡ file → first_of last ≡ none
-        → written_by (first_of (stages g (lent_alone g) ++ last)) e bytes ≡ written_by none e file
+    done : (last : List (Option Refusal)) (bytes : List ℕ) → bytes ≡ file → first_of last ≡ None
+        → written_by (first_of (stages g (lent_alone g) ++ last)) e bytes ≡ written_by None e file
     done last bytes same passed =
-        let words : least_short (lent_alone g) ≡ none
+        let words : least_short (lent_alone g) ≡ None
         = ap (λ (m : Counts). least_short (against 1 (words_to_work m) (lengths_of g.tables g.scratch))) x.handed.0 ∙ x.words in
         let fine = fine-nothing g (lent_alone g) (formed-fine g (lent_alone g) c holds (x.handed.0 ∙ counts) w words) in
         ap₂ (λ (r : Option Refusal) (l : List ℕ). written_by r e l) (both_first (stages g (lent_alone g)) last fine ∙ passed) same
 
-  binary-done : Roomy e n t (binary_of c) → write_binary e ≡ written_by none e (binary_of c)
+  binary-done : Roomy e n t (binary_of c) → write_binary e ≡ written_by None e (binary_of c)
   binary-done x =
       let file = binary_of c in
       let bytes = binary_of (given_circuit g) ++ e.tail in
@@ -85,14 +83,14 @@ module _ (c : Circuit) (w : WellFormed c) (o : binary_order c ≡ true) (n : Cou
       done file x (order_stage g ∷ tail_stage g e.tail ∷ room_stage e.out bytes ∷ []) bytes same
       (rw (order file x, tails file x, room file x bytes same))
 
-  cards-done : holdable c ≡ true → Roomy e n t (cards_of c) → write_cards e ≡ written_by none e (cards_of c)
+  cards-done : holdable c ≡ true → Roomy e n t (cards_of c) → write_cards e ≡ written_by None e (cards_of c)
   cards-done k x =
       let file = cards_of c in
       let bytes = cards_of (given_circuit g) in
       let same : cards_of (given_circuit g) ≡ cards_of c = ap cards_of (holds file x) in
       let held : (eqb (length e.tail) 0 && holdable (given_circuit g)) ≡ true
       = and_intro (eqb (length e.tail) 0) (holdable (given_circuit g)) (eq-eqb _ _ (ap length x.tail)) (ap holdable (holds file x) ∙ k) in
-      let carded : card_stage g e.tail ≡ none = rw held in
+      let carded : card_stage g e.tail ≡ None = rw held in
       done file x (order_stage g ∷ tail_stage g e.tail ∷ card_stage g e.tail ∷ room_stage e.out bytes ∷ []) bytes same
       (rw (order file x, tails file x, carded, room file x bytes same))
 
@@ -106,7 +104,7 @@ cards-roomy k bytes out h =
     record { handed = (refl, refl); tail = refl; words = (nothing-fine after (lent_alone after) (read-cards k).2.fine).room; space = h }
 
 -- the bytes of a writer that was done
-done-file : (e : FileEntry) (bytes : List ℕ) (x : FileExit) → x ≡ written_by none e bytes → take (length bytes) x.out ≡ bytes
+done-file : (e : FileEntry) (bytes : List ℕ) (x : FileExit) → x ≡ written_by None e bytes → take (length bytes) x.out ≡ bytes
 done-file e bytes x d = ap (λ (y : FileExit). take (length bytes) y.out) d ∙ put_first e.out bytes
 
 -- a reader with room: of AIGER, and of cards, that a writer wrote
@@ -130,10 +128,10 @@ module _ (c : Circuit) (w : WellFormed c) (o : binary_order c ≡ true) where
 -- cards that were read are written as binary, read and written as cards: the same bytes
 pub cards-there-and-back : (k : CardCall)
     → (b : FileEntry) → Roomy b k.counts (load_cards k.entry).tables (binary_of (card_circuit k))
-    → (n : ℕ) × ((write_binary b).answer ≡ written.Bytes n)
+    → (n : ℕ) × ((write_binary b).answer ≡ Ok n)
     × ((r : ReadEntry) → r.file ≡ take n (write_binary b).out → LongEnoughToRead r.file (card_circuit k) (lengths_of r.tables r.scratch)
-    → (m : Counts) × (s : ℕ) × ((load r).answer ≡ loaded.Accepted m s) × (drop s r.file ≡ [])
-    × ((w : FileEntry) → Roomy w m (load r).tables k.entry.file → write_cards w ≡ written_by none w k.entry.file))
+    → (m : Counts) × (s : ℕ) × ((load r).answer ≡ Ok (m, s)) × (drop s r.file ≡ [])
+    × ((w : FileEntry) → Roomy w m (load r).tables k.entry.file → write_cards w ≡ written_by None w k.entry.file))
 cards-there-and-back k b room =
     let c = card_circuit k in
     let st = card-states k in
@@ -147,7 +145,7 @@ cards-there-and-back k b room =
             read.0,
             ap (λ (x : LoadExit). x.answer) read.1,
             read.2,
-            λ w x. subst (λ (l : List ℕ). Roomy w (counts_of c) (load r).tables l → write_cards w ≡ written_by none w l) (sym st.cards)
+            λ w x. subst (λ (l : List ℕ). Roomy w (counts_of c) (load r).tables l → write_cards w ≡ written_by None w l) (sym st.cards)
                 (cards-done c st.formed st.order (counts_of c) (load r).tables refl left_there w st.held) x,
           ),
     )
@@ -157,10 +155,10 @@ cards-there-and-back k b room =
 abbrev pub CardsAndBack : ReadCall → Type 0
 CardsAndBack r =
     (w : FileEntry) → Roomy w r.counts (load_as r.version r.entry).tables (cards_of (read_circuit r))
-    → (n : ℕ) × ((write_cards w).answer ≡ written.Bytes n)
+    → (n : ℕ) × ((write_cards w).answer ≡ Ok n)
     × ((e : ReadEntry) → e.file ≡ take n (write_cards w).out → LongEnough (read_circuit r) (lengths_of e.tables e.scratch)
-    → (m : Counts) × (s : ℕ) × ((load_cards e).answer ≡ loaded.Accepted m s) × (drop s e.file ≡ [])
-    × ((b : FileEntry) → Roomy b m (load_cards e).tables r.entry.file → write_binary b ≡ written_by none b r.entry.file))
+    → (m : Counts) × (s : ℕ) × ((load_cards e).answer ≡ Ok (m, s)) × (drop s e.file ≡ [])
+    × ((b : FileEntry) → Roomy b m (load_cards e).tables r.entry.file → write_binary b ≡ written_by None b r.entry.file))
 
 and-back : (r : ReadCall) → binary_order (read_circuit r) ≡ true → binary_of (read_circuit r) ≡ r.entry.file → holdable (read_circuit r) ≡ true
     → CardsAndBack r
@@ -177,7 +175,7 @@ and-back r o file-is held w room =
             length e.file,
             ap (λ (x : LoadExit). x.answer) read,
             drop-length e.file,
-            λ b x. subst (λ (l : List ℕ). Roomy b (counts_of c) (load_cards e).tables l → write_binary b ≡ written_by none b l) file-is
+            λ b x. subst (λ (l : List ℕ). Roomy b (counts_of c) (load_cards e).tables l → write_binary b ≡ written_by None b l) file-is
                 (binary-done c f o (counts_of c) (load_cards e).tables refl left_there b) x,
           ),
     )

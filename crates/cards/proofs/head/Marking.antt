@@ -2,8 +2,8 @@
 use Prim.Native.Nat.{ℕ, suc, ◌+◌, ◌-◌, ◌*◌, ◌<◌}
 use mathlib.Core.Path.{◌≡◌, sym, ap, ◌∙◌}
 use mathlib.Core.Bool.{Bool, true, cond}
-use mathlib.Core.Option.{Option, some}
 use mathlib.Core.List.{List}
+use Rattle.std.specs.Prelude.{Option, Some}
 use native.Mathlib.Nat.{mul-suc}
 use native.Mathlib.Numerals.{add-one}
 use native.Mathlib.Omega.{arith}
@@ -26,7 +26,7 @@ module _ (file : List ℕ) (letter size n at : ℕ) where
       let place : next + size ≡ at + size * (i + 1) = omega arith in
       s
       ∙ (ap (λ (k : ℕ). wrong_in letter size k next (drop next file)) one
-      ∙ (ap (λ (l : List ℕ). cond (marked letter (drop next file)) (wrong_in letter size (n - (i + 1)) (next + size) l) (some next))
+      ∙ (ap (λ (l : List ℕ). cond (marked letter (drop next file)) (wrong_in letter size (n - (i + 1)) (next + size) l) (Some next))
       (drop-drop size next file)
-      ∙ (ap (λ (b : Bool). cond b (wrong_in letter size (n - (i + 1)) (next + size) (drop (next + size) file)) (some next)) (sym e ∙ f)
+      ∙ (ap (λ (b : Bool). cond b (wrong_in letter size (n - (i + 1)) (next + size) (drop (next + size) file)) (Some next)) (sym e ∙ f)
       ∙ ap (λ (k : ℕ). wrong_in letter size (n - (i + 1)) k (drop k file)) place)))

@@ -1,9 +1,8 @@
 -- From the head's answer, 4 and the judged tables to the reader's answer.
 use Prim.Native.Nat.{ℕ, zero, suc, ◌+◌, ◌≤◌}
 use mathlib.Core.Path.{◌≡◌, refl, sym, ap, ap₂, ◌∙◌, subst}
-use mathlib.Core.Bool.{Bool}
-use mathlib.Core.Option.{Option, none, some}
 use mathlib.Core.List.{List, [], ◌∷◌, ◌++◌}
+use Rattle.std.specs.Prelude.{Ok, Err, Option, Some, None}
 use native.Mathlib.Nat.{zero-add}
 use native.Mathlib.Omega.{arith}
 use borrow.Author.Tests.{eqb-true}
@@ -11,9 +10,6 @@ use lib.ListN.{length, drop, replicate, length-replicate}
 use Rattle.plan.specs.declared.Counts.{Counts}
 use Rattle.plan.specs.declared.Refusal.{Refusal}
 use Rattle.plan.specs.declared.Refusal.TheVariants.{ShortTable, OutOfRange, NotInOrder}
-use Rattle.plan.specs.declared.Checked.TheVariants as checked
-use Rattle.plan.specs.declared.Headed.TheVariants as headed
-use Rattle.plan.specs.declared.Loaded.TheVariants.{Accepted, Refused}
 use Rattle.plan.specs.Literals.{most}
 use Rattle.plan.specs.Refusals.{Parse, got, refused, ◌then◌, stage, first_of}
 use Rattle.plan.specs.Circuit.{Circuit, Tables, seven, counts_of, circuit_of, words_to_work, against, least_short, cleared}
@@ -21,6 +17,7 @@ use Rattle.plan.specs.Binary.{binary_order}
 use Rattle.plan.specs.Given.{failing, outside_in}
 use Rattle.plan.specs.Outcome.{put, checked_by}
 use Rattle.laws.proofs.Held.{Holds, holds-circuit}
+use Rattle.laws.proofs.Pairs.{ok-pair}
 use Rattle.laws.proofs.Put.{put-none, put_same}
 use Rattle.laws.proofs.Reading.Short.{short_none}
 use Rattle.tables.specs.Held.{Fits}
@@ -33,14 +30,11 @@ use Rattle.cards.specs.head.Head.{headed_cards}
 use Rattle.cards.specs.fill.Filled.{Ready, FirstHold, judged_by}
 
 -- what an answer says of the head
-pub head-got : (p : Parse Counts) (b : Bool) (n : Counts) (at : ℕ) → headed.Accepted b n at ≡ headed_cards p → p ≡ got n at
-head-got (got m k) b n at e =
-    let m-is : m ≡ n = cc in
-    let k-is : k ≡ at = cc in
-    ap₂ got m-is k-is
-head-got (refused r) b n at e = let z : ◌≡◌ {A = ℕ} 0 1 = cc in absurd (omega arith)
+pub head-got : (p : Parse Counts) (n : Counts) (at : ℕ) → Ok (n, at) ≡ headed_cards p → p ≡ got n at
+head-got (got m k) n at e = let same = ok-pair n m at k e in ap₂ got (sym same.0) (sym same.1)
+head-got (refused r) n at e = let z : ◌≡◌ {A = ℕ} 0 1 = cc in absurd (omega arith)
 
-pub head-refused : (p : Parse Counts) (r : Refusal) → headed.Refused r ≡ headed_cards p → p ≡ refused r
+pub head-refused : (p : Parse Counts) (r : Refusal) → Err r ≡ headed_cards p → p ≡ refused r
 head-refused (got m k) r e = let z : ◌≡◌ {A = ℕ} 0 1 = cc in absurd (omega arith)
 head-refused (refused q) r e = let q-is : q ≡ r = cc in ap refused q-is
 
@@ -60,28 +54,28 @@ zeros-put table n blank h =
 
 -- 5, then 15
 judged-refused : (r : Refusal) (f : ℕ → ℕ → Parse Circuit) (o p : Option ℕ)
-    → checked.Refused r ≡ checked_by (first_of (stage OutOfRange o ∷ stage NotInOrder p ∷ []))
+    → Err r ≡ checked_by (first_of (stage OutOfRange o ∷ stage NotInOrder p ∷ []))
     → (past o OutOfRange then λ _ _. past p NotInOrder then f) ≡ refused r
-judged-refused r f none none e = let z : ◌≡◌ {A = ℕ} 0 1 = cc in absurd (omega arith)
-judged-refused r f none (some x) e = let r-is : NotInOrder x ≡ r = cc in ap refused r-is
-judged-refused r f (some x) p e = let r-is : OutOfRange x ≡ r = cc in ap refused r-is
+judged-refused r f None None e = let z : ◌≡◌ {A = ℕ} 0 1 = cc in absurd (omega arith)
+judged-refused r f None (Some x) e = let r-is : NotInOrder x ≡ r = cc in ap refused r-is
+judged-refused r f (Some x) p e = let r-is : OutOfRange x ≡ r = cc in ap refused r-is
 
 judged-good : (f : ℕ → ℕ → Parse Circuit) (o p : Option ℕ)
-    → checked.Good ≡ checked_by (first_of (stage OutOfRange o ∷ stage NotInOrder p ∷ []))
+    → Ok tt ≡ checked_by (first_of (stage OutOfRange o ∷ stage NotInOrder p ∷ []))
     → (past o OutOfRange then λ _ _. past p NotInOrder then f) ≡ f 0 0
-judged-good f none none e = refl
-judged-good f none (some x) e = let z : ◌≡◌ {A = ℕ} 0 1 = cc in absurd (omega arith)
-judged-good f (some x) p e = let z : ◌≡◌ {A = ℕ} 0 1 = cc in absurd (omega arith)
+judged-good f None None e = refl
+judged-good f None (Some x) e = let z : ◌≡◌ {A = ℕ} 0 1 = cc in absurd (omega arith)
+judged-good f (Some x) p e = let z : ◌≡◌ {A = ℕ} 0 1 = cc in absurd (omega arith)
 
 module _ (file : List ℕ) (t : Tables) (words : ℕ) where
   abbrev lens : List ℕ
   lens = lengths_in (sizes_of t) words
 
   told : (t' : Tables) (r : Refusal) → read_cards file (lengths_in (sizes_of t) words) ≡ refused r
-      → LoadedSays t (read_cards file (lengths_in (sizes_of t) words)) (Refused r) t'
-  told t' r e = subst (λ (q : Parse Circuit). LoadedSays t q (Refused r) t') (sym e) refl
+      → LoadedSays t (read_cards file (lengths_in (sizes_of t) words)) (Err r) t'
+  told t' r e = subst (λ (q : Parse Circuit). LoadedSays t q (Err r) t') (sym e) refl
 
-  pub take_head : (t' : Tables) (r : Refusal) → card_head file ≡ refused r → LoadedSays t (read_cards file (lengths_in (sizes_of t) words)) (Refused r) t'
+  pub take_head : (t' : Tables) (r : Refusal) → card_head file ≡ refused r → LoadedSays t (read_cards file (lengths_in (sizes_of t) words)) (Err r) t'
   take_head t' r e = told t' r (rw e)
 
   module _ (n : Counts) (at : ℕ) (head : card_head file ≡ got n at) where
@@ -97,11 +91,11 @@ module _ (file : List ℕ) (t : Tables) (words : ℕ) where
         (sym n-is)
         (h.2.0, h.2.1.1.0, h.2.1.1.1.0, h.2.1.1.1.1.0, eqb-true _ _ h.3, h.0, refl, refl)
 
-    pub take_short : (t' : Tables) (k : ℕ) → least_short (against 1 (words_to_work n) (lengths_in (sizes_of t) words)) ≡ some k
-        → LoadedSays t (read_cards file (lengths_in (sizes_of t) words)) (Refused (ShortTable k)) t'
+    pub take_short : (t' : Tables) (k : ℕ) → least_short (against 1 (words_to_work n) (lengths_in (sizes_of t) words)) ≡ Some k
+        → LoadedSays t (read_cards file (lengths_in (sizes_of t) words)) (Err (ShortTable k)) t'
     take_short t' k s = told t' (ShortTable k) (rw head (past-some ShortTable _ (least_short (against 1 (words_to_work n) lens)) k s))
 
-    module _ (s : least_short (against 1 (words_to_work n) (lengths_in (sizes_of t) words)) ≡ none) where
+    module _ (s : least_short (against 1 (words_to_work n) (lengths_in (sizes_of t) words)) ≡ None) where
       pub ready : Ready file n t.inputs t.latches t.outputs t.gates
       ready =
           let l = (short_none (against 1 (words_to_work n) lens)).0 s in
@@ -169,22 +163,22 @@ module _ (file : List ℕ) (t : Tables) (words : ℕ) where
         past-four r e = rw head (past-none ShortTable _ (least_short (against 1 (words_to_work n) lens)) s ∙ e)
 
         pub take-judged : (r : Refusal)
-            → checked.Refused r ≡ checked_by (first_of (judged_by (circuit_of n (seven inputs latches outputs gates t.resets t.bads t.constraints))))
-            → LoadedSays t (read_cards file (lengths_in (sizes_of t) words)) (Refused r)
+            → Err r ≡ checked_by (first_of (judged_by (circuit_of n (seven inputs latches outputs gates t.resets t.bads t.constraints))))
+            → LoadedSays t (read_cards file (lengths_in (sizes_of t) words)) (Err r)
             (seven inputs latches outputs gates t.resets t.bads t.constraints)
         take-judged r e =
             told after r (past-four (refused r)
             (judged-refused r _ (outside_in (carded file n)) (failing (binary_order (carded file n)))
             (e ∙ ap (λ (c : Circuit). checked_by (first_of (judged_by c))) circuit-is)))
 
-        pub take-good : checked.Good
+        pub take-good : Ok tt
             ≡ checked_by (first_of (judged_by (circuit_of n (seven inputs latches outputs gates t.resets t.bads t.constraints))))
-            → LoadedSays t (read_cards file (lengths_in (sizes_of t) words)) (Accepted n (length file))
+            → LoadedSays t (read_cards file (lengths_in (sizes_of t) words)) (Ok (n, length file))
             (seven inputs latches outputs gates t.resets t.bads t.constraints)
         take-good e =
             let whole : read_cards file (lengths_in (sizes_of t) words) ≡ got (carded file n) (length file)
             = past-four (got (carded file n) (length file))
             (judged-good _ (outside_in (carded file n)) (failing (binary_order (carded file n)))
             (e ∙ ap (λ (c : Circuit). checked_by (first_of (judged_by c))) circuit-is)) in
-            subst (λ (q : Parse Circuit). LoadedSays t q (Accepted n (length file)) after) (sym whole)
-            (ap (λ (m : Counts). Accepted m (length file)) (sym counts-are), holds)
+            subst (λ (q : Parse Circuit). LoadedSays t q (Ok (n, length file)) after) (sym whole)
+            (ap (λ (m : Counts). Ok (m, length file)) (sym counts-are), holds)

@@ -2,8 +2,8 @@
 use Prim.Native.Nat.{ℕ, ◌+◌, ◌-◌, ◌^◌, ◌≤◌, min}
 use mathlib.Core.Path.{◌≡◌, refl, sym, ap, ap₂, ◌∙◌}
 use mathlib.Core.Bool.{Bool, true, false, ◌&&◌}
-use mathlib.Core.Option.{Option, none, some}
 use mathlib.Core.List.{List, [], ◌∷◌, ◌++◌}
+use Rattle.std.specs.Prelude.{Ok, Err, Option, Some, None}
 use native.Mathlib.Omega.{arith}
 use borrow.Author.Tests.{eq-eqb, ne_eqb, leb-true, leb-false}
 use lib.Dec.{eqb, leb}
@@ -12,7 +12,6 @@ use Rattle.std.specs.List.{list_all}
 use Rattle.plan.specs.declared.Counts.{Counts}
 use Rattle.plan.specs.declared.Refusal.{Refusal}
 use Rattle.plan.specs.declared.Refusal.TheVariants.{NotOnCards, ShortBuffer}
-use Rattle.plan.specs.declared.Written.TheVariants.{Bytes, Refused}
 use Rattle.plan.specs.Refusals.{first_of, stage}
 use Rattle.plan.specs.Circuit.{counts_of}
 use Rattle.plan.specs.Given.{Given, given_circuit, failing, lent_alone, stages, order_stage, tail_stage, room_stage}
@@ -93,15 +92,15 @@ module _ (g : Given) (tail out bytes : List ℕ) where
   abbrev pub last : List (Option Refusal)
   last = card_stage g tail ∷ room_stage out bytes ∷ []
 
-  pub refused-first : (r : Refusal) → first_of (writer_stages true g tail) ≡ some r
-      → first_of (stages g (lent_alone g) ++ (order_stage g ∷ tail_stage g tail ∷ card_stage g tail ∷ room_stage out bytes ∷ [])) ≡ some r
+  pub refused-first : (r : Refusal) → first_of (writer_stages true g tail) ≡ Some r
+      → first_of (stages g (lent_alone g) ++ (order_stage g ∷ tail_stage g tail ∷ card_stage g tail ∷ room_stage out bytes ∷ [])) ≡ Some r
   refused-first r e = some_first r before last e
 
-  pub at-nineteen : first_of (writer_stages true g tail) ≡ none → (eqb (length tail) 0 && holdable (given_circuit g)) ≡ false
-      → first_of (stages g (lent_alone g) ++ (order_stage g ∷ tail_stage g tail ∷ card_stage g tail ∷ room_stage out bytes ∷ [])) ≡ some (NotOnCards 0)
+  pub at-nineteen : first_of (writer_stages true g tail) ≡ None → (eqb (length tail) 0 && holdable (given_circuit g)) ≡ false
+      → first_of (stages g (lent_alone g) ++ (order_stage g ∷ tail_stage g tail ∷ card_stage g tail ∷ room_stage out bytes ∷ [])) ≡ Some (NotOnCards 0)
   at-nineteen e h = both_first before last e ∙ ap (λ (b : Bool). first_of (stage NotOnCards (failing b) ∷ room_stage out bytes ∷ [])) h
 
-  pub past-nineteen : first_of (writer_stages true g tail) ≡ none → (eqb (length tail) 0 && holdable (given_circuit g)) ≡ true
+  pub past-nineteen : first_of (writer_stages true g tail) ≡ None → (eqb (length tail) 0 && holdable (given_circuit g)) ≡ true
       → first_of (stages g (lent_alone g) ++ (order_stage g ∷ tail_stage g tail ∷ card_stage g tail ∷ room_stage out bytes ∷ [])) ≡ room_stage out bytes
   past-nineteen e h =
       both_first before last e
@@ -135,7 +134,7 @@ module _ (n : Counts) (latches outputs gates : List ℕ) (k : Cardable n latches
       )
 
   pub no_room : (out : List ℕ) (size : ℕ) → size ≡ card_bytes n → (b : Bool) → b ≡ leb (0 + size) (length out) → b ≡ false
-      → ◌≡◌ {A = WriteExit} (record { answer = Refused (ShortBuffer size); out = out }) (put_bytes out 0 (table_cards n latches outputs gates))
+      → ◌≡◌ {A = WriteExit} (record { answer = Err (ShortBuffer size); out = out }) (put_bytes out 0 (table_cards n latches outputs gates))
   no_room out size s b e f =
       let short = leb-false (0 + size) (length out) (sym e ∙ f) in
       without-room out 0 (table_cards n latches outputs gates) size (omega (arith, table-size))
@@ -146,6 +145,6 @@ module _ (n : Counts) (latches outputs gates : List ℕ) (k : Cardable n latches
   enough out size s b e f = omega (arith, leb-true (0 + size) (length out) (sym e ∙ f))
 
   pub with-cards : (out out' : List ℕ) (r : ℕ) → card_bytes n ≤ length out → r ≡ card_bytes n → out' ≡ put out 0 (table_cards n latches outputs gates)
-      → ◌≡◌ {A = WriteExit} (record { answer = Bytes r; out = out' }) (put_bytes out 0 (table_cards n latches outputs gates))
+      → ◌≡◌ {A = WriteExit} (record { answer = Ok r; out = out' }) (put_bytes out 0 (table_cards n latches outputs gates))
   with-cards out out' r h e p =
       with-room out 0 (table_cards n latches outputs gates) r out' (omega (arith, table-size)) (omega (arith, table-size)) p

@@ -3,13 +3,14 @@ use Prim.Native.Nat.{ℕ, suc, ◌+◌, ◌-◌, ◌*◌, ◌<◌, ◌≤◌, mi
 use mathlib.Core.Path.{◌≡◌, sym, ap, ◌∙◌}
 use mathlib.Core.List.{List, [], ◌∷◌}
 use mathlib.Core.Bool.{true}
+use Rattle.std.specs.Prelude.{Err}
+use Rattle.plan.specs.declared.Refusal.TheVariants.{WrongByte}
 use native.Mathlib.Omega.{arith}
 use native.Mathlib.Nat.{le_refl, le_trans}
 use native.Mathlib.Decide.{dec_le}
 use lib.ListN.{length, drop, get_or, get_or-eq_default}
 use Rattle.plan.specs.declared.Class.{Class}
 use Rattle.plan.specs.declared.Class.TheVariants.{Digit}
-use Rattle.plan.specs.declared.Number.TheVariants.{Wrong}
 use Rattle.plan.specs.Literals.{beyond}
 use Rattle.plan.specs.Bytes.{class_of, digit_class, span, decimal, number_by}
 use Rattle.plan.specs.Outcome.{cut_number, number_at}
@@ -32,7 +33,7 @@ cut k v l = by_size (dec_le v k)
 
 -- a number that does not start
 module _ (s : List ℕ) (at : ℕ) where
-  pub past_end : length s ≤ at → Wrong at ≡ number_at s at
+  pub past_end : length s ≤ at → Err (WrongByte at) ≡ number_at s at
   past_end h = ap (λ (b : ℕ). cut_number (number_by (class_of b) (drop at s) at)) (sym (get_or-eq_default s 0 h))
 
   -- by the class of its first byte

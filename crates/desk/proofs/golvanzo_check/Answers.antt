@@ -1,14 +1,10 @@
 -- Whether given tables hold a circuit that a reader could have accepted: number (0: they do) and place. Each answer is given by `check-told`.
-use native.Mathlib.Omega.{arith}
 use Rattle.plan.specs.Circuit.{seven}
 use Rattle.plan.specs.Header.{counts_from}
 use Rattle.plan.specs.Given.{Given}
 use Rattle.judge.specs.Judged.{given_at}
 use Rattle.desk.proofs.Answers.{check-told}
 use Rattle.desk.proofs.golvanzo_check.Goals as goal
-
-pub shape_of-scratch : goal.shape_of-scratch
-shape_of-scratch c = omega (arith, c.check-r.auto.scratch)
 
 pub returns : goal.returns
 returns c =

@@ -1,6 +1,5 @@
 -- What made an output 0 or 1 in a step of given tables, which are in binary order: number (0: explained) and place. Each answer is given by
 -- `explain-told`.
-use native.Mathlib.Omega.{arith}
 use Rattle.plan.specs.Circuit.{seven}
 use Rattle.plan.specs.Header.{counts_from}
 use Rattle.plan.specs.Given.{Given}
@@ -8,12 +7,6 @@ use Rattle.judge.specs.Judged.{given_at}
 use Rattle.plan.specs.Explain.{ExplainExit}
 use Rattle.desk.proofs.Answers.{explain-told}
 use Rattle.desk.proofs.golvanzo_explain.Goals as goal
-
-pub shape_of-scratch : goal.shape_of-scratch
-shape_of-scratch c = omega (arith, c.explain-r.auto.scratch)
-
-pub shape_of-marks : goal.shape_of-marks
-shape_of-marks c = omega (arith, c.explain-r.auto.marks)
 
 pub returns : goal.returns
 returns c =

@@ -23,34 +23,6 @@ overflow_sub-result c =
     } in
     omega (arith, tail-shorter V2007 e x c.read-tail.ensures)
 
-pub shape_of-inputs : goal.shape_of-inputs
-shape_of-inputs c =
-    omega (
-      arith,
-      c.read-tail.auto.inputs,
-    )
-
-pub shape_of-latches : goal.shape_of-latches
-shape_of-latches c = omega (arith, c.read-tail.auto.latches)
-
-pub shape_of-outputs : goal.shape_of-outputs
-shape_of-outputs c = omega (arith, c.read-tail.auto.outputs)
-
-pub shape_of-gates : goal.shape_of-gates
-shape_of-gates c = omega (arith, c.read-tail.auto.gates)
-
-pub shape_of-resets : goal.shape_of-resets
-shape_of-resets c = omega (arith, c.read-tail.auto.resets)
-
-pub shape_of-bads : goal.shape_of-bads
-shape_of-bads c = omega (arith, c.read-tail.auto.bads)
-
-pub shape_of-constraints : goal.shape_of-constraints
-shape_of-constraints c = omega (arith, c.read-tail.auto.constraints)
-
-pub shape_of-scratch : goal.shape_of-scratch
-shape_of-scratch c = omega (arith, c.read-tail.auto.scratch)
-
 pub returns : goal.returns
 returns c =
     let a = c.args in

@@ -1,5 +1,4 @@
 -- Reduces the circuit in given tables, which are in binary order, into written ones: the same answer. Each answer is given by `made_told`.
-use native.Mathlib.Omega.{arith}
 use Rattle.plan.specs.Circuit.{seven}
 use Rattle.plan.specs.Circuit.{Tables}
 use Rattle.plan.specs.Header.{counts_from}
@@ -8,34 +7,6 @@ use Rattle.judge.specs.Judged.{given_at}
 use Rattle.plan.specs.Outcome.{MakeExit, reduction}
 use Rattle.desk.proofs.Answers.{made_told}
 use Rattle.desk.proofs.golvanzo_reduce.Goals as goal
-
-pub shape_of-to_inputs : goal.shape_of-to_inputs
-shape_of-to_inputs c = omega (arith, c.reduce-r.auto.to_inputs)
-
-pub shape_of-to_latches : goal.shape_of-to_latches
-shape_of-to_latches c =
-    omega (
-      arith,
-      c.reduce-r.auto.to_latches,
-    )
-
-pub shape_of-to_outputs : goal.shape_of-to_outputs
-shape_of-to_outputs c = omega (arith, c.reduce-r.auto.to_outputs)
-
-pub shape_of-to_gates : goal.shape_of-to_gates
-shape_of-to_gates c = omega (arith, c.reduce-r.auto.to_gates)
-
-pub shape_of-to_resets : goal.shape_of-to_resets
-shape_of-to_resets c = omega (arith, c.reduce-r.auto.to_resets)
-
-pub shape_of-to_bads : goal.shape_of-to_bads
-shape_of-to_bads c = omega (arith, c.reduce-r.auto.to_bads)
-
-pub shape_of-to_constraints : goal.shape_of-to_constraints
-shape_of-to_constraints c = omega (arith, c.reduce-r.auto.to_constraints)
-
-pub shape_of-scratch : goal.shape_of-scratch
-shape_of-scratch c = omega (arith, c.reduce-r.auto.scratch)
 
 pub returns : goal.returns
 returns c =

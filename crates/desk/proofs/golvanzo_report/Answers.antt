@@ -1,5 +1,4 @@
 -- The needle report of a list of vectors: number (0: reported) and place; the numbers go to table 6. Each answer is given by `report-told`.
-use native.Mathlib.Omega.{arith}
 use Rattle.plan.specs.Circuit.{seven}
 use Rattle.plan.specs.Header.{counts_from}
 use Rattle.plan.specs.Given.{Given}
@@ -7,12 +6,6 @@ use Rattle.judge.specs.Judged.{given_at}
 use Rattle.plan.specs.Report.{ReportExit}
 use Rattle.desk.proofs.Reporting.{report-told}
 use Rattle.desk.proofs.golvanzo_report.Goals as goal
-
-pub shape_of-scratch : goal.shape_of-scratch
-shape_of-scratch c = omega (arith, c.report-r.auto.scratch)
-
-pub shape_of-six : goal.shape_of-six
-shape_of-six c = omega (arith, c.report-r.auto.six)
 
 pub returns : goal.returns
 returns c =

@@ -1,5 +1,4 @@
 -- The row report of up to 64 rows, into table 6: number (0: reported) and place. Each answer is given by `report-told`.
-use native.Mathlib.Omega.{arith}
 use Rattle.plan.specs.Circuit.{seven}
 use Rattle.plan.specs.Header.{counts_from}
 use Rattle.plan.specs.Given.{Given}
@@ -7,12 +6,6 @@ use Rattle.judge.specs.Judged.{given_at}
 use Rattle.plan.specs.Rows.{RowReportExit}
 use Rattle.desk.proofs.RowsAnswers.{report-told}
 use Rattle.desk.proofs.golvanzo_report_rows.Goals as goal
-
-pub shape_of-scratch : goal.shape_of-scratch
-shape_of-scratch c = omega (arith, c.report_rows-r.auto.scratch)
-
-pub shape_of-report : goal.shape_of-report
-shape_of-report c = omega (arith, c.report_rows-r.auto.report)
 
 pub returns : goal.returns
 returns c =

@@ -1,5 +1,4 @@
 -- Up to 64 rows, each stepped once from the resets: number (0: stepped) and place. Each answer is given by `rows_told`.
-use native.Mathlib.Omega.{arith}
 use Rattle.plan.specs.Circuit.{seven}
 use Rattle.plan.specs.Header.{counts_from}
 use Rattle.plan.specs.Given.{Given}
@@ -7,15 +6,6 @@ use Rattle.judge.specs.Judged.{given_at}
 use Rattle.plan.specs.Rows.{RowsExit}
 use Rattle.desk.proofs.RowsAnswers.{rows_told}
 use Rattle.desk.proofs.golvanzo_rows.Goals as goal
-
-pub shape_of-scratch : goal.shape_of-scratch
-shape_of-scratch c = omega (arith, c.step_rows-r.auto.scratch)
-
-pub shape_of-nexts : goal.shape_of-nexts
-shape_of-nexts c = omega (arith, c.step_rows-r.auto.nexts)
-
-pub shape_of-outs : goal.shape_of-outs
-shape_of-outs c = omega (arith, c.step_rows-r.auto.outs)
 
 pub returns : goal.returns
 returns c =

@@ -1,5 +1,4 @@
 -- One step of the circuit in given tables, which are in binary order: number (0: stepped) and place. Each answer is given by `step-told`.
-use native.Mathlib.Omega.{arith}
 use Rattle.plan.specs.Circuit.{seven}
 use Rattle.plan.specs.Header.{counts_from}
 use Rattle.plan.specs.Given.{Given}
@@ -7,15 +6,6 @@ use Rattle.judge.specs.Judged.{given_at}
 use Rattle.plan.specs.Outcome.{StepExit, step}
 use Rattle.desk.proofs.Answers.{step-told}
 use Rattle.desk.proofs.golvanzo_step.Goals as goal
-
-pub shape_of-scratch : goal.shape_of-scratch
-shape_of-scratch c = omega (arith, c.step-r.auto.scratch)
-
-pub shape_of-state : goal.shape_of-state
-shape_of-state c = omega (arith, c.step-r.auto.state)
-
-pub shape_of-outs : goal.shape_of-outs
-shape_of-outs c = omega (arith, c.step-r.auto.outs)
 
 pub returns : goal.returns
 returns c =

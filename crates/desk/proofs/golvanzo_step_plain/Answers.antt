@@ -1,5 +1,4 @@
 -- The same by the plain engine, for at most 24 gates. Each answer is given by `step-told`.
-use native.Mathlib.Omega.{arith}
 use Rattle.plan.specs.Circuit.{seven}
 use Rattle.plan.specs.Header.{counts_from}
 use Rattle.plan.specs.Given.{Given}
@@ -8,15 +7,6 @@ use Rattle.plan.specs.Outcome.{StepExit}
 use Rattle.plan.specs.Plain.{plain_step}
 use Rattle.desk.proofs.Answers.{step-told}
 use Rattle.desk.proofs.golvanzo_step_plain.Goals as goal
-
-pub shape_of-scratch : goal.shape_of-scratch
-shape_of-scratch c = omega (arith, c.step_plain-r.auto.scratch)
-
-pub shape_of-state : goal.shape_of-state
-shape_of-state c = omega (arith, c.step_plain-r.auto.state)
-
-pub shape_of-outs : goal.shape_of-outs
-shape_of-outs c = omega (arith, c.step_plain-r.auto.outs)
 
 pub returns : goal.returns
 returns c =

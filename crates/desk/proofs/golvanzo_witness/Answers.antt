@@ -1,6 +1,5 @@
 -- The witness question by fillings, of which at most `allowance` are tried: number (0: answered), place, 1 for yes, 0 for no or 2 for undecided, and
 -- how many were tried. Each answer is given by `witness-told`.
-use native.Mathlib.Omega.{arith}
 use Rattle.plan.specs.Circuit.{seven}
 use Rattle.plan.specs.Header.{counts_from}
 use Rattle.plan.specs.Given.{Given}
@@ -8,9 +7,6 @@ use Rattle.judge.specs.Judged.{given_at}
 use Rattle.plan.specs.Fillings.{FilledExit}
 use Rattle.desk.proofs.Answers.{witness-told}
 use Rattle.desk.proofs.golvanzo_witness.Goals as goal
-
-pub shape_of-scratch : goal.shape_of-scratch
-shape_of-scratch c = omega (arith, c.witness-r.auto.scratch)
 
 pub returns : goal.returns
 returns c =

@@ -1,6 +1,5 @@
 -- The witness question in three values, in which nothing is filled: number (0: answered), place, and 1 for yes or 0 for no. Each answer is given by
 -- `witness3-told`.
-use native.Mathlib.Omega.{arith}
 use Rattle.plan.specs.Circuit.{seven}
 use Rattle.plan.specs.Header.{counts_from}
 use Rattle.plan.specs.Given.{Given}
@@ -8,9 +7,6 @@ use Rattle.judge.specs.Judged.{given_at}
 use Rattle.plan.specs.Outcome.{WitnessExit}
 use Rattle.desk.proofs.Answers.{witness3-told}
 use Rattle.desk.proofs.golvanzo_witness3.Goals as goal
-
-pub shape_of-scratch : goal.shape_of-scratch
-shape_of-scratch c = omega (arith, c.witness3-r.auto.scratch)
 
 pub returns : goal.returns
 returns c =

@@ -1,5 +1,4 @@
 -- The same in binary form. Each answer is given by `file-told`.
-use native.Mathlib.Omega.{arith}
 use Rattle.plan.specs.Circuit.{seven}
 use Rattle.plan.specs.Header.{counts_from}
 use Rattle.plan.specs.Given.{Given}
@@ -7,12 +6,6 @@ use Rattle.judge.specs.Judged.{given_at}
 use Rattle.plan.specs.Outcome.{FileExit, write_binary}
 use Rattle.desk.proofs.Answers.{file-told}
 use Rattle.desk.proofs.golvanzo_write_binary.Goals as goal
-
-pub shape_of-scratch : goal.shape_of-scratch
-shape_of-scratch c = omega (arith, c.write_binary-r.auto.scratch)
-
-pub shape_of-out : goal.shape_of-out
-shape_of-out c = omega (arith, c.write_binary-r.auto.out)
 
 pub returns : goal.returns
 returns c =

@@ -1,5 +1,4 @@
 -- Writes given tables in binary order as plan cards: number (0: written), place and the number of bytes. Each answer is given by `file-told`.
-use native.Mathlib.Omega.{arith}
 use Rattle.plan.specs.Circuit.{seven}
 use Rattle.plan.specs.Header.{counts_from}
 use Rattle.plan.specs.Given.{Given}
@@ -8,12 +7,6 @@ use Rattle.plan.specs.Outcome.{FileExit}
 use Rattle.plan.specs.Cards.{write_cards}
 use Rattle.desk.proofs.Answers.{file-told}
 use Rattle.desk.proofs.golvanzo_write_cards.Goals as goal
-
-pub shape_of-scratch : goal.shape_of-scratch
-shape_of-scratch c = omega (arith, c.write_cards-r.auto.scratch)
-
-pub shape_of-out : goal.shape_of-out
-shape_of-out c = omega (arith, c.write_cards-r.auto.out)
 
 pub returns : goal.returns
 returns c =

@@ -8,6 +8,7 @@ use Rattle.plan.specs.Literals.{most}
 use Rattle.plan.specs.Circuit.{Circuit, Tables, seven, circuit_of, all_cleared}
 use Rattle.plan.specs.Given.{Given}
 use Rattle.plan.specs.Drop.{drop_unused}
+use Rattle.laws.proofs.Pairs.{passed-on}
 use Rattle.laws.proofs.Walks.Later.{counts-drop}
 use Rattle.judge.specs.Judged.{given_at}
 use Rattle.reduce.proofs.Reducing.{Ready, inputs_in, latches-in, outputs-in, resets-in, bads-in, constraints-in}
@@ -36,7 +37,7 @@ retain_reached-retained-requires c =
     c.check_to_make.ensures (lent)
     (c.lengths-to.ensures ∙ sizes-cleared (lent) (wiped) (all-wiped)) in
     let core : Ready (given (blank)) (wiped) =
-    ready (circuit) (lent) c.check_to_make.result (blank) (judged) c.in-Good.is (wiped) (all-wiped) in
+    ready (circuit) (lent) c.check_to_make.result (blank) (judged) c.in_ok-check_to_make.was (wiped) (all-wiped) in
     reachable (given (blank)) (wiped) (core)
 
 pub overflow_mul-n : goal.overflow_mul-n
@@ -60,7 +61,7 @@ overflow_mul-n c =
     c.check_to_make.ensures (lent)
     (c.lengths-to.ensures ∙ sizes-cleared (lent) (wiped) (all-wiped)) in
     let core : Ready (given (blank)) (wiped) =
-    ready (circuit) (lent) c.check_to_make.result (blank) (judged) c.in-Good.is (wiped) (all-wiped) in
+    ready (circuit) (lent) c.check_to_make.result (blank) (judged) c.in_ok-check_to_make.was (wiped) (all-wiped) in
     let f = (core).good.fits in
     record { fits = omega (arith, f.sum, f.most-M) }
 
@@ -85,14 +86,14 @@ three_become-requires c =
     c.check_to_make.ensures (lent)
     (c.lengths-to.ensures ∙ sizes-cleared (lent) (wiped) (all-wiped)) in
     let core : Ready (given (blank)) (wiped) =
-    ready (circuit) (lent) c.check_to_make.result (blank) (judged) c.in-Good.is (wiped) (all-wiped) in
+    ready (circuit) (lent) c.check_to_make.result (blank) (judged) c.in_ok-check_to_make.was (wiped) (all-wiped) in
     let became : List ℕ =
     c.retain_reached-retained.new.t in
     let size = c.retain_reached-retained.auto.t in
     record { replaceable = inputs_in (given (blank)) (wiped) (core) (became) size; replaceable_2 = latches-in (given (blank)) (wiped) (core) (became) size; replaceable_3 = outputs-in (given (blank)) (wiped) (core) (became) size }
 
-pub three_become-requires-in-Good : goal.three_become-requires-in-Good
-three_become-requires-in-Good c =
+pub three_become-requires-2 : goal.three_become-requires-2
+three_become-requires-2 c =
     let given : List ℕ → Given =
     λ scratch. let a = c.args in
     given_at a.n (seven a.inputs.now a.latches.now a.outputs.now a.gates.now a.resets.now
@@ -112,7 +113,7 @@ three_become-requires-in-Good c =
     c.check_to_make.ensures (lent)
     (c.lengths-to.ensures ∙ sizes-cleared (lent) (wiped) (all-wiped)) in
     let core : Ready (given (blank)) (wiped) =
-    ready (circuit) (lent) c.check_to_make.result (blank) (judged) c.in-Good.is (wiped) (all-wiped) in
+    ready (circuit) (lent) c.check_to_make.result (blank) (judged) c.in_ok-check_to_make.was (wiped) (all-wiped) in
     let became : List ℕ =
     c.retain_reached-retained.new.t in
     let size = c.retain_reached-retained.auto.t in
@@ -139,7 +140,7 @@ overflow_add-result c =
     c.check_to_make.ensures (lent)
     (c.lengths-to.ensures ∙ sizes-cleared (lent) (wiped) (all-wiped)) in
     let core : Ready (given (blank)) (wiped) =
-    ready (circuit) (lent) c.check_to_make.result (blank) (judged) c.in-Good.is (wiped) (all-wiped) in
+    ready (circuit) (lent) c.check_to_make.result (blank) (judged) c.in_ok-check_to_make.was (wiped) (all-wiped) in
     let made : Circuit =
     let g = circuit in drop_unused (circuit_of g.counts g.tables) in
     let fewer : let g = circuit in length (made).gates ≤ length (circuit_of g.counts g.tables).gates =
@@ -147,14 +148,14 @@ overflow_add-result c =
     let became : List ℕ =
     c.retain_reached-retained.new.t in
     let sums : let a = c.args in a.n.I + a.n.L + c.retain_reached-retained.result ≤ most =
-    few (circuit) (lent) c.check_to_make.result (blank) (judged) c.in-Good.is (made) (fewer)
+    few (circuit) (lent) c.check_to_make.result (blank) (judged) c.in_ok-check_to_make.was (made) (fewer)
     c.retain_reached-retained.result
     (count (given (blank)) (wiped) (core) c.retain_reached-retained.new.to (became) c.retain_reached-retained.result
     c.retain_reached-retained.ensures) in
     omega (arith, sums)
 
-pub overflow_add-result-in-Good : goal.overflow_add-result-in-Good
-overflow_add-result-in-Good c =
+pub overflow_add-result-2 : goal.overflow_add-result-2
+overflow_add-result-2 c =
     let given : List ℕ → Given =
     λ scratch. let a = c.args in
     given_at a.n (seven a.inputs.now a.latches.now a.outputs.now a.gates.now a.resets.now
@@ -174,7 +175,7 @@ overflow_add-result-in-Good c =
     c.check_to_make.ensures (lent)
     (c.lengths-to.ensures ∙ sizes-cleared (lent) (wiped) (all-wiped)) in
     let core : Ready (given (blank)) (wiped) =
-    ready (circuit) (lent) c.check_to_make.result (blank) (judged) c.in-Good.is (wiped) (all-wiped) in
+    ready (circuit) (lent) c.check_to_make.result (blank) (judged) c.in_ok-check_to_make.was (wiped) (all-wiped) in
     let made : Circuit =
     let g = circuit in drop_unused (circuit_of g.counts g.tables) in
     let fewer : let g = circuit in length (made).gates ≤ length (circuit_of g.counts g.tables).gates =
@@ -182,38 +183,14 @@ overflow_add-result-in-Good c =
     let became : List ℕ =
     c.retain_reached-retained.new.t in
     let sums : let a = c.args in a.n.I + a.n.L + c.retain_reached-retained.result ≤ most =
-    few (circuit) (lent) c.check_to_make.result (blank) (judged) c.in-Good.is (made) (fewer)
+    few (circuit) (lent) c.check_to_make.result (blank) (judged) c.in_ok-check_to_make.was (made) (fewer)
     c.retain_reached-retained.result
     (count (given (blank)) (wiped) (core) c.retain_reached-retained.new.to (became) c.retain_reached-retained.result
     c.retain_reached-retained.ensures) in
     omega (arith, sums)
 
-pub shape_of-to_inputs-in-Refused : goal.shape_of-to_inputs-in-Refused
-shape_of-to_inputs-in-Refused c = c.clear_all.auto.inputs
-
-pub shape_of-to_latches-in-Refused : goal.shape_of-to_latches-in-Refused
-shape_of-to_latches-in-Refused c = c.clear_all.auto.latches
-
-pub shape_of-to_outputs-in-Refused : goal.shape_of-to_outputs-in-Refused
-shape_of-to_outputs-in-Refused c = c.clear_all.auto.outputs
-
-pub shape_of-to_gates-in-Refused : goal.shape_of-to_gates-in-Refused
-shape_of-to_gates-in-Refused c = c.clear_all.auto.gates
-
-pub shape_of-to_resets-in-Refused : goal.shape_of-to_resets-in-Refused
-shape_of-to_resets-in-Refused c = c.clear_all.auto.resets
-
-pub shape_of-to_bads-in-Refused : goal.shape_of-to_bads-in-Refused
-shape_of-to_bads-in-Refused c = c.clear_all.auto.bads
-
-pub shape_of-to_constraints-in-Refused : goal.shape_of-to_constraints-in-Refused
-shape_of-to_constraints-in-Refused c = c.clear_all.auto.constraints
-
-pub shape_of-scratch-in-Refused : goal.shape_of-scratch-in-Refused
-shape_of-scratch-in-Refused c = c.check_to_make.auto.scratch
-
-pub returns-in-Refused : goal.returns-in-Refused
-returns-in-Refused c =
+pub returns-in_err-check_to_make : goal.returns-in_err-check_to_make
+returns-in_err-check_to_make c =
     let given : List ℕ → Given =
     λ scratch. let a = c.args in
     given_at a.n (seven a.inputs.now a.latches.now a.outputs.now a.gates.now a.resets.now
@@ -232,44 +209,11 @@ returns-in-Refused c =
     let judged : Judged (circuit) (lent) c.check_to_make.result (blank) =
     c.check_to_make.ensures (lent)
     (c.lengths-to.ensures ∙ sizes-cleared (lent) (wiped) (all-wiped)) in
-    refused (circuit) (lent) c.check_to_make.result (blank) (judged) _ _ c.in-Refused.is (wiped) (all-wiped)
+    rw (passed-on _ c.from_residual.ensures.1)
+    (refused (circuit) (lent) c.check_to_make.result (blank) (judged) _ _ c.in_err-check_to_make.was (wiped) (all-wiped))
 
-pub shape_of-to_inputs-in-Good : goal.shape_of-to_inputs-in-Good
-shape_of-to_inputs-in-Good c =
-    c.three_become.auto.to_a
-    ∙ c.clear_all.auto.inputs
-
-pub shape_of-to_latches-in-Good : goal.shape_of-to_latches-in-Good
-shape_of-to_latches-in-Good c =
-    c.three_become.auto.to_b
-    ∙ c.clear_all.auto.latches
-
-pub shape_of-to_outputs-in-Good : goal.shape_of-to_outputs-in-Good
-shape_of-to_outputs-in-Good c =
-    c.three_become.auto.to_c
-    ∙ c.clear_all.auto.outputs
-
-pub shape_of-to_gates-in-Good : goal.shape_of-to_gates-in-Good
-shape_of-to_gates-in-Good c =
-    c.retain_reached-retained.auto.to
-    ∙ c.clear_all.auto.gates
-
-pub shape_of-to_resets-in-Good : goal.shape_of-to_resets-in-Good
-shape_of-to_resets-in-Good c =
-    c.three_become-in-Good.auto.to_a
-    ∙ c.clear_all.auto.resets
-
-pub shape_of-to_bads-in-Good : goal.shape_of-to_bads-in-Good
-shape_of-to_bads-in-Good c = c.three_become-in-Good.auto.to_b ∙ c.clear_all.auto.bads
-
-pub shape_of-to_constraints-in-Good : goal.shape_of-to_constraints-in-Good
-shape_of-to_constraints-in-Good c = c.three_become-in-Good.auto.to_c ∙ c.clear_all.auto.constraints
-
-pub shape_of-scratch-in-Good : goal.shape_of-scratch-in-Good
-shape_of-scratch-in-Good c = c.clear.auto.table ∙ c.retain_reached-retained.auto.t ∙ c.check_to_make.auto.scratch
-
-pub returns-in-Good : goal.returns-in-Good
-returns-in-Good c =
+pub returns : goal.returns
+returns c =
     let given : List ℕ → Given =
     λ scratch. let a = c.args in
     given_at a.n (seven a.inputs.now a.latches.now a.outputs.now a.gates.now a.resets.now
@@ -289,7 +233,7 @@ returns-in-Good c =
     c.check_to_make.ensures (lent)
     (c.lengths-to.ensures ∙ sizes-cleared (lent) (wiped) (all-wiped)) in
     let core : Ready (given (blank)) (wiped) =
-    ready (circuit) (lent) c.check_to_make.result (blank) (judged) c.in-Good.is (wiped) (all-wiped) in
+    ready (circuit) (lent) c.check_to_make.result (blank) (judged) c.in_ok-check_to_make.was (wiped) (all-wiped) in
     let made : Circuit =
     let g = circuit in drop_unused (circuit_of g.counts g.tables) in
     let fewer : let g = circuit in length (made).gates ≤ length (circuit_of g.counts g.tables).gates =
@@ -298,10 +242,10 @@ returns-in-Good c =
     c.retain_reached-retained.new.t in
     let left = seven c.three_become.new.to_a c.three_become.new.to_b c.three_become.new.to_c
     c.retain_reached-retained.new.to
-    c.three_become-in-Good.new.to_a c.three_become-in-Good.new.to_b c.three_become-in-Good.new.to_c in
-    accepted (circuit) (lent) c.check_to_make.result (blank) (judged) c.in-Good.is (made) (fewer)
+    c.three_become-2.new.to_a c.three_become-2.new.to_b c.three_become-2.new.to_c in
+    accepted (circuit) (lent) c.check_to_make.result (blank) (judged) c.in_ok-check_to_make.was (made) (fewer)
     (counts-drop (circuit_of (circuit).counts (circuit).tables)) (wiped) left c.retain_reached-retained.result (all-wiped)
     (written (given (blank)) (wiped) (core) c.retain_reached-retained.new.to (became) c.retain_reached-retained.result c.retain_reached-retained.ensures left c.three_become.ensures.to_a_after
     c.three_become.ensures.to_b_after
-    c.three_become.ensures.to_c_after refl c.three_become-in-Good.ensures.to_a_after c.three_become-in-Good.ensures.to_b_after c.three_become-in-Good.ensures.to_c_after)
+    c.three_become.ensures.to_c_after refl c.three_become-2.ensures.to_a_after c.three_become-2.ensures.to_b_after c.three_become-2.ensures.to_c_after)
     (length (became)) _ c.retain_reached-retained.auto.t c.clear.ensures

@@ -2,16 +2,14 @@
 use Prim.Native.Nat.{ℕ, zero, ◌+◌, ◌-◌, ◌*◌, ◌<◌, ◌≤◌}
 use mathlib.Core.Path.{◌≡◌, refl, sym, ap, ◌∙◌, subst}
 use mathlib.Core.Bool.{true, false}
-use mathlib.Core.Option.{Option, none, some}
 use mathlib.Core.List.{List, [], ◌∷◌, ◌++◌, map}
+use Rattle.std.specs.Prelude.{Result, Ok, Err, Option, Some, None}
 use native.Mathlib.Omega.{arith}
 use lib.ListN.{length, get_or, take, drop, length-take, length-drop}
 use lib.Seq.{get_or-take}
 use Rattle.plan.specs.declared.Counts.{Counts}
 use Rattle.plan.specs.declared.Refusal.{Refusal}
 use Rattle.plan.specs.declared.Refusal.TheVariants.{NotDefined, Cyclic}
-use Rattle.plan.specs.declared.Checked.{Checked}
-use Rattle.plan.specs.declared.Checked.TheVariants.{Refused, Good}
 use Rattle.plan.specs.Literals.{var_of}
 use Rattle.plan.specs.Refusals.{stage, first_of}
 use Rattle.plan.specs.Circuit.{Circuit, one_line, latch_line, left_vars, rights, defined_in, used_in, all_inside, leaves}
@@ -96,7 +94,7 @@ module _ {n : Counts} {inputs latches outputs gates bads constraints scratch : L
   pub once : distinct (leaves c ++ left_vars c.gates) ≡ true
   once = all_once c p.inputs-inside p.latches-inside p.gates-inside p.different
 
-  pub used : none ≡ undefined_in c → all_in (rights c.gates) (leaves c ++ left_vars c.gates) ≡ true
+  pub used : None ≡ undefined_in c → all_in (rights c.gates) (leaves c ++ left_vars c.gates) ≡ true
   used e = rights-in c (all-defined (zero ∷ defined_in c) (used_in c) (sym e))
 
   pub leaves-ask : (t : List ℕ) → length t ≡ length scratch → ((v : ℕ) → get_or t v 0 ≡ 0) → Leaves n inputs latches t
@@ -131,21 +129,21 @@ module _ {n : Counts} {inputs latches outputs gates bads constraints scratch : L
     pub blank-rest : ((v : ℕ) → get_or t v 0 ≡ 0) → Blank u (n.M + 1)
     blank-rest blank q h = done.rest q (omega arith) ∙ blank q
 
-    pub known : none ≡ undefined_in c → Known gates u (n.M + 1) n.A
+    pub known : None ≡ undefined_in c → Known gates u (n.M + 1) n.A
     known e = record { lv = leaves_of n inputs latches; numbers = done.numbers; starts = refl; once = once; used = used e }
 
 -- what is answered: 7 if it is found, else what 8 gives
-pub by-missing : (c : Circuit) (v : ℕ) → some v ≡ undefined_in c → Refused (NotDefined v) ≡ checked_by (closing c)
+pub by-missing : (c : Circuit) (v : ℕ) → Some v ≡ undefined_in c → Err (NotDefined v) ≡ checked_by (closing c)
 by-missing c v e = ap (λ (o : Option ℕ). checked_by (first_of (stage NotDefined o ∷ stage Cyclic (cyclic_in c) ∷ []))) e
 
-pub by-cycle : (c : Circuit) (r : Checked) → none ≡ undefined_in c → r ≡ checked_by (stage Cyclic (cyclic_in c)) → r ≡ checked_by (closing c)
+pub by-cycle : (c : Circuit) (r : Result Unit Refusal) → None ≡ undefined_in c → r ≡ checked_by (stage Cyclic (cyclic_in c)) → r ≡ checked_by (closing c)
 by-cycle c r e q =
     q ∙ (ap checked_by (last (stage Cyclic (cyclic_in c)))
     ∙ ap (λ (o : Option ℕ). checked_by (first_of (stage NotDefined o ∷ stage Cyclic (cyclic_in c) ∷ []))) e)
   where
     last : (o : Option Refusal) → o ≡ first_of (o ∷ [])
-    last none = refl
-    last (some x) = refl
+    last None = refl
+    last (Some x) = refl
 
-pub not_good : {A : Type 0} (r : Refusal) → Refused r ≡ Good → A
+pub not_good : {A : Type 0} (r : Refusal) → ◌≡◌ {A = Result Unit Refusal} (Err r) (Ok tt) → A
 not_good r e = let z : ◌≡◌ {A = ℕ} 0 1 = cc in absurd (omega arith)

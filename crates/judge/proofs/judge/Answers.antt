@@ -1,10 +1,9 @@
 -- 2, 3 and 4, then the circuit.
 use mathlib.Core.Path.{◌≡◌, sym, ap, ◌∙◌}
-use mathlib.Core.Option.{none}
 use mathlib.Core.List.{List}
+use Rattle.std.specs.Prelude.{Ok, None}
 use Prim.Native.Nat.{ℕ}
 use lib.ListN.{length}
-use Rattle.plan.specs.declared.Checked.TheVariants.{Good}
 use Rattle.plan.specs.Refusals.{first_of}
 use Rattle.plan.specs.Circuit.{Tables, seven}
 use Rattle.plan.specs.Outcome.{checked_by}
@@ -17,8 +16,8 @@ use Rattle.judge.proofs.Sound.{good_none, refused-some}
 use Rattle.judge.proofs.Stages.{lent-refuses, lent-passes}
 use Rattle.judge.proofs.judge.Goals as goal
 
-pub returns-in-Refused : goal.returns-in-Refused
-returns-in-Refused c =
+pub returns-in-Err : goal.returns-in-Err
+returns-in-Err c =
     let tables : Tables =
     let a = c.args in
     seven a.inputs.now a.latches.now a.outputs.now a.gates.now a.resets.now a.bads.now a.constraints.now in
@@ -31,7 +30,7 @@ returns-in-Refused c =
     let a = c.args in
     record {
       result_value = sym (ap checked_by (lent-refuses a.ordered a.n (tables) a.scratch.now (shorters) _
-          (refused-some _ _ (sym c.in-Refused.is ∙ told))));
+          (refused-some _ _ (sym c.in-Err.is ∙ told))));
       all_numbered = λ asked good. not_good _ good;
     }
 
@@ -46,7 +45,7 @@ judge_circuit-requires c =
     c.lent_enough-lent.ensures
     ∙ ap (λ (x : Sizes). checked_by (first_of (lent_stages c.args.n (lengths_in x (length c.args.scratch.now)))))
     (c.shorter.ensures ∙ ap (λ (x : Sizes). shorter_of x c.args.to) c.lengths-own.ensures) in
-    let passed : c.lent_enough-lent.result ≡ Good → first_of (lent_stages c.args.n (shorters)) ≡ none =
+    let passed : c.lent_enough-lent.result ≡ Ok tt → first_of (lent_stages c.args.n (shorters)) ≡ None =
     λ good. good_none _ (sym good ∙ told) in
     let a = c.args in
     let e = passed c.in_default.is in
@@ -63,7 +62,7 @@ returns c =
     c.lent_enough-lent.ensures
     ∙ ap (λ (x : Sizes). checked_by (first_of (lent_stages c.args.n (lengths_in x (length c.args.scratch.now)))))
     (c.shorter.ensures ∙ ap (λ (x : Sizes). shorter_of x c.args.to) c.lengths-own.ensures) in
-    let passed : c.lent_enough-lent.result ≡ Good → first_of (lent_stages c.args.n (shorters)) ≡ none =
+    let passed : c.lent_enough-lent.result ≡ Ok tt → first_of (lent_stages c.args.n (shorters)) ≡ None =
     λ good. good_none _ (sym good ∙ told) in
     let a = c.args in
     record {

@@ -14,8 +14,8 @@ use Rattle.judge.proofs.judge_in_order.Goals as goal
 pub judge-answer-requires : goal.judge-answer-requires
 judge-answer-requires c = λ asked. absurd (false≢true asked)
 
-pub returns-in-Refused : goal.returns-in-Refused
-returns-in-Refused c =
+pub returns-in-Err : goal.returns-in-Err
+returns-in-Err c =
     let tables : Tables =
     let a = c.args in
     seven a.inputs.now a.latches.now a.outputs.now a.gates.now a.resets.now a.bads.now a.constraints.now in

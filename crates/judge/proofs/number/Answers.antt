@@ -13,14 +13,14 @@ use Rattle.judge.proofs.number.Goals as goal
 pub judge-answer-requires : goal.judge-answer-requires
 judge-answer-requires c = λ asked. refl
 
-pub returns-in-Refused : goal.returns-in-Refused
-returns-in-Refused c =
+pub returns-in-Err : goal.returns-in-Err
+returns-in-Err c =
     let tables : Tables =
     let a = c.args in
     seven a.inputs.now a.latches.now a.outputs.now a.gates.now a.resets.now a.bads.now a.constraints.now in
     let entry : Given =
     given_at c.args.n (tables) c.args.scratch.now in
-    record { fact = λ t sizes. sym c.in-Refused.is ∙ (c.judge-answer.ensures.result_value ∙ same_answer (entry) c.args.to t sizes false); all_numbered = λ good. not_good _ good; scratch_after = λ q told. c.clear.ensures ∙ ap (λ (k : ℕ). replicate k 0) c.judge-answer.auto.scratch }
+    record { fact = λ t sizes. sym c.in-Err.is ∙ (c.judge-answer.ensures.result_value ∙ same_answer (entry) c.args.to t sizes false); all_numbered = λ good. not_good _ good; scratch_after = λ q told. c.clear.ensures ∙ ap (λ (k : ℕ). replicate k 0) c.judge-answer.auto.scratch }
 
 pub returns : goal.returns
 returns c =

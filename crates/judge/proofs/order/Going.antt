@@ -2,8 +2,8 @@
 use Prim.Native.Nat.{ℕ, zero, suc, ◌+◌, ◌-◌, ◌<◌, ◌≤◌}
 use mathlib.Core.Path.{◌≡◌, refl, sym, ap, ◌∙◌, subst}
 use mathlib.Core.Bool.{Bool, true, false, not, cond, ◌&&◌}
-use mathlib.Core.Option.{Option, none, some}
 use mathlib.Core.List.{List, [], ◌∷◌, ◌++◌, append-nil}
+use Rattle.std.specs.Prelude.{Option, Some, None}
 use native.Mathlib.Omega.{arith}
 use native.Mathlib.Nat.{not-suc-le-zero}
 use borrow.Author.Tests.{eqb-true, eqb-false, not-true}
@@ -23,43 +23,43 @@ use Rattle.judge.proofs.order.Numbering.{Starts, ready-has, numtable-more, start
 abbrev test : List ℕ → Gate → Bool
 test o g = not (has (var_of g.lhs) o) && ready o g
 
-scan-append-none : (o : List ℕ) (gs : List Gate) (g : Gate) → scan o gs ≡ none → scan o (gs ++ (g ∷ [])) ≡ cond (test o g) (some g) none
+scan-append-none : (o : List ℕ) (gs : List Gate) (g : Gate) → scan o gs ≡ None → scan o (gs ++ (g ∷ [])) ≡ cond (test o g) (Some g) None
 scan-append-none o [] g h = refl
 scan-append-none o (x ∷ gs) g h = go (test o x) h (scan-append-none o gs g)
   where
-    go : (t : Bool) → cond t (some x) (scan o gs) ≡ none → (scan o gs ≡ none → scan o (gs ++ (g ∷ [])) ≡ cond (test o g) (some g) none)
-        → cond t (some x) (scan o (gs ++ (g ∷ []))) ≡ cond (test o g) (some g) none
+    go : (t : Bool) → cond t (Some x) (scan o gs) ≡ None → (scan o gs ≡ None → scan o (gs ++ (g ∷ [])) ≡ cond (test o g) (Some g) None)
+        → cond t (Some x) (scan o (gs ++ (g ∷ []))) ≡ cond (test o g) (Some g) None
     go true p f = absurd (no-some (sym p))
       where
-        no-some : ◌≡◌ {A = Option Gate} none (some x) → ⊥
+        no-some : ◌≡◌ {A = Option Gate} None (Some x) → ⊥
         no-some q = let z : ◌≡◌ {A = ℕ} 0 1 = cc in omega arith
     go false p f = f p
 
-scan-append-some : (o : List ℕ) (gs hs : List Gate) (g : Gate) → scan o gs ≡ some g → scan o (gs ++ hs) ≡ some g
+scan-append-some : (o : List ℕ) (gs hs : List Gate) (g : Gate) → scan o gs ≡ Some g → scan o (gs ++ hs) ≡ Some g
 scan-append-some o [] hs g h = absurd (let z : ◌≡◌ {A = ℕ} 0 1 = cc in omega arith)
 scan-append-some o (x ∷ gs) hs g h = go (test o x) h (scan-append-some o gs hs g)
   where
-    go : (t : Bool) → cond t (some x) (scan o gs) ≡ some g → (scan o gs ≡ some g → scan o (gs ++ hs) ≡ some g)
-        → cond t (some x) (scan o (gs ++ hs)) ≡ some g
+    go : (t : Bool) → cond t (Some x) (scan o gs) ≡ Some g → (scan o gs ≡ Some g → scan o (gs ++ hs) ≡ Some g)
+        → cond t (Some x) (scan o (gs ++ hs)) ≡ Some g
     go true p f = p
     go false p f = f p
 
-pub scan-none : (o t : List ℕ) (a : ℕ) → ((i : ℕ) → i < a → test o (gate_at t i) ≡ false) → scan o (gates_at t a) ≡ none
+pub scan-none : (o t : List ℕ) (a : ℕ) → ((i : ℕ) → i < a → test o (gate_at t i) ≡ false) → scan o (gates_at t a) ≡ None
 scan-none o t zero h = refl
 scan-none o t (suc a) h =
     scan-append-none o (gates_at t a) (gate_at t a) (scan-none o t a (λ i k. h i (omega arith))) ∙ ap
-    (λ (b : Bool). cond b (some (gate_at t a)) none) (h a (omega arith))
+    (λ (b : Bool). cond b (Some (gate_at t a)) None) (h a (omega arith))
 
 pub scan-some : (o t : List ℕ) (a j : ℕ) → j < a → ((i : ℕ) → i < j → test o (gate_at t i) ≡ false) → test o (gate_at t j) ≡ true
-    → scan o (gates_at t a) ≡ some (gate_at t j)
+    → scan o (gates_at t a) ≡ Some (gate_at t j)
 scan-some o t zero j h n y = absurd (not-suc-le-zero h)
 scan-some o t (suc a) j h n y = go (eqb j a) refl (λ q. scan-some o t a j q n y)
   where
-    go : (b : Bool) → eqb j a ≡ b → (j < a → scan o (gates_at t a) ≡ some (gate_at t j))
-        → scan o (gates_at t a ++ (gate_at t a ∷ [])) ≡ some (gate_at t j)
+    go : (b : Bool) → eqb j a ≡ b → (j < a → scan o (gates_at t a) ≡ Some (gate_at t j))
+        → scan o (gates_at t a ++ (gate_at t a ∷ [])) ≡ Some (gate_at t j)
     go true e ih =
-        subst (λ (m : ℕ). scan o (gates_at t m ++ (gate_at t m ∷ [])) ≡ some (gate_at t j)) (eqb-true j a e)
-        (scan-append-none o (gates_at t j) (gate_at t j) (scan-none o t j n) ∙ ap (λ (b : Bool). cond b (some (gate_at t j)) none) y)
+        subst (λ (m : ℕ). scan o (gates_at t m ++ (gate_at t m ∷ [])) ≡ Some (gate_at t j)) (eqb-true j a e)
+        (scan-append-none o (gates_at t j) (gate_at t j) (scan-none o t j n) ∙ ap (λ (b : Bool). cond b (Some (gate_at t j)) None) y)
     go false e ih = scan-append-some o (gates_at t a) (gate_at t a ∷ []) (gate_at t j) (ih (omega (arith, eqb-false j a e)))
 
 -- the outer loop: o is numbered, and what is left of the order is still to come
@@ -79,7 +79,7 @@ going_end gates lv num a next k h r =
     subst (λ (p : List ℕ). NumTable p num)
     (sym (append-nil r.o) ∙ ap (λ (m : ℕ). r.o ++ left_vars (scanned (gates_at gates a) m r.o)) (sym z) ∙ r.rest) r.table
 
-scanned-none : (all : List Gate) (m : ℕ) (o : List ℕ) → scan o all ≡ none → scanned all m o ≡ []
+scanned-none : (all : List Gate) (m : ℕ) (o : List ℕ) → scan o all ≡ None → scanned all m o ≡ []
 scanned-none all zero o h = refl
 scanned-none all (suc m) o h = ap (scan_go (λ p. scanned all m p) o) h
 
@@ -124,7 +124,7 @@ going_more gates lv num a next k j hk hj r n y g = record {
     yes-test : test g.o (gate_at gates j) ≡ true
     yes-test = sym (ready-has g.o num g.starts g.table (gate_at gates j) (r j hj)) ∙ y
 
-    found : scan g.o (gates_at gates a) ≡ some (gate_at gates j)
+    found : scan g.o (gates_at gates a) ≡ Some (gate_at gates j)
     found = scan-some g.o gates a j hj (not_test gates lv num g.o a j (omega arith) g.starts g.table r n) yes-test
 
     fresh : has v g.o ≡ false
@@ -132,3 +132,8 @@ going_more gates lv num a next k j hk hj r n y g = record {
 
     less : a - k ≡ suc (a - (k + 1))
     less = omega arith
+
+pub going_start : (gates lv num : List ℕ) (a first : ℕ) → NumTable lv num → Starts lv → length lv ≡ first → Going gates lv num a first 0
+going_start gates lv num a first t s l =
+    let z : a - 0 ≡ a = omega arith in
+    record { o = lv; table = t; long = l; starts = s; rest = ap (λ (m : ℕ). lv ++ left_vars (scanned (gates_at gates a) m lv)) z }

@@ -2,8 +2,8 @@
 use Prim.Native.Nat.{ℕ, zero, suc, ◌+◌, ◌<◌, ◌≤◌}
 use mathlib.Core.Path.{◌≡◌, refl, sym, ap, ◌∙◌, subst}
 use mathlib.Core.Bool.{Bool, true, false, cond}
-use mathlib.Core.Option.{none, some}
 use mathlib.Core.List.{List, [], ◌∷◌, ◌++◌, map}
+use Rattle.std.specs.Prelude.{Some, None}
 use native.Mathlib.Nat.{not-suc-le-zero}
 use native.Mathlib.Omega.{arith}
 use borrow.Author.Tests.{eqb-true, eqb-false}
@@ -27,23 +27,23 @@ use Rattle.judge.proofs.order.Settling.{small-words}
 use Rattle.judge.proofs.order.Conversion.{gates-count}
 
 -- by places: all are in o; all before r are, and r is not
-out_none : (o gates : List ℕ) (a : ℕ) → ((i : ℕ) → i < a → has (var_of (gate_at gates i).lhs) o ≡ true) → first_out o (gates_at gates a) ≡ none
+out_none : (o gates : List ℕ) (a : ℕ) → ((i : ℕ) → i < a → has (var_of (gate_at gates i).lhs) o ≡ true) → first_out o (gates_at gates a) ≡ None
 out_none o gates zero h = refl
 out_none o gates (suc a) h =
     out-append-none o (gates_at gates a) (gate_at gates a ∷ []) (out_none o gates a (λ i k. h i (omega arith)))
-    ∙ ap (λ (b : Bool). cond b none (some (var_of (gate_at gates a).lhs))) (h a (omega arith))
+    ∙ ap (λ (b : Bool). cond b None (Some (var_of (gate_at gates a).lhs))) (h a (omega arith))
 
 out_some : (o gates : List ℕ) (a r : ℕ) → r < a → ((i : ℕ) → i < r → has (var_of (gate_at gates i).lhs) o ≡ true)
-    → has (var_of (gate_at gates r).lhs) o ≡ false → first_out o (gates_at gates a) ≡ some (var_of (gate_at gates r).lhs)
+    → has (var_of (gate_at gates r).lhs) o ≡ false → first_out o (gates_at gates a) ≡ Some (var_of (gate_at gates r).lhs)
 out_some o gates zero r h f e = absurd (not-suc-le-zero h)
 out_some o gates (suc a) r h f e = go (eqb r a) refl (λ q. out_some o gates a r q f e)
   where
-    go : (b : Bool) → eqb r a ≡ b → (r < a → first_out o (gates_at gates a) ≡ some (var_of (gate_at gates r).lhs))
-        → first_out o (gates_at gates a ++ (gate_at gates a ∷ [])) ≡ some (var_of (gate_at gates r).lhs)
+    go : (b : Bool) → eqb r a ≡ b → (r < a → first_out o (gates_at gates a) ≡ Some (var_of (gate_at gates r).lhs))
+        → first_out o (gates_at gates a ++ (gate_at gates a ∷ [])) ≡ Some (var_of (gate_at gates r).lhs)
     go true z ih =
-        subst (λ (m : ℕ). first_out o (gates_at gates m ++ (gate_at gates m ∷ [])) ≡ some (var_of (gate_at gates r).lhs)) (eqb-true r a z)
+        subst (λ (m : ℕ). first_out o (gates_at gates m ++ (gate_at gates m ∷ [])) ≡ Some (var_of (gate_at gates r).lhs)) (eqb-true r a z)
         (out-append-none o (gates_at gates r) (gate_at gates r ∷ []) (out_none o gates r f)
-        ∙ ap (λ (b : Bool). cond b none (some (var_of (gate_at gates r).lhs))) e)
+        ∙ ap (λ (b : Bool). cond b None (Some (var_of (gate_at gates r).lhs))) e)
     go false z ih =
         out-append-some o (gates_at gates a) (gate_at gates a ∷ []) (var_of (gate_at gates r).lhs) (ih (omega (arith, eqb-false r a z)))
 
@@ -56,10 +56,10 @@ module _ (gates t o : List ℕ) (n a r : ℕ) (long : n ≤ length t) (range : I
       sym (numbered-has o (take n t) starts tab v (omega (arith, inn, length-take n t)))
       ∙ numbered-take t n v inn (small-words o t n long short tab v inn)
 
-  pub out-good : r ≡ a → first_out o (gates_at gates a) ≡ none
+  pub out-good : r ≡ a → first_out o (gates_at gates a) ≡ None
   out-good e = out_none o gates a (λ i k. same i k ∙ f.before i (omega arith))
 
-  pub out-here : (r ≡ a → ⊥) → first_out o (gates_at gates a) ≡ some (var_of (gate_at gates r).lhs)
+  pub out-here : (r ≡ a → ⊥) → first_out o (gates_at gates a) ≡ Some (var_of (gate_at gates r).lhs)
   out-here e =
       let h : r < a = omega (arith, f.within, e) in
       out_some o gates a r h (λ i k. same i (omega arith) ∙ f.before i k) (same r h ∙ f.there h)
@@ -96,11 +96,11 @@ module _ (gates t : List ℕ) (n a first : ℕ) (c : Circuit) (its : c.gates ≡
       ∙ (ap (λ (gs : List Gate). first_out (leaves c ++ left_vars (scanned gs a (leaves c))) c.gates) its
       ∙ ap (first_out (leaves c ++ left_vars (scanned (map gate_of (rows_of 3 a gates)) a (leaves c)))) rows))
 
-  pub cycle-good : r ≡ a → cyclic_in c ≡ none
+  pub cycle-good : r ≡ a → cyclic_in c ≡ None
   unfolding o
   cycle-good e = place ∙ out-good gates t o n a r long range refl short tab f e
 
-  pub cycle-here : (r ≡ a → ⊥) → cyclic_in c ≡ some (var_of (gate_at gates r).lhs)
+  pub cycle-here : (r ≡ a → ⊥) → cyclic_in c ≡ Some (var_of (gate_at gates r).lhs)
   unfolding o
   cycle-here e = place ∙ out-here gates t o n a r long range refl short tab f e
 

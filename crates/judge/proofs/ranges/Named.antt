@@ -2,8 +2,8 @@
 use Prim.Native.Nat.{ℕ}
 use mathlib.Core.Path.{◌≡◌, sym, ap, ◌∙◌}
 use mathlib.Core.Bool.{Bool, true, false}
-use mathlib.Core.Option.{none, some}
 use mathlib.Core.List.{List, [], map}
+use Rattle.std.specs.Prelude.{Some, None}
 use native.Mathlib.Omega.{arith}
 use lib.ListN.{length, take}
 use Rattle.plan.specs.declared.Counts.{Counts}
@@ -41,19 +41,19 @@ module _ {n : Counts} {inputs latches outputs gates : List ℕ} (room : FirstRoo
         gate-rows n.A gates room.gates-long,
       )
 
-  pub table1 : inputs_in ≡ false → some 1 ≡ outside_first c
+  pub table1 : inputs_in ≡ false → Some 1 ≡ outside_first c
   table1 a = sym (by_rows ∙ rw a)
 
-  pub table2 : inputs_in ≡ true → latches-in ≡ false → some 2 ≡ outside_first c
+  pub table2 : inputs_in ≡ true → latches-in ≡ false → Some 2 ≡ outside_first c
   table2 a b = sym (by_rows ∙ rw (a, b))
 
-  pub table3 : inputs_in ≡ true → latches-in ≡ true → outputs-in ≡ false → some 3 ≡ outside_first c
+  pub table3 : inputs_in ≡ true → latches-in ≡ true → outputs-in ≡ false → Some 3 ≡ outside_first c
   table3 a b d = sym (by_rows ∙ rw (a, b, d))
 
-  pub table4 : inputs_in ≡ true → latches-in ≡ true → outputs-in ≡ true → gates-in ≡ false → some 4 ≡ outside_first c
+  pub table4 : inputs_in ≡ true → latches-in ≡ true → outputs-in ≡ true → gates-in ≡ false → Some 4 ≡ outside_first c
   table4 a b d e = sym (by_rows ∙ rw (a, b, d, e))
 
-  pub no_table : inputs_in ≡ true → latches-in ≡ true → outputs-in ≡ true → gates-in ≡ true → none ≡ outside_first c
+  pub no_table : inputs_in ≡ true → latches-in ≡ true → outputs-in ≡ true → gates-in ≡ true → None ≡ outside_first c
   no_table a b d e = sym (by_rows ∙ rw (a, b, d, e))
 
   -- binary order leaves no input and no gate out of range
@@ -89,14 +89,14 @@ module _ {n : Counts} {latches resets bads constraints : List ℕ} (room : LastR
   by-last-rows =
       outside-last d ∙ rw (one-rows n.B bads room.bads-long, one-rows n.C constraints room.constraints-long)
 
-  pub table7 : resets-in ≡ false → some 7 ≡ outside_last d
+  pub table7 : resets-in ≡ false → Some 7 ≡ outside_last d
   table7 a = sym (by-last-rows ∙ rw a)
 
-  pub table8 : resets-in ≡ true → bads-in ≡ false → some 8 ≡ outside_last d
+  pub table8 : resets-in ≡ true → bads-in ≡ false → Some 8 ≡ outside_last d
   table8 a b = sym (by-last-rows ∙ rw (a, b))
 
-  pub table9 : resets-in ≡ true → bads-in ≡ true → constraints-in ≡ false → some 9 ≡ outside_last d
+  pub table9 : resets-in ≡ true → bads-in ≡ true → constraints-in ≡ false → Some 9 ≡ outside_last d
   table9 a b e = sym (by-last-rows ∙ rw (a, b, e))
 
-  pub no-last-table : resets-in ≡ true → bads-in ≡ true → constraints-in ≡ true → none ≡ outside_last d
+  pub no-last-table : resets-in ≡ true → bads-in ≡ true → constraints-in ≡ true → None ≡ outside_last d
   no-last-table a b e = sym (by-last-rows ∙ rw (a, b, e))

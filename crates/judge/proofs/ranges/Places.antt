@@ -2,8 +2,8 @@
 use Prim.Native.Nat.{ℕ}
 use mathlib.Core.Path.{◌≡◌, refl, sym, ap, ap₂, ◌∙◌}
 use mathlib.Core.Bool.{Bool, true, false}
-use mathlib.Core.Option.{Option, none, some}
 use mathlib.Core.List.{map}
+use Rattle.std.specs.Prelude.{Option, Some, None}
 use Rattle.plan.specs.Circuit.{Circuit, one_line, latch_line, gate_line, resets_ok, all_inside}
 use Rattle.plan.specs.Given.{or_else, failing_at, outside_of, outside_in}
 use Rattle.laws.proofs.Writing.Nothing.{unless_all, rows-place}
@@ -21,8 +21,8 @@ failing-place t true = refl
 failing-place t false = refl
 
 or_assoc : (a b c : Option ℕ) → or_else a (or_else b c) ≡ or_else (or_else a b) c
-or_assoc none b c = refl
-or_assoc (some x) b c = refl
+or_assoc None b c = refl
+or_assoc (Some x) b c = refl
 
 module _ (c : Circuit) where
   pub outside-first : outside_first c ≡ first_table (all_inside true c.M (map one_line c.inputs)) (all_inside true c.M (map latch_line c.latches))
@@ -41,17 +41,17 @@ module _ (c : Circuit) where
 
 -- the two parts together
 joined : (a b c d e : Option ℕ) → or_else (or_else a (or_else b (or_else c d))) e ≡ or_else a (or_else b (or_else c (or_else d e)))
-joined (some x) b c d e = refl
-joined none (some x) c d e = refl
-joined none none c d e = sym (or_assoc c d e)
+joined (Some x) b c d e = refl
+joined None (Some x) c d e = refl
+joined None None c d e = sym (or_assoc c d e)
 
 both-parts : (c : Circuit) → or_else (outside_first c) (outside_last c) ≡ outside_in c
 both-parts c =
     joined (outside_of 1 true c.M (map one_line c.inputs)) (outside_of 2 true c.M (map latch_line c.latches))
     (outside_of 3 false c.M (map one_line c.outputs)) (outside_of 4 true c.M (map gate_line c.gates)) (outside_last c)
 
-pub by_first : (c : Circuit) (t : ℕ) → outside_first c ≡ some t → some t ≡ outside_in c
+pub by_first : (c : Circuit) (t : ℕ) → outside_first c ≡ Some t → Some t ≡ outside_in c
 by_first c t e = sym (ap (λ (o : Option ℕ). or_else o (outside_last c)) e) ∙ both-parts c
 
-pub by_last : (c : Circuit) (o : Option ℕ) → outside_first c ≡ none → o ≡ outside_last c → o ≡ outside_in c
+pub by_last : (c : Circuit) (o : Option ℕ) → outside_first c ≡ None → o ≡ outside_last c → o ≡ outside_in c
 by_last c o e f = f ∙ sym (ap (λ (x : Option ℕ). or_else x (outside_last c)) e) ∙ both-parts c

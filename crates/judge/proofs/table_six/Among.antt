@@ -2,15 +2,13 @@
 use Prim.Native.Nat.{ℕ, ◌≤◌, ◌<◌, min}
 use mathlib.Core.Path.{◌≡◌, refl, sym, ap, ◌∙◌}
 use mathlib.Core.Bool.{Bool, true, false, cond}
-use mathlib.Core.Option.{Option, none, some}
 use mathlib.Core.List.{List, [], ◌∷◌, ◌++◌}
+use Rattle.std.specs.Prelude.{Result, Ok, Err, Option, Some, None}
 use native.Mathlib.Omega.{arith}
 use native.Mathlib.Decide.{dec_lt}
 use borrow.Author.Tests.{lt-ltb, le-ltb, ltb-true, ltb-false, le-leb, lt-leb}
 use lib.Dec.{ltb, leb}
 use lib.ListN.{length}
-use Rattle.plan.specs.declared.Checked.{Checked}
-use Rattle.plan.specs.declared.Checked.TheVariants.{Good, Refused}
 use Rattle.plan.specs.declared.Refusal.{Refusal}
 use Rattle.plan.specs.declared.Refusal.TheVariants.{LargeCount, WrongSum, ShortTable, OutOfRange, DefinedTwice, NotDefined, Cyclic, NotInOrder}
 use Rattle.plan.specs.Refusals.{stage, first_of}
@@ -25,20 +23,20 @@ use Rattle.judge.specs.table_six.Judged.{before_sixth, with_sixth}
 
 -- the least of two places, where there is one
 abbrev less_of : Option ℕ → ℕ → Option ℕ
-less_of none t = some t
-less_of (some u) t = some (min u t)
+less_of None t = Some t
+less_of (Some u) t = Some (min u t)
 
 -- one lent table more that is long enough, or not
 more-long : (x : Lent) → leb x.needed x.words ≡ true → (xs : List Lent) → least_short (xs ++ (x ∷ [])) ≡ least_short xs
-more-long x e [] = ap (λ (b : Bool). cond b none (or_less x.table none)) e
+more-long x e [] = ap (λ (b : Bool). cond b None (or_less x.table None)) e
 more-long x e (y ∷ xs) = ap (λ (r : Option ℕ). cond (leb y.needed y.words) r (or_less y.table r)) (more-long x e xs)
 
 or-less : (v t : ℕ) (o : Option ℕ) → or_less v (less_of o t) ≡ less_of (or_less v o) t
-or-less v t none = let e : min t v ≡ min v t = omega arith in ap some e
-or-less v t (some u) = let e : min (min u t) v ≡ min (min u v) t = omega arith in ap some e
+or-less v t None = let e : min t v ≡ min v t = omega arith in ap Some e
+or-less v t (Some u) = let e : min (min u t) v ≡ min (min u v) t = omega arith in ap Some e
 
 more-short : (x : Lent) → leb x.needed x.words ≡ false → (xs : List Lent) → least_short (xs ++ (x ∷ [])) ≡ less_of (least_short xs) x.table
-more-short x e [] = ap (λ (b : Bool). cond b none (or_less x.table none)) e
+more-short x e [] = ap (λ (b : Bool). cond b None (or_less x.table None)) e
 more-short x e (y ∷ xs) =
     ap (λ (r : Option ℕ). cond (leb y.needed y.words) r (or_less y.table r)) (more-short x e xs) ∙ go (leb y.needed y.words)
   where
@@ -53,29 +51,32 @@ refusals o2 o3 o4 o5 o6 o7 o8 o15 =
     stage LargeCount o2 ∷ stage WrongSum o3 ∷ stage ShortTable o4 ∷ stage OutOfRange o5 ∷ stage DefinedTwice o6 ∷ stage NotDefined o7
     ∷ stage Cyclic o8 ∷ stage NotInOrder o15 ∷ []
 
-least-six : (k : ℕ) → cond (ltb k 6) (Refused (ShortTable k)) (Refused (ShortTable 6)) ≡ Refused (ShortTable (min k 6))
+abbrev refusing : Bool → ℕ → Result Unit Refusal
+refusing b k = cond b (Err (ShortTable k)) (Err (ShortTable 6))
+
+least-six : (k : ℕ) → refusing (ltb k 6) k ≡ Err (ShortTable (min k 6))
 least-six k = go (dec_lt k 6)
   where
-    go : Dec (k < 6) → cond (ltb k 6) (Refused (ShortTable k)) (Refused (ShortTable 6)) ≡ Refused (ShortTable (min k 6))
+    go : Dec (k < 6) → refusing (ltb k 6) k ≡ Err (ShortTable (min k 6))
     go (yes h) =
         let e : k ≡ min k 6 = omega arith in
-        ap (λ (b : Bool). cond b (Refused (ShortTable k)) (Refused (ShortTable 6))) (lt-ltb k 6 h) ∙ ap (λ (m : ℕ). Refused (ShortTable m)) e
+        ap (λ (b : Bool). refusing b k) (lt-ltb k 6 h) ∙ ap {B = Result Unit Refusal} (λ (m : ℕ). Err (ShortTable m)) e
     go (no h) =
         let e : 6 ≡ min k 6 = omega arith in
         let l : 6 ≤ k = omega arith in
-        ap (λ (b : Bool). cond b (Refused (ShortTable k)) (Refused (ShortTable 6))) (le-ltb k 6 l) ∙ ap (λ (m : ℕ). Refused (ShortTable m)) e
+        ap (λ (b : Bool). refusing b k) (le-ltb k 6 l) ∙ ap {B = Result Unit Refusal} (λ (m : ℕ). Err (ShortTable m)) e
 
 short-then : (o2 o3 o4 o5 o6 o7 o8 o15 : Option ℕ)
     → with_sixth (checked_by (first_of (refusals o2 o3 o4 o5 o6 o7 o8 o15))) true ≡ checked_by (first_of (refusals o2 o3 (less_of o4 6) o5 o6 o7 o8 o15))
-short-then (some k) o3 o4 o5 o6 o7 o8 o15 = refl
-short-then none (some k) o4 o5 o6 o7 o8 o15 = refl
-short-then none none (some k) o5 o6 o7 o8 o15 = least-six k
-short-then none none none (some k) o6 o7 o8 o15 = refl
-short-then none none none none (some k) o7 o8 o15 = refl
-short-then none none none none none (some k) o8 o15 = refl
-short-then none none none none none none (some k) o15 = refl
-short-then none none none none none none none (some k) = refl
-short-then none none none none none none none none = refl
+short-then (Some k) o3 o4 o5 o6 o7 o8 o15 = refl
+short-then None (Some k) o4 o5 o6 o7 o8 o15 = refl
+short-then None None (Some k) o5 o6 o7 o8 o15 = least-six k
+short-then None None None (Some k) o6 o7 o8 o15 = refl
+short-then None None None None (Some k) o7 o8 o15 = refl
+short-then None None None None None (Some k) o8 o15 = refl
+short-then None None None None None None (Some k) o15 = refl
+short-then None None None None None None None (Some k) = refl
+short-then None None None None None None None None = refl
 
 -- the law: an answer of the checks without table 6, and whether that is too short, give the answer of all stages with it
 module _ (g : Given) (needed : ℕ) (six : List ℕ) where
@@ -99,14 +100,14 @@ module _ (g : Given) (needed : ℕ) (six : List ℕ) where
       ∙ sym (ap (λ (o : Option ℕ). checked_by (first_of (all o))) (more-short table (lt-leb needed (length six) l) (lent_alone g)))
 
 -- nothing is refused: the checks without table 6 refuse nothing, and it is long enough
-not_good : {A : Type 0} (r : Refusal) → ◌≡◌ {A = Checked} (Refused r) Good → A
+not_good : {A : Type 0} (r : Refusal) → ◌≡◌ {A = Result Unit Refusal} (Err r) (Ok tt) → A
 not_good r e = let z : ◌≡◌ {A = ℕ} 0 1 = cc in absurd (omega arith)
 
-pub nothing-refused : (answer : Checked) (b : Bool) → with_sixth answer b ≡ Good → (answer ≡ Good) × (b ≡ false)
+pub nothing-refused : (answer : Result Unit Refusal) (b : Bool) → with_sixth answer b ≡ Ok tt → (answer ≡ Ok tt) × (b ≡ false)
 nothing-refused answer false e = (e, refl)
-nothing-refused Good true e = not_good (ShortTable 6) e
-nothing-refused (Refused r) true e = go (before_sixth r) e
+nothing-refused (Ok tt) true e = not_good (ShortTable 6) e
+nothing-refused (Err r) true e = go (before_sixth r) e
   where
-    go : (q : Bool) → cond q (Refused r) (Refused (ShortTable 6)) ≡ Good → (Refused r ≡ Good) × (true ≡ false)
+    go : (q : Bool) → cond {A = Result Unit Refusal} q (Err r) (Err (ShortTable 6)) ≡ Ok tt → ◌≡◌ {A = Result Unit Refusal} (Err r) (Ok tt) × (true ≡ false)
     go true h = not_good r h
     go false h = not_good (ShortTable 6) h

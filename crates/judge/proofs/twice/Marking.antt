@@ -2,8 +2,8 @@
 use Prim.Native.Nat.{ℕ, ◌<◌, ◌≤◌}
 use mathlib.Core.Path.{◌≡◌, sym, ◌∙◌, subst}
 use mathlib.Core.Bool.{Bool, true, false}
-use mathlib.Core.Option.{none}
 use mathlib.Core.List.{List, [], ◌++◌, append_assoc, map}
+use Rattle.std.specs.Prelude.{None, Some, Option}
 use native.Mathlib.Omega.{arith}
 use borrow.Author.Tests.{not-true, not-false}
 use lib.ListN.{take}
@@ -13,7 +13,6 @@ use Rattle.plan.specs.Given.{twice_in}
 use Rattle.laws.proofs.Marks.{Agrees, agrees-none}
 use Rattle.laws.proofs.Ranges.{input-in, latch-in, gate-in}
 use Rattle.laws.proofs.Tables.{head_at, heads_at, inputs-heads, latches-heads, gates-heads}
-use Rattle.tables.specs.Lengths.{table_of}
 use Rattle.tables.specs.Held.{circuit_in}
 use Rattle.judge.specs.twice.Twice.{RowsSay, Ranged, TwiceSays}
 use Rattle.judge.proofs.twice.Defined.{in-inputs, in-latches, in-gates, nowhere}
@@ -41,9 +40,14 @@ module _ {n : Counts} {inputs latches gates marks : List ℕ} (p : Ranged n inpu
 
   -- a table of 6 is named, so nothing is said of the marks
   found : (t : ℕ) (u : List ℕ)
-      → ((outputs resets bads constraints : List ℕ) → table_of t ≡ twice_in (circuit_in n inputs latches outputs gates resets bads constraints))
-      → (table_of t ≡ none → ⊥) → TwiceSays n inputs latches gates t u
-  found t u e some-table = record { told = e; marked = λ outputs resets bads constraints q. absurd (some-table (e outputs resets bads constraints ∙ q)) }
+      → ((outputs resets bads constraints : List ℕ) → Some t ≡ twice_in (circuit_in n inputs latches outputs gates resets bads constraints))
+      → TwiceSays n inputs latches gates (Some t) u
+  found t u e = record {
+    told = e;
+    marked = λ outputs resets bads constraints q.
+        let none : ◌≡◌ {A = Option ℕ} (Some t) None = e outputs resets bads constraints ∙ q in
+        let z : ◌≡◌ {A = ℕ} 0 1 = cc in absurd (omega arith);
+  }
 
   module _ (r₁ : Bool) (u₁ : List ℕ) (by-inputs : RowsDo inputs 1 n.I marks r₁ u₁) where
     inputs-say : RowsSay n.M [] xs r₁ u₁
@@ -51,10 +55,9 @@ module _ {n : Counts} {inputs latches gates marks : List ℕ} (p : Ranged n inpu
         subst (λ (l : List ℕ). RowsSay n.M [] l r₁ u₁) (sym (inputs-heads inputs n.I p.inputs_long))
         (by-inputs n.M [] (input-in n.M inputs n.I p.inputs_long p.inputs-inside) (agrees-none n.M marks p.blank))
 
-    pub told-inputs : r₁ ≡ true → TwiceSays n inputs latches gates 1 u₁
+    pub told-inputs : r₁ ≡ true → TwiceSays n inputs latches gates (Some 1) u₁
     told-inputs e =
         found 1 u₁ (λ outputs resets bads constraints. in-inputs (circuit_in n inputs latches outputs gates resets bads constraints) (again inputs-say e))
-        (λ q. let z : ◌≡◌ {A = ℕ} 0 1 = cc in omega arith)
 
     module _ (first : r₁ ≡ false) (r₂ : Bool) (u₂ : List ℕ) (by-latches : RowsDo latches 2 n.L u₁ r₂ u₂) where
       latches-say : RowsSay n.M xs ys r₂ u₂
@@ -62,12 +65,11 @@ module _ {n : Counts} {inputs latches gates marks : List ℕ} (p : Ranged n inpu
           subst (λ (l : List ℕ). RowsSay n.M xs l r₂ u₂) (sym (latches-heads latches n.L))
           (by-latches n.M xs (latch-in n.M latches n.L p.latches-inside) (inputs-say.marked first))
 
-      pub told-latches : r₂ ≡ true → TwiceSays n inputs latches gates 2 u₂
+      pub told-latches : r₂ ≡ true → TwiceSays n inputs latches gates (Some 2) u₂
       told-latches e =
           found 2 u₂
           (λ outputs resets bads constraints. in-latches (circuit_in n inputs latches outputs gates resets bads constraints) (new inputs-say first)
           (again latches-say e))
-          (λ q. let z : ◌≡◌ {A = ℕ} 0 1 = cc in omega arith)
 
       module _ (second : r₂ ≡ false) (r₃ : Bool) (u₃ : List ℕ) (by-gates : RowsDo gates 3 n.A u₂ r₃ u₃) where
         gates-say : RowsSay n.M (xs ++ ys) zs r₃ u₃
@@ -75,14 +77,13 @@ module _ {n : Counts} {inputs latches gates marks : List ℕ} (p : Ranged n inpu
             subst (λ (l : List ℕ). RowsSay n.M (xs ++ ys) l r₃ u₃) (sym (gates-heads gates n.A))
             (by-gates n.M (xs ++ ys) (gate-in n.M gates n.A p.gates-inside) (latches-say.marked second))
 
-        pub told-gates : r₃ ≡ true → TwiceSays n inputs latches gates 4 u₃
+        pub told-gates : r₃ ≡ true → TwiceSays n inputs latches gates (Some 4) u₃
         told-gates e =
             found 4 u₃
             (λ outputs resets bads constraints. in-gates (circuit_in n inputs latches outputs gates resets bads constraints) (new inputs-say first)
             (new latches-say second) (again gates-say e))
-            (λ q. let z : ◌≡◌ {A = ℕ} 0 1 = cc in omega arith)
 
-        pub told_none : r₃ ≡ false → TwiceSays n inputs latches gates 0 u₃
+        pub told_none : r₃ ≡ false → TwiceSays n inputs latches gates None u₃
         told_none e = record {
           told = λ outputs resets bads constraints. nowhere (circuit_in n inputs latches outputs gates resets bads constraints) (new inputs-say first)
               (new latches-say second) (new gates-say e);

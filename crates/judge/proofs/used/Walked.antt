@@ -2,7 +2,7 @@
 use Prim.Native.Nat.{ℕ, zero, suc, ◌+◌, ◌*◌, ◌≤◌, ◌<◌}
 use mathlib.Core.Path.{◌≡◌, refl, sym, ap, ap₂, ◌∙◌, subst}
 use mathlib.Core.List.{List, [], ◌∷◌, ◌++◌}
-use mathlib.Core.Option.{none, some}
+use Rattle.std.specs.Prelude.{Some, None}
 use native.Mathlib.Omega.{arith}
 use lib.ListN.{length, get_or, take}
 use Rattle.plan.specs.declared.Counts.{Counts}
@@ -113,13 +113,13 @@ module _ {n : Counts} {lt ot gt bt ct marks : List ℕ} (p : InReach n lt ot gt 
         (words-every ct n.C p.observed.constraints-long))))
         (ap rights (gates-rows gt n.A)))
 
-    pub nothing-missing : Agrees n.M (defined_in c) marks → n.M < r → none ≡ undefined_in c
+    pub nothing-missing : Agrees n.M (defined_in c) marks → n.M < r → None ≡ undefined_in c
     nothing-missing agrees h =
         none_named n.M (defined_in c) marks agrees literals literals-up (omega (arith, found))
         ∙ ap (λ (ls : List ℕ). least_missing (zero ∷ defined_in c) (vars ls)) literals-are
 
-    pub one-missing : Agrees n.M (defined_in c) marks → r ≤ n.M → some r ≡ undefined_in c
+    pub one-missing : Agrees n.M (defined_in c) marks → r ≤ n.M → Some r ≡ undefined_in c
     one-missing agrees h =
-        ap some found
+        ap Some found
         ∙ (one-named n.M (defined_in c) marks agrees literals literals-up (omega (arith, found))
         ∙ ap (λ (ls : List ℕ). least_missing (zero ∷ defined_in c) (vars ls)) literals-are)

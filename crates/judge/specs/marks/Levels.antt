@@ -62,9 +62,3 @@ pub record FirstPair (t : List ℕ) (n a r : ℕ) : Type 0 where
   pub within : r ≤ a
   pub dark : (c : ℕ) → c < r → c < a → is_on t (p0 n a) c ≡ false
   pub there : r < a → InPair t n a r
-
--- what `first_marked` finds: no gate before it is marked, and it is, where any is
-pub record FirstMarked (t : List ℕ) (n a r : ℕ) : Type 0 where
-  pub within : r ≤ a
-  pub dark : (c : ℕ) → c < r → is_on t (p0 n a) c ≡ false
-  pub on : r < a → is_on t (p0 n a) r ≡ true

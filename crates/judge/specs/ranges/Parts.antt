@@ -1,6 +1,5 @@
 -- 5 in two parts: tables 1 to 4, then 7 to 9; and the room that each part asks.
-use Rattle.std.specs.Prelude.{ℕ, ◌*◌, ◌≤◌, true, false, List, map, length}
-use Rattle.std.proofs.Math.Option.{Option}
+use Rattle.std.specs.Prelude.{ℕ, ◌*◌, ◌≤◌, true, false, List, map, length, Option}
 use Rattle.plan.specs.declared.Counts.{Counts}
 use Rattle.plan.specs.Literals.{most}
 use Rattle.plan.specs.Circuit.{Circuit, one_line, latch_line, gate_line, resets_ok}

@@ -1,12 +1,10 @@
 -- What is asked of given tables whose literals are in range, and what marking the variables that they define answers.
-use Rattle.std.specs.Prelude.{ℕ, ◌*◌, ◌<◌, ◌≤◌, ◌≡◌, Bool, true, false, not, List, ◌++◌, map, length, get_or, take}
-use Rattle.std.proofs.Math.Option.{none}
+use Rattle.std.specs.Prelude.{ℕ, ◌*◌, ◌<◌, ◌≤◌, ◌≡◌, Bool, true, false, not, List, ◌++◌, map, length, get_or, take, None, Option}
 use Rattle.plan.specs.declared.Counts.{Counts}
 use Rattle.plan.specs.Literals.{most}
 use Rattle.plan.specs.Circuit.{latch_of, gate_of, rows_of, one_line, latch_line, gate_line, defined_in, all_new, all_inside}
 use Rattle.plan.specs.Given.{twice_in}
 use Rattle.laws.proofs.Marks.{Agrees}
-use Rattle.tables.specs.Lengths.{table_of}
 use Rattle.tables.specs.Held.{circuit_in}
 
 -- what rows that define these variables answer, after the variables `seen`: whether one of them was seen already;
@@ -30,9 +28,9 @@ pub record Ranged (n : Counts) (inputs latches gates marks : List ℕ) : Type 0 
 
 -- 6 names the table that is answered, whatever the other tables are; without 6, each variable that is defined has a
 -- mark
-pub record TwiceSays (n : Counts) (inputs latches gates : List ℕ) (r : ℕ) (marks' : List ℕ) : Type 0 where
-  pub told : (outputs resets bads constraints : List ℕ) → table_of r
+pub record TwiceSays (n : Counts) (inputs latches gates : List ℕ) (r : Option ℕ) (marks' : List ℕ) : Type 0 where
+  pub told : (outputs resets bads constraints : List ℕ) → r
       ≡ twice_in (circuit_in n inputs latches outputs gates resets bads constraints)
   pub marked : (outputs resets bads constraints : List ℕ)
-      → twice_in (circuit_in n inputs latches outputs gates resets bads constraints) ≡ none
+      → twice_in (circuit_in n inputs latches outputs gates resets bads constraints) ≡ None
       → Agrees n.M (defined_in (circuit_in n inputs latches outputs gates resets bads constraints)) marks'

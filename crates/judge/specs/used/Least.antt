@@ -1,16 +1,8 @@
 -- The least used variable that has no mark.
 use Rattle.std.specs.Prelude.{ℕ, ◌+◌, ◌*◌, min, cond, ◌||◌, List, [], ◌∷◌, eqb, get_or}
-use Rattle.std.proofs.Math.Option.{Option, none, some}
 use Rattle.plan.specs.Literals.{var_of}
 use Rattle.laws.proofs.Tables.{firsts}
 use Rattle.tables.specs.bitmap.Bitmap.{is_on}
-use Rattle.judge.specs.declared.used.Missing.{Missing}
-use Rattle.judge.specs.declared.used.Missing.TheVariants.{Nothing, Least}
-
--- 7: the least variable, or none
-abbrev pub missing_of : Missing → Option ℕ
-missing_of Nothing = none
-missing_of (Least v) = some v
 
 -- n words of a table, from `start` on by `stride`
 abbrev pub every : List ℕ → ℕ → ℕ → ℕ → List ℕ

@@ -9,6 +9,7 @@ ghost use Rattle.judge.specs.order.Waiting.{Space, clean, counted, Waiting, ever
 
 use crate::marks;
 use crate::order::{chains, words};
+use tables::bitmap;
 
 // The gates of the chain that starts at h wait no more for its gate: each is hung again, or marked.
 fn wake(gates: &[u32], t: &mut [u32], n: usize, a: usize, h: usize)
@@ -35,8 +36,8 @@ fn give(gates: &[u32], t: &mut [u32], n: usize, a: usize, j: usize, x: u32)
     wake(gates, t, n, a, h);
 }
 
-// Each next number goes to the first gate that is ready; where none is, no further number is given. Gives how many
-// gates have one.
+// The scan starts at the pair of gates that the first mark is in, and yields the next gate that is ready; where none is, no further
+// number is given. Gives how many gates have one. Two loops, a break and a label: the form that this place needs (docs/DECISIONS.md, Forms).
 pub fn assign(gates: &[u32], t: &mut [u32], first: u32, n: usize, a: usize) -> usize
     requires { Space gates.now t.old n a × (0 < first) × (first + a < 2147483648) × Waiting gates.now t.old n a every
         × (counted gates.now t.old a ≡ 0) }
@@ -44,12 +45,22 @@ pub fn assign(gates: &[u32], t: &mut [u32], first: u32, n: usize, a: usize) -> u
     ensures by_index { (lv : List ℕ) → NumTable lv (clean n t.old) → get_or lv 0 1 ≡ 0 → length lv ≡ first
         → NumTable (lv ++ left_vars (scanned (gates_at gates.now a) a lv)) (clean n t.new) }
 {
-    for k in 0..a {
-        let j = marks::first_marked(t, n, a);
-        if a <= j {
-            return k;
+    let mut next = first;
+    let mut k: usize = 0;
+    'numbers: while k < a {
+        let mut j = marks::first_pair(t, n, a);
+        loop {
+            if a <= j {
+                break 'numbers;
+            }
+            if bitmap::is_on(t, n + 2 * a, j) {
+                break;
+            }
+            j += 1;
         }
-        give(gates, t, n, a, j, first + k as u32);
+        give(gates, t, n, a, j, next);
+        next += 1;
+        k += 1;
     }
-    a
+    k
 }

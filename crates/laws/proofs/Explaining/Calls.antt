@@ -3,8 +3,8 @@ use Prim.Native.Nat.{ℕ, zero, suc, ◌+◌, ◌<◌}
 use mathlib.Core.Path.{◌≡◌, refl, sym, ap, ◌∙◌}
 use mathlib.Core.Bool.{true, not, false≢true}
 use mathlib.Core.Logic.{◌↔◌}
-use mathlib.Core.Option.{Option, none}
 use mathlib.Core.List.{List, [], ◌∷◌, ◌++◌, map}
+use Rattle.std.specs.Prelude.{Ok, Option, None}
 use native.Mathlib.Omega.{arith}
 use native.Mathlib.Nat.{not-suc-le-zero}
 use borrow.Author.Tests.{eqb-true}
@@ -14,7 +14,6 @@ use lib.Seq.{take_at, drop_at}
 use Rattle.plan.specs.declared.Counts.{Counts}
 use Rattle.plan.specs.declared.Refusal.{Refusal}
 use Rattle.plan.specs.declared.Refusal.TheVariants.{BadVector, NotExplained, NotInOrder}
-use Rattle.plan.specs.declared.Stepped.TheVariants.{Done}
 use Rattle.plan.specs.Refusals.{first_of}
 use Rattle.plan.specs.Circuit.{Circuit, counts_of}
 use Rattle.plan.specs.Binary.{binary_order}
@@ -57,7 +56,7 @@ x-not v0 h q = let z : ◌≡◌ {A = ℕ} 0 1 = cc in omega arith
 x-not v1 h q = let z : ◌≡◌ {A = ℕ} 0 1 = cc in omega arith
 x-not vx h q = false≢true h
 
-module _ (e : ExplainEntry) (done : (explain e).answer ≡ Done) where
+module _ (e : ExplainEntry) (done : (explain e).answer ≡ Ok tt) where
   abbrev c : Circuit
   c = given_circuit e.circuit
 
@@ -70,7 +69,7 @@ module _ (e : ExplainEntry) (done : (explain e).answer ≡ Done) where
   abbrev rest : List (Option Refusal)
   rest = order_stage e.circuit ∷ vectors_stage e ∷ output_stage e ∷ room_stage e.marks (marks_asked e) ∷ []
 
-  nothing : first_of (first ++ rest) ≡ none
+  nothing : first_of (first ++ rest) ≡ None
   nothing = stepped-none (λ o. (explained_by o e).answer) (λ r. refl) (first_of (first ++ rest)) done
 
   fine : Fine e.circuit (lent_alone e.circuit)
@@ -79,7 +78,7 @@ module _ (e : ExplainEntry) (done : (explain e).answer ≡ Done) where
   counts : counts_of c ≡ n
   counts = counts-given e.circuit fine.room
 
-  last : (order_stage e.circuit ≡ none) × (vectors_stage e ≡ none) × (output_stage e ≡ none)
+  last : (order_stage e.circuit ≡ None) × (vectors_stage e ≡ None) × (output_stage e ≡ None)
   last = let a = first-all rest (first-both first rest nothing).1 in (a.0, a.1.0, a.1.1.0)
 
   order : binary_order c ≡ true

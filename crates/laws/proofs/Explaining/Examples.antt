@@ -3,9 +3,9 @@ use Prim.Native.Nat.{ℕ}
 use mathlib.Core.Path.{◌≡◌, refl}
 use mathlib.Core.List.{List, [], ◌∷◌, map}
 use lib.ListN.{get_or, replicate}
+use Rattle.std.specs.Prelude.{Ok, Err}
 use Rattle.plan.specs.declared.Version.TheVariants.{V19}
 use Rattle.plan.specs.declared.Refusal.TheVariants.{BadVector, ShortBuffer, NotExplained}
-use Rattle.plan.specs.declared.Stepped.TheVariants.{Done, Refused}
 use Rattle.plan.specs.Refusals.{got, ◌then◌}
 use Rattle.plan.specs.Circuit.{seven}
 use Rattle.plan.specs.Reading.{read_file}
@@ -73,21 +73,21 @@ asks ins k buffer = record {
 abbrev left : ExplainExit
 left = explain (asks (bytes_of "01") 0 (bytes_of "???"))
 
-pub marks-first : (left.answer ≡ Done) × (left.marks ≡ bytes_of "10?") × (left.scratch ≡ replicate 17 0)
+pub marks-first : (left.answer ≡ Ok tt) × (left.marks ≡ bytes_of "10?") × (left.scratch ≡ replicate 17 0)
 marks-first = (refl, refl, refl)
 
 -- 12, then 17, then 11; after 11 the buffer is as it came
-pub twelve-first : (explain (asks (bytes_of "0") 1 [])).answer ≡ Refused (BadVector 2)
+pub twelve-first : (explain (asks (bytes_of "0") 1 [])).answer ≡ Err (BadVector 2)
 twelve-first = refl
 
-pub not_there : (explain (asks (bytes_of "01") 1 [])).answer ≡ Refused (NotExplained 1)
+pub not_there : (explain (asks (bytes_of "01") 1 [])).answer ≡ Err (NotExplained 1)
 not_there = refl
 
-pub x-refused : (explain (asks (bytes_of "x1") 0 [])).answer ≡ Refused (NotExplained 2)
+pub x-refused : (explain (asks (bytes_of "x1") 0 [])).answer ≡ Err (NotExplained 2)
 x-refused = refl
 
 abbrev short : ExplainExit
 short = explain (asks (bytes_of "01") 0 (bytes_of "?"))
 
-pub room-last : (short.answer ≡ Refused (ShortBuffer 2)) × (short.marks ≡ bytes_of "?")
+pub room-last : (short.answer ≡ Err (ShortBuffer 2)) × (short.marks ≡ bytes_of "?")
 room-last = (refl, refl)

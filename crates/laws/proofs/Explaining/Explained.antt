@@ -3,8 +3,8 @@ use Prim.Native.Nat.{ℕ, zero, suc}
 use mathlib.Core.Path.{◌≡◌, refl, sym, ap, ap₂, ◌∙◌, subst}
 use mathlib.Core.Bool.{Bool, true, false, cond, false≢true}
 use mathlib.Core.Logic.{◌↔◌}
-use mathlib.Core.Option.{Option, none, some}
 use mathlib.Core.List.{List, [], ◌∷◌, ◌++◌, map, map-append}
+use Rattle.std.specs.Prelude.{Option, Some, None}
 use native.Mathlib.Omega.{arith}
 use borrow.Author.Tests.{eqb-true}
 use lib.Dec.{eqb}
@@ -162,23 +162,23 @@ module _ (c : Circuit) (w : WellFormed c) (t : binary_order c ≡ true) (s i : L
   blamed-exactly =
       walk-exactly (blames before) (var_of l ∷ []) (inner c) c.gates binary blames-fall (gates-found c (accepted c w))
 
-  blamed-closed : (u v : ℕ) (g : Gate) → find u c.gates ≡ some g → has v (blames before g) ≡ true → has u (blamed c s i l) ≡ true
+  blamed-closed : (u v : ℕ) (g : Gate) → find u c.gates ≡ Some g → has v (blames before g) ≡ true → has u (blamed c s i l) ≡ true
       → has v (blamed c s i l) ≡ true
   unfolding before
   blamed-closed u v g = walk-closed (blames before) (var_of l ∷ []) (inner c) c.gates binary blames-fall u v g
 
-  found_left : (u : ℕ) (g : Gate) → find u c.gates ≡ some g → var_of g.lhs ≡ u
+  found_left : (u : ℕ) (g : Gate) → find u c.gates ≡ Some g → var_of g.lhs ≡ u
   found_left u g e = go (subst (FindSays u c.gates) e (find-says u c.gates))
     where
-      go : FindSays u c.gates (some g) → var_of g.lhs ≡ u
+      go : FindSays u c.gates (Some g) → var_of g.lhs ≡ u
       go f = f.0
 
-  gate-and : (u : ℕ) (g : Gate) → find u c.gates ≡ some g → before u ≡ and (lit before g.rhs0) (lit before g.rhs1)
+  gate-and : (u : ℕ) (g : Gate) → find u c.gates ≡ Some g → before u ≡ and (lit before g.rhs0) (lit before g.rhs1)
   unfolding before
   gate-and u g e = values-solve c (accepted c w) s i u ∙ ap (gate_value (values_of c s i) (leaf_value c s i u)) e
 
   -- what is blamed was 0 or 1
-  side-known : (u v : ℕ) (g : Gate) → find u c.gates ≡ some g → (a : Value) → before u ≡ a → has v (blames_at a before g) ≡ true
+  side-known : (u v : ℕ) (g : Gate) → find u c.gates ≡ Some g → (a : Value) → before u ≡ a → has v (blames_at a before g) ≡ true
       → before v ≡ vx → ⊥
   side-known u v g e v1 p h q =
       let both-1 = and-1 (lit before g.rhs0) (lit before g.rhs1) (sym (gate-and u g e) ∙ p) in
@@ -257,7 +257,7 @@ module _ (c : Circuit) (w : WellFormed c) (t : binary_order c ≡ true) (s i : L
       go false = ap (λ (x : List Value). get_or x (index v us) vx) both-only ∙ leaf-only (blamed c s i l) us (i ++ s) sizes v h
 
   -- what is blamed keeps its value
-  gate-kept : (v : ℕ) (g : Gate) → find v c.gates ≡ some g → has v (blamed c s i l) ≡ true
+  gate-kept : (v : ℕ) (g : Gate) → find v c.gates ≡ Some g → has v (blamed c s i l) ≡ true
       → ((u : ℕ) → has u (sides_of g) ≡ true → has u (blamed c s i l) ≡ true → after u ≡ before u)
       → (a : Value) → before v ≡ a → and (lit after g.rhs0) (lit after g.rhs1) ≡ before v
   unfolding before
@@ -296,14 +296,14 @@ module _ (c : Circuit) (w : WellFormed c) (t : binary_order c ≡ true) (s i : L
           (has-later (var_of g.rhs1) (var_of g.rhs0) (var_of g.rhs1 ∷ []) (has-self (var_of g.rhs1) [])) (chosen false f))
           ∙ and_0 (lit before g.rhs0) (lit before g.rhs1) (sym (gate-and v g e) ∙ p) f)
 
-  both-side : (f : ℕ → Bool) (g : Gate) → both f (some g) ≡ true → (u : ℕ) → has u (sides_of g) ≡ true → f u ≡ true
+  both-side : (f : ℕ → Bool) (g : Gate) → both f (Some g) ≡ true → (u : ℕ) → has u (sides_of g) ≡ true → f u ≡ true
   both-side f g h u k =
       has-cases (f u ≡ true) (var_of g.rhs0) u (var_of g.rhs1 ∷ []) k
       (λ e. subst (λ (x : ℕ). f x ≡ true) e (and_left (f (var_of g.rhs0)) (f (var_of g.rhs1)) h))
       (λ m. has-cases (f u ≡ true) (var_of g.rhs1) u [] m
       (λ e. subst (λ (x : ℕ). f x ≡ true) e (and_right (f (var_of g.rhs0)) (f (var_of g.rhs1)) h)) (λ z. absurd (false≢true z)))
 
-  leaf-case : (v : ℕ) → has v (blamed c s i l) ≡ true → find v c.gates ≡ none → after v ≡ before v
+  leaf-case : (v : ℕ) → has v (blamed c s i l) ≡ true → find v c.gates ≡ None → after v ≡ before v
   unfolding before after
   leaf-case v h e =
       values-solve c (accepted c w) s' i' v ∙ ap (gate_value (values_of c s' i') (leaf_value c s' i' v)) e ∙ leaf-kept v h
@@ -314,14 +314,14 @@ module _ (c : Circuit) (w : WellFormed c) (t : binary_order c ≡ true) (s i : L
   kept zero v p h = go (find v c.gates) refl p
     where
       go : (o : Option Gate) → find v c.gates ≡ o → is_none o ≡ true → after v ≡ before v
-      go none e q = leaf-case v h e
-      go (some g) e q = absurd (false≢true q)
+      go None e q = leaf-case v h e
+      go (Some g) e q = absurd (false≢true q)
   kept (suc k) v p h = go (find v c.gates) refl p (kept k)
     where
       go : (o : Option Gate) → find v c.gates ≡ o → both (λ u. settled c.gates k u) o ≡ true
           → ((u : ℕ) → settled c.gates k u ≡ true → has u (blamed c s i l) ≡ true → after u ≡ before u) → after v ≡ before v
-      go none e q ih = leaf-case v h e
-      go (some g) e q ih =
+      go None e q ih = leaf-case v h e
+      go (Some g) e q ih =
           after-and ∙ gate-kept v g e h (λ u m b. ih u (both-side (λ u. settled c.gates k u) g q u m) b) (before v) refl
         where
           after-and : after v ≡ and (lit after g.rhs0) (lit after g.rhs1)

@@ -2,8 +2,8 @@
 use Prim.Native.Nat.{ℕ, ◌*◌, ◌≤◌}
 use mathlib.Core.Path.{◌≡◌, refl, sym, ap, ap₂, ◌∙◌}
 use mathlib.Core.Bool.{Bool, true, false, ◌&&◌}
-use mathlib.Core.Option.{Option, none, some}
 use mathlib.Core.List.{List, [], ◌∷◌, ◌++◌, map}
+use Rattle.std.specs.Prelude.{Ok, Err, Option, Some, None}
 use native.Mathlib.Omega.{arith}
 use borrow.Author.Tests.{le-leb, lt-leb, eqb-true}
 use lib.Dec.{eqb}
@@ -11,9 +11,8 @@ use lib.ListN.{length, length-map}
 use Rattle.plan.specs.declared.Counts.{Counts}
 use Rattle.plan.specs.declared.Refusal.{Refusal}
 use Rattle.plan.specs.declared.Refusal.TheVariants.{BadVector, ManyX}
-use Rattle.plan.specs.declared.Verdict.TheVariants as verdict
 use Rattle.plan.specs.declared.Finding.{Finding}
-use Rattle.plan.specs.declared.Finding.TheVariants.{Yes, No, Refused}
+use Rattle.plan.specs.declared.Finding.TheVariants.{Yes, No}
 use Rattle.plan.specs.Refusals.{stage, first_of}
 use Rattle.plan.specs.Circuit.{Circuit}
 use Rattle.plan.specs.Given.{given_circuit, lent_alone, failing_at, stages, order_stage}
@@ -30,31 +29,31 @@ use Rattle.laws.proofs.Writing.KeptBytes.{sized_rows, no-x-rows}
 use Rattle.laws.proofs.Fillings.Question.{fills-length, fills-two-valued, EveryShows, yes-every, every-yes, old-yes, larger-yes, larger-no}
 
 -- an answer but a refusal is the question's
-yes-only : (o : Option Refusal) (f : Finding) (t : ℕ) → finding_by o f ≡ Yes t → (o ≡ none) × (f ≡ Yes t)
-yes-only none f t e = (refl, e)
-yes-only (some r) f t e = let z : ◌≡◌ {A = ℕ} 0 1 = cc in absurd (omega arith)
+yes-only : (o : Option Refusal) (f : Finding) (t : ℕ) → finding_by o f ≡ Ok (Yes t) → (o ≡ None) × (f ≡ Yes t)
+yes-only None f t e = (refl, cc)
+yes-only (Some r) f t e = let z : ◌≡◌ {A = ℕ} 0 1 = cc in absurd (omega arith)
 
-no-only : (o : Option Refusal) (f : Finding) (t : ℕ) → finding_by o f ≡ No t → (o ≡ none) × (f ≡ No t)
-no-only none f t e = (refl, e)
-no-only (some r) f t e = let z : ◌≡◌ {A = ℕ} 0 1 = cc in absurd (omega arith)
+no-only : (o : Option Refusal) (f : Finding) (t : ℕ) → finding_by o f ≡ Ok (No t) → (o ≡ None) × (f ≡ No t)
+no-only None f t e = (refl, cc)
+no-only (Some r) f t e = let z : ◌≡◌ {A = ℕ} 0 1 = cc in absurd (omega arith)
 
-answer-none : (o : Option Refusal) (f : Finding) → ((r : Refusal) → ¬ (finding_by o f ≡ Refused r)) → o ≡ none
-answer-none none f h = refl
-answer-none (some r) f h = absurd (h r refl)
+answer-none : (o : Option Refusal) (f : Finding) → ((r : Refusal) → ¬ (finding_by o f ≡ Err r)) → o ≡ None
+answer-none None f h = refl
+answer-none (Some r) f h = absurd (h r refl)
 
 -- the yes in three values: nothing was refused, and a 1 was seen
-old-says : (o : Option Refusal) (b : Bool) → verdict_by o b ≡ verdict.Yes → (o ≡ none) × (b ≡ true)
-old-says none true e = (refl, refl)
-old-says none false e = let z : ◌≡◌ {A = ℕ} 0 1 = cc in absurd (omega arith)
-old-says (some r) b e = let z : ◌≡◌ {A = ℕ} 0 1 = cc in absurd (omega arith)
+old-says : (o : Option Refusal) (b : Bool) → verdict_by o b ≡ Ok true → (o ≡ None) × (b ≡ true)
+old-says None true e = (refl, refl)
+old-says None false e = let z : ◌≡◌ {A = ℕ} 0 1 = cc in absurd (omega arith)
+old-says (Some r) b e = let z : ◌≡◌ {A = ℕ} 0 1 = cc in absurd (omega arith)
 
 -- a last stage that finds nothing
-last_none : (os : List (Option Refusal)) (o l : Option Refusal) → first_of (os ++ (o ∷ l ∷ none ∷ [])) ≡ first_of (os ++ (o ∷ l ∷ []))
-last_none [] none none = refl
-last_none [] none (some r) = refl
-last_none [] (some r) l = refl
-last_none (none ∷ os) o l = last_none os o l
-last_none (some r ∷ os) o l = refl
+last_none : (os : List (Option Refusal)) (o l : Option Refusal) → first_of (os ++ (o ∷ l ∷ None ∷ [])) ≡ first_of (os ++ (o ∷ l ∷ []))
+last_none [] None None = refl
+last_none [] None (Some r) = refl
+last_none [] (Some r) l = refl
+last_none (None ∷ os) o l = last_none os o l
+last_none (Some r ∷ os) o l = refl
 
 module _ (w : WitnessEntry) where
   abbrev c : Circuit
@@ -64,10 +63,10 @@ module _ (w : WitnessEntry) where
   count = x_count (asked (given_circuit w.circuit) w.bytes)
 
   -- 20 is given exactly where there are more x
-  pub x-few : count ≤ 20 → x_stage w ≡ none
+  pub x-few : count ≤ 20 → x_stage w ≡ None
   x-few h = ap (λ (b : Bool). stage ManyX (failing_at count b)) (le-leb count 20 h)
 
-  pub x-many : 21 ≤ count → x_stage w ≡ some (ManyX count)
+  pub x-many : 21 ≤ count → x_stage w ≡ Some (ManyX count)
   x-many h = ap (λ (b : Bool). stage ManyX (failing_at count b)) (lt-leb count 20 h)
 
   -- the question with an allowance
@@ -84,16 +83,16 @@ module _ (w : WitnessEntry) where
   found a = question c w.number w.bytes a
 
   -- a yes says that every start and list that fill the given ones show a 1
-  pub call-yes-every : (a t : ℕ) → (witness (allowing a)).answer ≡ Yes t → EveryShows c w.number w.bytes
+  pub call-yes-every : (a t : ℕ) → (witness (allowing a)).answer ≡ Ok (Yes t) → EveryShows c w.number w.bytes
   call-yes-every a t e = yes-every c w.number w.bytes a t (yes-only refusal (found a) t e).1
 
-  pub call-every-yes : (a : ℕ) → refusal ≡ none → total_of c w.bytes ≤ a → EveryShows c w.number w.bytes
-      → (witness (allowing a)).answer ≡ Yes (total_of c w.bytes)
+  pub call-every-yes : (a : ℕ) → refusal ≡ None → total_of c w.bytes ≤ a → EveryShows c w.number w.bytes
+      → (witness (allowing a)).answer ≡ Ok (Yes (total_of c w.bytes))
   call-every-yes a o h every = ap₂ finding_by o (every-yes c w.number w.bytes a h every)
 
   -- an answer: nothing was refused, and each start and list that fill the given ones run without x at every step
-  module _ (a : ℕ) (answered : (r : Refusal) → ¬ ((witness (allowing a)).answer ≡ Refused r)) where
-    nothing : refusal ≡ none
+  module _ (a : ℕ) (answered : (r : Refusal) → ¬ ((witness (allowing a)).answer ≡ Err r)) where
+    nothing : refusal ≡ None
     nothing = answer-none refusal (found a) answered
 
     fine : Fine w.circuit (lent_alone w.circuit)
@@ -120,19 +119,19 @@ module _ (w : WitnessEntry) where
         (fills-two-valued (start_of c) start (all_codes_lem (first_state c)) f)
 
   -- a larger allowance changes neither a yes nor a no
-  pub more-allowed-yes : (a b t : ℕ) → a ≤ b → (witness (allowing a)).answer ≡ Yes t → (witness (allowing b)).answer ≡ Yes t
+  pub more-allowed-yes : (a b t : ℕ) → a ≤ b → (witness (allowing a)).answer ≡ Ok (Yes t) → (witness (allowing b)).answer ≡ Ok (Yes t)
   more-allowed-yes a b t h e =
       let p = yes-only refusal (found a) t e in
       ap₂ finding_by p.0 (larger-yes c w.number w.bytes a b t h p.1)
 
-  pub more-allowed-no : (a b t : ℕ) → a ≤ b → (witness (allowing a)).answer ≡ No t → (witness (allowing b)).answer ≡ No t
+  pub more-allowed-no : (a b t : ℕ) → a ≤ b → (witness (allowing a)).answer ≡ Ok (No t) → (witness (allowing b)).answer ≡ Ok (No t)
   more-allowed-no a b t h e =
       let p = no-only refusal (found a) t e in
       ap₂ finding_by p.0 (larger-no c w.number w.bytes a b t h p.1)
 
   -- with at most 20 x and allowance for all, every yes in three values is a yes
-  pub old-yes-new : (a : ℕ) → count ≤ 20 → total_of c w.bytes ≤ a → (witness3 w).answer ≡ verdict.Yes
-      → (witness (allowing a)).answer ≡ Yes (total_of c w.bytes)
+  pub old-yes-new : (a : ℕ) → count ≤ 20 → total_of c w.bytes ≤ a → (witness3 w).answer ≡ Ok true
+      → (witness (allowing a)).answer ≡ Ok (Yes (total_of c w.bytes))
   old-yes-new a few h e =
       let p = old-says (first_of (os ++ (order_stage w.circuit ∷ list_stage w ∷ []))) (witnessed c w.number w.bytes) e in
       ap₂ finding_by

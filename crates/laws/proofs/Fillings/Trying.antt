@@ -2,14 +2,14 @@
 use Prim.Native.Nat.{ℕ, zero, suc, ◌+◌, ◌≤◌, ◌<◌, min}
 use mathlib.Core.Path.{◌≡◌, refl, sym, ap, ◌∙◌, subst}
 use mathlib.Core.Bool.{Bool, true, false, cond, false≢true}
-use mathlib.Core.Option.{Option, none, some}
+use Rattle.std.specs.Prelude.{Err, Option, Some, None}
 use native.Mathlib.Nat.{min-eq_left, min-eq_right}
 use native.Mathlib.Decide.{dec_le}
 use native.Mathlib.Omega.{arith}
 use borrow.Author.Tests.{leb-true, leb-false, le-leb, lt-leb}
 use lib.Dec.{leb}
 use Rattle.plan.specs.declared.Finding.{Finding}
-use Rattle.plan.specs.declared.Finding.TheVariants.{Yes, No, Undecided, Refused}
+use Rattle.plan.specs.declared.Finding.TheVariants.{Yes, No, Undecided}
 use Rattle.plan.specs.Fillings.{first_failing, finding_of, try_all}
 use Rattle.laws.specs.Fillings.Reaching.{Reaches}
 
@@ -22,8 +22,8 @@ module _ (shows : ℕ → Bool) where
     pub before : (i : ℕ) → k ≤ i → i < j → shows i ≡ true
 
   abbrev pub Tells : ℕ → ℕ → Option ℕ → Type 0
-  Tells k n none = (i : ℕ) → k ≤ i → i < k + n → shows i ≡ true
-  Tells k n (some j) = Fails k n j
+  Tells k n None = (i : ℕ) → k ≤ i → i < k + n → shows i ≡ true
+  Tells k n (Some j) = Fails k n j
 
   -- one number more at the start
   fails-later : (k n j : ℕ) → shows k ≡ true → Fails (suc k) n j → Fails k (suc n) j
@@ -38,7 +38,7 @@ module _ (shows : ℕ → Bool) where
       here i h q (yes p) = f.before i p q
       here i h q (no p) = let same : k ≡ i = omega arith in ap shows (sym same) ∙ e
 
-  all-later : (k n : ℕ) → shows k ≡ true → Tells (suc k) n none → Tells k (suc n) none
+  all-later : (k n : ℕ) → shows k ≡ true → Tells (suc k) n None → Tells k (suc n) None
   all-later k n e f i h q = here (dec_le (suc k) i)
     where
       here : Dec (suc k ≤ i) → shows i ≡ true
@@ -49,28 +49,28 @@ module _ (shows : ℕ → Bool) where
   first-tells k zero = λ i h q. absurd (omega arith)
   first-tells k (suc n) = go (shows k) refl (first_failing shows (suc k) n) (first-tells (suc k) n)
     where
-      go : (t : Bool) → shows k ≡ t → (o : Option ℕ) → Tells (suc k) n o → Tells k (suc n) (cond t o (some k))
-      go true e none f = all-later k n e f
-      go true e (some j) f = fails-later k n j e f
+      go : (t : Bool) → shows k ≡ t → (o : Option ℕ) → Tells (suc k) n o → Tells k (suc n) (cond t o (Some k))
+      go true e None f = all-later k n e f
+      go true e (Some j) f = fails-later k n j e f
       go false e o f = record { from = omega arith; within = omega arith; fails = e; before = λ i h q. absurd (omega arith) }
 
   -- and back: each of the two is told of one answer alone
-  some-apart : (k n j : ℕ) → Fails k n j → Tells k n none → ⊥
+  some-apart : (k n j : ℕ) → Fails k n j → Tells k n None → ⊥
   some-apart k n j f a = false≢true (sym f.fails ∙ a j f.from f.within)
 
-  pub none_told : (k n : ℕ) → Tells k n none → first_failing shows k n ≡ none
+  pub none_told : (k n : ℕ) → Tells k n None → first_failing shows k n ≡ None
   none_told k n a = go (first_failing shows k n) (first-tells k n)
     where
-      go : (o : Option ℕ) → Tells k n o → o ≡ none
-      go none f = refl
-      go (some j) f = absurd (some-apart k n j f a)
+      go : (o : Option ℕ) → Tells k n o → o ≡ None
+      go None f = refl
+      go (Some j) f = absurd (some-apart k n j f a)
 
-  pub some-told : (k n j : ℕ) → Fails k n j → first_failing shows k n ≡ some j
+  pub some-told : (k n j : ℕ) → Fails k n j → first_failing shows k n ≡ Some j
   some-told k n j f = go (first_failing shows k n) (first-tells k n)
     where
-      go : (o : Option ℕ) → Tells k n o → o ≡ some j
-      go none a = absurd (some-apart k n j f a)
-      go (some i) g = ap some (same (dec_le i j) (dec_le j i))
+      go : (o : Option ℕ) → Tells k n o → o ≡ Some j
+      go None a = absurd (some-apart k n j f a)
+      go (Some i) g = ap Some (same (dec_le i j) (dec_le j i))
         where
           same : Dec (i ≤ j) → Dec (j ≤ i) → i ≡ j
           same (yes p) (yes q) = omega arith
@@ -100,7 +100,6 @@ module _ (shows : ℕ → Bool) where
   Means total allowance (Yes tried) = AllShow total allowance tried
   Means total allowance (No tried) = OneFails total allowance tried
   Means total allowance (Undecided tried) = Cut total allowance tried
-  Means total allowance (Refused r) = ⊥
 
   pub try-means : (total allowance : ℕ) → Means total allowance (try_all shows total allowance)
   try-means total allowance = go (first_failing shows 0 n) (first-tells 0 n)
@@ -108,7 +107,7 @@ module _ (shows : ℕ → Bool) where
       n : ℕ
       n = min total allowance
 
-      decided : (t : Bool) → leb total allowance ≡ t → Tells 0 n none → Means total allowance (cond t (Yes total) (Undecided allowance))
+      decided : (t : Bool) → leb total allowance ≡ t → Tells 0 n None → Means total allowance (cond t (Yes total) (Undecided allowance))
       decided true e a = record {
         all = refl;
         allowed = leb-true total allowance e;
@@ -121,8 +120,8 @@ module _ (shows : ℕ → Bool) where
       }
 
       go : (o : Option ℕ) → Tells 0 n o → Means total allowance (finding_of o total allowance)
-      go none a = decided (leb total allowance) refl a
-      go (some j) f = record {
+      go None a = decided (leb total allowance) refl a
+      go (Some j) f = record {
         failing = j;
         counted = refl;
         in-total = omega (arith, f.within);

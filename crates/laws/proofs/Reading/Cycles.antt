@@ -3,9 +3,9 @@
 use Prim.Native.Nat.{ℕ, zero, suc, ◌+◌, ◌/◌, ◌<◌}
 use mathlib.Core.Path.{◌≡◌, refl, sym, ap, ◌∙◌, subst}
 use mathlib.Core.Bool.{Bool, true, false, not, cond, ◌&&◌, ◌||◌, false≢true}
-use mathlib.Core.Option.{Option, none, some}
 use mathlib.Core.Logic.{◌⊎◌, inl, inr, ◌↔◌}
 use mathlib.Core.List.{List, [], ◌∷◌}
+use Rattle.std.specs.Prelude.{Option, Some, None}
 use native.Mathlib.Omega.{arith}
 use native.Mathlib.Nat.{not-suc-le-zero}
 use lib.Dec.{eqb}
@@ -19,16 +19,16 @@ use Rattle.laws.proofs.Reading.Members.{has-cases, distinct, pigeon}
 abbrev pub Stuck : List Gate → ℕ → Type 0
 Stuck gs u = Depends gs u u ⊎ ((w : ℕ) × Depends gs u w × Depends gs w w)
 
-pub none_of : (v : ℕ) (gs : List Gate) → has v (left_vars gs) ≡ false → find v gs ≡ none
+pub none_of : (v : ℕ) (gs : List Gate) → has v (left_vars gs) ≡ false → find v gs ≡ None
 none_of v [] h = refl
 none_of v (g ∷ gs) h = go (eqb (g.lhs / 2) v) (none_of v gs) h
   where
-    go : (t : Bool) → (has v (left_vars gs) ≡ false → find v gs ≡ none) → (t || has v (left_vars gs)) ≡ false → cond t (some g) (find v gs) ≡ none
+    go : (t : Bool) → (has v (left_vars gs) ≡ false → find v gs ≡ None) → (t || has v (left_vars gs)) ≡ false → cond t (Some g) (find v gs) ≡ None
     go true f p = absurd (false≢true (sym p))
     go false f p = f p
 
 -- soundness: what is settled depends only on what was settled in an earlier round
-side-settled : (f : ℕ → Bool) (b : Bool) (g : Gate) → both f (some g) ≡ true → f (side b g) ≡ true
+side-settled : (f : ℕ → Bool) (b : Bool) (g : Gate) → both f (Some g) ≡ true → f (side b g) ≡ true
 side-settled f true g p = and_left (f (g.rhs0 / 2)) (f (g.rhs1 / 2)) p
 side-settled f false g p = and_right (f (g.rhs0 / 2)) (f (g.rhs1 / 2)) p
 
@@ -62,12 +62,12 @@ snoc : (gs : List Gate) {u v : ℕ} (w : ℕ) → Depends gs u v → Uses gs v w
 snoc gs w (one x) y = more x (one y)
 snoc gs w (more x d) y = more x (snoc gs w d y)
 
-unsettled-side : (f : ℕ → Bool) (o : Option Gate) → both f o ≡ false → (g : Gate) × (b : Bool) × (o ≡ some g) × (f (side b g) ≡ false)
-unsettled-side f none p = absurd (false≢true (sym p))
-unsettled-side f (some g) p = go (f (g.rhs0 / 2)) refl p
+unsettled-side : (f : ℕ → Bool) (o : Option Gate) → both f o ≡ false → (g : Gate) × (b : Bool) × (o ≡ Some g) × (f (side b g) ≡ false)
+unsettled-side f None p = absurd (false≢true (sym p))
+unsettled-side f (Some g) p = go (f (g.rhs0 / 2)) refl p
   where
     go : (t : Bool) → f (g.rhs0 / 2) ≡ t → (t && f (g.rhs1 / 2)) ≡ false
-        → (j : Gate) × (b : Bool) × (◌≡◌ {A = Option Gate} (some g) (some j)) × (f (side b j) ≡ false)
+        → (j : Gate) × (b : Bool) × (◌≡◌ {A = Option Gate} (Some g) (Some j)) × (f (side b j) ≡ false)
     go true e q = (g, false, refl, q)
     go false e q = (g, true, refl, e)
 
@@ -128,7 +128,7 @@ climb gs (suc k) seen v s =
     let t = unsettled-side (λ u. settled gs k u) (find v gs) s.open-yet in
     go t (has v seen) refl (climb gs k (v ∷ seen) (side t.1 t.0))
   where
-    go : (t : (g : Gate) × (b : Bool) × (find v gs ≡ some g) × (settled gs k (side b g) ≡ false)) (r : Bool) → has v seen ≡ r
+    go : (t : (g : Gate) × (b : Bool) × (find v gs ≡ Some g) × (settled gs k (side b g) ≡ false)) (r : Bool) → has v seen ≡ r
         → (Seen gs k (v ∷ seen) (side t.1 t.0) → Ends gs (side t.1 t.0)) → Ends gs v
     go t true e ih = (v, inl refl, s.came v e)
     go t false e ih =
@@ -170,42 +170,42 @@ NoneStuck all [] = Unit {0}
 NoneStuck all (g ∷ gs) = (¬ Stuck all (g.lhs / 2)) × NoneStuck all gs
 
 abbrev pub PlaceSays : List Gate → List Gate → Option ℕ → Type 0
-PlaceSays all gs none = NoneStuck all gs
-PlaceSays all gs (some v) = FirstIs all gs v
+PlaceSays all gs None = NoneStuck all gs
+PlaceSays all gs (Some v) = FirstIs all gs v
 
 place-past : (all : List Gate) (g : Gate) (gs : List Gate) → ¬ Stuck all (g.lhs / 2) → (o : Option ℕ) → PlaceSays all gs o
     → PlaceSays all (g ∷ gs) o
-place-past all g gs n none h = (n, h)
-place-past all g gs n (some v) h = there n h
+place-past all g gs n None h = (n, h)
+place-past all g gs n (Some v) h = there n h
 
 pub place-says : (all gs : List Gate) → PlaceSays all gs (first_stuck all gs)
 place-says all [] = tt
 place-says all (g ∷ gs) = go (settled all (length all) (g.lhs / 2)) refl (place-says all gs)
   where
     go : (t : Bool) → settled all (length all) (g.lhs / 2) ≡ t → PlaceSays all gs (first_stuck all gs)
-        → PlaceSays all (g ∷ gs) (cond t (first_stuck all gs) (some (g.lhs / 2)))
+        → PlaceSays all (g ∷ gs) (cond t (first_stuck all gs) (Some (g.lhs / 2)))
     go true e h = place-past all g gs (λ x. stuck-unsettled all (g.lhs / 2) x (length all) e) (first_stuck all gs) h
     go false e h = here (unsettled-stuck all (g.lhs / 2) e)
 
 -- 8 names a gate exactly if it is the first in file order that depends on itself or on one that does
-pub first-named : (all gs : List Gate) (v : ℕ) → (first_stuck all gs ≡ some v) ↔ FirstIs all gs v
+pub first-named : (all gs : List Gate) (v : ℕ) → (first_stuck all gs ≡ Some v) ↔ FirstIs all gs v
 first-named all gs v = (λ e. subst (PlaceSays all gs) e (place-says all gs), named)
   where
-    named : {gs : List Gate} {v : ℕ} → FirstIs all gs v → first_stuck all gs ≡ some v
+    named : {gs : List Gate} {v : ℕ} → FirstIs all gs v → first_stuck all gs ≡ Some v
     named (here {g = g} {gs = gs} s) = go (settled all (length all) (g.lhs / 2)) refl
       where
-        go : (t : Bool) → settled all (length all) (g.lhs / 2) ≡ t → cond t (first_stuck all gs) (some (g.lhs / 2)) ≡ some (g.lhs / 2)
+        go : (t : Bool) → settled all (length all) (g.lhs / 2) ≡ t → cond t (first_stuck all gs) (Some (g.lhs / 2)) ≡ Some (g.lhs / 2)
         go true e = absurd (stuck-unsettled all (g.lhs / 2) s (length all) e)
         go false e = refl
     named (there {g = g} {gs = gs} {v = v} n f) = go (settled all (length all) (g.lhs / 2)) refl (named f)
       where
-        go : (t : Bool) → settled all (length all) (g.lhs / 2) ≡ t → first_stuck all gs ≡ some v
-            → cond t (first_stuck all gs) (some (g.lhs / 2)) ≡ some v
+        go : (t : Bool) → settled all (length all) (g.lhs / 2) ≡ t → first_stuck all gs ≡ Some v
+            → cond t (first_stuck all gs) (Some (g.lhs / 2)) ≡ Some v
         go true e k = k
         go false e k = absurd (n (unsettled-stuck all (g.lhs / 2) e))
 
 -- 8 is not given exactly if no gate depends on itself
-none_stuck : (all gs : List Gate) → first_stuck all gs ≡ none → NoneStuck all gs
+none_stuck : (all gs : List Gate) → first_stuck all gs ≡ None → NoneStuck all gs
 none_stuck all gs e = subst (PlaceSays all gs) e (place-says all gs)
 
 in-stuck : (all gs : List Gate) (v : ℕ) → NoneStuck all gs → has v (left_vars gs) ≡ true → ¬ Stuck all v
@@ -217,19 +217,19 @@ depends-left : (gs : List Gate) {u v : ℕ} → Depends gs u v → has u (left_v
 depends-left gs (one {u = u} x) = gate-in u gs (ap is_none x.2)
 depends-left gs (more {u = u} x d) = gate-in u gs (ap is_none x.2)
 
-pub no-cycle : (gs : List Gate) → first_stuck gs gs ≡ none → (v : ℕ) → ¬ Depends gs v v
+pub no-cycle : (gs : List Gate) → first_stuck gs gs ≡ None → (v : ℕ) → ¬ Depends gs v v
 no-cycle gs e v d = in-stuck gs gs v (none_stuck gs gs e) (depends-left gs d) (inl d)
 
 not_stuck : (gs : List Gate) → ((v : ℕ) → ¬ Depends gs v v) → (u : ℕ) → Stuck gs u → ⊥
 not_stuck gs h u (inl d) = h u d
 not_stuck gs h u (inr x) = h x.0 x.2
 
-pub cycle-none : (all gs : List Gate) → ((v : ℕ) → ¬ Depends all v v) → first_stuck all gs ≡ none
+pub cycle-none : (all gs : List Gate) → ((v : ℕ) → ¬ Depends all v v) → first_stuck all gs ≡ None
 cycle-none all [] h = refl
 cycle-none all (g ∷ gs) h = go (settled all (length all) (g.lhs / 2)) refl (cycle-none all gs h)
   where
-    go : (t : Bool) → settled all (length all) (g.lhs / 2) ≡ t → first_stuck all gs ≡ none
-        → cond t (first_stuck all gs) (some (g.lhs / 2)) ≡ none
+    go : (t : Bool) → settled all (length all) (g.lhs / 2) ≡ t → first_stuck all gs ≡ None
+        → cond t (first_stuck all gs) (Some (g.lhs / 2)) ≡ None
     go true e k = k
     go false e k = absurd (not_stuck all h (g.lhs / 2) (unsettled-stuck all (g.lhs / 2) e))
 

@@ -3,6 +3,8 @@ use Prim.Native.Nat.{ℕ, suc, zero, ◌+◌, ◌-◌, ◌*◌, ◌/◌, ◌%◌
 use mathlib.Core.Path.{◌≡◌, refl, sym, ap, ap₂, ◌∙◌, subst}
 use mathlib.Core.Bool.{Bool, true, false, cond, ◌&&◌, ◌||◌, false≢true}
 use mathlib.Core.List.{List, [], ◌∷◌, ◌++◌, append_assoc}
+use Rattle.std.specs.Prelude.{Result, Ok, Err}
+use Rattle.plan.specs.declared.Refusal.TheVariants.{WrongByte, LongDifference}
 use native.Mathlib.Omega.{arith}
 use native.Mathlib.Numerals.{add-one}
 use borrow.Author.Tests.{lt-ltb, le-ltb, ne_eqb, ltb-true, ltb-false, eqb-true, eqb-false, leb-true, leb-false, le-leb, lt-leb}
@@ -10,14 +12,13 @@ use lib.Dec.{eqb, leb, ltb}
 use lib.ListN.{length, get_or, drop, length-drop}
 use lib.Seq.{drop-cons}
 use Rattle.plan.specs.declared.Refusal.{Refusal}
-use Rattle.plan.specs.declared.Difference.{Difference}
-use Rattle.plan.specs.declared.Difference.TheVariants.{Value, Ends, Bad}
 use Rattle.plan.specs.Refusals.{Parse, got, refused}
 use Rattle.plan.specs.Circuit.{Gate}
 use Rattle.plan.specs.Difference.{low_then, groups, difference_at, difference_says, difference, groups_in, groups_of}
 use Rattle.plan.specs.Binary.{gate, gates_from, gate_bytes}
 use Rattle.laws.proofs.Reading.Common.{not-got, got-value, got-next, then-got, Reads, byte-is, byte_past, past}
 use Rattle.laws.proofs.Reading.Order.{InOrder}
+use Rattle.laws.proofs.Pairs.{ok-pair}
 
 -- a list of bytes
 abbrev pub Bytes : List ℕ → Type 0
@@ -58,19 +59,16 @@ groups-some d = go (ltb d 128) refl
     go false e = omega (arith, ap length (groups-step d (ltb-false _ _ e)))
 
 -- a group and the groups above it
-low_value : (low : ℕ) (r : Difference) (d n : ℕ) → low_then low r ≡ Value d n → (h : ℕ) × (r ≡ Value h n) × (low + 128 * h ≡ d)
-low_value low (Value h m) d n q =
-    let n-is : m ≡ n = cc in
-    let d-is : low + 128 * h ≡ d = cc in
-    (h, ap (Value h) n-is, d-is)
-low_value low (Ends place) d n q = let z : ◌≡◌ {A = ℕ} 0 1 = cc in absurd (omega arith)
-low_value low (Bad place) d n q = let z : ◌≡◌ {A = ℕ} 0 1 = cc in absurd (omega arith)
+low_value : (low : ℕ) (r : Result (ℕ × ℕ) Refusal) (d n : ℕ) → low_then low r ≡ Ok (d, n) → (h : ℕ) × (r ≡ Ok (h, n)) × (low + 128 * h ≡ d)
+low_value low (Ok (h, m)) d n q =
+    let same = ok-pair (low + 128 * h) d m n q in
+    let d-is = same.0 in
+    let n-is = same.1 in
+    (h, ap (λ (k : ℕ). Ok (h, k)) n-is, d-is)
+low_value low (Err r) d n q = let z : ◌≡◌ {A = ℕ} 0 1 = cc in absurd (omega arith)
 
-not-ends : (place d n : ℕ) → Ends place ≡ Value d n → ⊥
-not-ends place d n q = let z : ◌≡◌ {A = ℕ} 0 1 = cc in omega arith
-
-not-bad : (place d n : ℕ) → Bad place ≡ Value d n → ⊥
-not-bad place d n q = let z : ◌≡◌ {A = ℕ} 0 1 = cc in omega arith
+not-err : (r : Refusal) (d n : ℕ) → ◌≡◌ {A = Result (ℕ × ℕ) Refusal} (Err r) (Ok (d, n)) → ⊥
+not-err r d n q = let z : ◌≡◌ {A = ℕ} 0 1 = cc in omega arith
 
 module _ (file : List ℕ) where
   in-file : (at b : ℕ) (s : List ℕ) → drop at file ≡ b ∷ s → at < length file
@@ -81,13 +79,14 @@ module _ (file : List ℕ) where
   Took first at d n = (first < at → 0 < d) × (drop at file ≡ groups_of d ++ drop n file) × (n ≡ at + length (groups_of d))
 
   last-took : (first at d n : ℕ) → at < length file → get_or file at 0 < 128
-      → cond (eqb (get_or file at 0) 0 && ltb first at) (Bad first) (Value (get_or file at 0) (at + 1)) ≡ Value d n → Took first at d n
+      → cond {A = Result (ℕ × ℕ) Refusal} (eqb (get_or file at 0) 0 && ltb first at) (Err (LongDifference first)) (Ok (get_or file at 0, at + 1)) ≡ Ok (d, n) → Took first at d n
   last-took first at d n h b q = go (eqb (get_or file at 0) 0) (ltb first at) refl refl q
     where
-      done : (first < at → 0 < get_or file at 0) → Value (get_or file at 0) (at + 1) ≡ Value d n → Took first at d n
+      done : (first < at → 0 < get_or file at 0) → ◌≡◌ {A = Result (ℕ × ℕ) Refusal} (Ok (get_or file at 0, at + 1)) (Ok (d, n)) → Took first at d n
       done f q =
-          let d-is : get_or file at 0 ≡ d = cc in
-          let n-is : at + 1 ≡ n = cc in
+          let same = ok-pair (get_or file at 0) d (at + 1) n q in
+          let d-is = same.0 in
+          let n-is = same.1 in
           let n-is' : suc at ≡ n = omega arith in
           let small : groups_of d ≡ d ∷ [] = groups-small d (omega arith) in (
             λ l. omega (arith, f l),
@@ -96,8 +95,8 @@ module _ (file : List ℕ) where
           )
 
       go : (z f : Bool) → eqb (get_or file at 0) 0 ≡ z → ltb first at ≡ f
-          → cond (z && f) (Bad first) (Value (get_or file at 0) (at + 1)) ≡ Value d n → Took first at d n
-      go true true z f q = absurd (not-bad _ _ _ q)
+          → cond {A = Result (ℕ × ℕ) Refusal} (z && f) (Err (LongDifference first)) (Ok (get_or file at 0, at + 1)) ≡ Ok (d, n) → Took first at d n
+      go true true z f q = absurd (not-err _ _ _ q)
       go true false z f q = done (λ l. absurd (omega (arith, ltb-false first at f))) q
       go false f z f' q = let nz : (get_or file at 0 ≡ 0 → ⊥) = eqb-false _ _ z in done (λ l. omega arith) q
 
@@ -117,28 +116,28 @@ module _ (file : List ℕ) where
         omega (arith, t.2, ap length w),
       )
 
-  pub groups-took : Bytes file → (k first at d n : ℕ) → first ≤ at → groups file first k at ≡ Value d n → Took first at d n
-  groups-took bytes zero first at d n f q = absurd (not-bad _ _ _ q)
+  pub groups-took : Bytes file → (k first at d n : ℕ) → first ≤ at → groups file first k at ≡ Ok (d, n) → Took first at d n
+  groups-took bytes zero first at d n f q = absurd (not-err _ _ _ q)
   groups-took bytes (suc k) first at d n f q =
       go (λ d' n' q'. groups-took bytes k first (at + 1) d' n' (omega arith) q') (leb (length file) at) (leb 128 (get_or file at 0)) refl refl q
     where
-      go : ((d' n' : ℕ) → groups file first k (at + 1) ≡ Value d' n' → Took first (at + 1) d' n')
+      go : ((d' n' : ℕ) → groups file first k (at + 1) ≡ Ok (d', n') → Took first (at + 1) d' n')
           → (t u : Bool) → leb (length file) at ≡ t → leb 128 (get_or file at 0) ≡ u
-          → cond t (Ends (length file)) (cond u (low_then (get_or file at 0 % 128) (groups file first k (at + 1)))
-          (cond (eqb (get_or file at 0) 0 && ltb first at) (Bad first) (Value (get_or file at 0) (at + 1)))) ≡ Value d n → Took first at d n
-      go ih true u e e' q = absurd (not-ends _ _ _ q)
+          → cond t (Err (WrongByte (length file))) (cond u (low_then (get_or file at 0 % 128) (groups file first k (at + 1)))
+          (cond (eqb (get_or file at 0) 0 && ltb first at) (Err (LongDifference first)) (Ok (get_or file at 0, at + 1)))) ≡ Ok (d, n) → Took first at d n
+      go ih true u e e' q = absurd (not-err _ _ _ q)
       go ih false true e e' q =
           let t = low_value _ (groups file first k (at + 1)) d n q in
           high-took first at d n t.0 (leb-false _ _ e) (leb-true _ _ e') (bytes at) f t.2 (ih t.0 n t.1)
       go ih false false e e' q = last-took first at d n (leb-false _ _ e) (leb-false _ _ e') q
 
   last-reads : (k first at d : ℕ) (s : List ℕ) → d < 128 → (first < at → 0 < d) → drop at file ≡ d ∷ s
-      → groups file first (suc k) at ≡ Value d (at + 1)
+      → groups file first (suc k) at ≡ Ok (d, at + 1)
   last-reads k first at d s h f e =
       let i : at < length file = in-file at d s e in
       let b : get_or file at 0 ≡ d = byte-is file at d s e in
       rw (lt-leb (length file) at i, b, lt-leb 128 d h, groups)
-      (ap (λ (t : Bool). cond t (Bad first) (Value d (at + 1))) (low (eqb d 0) (ltb first at) refl refl))
+      (ap (λ (t : Bool). cond t (Err (LongDifference first)) (Ok (d, at + 1))) (low (eqb d 0) (ltb first at) refl refl))
     where
       low : (z t : Bool) → eqb d 0 ≡ z → ltb first at ≡ t → (z && t) ≡ false
       low true true z t = absurd (omega (arith, eqb-true d 0 z, f (ltb-true first at t)))
@@ -146,28 +145,28 @@ module _ (file : List ℕ) where
       low false t z t' = refl
 
   small-reads : (k first at d : ℕ) (s : List ℕ) → d < 128 → (first < at → 0 < d) → drop at file ≡ groups_of d ++ s
-      → groups file first (suc k) at ≡ Value d (at + length (groups_of d))
+      → groups file first (suc k) at ≡ Ok (d, at + length (groups_of d))
   small-reads k first at d s h f e =
       let w : groups_of d ≡ d ∷ [] = groups-small d h in
-      last-reads k first at d s h f (e ∙ ap (λ (x : List ℕ). x ++ s) w) ∙ ap (λ (x : List ℕ). Value d (at + length x)) (sym w)
+      last-reads k first at d s h f (e ∙ ap (λ (x : List ℕ). x ++ s) w) ∙ ap (λ (x : List ℕ). Ok (d, at + length x)) (sym w)
 
-  high-reads : (k first at d m : ℕ) → at < length file → get_or file at 0 ≡ d % 128 + 128 → groups file first k (at + 1) ≡ Value (d / 128) m
-      → groups file first (suc k) at ≡ Value d m
+  high-reads : (k first at d m : ℕ) → at < length file → get_or file at 0 ≡ d % 128 + 128 → groups file first k (at + 1) ≡ Ok (d / 128, m)
+      → groups file first (suc k) at ≡ Ok (d, m)
   high-reads k first at d m i b r =
       let high : 128 ≤ d % 128 + 128 = omega arith in
       let d-is : (d % 128 + 128) % 128 + 128 * (d / 128) ≡ d = omega arith in
-      rw (lt-leb (length file) at i, b, le-leb 128 (d % 128 + 128) high, r) (ap (λ (x : ℕ). Value x m) d-is)
+      rw (lt-leb (length file) at i, b, le-leb 128 (d % 128 + 128) high, r) (ap (λ (x : ℕ). Ok (x, m)) d-is)
 
   -- k + 1 groups are enough for a number below 128 ^ (k + 1)
   pub groups-reads : (k first at d : ℕ) (s : List ℕ) → d < 128 ^ suc k → first ≤ at → (first < at → 0 < d) → drop at file ≡ groups_of d ++ s
-      → groups file first (suc k) at ≡ Value d (at + length (groups_of d))
+      → groups file first (suc k) at ≡ Ok (d, at + length (groups_of d))
   groups-reads zero first at d s h l f e = small-reads zero first at d s h f e
   groups-reads (suc k) first at d s h l f e =
       go (λ h' f' e'. groups-reads k first (at + 1) (d / 128) s h' (omega arith) f' e') (ltb d 128) refl
     where
       go : (d / 128 < 128 ^ suc k → (first < at + 1 → 0 < d / 128) → drop (at + 1) file ≡ groups_of (d / 128) ++ s
-          → groups file first (suc k) (at + 1) ≡ Value (d / 128) (at + 1 + length (groups_of (d / 128))))
-          → (t : Bool) → ltb d 128 ≡ t → groups file first (suc (suc k)) at ≡ Value d (at + length (groups_of d))
+          → groups file first (suc k) (at + 1) ≡ Ok (d / 128, at + 1 + length (groups_of (d / 128))))
+          → (t : Bool) → ltb d 128 ≡ t → groups file first (suc (suc k)) at ≡ Ok (d, at + length (groups_of d))
       go ih true t = small-reads (suc k) first at d s (ltb-true _ _ t) f e
       go ih false t =
           let g : 128 ≤ d = ltb-false _ _ t in
@@ -175,7 +174,7 @@ module _ (file : List ℕ) where
           let e0 : drop at file ≡ (d % 128 + 128) ∷ (groups_of (d / 128) ++ s) = e ∙ ap (λ (x : List ℕ). x ++ s) w in
           let n-is : at + 1 + length (groups_of (d / 128)) ≡ at + length (groups_of d) = omega (arith, ap length w) in
           high-reads (suc k) first at d _ (in-file at _ _ e0) (byte-is file at _ _ e0)
-          (ih (omega arith) (λ _. omega arith) (byte_past file at _ _ e0) ∙ ap (Value (d / 128)) n-is)
+          (ih (omega arith) (λ _. omega arith) (byte_past file at _ _ e0) ∙ ap (λ (k : ℕ). Ok (d / 128, k)) n-is)
 
 -- a difference and what it is taken from
 abbrev pub Fine : Bool → ℕ → ℕ → Type 0
@@ -198,13 +197,12 @@ cond-right : {A : Type 0} (t : Bool) (p : Parse A) (r : Refusal) (a : A) (n : �
 cond-right true p r a n e = absurd (not-got r a n e)
 cond-right false p r a n e = (refl, e)
 
-says-value : (r : Difference) (d n : ℕ) → difference_says r ≡ got d n → r ≡ Value d n
-says-value (Value h m) d n q =
+says-value : (r : Result (ℕ × ℕ) Refusal) (d n : ℕ) → difference_says r ≡ got d n → r ≡ Ok (d, n)
+says-value (Ok (h, m)) d n q =
     let d-is : h ≡ d = got-value h d m n q in
     let n-is : m ≡ n = got-next h d m n q in
-    ap₂ Value d-is n-is
-says-value (Ends place) d n q = absurd (not-got _ _ _ q)
-says-value (Bad place) d n q = absurd (not-got _ _ _ q)
+    ap₂ (λ (x y : ℕ). Ok (x, y)) d-is n-is
+says-value (Err r) d n q = absurd (not-got _ _ _ q)
 
 module _ (file : List ℕ) where
   pub difference-took : Bytes file → (first : Bool) (from at d n : ℕ) → difference file first from at ≡ got d n
@@ -221,7 +219,7 @@ module _ (file : List ℕ) where
   pub difference-reads : (first : Bool) (from at d : ℕ) (s : List ℕ) → Fine first from d → d < 2 ^ 21 → drop at file ≡ groups_of d ++ s
       → Reads file (difference file first from at) d s
   difference-reads first from at d s f h e =
-      let r : difference_at file at ≡ Value d (at + length (groups_of d)) = groups-reads file 2 at at d s h (omega arith) (λ l. absurd (omega arith)) e in
+      let r : difference_at file at ≡ Ok (d, at + length (groups_of d)) = groups-reads file 2 at at d s h (omega arith) (λ l. absurd (omega arith)) e in
       (at + length (groups_of d), rw (r, test-fine first from d f), past file at (groups_of d) s e)
 
   -- one gate: its bytes, and what a gate of binary order keeps

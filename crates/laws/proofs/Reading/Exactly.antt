@@ -2,9 +2,9 @@
 use Prim.Native.Nat.{ℕ, zero, ◌+◌, ◌*◌, ◌≤◌}
 use mathlib.Core.Path.{◌≡◌, refl, sym, ap, ap₂, ◌∙◌, subst, subst₂}
 use mathlib.Core.Bool.{true}
-use mathlib.Core.Option.{Option, none}
 use mathlib.Core.Logic.{◌↔◌}
 use mathlib.Core.List.{List, [], ◌∷◌, ◌++◌, append_assoc}
+use Rattle.std.specs.Prelude.{Option, None}
 use native.Mathlib.Omega.{arith}
 use borrow.Author.Tests.{eqb-true, eq-eqb, leb-true, le-leb}
 use lib.ListN.{get_or, drop}
@@ -36,7 +36,7 @@ module _ (v : Version) (file : List ℕ) (c : Circuit) where
   -- what the parts say together
   well-formed : (bytes : List (List ℕ) → Circuit → List ℕ) (full : Circuit → List (List ℕ)) (k : ℕ) (n : Counts) (at e : ℕ)
       → BodyOk file bytes full k (more_resets v) n at c e → AllMost (list_of n) → n.I + n.L + n.A ≤ n.M
-      → undefined_in c ≡ none → cyclic_in c ≡ none → WellFormed c
+      → undefined_in c ≡ None → cyclic_in c ≡ None → WellFormed c
   well-formed bytes full k n at e b m s u a =
       let m' : AllMost (list_of (counts_of c)) = subst (λ (x : Counts). AllMost (list_of x)) (sym b.counts) m in
       record {
@@ -77,7 +77,7 @@ module _ (v : Version) (file : List ℕ) (c : Circuit) where
 
   by_form : Bytes file → (f : Form) (n : Counts) (at e : ℕ) (row : List ℕ) → file ≡ header_of f row ++ drop at file
       → Spells 5 (5 + more_counts v) (all_counts n) row → AllMost (list_of n) → adds f n ≡ true
-      → body v file f n at ≡ got c e → TailOk v n (drop e file) → undefined_in c ≡ none → cyclic_in c ≡ none
+      → body v file f n at ≡ got c e → TailOk v n (drop e file) → undefined_in c ≡ None → cyclic_in c ≡ None
       → States v file c (drop e file) × (counts_of c ≡ n)
   by_form bytes text n at e row h p m s q t u a =
       let b = text-took file v n at c e q in (
@@ -144,7 +144,7 @@ module _ (v : Version) (file lengths : List ℕ) where
       )
 
   finish : (f : Form) (c : Circuit) (at start : ℕ) (tail : List ℕ) → WellFormed c → TailOk v (counts_of c) tail
-      → least_short (against 1 (words_to_read f (counts_of c)) lengths) ≡ none
+      → least_short (against 1 (words_to_read f (counts_of c)) lengths) ≡ None
       → header v file 0 ≡ got (record { form = f; counts = counts_of c }) at → body v file f (counts_of c) at ≡ got c start
       → drop start file ≡ tail
       → Accepts v file lengths c tail

@@ -2,8 +2,8 @@
 use Prim.Native.Nat.{ℕ, suc, zero, ◌+◌, ◌-◌, ◌≤◌}
 use mathlib.Core.Path.{◌≡◌, refl, sym, ap, ap₂, ◌∙◌, subst}
 use mathlib.Core.Bool.{Bool, true, false, cond}
-use mathlib.Core.Option.{none, some}
 use mathlib.Core.List.{List, [], ◌∷◌, ◌++◌}
+use Rattle.std.specs.Prelude.{Some, None}
 use native.Mathlib.Omega.{arith}
 use borrow.Author.Tests.{eqb-true, eq-eqb, leb-true, le-leb}
 use lib.Dec.{eqb, leb}
@@ -24,16 +24,16 @@ abbrev pub AllMost : List ℕ → Type 0
 AllMost [] = Unit {0}
 AllMost (x ∷ l) = (x ≤ most) × AllMost l
 
-pub over_none : (xs : List Placed) → over xs ≡ none → AllMost (values xs)
+pub over_none : (xs : List Placed) → over xs ≡ None → AllMost (values xs)
 over_none [] e = tt
 over_none (x ∷ xs) e = go (leb x.value most) refl (over_none xs) e
   where
-    go : (t : Bool) → leb x.value most ≡ t → (over xs ≡ none → AllMost (values xs)) → cond t (over xs) (some x.place) ≡ none
+    go : (t : Bool) → leb x.value most ≡ t → (over xs ≡ None → AllMost (values xs)) → cond t (over xs) (Some x.place) ≡ None
         → AllMost (values (x ∷ xs))
     go true q ih e = (leb-true _ _ q, ih e)
     go false q ih e = let z : ◌≡◌ {A = ℕ} 0 1 = cc in absurd (omega arith)
 
-pub most-none : (xs : List Placed) → AllMost (values xs) → over xs ≡ none
+pub most-none : (xs : List Placed) → AllMost (values xs) → over xs ≡ None
 most-none [] h = refl
 most-none (x ∷ xs) h = rw (le-leb _ _ h.0) (most-none xs h.1)
 
@@ -42,16 +42,16 @@ abbrev pub AllZero : List ℕ → Type 0
 AllZero [] = Unit {0}
 AllZero (x ∷ l) = (x ≡ 0) × AllZero l
 
-pub above-none : (xs : List Placed) → above0 xs ≡ none → AllZero (values xs)
+pub above-none : (xs : List Placed) → above0 xs ≡ None → AllZero (values xs)
 above-none [] e = tt
 above-none (x ∷ xs) e = go (eqb x.value 0) refl (above-none xs) e
   where
-    go : (t : Bool) → eqb x.value 0 ≡ t → (above0 xs ≡ none → AllZero (values xs)) → cond t (above0 xs) (some x.place) ≡ none
+    go : (t : Bool) → eqb x.value 0 ≡ t → (above0 xs ≡ None → AllZero (values xs)) → cond t (above0 xs) (Some x.place) ≡ None
         → AllZero (values (x ∷ xs))
     go true q ih e = (eqb-true _ _ q, ih e)
     go false q ih e = let z : ◌≡◌ {A = ℕ} 0 1 = cc in absurd (omega arith)
 
-pub zero-none : (xs : List Placed) → AllZero (values xs) → above0 xs ≡ none
+pub zero-none : (xs : List Placed) → AllZero (values xs) → above0 xs ≡ None
 zero-none [] h = refl
 zero-none (x ∷ xs) h = rw (eq-eqb _ _ h.0) (zero-none xs h.1)
 
@@ -185,8 +185,8 @@ module _ (file : List ℕ) where
       let k = counts-spelled v n row p in
       let all : AllMost (row ++ replicate (9 - length row) 0) = subst AllMost (sym p.2)
       (h.0, (h.1.0, (h.1.1.0, (h.1.1.1.0, (h.1.1.1.1.0, (h.1.1.1.1.1.0, (h.1.1.1.1.1.1.0, (omega arith, (omega arith, tt))))))))) in
-      let small : over xs ≡ none = most-none xs (subst AllMost (sym r5.1) (most-append row _ all)) in
-      let flat : above0 (drop 7 xs) ≡ none
+      let small : over xs ≡ None = most-none xs (subst AllMost (sym r5.1) (most-append row _ all)) in
+      let flat : above0 (drop 7 xs) ≡ None
       = zero-none (drop 7 xs) (subst AllZero (sym (values-drop 7 xs ∙ ap (drop 7) r5.1)) k.1) in
       let c-is : counts_from (values xs) ≡ n = ap counts_from r5.1 ∙ k.0 in
       let sum : adds f (counts_from (values xs)) ≡ true = ap (adds f) c-is ∙ a in (

@@ -2,9 +2,9 @@
 use Prim.Native.Nat.{ℕ, suc, zero, ◌+◌, ◌-◌, ◌<◌, ◌≤◌}
 use mathlib.Core.Path.{◌≡◌, refl, sym, ap, ap₂, ◌∙◌, subst}
 use mathlib.Core.Bool.{Bool, true, false, cond, ◌&&◌}
-use mathlib.Core.Option.{none, some}
 use mathlib.Core.Logic.{◌⊎◌, inl, inr}
 use mathlib.Core.List.{List, [], ◌∷◌, ◌++◌, append_assoc, append-nil, map}
+use Rattle.std.specs.Prelude.{Some, None}
 use native.Mathlib.Omega.{arith}
 use lib.ListN.{length, get_or, take, drop, replicate, length-take, length-append, drop_of_length-le, get_or-eq_default}
 use lib.Seq.{take_all, take-suc, drop-cons, take_at, drop_at, get_or-append-add}
@@ -28,17 +28,17 @@ abbrev pub all_reset : ℕ → List ℕ → Bool
 all_reset own [] = true
 all_reset own (r ∷ rs) = is_reset own r && all_reset own rs
 
-reset-none : (own : ℕ) (xs : List Placed) → wrong_reset own xs ≡ none → all_reset own (values xs) ≡ true
+reset-none : (own : ℕ) (xs : List Placed) → wrong_reset own xs ≡ None → all_reset own (values xs) ≡ true
 reset-none own [] e = refl
 reset-none own (x ∷ xs) e = go (is_reset own x.value) refl (reset-none own xs) e
   where
-    go : (t : Bool) → is_reset own x.value ≡ t → (wrong_reset own xs ≡ none → all_reset own (values xs) ≡ true)
-        → cond t (wrong_reset own xs) (some x.place) ≡ none
+    go : (t : Bool) → is_reset own x.value ≡ t → (wrong_reset own xs ≡ None → all_reset own (values xs) ≡ true)
+        → cond t (wrong_reset own xs) (Some x.place) ≡ None
         → all_reset own (values (x ∷ xs)) ≡ true
     go true q ih e = and_intro (is_reset own x.value) _ q (ih e)
     go false q ih e = let z : ◌≡◌ {A = ℕ} 0 1 = cc in absurd (omega arith)
 
-none-reset : (own : ℕ) (xs : List Placed) → all_reset own (values xs) ≡ true → wrong_reset own xs ≡ none
+none-reset : (own : ℕ) (xs : List Placed) → all_reset own (values xs) ≡ true → wrong_reset own xs ≡ None
 none-reset own [] e = refl
 none-reset own (x ∷ xs) e =
     rw (and_left (is_reset own x.value) _ e) (none-reset own xs (and_right (is_reset own x.value) _ e))
@@ -78,7 +78,7 @@ module _ (file : List ℕ) (k : ℕ) (d : Bool) (m more : ℕ) where
       )
 
   latch-is : (v : ℕ) (seen : List ℕ) (at : ℕ) (xs : List Placed) (n : ℕ) → numbers file k (k + more) at ≡ got xs n
-      → outside d m (take k xs) ≡ none → wrong_reset (own_of d v (values xs)) (drop k xs) ≡ none → twice d seen xs ≡ none
+      → outside d m (take k xs) ≡ None → wrong_reset (own_of d v (values xs)) (drop k xs) ≡ None → twice d seen xs ≡ None
       → latch_line_at file (latch_form k d more) m v seen at ≡ got (values xs) n
   latch-is v seen at xs n a b c e = rw (a, b, c, e)
 
@@ -87,12 +87,12 @@ module _ (file : List ℕ) (k : ℕ) (d : Bool) (m more : ℕ) where
   latch-reads p v seen at row s ok e =
       let r = numbers-reads file row k (k + more) at s ok.low ok.high (λ _. omega (arith, ok.low)) e in
       let xs = r.0 in
-      let inn : outside d m (take k xs) ≡ none
+      let inn : outside d m (take k xs) ≡ None
       = inside-none d m (take k xs) (ap (inside d m) (values-take k xs ∙ ap (take k) r.1) ∙ ok.within) in
-      let res : wrong_reset (own_of d v (values xs)) (drop k xs) ≡ none
+      let res : wrong_reset (own_of d v (values xs)) (drop k xs) ≡ None
       = none-reset (own_of d v (values xs)) (drop k xs)
       (ap₂ (λ (x y : List ℕ). all_reset (own_of d v x) y) r.1 (values-drop k xs ∙ ap (drop k) r.1) ∙ ok.reset) in
-      let new : twice d seen xs ≡ none = new_none d seen xs (subst (New d seen) (sym r.1) ok.new) in
+      let new : twice d seen xs ≡ None = new_none d seen xs (subst (New d seen) (sym r.1) ok.new) in
       (r.2.0, latch-is v seen at xs r.2.0 r.2.1 inn res new ∙ ap (λ (x : List ℕ). got x r.2.0) r.1, r.2.2)
 
   pub latches-took : (n v : ℕ) (seen : List ℕ) (at : ℕ) (rows : List (List ℕ)) (e : ℕ) → latch_lines file (latch_form k d more) m n v seen at ≡ got rows e

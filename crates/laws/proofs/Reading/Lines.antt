@@ -2,8 +2,8 @@
 use Prim.Native.Nat.{ℕ, suc, zero, ◌+◌, ◌<◌, ◌≤◌}
 use mathlib.Core.Path.{◌≡◌, refl, sym, ap, ap₂, ◌∙◌, subst}
 use mathlib.Core.Bool.{Bool, true, false, cond}
-use mathlib.Core.Option.{none, some}
 use mathlib.Core.List.{List, [], ◌∷◌, ◌++◌, append_assoc}
+use Rattle.std.specs.Prelude.{Some, None}
 use native.Mathlib.Omega.{arith}
 use native.Mathlib.Nat.{le_refl}
 use borrow.Author.Tests.{eqb-true, eq-eqb}
@@ -189,30 +189,30 @@ New true seen [] = Unit {0}
 New true seen (l ∷ ls) = has (var_of l) seen ≡ false
 New false seen row = Unit {0}
 
-pub outside-none : (d : Bool) (m : ℕ) (xs : List Placed) → outside d m xs ≡ none → inside d m (values xs) ≡ true
+pub outside-none : (d : Bool) (m : ℕ) (xs : List Placed) → outside d m xs ≡ None → inside d m (values xs) ≡ true
 outside-none d m [] e = refl
 outside-none d m (x ∷ xs) e = go (in_range d m x.value) refl (outside-none false m xs) e
   where
-    go : (t : Bool) → in_range d m x.value ≡ t → (outside false m xs ≡ none → inside false m (values xs) ≡ true)
-        → cond t (outside false m xs) (some x.place) ≡ none
+    go : (t : Bool) → in_range d m x.value ≡ t → (outside false m xs ≡ None → inside false m (values xs) ≡ true)
+        → cond t (outside false m xs) (Some x.place) ≡ None
         → inside d m (values (x ∷ xs)) ≡ true
     go true q ih e = and_intro (in_range d m x.value) _ q (ih e)
     go false q ih e = let z : ◌≡◌ {A = ℕ} 0 1 = cc in absurd (omega arith)
 
-pub inside-none : (d : Bool) (m : ℕ) (xs : List Placed) → inside d m (values xs) ≡ true → outside d m xs ≡ none
+pub inside-none : (d : Bool) (m : ℕ) (xs : List Placed) → inside d m (values xs) ≡ true → outside d m xs ≡ None
 inside-none d m [] e = refl
 inside-none d m (x ∷ xs) e = rw (and_left (in_range d m x.value) _ e) (inside-none false m xs (and_right (in_range d m x.value) _ e))
 
-pub twice-none : (d : Bool) (seen : List ℕ) (xs : List Placed) → twice d seen xs ≡ none → New d seen (values xs)
+pub twice-none : (d : Bool) (seen : List ℕ) (xs : List Placed) → twice d seen xs ≡ None → New d seen (values xs)
 twice-none true seen [] e = tt
 twice-none true seen (x ∷ xs) e = go (has (var_of x.value) seen) e
   where
-    go : (t : Bool) → cond t (some x.place) none ≡ none → t ≡ false
+    go : (t : Bool) → cond t (Some x.place) None ≡ None → t ≡ false
     go true e = let z : ◌≡◌ {A = ℕ} 0 1 = cc in absurd (omega arith)
     go false e = refl
 twice-none false seen xs e = tt
 
-pub new_none : (d : Bool) (seen : List ℕ) (xs : List Placed) → New d seen (values xs) → twice d seen xs ≡ none
+pub new_none : (d : Bool) (seen : List ℕ) (xs : List Placed) → New d seen (values xs) → twice d seen xs ≡ None
 new_none true seen [] h = refl
 new_none true seen (x ∷ xs) h = rw h
 new_none false seen xs h = refl
@@ -249,8 +249,8 @@ module _ (file : List ℕ) (k : ℕ) (d : Bool) (m : ℕ) where
   line_reads seen at row s ok e =
       let r = numbers-reads file row k k at s (omega (arith, ok.long)) (omega (arith, ok.long)) (λ p. omega (arith, ok.long)) e in
       let xs = r.0 in
-      let inn : outside d m xs ≡ none = inside-none d m xs (subst (λ (x : List ℕ). inside d m x ≡ true) (sym r.1) ok.within) in
-      let new : twice d seen xs ≡ none = new_none d seen xs (subst (New d seen) (sym r.1) ok.new) in
+      let inn : outside d m xs ≡ None = inside-none d m xs (subst (λ (x : List ℕ). inside d m x ≡ true) (sym r.1) ok.within) in
+      let new : twice d seen xs ≡ None = new_none d seen xs (subst (New d seen) (sym r.1) ok.new) in
       (r.2.0, rw (r.2.1, inn, new) (ap (λ (x : List ℕ). got x r.2.0) r.1), r.2.2)
 
   pub lines-took : (n : ℕ) (seen : List ℕ) (at : ℕ) (rows : List (List ℕ)) (e : ℕ) → lines file k d m n seen at ≡ got rows e

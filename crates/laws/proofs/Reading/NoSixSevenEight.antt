@@ -1,10 +1,10 @@
 -- A binary file that passes the checks of its lines and differences meets none of 6, 7 and 8: its variables run on, each up to M is defined, and
 -- right sides lie below their gate (AIGER report, section 7: "the binary format does not require such an explicit check").
-use Prim.Native.Nat.{ℕ, zero, suc, ◌+◌, ◌-◌}
+use Prim.Native.Nat.{ℕ, zero, suc, ◌+◌, ◌-◌, ◌%◌}
 use mathlib.Core.Path.{◌≡◌, refl, sym, ap, ◌∙◌, subst}
 use mathlib.Core.Bool.{Bool, true, false, cond, ◌&&◌, ◌||◌}
-use mathlib.Core.Option.{Option, none, some}
 use mathlib.Core.List.{List, [], ◌∷◌, ◌++◌}
+use Rattle.std.specs.Prelude.{Result, Ok, Err, Option, Some, None}
 use native.Mathlib.Omega.{arith}
 use borrow.Author.Tests.{eqb-true}
 use lib.Dec.{eqb, leb, ltb}
@@ -13,8 +13,6 @@ use Rattle.plan.specs.declared.Class.{Class}
 use Rattle.plan.specs.declared.Class.TheVariants.{Line, Space, Zero, Digit, Print, Rest}
 use Rattle.plan.specs.declared.Counts.{Counts}
 use Rattle.plan.specs.declared.Version.{Version}
-use Rattle.plan.specs.declared.Difference.{Difference}
-use Rattle.plan.specs.declared.Difference.TheVariants.{Value, Ends, Bad}
 use Rattle.plan.specs.declared.Refusal.{Refusal}
 use Rattle.plan.specs.declared.Refusal.TheVariants.{WrongByte, ShortTable, OutOfRange, NotDefined, Cyclic, BadDifference, BadSymbol, LongDifference}
 use Rattle.plan.specs.Literals.{var_of, lit_of}
@@ -24,7 +22,7 @@ use Rattle.plan.specs.Bytes.{class_of, name_class, span, number_by, number, expe
 use Rattle.plan.specs.Bytes.{line, lines, latch_line_at, latch_lines, latch_form}
 use Rattle.plan.specs.Depends.{undefined_in, cyclic_in}
 use Rattle.plan.specs.Header.{more_resets, Form, binary, Head, header, adds, words_to_read}
-use Rattle.plan.specs.Difference.{difference_at, difference_says, difference}
+use Rattle.plan.specs.Difference.{difference_at, difference_says, difference, low_then, groups}
 use Rattle.plan.specs.Binary.{gate, gates_from, binary_body}
 use Rattle.plan.specs.Tail.{Symbol, fits, symbol, ends_line, starts_symbol, tail_from, tail_at}
 use Rattle.plan.specs.Reading.{body, read_file}
@@ -37,7 +35,7 @@ use Rattle.laws.proofs.Running.InOrder.{nexts-bounded, outputs-bounded, defined-
 
 -- what a binary body reads: no variable is defined twice, 7 and 8 find nothing
 pub no-six-seven-eight : (file : List ℕ) → Bytes file → (v : Version) (n : Counts) (at : ℕ) (c : Circuit) (e : ℕ) → n.I + n.L + n.A ≡ n.M
-    → binary_body v file n at ≡ got c e → (all_new [] (defined_in c) ≡ true) × (undefined_in c ≡ none) × (cyclic_in c ≡ none)
+    → binary_body v file n at ≡ got c e → (all_new [] (defined_in c) ≡ true) × (undefined_in c ≡ None) × (cyclic_in c ≡ None)
 no-six-seven-eight file bytes v n at c e sum q =
     let t = binary-took file bytes v n at c e sum q in
     let next-in = nexts-bounded c.M (suc c.M) c.latches (omega arith) t.0.latches in
@@ -85,8 +83,8 @@ spared-then (got a n) f h k = k a n
 spared-then (refused r) f h k = h
 
 spared-unless : {A : Type 0} (o : Option ℕ) (r : ℕ → Refusal) (p : Parse A) → ((x : ℕ) → Apart (r x)) → Spared p → Spared (unless o r p)
-spared-unless none r p h k = k
-spared-unless (some x) r p h k = h x
+spared-unless None r p h k = k
+spared-unless (Some x) r p h k = h x
 
 spared-cond : {A : Type 0} (t : Bool) (p q : Parse A) → Spared p → Spared q → Spared (cond t p q)
 spared-cond true p q h k = h
@@ -145,14 +143,24 @@ module _ (file : List ℕ) where
       (λ row e. spared-then (latch_lines file (latch_form k false more) m n (suc v) (seen ++ (var_of (literal_of row) ∷ [])) e) _
       (latches-spared k m more n (suc v) _ e) (λ rows l. tt))
 
-  says-spared : (d : Difference) → Spared (difference_says d)
-  says-spared (Value d next) = tt
-  says-spared (Ends place) = by-1 place
-  says-spared (Bad place) = by-16 place
+  says-cond : (t : Bool) (p q : Result (ℕ × ℕ) Refusal) → Spared (difference_says p) → Spared (difference_says q) → Spared (difference_says (cond t p q))
+  says-cond true p q h k = h
+  says-cond false p q h k = k
+
+  low-spared : (low : ℕ) (d : Result (ℕ × ℕ) Refusal) → Spared (difference_says d) → Spared (difference_says (low_then low d))
+  low-spared low (Ok (high, next)) h = tt
+  low-spared low (Err r) h = h
+
+  groups-spared : (first k at : ℕ) → Spared (difference_says (groups file first k at))
+  groups-spared first zero at = by-16 first
+  groups-spared first (suc k) at =
+      says-cond (leb (length file) at) _ _ (by-1 (length file))
+      (says-cond (leb 128 (get_or file at 0)) _ _ (low-spared (get_or file at 0 % 128) (groups file first k (at + 1)) (groups-spared first k (at + 1)))
+      (says-cond (eqb (get_or file at 0) 0 && ltb first at) _ _ (by-16 first) tt))
 
   difference-spared : (b : Bool) (from at : ℕ) → Spared (difference file b from at)
   difference-spared b from at =
-      spared-then (difference_says (difference_at file at)) _ (says-spared (difference_at file at))
+      spared-then (difference_says (difference_at file at)) _ (groups-spared at 3 at)
       (λ d n. spared-cond ((b && eqb d 0) || ltb from d) (refused (BadDifference at)) (got d n) (by-9 at) tt)
 
   gates-spared : (n v at : ℕ) → Spared (gates_from file n v at)
@@ -202,7 +210,7 @@ module _ (v : Version) (file lengths : List ℕ) (bytes : Bytes file) where
       unless (undefined_in c) NotDefined (unless (cyclic_in c) Cyclic (got c at)))
   rest-spared n at sum = go (binary_body v file n at) refl (body-spared file v n at)
     where
-      closed : (c : Circuit) (e : ℕ) → (undefined_in c ≡ none) × (cyclic_in c ≡ none)
+      closed : (c : Circuit) (e : ℕ) → (undefined_in c ≡ None) × (cyclic_in c ≡ None)
           → Spared (unless (undefined_in c) NotDefined (unless (cyclic_in c) Cyclic (got c e)))
       closed c e k = rw (k.0, k.1) tt
 

@@ -2,8 +2,8 @@
 use Prim.Native.Nat.{ℕ, suc, zero, ◌+◌, ◌-◌, ◌*◌, ◌%◌, ◌<◌, ◌≤◌}
 use mathlib.Core.Path.{◌≡◌, refl, ap, subst}
 use mathlib.Core.Bool.{Bool, true, false, cond, ◌&&◌, ◌||◌}
-use mathlib.Core.Option.{Option, none, some}
 use mathlib.Core.List.{List, [], ◌∷◌, ◌++◌}
+use Rattle.std.specs.Prelude.{Result, Ok, Err, Option, Some, None}
 use native.Mathlib.Omega.{arith}
 use native.Mathlib.Nat.{le_refl}
 use borrow.Author.Tests.{eqb-true, leb-false}
@@ -17,8 +17,6 @@ use Rattle.plan.specs.declared.Refusal.TheVariants.{BadDifference, BadSymbol, Lo
 use Rattle.plan.specs.Refusals.{number_of, place_of, Parse, got, refused, ◌then◌, unless}
 use Rattle.plan.specs.declared.Counts.{Counts}
 use Rattle.plan.specs.declared.Version.{Version}
-use Rattle.plan.specs.declared.Difference.{Difference}
-use Rattle.plan.specs.declared.Difference.TheVariants.{Value, Ends, Bad}
 use Rattle.plan.specs.Literals.{var_of}
 use Rattle.plan.specs.Circuit.{Circuit, literal_of, heads, against, least_short}
 use Rattle.plan.specs.Depends.{undefined_in, cyclic_in}
@@ -47,8 +45,8 @@ module _ (file : List ℕ) where
   stays_then p f (off h) k = off h
 
   stays-unless : {A : Type 0} (o : Option ℕ) (r : ℕ → Refusal) (p : Parse A) → ((x : ℕ) → Within (r x)) → Stays p → Stays (unless o r p)
-  stays-unless none r p h k = k
-  stays-unless (some x) r p h k = off (h x)
+  stays-unless None r p h k = k
+  stays-unless (Some x) r p h k = off (h x)
 
   stays-cond : {A : Type 0} (t : Bool) (p q : Parse A) → (t ≡ true → Stays p) → (t ≡ false → Stays q) → Stays (cond t p q)
   stays-cond true p q h k = h refl
@@ -149,12 +147,11 @@ module _ (file : List ℕ) where
   long : (p : ℕ) → Within (LongDifference p)
   long p e = absurd (omega arith)
 
-  low-stays : (low : ℕ) (d : Difference) → Stays (difference_says d) → Stays (difference_says (low_then low d))
-  low-stays low (Value high next) (on h) = on h
-  low-stays low (Ends place) (off h) = off h
-  low-stays low (Bad place) (off h) = off h
+  low-stays : (low : ℕ) (d : Result (ℕ × ℕ) Refusal) → Stays (difference_says d) → Stays (difference_says (low_then low d))
+  low-stays low (Ok (high, next)) (on h) = on h
+  low-stays low (Err r) (off h) = off h
 
-  says-cond : (t : Bool) (p q : Difference) → (t ≡ true → Stays (difference_says p)) → (t ≡ false → Stays (difference_says q))
+  says-cond : (t : Bool) (p q : Result (ℕ × ℕ) Refusal) → (t ≡ true → Stays (difference_says p)) → (t ≡ false → Stays (difference_says q))
       → Stays (difference_says (cond t p q))
   says-cond true p q h k = h refl
   says-cond false p q h k = k refl

@@ -3,8 +3,8 @@
 use Prim.Native.Nat.{ℕ, ◌+◌, ◌*◌, ◌≤◌, ◌<◌}
 use mathlib.Core.Path.{◌≡◌, sym, ap, ap₂, ◌∙◌, subst}
 use mathlib.Core.Bool.{true}
-use mathlib.Core.Option.{Option, none}
 use mathlib.Core.List.{List, [], ◌∷◌, ◌++◌, map}
+use Rattle.std.specs.Prelude.{Ok, Option, None}
 use native.Mathlib.Omega.{arith}
 use borrow.Author.Tests.{lt-ltb, le-leb, eq-eqb}
 use lib.Dec.{eqb, leb, ltb}
@@ -13,7 +13,6 @@ use lib.Seq.{get_or-take, get_or-drop, length-take-le, ext_get_or}
 use Rattle.plan.specs.declared.Counts.{Counts}
 use Rattle.plan.specs.declared.Refusal.{Refusal}
 use Rattle.plan.specs.declared.Refusal.TheVariants.{WrongValue}
-use Rattle.plan.specs.declared.Stepped.TheVariants as stepped
 use Rattle.plan.specs.Literals.{lit_of}
 use Rattle.plan.specs.Refusals.{stage, first_of}
 use Rattle.plan.specs.Circuit.{Circuit}
@@ -32,7 +31,7 @@ use Rattle.laws.proofs.Rewiring.Call.{edited, after, done-edits, values-are, edi
 
 pub rewiring-accepted : (e : RewireEntry) (c : Circuit) → Left e.circuit c → binary_order c ≡ true → e.gate < length c.gates
     → e.rhs0 < lit_of (inner c + e.gate) → e.rhs1 < lit_of (inner c + e.gate) → length e.values ≡ c.M + 1
-    → wrong_on c e.values ≡ none → (rewiring e).answer ≡ stepped.Done
+    → wrong_on c e.values ≡ None → (rewiring e).answer ≡ Ok tt
 rewiring-accepted e c l o there low0 low1 size right =
     let g = e.circuit in
     let n = g.counts in
@@ -47,10 +46,10 @@ rewiring-accepted e c l o there low0 low1 size right =
     let e4 : ltb e.rhs0 (left_at n e.gate) ≡ true = lt-ltb _ _ (subst (λ (x : ℕ). e.rhs0 < x) (sym left_is) low0) in
     let e5 : ltb e.rhs1 (left_at n e.gate) ≡ true = lt-ltb _ _ (subst (λ (x : ℕ). e.rhs1 < x) (sym left_is) low1) in
     let e6 : eqb (length e.values) (n.M + 1) ≡ true = eq-eqb _ _ (size ∙ ap (λ (m : ℕ). m + 1) (sym m-is)) in
-    let e7 : wrong_on (given_circuit g) e.values ≡ none = ap (λ (x : Circuit). wrong_on x e.values) l.holds ∙ right in
+    let e7 : wrong_on (given_circuit g) e.values ≡ None = ap (λ (x : Circuit). wrong_on x e.values) l.holds ∙ right in
     let lasts : List (Option Refusal)
     = edit_stages n e.gate e.rhs0 e.rhs1 (length e.values) ++ (stage WrongValue (wrong_on (given_circuit g) e.values) ∷ []) in
-    let rest : first_of (order_stage g ∷ lasts) ≡ none = rw (order, e1, e2, e3, e4, e5, e6, e7) in
+    let rest : first_of (order_stage g ∷ lasts) ≡ None = rw (order, e1, e2, e3, e4, e5, e6, e7) in
     ap (λ (x : Option Refusal). (rewired_by x e).answer) (both_first (stages g (lent_alone g)) (order_stage g ∷ lasts) l.fine ∙ rest)
 
 -- parts of two lists that are the same place by place
@@ -64,7 +63,7 @@ same-part xs ys a n h k same =
     let lt : v < n = omega arith in
     get_or-take n (drop a xs) v 0 lt ∙ get_or-drop a xs v 0 ∙ same (a + v) (omega arith) ∙ sym (get_or-take n (drop a ys) v 0 lt ∙ get_or-drop a ys v 0))
 
-module _ (e : RewireEntry) (d : (rewiring e).answer ≡ stepped.Done) where
+module _ (e : RewireEntry) (d : (rewiring e).answer ≡ Ok tt) where
   abbrev c : Circuit
   c = given_circuit e.circuit
 
@@ -94,7 +93,7 @@ module _ (e : RewireEntry) (d : (rewiring e).answer ≡ stepped.Done) where
       (omega (arith, (done-edits e d).size, leaves-fit)) (λ u h. below_stays u (omega arith)))
 
   -- no value on the screen is wrong afterwards
-  pub right-after : wrong_on (given_circuit (after e)) (rewiring e).values ≡ none
+  pub right-after : wrong_on (given_circuit (after e)) (rewiring e).values ≡ None
   right-after =
       ap (λ (x : Circuit). wrong_on x (rewiring e).values) (holds-edited e d)
       ∙ (screen-exactly (edited e) (edited-formed e d) (edited-in-order e d) (rewiring e).values now-long).1

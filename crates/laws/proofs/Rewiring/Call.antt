@@ -2,8 +2,8 @@
 use Prim.Native.Nat.{ℕ, ◌+◌, ◌*◌, ◌≤◌, ◌<◌, min, max}
 use mathlib.Core.Path.{◌≡◌, refl, sym, ap, ◌∙◌, subst}
 use mathlib.Core.Bool.{true, ◌&&◌}
-use mathlib.Core.Option.{Option, none, some}
 use mathlib.Core.List.{List, [], ◌∷◌, ◌++◌}
+use Rattle.std.specs.Prelude.{Ok, Err, Option, Some, None}
 use native.Mathlib.Omega.{arith}
 use borrow.Author.Tests.{ltb-true, eqb-true}
 use lib.Dec.{eqb, ltb}
@@ -11,7 +11,6 @@ use lib.ListN.{length, get_or, length-replicate}
 use Rattle.plan.specs.declared.Counts.{Counts}
 use Rattle.plan.specs.declared.Refusal.{Refusal}
 use Rattle.plan.specs.declared.Refusal.TheVariants.{NotInOrder, BadVector, NoGate, WrongValue}
-use Rattle.plan.specs.declared.Stepped.TheVariants as stepped
 use Rattle.plan.specs.Literals.{lit_of}
 use Rattle.plan.specs.Refusals.{stage, first_of}
 use Rattle.plan.specs.Circuit.{Gate, Circuit, Tables, counts_of, words_to_work, against, least_short}
@@ -51,7 +50,7 @@ with_gates t gates = record {
 
 -- a circuit and an edit that are refused for nothing
 pub record Edits (e : RewireEntry) : Type 0 where
-  pub fine : first_of (stages e.circuit (lent_alone e.circuit)) ≡ none
+  pub fine : first_of (stages e.circuit (lent_alone e.circuit)) ≡ None
   pub formed : WellFormed (given_circuit e.circuit)
   pub order : binary_order (given_circuit e.circuit) ≡ true
   pub counts : counts_of (given_circuit e.circuit) ≡ e.circuit.counts
@@ -60,7 +59,7 @@ pub record Edits (e : RewireEntry) : Type 0 where
   pub below0 : e.rhs0 < lit_of (inner (given_circuit e.circuit) + e.gate)
   pub below1 : e.rhs1 < lit_of (inner (given_circuit e.circuit) + e.gate)
   pub size : length e.values ≡ e.circuit.counts.M + 1
-  pub right : wrong_on (given_circuit e.circuit) e.values ≡ none
+  pub right : wrong_on (given_circuit e.circuit) e.values ≡ None
 
 module _ (e : RewireEntry) where
   abbrev g : Given
@@ -76,7 +75,7 @@ module _ (e : RewireEntry) where
   lasts = edit_stages n e.gate e.rhs0 e.rhs1 (length e.values) ++ (stage WrongValue (wrong_on c e.values) ∷ [])
 
   -- nothing is found
-  pub found_nothing : first_of (stages g (lent_alone g) ++ (order_stage g ∷ lasts)) ≡ none → Edits e
+  pub found_nothing : first_of (stages g (lent_alone g) ++ (order_stage g ∷ lasts)) ≡ None → Edits e
   found_nothing f =
       let h = first-both (stages g (lent_alone g)) (order_stage g ∷ lasts) f in
       let k = first-all (order_stage g ∷ lasts) h.1 in
@@ -103,7 +102,7 @@ module _ (e : RewireEntry) where
       }
 
   -- what 15 holds a right side to is the left side in the gate's row
-  pub left-judged : first_of (stages g (lent_alone g) ++ (order_stage g ∷ [])) ≡ none → e.gate < n.A
+  pub left-judged : first_of (stages g (lent_alone g) ++ (order_stage g ∷ [])) ≡ None → e.gate < n.A
       → (gate_at g.tables.gates e.gate).lhs ≡ left_at n e.gate
   left-judged f there =
       let h = first-both (stages g (lent_alone g)) (order_stage g ∷ []) f in
@@ -121,8 +120,8 @@ module _ (e : RewireEntry) where
   abbrev pub after : Given
   after = record { counts = n; tables = with_gates g.tables (rewiring e).gates; scratch = (rewiring e).scratch }
 
-  module _ (d : (rewiring e).answer ≡ stepped.Done) where
-    nothing : first_of (stages g (lent_alone g) ++ (order_stage g ∷ lasts)) ≡ none
+  module _ (d : (rewiring e).answer ≡ Ok tt) where
+    nothing : first_of (stages g (lent_alone g) ++ (order_stage g ∷ lasts)) ≡ None
     nothing = stepped-none (λ o. (rewired_by o e).answer) (λ r. refl) (first_of (stages g (lent_alone g) ++ (order_stage g ∷ lasts))) d
 
     -- what was not refused
@@ -195,7 +194,7 @@ module _ (e : RewireEntry) where
         scratch-long =
             ap (λ (o : Option Refusal). length (rewired_by o e).scratch) nothing ∙ length-replicate {A = ℕ} (length g.scratch) 0
 
-        still-long : least_short (lent_alone after) ≡ none
+        still-long : least_short (lent_alone after) ≡ None
         still-long =
             let t = g.tables in
             (λ i. least_short (against 1 (words_to_work n) (length t.inputs ∷ length t.latches ∷ length t.outputs ∷ gates-long i ∷ scratch-long i ∷ 0
@@ -229,11 +228,11 @@ module _ (e : RewireEntry) where
         ∙ sym (ap (λ (l : List ℕ). get_or l u 0) ((screen-exactly c p.formed p.order e.values p.size).0 p.right) ∙ screen-at c s i u h)
 
   -- a refusal changes neither the gates' table nor a value
-  pub refused-stays : (r : Refusal) → (rewiring e).answer ≡ stepped.Refused r
+  pub refused-stays : (r : Refusal) → (rewiring e).answer ≡ Err r
       → ((rewiring e).gates ≡ g.tables.gates) × ((rewiring e).values ≡ e.values)
   refused-stays r = by (first_of (stages g (lent_alone g) ++ (order_stage g ∷ lasts)))
     where
-      by : (o : Option Refusal) → (rewired_by o e).answer ≡ stepped.Refused r
+      by : (o : Option Refusal) → (rewired_by o e).answer ≡ Err r
           → ((rewired_by o e).gates ≡ g.tables.gates) × ((rewired_by o e).values ≡ e.values)
-      by none q = let z : ◌≡◌ {A = ℕ} 0 1 = cc in absurd (omega arith)
-      by (some s) q = (refl, refl)
+      by None q = let z : ◌≡◌ {A = ℕ} 0 1 = cc in absurd (omega arith)
+      by (Some s) q = (refl, refl)

@@ -3,8 +3,8 @@ use Prim.Native.Nat.{ℕ, zero, suc, ◌+◌, ◌<◌, min, max}
 use mathlib.Core.Path.{◌≡◌, refl, sym, ap, ap₂, ◌∙◌, subst}
 use mathlib.Core.Bool.{Bool, true, false, cond, false≢true}
 use mathlib.Core.Logic.{◌↔◌}
-use mathlib.Core.Option.{Option, none, some}
 use mathlib.Core.List.{List, [], ◌∷◌}
+use Rattle.std.specs.Prelude.{Option, Some, None}
 use native.Mathlib.Omega.{arith}
 use native.Mathlib.Decide.{ℕ_discrete}
 use borrow.Author.Tests.{ne_eqb}
@@ -40,10 +40,10 @@ pub find-other : (n k a b : ℕ) (gs : List Gate) → Binary n gs → (u : ℕ) 
 find-other n k a b [] o u h = refl
 find-other n zero a b (g ∷ gs) o u h =
     let e : eqb (var_of g.lhs) u ≡ false = ne_eqb (var_of g.lhs) u (λ p. h (omega (arith, p, o.0))) in
-    ap (λ (t : Bool). cond t (some (record { lhs = g.lhs; rhs0 = max a b; rhs1 = min a b })) (find u gs)) e
-    ∙ ap (λ (t : Bool). cond t (some g) (find u gs)) (sym e)
+    ap (λ (t : Bool). cond t (Some (record { lhs = g.lhs; rhs0 = max a b; rhs1 = min a b })) (find u gs)) e
+    ∙ ap (λ (t : Bool). cond t (Some g) (find u gs)) (sym e)
 find-other n (suc k) a b (g ∷ gs) o u h =
-    ap (λ (r : Option Gate). cond (eqb (var_of g.lhs) u) (some g) r) (find-other (suc n) k a b gs o.3 u (λ p. h (omega arith)))
+    ap (λ (r : Option Gate). cond (eqb (var_of g.lhs) u) (Some g) r) (find-other (suc n) k a b gs o.3 u (λ p. h (omega arith)))
 
 pub rewired-order : (n k a b : ℕ) (gs : List Gate) → InOrder n gs → a < lit_of (n + k) → b < lit_of (n + k) → InOrder n (rewired_gates k a b gs)
 rewired-order n k a b [] o p q = tt
@@ -58,7 +58,7 @@ uses-below n gs b u v x = go (subst (FindSays u gs) x.2 (find-says u gs))
     in-sides true g = has-self (var_of g.rhs0) (var_of g.rhs1 ∷ [])
     in-sides false g = has-later (var_of g.rhs1) (var_of g.rhs0) (var_of g.rhs1 ∷ []) (has-self (var_of g.rhs1) [])
 
-    go : FindSays u gs (some x.0) → v < u
+    go : FindSays u gs (Some x.0) → v < u
     go f =
         let lt = f.1 (Falls sides_of) (sides-fall n gs b) (side x.1 x.0) (in-sides x.1 x.0) in
         subst (λ (y : ℕ). v < y) f.0 (subst (λ (y : ℕ). y < var_of x.0.lhs) x.3 lt)
@@ -140,22 +140,22 @@ module _ (c : Circuit) (w : WellFormed c) (t : binary_order c ≡ true) (k a b :
     apart zero u p n d = go (find u c.gates) refl p
       where
         go : (o : Option Gate) → find u c.gates ≡ o → is_none o ≡ true → after u ≡ before u
-        go none e q = after_is u n none e ∙ sym (before-is u none e)
-        go (some g) e q = absurd (false≢true q)
+        go None e q = after_is u n None e ∙ sym (before-is u None e)
+        go (Some g) e q = absurd (false≢true q)
     apart (suc m) u p n d = go (find u c.gates) refl p (apart m)
       where
         go : (o : Option Gate) → find u c.gates ≡ o → both (λ x. settled c.gates m x) o ≡ true
             → ((x : ℕ) → settled c.gates m x ≡ true → (x ≡ inner c + k → ⊥) → (Depends c.gates x (inner c + k) → ⊥) → after x ≡ before x)
             → after u ≡ before u
-        go none e q ih = after_is u n none e ∙ sym (before-is u none e)
-        go (some g) e q ih =
+        go None e q ih = after_is u n None e ∙ sym (before-is u None e)
+        go (Some g) e q ih =
             let kept : (r : Bool) → settled c.gates m (side r g) ≡ true → after (side r g) ≡ before (side r g)
             = λ r f. ih (side r g) f (λ x. d (one (g, r, e, x))) (λ x. d (more (g, r, e, refl) x)) in
-            after_is u n (some g) e
+            after_is u n (Some g) e
             ∙ ap₂ and (ap (signed_value (sign_of g.rhs0))
             (kept true (and_left (settled c.gates m (var_of g.rhs0)) (settled c.gates m (var_of g.rhs1)) q)))
             (ap (signed_value (sign_of g.rhs1)) (kept false (and_right (settled c.gates m (var_of g.rhs0)) (settled c.gates m (var_of g.rhs1)) q)))
-            ∙ sym (before-is u (some g) e)
+            ∙ sym (before-is u (Some g) e)
 
     -- no value changes of another variable that does not depend on the gate
     pub rewire-apart : (u : ℕ) → (u ≡ inner c + k → ⊥) → (Depends c.gates u (inner c + k) → ⊥)

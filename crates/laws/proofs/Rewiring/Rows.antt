@@ -1,8 +1,8 @@
 -- Gates at their places in a table: what holds of each gate of a list, the gate of a variable, and one row changed.
 use Prim.Native.Nat.{ℕ, zero, suc, ◌+◌, ◌*◌, ◌≤◌, ◌<◌, min, max}
 use mathlib.Core.Path.{◌≡◌, refl, sym, ap, ap₂, ◌∙◌, subst}
-use mathlib.Core.Option.{some}
 use mathlib.Core.List.{List, [], ◌∷◌, ◌++◌}
+use Rattle.std.specs.Prelude.{Some}
 use native.Mathlib.Omega.{arith}
 use native.Mathlib.Nat.{not-suc-le-zero}
 use native.Mathlib.Decide.{dec_lt}
@@ -38,7 +38,7 @@ all-places P at (suc n) a i h = go (dec_lt i n) (all-places P at n (all-front P 
 
 -- in binary order each gate is found by its own left side
 abbrev Own : ℕ → List Gate → Gate → Type 0
-Own n gs g = (n ≤ var_of g.lhs) × (find (var_of g.lhs) gs ≡ some g)
+Own n gs g = (n ≤ var_of g.lhs) × (find (var_of g.lhs) gs ≡ Some g)
 
 own-found : (n : ℕ) (gs : List Gate) → Binary n gs → AllG (Own n gs) gs
 own-found n [] b = tt
@@ -49,7 +49,7 @@ own-found n (x ∷ gs) b = (
       gs (own-found (suc n) gs b.3),
 )
 
-pub found_at : (n : ℕ) (t : List ℕ) (a k : ℕ) → k < a → Binary n (gates_at t a) → find (n + k) (gates_at t a) ≡ some (gate_at t k)
+pub found_at : (n : ℕ) (t : List ℕ) (a k : ℕ) → k < a → Binary n (gates_at t a) → find (n + k) (gates_at t a) ≡ Some (gate_at t k)
 found_at n t a k h b =
     ap (λ (v : ℕ). find v (gates_at t a)) (sym (left_at n t a k h b))
     ∙ (all-places (Own n (gates_at t a)) (gate_at t) a (own-found n (gates_at t a) b) k h).1

@@ -3,8 +3,8 @@ use Prim.Native.Nat.{ℕ, zero, suc, ◌+◌, ◌≤◌, ◌<◌}
 use mathlib.Core.Path.{◌≡◌, refl, sym, ap, ap₂, ◌∙◌, subst}
 use mathlib.Core.Bool.{Bool, true, false, cond}
 use mathlib.Core.Logic.{◌↔◌}
-use mathlib.Core.Option.{Option, none, some}
 use mathlib.Core.List.{List, [], ◌∷◌, ◌++◌, map, map-append}
+use Rattle.std.specs.Prelude.{Option, Some, None}
 use native.Mathlib.Omega.{arith}
 use native.Mathlib.Decide.{dec_lt, ℕ_discrete}
 use borrow.Author.Tests.{eqb-true, eqb-false, eq-eqb, ne_eqb}
@@ -42,12 +42,12 @@ value-code v1 = refl
 value-code vx = refl
 
 -- nothing is wrong exactly if each byte is right
-pub all_right : (gs : List Gate) (bytes : List ℕ) (n v : ℕ) → wrong_from gs bytes v n ≡ none → (u : ℕ) → v ≤ u → u < v + n → Right gs bytes u
+pub all_right : (gs : List Gate) (bytes : List ℕ) (n v : ℕ) → wrong_from gs bytes v n ≡ None → (u : ℕ) → v ≤ u → u < v + n → Right gs bytes u
 all_right gs bytes zero v e u h k = absurd (omega arith)
 all_right gs bytes (suc n) v e u h k = go (eqb (get_or bytes v 0) (code_of (follows gs bytes v))) refl e (all_right gs bytes n (suc v))
   where
-    go : (t : Bool) → eqb (get_or bytes v 0) (code_of (follows gs bytes v)) ≡ t → cond t (wrong_from gs bytes (suc v) n) (some v) ≡ none
-        → (wrong_from gs bytes (suc v) n ≡ none → (x : ℕ) → suc v ≤ x → x < suc v + n → Right gs bytes x) → Right gs bytes u
+    go : (t : Bool) → eqb (get_or bytes v 0) (code_of (follows gs bytes v)) ≡ t → cond t (wrong_from gs bytes (suc v) n) (Some v) ≡ None
+        → (wrong_from gs bytes (suc v) n ≡ None → (x : ℕ) → suc v ≤ x → x < suc v + n → Right gs bytes x) → Right gs bytes u
     go false q f ih = let z : ◌≡◌ {A = ℕ} 0 1 = cc in absurd (omega arith)
     go true q f ih = here (ℕ_discrete v u)
       where
@@ -55,20 +55,20 @@ all_right gs bytes (suc n) v e u h k = go (eqb (get_or bytes v 0) (code_of (foll
         here (yes p) = subst (Right gs bytes) p (eqb-true (get_or bytes v 0) (code_of (follows gs bytes v)) q)
         here (no p) = ih f u (omega arith) (omega arith)
 
-pub none-wrong : (gs : List Gate) (bytes : List ℕ) (n v : ℕ) → ((u : ℕ) → v ≤ u → u < v + n → Right gs bytes u) → wrong_from gs bytes v n ≡ none
+pub none-wrong : (gs : List Gate) (bytes : List ℕ) (n v : ℕ) → ((u : ℕ) → v ≤ u → u < v + n → Right gs bytes u) → wrong_from gs bytes v n ≡ None
 none-wrong gs bytes zero v h = refl
 none-wrong gs bytes (suc n) v h =
     rw (eq-eqb (get_or bytes v 0) (code_of (follows gs bytes v)) (h v (omega arith) (omega arith)))
     (none-wrong gs bytes n (suc v) (λ u p q. h u (omega arith) (omega arith)))
 
 -- the place of 23 is the least variable whose byte is not right
-pub wrong-least : (gs : List Gate) (bytes : List ℕ) (n v x : ℕ) → wrong_from gs bytes v n ≡ some x
+pub wrong-least : (gs : List Gate) (bytes : List ℕ) (n v x : ℕ) → wrong_from gs bytes v n ≡ Some x
     → (¬ Right gs bytes x) × ((u : ℕ) → v ≤ u → u < x → Right gs bytes u)
 wrong-least gs bytes zero v x e = let z : ◌≡◌ {A = ℕ} 0 1 = cc in absurd (omega arith)
 wrong-least gs bytes (suc n) v x e = go (eqb (get_or bytes v 0) (code_of (follows gs bytes v))) refl e (wrong-least gs bytes n (suc v) x)
   where
-    go : (t : Bool) → eqb (get_or bytes v 0) (code_of (follows gs bytes v)) ≡ t → cond t (wrong_from gs bytes (suc v) n) (some v) ≡ some x
-        → (wrong_from gs bytes (suc v) n ≡ some x → (¬ Right gs bytes x) × ((u : ℕ) → suc v ≤ u → u < x → Right gs bytes u))
+    go : (t : Bool) → eqb (get_or bytes v 0) (code_of (follows gs bytes v)) ≡ t → cond t (wrong_from gs bytes (suc v) n) (Some v) ≡ Some x
+        → (wrong_from gs bytes (suc v) n ≡ Some x → (¬ Right gs bytes x) × ((u : ℕ) → suc v ≤ u → u < x → Right gs bytes u))
         → (¬ Right gs bytes x) × ((u : ℕ) → v ≤ u → u < x → Right gs bytes u)
     go false q f ih =
         let same : v ≡ x = cc in (
@@ -85,21 +85,21 @@ wrong-least gs bytes (suc n) v x e = go (eqb (get_or bytes v 0) (code_of (follow
         here u a b (yes p) = subst (Right gs bytes) p (eqb-true (get_or bytes v 0) (code_of (follows gs bytes v)) q)
         here u a b (no p) = (ih f).1 u (omega arith) b
 
-wrong-within : (gs : List Gate) (bytes : List ℕ) (n v x : ℕ) → wrong_from gs bytes v n ≡ some x → x < v + n
+wrong-within : (gs : List Gate) (bytes : List ℕ) (n v x : ℕ) → wrong_from gs bytes v n ≡ Some x → x < v + n
 wrong-within gs bytes zero v x e = let z : ◌≡◌ {A = ℕ} 0 1 = cc in absurd (omega arith)
 wrong-within gs bytes (suc n) v x e = go (eqb (get_or bytes v 0) (code_of (follows gs bytes v))) e (wrong-within gs bytes n (suc v) x)
   where
-    go : (t : Bool) → cond t (wrong_from gs bytes (suc v) n) (some v) ≡ some x → (wrong_from gs bytes (suc v) n ≡ some x → x < suc v + n) → x < v + suc n
+    go : (t : Bool) → cond t (wrong_from gs bytes (suc v) n) (Some v) ≡ Some x → (wrong_from gs bytes (suc v) n ≡ Some x → x < suc v + n) → x < v + suc n
     go false f ih = let same : v ≡ x = cc in omega arith
     go true f ih = let lt = ih f in omega arith
 
 -- a variable of the gates' has a gate
-gate-there : (n : ℕ) (gs : List Gate) → Binary n gs → (v : ℕ) → n ≤ v → v < n + length gs → find v gs ≡ none → ⊥
+gate-there : (n : ℕ) (gs : List Gate) → Binary n gs → (v : ℕ) → n ≤ v → v < n + length gs → find v gs ≡ None → ⊥
 gate-there n [] b v h k e = omega arith
 gate-there n (g ∷ gs) b v h k e = go (eqb (var_of g.lhs) v) refl e (gate-there (suc n) gs b.3 v)
   where
-    go : (t : Bool) → eqb (var_of g.lhs) v ≡ t → cond t (some g) (find v gs) ≡ none
-        → (suc n ≤ v → v < suc n + length gs → find v gs ≡ none → ⊥) → ⊥
+    go : (t : Bool) → eqb (var_of g.lhs) v ≡ t → cond t (Some g) (find v gs) ≡ None
+        → (suc n ≤ v → v < suc n + length gs → find v gs ≡ None → ⊥) → ⊥
     go true q f ih = let z : ◌≡◌ {A = ℕ} 0 1 = cc in omega arith
     go false q f ih = ih (omega (arith, eqb-false (var_of g.lhs) v q, b.0)) (omega arith) f
 
@@ -159,7 +159,7 @@ module _ (c : Circuit) (w : WellFormed c) (t : binary_order c ≡ true) (bytes :
   follows-step v h low = go (find v c.gates) refl
     where
       go : (o : Option Gate) → find v c.gates ≡ o → follows c.gates bytes v ≡ values_of c s i v
-      go (some g) f =
+      go (Some g) f =
           let fall = subst (FindSays v c.gates) f (find-says v c.gates) in
           let lower = fall.1 (Falls sides_of) (sides-fall (inner c) c.gates binary) in
           let r0 = lower (var_of g.rhs0) (has-self (var_of g.rhs0) (var_of g.rhs1 ∷ [])) in
@@ -168,7 +168,7 @@ module _ (c : Circuit) (w : WellFormed c) (t : binary_order c ≡ true) (bytes :
           ∙ ap₂ and (ap (signed_value (sign_of g.rhs0)) (low (var_of g.rhs0) (omega (arith, r0, fall.0))))
           (ap (signed_value (sign_of g.rhs1)) (low (var_of g.rhs1) (omega (arith, r1, fall.0))))
           ∙ sym (values-solve c (accepted c w) s i v ∙ ap (gate_value (values_of c s i) (leaf_value c s i v)) f)
-      go none f =
+      go None f =
           ap (gate_value (value_on bytes) (cond (eqb v 0) v0 (value_on bytes v))) f ∙ leaf (ℕ_discrete v 0) (dec_lt v (inner c))
           ∙ sym (values-solve c (accepted c w) s i v ∙ ap (gate_value (values_of c s i) (leaf_value c s i v)) f)
         where
@@ -190,7 +190,7 @@ module _ (c : Circuit) (w : WellFormed c) (t : binary_order c ≡ true) (bytes :
           (ap value_of (right v (omega arith)) ∙ value-code (follows c.gates bytes v) ∙ follows-step v (omega arith) ih)
 
   -- 23 names the least variable whose byte is not that of the step from the state and inputs on the screen
-  pub least-of-step : (v : ℕ) → wrong_on c bytes ≡ some v
+  pub least-of-step : (v : ℕ) → wrong_on c bytes ≡ Some v
       → (get_or bytes v 0 ≡ code_of (values_of c (state_on c bytes) (inputs_on c bytes) v) → ⊥)
       × ((u : ℕ) → u < v → get_or bytes u 0 ≡ code_of (values_of c (state_on c bytes) (inputs_on c bytes) u))
   unfolding s i
@@ -217,8 +217,8 @@ module _ (c : Circuit) (w : WellFormed c) (t : binary_order c ≡ true) (bytes :
       where
         gate-case : (o : Option Gate) → find v c.gates ≡ o → inner c ≤ v → v < c.M + 1
             → follows c.gates bytes v ≡ gate_value (value_on bytes) (leaf_value c s i v) (find v c.gates)
-        gate-case none e h k = absurd (gate-there (inner c) c.gates binary v h (omega (arith, order.sum)) e)
-        gate-case (some g) e h k =
+        gate-case None e h k = absurd (gate-there (inner c) c.gates binary v h (omega (arith, order.sum)) e)
+        gate-case (Some g) e h k =
             ap (gate_value (value_on bytes) (cond (eqb v 0) v0 (value_on bytes v))) e ∙ sym (ap (gate_value (value_on bytes) (leaf_value c s i v)) e)
 
         high : Dec (v < c.M + 1) → inner c ≤ v → value_on bytes v ≡ gate_value (value_on bytes) (leaf_value c s i v) (find v c.gates)
@@ -274,7 +274,7 @@ screen-at c s i v h =
 
 -- nothing on the screen is wrong exactly if it shows the step from its own state and inputs
 pub screen-exactly : (c : Circuit) → WellFormed c → binary_order c ≡ true → (bytes : List ℕ) → length bytes ≡ c.M + 1
-    → (wrong_on c bytes ≡ none) ↔ (bytes ≡ screen c (state_on c bytes) (inputs_on c bytes))
+    → (wrong_on c bytes ≡ None) ↔ (bytes ≡ screen c (state_on c bytes) (inputs_on c bytes))
 unfolding s i
 screen-exactly c w t bytes size = (shows, passes)
   where
@@ -284,7 +284,7 @@ screen-exactly c w t bytes size = (shows, passes)
     i : List Value
     i = inputs_on c bytes
 
-    shows : wrong_on c bytes ≡ none → bytes ≡ screen c s i
+    shows : wrong_on c bytes ≡ None → bytes ≡ screen c s i
     shows e =
         let right : (v : ℕ) → v < c.M + 1 → Right c.gates bytes v = λ v h. all_right c.gates bytes (c.M + 1) 0 e v (omega arith) (omega arith) in
         ext_get_or 0 bytes (screen c s i) (size ∙ sym (length-screen c s i))
@@ -295,7 +295,7 @@ screen-exactly c w t bytes size = (shows, passes)
     on_step : bytes ≡ screen c s i → (v : ℕ) → v < c.M + 1 → value_on bytes v ≡ values_of c s i v
     on_step e v h = ap (λ (l : List ℕ). value_of (get_or l v 0)) e ∙ ap value_of (screen-at c s i v h) ∙ value-code (values_of c s i v)
 
-    passes : bytes ≡ screen c s i → wrong_on c bytes ≡ none
+    passes : bytes ≡ screen c s i → wrong_on c bytes ≡ None
     passes e =
         none-wrong c.gates bytes (c.M + 1) 0 (λ v _ h.
         ap (λ (l : List ℕ). get_or l v 0) e ∙ screen-at c s i v (omega arith)
@@ -303,7 +303,7 @@ screen-exactly c w t bytes size = (shows, passes)
       where
         same : (v : ℕ) → v < c.M + 1 → (o : Option Gate) → find v c.gates ≡ o
             → gate_value (values_of c s i) (leaf_value c s i v) o ≡ gate_value (value_on bytes) (cond (eqb v 0) v0 (value_on bytes v)) o
-        same v h (some g) f =
+        same v h (Some g) f =
             let fall = subst (FindSays v c.gates) f (find-says v c.gates) in
             let low = fall.1 (Falls sides_of) (sides-fall (inner c) c.gates (order-binary (inner c) c.gates ((order-exactly c).0 t).gates)) in
             let lhs = fall.0 in
@@ -311,7 +311,7 @@ screen-exactly c w t bytes size = (shows, passes)
             let r1 = low (var_of g.rhs1) (has-later (var_of g.rhs1) (var_of g.rhs0) (var_of g.rhs1 ∷ []) (has-self (var_of g.rhs1) [])) in
             ap₂ and (ap (signed_value (sign_of g.rhs0)) (sym (on_step e (var_of g.rhs0) (omega (arith, r0, lhs)))))
             (ap (signed_value (sign_of g.rhs1)) (sym (on_step e (var_of g.rhs1) (omega (arith, r1, lhs)))))
-        same v h none f =
+        same v h None f =
             let solved = values-solve c (accepted c w) s i v ∙ ap (gate_value (values_of c s i) (leaf_value c s i v)) f in
             leaf (ℕ_discrete v 0) solved
           where

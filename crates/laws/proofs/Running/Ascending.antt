@@ -2,8 +2,8 @@
 use Prim.Native.Nat.{ℕ, ◌<◌}
 use mathlib.Core.Path.{◌≡◌, refl, subst}
 use mathlib.Core.Bool.{Bool, true, false, ◌&&◌}
-use mathlib.Core.Option.{none, some}
 use mathlib.Core.List.{List, [], ◌∷◌, ◌++◌}
+use Rattle.std.specs.Prelude.{Some, None}
 use borrow.Author.Tests.{ltb-true}
 use lib.Dec.{ltb}
 use Rattle.plan.specs.Literals.{var_of}
@@ -31,12 +31,12 @@ side-below g true h = ltb-true (var_of g.rhs0) (var_of g.lhs) (and_left (ltb (va
 side-below g false h = ltb-true (var_of g.rhs1) (var_of g.lhs) (and_right (ltb (var_of g.rhs0) (var_of g.lhs)) _ h)
 
 -- 8 is not given
-pub ascends_none : (c : Circuit) → ascends c.gates ≡ true → cyclic_in c ≡ none
+pub ascends_none : (c : Circuit) → ascends c.gates ≡ true → cyclic_in c ≡ None
 ascends_none c h = cycle-none c.gates c.gates (rank-acyclic c.gates (λ v. v) lower)
   where
     lower : (u v : ℕ) → Uses c.gates u v → v < u
     lower u v x =
-        let says : FindSays u c.gates (some x.0) = subst (FindSays u c.gates) x.2 (find-says u c.gates) in
+        let says : FindSays u c.gates (Some x.0) = subst (FindSays u c.gates) x.2 (find-says u c.gates) in
         let below = side-below x.0 x.1 (says.1 (λ g. above g ≡ true) (all_above c.gates h)) in
         subst (λ (y : ℕ). v < y) says.0 (subst (λ (y : ℕ). y < var_of x.0.lhs) x.3 below)
 

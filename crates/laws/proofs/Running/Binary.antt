@@ -2,8 +2,8 @@
 use Prim.Native.Nat.{ℕ, zero, suc, ◌+◌, ◌≤◌, ◌<◌}
 use mathlib.Core.Path.{◌≡◌, refl, sym, ap, ◌∙◌}
 use mathlib.Core.Bool.{Bool, true, false, cond}
-use mathlib.Core.Option.{none, some}
 use mathlib.Core.List.{List, [], ◌∷◌}
+use Rattle.std.specs.Prelude.{Some, None}
 use native.Mathlib.Omega.{arith}
 use borrow.Author.Tests.{eqb-true, eqb-false, eq-eqb, ne_eqb, leb-true, leb-false}
 use lib.Dec.{eqb, leb}
@@ -21,11 +21,11 @@ abbrev pub Binary : ℕ → List Gate → Type 0
 Binary n [] = Unit {0}
 Binary n (g ∷ gs) = (g.lhs ≡ lit_of n) × (var_of g.rhs0 < n) × (var_of g.rhs1 < n) × Binary (suc n) gs
 
-pub find_none : (n : ℕ) (gs : List Gate) → Binary n gs → (v : ℕ) → v < n → find v gs ≡ none
+pub find_none : (n : ℕ) (gs : List Gate) → Binary n gs → (v : ℕ) → v < n → find v gs ≡ None
 find_none n [] b v h = refl
 find_none n (g ∷ gs) b v h = rw (ne_eqb (var_of g.lhs) v (λ p. omega (arith, p, b.0))) (find_none (suc n) gs b.3 v (omega arith))
 
-pub find-above : (n : ℕ) (gs : List Gate) → Binary n gs → (v : ℕ) → n + length gs ≤ v → find v gs ≡ none
+pub find-above : (n : ℕ) (gs : List Gate) → Binary n gs → (v : ℕ) → n + length gs ≤ v → find v gs ≡ None
 find-above n [] b v h = refl
 find-above n (g ∷ gs) b v h = rw (ne_eqb (var_of g.lhs) v (λ p. omega (arith, p, b.0))) (find-above (suc n) gs b.3 v (omega arith))
 
@@ -33,7 +33,7 @@ both_below : (f : ℕ → Bool) (n : ℕ) (gs : List Gate) → Binary n gs → (
 both_below f n [] b v h = refl
 both_below f n (g ∷ gs) b v h = go (both_below f (suc n) gs b.3 v h) (eqb (var_of g.lhs) v) refl
   where
-    go : both f (find v gs) ≡ true → (t : Bool) → eqb (var_of g.lhs) v ≡ t → both f (cond t (some g) (find v gs)) ≡ true
+    go : both f (find v gs) ≡ true → (t : Bool) → eqb (var_of g.lhs) v ≡ t → both f (cond t (Some g) (find v gs)) ≡ true
     go ih true p =
         and_intro (f (var_of g.rhs0)) (f (var_of g.rhs1)) (h (var_of g.rhs0) (omega (arith, eqb-true, b.0, b.1)))
         (h (var_of g.rhs1) (omega (arith, eqb-true, b.0, b.2)))
@@ -63,11 +63,11 @@ holds e w n (g ∷ gs) b s = (at_n, holds e w (suc n) gs b.3 later)
     at_n : lit w g.lhs ≡ and (lit w g.rhs0) (lit w g.rhs1)
     at_n =
         ap (lit w) b.0 ∙ lit-double w n ∙ s n (omega arith)
-        ∙ ap (λ (t : Bool). gate_value w (e n) (cond t (some g) (find n gs))) (eq-eqb (var_of g.lhs) n (omega (arith, b.0)))
+        ∙ ap (λ (t : Bool). gate_value w (e n) (cond t (Some g) (find n gs))) (eq-eqb (var_of g.lhs) n (omega (arith, b.0)))
 
     later : (v : ℕ) → suc n ≤ v → w v ≡ gate_value w (e v) (find v gs)
     later v h =
-        s v (omega arith) ∙ ap (λ (t : Bool). gate_value w (e v) (cond t (some g) (find v gs)))
+        s v (omega arith) ∙ ap (λ (t : Bool). gate_value w (e v) (cond t (Some g) (find v gs)))
         (ne_eqb (var_of g.lhs) v (λ p. omega (arith, p, b.0)))
 
 -- the equations at the gates' places
@@ -77,7 +77,7 @@ solves-in w a n [] b h v p q = absurd (omega arith)
 solves-in w a n (g ∷ gs) b h v p q = go (eqb (var_of g.lhs) v) refl (λ r. solves-in w a (suc n) gs b.3 h.1 v r (omega arith))
   where
     go : (t : Bool) → eqb (var_of g.lhs) v ≡ t → (suc n ≤ v → w v ≡ gate_value w a (find v gs))
-        → w v ≡ gate_value w a (cond t (some g) (find v gs))
+        → w v ≡ gate_value w a (cond t (Some g) (find v gs))
     go true e f =
         let r : lit_of v ≡ g.lhs = omega (arith, eqb-true, b.0) in
         sym (lit-double w v) ∙ ap (lit w) r ∙ h.0

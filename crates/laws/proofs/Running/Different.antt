@@ -2,8 +2,8 @@
 use Prim.Native.Nat.{ℕ}
 use mathlib.Core.Path.{◌≡◌, refl, ap, ap₂}
 use mathlib.Core.Bool.{Bool, true, false, not, cond}
-use mathlib.Core.Option.{Option, none, some}
 use mathlib.Core.List.{List, [], ◌∷◌, ◌++◌, map}
+use Rattle.std.specs.Prelude.{Option, Some, None}
 use borrow.Author.Tests.{not-true}
 use Rattle.plan.specs.Literals.{var_of}
 use Rattle.plan.specs.Circuit.{Circuit, one_line, latch_line, gate_line, literal_of, heads, vars, current_vars, left_vars, defined_in, has, all_new}
@@ -13,15 +13,15 @@ use Rattle.laws.proofs.Reading.Common.{and_left, and_right}
 use Rattle.laws.proofs.Reading.Rows.{new-first, new-second}
 
 -- the first literal of a line is new, so the line defines nothing twice
-once : (t : ℕ) (seen row : List ℕ) → has (var_of (literal_of row)) seen ≡ false → twice true seen (placed t row) ≡ none
+once : (t : ℕ) (seen row : List ℕ) → has (var_of (literal_of row)) seen ≡ false → twice true seen (placed t row) ≡ None
 once t seen [] h = refl
-once t seen (l ∷ row) h = ap (λ (b : Bool). cond b (some t) none) h
+once t seen (l ∷ row) h = ap (λ (b : Bool). cond b (Some t) None) h
 
-or-none : (a b : Option ℕ) → a ≡ none → b ≡ none → or_else a b ≡ none
+or-none : (a b : Option ℕ) → a ≡ None → b ≡ None → or_else a b ≡ None
 or-none a b h k = ap₂ or_else h k
 
 -- where the variables of lines are all new, no line is refused by 6
-pub new-once : (t : ℕ) (seen : List ℕ) (rows : List (List ℕ)) → all_new seen (heads rows) ≡ true → twice_of t seen rows ≡ none
+pub new-once : (t : ℕ) (seen : List ℕ) (rows : List (List ℕ)) → all_new seen (heads rows) ≡ true → twice_of t seen rows ≡ None
 new-once t seen [] h = refl
 new-once t seen (row ∷ rows) h =
     let v = var_of (literal_of row) in
@@ -30,7 +30,7 @@ new-once t seen (row ∷ rows) h =
     (once t seen row (not-true (has v seen) (and_left (not (has v seen)) more h)))
     (new-once t (seen ++ (v ∷ [])) rows (and_right (not (has v seen)) more h))
 
-pub different-once : (c : Circuit) → all_new [] (defined_in c) ≡ true → twice_in c ≡ none
+pub different-once : (c : Circuit) → all_new [] (defined_in c) ≡ true → twice_in c ≡ None
 different-once c h =
     let ins = vars c.inputs in
     let lats = current_vars c.latches in

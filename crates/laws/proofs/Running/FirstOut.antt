@@ -2,8 +2,8 @@
 use Prim.Native.Nat.{ℕ}
 use mathlib.Core.Path.{◌≡◌, refl, sym, ap, ap₂, ◌∙◌}
 use mathlib.Core.Bool.{Bool, true, false, cond, false≢true}
-use mathlib.Core.Option.{Option, none, some}
 use mathlib.Core.List.{List, [], ◌∷◌, ◌++◌}
+use Rattle.std.specs.Prelude.{Option, Some, None}
 use native.Mathlib.Omega.{arith}
 use lib.ListN.{length}
 use Rattle.plan.specs.Literals.{var_of}
@@ -17,24 +17,24 @@ use Rattle.laws.proofs.Running.Scan.{scanned, sorted-scanned}
 
 -- the left variable of the first gate that is not in o
 abbrev pub first_out : List ℕ → List Gate → Option ℕ
-first_out o [] = none
-first_out o (g ∷ gs) = cond (has (var_of g.lhs) o) (first_out o gs) (some (var_of g.lhs))
+first_out o [] = None
+first_out o (g ∷ gs) = cond (has (var_of g.lhs) o) (first_out o gs) (Some (var_of g.lhs))
 
-pub out-append-none : (o : List ℕ) (gs hs : List Gate) → first_out o gs ≡ none → first_out o (gs ++ hs) ≡ first_out o hs
+pub out-append-none : (o : List ℕ) (gs hs : List Gate) → first_out o gs ≡ None → first_out o (gs ++ hs) ≡ first_out o hs
 out-append-none o [] hs e = refl
 out-append-none o (g ∷ gs) hs e = go (has (var_of g.lhs) o) e (out-append-none o gs hs)
   where
-    go : (b : Bool) → cond b (first_out o gs) (some (var_of g.lhs)) ≡ none → (first_out o gs ≡ none → first_out o (gs ++ hs) ≡ first_out o hs)
-        → cond b (first_out o (gs ++ hs)) (some (var_of g.lhs)) ≡ first_out o hs
+    go : (b : Bool) → cond b (first_out o gs) (Some (var_of g.lhs)) ≡ None → (first_out o gs ≡ None → first_out o (gs ++ hs) ≡ first_out o hs)
+        → cond b (first_out o (gs ++ hs)) (Some (var_of g.lhs)) ≡ first_out o hs
     go true p f = f p
     go false p f = absurd (let z : ◌≡◌ {A = ℕ} 0 1 = cc in omega arith)
 
-pub out-append-some : (o : List ℕ) (gs hs : List Gate) (v : ℕ) → first_out o gs ≡ some v → first_out o (gs ++ hs) ≡ some v
+pub out-append-some : (o : List ℕ) (gs hs : List Gate) (v : ℕ) → first_out o gs ≡ Some v → first_out o (gs ++ hs) ≡ Some v
 out-append-some o [] hs v e = absurd (let z : ◌≡◌ {A = ℕ} 0 1 = cc in omega arith)
 out-append-some o (g ∷ gs) hs v e = go (has (var_of g.lhs) o) e (out-append-some o gs hs v)
   where
-    go : (b : Bool) → cond b (first_out o gs) (some (var_of g.lhs)) ≡ some v → (first_out o gs ≡ some v → first_out o (gs ++ hs) ≡ some v)
-        → cond b (first_out o (gs ++ hs)) (some (var_of g.lhs)) ≡ some v
+    go : (b : Bool) → cond b (first_out o gs) (Some (var_of g.lhs)) ≡ Some v → (first_out o gs ≡ Some v → first_out o (gs ++ hs) ≡ Some v)
+        → cond b (first_out o (gs ++ hs)) (Some (var_of g.lhs)) ≡ Some v
     go true p f = f p
     go false p f = p
 
@@ -43,7 +43,7 @@ out-stuck : (o : List ℕ) (all gs : List Gate) → ((v : ℕ) → has v (left_v
     → first_out o gs ≡ first_stuck all gs
 out-stuck o all [] h = refl
 out-stuck o all (g ∷ gs) h =
-    ap₂ (λ (b : Bool) (r : Option ℕ). cond b r (some (var_of g.lhs))) (h (var_of g.lhs) (has-self (var_of g.lhs) (left_vars gs)))
+    ap₂ (λ (b : Bool) (r : Option ℕ). cond b r (Some (var_of g.lhs))) (h (var_of g.lhs) (has-self (var_of g.lhs) (left_vars gs)))
     (out-stuck o all gs (λ v k. h v (has-later v (var_of g.lhs) (left_vars gs) k)))
 
 module _ (c : Circuit) (once : distinct (leaves c ++ left_vars c.gates) ≡ true)

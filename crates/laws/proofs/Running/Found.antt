@@ -2,8 +2,8 @@
 use Prim.Native.Nat.{ℕ}
 use mathlib.Core.Path.{◌≡◌, refl, sym, subst}
 use mathlib.Core.Bool.{Bool, true, false, cond, ◌||◌, false≢true}
-use mathlib.Core.Option.{Option, none, some}
 use mathlib.Core.List.{List, [], ◌∷◌, Memᴰ}
+use Rattle.std.specs.Prelude.{Option, Some, None}
 use borrow.Author.Tests.{eqb-true, eqb-false, eq-eqb, ne_eqb}
 use lib.Dec.{eqb}
 use Rattle.plan.specs.Literals.{var_of}
@@ -31,19 +31,19 @@ all_both P Q (g ∷ gs) a b = ((a.0, b.0), all_both P Q gs a.1 b.1)
 
 -- the gate of a variable
 abbrev pub FindSays : ℕ → List Gate → Option Gate → Type 1
-FindSays v gs none = (◌≡◌ {A = Bool} (has v (left_vars gs)) false) × Unit {1}
-FindSays v gs (some g) = (var_of g.lhs ≡ v) × ((P : Gate → Type 0) → AllG P gs → P g)
+FindSays v gs None = (◌≡◌ {A = Bool} (has v (left_vars gs)) false) × Unit {1}
+FindSays v gs (Some g) = (var_of g.lhs ≡ v) × ((P : Gate → Type 0) → AllG P gs → P g)
 
 find_past : (v : ℕ) (g : Gate) (gs : List Gate) → eqb (var_of g.lhs) v ≡ false → (r : Option Gate) → FindSays v gs r
     → FindSays v (g ∷ gs) r
-find_past v g gs e none h = (rw e h.0, tt)
-find_past v g gs e (some j) h = (h.0, λ P a. h.1 P a.1)
+find_past v g gs e None h = (rw e h.0, tt)
+find_past v g gs e (Some j) h = (h.0, λ P a. h.1 P a.1)
 
 pub find-says : (v : ℕ) (gs : List Gate) → FindSays v gs (find v gs)
 find-says v [] = (refl, tt)
 find-says v (g ∷ gs) = go (eqb (var_of g.lhs) v) refl (find-says v gs)
   where
-    go : (t : Bool) → eqb (var_of g.lhs) v ≡ t → FindSays v gs (find v gs) → FindSays v (g ∷ gs) (cond t (some g) (find v gs))
+    go : (t : Bool) → eqb (var_of g.lhs) v ≡ t → FindSays v gs (find v gs) → FindSays v (g ∷ gs) (cond t (Some g) (find v gs))
     go true e h = (eqb-true (var_of g.lhs) v e, λ P a. a.0)
     go false e h = find_past v g gs e (find v gs) h
 
@@ -71,13 +71,13 @@ other-left x (g ∷ gs) h = (
   other-left x gs (or-none (eqb (var_of g.lhs) x) (has x (left_vars gs)) h).1,
 )
 
-pub found-own : (gs : List Gate) → distinct (left_vars gs) ≡ true → AllG (λ g. find (var_of g.lhs) gs ≡ some g) gs
+pub found-own : (gs : List Gate) → distinct (left_vars gs) ≡ true → AllG (λ g. find (var_of g.lhs) gs ≡ Some g) gs
 found-own [] h = tt
 found-own (g ∷ gs) h = (
   rw (eq-eqb (var_of g.lhs) (var_of g.lhs) refl),
-  all_map (λ j. (eqb (var_of g.lhs) (var_of j.lhs) ≡ false) × (find (var_of j.lhs) gs ≡ some j))
-      (λ j. find (var_of j.lhs) (g ∷ gs) ≡ some j) (λ j t. rw t.0 t.1) gs
-      (all_both (λ j. eqb (var_of g.lhs) (var_of j.lhs) ≡ false) (λ j. find (var_of j.lhs) gs ≡ some j) gs
+  all_map (λ j. (eqb (var_of g.lhs) (var_of j.lhs) ≡ false) × (find (var_of j.lhs) gs ≡ Some j))
+      (λ j. find (var_of j.lhs) (g ∷ gs) ≡ Some j) (λ j t. rw t.0 t.1) gs
+      (all_both (λ j. eqb (var_of g.lhs) (var_of j.lhs) ≡ false) (λ j. find (var_of j.lhs) gs ≡ Some j) gs
       (other-left (var_of g.lhs) gs (distinct_head (var_of g.lhs) (left_vars gs) h))
       (found-own gs (distinct_tail (var_of g.lhs) (left_vars gs) h))),
 )

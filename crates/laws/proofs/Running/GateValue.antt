@@ -2,9 +2,9 @@
 use Prim.Native.Nat.{ℕ}
 use mathlib.Core.Path.{◌≡◌, ap, ◌∙◌}
 use mathlib.Core.Bool.{true}
-use mathlib.Core.Option.{some}
 use mathlib.Core.List.{List, Memᴰ}
 use lib.ListN.{length}
+use Rattle.std.specs.Prelude.{Some}
 use Rattle.plan.specs.Literals.{var_of}
 use Rattle.plan.specs.Circuit.{Gate, Circuit, left_vars, has, leaves}
 use Rattle.plan.specs.Depends.{find}
@@ -23,12 +23,12 @@ module _ (c : Circuit) (ok : Accepted c) where
   pub values-solve : (s i : List Value) → Solves c.gates (leaf_value c s i) (values_of c s i)
   values-solve s i = value-solves c.gates (leaf_value c s i) (length c.gates) ok.settles
 
-  pub gates-found : AllG (λ g. find (var_of g.lhs) c.gates ≡ some g) c.gates
+  pub gates-found : AllG (λ g. find (var_of g.lhs) c.gates ≡ Some g) c.gates
   gates-found = found-own c.gates (distinct-right (leaves c) (left_vars c.gates) ok.once)
 
   pub gates-hold : (s i : List Value) → AllG (GateEq (values_of c s i)) c.gates
   gates-hold s i =
-      all_map (λ g. find (var_of g.lhs) c.gates ≡ some g) (GateEq (values_of c s i))
+      all_map (λ g. find (var_of g.lhs) c.gates ≡ Some g) (GateEq (values_of c s i))
       (λ g e. values-solve s i (var_of g.lhs) ∙ ap (gate_value (values_of c s i) (leaf_value c s i (var_of g.lhs))) e)
       c.gates gates-found
 
@@ -39,8 +39,8 @@ module _ (c : Circuit) (ok : Accepted c) where
 
 module _ (c : Circuit) (ok : WellFormed c) where
   -- every gate of the list is the gate of its left side's variable
-  pub gate-found : (g : Gate) → Memᴰ g c.gates → find (var_of g.lhs) c.gates ≡ some g
-  gate-found g m = all-at (λ j. find (var_of j.lhs) c.gates ≡ some j) m (gates-found c (accepted c ok))
+  pub gate-found : (g : Gate) → Memᴰ g c.gates → find (var_of g.lhs) c.gates ≡ Some g
+  gate-found g m = all-at (λ j. find (var_of j.lhs) c.gates ≡ Some j) m (gates-found c (accepted c ok))
 
   -- a gate's value is the And of its right sides' values
   pub gate-value : (s i : List Value) (g : Gate) → Memᴰ g c.gates

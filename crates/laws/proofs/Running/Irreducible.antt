@@ -2,8 +2,8 @@
 use Prim.Native.Nat.{ℕ, ◌≤◌, min, max}
 use mathlib.Core.Path.{◌≡◌, refl, sym, ap, ◌∙◌, subst}
 use mathlib.Core.Bool.{Bool, true, false, cond, ◌&&◌, ◌||◌}
-use mathlib.Core.Option.{Option, none, some}
 use mathlib.Core.List.{List, [], ◌∷◌, ◌++◌, append-nil, append_assoc}
+use Rattle.std.specs.Prelude.{Option, Some, None}
 use native.Mathlib.Omega.{arith}
 use native.Mathlib.Decide.{dec_le}
 use borrow.Author.Tests.{eqb-false, eq-eqb, ne_eqb}
@@ -24,12 +24,12 @@ pub record Plain (a b : ℕ) : Type 0 where
   pub not-0 : (¬ (a ≡ 0)) × (¬ (b ≡ 0))
   pub not-1 : (¬ (a ≡ 1)) × (¬ (b ≡ 1))
 
-pub pick-none : (t : Bool) (l : ℕ) (o : Option ℕ) → cond t (some l) o ≡ none → (t ≡ false) × (o ≡ none)
+pub pick-none : (t : Bool) (l : ℕ) (o : Option ℕ) → cond t (Some l) o ≡ None → (t ≡ false) × (o ≡ None)
 pick-none true l o e = let z : ◌≡◌ {A = ℕ} 0 1 = cc in absurd (omega arith)
 pick-none false l o e = (refl, e)
 
 -- nothing stands in exactly if the sides are plain and no gate has the pair
-pub stand-none : (a b : ℕ) (ks : List Gate) → stand_in a b ks ≡ none → Plain a b × (twin (max a b) (min a b) ks ≡ none)
+pub stand-none : (a b : ℕ) (ks : List Gate) → stand_in a b ks ≡ None → Plain a b × (twin (max a b) (min a b) ks ≡ None)
 stand-none a b ks e =
     let p1 = pick-none (eqb a b) a _ e in
     let p2 = pick-none (eqb a (neg_of b)) 0 _ p1.1 in
@@ -46,7 +46,7 @@ stand-none a b ks e =
       p5.1,
     )
 
-pub plain-stand : (a b : ℕ) (ks : List Gate) → Plain a b → twin (max a b) (min a b) ks ≡ none → stand_in a b ks ≡ none
+pub plain-stand : (a b : ℕ) (ks : List Gate) → Plain a b → twin (max a b) (min a b) ks ≡ None → stand_in a b ks ≡ None
 plain-stand a b ks p t =
     rw (
       ne_eqb a b p.unequal,
@@ -82,9 +82,9 @@ plain-larger a b p = go (dec_le b a)
 -- gates of which none is replaced, after those of `seen`
 abbrev pub Free : List Gate → List Gate → Type 0
 Free seen [] = Unit {0}
-Free seen (g ∷ gs) = (Plain g.rhs0 g.rhs1 × (twin g.rhs0 g.rhs1 seen ≡ none)) × Free (seen ++ (g ∷ [])) gs
+Free seen (g ∷ gs) = (Plain g.rhs0 g.rhs1 × (twin g.rhs0 g.rhs1 seen ≡ None)) × Free (seen ++ (g ∷ [])) gs
 
-free_more : (seen gs : List Gate) (g : Gate) → Free seen gs → Plain g.rhs0 g.rhs1 → twin g.rhs0 g.rhs1 (seen ++ gs) ≡ none
+free_more : (seen gs : List Gate) (g : Gate) → Free seen gs → Plain g.rhs0 g.rhs1 → twin g.rhs0 g.rhs1 (seen ++ gs) ≡ None
     → Free seen (gs ++ (g ∷ []))
 free_more seen [] g f p t = ((p, ap (twin g.rhs0 g.rhs1) (sym (append-nil seen)) ∙ t), tt)
 free_more seen (h ∷ gs) g f p t =
@@ -92,8 +92,8 @@ free_more seen (h ∷ gs) g f p t =
 
 retain-free : (r : Reduced) (a b : ℕ) (o : Option ℕ) → stand_in a b r.retained ≡ o → Free [] r.retained
     → Free [] (retain r a b o).retained
-retain-free r a b (some l) e f = f
-retain-free r a b none e f =
+retain-free r a b (Some l) e f = f
+retain-free r a b None e f =
     let s = stand-none a b r.retained e in
     free_more [] r.retained (gate_for r.fresh a b) f (plain-larger a b s.0) s.1
 
@@ -123,7 +123,7 @@ abbrev pub PairsDiffer : List Gate → Type 0
 PairsDiffer [] = Unit {0}
 PairsDiffer (g ∷ gs) = AllG (λ h. ¬ SamePair g h) gs × PairsDiffer gs
 
-pub twin-seam : (a b : ℕ) (xs : List Gate) (g : Gate) (ys : List Gate) → twin a b (xs ++ (g ∷ ys)) ≡ none → (g.rhs0 ≡ a) × (g.rhs1 ≡ b) → ⊥
+pub twin-seam : (a b : ℕ) (xs : List Gate) (g : Gate) (ys : List Gate) → twin a b (xs ++ (g ∷ ys)) ≡ None → (g.rhs0 ≡ a) × (g.rhs1 ≡ b) → ⊥
 twin-seam a b [] g ys e s =
     let t = (pick-none (eqb g.rhs0 a && eqb g.rhs1 b) g.lhs (twin a b ys) e).0 in
     let z : ◌≡◌ {A = Bool} true false = sym (rw (eq-eqb g.rhs0 a s.0, eq-eqb g.rhs1 b s.1)) ∙ t in

@@ -3,8 +3,8 @@
 use Prim.Native.Nat.{zero, suc}
 use mathlib.Core.Path.{◌≡◌}
 use mathlib.Core.Bool.{true, false}
-use mathlib.Core.Option.{none}
 use mathlib.Core.List.{◌∷◌, map}
+use Rattle.std.specs.Prelude.{None}
 use native.Mathlib.Omega.{arith}
 use Rattle.plan.specs.Circuit.{Circuit, one_line, latch_line, defined_in, used_in, all_inside}
 use Rattle.plan.specs.Depends.{undefined_in, cyclic_in}
@@ -19,7 +19,7 @@ use Rattle.laws.proofs.Running.InOrder.{nexts-bounded, outputs-bounded, defined-
 pub no-six-to-eight : (c : Circuit) → binary_order c ≡ true → all_inside true c.M (map latch_line c.latches) ≡ true
     → all_inside false c.M (map one_line c.outputs) ≡ true → all_inside false c.M (map one_line c.bads) ≡ true
     → all_inside false c.M (map one_line c.constraints) ≡ true
-    → (twice_in c ≡ none) × (undefined_in c ≡ none) × (cyclic_in c ≡ none)
+    → (twice_in c ≡ None) × (undefined_in c ≡ None) × (cyclic_in c ≡ None)
 no-six-to-eight c order latches outputs bads constraints =
     let b = (order-exactly c).0 order in
     let next-in = nexts-bounded c.M (suc c.M) c.latches (omega arith) latches in

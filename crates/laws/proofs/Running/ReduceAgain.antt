@@ -2,8 +2,8 @@
 use Prim.Native.Nat.{ℕ, zero, suc, ◌+◌, ◌≤◌, ◌<◌, min, max}
 use mathlib.Core.Path.{◌≡◌, refl, sym, ap, ap₂, ◌∙◌}
 use mathlib.Core.Bool.{true}
-use mathlib.Core.Option.{none}
 use mathlib.Core.List.{List, [], ◌∷◌, ◌++◌, map, append-nil}
+use Rattle.std.specs.Prelude.{None}
 use native.Mathlib.Omega.{arith}
 use lib.ListN.{length}
 use lib.Seq.{append_snoc}
@@ -51,7 +51,7 @@ abbrev kept : ℕ → List Gate → Reduced
 kept k gs = record { became = lits_from 0 k; retained = gs; fresh = k }
 
 one_kept : (k : ℕ) (ps : List Gate) (g : Gate) → g.lhs ≡ lit_of k → g.rhs0 < g.lhs → g.rhs1 ≤ g.rhs0 → Plain g.rhs0 g.rhs1
-    → twin g.rhs0 g.rhs1 ps ≡ none
+    → twin g.rhs0 g.rhs1 ps ≡ None
     → reduce_gate (kept k ps) (becomes (lits_from 0 k) g.rhs0) (becomes (lits_from 0 k) g.rhs1) ≡ kept (suc k) (ps ++ (g ∷ []))
 one_kept k ps g l a b p t =
     let hi : max g.rhs0 g.rhs1 ≡ g.rhs0 = omega arith in
@@ -59,7 +59,7 @@ one_kept k ps g l a b p t =
     let k-is : lit_of k ≡ lit_of (0 + k) = omega arith in
     let h0 : var_of g.rhs0 < k = omega arith in
     let h1 : var_of g.rhs1 < k = omega arith in
-    let s : stand_in g.rhs0 g.rhs1 ps ≡ none
+    let s : stand_in g.rhs0 g.rhs1 ps ≡ None
     = plain-stand g.rhs0 g.rhs1 ps p (ap₂ (λ (x y : ℕ). twin x y ps) hi lo ∙ t) in
     ap₂ (λ (x y : ℕ). reduce_gate (kept k ps) x y) (becomes-self k g.rhs0 h0) (becomes-self k g.rhs1 h1)
     ∙ (ap (retain (kept k ps) g.rhs0 g.rhs1) s

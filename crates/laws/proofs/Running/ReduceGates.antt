@@ -2,8 +2,8 @@
 use Prim.Native.Nat.{ℕ, zero, suc, ◌+◌, ◌<◌, min, max}
 use mathlib.Core.Path.{◌≡◌, refl, sym, ap, ◌∙◌, subst}
 use mathlib.Core.Bool.{Bool, true, false}
-use mathlib.Core.Option.{Option, none, some}
 use mathlib.Core.List.{List, [], ◌∷◌, ◌++◌}
+use Rattle.std.specs.Prelude.{Option, Some, None}
 use native.Mathlib.Omega.{arith}
 use borrow.Author.Tests.{leb-true, leb-false}
 use lib.Dec.{leb}
@@ -29,8 +29,8 @@ holds-back w (g ∷ ks) js h = holds-back w ks js h.1
 
 -- the gates retained so far stay
 retain-keeps : (w : ℕ → Value) (r : Reduced) (a b : ℕ) (o : Option ℕ) → Holds w (retain r a b o).retained → Holds w r.retained
-retain-keeps w r a b none h = holds-front w r.retained _ h
-retain-keeps w r a b (some l) h = h
+retain-keeps w r a b None h = holds-front w r.retained _ h
+retain-keeps w r a b (Some l) h = h
 
 keeps : (w : ℕ → Value) (r : Reduced) (gs : List Gate) → Holds w (reduce_gates r gs).retained → Holds w r.retained
 keeps w r [] h = h
@@ -41,17 +41,17 @@ keeps w r (g ∷ gs) h =
 
 -- what one gate becomes
 abbrev newest : Reduced → Option ℕ → ℕ
-newest r none = lit_of r.fresh
-newest r (some l) = l
+newest r None = lit_of r.fresh
+newest r (Some l) = l
 
 retain-became : (r : Reduced) (a b : ℕ) (o : Option ℕ) → (retain r a b o).became ≡ r.became ++ (newest r o ∷ [])
-retain-became r a b none = refl
-retain-became r a b (some l) = refl
+retain-became r a b None = refl
+retain-became r a b (Some l) = refl
 
 newest-stands : (w : ℕ → Value) (zero_is : w 0 ≡ v0) (r : Reduced) (a b : ℕ) (o : Option ℕ) → All (Stands w zero_is a b) o
     → Holds w (retain r a b o).retained → Stands w zero_is a b (newest r o)
-newest-stands w z r a b (some l) f h = f
-newest-stands w z r a b none f h = le_of (sym ((holds-back w r.retained (gate_for r.fresh a b ∷ []) h).0 ∙ larger-first w a b))
+newest-stands w z r a b (Some l) f h = f
+newest-stands w z r a b None f h = le_of (sym ((holds-back w r.retained (gate_for r.fresh a b ∷ []) h).0 ∙ larger-first w a b))
 
 -- w: the values before; w': after; m: what the variables became
 abbrev pub Refines : (ℕ → Value) → (ℕ → Value) → List ℕ → Type 0
@@ -124,9 +124,9 @@ low-more f (x ∷ m) l h k (suc v) = low-more f m l h (λ u. k (suc u)) v
 
 ok-retain : (n : ℕ) (r : Reduced) (a b : ℕ) (o : Option ℕ) → Ok n r → var_of a < r.fresh → var_of b < r.fresh
     → All (λ l. var_of l < r.fresh) o → Ok n (retain r a b o)
-ok-retain n r a b (some l) k p q t =
+ok-retain n r a b (Some l) k p q t =
     record { some-var = k.some-var; order = k.order; count = k.count; low = low-more r.fresh r.became l t k.low }
-ok-retain n r a b none k p q t = record {
+ok-retain n r a b None k p q t = record {
   some-var = k.some-var;
   order = binary-more n r.retained (gate_for r.fresh a b) k.order (omega (arith, k.count)) (omega (arith, k.count))
       (omega (arith, k.count));

@@ -2,8 +2,8 @@
 use Prim.Native.Nat.{ℕ, suc, ◌+◌, ◌≤◌, ◌<◌, min, max}
 use mathlib.Core.Path.{◌≡◌, refl, sym, ap, ap₂, ◌∙◌, subst}
 use mathlib.Core.Bool.{true}
-use mathlib.Core.Option.{Option, none, some}
 use mathlib.Core.List.{List, [], ◌∷◌, ◌++◌, map}
+use Rattle.std.specs.Prelude.{Option, Some, None}
 use native.Mathlib.Omega.{arith}
 use lib.ListN.{length, get_or, length-append, length-map}
 use Rattle.plan.specs.Literals.{lit_of, var_of, sign_of}
@@ -74,8 +74,8 @@ all_more P [] g a p = (p, tt)
 all_more P (j ∷ gs) g a p = (a.0, all_more P gs g a.1 p)
 
 retain-larger : (r : Reduced) (a b : ℕ) (o : Option ℕ) → AllG LargerFirst r.retained → AllG LargerFirst (retain r a b o).retained
-retain-larger r a b (some l) h = h
-retain-larger r a b none h = all_more LargerFirst r.retained (gate_for r.fresh a b) h (omega arith)
+retain-larger r a b (Some l) h = h
+retain-larger r a b None h = all_more LargerFirst r.retained (gate_for r.fresh a b) h (omega arith)
 
 reduced-larger : (r : Reduced) (gs : List Gate) → AllG LargerFirst r.retained → AllG LargerFirst (reduce_gates r gs).retained
 reduced-larger r [] h = h
@@ -85,8 +85,8 @@ reduced-larger r (g ∷ gs) h =
     reduced-larger (reduce_gate r a b) gs (retain-larger r a b (stand_in a b r.retained) h)
 
 retain-length : (r : Reduced) (a b : ℕ) (o : Option ℕ) → length (retain r a b o).retained ≤ suc (length r.retained)
-retain-length r a b (some l) = omega arith
-retain-length r a b none = omega (arith, length-append r.retained (gate_for r.fresh a b ∷ []))
+retain-length r a b (Some l) = omega arith
+retain-length r a b None = omega (arith, length-append r.retained (gate_for r.fresh a b ∷ []))
 
 pub retained-length : (r : Reduced) (gs : List Gate) → length (reduce_gates r gs).retained ≤ length r.retained + length gs
 retained-length r [] = omega arith

@@ -2,8 +2,8 @@
 use Prim.Native.Nat.{ℕ, zero, suc, ◌≤◌}
 use mathlib.Core.Path.{◌≡◌, refl, sym, ap, ap₂, ◌∙◌}
 use mathlib.Core.Bool.{Bool, true, false, not, cond, ◌&&◌, ◌||◌, false≢true}
-use mathlib.Core.Option.{Option, none, some}
 use mathlib.Core.List.{List, [], ◌∷◌, ◌++◌}
+use Rattle.std.specs.Prelude.{Option, Some, None}
 use native.Mathlib.Omega.{arith}
 use borrow.Author.Tests.{eqb-false, ne_eqb}
 use lib.Dec.{eqb}
@@ -20,12 +20,12 @@ use Rattle.laws.proofs.Running.Converted.{gets-number}
 
 -- the first gate in file order without a number whose right sides are numbered
 abbrev pub scan : List ℕ → List Gate → Option Gate
-scan o [] = none
-scan o (g ∷ gs) = cond (not (has (var_of g.lhs) o) && ready o g) (some g) (scan o gs)
+scan o [] = None
+scan o (g ∷ gs) = cond (not (has (var_of g.lhs) o) && ready o g) (Some g) (scan o gs)
 
 abbrev pub scan_go : (List ℕ → List Gate) → List ℕ → Option Gate → List Gate
-scan_go f o none = []
-scan_go f o (some g) = g ∷ f (o ++ (var_of g.lhs ∷ []))
+scan_go f o None = []
+scan_go f o (Some g) = g ∷ f (o ++ (var_of g.lhs ∷ []))
 
 abbrev pub scanned : List Gate → ℕ → List ℕ → List Gate
 scanned all zero o = []
@@ -57,15 +57,15 @@ remaining-same x o (g ∷ gs) h = go (eqb (var_of g.lhs) x) refl h (remaining-sa
         (has-snoc (var_of g.lhs) x o (ne_eqb x (var_of g.lhs) (λ q. eqb-false (var_of g.lhs) x e (sym q)))) (f p)
 
 abbrev ScanSays : List ℕ → List Gate → Option Picked → Type 0
-ScanSays o gs none = scan o gs ≡ none
-ScanSays o gs (some q) =
-    (scan o gs ≡ some q.gate) × (has (var_of q.gate.lhs) (left_vars gs) ≡ true)
+ScanSays o gs None = scan o gs ≡ None
+ScanSays o gs (Some q) =
+    (scan o gs ≡ Some q.gate) × (has (var_of q.gate.lhs) (left_vars gs) ≡ true)
     × (q.rest ≡ remaining (o ++ (var_of q.gate.lhs ∷ [])) gs)
 
 numbered-past : (o : List ℕ) (g : Gate) (gs : List Gate) → has (var_of g.lhs) o ≡ true → (r : Option Picked) → ScanSays o gs r
     → ScanSays o (g ∷ gs) r
-numbered-past o g gs e none h = rw e h
-numbered-past o g gs e (some q) h = (
+numbered-past o g gs e None h = rw e h
+numbered-past o g gs e (Some q) h = (
   rw e h.0,
   has-later (var_of q.gate.lhs) (var_of g.lhs) (left_vars gs) h.1,
   rw
@@ -74,8 +74,8 @@ numbered-past o g gs e (some q) h = (
 
 unready-past : (o : List ℕ) (g : Gate) (gs : List Gate) → distinct (left_vars (g ∷ gs)) ≡ true → has (var_of g.lhs) o ≡ false
     → ready o g ≡ false → (r : Option Picked) → ScanSays o gs r → ScanSays o (g ∷ gs) (past g r)
-unready-past o g gs d e f none h = rw (e, f) h
-unready-past o g gs d e f (some q) h =
+unready-past o g gs d e f None h = rw (e, f) h
+unready-past o g gs d e f (Some q) h =
     let n : has (var_of g.lhs) (left_vars gs) ≡ false = distinct_head (var_of g.lhs) (left_vars gs) d in
     let x : eqb (var_of g.lhs) (var_of q.gate.lhs) ≡ false = has-not (var_of q.gate.lhs) (var_of g.lhs) (left_vars gs) n h.1 in
     let y : eqb (var_of q.gate.lhs) (var_of g.lhs) ≡ false
@@ -93,7 +93,7 @@ scan-says o (g ∷ gs) d = go (has (var_of g.lhs) o) refl (ready o g) refl (scan
         → ScanSays o (g ∷ gs) (pick o (skip t g (remaining o gs)))
     go true e r f ih = numbered-past o g gs e (pick o (remaining o gs)) ih
     go false e true f ih = rw (f, pick) (
-      ap₂ (λ (t r : Bool). cond (not t && r) (some g) (scan o gs)) e f,
+      ap₂ (λ (t r : Bool). cond (not t && r) (Some g) (scan o gs)) e f,
       has-self (var_of g.lhs) (left_vars gs),
       sym (ap (λ (t : Bool). skip t g (remaining (o ++ (var_of g.lhs ∷ [])) gs)) (has-seam (var_of g.lhs) o [])
           ∙ remaining-same (var_of g.lhs) o gs (distinct_head (var_of g.lhs) (left_vars gs) d)),
@@ -106,8 +106,8 @@ scanned-order all d (suc k) o = go (pick o (remaining o all)) (scan-says o all d
   where
     go : (r : Option Picked) → ScanSays o all r → ((o' : List ℕ) → order k o' (remaining o' all) ≡ scanned all k o')
         → order_by (λ o' gs'. order k o' gs') o r ≡ scan_go (λ o'. scanned all k o') o (scan o all)
-    go none h ih = ap (scan_go (λ o'. scanned all k o') o) (sym h)
-    go (some q) h ih =
+    go None h ih = ap (scan_go (λ o'. scanned all k o') o) (sym h)
+    go (Some q) h ih =
         let o' = o ++ (var_of q.gate.lhs ∷ []) in
         ap (λ (t : List Gate). q.gate ∷ t) (ap (order k o') h.2 ∙ ih o') ∙ ap (scan_go (λ p. scanned all k p) o) (sym h.0)
 
@@ -142,5 +142,5 @@ scanned-length all zero o = omega arith
 scanned-length all (suc k) o = go (scan o all) (λ o'. scanned-length all k o')
   where
     go : (r : Option Gate) → ((o' : List ℕ) → length (scanned all k o') ≤ k) → length (scan_go (λ o'. scanned all k o') o r) ≤ suc k
-    go none ih = omega arith
-    go (some g) ih = omega (arith, ih (o ++ (var_of g.lhs ∷ [])))
+    go None ih = omega arith
+    go (Some g) ih = omega (arith, ih (o ++ (var_of g.lhs ∷ [])))

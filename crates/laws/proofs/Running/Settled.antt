@@ -2,8 +2,8 @@
 use Prim.Native.Nat.{ℕ, zero, suc, ◌+◌, ◌-◌}
 use mathlib.Core.Path.{◌≡◌, refl, sym, ap, ◌∙◌, subst}
 use mathlib.Core.Bool.{Bool, true, false, ◌||◌, false≢true}
-use mathlib.Core.Option.{some}
 use mathlib.Core.List.{List, [], ◌∷◌, ◌++◌, append-nil}
+use Rattle.std.specs.Prelude.{Some}
 use native.Mathlib.Nat.{add-zero, add-suc}
 use native.Mathlib.Omega.{arith}
 use borrow.Author.Tests.{eqb-true}
@@ -36,7 +36,7 @@ has-snoc-cases C v x (y ∷ p) h f g = go (eqb y v) h (λ q k. has-snoc-cases C 
     go true q ih k = k refl
     go false q ih k = ih q k
 
-settled-in : (gs : List Gate) (j : ℕ) (p : List ℕ) (qs : List Gate) → Readied p qs → AllG (λ g. find (var_of g.lhs) gs ≡ some g) qs
+settled-in : (gs : List Gate) (j : ℕ) (p : List ℕ) (qs : List Gate) → Readied p qs → AllG (λ g. find (var_of g.lhs) gs ≡ Some g) qs
     → ((v : ℕ) → has v p ≡ true → settled gs j v ≡ true) → (v : ℕ) → has v (p ++ left_vars qs) ≡ true → settled gs (j + length qs) v ≡ true
 settled-in gs j p [] r a h v k = rw (add-zero j) (h v (rw (append-nil p) at k))
 settled-in gs j p (g ∷ qs) r a h v k =
@@ -70,7 +70,7 @@ module _ (c : Circuit) (once : distinct (leaves c ++ left_vars c.gates) ≡ true
       subst (λ (n : ℕ). settled c.gates n v ≡ true) q
       (settled-plus c.gates (0 + length (sorted c)) (k - length (sorted c)) v
       (settled-in c.gates 0 (leaves c) (sorted c) (order-readied k (leaves c) c.gates)
-      (order-all (λ g. find (var_of g.lhs) c.gates ≡ some g) k (leaves c) c.gates
+      (order-all (λ g. find (var_of g.lhs) c.gates ≡ Some g) k (leaves c) c.gates
       (found-own c.gates (distinct-right (leaves c) (left_vars c.gates) once)))
       (λ u t. settled-none c.gates 0 u (none_of u c.gates (distinct_apart u (leaves c) (left_vars c.gates) once t))) v h))
 

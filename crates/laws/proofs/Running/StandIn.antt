@@ -2,8 +2,8 @@
 use Prim.Native.Nat.{ℕ, suc, ◌+◌, ◌≤◌, ◌<◌, min, max}
 use mathlib.Core.Path.{◌≡◌, refl, sym, ap, ap₂, ◌∙◌, subst}
 use mathlib.Core.Bool.{Bool, true, false, cond, ◌&&◌, ◌||◌}
-use mathlib.Core.Option.{Option, none, some}
 use mathlib.Core.List.{List, [], ◌∷◌}
+use Rattle.std.specs.Prelude.{Option, Some, None}
 use native.Mathlib.Omega.{arith}
 use borrow.Author.Tests.{eqb-true}
 use lib.Dec.{eqb}
@@ -19,10 +19,10 @@ use Rattle.laws.proofs.Running.Binary.{Binary, Holds}
 
 -- of the literal, if there is one
 abbrev pub All : (ℕ → Type 0) → Option ℕ → Type 0
-All P none = Unit {0}
-All P (some l) = P l
+All P None = Unit {0}
+All P (Some l) = P l
 
-all-pick : (P : ℕ → Type 0) (t : Bool) (l : ℕ) (o : Option ℕ) → (t ≡ true → P l) → All P o → All P (cond t (some l) o)
+all-pick : (P : ℕ → Type 0) (t : Bool) (l : ℕ) (o : Option ℕ) → (t ≡ true → P l) → All P o → All P (cond t (Some l) o)
 all-pick P true l o h k = h refl
 all-pick P false l o h k = k
 
@@ -64,8 +64,8 @@ module _ (w : ℕ → Value) (zero_is : w 0 ≡ v0) where
       (twin-stands a b ks h.1)
 
   all_map : (P Q : ℕ → Type 0) → ((l : ℕ) → P l → Q l) → (o : Option ℕ) → All P o → All Q o
-  all_map P Q f none h = tt
-  all_map P Q f (some l) h = f l h
+  all_map P Q f None h = tt
+  all_map P Q f (Some l) h = f l h
 
   left-0 : (a b : ℕ) → eqb a 0 ≡ true → and (lit w a) (lit w b) ≡ lit w 0
   left-0 a b q = ap (λ (t : Value). and t (lit w b)) (ap (lit w) (eqb-true a 0 q) ∙ zero_is) ∙ and_0 (lit w b) ∙ sym zero_is
@@ -99,8 +99,8 @@ twin-low n a b (g ∷ ks) h =
     (all-weaken (suc n + length ks) (n + suc (length ks)) (omega arith) (twin a b ks) (twin-low (suc n) a b ks h.3))
   where
     all-weaken : (x y : ℕ) → x ≤ y → (o : Option ℕ) → All (λ l. var_of l < x) o → All (λ l. var_of l < y) o
-    all-weaken x y q none t = tt
-    all-weaken x y q (some l) t = omega arith
+    all-weaken x y q None t = tt
+    all-weaken x y q (Some l) t = omega arith
 
 pub stand_in-low : (f a b : ℕ) (ks : List Gate) → 0 < f → var_of a < f → var_of b < f → All (λ l. var_of l < f) (twin (max a b) (min a b) ks)
     → All (λ l. var_of l < f) (stand_in a b ks)

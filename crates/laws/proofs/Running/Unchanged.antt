@@ -2,8 +2,8 @@
 use Prim.Native.Nat.{ℕ, suc, ◌+◌, ◌≤◌, ◌<◌, min, max}
 use mathlib.Core.Path.{◌≡◌, refl, sym, ap, ap₂, ◌∙◌}
 use mathlib.Core.Bool.{Bool, true, cond}
-use mathlib.Core.Option.{some}
 use mathlib.Core.List.{List, [], ◌∷◌, ◌++◌, map}
+use Rattle.std.specs.Prelude.{Some}
 use native.Mathlib.Omega.{arith}
 use lib.ListN.{length}
 use Rattle.plan.specs.Literals.{lit_of, var_of}
@@ -23,7 +23,7 @@ order_same : (n : ℕ) (gs : List Gate) → InOrder n gs → order (length gs) (
 order_same n [] b = refl
 order_same n (g ∷ gs) b =
     ap (λ (t : Bool). order_by (λ o rest. order (length gs) o rest) (up_from 0 n)
-    (cond t (some (record { gate = g; rest = gs })) (past g (pick (up_from 0 n) gs)))) is-ready
+    (cond t (Some (record { gate = g; rest = gs })) (past g (pick (up_from 0 n) gs)))) is-ready
     ∙ ap (λ (t : List Gate). g ∷ t) (ap (λ (o : List ℕ). order (length gs) o gs) (ap (λ (k : ℕ). up_from 0 n ++ (k ∷ [])) half ∙ up-snoc n)
     ∙ order_same (suc n) gs b.3)
   where

@@ -2,9 +2,9 @@
 use Prim.Native.Nat.{ℕ, zero, suc, ◌<◌}
 use mathlib.Core.Path.{◌≡◌, refl, ap₂, subst}
 use mathlib.Core.Bool.{true, false≢true}
-use mathlib.Core.Option.{Option, none, some}
 use mathlib.Core.Logic.{◌↔◌}
 use mathlib.Core.List.{List, [], ◌∷◌, ◌++◌, map, append-nil}
+use Rattle.std.specs.Prelude.{Option, Some, None}
 use native.Mathlib.Omega.{arith}
 use native.Mathlib.Nat.{not-suc-le-zero}
 use lib.ListN.{length, get_or, replicate, length-append}
@@ -91,14 +91,14 @@ module _ (gs : List Gate) (e : ℕ → Value) (lv : List ℕ) (leaf-not : (v : �
   value-notx zero v p d = go (find v gs) (find-says v gs) p
     where
       go : (r : Option Gate) → FindSays v gs r → is_none r ≡ true → NotX (e v)
-      go none h q = leaf-not v (has-but v lv (left_vars gs) d h.0)
-      go (some g) h q = absurd (false≢true q)
+      go None h q = leaf-not v (has-but v lv (left_vars gs) d h.0)
+      go (Some g) h q = absurd (false≢true q)
   value-notx (suc k) v p d = go (λ u q t. value-notx k u q t) (find v gs) (find-says v gs) p
     where
       go : ((u : ℕ) → settled gs k u ≡ true → has u (lv ++ left_vars gs) ≡ true → NotX (value_in gs e k u)) → (r : Option Gate)
           → FindSays v gs r → both (λ u. settled gs k u) r ≡ true → NotX (gate_value (λ u. value_in gs e k u) (e v) r)
-      go ih none h q = leaf-not v (has-but v lv (left_vars gs) d h.0)
-      go ih (some g) h q =
+      go ih None h q = leaf-not v (has-but v lv (left_vars gs) d h.0)
+      go ih (Some g) h q =
           let s = h.1 (Sides (lv ++ left_vars gs)) used in
           notx-and (lit (λ u. value_in gs e k u) g.rhs0) (lit (λ u. value_in gs e k u) g.rhs1)
           (notx-signed (sign_of g.rhs0) (value_in gs e k (var_of g.rhs0))

@@ -3,9 +3,9 @@ use Prim.Native.Nat.{ℕ, zero, suc, ◌+◌, ◌≤◌, ◌<◌}
 use mathlib.Core.Path.{◌≡◌, refl, sym, ap, ap₂, ◌∙◌, subst}
 use mathlib.Core.Bool.{Bool, true, false, cond, ◌||◌, false≢true}
 use mathlib.Core.Logic.{◌↔◌}
-use mathlib.Core.Option.{some}
 use mathlib.Core.List.Memᴰ
 use mathlib.Core.List.{List, [], ◌∷◌, ◌++◌, map, Memᴰ}
+use Rattle.std.specs.Prelude.{Some}
 use native.Mathlib.Omega.{arith}
 use native.Mathlib.Decide.{dec_lt}
 use lib.Dec.{eqb}
@@ -39,7 +39,7 @@ order-in-turn : (p : List ℕ) (gs : List Gate) → Readied p gs → order (leng
 order-in-turn p [] r = refl
 order-in-turn p (g ∷ gs) r =
     ap (λ (t : Bool). order_by (λ o rest. order (length gs) o rest) p
-    (cond t (some (record { gate = g; rest = gs })) (past g (pick p gs)))) r.0
+    (cond t (Some (record { gate = g; rest = gs })) (past g (pick p gs)))) r.0
     ∙ ap (λ (t : List Gate). g ∷ t) (order-in-turn (p ++ (var_of g.lhs ∷ [])) gs r.1)
 
 -- the gates of variables that hold the right sides of theirs are ready in their turn
@@ -120,7 +120,7 @@ module _ (c : Circuit) (w : WellFormed c) (t : binary_order c ≡ true) where
   pub used-readied : Readied (leaves c) (used c).gates
   used-readied =
       readied-of (reached c) (leaves c) (inner c) c.gates (order-binary (inner c) c.gates b.gates)
-      (all_map (λ g. find (var_of g.lhs) c.gates ≡ some g) _ (λ g e h. both-reached c w t (var_of g.lhs) g e h) c.gates
+      (all_map (λ g. find (var_of g.lhs) c.gates ≡ Some g) _ (λ g e h. both-reached c w t (var_of g.lhs) g e h) c.gates
       (gates-found c (accepted c w)))
       (λ v h _. subst (λ (l : List ℕ). has v l ≡ true) (sym (leaves-order c b)) (has-up 0 (inner c) v (omega arith) (omega arith)))
 

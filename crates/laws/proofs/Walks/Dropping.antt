@@ -2,15 +2,14 @@
 use Prim.Native.Nat.{ℕ, suc}
 use mathlib.Core.Path.{◌≡◌, refl, sym, ap, ◌∙◌, subst}
 use mathlib.Core.Bool.{Bool, true, false, cond, ◌||◌, false≢true}
-use mathlib.Core.Option.{none, some}
 use mathlib.Core.Logic.{◌↔◌}
 use mathlib.Core.List.{List, [], ◌∷◌, ◌++◌}
+use Rattle.std.specs.Prelude.{Ok, Some, None}
 use native.Mathlib.Omega.{arith}
 use borrow.Author.Tests.{eqb-true}
 use lib.Dec.{eqb}
 use Rattle.plan.specs.declared.Counts.{Counts}
 use Rattle.plan.specs.declared.Refusal.TheVariants.{NotInOrder}
-use Rattle.plan.specs.declared.Made.TheVariants as made
 use Rattle.plan.specs.Refusals.{first_of}
 use Rattle.plan.specs.Literals.{var_of}
 use Rattle.plan.specs.Circuit.{Gate, Circuit, Tables, counts_of, left_vars, has, words_to_work, against, least_short, lengths_of, leaves, index}
@@ -55,18 +54,18 @@ renumbered c v g = gate_for (new_number c v) (renumber (left (used c)) g.rhs0) (
 
 -- a reached gate of the circuit that has this new number
 abbrev pub ReachedGate : Circuit → ℕ → Type 0
-ReachedGate c n = (v : ℕ) × (g : Gate) × (find v c.gates ≡ some g) × Reached c v × (n ≡ new_number c v)
+ReachedGate c n = (v : ℕ) × (g : Gate) × (find v c.gates ≡ Some g) × Reached c v × (n ≡ new_number c v)
 
 module _ (c : Circuit) (w : WellFormed c) (t : binary_order c ≡ true) where
   once : distinct (left (used c)) ≡ true
   once = (accepted (used c) (used-well-formed c w t)).once
 
   -- every reached gate is left
-  gate-kept : (v : ℕ) (g : Gate) → find v c.gates ≡ some g → Reached c v → find (new_number c v) (drop_unused c).gates ≡ some (renumbered c v g)
+  gate-kept : (v : ℕ) (g : Gate) → find v c.gates ≡ Some g → Reached c v → find (new_number c v) (drop_unused c).gates ≡ Some (renumbered c v g)
   gate-kept v g f r =
       ap (find (new_number c v)) (gates-at (used c) once)
       ∙ found_at (left (used c)) (leaves (used c)) (used c).gates once refl v g
-      (find-of v (reached c) c.gates ∙ (ap (λ (b : Bool). cond b (find v c.gates) none) ((reached-exactly c w t v).1 r) ∙ f))
+      (find-of v (reached c) c.gates ∙ (ap (λ (b : Bool). cond b (find v c.gates) None) ((reached-exactly c w t v).1 r) ∙ f))
 
   -- every gate that is left is one
   pub retains-only-reached : AllG (λ h. ReachedGate c (var_of h.lhs)) (drop_unused c).gates
@@ -74,23 +73,23 @@ module _ (c : Circuit) (w : WellFormed c) (t : binary_order c ≡ true) where
       subst (λ (gs : List Gate). AllG (λ h. ReachedGate c (var_of h.lhs)) gs) (sym (gates-at (used c) once))
       (all-renumbered (left (used c)) (ReachedGate c) (leaves (used c)) (used c).gates once refl
       (all_of (λ g. ReachedGate c (index (var_of g.lhs) (left (used c)))) (reached c) c.gates
-      (all_map (λ g. find (var_of g.lhs) c.gates ≡ some g)
+      (all_map (λ g. find (var_of g.lhs) c.gates ≡ Some g)
       (λ g. has (var_of g.lhs) (reached c) ≡ true → ReachedGate c (index (var_of g.lhs) (left (used c))))
       (λ g f h. (var_of g.lhs, g, f, (reached-exactly c w t (var_of g.lhs)).0 h, refl)) c.gates (gates-found c (accepted c w)))))
 
-  there : (u : ℕ) (g : Gate) → find u c.gates ≡ some g → Reached c u → has u (left (used c)) ≡ true
+  there : (u : ℕ) (g : Gate) → find u c.gates ≡ Some g → Reached c u → has u (left (used c)) ≡ true
   there u g f r =
       has_right u (leaves (used c)) (left_vars (used c).gates)
       (of-lefts (reached c) c.gates u (gate-left u c.gates g f) ((reached-exactly c w t u).1 r))
 
   -- so a gate is left exactly if it is reached
-  pub retains-reached : (v : ℕ) (g : Gate) → find v c.gates ≡ some g
-      → Reached c v ↔ (find (new_number c v) (drop_unused c).gates ≡ some (renumbered c v g))
+  pub retains-reached : (v : ℕ) (g : Gate) → find v c.gates ≡ Some g
+      → Reached c v ↔ (find (new_number c v) (drop_unused c).gates ≡ Some (renumbered c v g))
   retains-reached v g f =
       let gs = (drop_unused c).gates in
       (gate-kept v g f, λ e. back (subst (FindSays (new_number c v) gs) e (find-says (new_number c v) gs)))
     where
-      back : FindSays (new_number c v) (drop_unused c).gates (some (renumbered c v g)) → Reached c v
+      back : FindSays (new_number c v) (drop_unused c).gates (Some (renumbered c v g)) → Reached c v
       back s =
           let k = s.1 (λ h. ReachedGate c (var_of h.lhs)) retains-only-reached in
           let same : v ≡ k.0 = same_place v k.0 (left (used c)) (there k.0 k.1 k.2 k.3) (sym s.0 ∙ k.4) in
@@ -104,7 +103,7 @@ module _ (u : MakeCall dropping) where
   abbrev before : Circuit
   before = given_circuit u.entry.circuit
 
-  passed : first_of (stages g (lent_with g u.entry.written) ++ (order_stage g ∷ [])) ≡ none
+  passed : first_of (stages g (lent_with g u.entry.written) ++ (order_stage g ∷ [])) ≡ None
   passed =
       made_none (λ o. (made_by o u.entry (drop_unused before)).answer) (λ r. refl)
       (first_of (stages g (lent_with g u.entry.written) ++ (order_stage g ∷ []))) u.counts u.accepted
@@ -119,11 +118,11 @@ module _ (u : MakeCall dropping) where
       failing-none (binary_order before) (stage-none NotInOrder (failing (binary_order before)) last.0)
 
   -- what it leaves has exactly the reached gates of what it was given, under their new numbers
-  pub call-retains-exactly : (v : ℕ) (g : Gate) → find v (given_circuit u.entry.circuit).gates ≡ some g
+  pub call-retains-exactly : (v : ℕ) (g : Gate) → find v (given_circuit u.entry.circuit).gates ≡ Some g
       → Reached (given_circuit u.entry.circuit) v
-      ↔ (find (new_number (given_circuit u.entry.circuit) v) (made_circuit dropping u).gates ≡ some (renumbered (given_circuit u.entry.circuit) v g))
+      ↔ (find (new_number (given_circuit u.entry.circuit) v) (made_circuit dropping u).gates ≡ Some (renumbered (given_circuit u.entry.circuit) v g))
   call-retains-exactly v h f =
-      subst (λ (d : Circuit). Reached before v ↔ (find (new_number before v) d.gates ≡ some (renumbered before v h))) (sym (dropped-is u))
+      subst (λ (d : Circuit). Reached before v ↔ (find (new_number before v) d.gates ≡ Some (renumbered before v h))) (sym (dropped-is u))
       (retains-reached before given-formed given-in-order v h f)
 
   pub call-retains-only : AllG (λ h. ReachedGate (given_circuit u.entry.circuit) (var_of h.lhs)) (made_circuit dropping u).gates
@@ -147,12 +146,12 @@ module _ (u : MakeCall dropping) where
   abbrev pub left_by : Given
   left_by = record { counts = u.counts; tables = (dropping u.entry).written; scratch = (dropping u.entry).scratch }
 
-  pub drop-again-accepted : (t : Tables) → least_short (against 1 (words_to_work u.counts) (lengths_of t (dropping u.entry).scratch)) ≡ none
-      → (dropping (record { circuit = left_by; written = t })).answer ≡ made.Accepted u.counts
+  pub drop-again-accepted : (t : Tables) → least_short (against 1 (words_to_work u.counts) (lengths_of t (dropping u.entry).scratch)) ≡ None
+      → (dropping (record { circuit = left_by; written = t })).answer ≡ Ok u.counts
   drop-again-accepted t long =
       let l = dropping-left u.entry u.counts u.accepted in
       let d = drop_unused before in
       dropping-accepted left_by d l.0 t
       (ap (λ (m : Counts). least_short (against 1 (words_to_work m) (lengths_of t (dropping u.entry).scratch))) (sym l.0.counts) ∙ long) l.1
-      ∙ (ap (λ (x : Circuit). made.Accepted (counts_of x)) (drop-again before given-formed given-in-order)
-      ∙ ap made.Accepted (sym l.0.counts))
+      ∙ (ap (λ (x : Circuit). Ok (counts_of x)) (drop-again before given-formed given-in-order)
+      ∙ ap Ok (sym l.0.counts))

@@ -3,13 +3,12 @@
 use Prim.Native.Nat.{ℕ, ◌+◌, ◌≤◌}
 use mathlib.Core.Path.{◌≡◌, refl, sym, ◌∙◌}
 use mathlib.Core.Bool.{true}
-use mathlib.Core.Option.{none}
 use mathlib.Core.List.{List}
+use Rattle.std.specs.Prelude.{Ok, None}
 use native.Mathlib.Omega.{arith}
 use lib.ListN.{length, length-map}
 use Rattle.plan.specs.declared.Counts.{Counts}
 use Rattle.plan.specs.declared.Version.{Version}
-use Rattle.plan.specs.declared.Made.TheVariants as made
 use Rattle.plan.specs.Circuit.{Circuit, Tables, counts_of, words_to_work, against, least_short, lengths_of}
 use Rattle.plan.specs.Tail.{TailOk}
 use Rattle.plan.specs.Reading.{WellFormed}
@@ -75,7 +74,7 @@ fitting c w t = record {
   C = length-map c.constraints (renumber (left (used c)));
 }
 
-pub dropping-left : (e : MakeEntry) (n : Counts) → (dropping e).answer ≡ made.Accepted n
+pub dropping-left : (e : MakeEntry) (n : Counts) → (dropping e).answer ≡ Ok n
     → Left (record { counts = n; tables = (dropping e).written; scratch = (dropping e).scratch }) (drop_unused (given_circuit e.circuit))
     × (binary_order (drop_unused (given_circuit e.circuit)) ≡ true)
 dropping-left = in-order-left drop_unused fitting
@@ -85,6 +84,6 @@ dropped-is m = (dropping-left m.entry m.counts m.accepted).0.holds
 
 -- and dropping accepts what an earlier call left in binary order
 pub dropping-accepted : (g : Given) (c : Circuit) → Left g c → (t : Tables)
-    → least_short (against 1 (words_to_work (counts_of c)) (lengths_of t g.scratch)) ≡ none → binary_order c ≡ true
-    → (dropping (record { circuit = g; written = t })).answer ≡ made.Accepted (counts_of (drop_unused c))
+    → least_short (against 1 (words_to_work (counts_of c)) (lengths_of t g.scratch)) ≡ None → binary_order c ≡ true
+    → (dropping (record { circuit = g; written = t })).answer ≡ Ok (counts_of (drop_unused c))
 dropping-accepted g c l t long o = in-order-accepted g c l t long drop_unused o

@@ -2,8 +2,8 @@
 use Prim.Native.Nat.{ℕ, suc, ◌≤◌}
 use mathlib.Core.Path.{◌≡◌, refl, sym, ap, ◌∙◌, subst}
 use mathlib.Core.Bool.{Bool, true, false, cond, not, false≢true}
-use mathlib.Core.Option.{none, some}
 use mathlib.Core.List.{List, [], ◌∷◌, ◌++◌, map}
+use Rattle.std.specs.Prelude.{Some, None}
 use native.Mathlib.Omega.{arith}
 use borrow.Author.Tests.{eqb-true}
 use lib.Dec.{eqb}
@@ -19,30 +19,30 @@ use Rattle.laws.proofs.Running.Scan.{has-snoc}
 use Rattle.plan.specs.Drop.{gates_of}
 
 -- the gate of a variable is found exactly if the variable is one of them
-pub find-of : (v : ℕ) (vs : List ℕ) (gs : List Gate) → find v (gates_of vs gs) ≡ cond (has v vs) (find v gs) none
+pub find-of : (v : ℕ) (vs : List ℕ) (gs : List Gate) → find v (gates_of vs gs) ≡ cond (has v vs) (find v gs) None
 find-of v vs [] = go (has v vs)
   where
-    go : (t : Bool) → none ≡ cond t (find v []) none
+    go : (t : Bool) → None ≡ cond t (find v []) None
     go true = refl
     go false = refl
 find-of v vs (g ∷ gs) = go (eqb (var_of g.lhs) v) refl (has (var_of g.lhs) vs) refl (find-of v vs gs)
   where
     go : (t : Bool) → eqb (var_of g.lhs) v ≡ t → (r : Bool) → has (var_of g.lhs) vs ≡ r
-        → find v (gates_of vs gs) ≡ cond (has v vs) (find v gs) none
-        → find v (cond r (g ∷ gates_of vs gs) (gates_of vs gs)) ≡ cond (has v vs) (cond t (some g) (find v gs)) none
+        → find v (gates_of vs gs) ≡ cond (has v vs) (find v gs) None
+        → find v (cond r (g ∷ gates_of vs gs) (gates_of vs gs)) ≡ cond (has v vs) (cond t (Some g) (find v gs)) None
     go true e true p ih =
         let same : has v vs ≡ true = ap (λ (x : ℕ). has x vs) (sym (eqb-true (var_of g.lhs) v e)) ∙ p in
         rw (e, same)
     go true e false p ih =
         let same : has v vs ≡ false = ap (λ (x : ℕ). has x vs) (sym (eqb-true (var_of g.lhs) v e)) ∙ p in
-        ih ∙ ap (λ (t : Bool). cond t (find v gs) none) same ∙ ap (λ (t : Bool). cond t (some g) none) (sym same)
+        ih ∙ ap (λ (t : Bool). cond t (find v gs) None) same ∙ ap (λ (t : Bool). cond t (Some g) None) (sym same)
     go false e true p ih = rw e ih
     go false e false p ih = ih
 
-pub find-in : (v : ℕ) (vs : List ℕ) (gs : List Gate) (g : Gate) → find v (gates_of vs gs) ≡ some g → (has v vs ≡ true) × (find v gs ≡ some g)
+pub find-in : (v : ℕ) (vs : List ℕ) (gs : List Gate) (g : Gate) → find v (gates_of vs gs) ≡ Some g → (has v vs ≡ true) × (find v gs ≡ Some g)
 find-in v vs gs g e = go (has v vs) refl (sym (find-of v vs gs) ∙ e)
   where
-    go : (t : Bool) → has v vs ≡ t → cond t (find v gs) none ≡ some g → (has v vs ≡ true) × (find v gs ≡ some g)
+    go : (t : Bool) → has v vs ≡ t → cond t (find v gs) None ≡ Some g → (has v vs ≡ true) × (find v gs ≡ Some g)
     go true p q = (p, q)
     go false p q = let z : ◌≡◌ {A = ℕ} 0 1 = cc in absurd (omega arith)
 

@@ -2,8 +2,8 @@
 use Prim.Native.Nat.{ℕ, zero, suc, ◌+◌, ◌-◌, ◌<◌, ◌≤◌, min, max}
 use mathlib.Core.Path.{◌≡◌, refl, sym, ap, ◌∙◌}
 use mathlib.Core.Bool.{Bool, true, false, cond, ◌&&◌, ◌||◌, false≢true}
-use mathlib.Core.Option.{none}
 use mathlib.Core.List.{List, [], ◌∷◌, ◌++◌}
+use Rattle.std.specs.Prelude.{None}
 use native.Mathlib.Omega.{arith}
 use native.Mathlib.Decide.{dec_le}
 use borrow.Author.Tests.{eqb-true}
@@ -32,26 +32,26 @@ use Rattle.laws.proofs.Walks.Used.{used-well-formed}
 use Rattle.laws.proofs.Walks.Dropped.{drop-in-order, drop-well-formed}
 
 -- no gate of two lists has the pair exactly if none of each has
-none_both : (a b : ℕ) (xs ys : List Gate) → twin a b (xs ++ ys) ≡ none → (twin a b xs ≡ none) × (twin a b ys ≡ none)
+none_both : (a b : ℕ) (xs ys : List Gate) → twin a b (xs ++ ys) ≡ None → (twin a b xs ≡ None) × (twin a b ys ≡ None)
 none_both a b [] ys e = (refl, e)
 none_both a b (x ∷ xs) ys e =
     let t = pick-none (eqb x.rhs0 a && eqb x.rhs1 b) x.lhs (twin a b (xs ++ ys)) e in
     let r = none_both a b xs ys t.1 in
     (rw t.0 r.0, r.1)
 
-both-none : (a b : ℕ) (xs ys : List Gate) → twin a b xs ≡ none → twin a b ys ≡ none → twin a b (xs ++ ys) ≡ none
+both-none : (a b : ℕ) (xs ys : List Gate) → twin a b xs ≡ None → twin a b ys ≡ None → twin a b (xs ++ ys) ≡ None
 both-none a b [] ys e f = f
 both-none a b (x ∷ xs) ys e f =
     let t = pick-none (eqb x.rhs0 a && eqb x.rhs1 b) x.lhs (twin a b xs) e in
     rw t.0 (both-none a b xs ys t.1 f)
 
 -- some of the gates, after some of those before
-free_of : (vs : List ℕ) (seen seen' gs : List Gate) → ((a b : ℕ) → twin a b seen ≡ none → twin a b seen' ≡ none) → Free seen gs
+free_of : (vs : List ℕ) (seen seen' gs : List Gate) → ((a b : ℕ) → twin a b seen ≡ None → twin a b seen' ≡ None) → Free seen gs
     → Free seen' (gates_of vs gs)
 free_of vs seen seen' [] k f = tt
 free_of vs seen seen' (g ∷ gs) k f = go (has (var_of g.lhs) vs) (λ s m. free_of vs (seen ++ (g ∷ [])) s gs m f.1)
   where
-    go : (t : Bool) → ((s : List Gate) → ((a b : ℕ) → twin a b (seen ++ (g ∷ [])) ≡ none → twin a b s ≡ none) → Free s (gates_of vs gs))
+    go : (t : Bool) → ((s : List Gate) → ((a b : ℕ) → twin a b (seen ++ (g ∷ [])) ≡ None → twin a b s ≡ None) → Free s (gates_of vs gs))
         → Free seen' (cond t (g ∷ gates_of vs gs) (gates_of vs gs))
     go true ih = (
       (f.0.0, k g.rhs0 g.rhs1 f.0.1),
@@ -139,7 +139,7 @@ module _ (o : List ℕ) (zero_in : has 0 o ≡ true) (zero-first : index 0 o ≡
       go (no x) (no y) = straight (omega (arith, e, f)) (omega (arith, e, f))
 
   free-renumbered : (n : ℕ) (seen seen' gs : List Gate) → AllG (Sides o) gs → AllG LargerFirst gs
-      → ((h : Gate) → Sides o h → LargerFirst h → twin h.rhs0 h.rhs1 seen ≡ none → twin (larger h) (smaller h) seen' ≡ none)
+      → ((h : Gate) → Sides o h → LargerFirst h → twin h.rhs0 h.rhs1 seen ≡ None → twin (larger h) (smaller h) seen' ≡ None)
       → Free seen gs → Free seen' (renumber_gates o n gs)
   free-renumbered n seen seen' [] a l k f = tt
   free-renumbered n seen seen' (g ∷ gs) a l k f = (
@@ -154,8 +154,8 @@ module _ (o : List ℕ) (zero_in : has 0 o ≡ true) (zero-first : index 0 o ≡
       this : Gate
       this = gate_for n (renumber o g.rhs0) (renumber o g.rhs1)
 
-      later : (h : Gate) → Sides o h → LargerFirst h → twin h.rhs0 h.rhs1 (seen ++ (g ∷ [])) ≡ none
-          → twin (larger h) (smaller h) (seen' ++ (this ∷ [])) ≡ none
+      later : (h : Gate) → Sides o h → LargerFirst h → twin h.rhs0 h.rhs1 (seen ++ (g ∷ [])) ≡ None
+          → twin (larger h) (smaller h) (seen' ++ (this ∷ [])) ≡ None
       later h s m e =
           let r = none_both h.rhs0 h.rhs1 seen (g ∷ []) e in
           both-none (larger h) (smaller h) seen' (this ∷ []) (k h s m r.0) (differ r.1)
@@ -166,7 +166,7 @@ module _ (o : List ℕ) (zero_in : has 0 o ≡ true) (zero-first : index 0 o ≡
               (eqb-true _ _ (and_left (eqb (larger g) (larger h)) (eqb (smaller g) (smaller h)) q))
               (eqb-true _ _ (and_right (eqb (larger g) (larger h)) (eqb (smaller g) (smaller h)) q))
 
-          differ : twin h.rhs0 h.rhs1 (g ∷ []) ≡ none → twin (larger h) (smaller h) (this ∷ []) ≡ none
+          differ : twin h.rhs0 h.rhs1 (g ∷ []) ≡ None → twin (larger h) (smaller h) (this ∷ []) ≡ None
           differ p =
               rw (absent (eqb (larger g) (larger h) && eqb (smaller g) (smaller h)) (λ q. twin-seam h.rhs0 h.rhs1 [] g [] p (same q)))
 

@@ -2,8 +2,8 @@
 use Prim.Native.Nat.{ℕ, suc, ◌+◌, ◌≤◌, min, max}
 use mathlib.Core.Path.{◌≡◌, refl, sym, ap, ap₂, ◌∙◌, subst}
 use mathlib.Core.Bool.{Bool, true, false, cond, false≢true}
-use mathlib.Core.Option.{none, some}
 use mathlib.Core.List.{List, [], ◌∷◌, ◌++◌, map}
+use Rattle.std.specs.Prelude.{Some, None}
 use native.Mathlib.Omega.{arith}
 use native.Mathlib.Decide.{dec_le}
 use borrow.Author.Tests.{eqb-true, eq-eqb, ne_eqb}
@@ -44,7 +44,7 @@ index-seam u p ys h = index-after u p (u ∷ ys) h ∙ rw (eq-eqb u u refl) (ome
 length-snoc : (p : List ℕ) (x : ℕ) → length (p ++ (x ∷ [])) ≡ suc (length p)
 length-snoc p x = length-append p (x ∷ []) ∙ omega arith
 
-pub gate-left : (u : ℕ) (gs : List Gate) (g : Gate) → find u gs ≡ some g → has u (left_vars gs) ≡ true
+pub gate-left : (u : ℕ) (gs : List Gate) (g : Gate) → find u gs ≡ Some g → has u (left_vars gs) ≡ true
 gate-left u gs g e = go (has u (left_vars gs)) refl
   where
     go : (t : Bool) → has u (left_vars gs) ≡ t → t ≡ true
@@ -62,8 +62,8 @@ module _ (o : List ℕ) where
       ∙ index-seam (var_of g.lhs) p (left_vars gs) (apart p (left_vars (g ∷ gs)) d (var_of g.lhs) (has-self (var_of g.lhs) (left_vars gs)))
 
   -- the gate of a variable's new number
-  pub found_at : (p : List ℕ) (gs : List Gate) → distinct (p ++ left_vars gs) ≡ true → o ≡ p ++ left_vars gs → (u : ℕ) (g : Gate) → find u gs ≡ some g
-      → find (index u o) (renumber_gates o (length p) gs) ≡ some (gate_for (index u o) (renumber o g.rhs0) (renumber o g.rhs1))
+  pub found_at : (p : List ℕ) (gs : List Gate) → distinct (p ++ left_vars gs) ≡ true → o ≡ p ++ left_vars gs → (u : ℕ) (g : Gate) → find u gs ≡ Some g
+      → find (index u o) (renumber_gates o (length p) gs) ≡ Some (gate_for (index u o) (renumber o g.rhs0) (renumber o g.rhs1))
   found_at p [] d e u g q = let z : ◌≡◌ {A = ℕ} 0 1 = cc in absurd (omega arith)
   found_at p (j ∷ gs) d e u g q =
       go (eqb (var_of j.lhs) u) refl q
@@ -75,23 +75,23 @@ module _ (o : List ℕ) where
       this : ℕ → Gate
       this n = gate_for n (renumber o j.rhs0) (renumber o j.rhs1)
 
-      go : (t : Bool) → eqb (var_of j.lhs) u ≡ t → cond t (some j) (find u gs) ≡ some g
-          → (find u gs ≡ some g → find (index u o) (renumber_gates o (length (p ++ (var_of j.lhs ∷ []))) gs)
-          ≡ some (gate_for (index u o) (renumber o g.rhs0) (renumber o g.rhs1)))
-          → cond (eqb (var_of (lit_of (length p))) (index u o)) (some (this (length p))) (find (index u o) (renumber_gates o (suc (length p)) gs))
-          ≡ some (gate_for (index u o) (renumber o g.rhs0) (renumber o g.rhs1))
+      go : (t : Bool) → eqb (var_of j.lhs) u ≡ t → cond t (Some j) (find u gs) ≡ Some g
+          → (find u gs ≡ Some g → find (index u o) (renumber_gates o (length (p ++ (var_of j.lhs ∷ []))) gs)
+          ≡ Some (gate_for (index u o) (renumber o g.rhs0) (renumber o g.rhs1)))
+          → cond (eqb (var_of (lit_of (length p))) (index u o)) (Some (this (length p))) (find (index u o) (renumber_gates o (suc (length p)) gs))
+          ≡ Some (gate_for (index u o) (renumber o g.rhs0) (renumber o g.rhs1))
       go true t q ih =
           let at : index u o ≡ length p = ap (λ (x : ℕ). index x o) (sym (eqb-true (var_of j.lhs) u t)) ∙ here-first p j gs d e in
           let same : j ≡ g = cc in
-          ap (λ (b : Bool). cond b (some (this (length p))) (find (index u o) (renumber_gates o (suc (length p)) gs)))
+          ap (λ (b : Bool). cond b (Some (this (length p))) (find (index u o) (renumber_gates o (suc (length p)) gs)))
           (eq-eqb (var_of (lit_of (length p))) (index u o) (half (length p) ∙ sym at))
-          ∙ ap₂ (λ (n : ℕ) (x : Gate). some (gate_for n (renumber o x.rhs0) (renumber o x.rhs1))) (sym at) same
+          ∙ ap₂ (λ (n : ℕ) (x : Gate). Some (gate_for n (renumber o x.rhs0) (renumber o x.rhs1))) (sym at) same
       go false t q ih =
           let out : has u (p ++ (var_of j.lhs ∷ [])) ≡ false
           = apart (p ++ (var_of j.lhs ∷ [])) (left_vars gs) (subst (λ (l : List ℕ). distinct l ≡ true) (sym snoc) d) u (gate-left u gs g q) in
           let at : index u o ≡ length (p ++ (var_of j.lhs ∷ [])) + index u (left_vars gs)
           = ap (index u) (e ∙ sym snoc) ∙ index-after u (p ++ (var_of j.lhs ∷ [])) (left_vars gs) out in
-          ap (λ (b : Bool). cond b (some (this (length p))) (find (index u o) (renumber_gates o (suc (length p)) gs)))
+          ap (λ (b : Bool). cond b (Some (this (length p))) (find (index u o) (renumber_gates o (suc (length p)) gs)))
           (ne_eqb (var_of (lit_of (length p))) (index u o) (λ x. omega (arith, x, at, length-snoc p (var_of j.lhs))))
           ∙ ap (λ (n : ℕ). find (index u o) (renumber_gates o n gs)) (sym (length-snoc p (var_of j.lhs))) ∙ ih q
 
@@ -180,14 +180,14 @@ module _ (c : Circuit) (w : WellFormed c) (t : binary_order c ≡ true) where
   used-reaches (start h) = start h
   used-reaches (onward {u = u} {g = g} r e k) =
       onward (used-reaches r) (find-of u (reached c) c.gates
-      ∙ ap (λ (b : Bool). cond b (find u c.gates) none) ((reached-exactly c w t u).1 r) ∙ e) k
+      ∙ ap (λ (b : Bool). cond b (find u c.gates) None) ((reached-exactly c w t u).1 r) ∙ e) k
 
   -- every gate that is left is reached
   pub all-reached : AllG (λ g. Reached (drop_unused c) (var_of g.lhs)) (drop_unused c).gates
   all-reached =
       all-still (used c) (accepted (used c) (used-well-formed c w t)).once
       (all_of (λ g. Reached (used c) (var_of g.lhs)) (reached c) c.gates
-      (all_map (λ g. find (var_of g.lhs) c.gates ≡ some g) _
+      (all_map (λ g. find (var_of g.lhs) c.gates ≡ Some g) _
       (λ g _ h. used-reaches ((reached-exactly c w t (var_of g.lhs)).0 h)) c.gates (gates-found c (accepted c w))))
 
 -- a circuit of whose gates each is reached stays as it is

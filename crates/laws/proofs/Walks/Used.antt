@@ -3,8 +3,8 @@ use Prim.Native.Nat.{ℕ, zero, suc}
 use mathlib.Core.Path.{◌≡◌, refl, sym, ap, ap₂, ◌∙◌, subst}
 use mathlib.Core.Bool.{Bool, true, false, cond, false≢true}
 use mathlib.Core.Logic.{◌↔◌}
-use mathlib.Core.Option.{Option, none, some}
 use mathlib.Core.List.{List, [], ◌∷◌, ◌++◌, map, append_assoc}
+use Rattle.std.specs.Prelude.{Option, Some, None}
 use native.Mathlib.Omega.{arith}
 use lib.ListN.{length}
 use Rattle.plan.specs.Literals.{var_of, sign_of}
@@ -76,11 +76,11 @@ module _ (c : Circuit) (w : WellFormed c) (t : binary_order c ≡ true) where
       walk-exactly sides_of (vars (roots c)) (inner c) c.gates binary (sides-fall (inner c) c.gates binary) (gates-found c (accepted c w))
 
   -- what a reached gate uses is reached
-  side-reached : (u v : ℕ) (g : Gate) → find u c.gates ≡ some g → has v (sides_of g) ≡ true → has u (reached c) ≡ true
+  side-reached : (u v : ℕ) (g : Gate) → find u c.gates ≡ Some g → has v (sides_of g) ≡ true → has u (reached c) ≡ true
       → has v (reached c) ≡ true
   side-reached u v g = walk-closed sides_of (vars (roots c)) (inner c) c.gates binary (sides-fall (inner c) c.gates binary) u v g
 
-  pub both-reached : (u : ℕ) (g : Gate) → find u c.gates ≡ some g → has u (reached c) ≡ true
+  pub both-reached : (u : ℕ) (g : Gate) → find u c.gates ≡ Some g → has u (reached c) ≡ true
       → (has (var_of g.rhs0) (reached c) ≡ true) × (has (var_of g.rhs1) (reached c) ≡ true)
   both-reached u g e h = (
     side-reached u (var_of g.rhs0) g e (has-self (var_of g.rhs0) (var_of g.rhs1 ∷ [])) h,
@@ -93,7 +93,7 @@ module _ (c : Circuit) (w : WellFormed c) (t : binary_order c ≡ true) where
   sides-reached : AllG (λ g. (has (var_of g.rhs0) (reached c) ≡ true) × (has (var_of g.rhs1) (reached c) ≡ true)) (used c).gates
   sides-reached =
       all_of _ (reached c) c.gates
-      (all_map (λ g. find (var_of g.lhs) c.gates ≡ some g) _ (λ g e h. both-reached (var_of g.lhs) g e h) c.gates
+      (all_map (λ g. find (var_of g.lhs) c.gates ≡ Some g) _ (λ g e h. both-reached (var_of g.lhs) g e h) c.gates
       (gates-found c (accepted c w)))
 
   -- all that the circuit uses then is reached
@@ -179,8 +179,8 @@ module _ (c : Circuit) (w : WellFormed c) (t : binary_order c ≡ true) where
 
     same-gate-value : (v : ℕ) → has v (reached c) ≡ true → (o : Option Gate) → find v c.gates ≡ o
         → gate_value before (leaf_value c s i v) o ≡ gate_value after (leaf_value c s i v) o
-    same-gate-value v h none e = refl
-    same-gate-value v h (some g) e =
+    same-gate-value v h None e = refl
+    same-gate-value v h (Some g) e =
         let sides = both-reached v g e h in
         ap₂ and (ap (signed_value (sign_of g.rhs0)) (sym (after-reached (var_of g.rhs0) sides.0)))
         (ap (signed_value (sign_of g.rhs1)) (sym (after-reached (var_of g.rhs1) sides.1)))
@@ -195,10 +195,10 @@ module _ (c : Circuit) (w : WellFormed c) (t : binary_order c ≡ true) where
             ∙ value-solves c.gates (leaf_value c s i) (length c.gates) (accepted c w).settles v
             ∙ same-gate-value v e (find v c.gates) refl
             ∙ ap (gate_value after (leaf_value c s i v)) (sym (find-of v (reached c) c.gates
-            ∙ ap (λ (b : Bool). cond b (find v c.gates) none) e))
+            ∙ ap (λ (b : Bool). cond b (find v c.gates) None) e))
         go false e =
             unreached ∙ ap (gate_value after (leaf_value c s i v)) (sym (find-of v (reached c) c.gates
-            ∙ ap (λ (b : Bool). cond b (find v c.gates) none) e))
+            ∙ ap (λ (b : Bool). cond b (find v c.gates) None) e))
           where
             unreached : after v ≡ leaf_value c s i v
             unreached = ap (λ (b : Bool). cond b (before v) (leaf_value c s i v)) e

@@ -3,8 +3,8 @@ use Prim.Native.Nat.{ℕ, suc, ◌<◌}
 use mathlib.Core.Path.{◌≡◌, refl, sym, ap, ◌∙◌, subst}
 use mathlib.Core.Bool.{Bool, true, false, cond}
 use mathlib.Core.Logic.{◌↔◌}
-use mathlib.Core.Option.{Option, none, some}
 use mathlib.Core.List.{List, [], ◌∷◌, ◌++◌}
+use Rattle.std.specs.Prelude.{Option, Some, None}
 use native.Mathlib.Omega.{arith}
 use borrow.Author.Tests.{eqb-true}
 use lib.Dec.{eqb}
@@ -20,10 +20,10 @@ use Rattle.plan.specs.Walk.{Walked, start, onward, walk}
 abbrev pub Falls : (Gate → List ℕ) → Gate → Type 0
 Falls on g = (v : ℕ) → has v (on g) ≡ true → v < var_of g.lhs
 
-no-gate : (g : Gate) → ◌≡◌ {A = Option Gate} none (some g) → ⊥
+no-gate : (g : Gate) → ◌≡◌ {A = Option Gate} None (Some g) → ⊥
 no-gate g e = let z : ◌≡◌ {A = ℕ} 0 1 = cc in omega arith
 
-same-gate : (j g : Gate) → ◌≡◌ {A = Option Gate} (some j) (some g) → j ≡ g
+same-gate : (j g : Gate) → ◌≡◌ {A = Option Gate} (Some j) (Some g) → j ≡ g
 same-gate j g e = cc
 
 module _ (on : Gate → List ℕ) (from : List ℕ) where
@@ -47,7 +47,7 @@ module _ (on : Gate → List ℕ) (from : List ℕ) where
   from-walked (g ∷ gs) v h = later-walked g gs v (from-walked gs v h)
 
   -- a gate that is walked to leads on to what is walked to
-  pub walk-closed : (n : ℕ) (gs : List Gate) → Binary n gs → AllG (Falls on) gs → (u v : ℕ) (g : Gate) → find u gs ≡ some g
+  pub walk-closed : (n : ℕ) (gs : List Gate) → Binary n gs → AllG (Falls on) gs → (u v : ℕ) (g : Gate) → find u gs ≡ Some g
       → has v (on g) ≡ true → has u (walk on gs from) ≡ true → has v (walk on gs from) ≡ true
   walk-closed n [] b a u v g e k h = absurd (no-gate g e)
   walk-closed n (j ∷ gs) b a u v g e k h = go (eqb (var_of j.lhs) u) refl e (walk-closed (suc n) gs b.3 a.1 u v g)
@@ -55,8 +55,8 @@ module _ (on : Gate → List ℕ) (from : List ℕ) where
       not_on : var_of j.lhs < suc u → has u (on j) ≡ true → ⊥
       not_on p q = omega (arith, a.0 u q)
 
-      go : (t : Bool) → eqb (var_of j.lhs) u ≡ t → cond t (some j) (find u gs) ≡ some g
-          → (find u gs ≡ some g → has v (on g) ≡ true → has u (walk on gs from) ≡ true → has v (walk on gs from) ≡ true)
+      go : (t : Bool) → eqb (var_of j.lhs) u ≡ t → cond t (Some j) (find u gs) ≡ Some g
+          → (find u gs ≡ Some g → has v (on g) ≡ true → has u (walk on gs from) ≡ true → has v (walk on gs from) ≡ true)
           → has v (walk on (j ∷ gs) from) ≡ true
       go true p q ih =
           let same : var_of j.lhs ≡ u = eqb-true (var_of j.lhs) u p in
@@ -69,7 +69,7 @@ module _ (on : Gate → List ℕ) (from : List ℕ) where
           low : u < var_of j.lhs → ⊥
           low r = no-gate g (sym (find_none (suc n) gs b.3 u (omega (arith, b.0))) ∙ q)
 
-  walk-sound : (all gs : List Gate) → AllG (λ g. find (var_of g.lhs) all ≡ some g) gs → (v : ℕ) → has v (walk on gs from) ≡ true
+  walk-sound : (all gs : List Gate) → AllG (λ g. find (var_of g.lhs) all ≡ Some g) gs → (v : ℕ) → has v (walk on gs from) ≡ true
       → Walked on all from v
   walk-sound all [] f v h = start h
   walk-sound all (g ∷ gs) f v h = go (has (var_of g.lhs) (walk on gs from)) refl h (walk-sound all gs f.1)
@@ -84,7 +84,7 @@ module _ (on : Gate → List ℕ) (from : List ℕ) where
           side false p = ih v (has_rest v (on g) (walk on gs from) k p)
 
   -- the list has exactly what is walked to
-  pub walk-exactly : (n : ℕ) (gs : List Gate) → Binary n gs → AllG (Falls on) gs → AllG (λ g. find (var_of g.lhs) gs ≡ some g) gs
+  pub walk-exactly : (n : ℕ) (gs : List Gate) → Binary n gs → AllG (Falls on) gs → AllG (λ g. find (var_of g.lhs) gs ≡ Some g) gs
       → (v : ℕ) → (has v (walk on gs from) ≡ true) ↔ Walked on gs from v
   walk-exactly n gs b a f v = (walk-sound gs gs f v, whole)
     where

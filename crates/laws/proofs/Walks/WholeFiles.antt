@@ -3,13 +3,12 @@
 use Prim.Native.Nat.{ℕ, ◌≤◌}
 use mathlib.Core.Path.{◌≡◌, refl, sym, ap, ap₂, ◌∙◌, subst}
 use mathlib.Core.Bool.{true}
-use mathlib.Core.Option.{Option, some}
 use mathlib.Core.List.{List, ◌++◌}
 use lib.Dec.{leb}
 use lib.ListN.{length, take, drop}
+use Rattle.std.specs.Prelude.{Ok, Option, Some}
 use Rattle.plan.specs.declared.Version.TheVariants.{V19}
 use Rattle.plan.specs.declared.Refusal.TheVariants.{LongInput, ShortBuffer}
-use Rattle.plan.specs.declared.Written.TheVariants as written
 use Rattle.plan.specs.Refusals.{Parse, got, ◌then◌}
 use Rattle.plan.specs.Circuit.{Circuit, counts_of, lengths_of}
 use Rattle.plan.specs.Binary.{binary_of, binary_order}
@@ -62,7 +61,7 @@ module _ (make : Circuit → Circuit) where
       let e = k.entry in
       let file = k.file in
       let w = whole-got e (input e.plan (rest e)) k.size k.accepted in
-      let q : input (some file) (rest e) ≡ got w.0 w.1 = ap (λ (o : Option (List ℕ)). input o (rest e)) (sym k.plan) ∙ w.2 in
+      let q : input (Some file) (rest e) ≡ got w.0 w.1 = ap (λ (o : Option (List ℕ)). input o (rest e)) (sym k.plan) ∙ w.2 in
       let t0 = cond-got (leb (length file) 65536) (rest e file) (LongInput 65536) w.0 w.1 q in
       let t1 = then-got (file_circuit e file) _ w.0 w.1 t0.1 in
       let bytes = bytes_of t1.0 (drop t1.1 file) in
@@ -75,7 +74,7 @@ module _ (make : Circuit → Circuit) where
       )
 
   -- with room it is not refused
-  done : (e : WholeEntry) (file : List ℕ) → e.plan ≡ some file → length file ≤ 65536 → (c : Circuit) (tail : List ℕ) → States V19 file c tail
+  done : (e : WholeEntry) (file : List ℕ) → e.plan ≡ Some file → length file ≤ 65536 → (c : Circuit) (tail : List ℕ) → States V19 file c tail
       → LongEnoughToRead file c (lengths_of e.read e.scratch) → LongEnough c (lengths_of e.made e.scratch)
       → length (bytes_of c tail) ≤ length e.out
       → make_whole e ≡ whole_by e (got (bytes_of c tail) (length (bytes_of c tail)))
@@ -125,13 +124,13 @@ module _ (make : Circuit → Circuit) where
     -- with room neither is refused
     abbrev Twice : WholeEntry → Circuit → List ℕ → Type 0
     Twice e c tail =
-        ((make_whole e).answer ≡ written.Bytes (length (bytes_of c tail)))
-        × ((e' : WholeEntry) → e'.plan ≡ some (take (length (bytes_of c tail)) (make_whole e).out) → length (bytes_of c tail) ≤ 65536
+        ((make_whole e).answer ≡ Ok (length (bytes_of c tail)))
+        × ((e' : WholeEntry) → e'.plan ≡ Some (take (length (bytes_of c tail)) (make_whole e).out) → length (bytes_of c tail) ≤ 65536
         → LongEnoughToRead (bytes_of c tail) (make c) (lengths_of e'.read e'.scratch) → LongEnough (make c) (lengths_of e'.made e'.scratch)
         → length (bytes_of c tail) ≤ length e'.out
         → make_whole e' ≡ whole_by e' (got (bytes_of c tail) (length (bytes_of c tail))))
 
-    twice-with-room : (e : WholeEntry) (file : List ℕ) → e.plan ≡ some file → length file ≤ 65536 → (c : Circuit) (tail : List ℕ) → States V19 file c tail
+    twice-with-room : (e : WholeEntry) (file : List ℕ) → e.plan ≡ Some file → length file ≤ 65536 → (c : Circuit) (tail : List ℕ) → States V19 file c tail
         → LongEnoughToRead file c (lengths_of e.read e.scratch) → LongEnough c (lengths_of e.made e.scratch) → length (bytes_of c tail) ≤ length e.out
         → Twice e c tail
     twice-with-room e file plan fits c tail s to_read to-work space =
@@ -141,7 +140,7 @@ module _ (make : Circuit → Circuit) where
         let same : bytes_of (make c) tail ≡ bytes = ap (λ (d : Circuit). binary_of d ++ tail) (making.made_again c (formed V19 file c tail s)) in (
           ap (λ (x : WholeExit). x.answer) first,
           λ e' plan' fits' to-read' to-work' space'.
-              done e' bytes (plan' ∙ ap some out) fits' (make c) tail (written-states file c tail s) to-read' to-work'
+              done e' bytes (plan' ∙ ap Some out) fits' (make c) tail (written-states file c tail s) to-read' to-work'
               (subst (λ (l : List ℕ). length l ≤ length e'.out) (sym same) space')
               ∙ ap (λ (l : List ℕ). whole_by e' (got l (length l))) same,
         )
@@ -200,12 +199,12 @@ pub drop-whole-twice : (k k' : WholeCall drop_whole) → k'.file ≡ whole_file 
 drop-whole-twice = twice frees freeing
 
 -- and with room neither call refuses
-module _ (e : WholeEntry) (file : List ℕ) (plan : e.plan ≡ some file) (fits : length file ≤ 65536) (c : Circuit) (tail : List ℕ)
+module _ (e : WholeEntry) (file : List ℕ) (plan : e.plan ≡ Some file) (fits : length file ≤ 65536) (c : Circuit) (tail : List ℕ)
     (s : States V19 file c tail) (to_read : LongEnoughToRead file c (lengths_of e.read e.scratch)) (to-work : LongEnough c (lengths_of e.made e.scratch)) where
   pub drop-twice-with-room : let bytes = binary_of (drop_unused (reduce (convert c))) ++ tail in
       length bytes ≤ length e.out
-      → ((drop_whole e).answer ≡ written.Bytes (length bytes))
-      × ((e' : WholeEntry) → e'.plan ≡ some (take (length bytes) (drop_whole e).out) → length bytes ≤ 65536
+      → ((drop_whole e).answer ≡ Ok (length bytes))
+      × ((e' : WholeEntry) → e'.plan ≡ Some (take (length bytes) (drop_whole e).out) → length bytes ≤ 65536
       → LongEnoughToRead bytes (drop_unused (reduce (convert c))) (lengths_of e'.read e'.scratch)
       → LongEnough (drop_unused (reduce (convert c))) (lengths_of e'.made e'.scratch) → length bytes ≤ length e'.out
       → drop_whole e' ≡ whole_by e' (got bytes (length bytes)))

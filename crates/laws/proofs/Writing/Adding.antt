@@ -2,8 +2,8 @@
 -- report its three words to the number of rows.
 use Prim.Native.Nat.{ℕ, zero, suc, ◌+◌, ◌-◌, ◌*◌, ◌<◌}
 use mathlib.Core.Path.{◌≡◌, refl, sym, ap, ◌∙◌}
-use mathlib.Core.Option.{Option, none}
 use mathlib.Core.List.{List, [], ◌∷◌, ◌++◌, append_assoc, map}
+use Rattle.std.specs.Prelude.{Ok, Option, None}
 use native.Mathlib.Nat.{mul-zero, mul-suc}
 use native.Mathlib.Decide.{dec_lt}
 use native.Mathlib.Omega.{arith}
@@ -11,7 +11,6 @@ use lib.ListN.{length, get_or, replicate, length-map, length-append, get_or-appe
 use lib.Seq.{get_or-append-add}
 use Rattle.plan.specs.declared.Counts.{Counts}
 use Rattle.plan.specs.declared.Refusal.{Refusal}
-use Rattle.plan.specs.declared.Stepped.TheVariants as stepped
 use Rattle.plan.specs.Refusals.{first_of}
 use Rattle.plan.specs.Circuit.{Circuit, counts_of, rows_of}
 use Rattle.plan.specs.Given.{Given, given_circuit, lent_alone, stages, order_stage}
@@ -55,7 +54,7 @@ vectors-length : (c : Circuit) (number : ℕ) (bytes : List ℕ) → length (vec
 vectors-length c number bytes = length-map (rows_of (length c.inputs) number bytes) (map value_of) ∙ length-rows (length c.inputs) number bytes
 
 -- the counts of given tables that pass with a table 6
-sixth-counts : (g : Given) (needed : ℕ) (six : List ℕ) (more : List (Option Refusal)) → first_of (sixth_stages g needed six ++ more) ≡ none
+sixth-counts : (g : Given) (needed : ℕ) (six : List ℕ) (more : List (Option Refusal)) → first_of (sixth_stages g needed six ++ more) ≡ None
     → counts_of (given_circuit g) ≡ g.counts
 sixth-counts g needed six more f =
     let one = (first-both (sixth_stages g needed six) more f).0 in
@@ -68,7 +67,7 @@ sixth-counts g needed six more f =
 abbrev pub three_at : List ℕ → ℕ → ℕ
 three_at table at = get_or table at 0 + get_or table (at + 1) 0 + get_or table (at + 2) 0
 
-module _ (e : ReportEntry) (done : (report e).answer ≡ stepped.Done) where
+module _ (e : ReportEntry) (done : (report e).answer ≡ Ok tt) where
   abbrev g : Given
   g = e.circuit
 
@@ -78,7 +77,7 @@ module _ (e : ReportEntry) (done : (report e).answer ≡ stepped.Done) where
   abbrev steps : List Step
   steps = run c (first_state c) (vectors_of c e.number e.bytes)
 
-  passed : first_of (report_stages e) ≡ none
+  passed : first_of (report_stages e) ≡ None
   passed = stepped-none (λ o. (reported_by o e).answer) (λ r. refl) (first_of (report_stages e)) done
 
   counts : counts_of c ≡ g.counts
@@ -146,7 +145,7 @@ module _ (e : ReportEntry) (done : (report e).answer ≡ stepped.Done) where
           (length-map steps (λ (s : Step). get_or s.state k vx) ∙ steps-length)
 
 -- and of a row report
-module _ (e : RowReportEntry) (done : (report_rows e).answer ≡ stepped.Done) where
+module _ (e : RowReportEntry) (done : (report_rows e).answer ≡ Ok tt) where
   pub row-report-adds-up : (i : ℕ) → i < e.circuit.counts.O → three_at (report_rows e).report (3 * i) ≡ e.rows
   row-report-adds-up i h =
       let g = e.circuit in

@@ -3,15 +3,13 @@ use Prim.Native.Nat.{ℕ}
 use mathlib.Core.Path.{◌≡◌, sym, ap, ap₂, ◌∙◌, subst}
 use mathlib.Core.Bool.{true}
 use mathlib.Core.Logic.{◌⊎◌, inl, inr}
+use Rattle.std.specs.Prelude.{Ok}
 use native.Mathlib.Omega.{arith}
 use mathlib.Core.List.{List, ◌++◌}
 use lib.ListN.{length, take, drop}
 use Rattle.plan.specs.declared.Version.{Version}
 use Rattle.plan.specs.declared.Version.TheVariants.{V2007, V19}
 use Rattle.plan.specs.declared.Counts.{Counts}
-use Rattle.plan.specs.declared.Loaded.TheVariants as loaded
-use Rattle.plan.specs.declared.Made.TheVariants as made
-use Rattle.plan.specs.declared.Written.TheVariants as written
 use Rattle.plan.specs.Refusals.{got}
 use Rattle.plan.specs.Circuit.{Circuit, circuit_of, lengths_of}
 use Rattle.plan.specs.Header.{Head, text, binary, header, form_in}
@@ -43,17 +41,17 @@ pub record ReadCall : Type 0 where
   pub counts : Counts
   pub start : ℕ
   pub bytes : Bytes entry.file
-  pub accepted : (load_as version entry).answer ≡ loaded.Accepted counts start
+  pub accepted : (load_as version entry).answer ≡ Ok (counts, start)
 
 pub record MakeCall (f : MakeEntry → MakeExit) : Type 0 where
   pub entry : MakeEntry
   pub counts : Counts
-  pub accepted : (f entry).answer ≡ made.Accepted counts
+  pub accepted : (f entry).answer ≡ Ok counts
 
 pub record WriteCall (f : FileEntry → FileExit) : Type 0 where
   pub entry : FileEntry
   pub size : ℕ
-  pub accepted : (f entry).answer ≡ written.Bytes size
+  pub accepted : (f entry).answer ≡ Ok size
 
 -- the circuit and the tail that a read leaves, the circuit that a conversion or a reduction leaves, the file that a writer leaves
 abbrev pub read_circuit : ReadCall → Circuit

@@ -2,8 +2,8 @@
 use Prim.Native.Nat.{ℕ, zero, suc, ◌+◌}
 use mathlib.Core.Path.{◌≡◌, refl, ap, ◌∙◌}
 use mathlib.Core.Bool.{Bool, true, false, cond}
-use mathlib.Core.Option.{Option, none, some}
 use mathlib.Core.List.{List, [], ◌∷◌, ◌++◌}
+use Rattle.std.specs.Prelude.{Option, Some, None}
 use native.Mathlib.Omega.{arith}
 use lib.Dec.{eqb, leb}
 use lib.ListN.{length, get_or, drop}
@@ -71,16 +71,16 @@ module _ (file : List ℕ) where
 
 -- stages that refuse by a number other than 11
 abbrev pub OtherThan11 : Option Refusal → Type 0
-OtherThan11 none = Unit {0}
-OtherThan11 (some r) = number_of r ≡ 11 → ⊥
+OtherThan11 None = Unit {0}
+OtherThan11 (Some r) = number_of r ≡ 11 → ⊥
 
 abbrev pub Others : List (Option Refusal) → Type 0
 Others [] = Unit {0}
 Others (o ∷ os) = OtherThan11 o × Others os
 
 other-stage : (r : ℕ → Refusal) → ((p : ℕ) → number_of (r p) ≡ 11 → ⊥) → (o : Option ℕ) → OtherThan11 (stage r o)
-other-stage r h none = tt
-other-stage r h (some p) = h p
+other-stage r h None = tt
+other-stage r h (Some p) = h p
 
 pub other-tail-stage : (n : Counts) (tail : List ℕ) → OtherThan11 (refusal_of (tail_at V19 tail n 0))
 other-tail-stage n tail = go (tail_at V19 tail n 0) (other-tail tail n (suc (length tail)) [] 0)
@@ -103,8 +103,8 @@ others-circuit g os k =
     let s8 = other-stage Cyclic (λ p e. omega arith) (cyclic_in (given_circuit g)) in
     (s2, (s3, (s4, (s5, (s6, (s7, (s8, k)))))))
 
-pub others-first : (os ps : List (Option Refusal)) (r : Refusal) → Others os → number_of r ≡ 11 → first_of (os ++ ps) ≡ some r
-    → (first_of os ≡ none) × (first_of ps ≡ some r)
+pub others-first : (os ps : List (Option Refusal)) (r : Refusal) → Others os → number_of r ≡ 11 → first_of (os ++ ps) ≡ Some r
+    → (first_of os ≡ None) × (first_of ps ≡ Some r)
 others-first [] ps r h e f = (refl, f)
-others-first (none ∷ os) ps r h e f = others-first os ps r h.1 e f
-others-first (some q ∷ os) ps r h e f = let q-is : q ≡ r = cc in absurd (h.0 (ap number_of q-is ∙ e))
+others-first (None ∷ os) ps r h e f = others-first os ps r h.1 e f
+others-first (Some q ∷ os) ps r h e f = let q-is : q ≡ r = cc in absurd (h.0 (ap number_of q-is ∙ e))

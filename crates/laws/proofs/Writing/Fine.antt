@@ -3,9 +3,9 @@
 use Prim.Native.Nat.{ℕ, zero, suc, ◌+◌, ◌≤◌}
 use mathlib.Core.Path.{◌≡◌, refl, sym, ap, ◌∙◌, subst}
 use mathlib.Core.Bool.{true}
-use mathlib.Core.Option.{none}
 use mathlib.Core.Logic.{◌↔◌}
 use mathlib.Core.List.{List, [], ◌∷◌}
+use Rattle.std.specs.Prelude.{None}
 use native.Mathlib.Omega.{arith}
 use borrow.Author.Tests.{leb-true, le-leb}
 use lib.ListN.{length, length-take, length-map}
@@ -29,7 +29,7 @@ use Rattle.laws.proofs.Writing.Nothing.{stage-none, failing-none, first-all, non
 pub record Fine (g : Given) (lent : List Lent) : Type 0 where
   pub small : AllMost (list_of g.counts)
   pub sum : g.counts.I + g.counts.L + g.counts.A ≤ g.counts.M
-  pub room : least_short lent ≡ none
+  pub room : least_short lent ≡ None
   pub formed : WellFormed (given_circuit g)
 
 counted-values : (t : ℕ) (l : List ℕ) → values (counted t l) ≡ l
@@ -37,7 +37,7 @@ counted-values t [] = refl
 counted-values t (n ∷ l) = ap (λ (x : List ℕ). n ∷ x) (counted-values (t + 1) l)
 
 -- counts that 2 lets pass are within the limit
-pub counts-most : (n : Counts) → over (counted 1 (list_of n)) ≡ none → AllMost (list_of n)
+pub counts-most : (n : Counts) → over (counted 1 (list_of n)) ≡ None → AllMost (list_of n)
 counts-most n e = subst AllMost (counted-values 1 (list_of n)) (over_none (counted 1 (list_of n)) e)
 
 pub length-rows : (k n : ℕ) (t : List ℕ) → length (rows_of k n t) ≡ n
@@ -79,11 +79,11 @@ module _ (g : Given) where
       let cons : length c.constraints ≡ n.C = length-take-le n.C g.tables.constraints k in
       λ j. record { M = n.M; I = few j; L = latches-are j; O = outs j; A = gates-are j; B = bads j; C = cons j }
 
-  pub counts-given : least_short (lent_alone g) ≡ none → counts_of (given_circuit g) ≡ g.counts
+  pub counts-given : least_short (lent_alone g) ≡ None → counts_of (given_circuit g) ≡ g.counts
   counts-given e = let l = (short_none (lent_alone g)).0 e in counts-held l.0 l.1.1.0 l.1.1.1.1.1.1.1.0 l.1.1.1.1.1.1.1.1.0
 
 module _ (g : Given) (lent : List Lent) where
-  pub nothing-fine : first_of (stages g lent) ≡ none → Fine g lent
+  pub nothing-fine : first_of (stages g lent) ≡ None → Fine g lent
   nothing-fine e =
       let s = first-all (stages g lent) e in
       let small : AllMost (list_of g.counts)
@@ -118,13 +118,13 @@ module _ (g : Given) (lent : List Lent) where
         };
       }
 
-  pub fine-nothing : Fine g lent → first_of (stages g lent) ≡ none
+  pub fine-nothing : Fine g lent → first_of (stages g lent) ≡ None
   fine-nothing f =
       let w = f.formed in
-      let e2 : over (counted 1 (list_of g.counts)) ≡ none
+      let e2 : over (counted 1 (list_of g.counts)) ≡ None
       = most-none (counted 1 (list_of g.counts)) (subst AllMost (sym (counted-values 1 (list_of g.counts))) f.small) in
       let e3 : adds text g.counts ≡ true = le-leb _ _ f.sum in
-      let e5 : outside_in (given_circuit g) ≡ none
+      let e5 : outside_in (given_circuit g) ≡ None
       = inside-none (given_circuit g) (record {
         inputs = w.inputs;
         latches = w.latches;
@@ -134,10 +134,10 @@ module _ (g : Given) (lent : List Lent) where
         bads = w.bads;
         constraints = w.constraints;
       }) in
-      let e6 : twice_in (given_circuit g) ≡ none = different-once (given_circuit g) w.different in
-      let e7 : undefined_in (given_circuit g) ≡ none = defined-none (zero ∷ defined_in (given_circuit g)) (used_in (given_circuit g)) w.defined in
-      let e8 : cyclic_in (given_circuit g) ≡ none = cycle-none (given_circuit g).gates (given_circuit g).gates w.acyclic in
+      let e6 : twice_in (given_circuit g) ≡ None = different-once (given_circuit g) w.different in
+      let e7 : undefined_in (given_circuit g) ≡ None = defined-none (zero ∷ defined_in (given_circuit g)) (used_in (given_circuit g)) w.defined in
+      let e8 : cyclic_in (given_circuit g) ≡ None = cycle-none (given_circuit g).gates (given_circuit g).gates w.acyclic in
       rw (e2, e3, f.room, e5, e6, e7, e8)
 
-  pub fine-exactly : (first_of (stages g lent) ≡ none) ↔ Fine g lent
+  pub fine-exactly : (first_of (stages g lent) ≡ None) ↔ Fine g lent
   fine-exactly = (nothing-fine, fine-nothing)

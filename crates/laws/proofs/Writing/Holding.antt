@@ -2,7 +2,7 @@
 use Prim.Native.Nat.{ℕ, ◌+◌, ◌-◌, ◌*◌, ◌≤◌}
 use mathlib.Core.Path.{◌≡◌, refl, sym, subst}
 use mathlib.Core.List.{List, [], ◌∷◌, map}
-use mathlib.Core.Option.{none}
+use Rattle.std.specs.Prelude.{None}
 use native.Mathlib.Omega.{arith}
 use lib.ListN.{length, replicate, length-append, length-replicate}
 use Rattle.plan.specs.declared.Counts.{Counts}
@@ -77,7 +77,7 @@ holding-lengths t c scratch h = λ i. ins i ∷ lats i ∷ outs i ∷ gs i ∷ l
     gs = length-filled t.gates (flat (map gate_line c.gates)) (omega (arith, h.gates, length-gate-words c.gates))
 
 -- tables that hold a well-formed circuit, with room: no check finds anything
-pub formed-fine : (g : Given) (lent : List Lent) (c : Circuit) → given_circuit g ≡ c → g.counts ≡ counts_of c → WellFormed c → least_short lent ≡ none
+pub formed-fine : (g : Given) (lent : List Lent) (c : Circuit) → given_circuit g ≡ c → g.counts ≡ counts_of c → WellFormed c → least_short lent ≡ None
     → Fine g lent
 formed-fine g lent c e n w r = record {
   small = subst (λ (x : Counts). AllMost (list_of x)) (sym n) (all_most c w);

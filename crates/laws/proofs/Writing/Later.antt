@@ -3,17 +3,14 @@
 use Prim.Native.Nat.{ℕ, ◌+◌, ◌*◌, ◌≤◌}
 use mathlib.Core.Path.{◌≡◌, refl, sym, ap, ◌∙◌, subst}
 use mathlib.Core.Bool.{true}
-use mathlib.Core.Option.{Option, none, some}
 use mathlib.Core.List.{List, [], ◌∷◌, ◌++◌}
+use Rattle.std.specs.Prelude.{Ok, Option, Some, None}
 use native.Mathlib.Omega.{arith}
 use lib.ListN.{length, drop, length-replicate}
 use Rattle.plan.specs.declared.Version.{Version}
 use Rattle.plan.specs.declared.Counts.{Counts}
 use Rattle.plan.specs.declared.Refusal.{Refusal}
 use Rattle.plan.specs.declared.Refusal.TheVariants.{NotInOrder}
-use Rattle.plan.specs.declared.Loaded.TheVariants as loaded
-use Rattle.plan.specs.declared.Checked.TheVariants as checked
-use Rattle.plan.specs.declared.Made.TheVariants as made
 use Rattle.plan.specs.Refusals.{Parse, got, refused, first_of}
 use Rattle.plan.specs.Circuit.{Circuit, Tables, counts_of, circuit_of, scratch_to_work, words_to_work, against, least_short, lengths_of, holding, cleared}
 use Rattle.plan.specs.Reading.{read_file, WellFormed, LongEnough}
@@ -31,20 +28,21 @@ use Rattle.laws.proofs.Running.Resets.{resets-length}
 use Rattle.laws.proofs.Writing.Nothing.{stage-none, failing-none, first-all, first-both, both_first}
 use Rattle.laws.proofs.Writing.Fine.{Fine, counts-given, nothing-fine, fine-nothing}
 use Rattle.laws.proofs.Writing.Holding.{Enough, holding-circuit, holding-lengths, formed-fine}
+use Rattle.laws.proofs.Pairs.{ok-pair}
 
 -- tables that hold a circuit, and that no check of given tables refuses
 pub record Left (g : Given) (c : Circuit) : Type 0 where
   pub holds : given_circuit g ≡ c
   pub counts : g.counts ≡ counts_of c
-  pub fine : first_of (stages g (lent_alone g)) ≡ none
+  pub fine : first_of (stages g (lent_alone g)) ≡ None
 
-pub left-good : (g : Given) (c : Circuit) → Left g c → (check g).answer ≡ checked.Good
+pub left-good : (g : Given) (c : Circuit) → Left g c → (check g).answer ≡ Ok tt
 left-good g c l = ap checked_by l.fine
 
-pub left-in-order : (g : Given) (c : Circuit) → Left g c → binary_order c ≡ true → (check_in_order g).answer ≡ checked.Good
+pub left-in-order : (g : Given) (c : Circuit) → Left g c → binary_order c ≡ true → (check_in_order g).answer ≡ Ok tt
 left-in-order g c l o =
     let order : binary_order (given_circuit g) ≡ true = ap binary_order l.holds ∙ o in
-    let last : first_of (order_stage g ∷ []) ≡ none = rw order in
+    let last : first_of (order_stage g ∷ []) ≡ None = rw order in
     ap checked_by (both_first (stages g (lent_alone g)) (order_stage g ∷ []) l.fine ∙ last)
 
 module _ (c : Circuit) (t : Tables) (scratch : List ℕ) where
@@ -52,7 +50,7 @@ module _ (c : Circuit) (t : Tables) (scratch : List ℕ) where
   after = record { counts = counts_of c; tables = holding t c; scratch = cleared scratch }
 
   -- the tables are as long as they were
-  after-room : WellFormed c → LongEnough c (lengths_of t scratch) → least_short (lent_alone after) ≡ none
+  after-room : WellFormed c → LongEnough c (lengths_of t scratch) → least_short (lent_alone after) ≡ None
   after-room w room =
       let l = (short_none (against 1 (words_to_work (counts_of c)) (lengths_of t scratch))).0 room in
       let enough : Enough c t = record {
@@ -80,19 +78,20 @@ module _ (c : Circuit) (t : Tables) (scratch : List ℕ) where
   }
 
 -- after reading by a version, where table 5 is long enough for later calls: a binary file may have been read with less
-pub load-left : (v : Version) (e : ReadEntry) → Bytes e.file → (n : Counts) (start : ℕ) → (load_as v e).answer ≡ loaded.Accepted n start
+pub load-left : (v : Version) (e : ReadEntry) → Bytes e.file → (n : Counts) (start : ℕ) → (load_as v e).answer ≡ Ok (n, start)
     → (c : Circuit) × (read_file v e.file (lengths_of e.tables e.scratch) ≡ got c start)
     × (n ≡ counts_of c) × (circuit_of n (load_as v e).tables ≡ c)
     × (scratch_to_work n ≤ length e.scratch → Left (record { counts = n; tables = (load_as v e).tables; scratch = (load_as v e).scratch }) c)
 load-left v e bytes n start a = go (read_file v e.file (lengths_of e.tables e.scratch)) refl a
   where
     go : (p : Parse Circuit) → read_file v e.file (lengths_of e.tables e.scratch) ≡ p
-        → (load_by e p).answer ≡ loaded.Accepted n start
+        → (load_by e p).answer ≡ Ok (n, start)
         → (c : Circuit) × (p ≡ got c start) × (n ≡ counts_of c) × (circuit_of n (load_by e p).tables ≡ c)
         × (scratch_to_work n ≤ length e.scratch → Left (record { counts = n; tables = (load_by e p).tables; scratch = (load_by e p).scratch }) c)
     go (got c s) q a =
-        let n-is : counts_of c ≡ n = cc in
-        let s-is : s ≡ start = cc in
+        let both = ok-pair (counts_of c) n s start a in
+        let n-is = both.0 in
+        let s-is = both.1 in
         let r = sound v e.file (lengths_of e.tables e.scratch) bytes c s q in
         let w = formed v e.file c (drop s e.file) r.0 in (
           c,
@@ -106,7 +105,7 @@ load-left v e bytes n start a = go (read_file v e.file (lengths_of e.tables e.sc
     go (refused r) q a = let z : ◌≡◌ {A = ℕ} 0 1 = cc in absurd (omega arith)
 
 -- after conversion and reduction: written tables as long as the given counts ask have room for the result
-module _ (e : MakeEntry) (f : first_of (stages e.circuit (lent_with e.circuit e.written)) ≡ none) where
+module _ (e : MakeEntry) (f : first_of (stages e.circuit (lent_with e.circuit e.written)) ≡ None) where
   abbrev g : Given
   g = e.circuit
 
@@ -138,16 +137,16 @@ module _ (e : MakeEntry) (f : first_of (stages e.circuit (lent_with e.circuit e.
       (short_none (against 1 (words_to_work (counts_of c)) (lengths_of e.written g.scratch))).1
       (h1, (h2, (h3, (h4, (h5, (omega arith, (h7, (h8, (h9, tt)))))))))
 
-made-left : (o : Option Refusal) (e : MakeEntry) (c : Circuit) (n : Counts) → (made_by o e c).answer ≡ made.Accepted n
-    → (o ≡ none → Left (after c e.written e.circuit.scratch) c)
-    → (o ≡ none) × Left (record { counts = n; tables = (made_by o e c).written; scratch = (made_by o e c).scratch }) c
-made-left none e c n a l =
+made-left : (o : Option Refusal) (e : MakeEntry) (c : Circuit) (n : Counts) → (made_by o e c).answer ≡ Ok n
+    → (o ≡ None → Left (after c e.written e.circuit.scratch) c)
+    → (o ≡ None) × Left (record { counts = n; tables = (made_by o e c).written; scratch = (made_by o e c).scratch }) c
+made-left None e c n a l =
     let n-is : counts_of c ≡ n = cc in (
       refl,
       subst (λ (x : Counts). Left (record { counts = x; tables = holding e.written c; scratch = cleared e.circuit.scratch }) c) n-is
           (l refl),
     )
-made-left (some r) e c n a l = let z : ◌≡◌ {A = ℕ} 0 1 = cc in absurd (omega arith)
+made-left (Some r) e c n a l = let z : ◌≡◌ {A = ℕ} 0 1 = cc in absurd (omega arith)
 
 abbrev inputs_of : Counts → ℕ
 inputs_of n = n.I
@@ -167,7 +166,7 @@ bads_of n = n.B
 abbrev constraints_of : Counts → ℕ
 constraints_of n = n.C
 
-pub conversion-left : (e : MakeEntry) (n : Counts) → (conversion e).answer ≡ made.Accepted n
+pub conversion-left : (e : MakeEntry) (n : Counts) → (conversion e).answer ≡ Ok n
     → Left (record { counts = n; tables = (conversion e).written; scratch = (conversion e).scratch }) (convert (given_circuit e.circuit))
     × (binary_order (convert (given_circuit e.circuit)) ≡ true)
 conversion-left e n a =
@@ -175,7 +174,7 @@ conversion-left e n a =
     let m = made-left (first_of all) e (convert (given_circuit e.circuit)) n a (λ f. of f) in
     (m.1, convert-in-order (given_circuit e.circuit) (fine e m.0).formed)
   where
-    of : first_of (stages e.circuit (lent_with e.circuit e.written)) ≡ none
+    of : first_of (stages e.circuit (lent_with e.circuit e.written)) ≡ None
         → Left (after (convert (given_circuit e.circuit)) e.written e.circuit.scratch) (convert (given_circuit e.circuit))
     of f =
         let c = given_circuit e.circuit in
@@ -202,7 +201,7 @@ pub record Fitting (c d : Circuit) : Type 0 where
 pub in-order-left : (make : Circuit → Circuit) → ((c : Circuit) → WellFormed c → binary_order c ≡ true → Fitting c (make c))
     → (e : MakeEntry) (n : Counts)
     → let x = made_by (first_of (stages e.circuit (lent_with e.circuit e.written) ++ (order_stage e.circuit ∷ []))) e (make (given_circuit e.circuit)) in
-    x.answer ≡ made.Accepted n
+    x.answer ≡ Ok n
     → Left (record { counts = n; tables = x.written; scratch = x.scratch }) (make (given_circuit e.circuit))
     × (binary_order (make (given_circuit e.circuit)) ≡ true)
 in-order-left make fit e n a =
@@ -211,12 +210,12 @@ in-order-left make fit e n a =
     let h = first-both (stages e.circuit (lent_with e.circuit e.written)) (order_stage e.circuit ∷ []) m.0 in
     (m.1, (fit (given_circuit e.circuit) (fine e h.0).formed (ordered h.1)).order)
   where
-    ordered : first_of (order_stage e.circuit ∷ []) ≡ none → binary_order (given_circuit e.circuit) ≡ true
+    ordered : first_of (order_stage e.circuit ∷ []) ≡ None → binary_order (given_circuit e.circuit) ≡ true
     ordered h =
         let t = binary_order (given_circuit e.circuit) in
         failing-none t (stage-none NotInOrder (failing t) (first-all (order_stage e.circuit ∷ []) h).0)
 
-    of : first_of (stages e.circuit (lent_with e.circuit e.written) ++ (order_stage e.circuit ∷ [])) ≡ none
+    of : first_of (stages e.circuit (lent_with e.circuit e.written) ++ (order_stage e.circuit ∷ [])) ≡ None
         → Left (after (make (given_circuit e.circuit)) e.written e.circuit.scratch) (make (given_circuit e.circuit))
     of f' =
         let h = first-both (stages e.circuit (lent_with e.circuit e.written)) (order_stage e.circuit ∷ []) f' in
@@ -228,7 +227,7 @@ in-order-left make fit e n a =
         (room_for e f (make c) (omega (arith, k.M, ap (λ (m : Counts). m.M) q)) (k.I ∙ ap inputs_of q) (k.L ∙ ap latches_of q)
         (k.O ∙ ap outputs_of q) (omega (arith, k.A, ap gates_of q)) (k.B ∙ ap bads_of q) (k.C ∙ ap constraints_of q))
 
-pub reduction-left : (e : MakeEntry) (n : Counts) → (reduction e).answer ≡ made.Accepted n
+pub reduction-left : (e : MakeEntry) (n : Counts) → (reduction e).answer ≡ Ok n
     → Left (record { counts = n; tables = (reduction e).written; scratch = (reduction e).scratch }) (reduce (given_circuit e.circuit))
     × (binary_order (reduce (given_circuit e.circuit)) ≡ true)
 reduction-left = in-order-left reduce fitting

@@ -2,16 +2,14 @@
 use Prim.Native.Nat.{ℕ, ◌+◌, ◌-◌, ◌^◌, ◌≤◌, ◌<◌, min}
 use mathlib.Core.Path.{◌≡◌, refl, sym, ap, ◌∙◌}
 use mathlib.Core.Bool.{Bool, true, false, cond}
-use mathlib.Core.Option.{Option, none, some}
 use mathlib.Core.List.{List, [], ◌∷◌, ◌++◌}
+use Rattle.std.specs.Prelude.{Result, Ok, Err, Option, Some, None}
 use native.Mathlib.Omega.{arith}
 use borrow.Author.Tests.{leb-false, le-leb, lt-leb}
 use lib.Dec.{leb}
 use lib.ListN.{length}
 use Rattle.plan.specs.declared.Refusal.{Refusal}
 use Rattle.plan.specs.declared.Refusal.TheVariants.{ShortBuffer}
-use Rattle.plan.specs.declared.Written.{Written}
-use Rattle.plan.specs.declared.Written.TheVariants as written
 use Rattle.plan.specs.Refusals.{stage, first_of}
 use Rattle.plan.specs.Text.{text_of}
 use Rattle.plan.specs.Binary.{binary_of}
@@ -26,55 +24,55 @@ module _ (circuit : Given) (tail bytes : List ℕ) (os : List (Option Refusal)) 
   abbrev into : List ℕ → FileEntry
   into out = record { circuit = circuit; tail = tail; out = out }
 
-  abbrev answers : List ℕ → Written
+  abbrev answers : List ℕ → Result ℕ Refusal
   answers out = (written_by (first_of (os ++ (room_stage out bytes ∷ []))) (into out) bytes).answer
 
-  enough : (out : List ℕ) → first_of os ≡ none → length bytes ≤ length out → answers out ≡ written.Bytes (length bytes)
+  enough : (out : List ℕ) → first_of os ≡ None → length bytes ≤ length out → answers out ≡ Ok (length bytes)
   enough out o h =
       let long : 0 + length bytes ≤ length out = omega arith in
-      let r : room_stage out bytes ≡ none = rw (le-leb (0 + length bytes) (length out) long) in
+      let r : room_stage out bytes ≡ None = rw (le-leb (0 + length bytes) (length out) long) in
       ap (λ (x : Option Refusal). (written_by x (into out) bytes).answer)
       (both_first os (room_stage out bytes ∷ []) o ∙ ap (λ (x : Option Refusal). first_of (x ∷ [])) r)
 
-  lacking : (out : List ℕ) → first_of os ≡ none → length out < length bytes → answers out ≡ written.Refused (ShortBuffer (length bytes))
+  lacking : (out : List ℕ) → first_of os ≡ None → length out < length bytes → answers out ≡ Err (ShortBuffer (length bytes))
   lacking out o h =
       let least : min (0 + length bytes) (2 ^ 64 - 1) ≡ length bytes = omega arith in
       let long : length out < 0 + length bytes = omega arith in
-      let r : room_stage out bytes ≡ some (ShortBuffer (length bytes))
-      = rw (lt-leb (0 + length bytes) (length out) long) (ap (λ (p : ℕ). some (ShortBuffer p)) least) in
+      let r : room_stage out bytes ≡ Some (ShortBuffer (length bytes))
+      = rw (lt-leb (0 + length bytes) (length out) long) (ap (λ (p : ℕ). Some (ShortBuffer p)) least) in
       ap (λ (x : Option Refusal). (written_by x (into out) bytes).answer)
       (both_first os (room_stage out bytes ∷ []) o ∙ ap (λ (x : Option Refusal). first_of (x ∷ [])) r)
 
-  refused-by : (o : Option Refusal) (e : FileEntry) (r : Refusal) → (written_by o e bytes).answer ≡ written.Refused r → o ≡ some r
-  refused-by none e r a = let z : ◌≡◌ {A = ℕ} 0 1 = cc in absurd (omega arith)
-  refused-by (some q) e r a = let q-is : q ≡ r = cc in ap some q-is
+  refused-by : (o : Option Refusal) (e : FileEntry) (r : Refusal) → (written_by o e bytes).answer ≡ Err r → o ≡ Some r
+  refused-by None e r a = let z : ◌≡◌ {A = ℕ} 0 1 = cc in absurd (omega arith)
+  refused-by (Some q) e r a = let q-is : q ≡ r = cc in ap Some q-is
 
   -- 11 names the length that a longer buffer gets
-  needed : Others os → (out : List ℕ) (p : ℕ) → answers out ≡ written.Refused (ShortBuffer p)
-      → (length out < p) × ((more : List ℕ) → p ≤ length more → answers more ≡ written.Bytes p)
+  needed : Others os → (out : List ℕ) (p : ℕ) → answers out ≡ Err (ShortBuffer p)
+      → (length out < p) × ((more : List ℕ) → p ≤ length more → answers more ≡ Ok p)
   needed others out p a =
       let f = refused-by (first_of (os ++ (room_stage out bytes ∷ []))) (into out) (ShortBuffer p) a in
       let h = others-first os (room_stage out bytes ∷ []) (ShortBuffer p) others refl f in
       by-room (leb (0 + length bytes) (length out)) refl h.0 h.1
     where
-      by-room : (b : Bool) → leb (0 + length bytes) (length out) ≡ b → first_of os ≡ none
-          → first_of (stage ShortBuffer (cond b none (some (min (0 + length bytes) (2 ^ 64 - 1)))) ∷ []) ≡ some (ShortBuffer p)
-          → (length out < p) × ((more : List ℕ) → p ≤ length more → answers more ≡ written.Bytes p)
+      by-room : (b : Bool) → leb (0 + length bytes) (length out) ≡ b → first_of os ≡ None
+          → first_of (stage ShortBuffer (cond b None (Some (min (0 + length bytes) (2 ^ 64 - 1)))) ∷ []) ≡ Some (ShortBuffer p)
+          → (length out < p) × ((more : List ℕ) → p ≤ length more → answers more ≡ Ok p)
       by-room true q o f = some-none (ShortBuffer p) (sym f)
       by-room false q o f =
           let p-is : min (0 + length bytes) (2 ^ 64 - 1) ≡ p = cc in
           let len : length bytes ≡ p = omega arith in (
             omega (arith, leb-false (0 + length bytes) (length out) q),
-            λ more m. enough more o (omega arith) ∙ ap written.Bytes len,
+            λ more m. enough more o (omega arith) ∙ ap Ok len,
           )
 
   -- and a buffer shorter than what is written gets 11 with this length
-  reported : (out : List ℕ) (k : ℕ) → answers out ≡ written.Bytes k → (less : List ℕ) → length less < k
-      → answers less ≡ written.Refused (ShortBuffer k)
+  reported : (out : List ℕ) (k : ℕ) → answers out ≡ Ok k → (less : List ℕ) → length less < k
+      → answers less ≡ Err (ShortBuffer k)
   reported out k a less h =
       let w = wrote (into out) bytes k (first_of (os ++ (room_stage out bytes ∷ []))) a in
       let o = (first-both os (room_stage out bytes ∷ []) w.0).0 in
-      lacking less o (omega (arith, w.1)) ∙ ap (λ (p : ℕ). written.Refused (ShortBuffer p)) (sym w.1)
+      lacking less o (omega (arith, w.1)) ∙ ap (λ (p : ℕ). Err (ShortBuffer p)) (sym w.1)
 
 module _ (g : Given) (tail : List ℕ) where
   abbrev buffer : List ℕ → FileEntry
@@ -92,22 +90,22 @@ module _ (g : Given) (tail : List ℕ) where
   abbrev binary-stages : List (Option Refusal)
   binary-stages = stages g (lent_alone g) ++ (order_stage g ∷ tail_stage g tail ∷ [])
 
-  pub text-needed : length text-bytes < 2 ^ 64 → (out : List ℕ) (p : ℕ) → (write_text (buffer out)).answer ≡ written.Refused (ShortBuffer p)
-      → (length out < p) × ((more : List ℕ) → p ≤ length more → (write_text (buffer more)).answer ≡ written.Bytes p)
+  pub text-needed : length text-bytes < 2 ^ 64 → (out : List ℕ) (p : ℕ) → (write_text (buffer out)).answer ≡ Err (ShortBuffer p)
+      → (length out < p) × ((more : List ℕ) → p ≤ length more → (write_text (buffer more)).answer ≡ Ok p)
   text-needed fits =
       needed g tail text-bytes text-stages fits (others-circuit g (tail_stage g tail ∷ []) (other-tail-stage g.counts tail, tt))
 
-  pub text-reported : length text-bytes < 2 ^ 64 → (out : List ℕ) (k : ℕ) → (write_text (buffer out)).answer ≡ written.Bytes k
-      → (less : List ℕ) → length less < k → (write_text (buffer less)).answer ≡ written.Refused (ShortBuffer k)
+  pub text-reported : length text-bytes < 2 ^ 64 → (out : List ℕ) (k : ℕ) → (write_text (buffer out)).answer ≡ Ok k
+      → (less : List ℕ) → length less < k → (write_text (buffer less)).answer ≡ Err (ShortBuffer k)
   text-reported = reported g tail text-bytes text-stages
 
   pub binary-needed : length binary-bytes < 2 ^ 64 → (out : List ℕ) (p : ℕ)
-      → (write_binary (buffer out)).answer ≡ written.Refused (ShortBuffer p)
-      → (length out < p) × ((more : List ℕ) → p ≤ length more → (write_binary (buffer more)).answer ≡ written.Bytes p)
+      → (write_binary (buffer out)).answer ≡ Err (ShortBuffer p)
+      → (length out < p) × ((more : List ℕ) → p ≤ length more → (write_binary (buffer more)).answer ≡ Ok p)
   binary-needed fits =
       needed g tail binary-bytes binary-stages fits
       (others-circuit g (order_stage g ∷ tail_stage g tail ∷ []) (other-order-stage g, (other-tail-stage g.counts tail, tt)))
 
-  pub binary-reported : length binary-bytes < 2 ^ 64 → (out : List ℕ) (k : ℕ) → (write_binary (buffer out)).answer ≡ written.Bytes k
-      → (less : List ℕ) → length less < k → (write_binary (buffer less)).answer ≡ written.Refused (ShortBuffer k)
+  pub binary-reported : length binary-bytes < 2 ^ 64 → (out : List ℕ) (k : ℕ) → (write_binary (buffer out)).answer ≡ Ok k
+      → (less : List ℕ) → length less < k → (write_binary (buffer less)).answer ≡ Err (ShortBuffer k)
   binary-reported = reported g tail binary-bytes binary-stages

@@ -3,9 +3,9 @@
 use Prim.Native.Nat.{ℕ, ◌≤◌}
 use mathlib.Core.Path.{◌≡◌, sym, ap, ◌∙◌}
 use mathlib.Core.Bool.{true}
-use mathlib.Core.Option.{some}
 use mathlib.Core.List.{List, ◌++◌}
 use lib.ListN.{length, drop}
+use Rattle.std.specs.Prelude.{Some}
 use Rattle.plan.specs.declared.Version.TheVariants.{V2007, V19}
 use Rattle.plan.specs.Refusals.{got}
 use Rattle.plan.specs.Circuit.{Circuit}
@@ -50,7 +50,7 @@ module _ (file lengths : List ℕ) (bytes : Bytes file) (c : Circuit) (start : �
 -- the converter, run on what it wrote of a binary file that 2007 accepts in its tables, where both files are as long as an input may be
 pub old-converter-back : (file : List ℕ) → Bytes file → (c : Circuit) (start : ℕ) → read_file V2007 file lent_words ≡ got c start → LongEnough c lent_words
     → form_in file ≡ binary → length file ≤ 65536 → length (text_of c ++ drop start file) ≤ 65536
-    → converter (some (converter (some file))) ≡ file
+    → converter (Some (converter (Some file))) ≡ file
 old-converter-back file bytes c start accepted room form h k =
     let tail = drop start file in
     let old = (sound V2007 file lent_words bytes c start accepted).0 in

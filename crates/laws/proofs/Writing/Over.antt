@@ -4,13 +4,13 @@ use Prim.Native.Nat.{ℕ, ◌≤◌}
 use mathlib.Core.Path.{◌≡◌, refl, sym, ap, ◌∙◌}
 use mathlib.Core.Logic.{◌↔◌, ◌⊎◌, inl, inr}
 use mathlib.Core.List.{List, ◌∷◌}
+use Rattle.std.specs.Prelude.{Err}
 use native.Mathlib.Omega.{arith}
 use lib.ListN.{length, get_or, drop, length-drop}
 use Rattle.plan.specs.declared.Version.{Version}
 use Rattle.plan.specs.declared.Version.TheVariants.{V2007, V19}
 use Rattle.plan.specs.declared.Refusal.{Refusal}
 use Rattle.plan.specs.declared.Refusal.TheVariants as refusal
-use Rattle.plan.specs.declared.Loaded.TheVariants as loaded
 use Rattle.plan.specs.Refusals.{Parse, got, refused, number_of}
 use Rattle.plan.specs.Circuit.{Circuit, counts_of, lengths_of, holding, cleared}
 use Rattle.plan.specs.Header.{list_of}
@@ -39,11 +39,11 @@ module _ (e : ReadEntry) (bytes : Bytes e.file) where
       = same_start e.file a.0 start (start-within e.file V19 lengths c a.0 a.1) (start-within e.file V2007 lengths c start q) a.2 in
       a.1 ∙ ap (got c) at
 
-  pub old-load : ((r : Refusal) × ((load_as V2007 e).answer ≡ loaded.Refused r)) ⊎ (load_as V2007 e ≡ load_as V19 e)
+  pub old-load : ((r : Refusal) × ((load_as V2007 e).answer ≡ Err r)) ⊎ (load_as V2007 e ≡ load_as V19 e)
   old-load = go (read_file V2007 e.file lengths) refl
     where
       go : (p : Parse Circuit) → read_file V2007 e.file lengths ≡ p
-          → ((r : Refusal) × ((load_as V2007 e).answer ≡ loaded.Refused r)) ⊎ (load_as V2007 e ≡ load_as V19 e)
+          → ((r : Refusal) × ((load_as V2007 e).answer ≡ Err r)) ⊎ (load_as V2007 e ≡ load_as V19 e)
       go (got c start) q = inr (ap (load_by e) (q ∙ sym (same-parse c start q)))
       go (refused r) q = inl (r, ap (λ (p : Parse Circuit). (load_by e p).answer) q)
 
@@ -51,11 +51,11 @@ module _ (e : ReadEntry) (bytes : Bytes e.file) where
   abbrev answered : LoadExit → ReadExit
   answered x = record { answer = loaded_values x.answer; tail = tail_of e.file x.answer; tables = x.tables; scratch = x.scratch }
 
-  pub old-read : ((r : Refusal) × ((read2007 e).answer ≡ loaded_values (loaded.Refused r))) ⊎ (read2007 e ≡ read e)
+  pub old-read : ((r : Refusal) × ((read2007 e).answer ≡ loaded_values (Err r))) ⊎ (read2007 e ≡ read e)
   old-read = go old-load
     where
-      go : ((r : Refusal) × ((load_as V2007 e).answer ≡ loaded.Refused r)) ⊎ (load_as V2007 e ≡ load_as V19 e)
-          → ((r : Refusal) × ((read2007 e).answer ≡ loaded_values (loaded.Refused r))) ⊎ (read2007 e ≡ read e)
+      go : ((r : Refusal) × ((load_as V2007 e).answer ≡ Err r)) ⊎ (load_as V2007 e ≡ load_as V19 e)
+          → ((r : Refusal) × ((read2007 e).answer ≡ loaded_values (Err r))) ⊎ (read2007 e ≡ read e)
       go (inl h) = inl (h.0, ap loaded_values h.1)
       go (inr h) = inr (ap answered h)
 

@@ -3,8 +3,8 @@
 use Prim.Native.Nat.{ℕ, ◌≤◌}
 use mathlib.Core.Path.{◌≡◌, refl, sym, ap, ap₂, ◌∙◌}
 use mathlib.Core.Bool.{true}
-use mathlib.Core.Option.{Option, none, some}
 use mathlib.Core.List.{List, ◌++◌, map}
+use Rattle.std.specs.Prelude.{Option, Some, None}
 use native.Mathlib.Omega.{arith}
 use borrow.Author.Tests.{le-leb}
 use lib.ListN.{length, drop}
@@ -34,7 +34,7 @@ use Rattle.laws.proofs.Writing.ThereAndBack.{BackAgain, stated-tail, shortest-ba
 -- a circuit with the same I, L, O, B and C, and M and A no larger, has room where the first has
 room-less : (n m : Counts) (lengths : List ℕ) → m.M ≤ n.M → m.I ≡ n.I → m.L ≡ n.L → m.O ≡ n.O → m.A ≤ n.A → m.B ≡ n.B
     → m.C ≡ n.C
-    → least_short (against 1 (words_to_work n) lengths) ≡ none → least_short (against 1 (words_to_work m) lengths) ≡ none
+    → least_short (against 1 (words_to_work n) lengths) ≡ None → least_short (against 1 (words_to_work m) lengths) ≡ None
 room-less n m lengths hm hi hl ho ha hb hc r =
     let l = (short_none (against 1 (words_to_work n) lengths)).0 r in
     let h1 = l.1.1.1.1 in
@@ -127,14 +127,14 @@ module _ (file : List ℕ) (bytes : Bytes file) (c : Circuit) (start : ℕ) (acc
   abbrev lessened : List ℕ
   lessened = binary_of (reduce (convert c)) ++ drop start file
 
-  pub reducer-writes : length lessened ≤ 65536 → reducer (some file) ≡ lessened
+  pub reducer-writes : length lessened ≤ 65536 → reducer (Some file) ≡ lessened
   reducer-writes h = rw (le-leb (length file) 65536 short-enough, accepted, long) (rw (le-leb (length lessened) 65536 h))
 
   -- the reducer writes what it wrote
-  pub reducer-again : length lessened ≤ 65536 → reducer (some (reducer (some file))) ≡ reducer (some file)
-  reducer-again h = ap (λ (x : List ℕ). reducer (some x)) (reducer-writes h) ∙ (on-lessened ∙ sym (reducer-writes h))
+  pub reducer-again : length lessened ≤ 65536 → reducer (Some (reducer (Some file))) ≡ reducer (Some file)
+  reducer-again h = ap (λ (x : List ℕ). reducer (Some x)) (reducer-writes h) ∙ (on-lessened ∙ sym (reducer-writes h))
     where
-      on-lessened : reducer (some lessened) ≡ lessened
+      on-lessened : reducer (Some lessened) ≡ lessened
       on-lessened =
           let less = reduce (convert c) in
           let same : binary_of (reduce (convert less)) ++ drop (length (binary_of less)) lessened ≡ lessened
@@ -152,7 +152,7 @@ module _ (file : List ℕ) (bytes : Bytes file) (c : Circuit) (start : ℕ) (acc
       (room file lent_words bytes c start accepted long) (convert-in-order c w)
 
   -- the tracer gives the same lines for the converted file
-  pub tracer-same : length converted ≤ 65536 → (list : Option (List ℕ)) → tracer (some converted) list ≡ tracer (some file) list
+  pub tracer-same : length converted ≤ 65536 → (list : Option (List ℕ)) → tracer (Some converted) list ≡ tracer (Some file) list
   tracer-same h list =
       rw (
         le-leb (length converted) 65536 h,

@@ -2,17 +2,12 @@
 -- at entry, and scratch zero throughout. A rewiring alone leaves the gates' table as it came, as wish 13 says.
 use Prim.Native.Nat.{ℕ, suc, zero, ◌*◌}
 use mathlib.Core.Path.{◌≡◌, refl}
-use mathlib.Core.Option.{Option, none, some}
 use mathlib.Core.List.{List, [], ◌∷◌, ◌++◌}
+use Rattle.std.specs.Prelude.{Err, Option, Some, None}
 use native.Mathlib.Omega.{arith}
 use lib.ListN.{length, get_or, replicate, length-replicate}
 use Rattle.plan.specs.declared.Version.{Version}
 use Rattle.plan.specs.declared.Refusal.{Refusal}
-use Rattle.plan.specs.declared.Loaded.TheVariants as loaded
-use Rattle.plan.specs.declared.Made.TheVariants as made
-use Rattle.plan.specs.declared.Written.TheVariants as written
-use Rattle.plan.specs.declared.Stepped.TheVariants as stepped
-use Rattle.plan.specs.declared.Traced.TheVariants as traced
 use Rattle.plan.specs.declared.Refusal.TheVariants.{WrongValue}
 use Rattle.plan.specs.Refusals.{Parse, got, refused, stage, first_of}
 use Rattle.plan.specs.Circuit.{Circuit, Tables, lengths_of, all_cleared, cleared}
@@ -74,142 +69,142 @@ all-zeroed t = record {
 }
 
 -- a read, of AIGER and of cards
-pub read-refused : (e : ReadEntry) (p : Parse Circuit) (r : Refusal) → (load_by e p).answer ≡ loaded.Refused r
+pub read-refused : (e : ReadEntry) (p : Parse Circuit) (r : Refusal) → (load_by e p).answer ≡ Err r
     → AllZeroed e.tables (load_by e p).tables × Zeroed e.scratch (load_by e p).scratch
 read-refused e (got c s) r a = let z : ◌≡◌ {A = ℕ} 0 1 = cc in absurd (omega arith)
 read-refused e (refused k) r a = (all-zeroed e.tables, zeroed e.scratch)
 
 -- a conversion, a reduction, a dropping
-pub made-refused : (o : Option Refusal) (e : MakeEntry) (c : Circuit) (r : Refusal) → (made_by o e c).answer ≡ made.Refused r
+pub made-refused : (o : Option Refusal) (e : MakeEntry) (c : Circuit) (r : Refusal) → (made_by o e c).answer ≡ Err r
     → AllZeroed e.written (made_by o e c).written × Zeroed e.circuit.scratch (made_by o e c).scratch
-made-refused none e c r a = let z : ◌≡◌ {A = ℕ} 0 1 = cc in absurd (omega arith)
-made-refused (some k) e c r a = (all-zeroed e.written, zeroed e.circuit.scratch)
+made-refused None e c r a = let z : ◌≡◌ {A = ℕ} 0 1 = cc in absurd (omega arith)
+made-refused (Some k) e c r a = (all-zeroed e.written, zeroed e.circuit.scratch)
 
 -- a writer of a file; of a number or a difference
-pub written-refused : (o : Option Refusal) (e : FileEntry) (bytes : List ℕ) (r : Refusal) → (written_by o e bytes).answer ≡ written.Refused r
+pub written-refused : (o : Option Refusal) (e : FileEntry) (bytes : List ℕ) (r : Refusal) → (written_by o e bytes).answer ≡ Err r
     → ((written_by o e bytes).out ≡ e.out) × Zeroed e.circuit.scratch (written_by o e bytes).scratch
-written-refused none e bytes r a = let z : ◌≡◌ {A = ℕ} 0 1 = cc in absurd (omega arith)
-written-refused (some k) e bytes r a = (refl, zeroed e.circuit.scratch)
+written-refused None e bytes r a = let z : ◌≡◌ {A = ℕ} 0 1 = cc in absurd (omega arith)
+written-refused (Some k) e bytes r a = (refl, zeroed e.circuit.scratch)
 
-pub put_refused : (o : Option ℕ) (out : List ℕ) (at : ℕ) (bytes : List ℕ) (r : Refusal) → (put_by o out at bytes).answer ≡ written.Refused r
+pub put_refused : (o : Option ℕ) (out : List ℕ) (at : ℕ) (bytes : List ℕ) (r : Refusal) → (put_by o out at bytes).answer ≡ Err r
     → (put_by o out at bytes).out ≡ out
-put_refused none out at bytes r a = let z : ◌≡◌ {A = ℕ} 0 1 = cc in absurd (omega arith)
-put_refused (some k) out at bytes r a = refl
+put_refused None out at bytes r a = let z : ◌≡◌ {A = ℕ} 0 1 = cc in absurd (omega arith)
+put_refused (Some k) out at bytes r a = refl
 
 -- a step
-pub step-refused : (o : Option Refusal) (e : StepEntry) (r : Refusal) → (stepped_by o e).answer ≡ stepped.Refused r
+pub step-refused : (o : Option Refusal) (e : StepEntry) (r : Refusal) → (stepped_by o e).answer ≡ Err r
     → ((stepped_by o e).state ≡ e.state) × ((stepped_by o e).outputs ≡ e.outputs) × Zeroed e.circuit.scratch (stepped_by o e).scratch
-step-refused none e r a = let z : ◌≡◌ {A = ℕ} 0 1 = cc in absurd (omega arith)
-step-refused (some k) e r a = (refl, refl, zeroed e.circuit.scratch)
+step-refused None e r a = let z : ◌≡◌ {A = ℕ} 0 1 = cc in absurd (omega arith)
+step-refused (Some k) e r a = (refl, refl, zeroed e.circuit.scratch)
 
 -- a report, a step of rows, a row report, an explanation
-pub report-refused : (o : Option Refusal) (e : ReportEntry) (r : Refusal) → (reported_by o e).answer ≡ stepped.Refused r
+pub report-refused : (o : Option Refusal) (e : ReportEntry) (r : Refusal) → (reported_by o e).answer ≡ Err r
     → Zeroed e.six (reported_by o e).six × Zeroed e.circuit.scratch (reported_by o e).scratch
-report-refused none e r a = let z : ◌≡◌ {A = ℕ} 0 1 = cc in absurd (omega arith)
-report-refused (some k) e r a = (zeroed e.six, zeroed e.circuit.scratch)
+report-refused None e r a = let z : ◌≡◌ {A = ℕ} 0 1 = cc in absurd (omega arith)
+report-refused (Some k) e r a = (zeroed e.six, zeroed e.circuit.scratch)
 
-pub rows-refused : (o : Option Refusal) (e : RowsEntry) (r : Refusal) → (stepped_rows o e).answer ≡ stepped.Refused r
+pub rows-refused : (o : Option Refusal) (e : RowsEntry) (r : Refusal) → (stepped_rows o e).answer ≡ Err r
     → ((stepped_rows o e).nexts ≡ e.nexts) × ((stepped_rows o e).outputs ≡ e.outputs) × Zeroed e.circuit.scratch (stepped_rows o e).scratch
-rows-refused none e r a = let z : ◌≡◌ {A = ℕ} 0 1 = cc in absurd (omega arith)
-rows-refused (some k) e r a = (refl, refl, zeroed e.circuit.scratch)
+rows-refused None e r a = let z : ◌≡◌ {A = ℕ} 0 1 = cc in absurd (omega arith)
+rows-refused (Some k) e r a = (refl, refl, zeroed e.circuit.scratch)
 
-pub row-report-refused : (o : Option Refusal) (e : RowReportEntry) (r : Refusal) → (reported_rows o e).answer ≡ stepped.Refused r
+pub row-report-refused : (o : Option Refusal) (e : RowReportEntry) (r : Refusal) → (reported_rows o e).answer ≡ Err r
     → Zeroed e.report (reported_rows o e).report × Zeroed e.circuit.scratch (reported_rows o e).scratch
-row-report-refused none e r a = let z : ◌≡◌ {A = ℕ} 0 1 = cc in absurd (omega arith)
-row-report-refused (some k) e r a = (zeroed e.report, zeroed e.circuit.scratch)
+row-report-refused None e r a = let z : ◌≡◌ {A = ℕ} 0 1 = cc in absurd (omega arith)
+row-report-refused (Some k) e r a = (zeroed e.report, zeroed e.circuit.scratch)
 
-pub explain-refused : (o : Option Refusal) (e : ExplainEntry) (r : Refusal) → (explained_by o e).answer ≡ stepped.Refused r
+pub explain-refused : (o : Option Refusal) (e : ExplainEntry) (r : Refusal) → (explained_by o e).answer ≡ Err r
     → ((explained_by o e).marks ≡ e.marks) × Zeroed e.circuit.scratch (explained_by o e).scratch
-explain-refused none e r a = let z : ◌≡◌ {A = ℕ} 0 1 = cc in absurd (omega arith)
-explain-refused (some k) e r a = (refl, zeroed e.circuit.scratch)
+explain-refused None e r a = let z : ◌≡◌ {A = ℕ} 0 1 = cc in absurd (omega arith)
+explain-refused (Some k) e r a = (refl, zeroed e.circuit.scratch)
 
 -- whole files: all tables are zero afterwards, whether or not it refuses
-pub whole-refused : (e : WholeEntry) (p : Parse (List ℕ)) (r : Refusal) → (whole_by e p).answer ≡ written.Refused r
+pub whole-refused : (e : WholeEntry) (p : Parse (List ℕ)) (r : Refusal) → (whole_by e p).answer ≡ Err r
     → AllZeroed e.read (whole_by e p).read × AllZeroed e.made (whole_by e p).made × Zeroed e.scratch (whole_by e p).scratch
     × ((whole_by e p).out ≡ e.out)
 whole-refused e (got bytes n) r a = let z : ◌≡◌ {A = ℕ} 0 1 = cc in absurd (omega arith)
 whole-refused e (refused k) r a = (all-zeroed e.read, all-zeroed e.made, zeroed e.scratch, refl)
 
-pub open-refused : (e : WholeEntry) (p : Parse Circuit) (r : Refusal) → (open_by e p).answer ≡ made.Refused r
+pub open-refused : (e : WholeEntry) (p : Parse Circuit) (r : Refusal) → (open_by e p).answer ≡ Err r
     → AllZeroed e.read (open_by e p).read × AllZeroed e.made (open_by e p).made × Zeroed e.scratch (open_by e p).scratch
 open-refused e (got c n) r a = let z : ◌≡◌ {A = ℕ} 0 1 = cc in absurd (omega arith)
 open-refused e (refused k) r a = (all-zeroed e.read, all-zeroed e.made, zeroed e.scratch)
 
-pub moved-refused : (e : CardEntry) (p : Parse (List ℕ)) (r : Refusal) → (moved_by e p).answer ≡ written.Refused r
+pub moved-refused : (e : CardEntry) (p : Parse (List ℕ)) (r : Refusal) → (moved_by e p).answer ≡ Err r
     → AllZeroed e.tables (moved_by e p).tables × Zeroed e.scratch (moved_by e p).scratch × ((moved_by e p).out ≡ e.out)
 moved-refused e (got bytes n) r a = let z : ◌≡◌ {A = ℕ} 0 1 = cc in absurd (omega arith)
 moved-refused e (refused k) r a = (all-zeroed e.tables, zeroed e.scratch, refl)
 
-pub trace-refused : (o : Option Refusal) (e : TraceEntry) (r : Refusal) → (traced_by o e).answer ≡ traced.Refused r
+pub trace-refused : (o : Option Refusal) (e : TraceEntry) (r : Refusal) → (traced_by o e).answer ≡ Err r
     → ((traced_by o e).state ≡ e.state) × ((traced_by o e).out ≡ e.out) × Zeroed e.circuit.scratch (traced_by o e).scratch
-trace-refused none e r a = let z : ◌≡◌ {A = ℕ} 0 1 = cc in absurd (omega arith)
-trace-refused (some k) e r a = (refl, refl, zeroed e.circuit.scratch)
+trace-refused None e r a = let z : ◌≡◌ {A = ℕ} 0 1 = cc in absurd (omega arith)
+trace-refused (Some k) e r a = (refl, refl, zeroed e.circuit.scratch)
 
 -- wish 13's departure
-pub rewire-refused : (o : Option Refusal) (e : RewireEntry) (r : Refusal) → (rewired_by o e).answer ≡ stepped.Refused r
+pub rewire-refused : (o : Option Refusal) (e : RewireEntry) (r : Refusal) → (rewired_by o e).answer ≡ Err r
     → ((rewired_by o e).gates ≡ e.circuit.tables.gates) × ((rewired_by o e).values ≡ e.values) × Zeroed e.circuit.scratch (rewired_by o e).scratch
-rewire-refused none e r a = let z : ◌≡◌ {A = ℕ} 0 1 = cc in absurd (omega arith)
-rewire-refused (some k) e r a = (refl, refl, zeroed e.circuit.scratch)
+rewire-refused None e r a = let z : ◌≡◌ {A = ℕ} 0 1 = cc in absurd (omega arith)
+rewire-refused (Some k) e r a = (refl, refl, zeroed e.circuit.scratch)
 
 -- the same of each call
 pub record RefusedLeaves : Type 0 where
-  pub loading : (v : Version) (e : ReadEntry) (r : Refusal) → (load_as v e).answer ≡ loaded.Refused r
+  pub loading : (v : Version) (e : ReadEntry) (r : Refusal) → (load_as v e).answer ≡ Err r
       → AllZeroed e.tables (load_as v e).tables × Zeroed e.scratch (load_as v e).scratch
   pub reading : (v : Version) (e : ReadEntry) → ¬ (get_or (read_as v e).answer 0 0 ≡ 0)
       → AllZeroed e.tables (read_as v e).tables × Zeroed e.scratch (read_as v e).scratch × ((read_as v e).tail ≡ [])
-  pub card-loading : (e : ReadEntry) (r : Refusal) → (load_cards e).answer ≡ loaded.Refused r
+  pub card-loading : (e : ReadEntry) (r : Refusal) → (load_cards e).answer ≡ Err r
       → AllZeroed e.tables (load_cards e).tables × Zeroed e.scratch (load_cards e).scratch
-  pub converting : (e : MakeEntry) (r : Refusal) → (conversion e).answer ≡ made.Refused r
+  pub converting : (e : MakeEntry) (r : Refusal) → (conversion e).answer ≡ Err r
       → AllZeroed e.written (conversion e).written × Zeroed e.circuit.scratch (conversion e).scratch
-  pub reducing : (e : MakeEntry) (r : Refusal) → (reduction e).answer ≡ made.Refused r
+  pub reducing : (e : MakeEntry) (r : Refusal) → (reduction e).answer ≡ Err r
       → AllZeroed e.written (reduction e).written × Zeroed e.circuit.scratch (reduction e).scratch
-  pub dropping-gates : (e : MakeEntry) (r : Refusal) → (dropping e).answer ≡ made.Refused r
+  pub dropping-gates : (e : MakeEntry) (r : Refusal) → (dropping e).answer ≡ Err r
       → AllZeroed e.written (dropping e).written × Zeroed e.circuit.scratch (dropping e).scratch
-  pub writing-text : (e : FileEntry) (r : Refusal) → (write_text e).answer ≡ written.Refused r
+  pub writing-text : (e : FileEntry) (r : Refusal) → (write_text e).answer ≡ Err r
       → ((write_text e).out ≡ e.out) × Zeroed e.circuit.scratch (write_text e).scratch
-  pub writing-binary : (e : FileEntry) (r : Refusal) → (write_binary e).answer ≡ written.Refused r
+  pub writing-binary : (e : FileEntry) (r : Refusal) → (write_binary e).answer ≡ Err r
       → ((write_binary e).out ≡ e.out) × Zeroed e.circuit.scratch (write_binary e).scratch
-  pub writing-cards : (e : FileEntry) (r : Refusal) → (write_cards e).answer ≡ written.Refused r
+  pub writing-cards : (e : FileEntry) (r : Refusal) → (write_cards e).answer ≡ Err r
       → ((write_cards e).out ≡ e.out) × Zeroed e.circuit.scratch (write_cards e).scratch
-  pub writing-number : (e : WriteEntry) (r : Refusal) → (write_number e).answer ≡ written.Refused r → (write_number e).out ≡ e.out
-  pub writing-difference : (e : WriteEntry) (r : Refusal) → (write_difference e).answer ≡ written.Refused r → (write_difference e).out ≡ e.out
-  pub stepping : (e : StepEntry) (r : Refusal) → (step e).answer ≡ stepped.Refused r
+  pub writing-number : (e : WriteEntry) (r : Refusal) → (write_number e).answer ≡ Err r → (write_number e).out ≡ e.out
+  pub writing-difference : (e : WriteEntry) (r : Refusal) → (write_difference e).answer ≡ Err r → (write_difference e).out ≡ e.out
+  pub stepping : (e : StepEntry) (r : Refusal) → (step e).answer ≡ Err r
       → ((step e).state ≡ e.state) × ((step e).outputs ≡ e.outputs) × Zeroed e.circuit.scratch (step e).scratch
-  pub plain-stepping : (e : StepEntry) (r : Refusal) → (plain_step e).answer ≡ stepped.Refused r
+  pub plain-stepping : (e : StepEntry) (r : Refusal) → (plain_step e).answer ≡ Err r
       → ((plain_step e).state ≡ e.state) × ((plain_step e).outputs ≡ e.outputs) × Zeroed e.circuit.scratch (plain_step e).scratch
-  pub reporting : (e : ReportEntry) (r : Refusal) → (report e).answer ≡ stepped.Refused r
+  pub reporting : (e : ReportEntry) (r : Refusal) → (report e).answer ≡ Err r
       → Zeroed e.six (report e).six × Zeroed e.circuit.scratch (report e).scratch
-  pub stepping-rows : (e : RowsEntry) (r : Refusal) → (step_rows e).answer ≡ stepped.Refused r
+  pub stepping-rows : (e : RowsEntry) (r : Refusal) → (step_rows e).answer ≡ Err r
       → ((step_rows e).nexts ≡ e.nexts) × ((step_rows e).outputs ≡ e.outputs) × Zeroed e.circuit.scratch (step_rows e).scratch
-  pub reporting-rows : (e : RowReportEntry) (r : Refusal) → (report_rows e).answer ≡ stepped.Refused r
+  pub reporting-rows : (e : RowReportEntry) (r : Refusal) → (report_rows e).answer ≡ Err r
       → Zeroed e.report (report_rows e).report × Zeroed e.circuit.scratch (report_rows e).scratch
-  pub explaining : (e : ExplainEntry) (r : Refusal) → (explain e).answer ≡ stepped.Refused r
+  pub explaining : (e : ExplainEntry) (r : Refusal) → (explain e).answer ≡ Err r
       → ((explain e).marks ≡ e.marks) × Zeroed e.circuit.scratch (explain e).scratch
-  pub rewiring-gates : (e : RewireEntry) (r : Refusal) → (rewiring e).answer ≡ stepped.Refused r
+  pub rewiring-gates : (e : RewireEntry) (r : Refusal) → (rewiring e).answer ≡ Err r
       → ((rewiring e).gates ≡ e.circuit.tables.gates) × ((rewiring e).values ≡ e.values) × Zeroed e.circuit.scratch (rewiring e).scratch
   -- calls that write no table and no bytes: their scratch is zero whatever they answer
   pub checking : (g : Given) → Zeroed g.scratch (check g).scratch × Zeroed g.scratch (check_in_order g).scratch
   pub witnessing-three : (e : WitnessEntry) → Zeroed e.circuit.scratch (witness3 e).scratch
   pub witnessing : (e : FilledEntry) → Zeroed e.list.circuit.scratch (witness e).scratch
   -- whole files
-  pub converting-file : (e : WholeEntry) (r : Refusal) → (convert_whole e).answer ≡ written.Refused r
+  pub converting-file : (e : WholeEntry) (r : Refusal) → (convert_whole e).answer ≡ Err r
       → AllZeroed e.read (convert_whole e).read × AllZeroed e.made (convert_whole e).made × Zeroed e.scratch (convert_whole e).scratch
       × ((convert_whole e).out ≡ e.out)
-  pub reducing-file : (e : WholeEntry) (r : Refusal) → (reduce_whole e).answer ≡ written.Refused r
+  pub reducing-file : (e : WholeEntry) (r : Refusal) → (reduce_whole e).answer ≡ Err r
       → AllZeroed e.read (reduce_whole e).read × AllZeroed e.made (reduce_whole e).made × Zeroed e.scratch (reduce_whole e).scratch
       × ((reduce_whole e).out ≡ e.out)
-  pub dropping-file : (e : WholeEntry) (r : Refusal) → (drop_whole e).answer ≡ written.Refused r
+  pub dropping-file : (e : WholeEntry) (r : Refusal) → (drop_whole e).answer ≡ Err r
       → AllZeroed e.read (drop_whole e).read × AllZeroed e.made (drop_whole e).made × Zeroed e.scratch (drop_whole e).scratch
       × ((drop_whole e).out ≡ e.out)
-  pub opening-file : (e : WholeEntry) (r : Refusal) → (open_whole e).answer ≡ made.Refused r
+  pub opening-file : (e : WholeEntry) (r : Refusal) → (open_whole e).answer ≡ Err r
       → AllZeroed e.read (open_whole e).read × AllZeroed e.made (open_whole e).made × Zeroed e.scratch (open_whole e).scratch
-  pub filing-cards : (e : CardEntry) (r : Refusal) → (file_whole e).answer ≡ written.Refused r
+  pub filing-cards : (e : CardEntry) (r : Refusal) → (file_whole e).answer ≡ Err r
       → AllZeroed e.tables (file_whole e).tables × Zeroed e.scratch (file_whole e).scratch × ((file_whole e).out ≡ e.out)
-  pub carding-file : (e : CardEntry) (r : Refusal) → (card_whole e).answer ≡ written.Refused r
+  pub carding-file : (e : CardEntry) (r : Refusal) → (card_whole e).answer ≡ Err r
       → AllZeroed e.tables (card_whole e).tables × Zeroed e.scratch (card_whole e).scratch × ((card_whole e).out ≡ e.out)
-  pub tracing : (e : TraceEntry) (r : Refusal) → (trace e).answer ≡ traced.Refused r
+  pub tracing : (e : TraceEntry) (r : Refusal) → (trace e).answer ≡ Err r
       → ((trace e).state ≡ e.state) × ((trace e).out ≡ e.out) × Zeroed e.circuit.scratch (trace e).scratch
-  pub plain-tracing : (e : TraceEntry) (r : Refusal) → (plain_trace e).answer ≡ traced.Refused r
+  pub plain-tracing : (e : TraceEntry) (r : Refusal) → (plain_trace e).answer ≡ Err r
       → ((plain_trace e).state ≡ e.state) × ((plain_trace e).out ≡ e.out) × Zeroed e.circuit.scratch (plain_trace e).scratch
 
 number-refused : (file : List ℕ) (e : ReadEntry) (p : Parse Circuit) → ¬ (get_or (loaded_values (load_by e p).answer) 0 0 ≡ 0)

@@ -2,8 +2,8 @@
 use Prim.Native.Nat.{ℕ, zero, suc, ◌+◌, ◌*◌, ◌≤◌, ◌<◌}
 use mathlib.Core.Path.{◌≡◌, refl, sym, ap, ◌∙◌}
 use mathlib.Core.Bool.{true, ◌&&◌}
-use mathlib.Core.Option.{Option, none}
 use mathlib.Core.List.{List, [], ◌∷◌, ◌++◌, map}
+use Rattle.std.specs.Prelude.{Ok, Option, None}
 use native.Mathlib.Nat.{zero-mul, suc-mul}
 use native.Mathlib.Omega.{arith}
 use borrow.Author.Tests.{eqb-true}
@@ -13,7 +13,6 @@ use lib.Seq.{take_at, drop-append-add, drop-drop, length-take-le}
 use Rattle.plan.specs.declared.Counts.{Counts}
 use Rattle.plan.specs.declared.Refusal.{Refusal}
 use Rattle.plan.specs.declared.Refusal.TheVariants.{NotInOrder, BadVector}
-use Rattle.plan.specs.declared.Stepped.TheVariants as stepped
 use Rattle.plan.specs.Refusals.{stage, first_of}
 use Rattle.plan.specs.Circuit.{Circuit, counts_of, rows_of, flat, cleared}
 use Rattle.plan.specs.Binary.{binary_order}
@@ -68,7 +67,7 @@ room_in k zero i len h e = absurd (omega arith)
 room_in zero (suc n) i len h e = omega (arith, zero-mul i, suc-mul n i)
 room_in (suc k) (suc n) i len h e = omega (arith, room_in k n i (n * i) (omega arith) refl, suc-mul k i, suc-mul n i)
 
-module _ (e : RowsEntry) (done : (step_rows e).answer ≡ stepped.Done) where
+module _ (e : RowsEntry) (done : (step_rows e).answer ≡ Ok tt) where
   abbrev g : Given
   g = e.circuit
 
@@ -78,10 +77,10 @@ module _ (e : RowsEntry) (done : (step_rows e).answer ≡ stepped.Done) where
   abbrev c : Circuit
   c = given_circuit e.circuit
 
-  passed : first_of (in_order_then g (row_stage e ∷ [])) ≡ none
+  passed : first_of (in_order_then g (row_stage e ∷ [])) ≡ None
   passed = stepped-none (λ o. (stepped_rows o e).answer) (λ r. refl) (first_of (in_order_then g (row_stage e ∷ []))) done
 
-  tables-pass : first_of (stages g (lent_alone g)) ≡ none
+  tables-pass : first_of (stages g (lent_alone g)) ≡ None
   tables-pass = (first-both (stages g (lent_alone g)) (order_stage g ∷ row_stage e ∷ []) passed).0
 
   fine : Fine g (lent_alone g)
@@ -119,7 +118,7 @@ module _ (e : RowsEntry) (done : (step_rows e).answer ≡ stepped.Done) where
       ∙ (chunk f w i e.rows k e.inputs (λ x. long (map value_of x)) small
       ∙ ap (λ (j : ℕ). f (take j (drop (k * j) e.inputs))) (ap (λ (m : Counts). m.I) counts))
 
-  pub exit : step_rows e ≡ stepped_rows none e
+  pub exit : step_rows e ≡ stepped_rows None e
   exit = ap (λ (o : Option Refusal). stepped_rows o e) passed
 
   -- what the plain stepper is handed for row k: the same circuit, the resets, the row's vector, and any buffer of O bytes
@@ -133,7 +132,7 @@ module _ (e : RowsEntry) (done : (step_rows e).answer ≡ stepped.Done) where
 
   pub row-is-step : (k : ℕ) → k < e.rows → (outs : List ℕ) → length outs ≡ e.circuit.counts.O
       → step (row_entry k outs) ≡ record {
-        answer = stepped.Done;
+        answer = Ok tt;
         scratch = cleared e.circuit.scratch;
         state = take e.circuit.counts.L (drop (k * e.circuit.counts.L) (step_rows e).nexts);
         outputs = take e.circuit.counts.O (drop (k * e.circuit.counts.O) (step_rows e).outputs);
@@ -155,4 +154,4 @@ module _ (e : RowsEntry) (done : (step_rows e).answer ≡ stepped.Done) where
       step-done g c left order (map code_of (first_state c)) ins outs (length-map (first_state c) code_of ∙ first-length c fine.formed) (all_codes_lem (first_state c))
       (size ∙ sym (ap (λ (m : Counts). m.I) counts)) (codes-take n.I (drop (k * n.I) e.inputs) (codes-drop (k * n.I) e.inputs inputs-good.1))
       (long ∙ sym (ap (λ (m : Counts). m.O) counts))
-      ∙ λ j. record { answer = stepped.Done; scratch = cleared e.circuit.scratch; state = next-is j; outputs = outs-is j }
+      ∙ λ j. record { answer = Ok tt; scratch = cleared e.circuit.scratch; state = next-is j; outputs = outs-is j }

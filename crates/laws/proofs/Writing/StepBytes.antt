@@ -4,8 +4,8 @@ use mathlib.Core.Path.{◌≡◌, refl, sym, ap, ◌∙◌, subst, subst₂}
 use mathlib.Core.Bool.{true}
 use mathlib.Core.List.{List, [], ◌∷◌, map}
 use lib.ListN.{length}
+use Rattle.std.specs.Prelude.{Ok}
 use Rattle.plan.specs.declared.Counts.{Counts}
-use Rattle.plan.specs.declared.Stepped.TheVariants as stepped
 use Rattle.plan.specs.Circuit.{Circuit}
 use Rattle.plan.specs.Reading.{WellFormed}
 use Rattle.plan.specs.Binary.{binary_order}
@@ -37,7 +37,7 @@ KeptSteps [] [] = Unit {0}
 KeptSteps [] (y ∷ ys) = ⊥
 KeptSteps (x ∷ xs) [] = ⊥
 KeptSteps (x ∷ xs) (y ∷ ys) =
-    (x.answer ≡ stepped.Done) × (y.answer ≡ stepped.Done) × KeptBytes x.outputs y.outputs × KeptBytes x.state y.state × KeptSteps xs ys
+    (x.answer ≡ Ok tt) × (y.answer ≡ Ok tt) × KeptBytes x.outputs y.outputs × KeptBytes x.state y.state × KeptSteps xs ys
 
 kept-exits : (g h : Given) (xs ys : List Step) → Kept xs ys → KeptSteps (map (exit_of g) xs) (map (exit_of h) ys)
 kept-exits g h [] [] k = tt

@@ -4,7 +4,7 @@ use mathlib.Core.Path.{◌≡◌, refl, ap, ap₂, ◌∙◌}
 use mathlib.Core.Bool.{true}
 use mathlib.Core.List.{List, [], ◌∷◌, map}
 use lib.ListN.{length, length-map}
-use Rattle.plan.specs.declared.Stepped.TheVariants as stepped
+use Rattle.std.specs.Prelude.{Ok}
 use Rattle.plan.specs.Circuit.{Circuit, cleared}
 use Rattle.plan.specs.Binary.{binary_order}
 use Rattle.plan.specs.Given.{Given}
@@ -24,7 +24,7 @@ steps g outs state (ins ∷ list) =
 -- what a step of the definition is for the stepper
 abbrev pub exit_of : Given → Step → StepExit
 exit_of g s = record {
-  answer = stepped.Done;
+  answer = Ok tt;
   scratch = cleared g.scratch;
   state = map code_of s.next;
   outputs = map code_of s.outputs;

@@ -3,8 +3,8 @@
 use Prim.Native.Nat.{ℕ, ◌≤◌}
 use mathlib.Core.Path.{◌≡◌, refl, sym, ap, ◌∙◌}
 use mathlib.Core.Bool.{true}
-use mathlib.Core.Option.{some}
 use mathlib.Core.List.{List, ◌++◌, append_assoc, map}
+use Rattle.std.specs.Prelude.{Some}
 use native.Mathlib.Omega.{arith}
 use borrow.Author.Tests.{eq-eqb, le-leb}
 use lib.ListN.{length, get_or, drop}
@@ -127,7 +127,7 @@ module _ (file lengths : List ℕ) (c : Circuit) where
 
 -- the converter, run on what it wrote, where both files are as long as an input may be
 converts : (file other : List ℕ) → ((n : ℕ) × (in_other_form file lent_words ≡ got other n)) → length file ≤ 65536 → length other ≤ 65536
-    → converter (some file) ≡ other
+    → converter (Some file) ≡ other
 converts file other q h k = rw (le-leb (length file) 65536 h) (go (read_to_work file lent_words lent_words) (header V19 file 0) q.1)
   where
     go : (p : Parse Circuit) (r : Parse Head)
@@ -140,6 +140,6 @@ converts file other q h k = rw (le-leb (length file) 65536 h) (go (read_to_work 
     go (refused r) p e = absurd (not-got r other q.0 e)
 
 pub converter-back : (file : List ℕ) → (b : BackAgain file lent_words) → length file ≤ 65536 → length b.other ≤ 65536
-    → converter (some (converter (some file))) ≡ file
+    → converter (Some (converter (Some file))) ≡ file
 converter-back file b h k =
-    ap (λ (x : List ℕ). converter (some x)) (converts file b.other b.there h k) ∙ converts b.other file b.back k h
+    ap (λ (x : List ℕ). converter (Some x)) (converts file b.other b.there h k) ∙ converts b.other file b.back k h

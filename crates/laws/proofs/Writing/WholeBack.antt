@@ -3,16 +3,15 @@
 use Prim.Native.Nat.{ℕ, ◌+◌, ◌≤◌}
 use mathlib.Core.Path.{◌≡◌, refl, sym, ap, ap₂, ◌∙◌, subst, subst₂}
 use mathlib.Core.Bool.{Bool, true, cond}
-use mathlib.Core.Option.{Option, some}
 use mathlib.Core.Logic.{◌⊎◌, inl, inr}
 use mathlib.Core.List.{List, ◌++◌}
+use Rattle.std.specs.Prelude.{Ok, Option, Some}
 use native.Mathlib.Omega.{arith}
 use borrow.Author.Tests.{le-leb}
 use lib.Dec.{leb}
 use lib.ListN.{length, take, drop}
 use Rattle.plan.specs.declared.Version.TheVariants.{V2007, V19}
 use Rattle.plan.specs.declared.Refusal.TheVariants.{LongInput, ShortBuffer}
-use Rattle.plan.specs.declared.Written.TheVariants as written
 use Rattle.plan.specs.Refusals.{Parse, got, refused, ◌then◌}
 use Rattle.plan.specs.Circuit.{Circuit, lengths_of}
 use Rattle.plan.specs.Header.{Form, text, binary, Head, header, form_in}
@@ -52,15 +51,15 @@ shortest-form file (inr h) c tail s =
 pub record WholeCall (f : WholeEntry → WholeExit) : Type 0 where
   pub entry : WholeEntry
   pub file : List ℕ
-  pub plan : entry.plan ≡ some file
+  pub plan : entry.plan ≡ Some file
   pub bytes : Bytes file
   pub size : ℕ
-  pub accepted : (f entry).answer ≡ written.Bytes size
+  pub accepted : (f entry).answer ≡ Ok size
 
 abbrev pub whole_file : (f : WholeEntry → WholeExit) → WholeCall f → List ℕ
 whole_file f k = take k.size (f k.entry).out
 
-pub whole-got : (e : WholeEntry) (p : Parse (List ℕ)) (n : ℕ) → (whole_by e p).answer ≡ written.Bytes n
+pub whole-got : (e : WholeEntry) (p : Parse (List ℕ)) (n : ℕ) → (whole_by e p).answer ≡ Ok n
     → (b : List ℕ) × (m : ℕ) × (p ≡ got b m) × (take n (whole_by e p).out ≡ b)
 whole-got e (got b m) n a =
     let n-is : n ≡ length b = cc in
@@ -75,7 +74,7 @@ whole_says k =
     let w = whole-got e (converted_file e) k.size k.accepted in
     let rest : List ℕ → Parse (List ℕ)
     = λ file. file_circuit e file then λ c start. header V19 file 0 then λ h _. fitting_in e.out (other_form h.form c ++ drop start file) in
-    let q : input (some file) rest ≡ got w.0 w.1 = ap (λ (o : Option (List ℕ)). input o rest) (sym k.plan) ∙ w.2 in
+    let q : input (Some file) rest ≡ got w.0 w.1 = ap (λ (o : Option (List ℕ)). input o rest) (sym k.plan) ∙ w.2 in
     let t0 = cond-got (leb (length file) 65536) (rest file) (LongInput 65536) w.0 w.1 q in
     let t1 = then-got (file_circuit e file) _ w.0 w.1 t0.1 in
     let t2 = then-got (header V19 file 0) _ w.0 w.1 t1.3 in
@@ -131,12 +130,12 @@ pub fitting-done : (out bytes : List ℕ) → length bytes ≤ length out → fi
 fitting-done out bytes h = let long : 0 + length bytes ≤ length out = omega arith in rw (le-leb (0 + length bytes) (length out) long)
 
 -- an input that can be read and is not too long
-pub input-done : (plan : Option (List ℕ)) (file : List ℕ) (f : List ℕ → Parse (List ℕ)) → plan ≡ some file → length file ≤ 65536 → input plan f ≡ f file
+pub input-done : (plan : Option (List ℕ)) (file : List ℕ) (f : List ℕ → Parse (List ℕ)) → plan ≡ Some file → length file ≤ 65536 → input plan f ≡ f file
 input-done plan file f e h =
     ap (λ (o : Option (List ℕ)). input o f) e ∙ ap (λ (b : Bool). cond b (f file) (refused (LongInput 65536))) (le-leb (length file) 65536 h)
 
 -- with room: a whole file that states a circuit and a tail is converted, and the bytes stand in the buffer, all else as it was
-pub whole-done : (e : WholeEntry) (file : List ℕ) → e.plan ≡ some file → length file ≤ 65536 → (c : Circuit) (tail : List ℕ) → States V19 file c tail
+pub whole-done : (e : WholeEntry) (file : List ℕ) → e.plan ≡ Some file → length file ≤ 65536 → (c : Circuit) (tail : List ℕ) → States V19 file c tail
     → LongEnoughToRead file c (lengths_of e.read e.scratch) → LongEnough c (lengths_of e.made e.scratch)
     → length (other_form (form_in file) c ++ tail) ≤ length e.out
     → let bytes = other_form (form_in file) c ++ tail in convert_whole e ≡ whole_by e (got bytes (length bytes))
@@ -158,12 +157,12 @@ whole-done e file plan fits c tail s to_read to-work space =
 -- converted to `there` and converted again, with room: neither call refuses, and the last buffer holds the file, all else as it was
 abbrev pub WholeAndBack : WholeEntry → List ℕ → List ℕ → Circuit → Type 0
 WholeAndBack e file there c =
-    ((convert_whole e).answer ≡ written.Bytes (length there))
-    × ((e' : WholeEntry) → e'.plan ≡ some (take (length there) (convert_whole e).out) → length there ≤ 65536
+    ((convert_whole e).answer ≡ Ok (length there))
+    × ((e' : WholeEntry) → e'.plan ≡ Some (take (length there) (convert_whole e).out) → length there ≤ 65536
     → LongEnoughToRead there c (lengths_of e'.read e'.scratch) → LongEnough c (lengths_of e'.made e'.scratch) → length file ≤ length e'.out
     → convert_whole e' ≡ whole_by e' (got file (length file)))
 
-module _ (e : WholeEntry) (file : List ℕ) (plan : e.plan ≡ some file) (fits : length file ≤ 65536) (c : Circuit) (tail : List ℕ)
+module _ (e : WholeEntry) (file : List ℕ) (plan : e.plan ≡ Some file) (fits : length file ≤ 65536) (c : Circuit) (tail : List ℕ)
     (s : States V19 file c tail) (to_read : LongEnoughToRead file c (lengths_of e.read e.scratch)) (to-work : LongEnough c (lengths_of e.made e.scratch)) where
   and-back : (there : List ℕ) → other_form (form_in file) c ++ tail ≡ there → States V19 there c tail → other_form (form_in there) c ++ tail ≡ file
       → length there ≤ length e.out → WholeAndBack e file there c
@@ -175,7 +174,7 @@ module _ (e : WholeEntry) (file : List ℕ) (plan : e.plan ≡ some file) (fits 
       = ap (λ (x : WholeExit). take (length there) x.out) first ∙ put_first e.out there in (
         ap (λ (x : WholeExit). x.answer) first,
         λ e' plan' fits' to-read' to-work' space'.
-            whole-done e' there (plan' ∙ ap some out) fits' c tail s' to-read' to-work'
+            whole-done e' there (plan' ∙ ap Some out) fits' c tail s' to-read' to-work'
             (subst (λ (l : List ℕ). length l ≤ length e'.out) (sym back) space')
             ∙ ap (λ (l : List ℕ). whole_by e' (got l (length l))) back,
       )

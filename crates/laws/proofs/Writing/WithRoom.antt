@@ -3,17 +3,14 @@
 use Prim.Native.Nat.{ℕ, zero, suc, ◌+◌, ◌-◌, ◌≤◌}
 use mathlib.Core.Path.{◌≡◌, refl, sym, ap, ap₂, ◌∙◌, subst, subst₂}
 use mathlib.Core.Bool.{true}
-use mathlib.Core.Option.{Option, none}
 use mathlib.Core.List.{List, [], ◌∷◌, ◌++◌, map}
+use Rattle.std.specs.Prelude.{Ok, Option, None}
 use native.Mathlib.Omega.{arith}
 use lib.ListN.{length, get_or, take, drop, replicate, length-append}
 use Rattle.plan.specs.declared.Version.{Version}
 use Rattle.plan.specs.declared.Version.TheVariants.{V2007, V19}
 use Rattle.plan.specs.declared.Counts.{Counts}
 use Rattle.plan.specs.declared.Refusal.{Refusal}
-use Rattle.plan.specs.declared.Loaded.TheVariants as loaded
-use Rattle.plan.specs.declared.Made.TheVariants as made
-use Rattle.plan.specs.declared.Written.TheVariants as written
 use Rattle.plan.specs.Refusals.{got, first_of}
 use Rattle.plan.specs.Circuit.{Circuit, Latch, Tables, counts_of, circuit_of, lengths_of, scratch_to_work, words_to_work, against, least_short, one_line, latch_line, nexts}
 use Rattle.plan.specs.Bytes.{with_resets, Spells, AllSpell, without_zeros}
@@ -47,7 +44,7 @@ Handed g n t = (g.counts ≡ n) × (given_circuit g ≡ circuit_of n t)
 
 -- tables and scratch are as long as counts ask
 abbrev pub LongEnough : Counts → Tables → List ℕ → Type 0
-LongEnough n t scratch = least_short (against 1 (words_to_work n) (lengths_of t scratch)) ≡ none
+LongEnough n t scratch = least_short (against 1 (words_to_work n) (lengths_of t scratch)) ≡ None
 
 -- a writer with room: it is handed these counts and tables and this tail, its tables and scratch are as long as the counts ask, and its buffer
 -- holds these bytes; a conversion with room: so are its tables, and those lent for writing
@@ -66,7 +63,7 @@ module _ (c : Circuit) (w : WellFormed c) (n : Counts) (t : Tables) (counts : n 
   handed-left : (g : Given) → Handed g n t → LongEnough n g.tables g.scratch → Left g c
   handed-left g h l =
       let e = h.1 ∙ holds in
-      let words : least_short (lent_alone g) ≡ none
+      let words : least_short (lent_alone g) ≡ None
       = ap (λ (m : Counts). least_short (against 1 (words_to_work m) (lengths_of g.tables g.scratch))) h.0 ∙ l in
       record {
         holds = e;
@@ -75,7 +72,7 @@ module _ (c : Circuit) (w : WellFormed c) (n : Counts) (t : Tables) (counts : n 
       }
 
   module _ (tail : List ℕ) (k : TailOk V19 (counts_of c) tail) (e : FileEntry) where
-    text-done : WriteRoom e n t tail (text_of c ++ tail) → write_text e ≡ written_by none e (text_of c ++ tail)
+    text-done : WriteRoom e n t tail (text_of c ++ tail) → write_text e ≡ written_by None e (text_of c ++ tail)
     text-done x =
         let g = e.circuit in
         let l = handed-left g x.handed x.words in
@@ -87,7 +84,7 @@ module _ (c : Circuit) (w : WellFormed c) (n : Counts) (t : Tables) (counts : n 
         ap₂ (λ (r : Option Refusal) (y : List ℕ). written_by r e y) (wrote e bytes (length (text_of c ++ e.tail)) all a).0
         (ap₂ (λ (d : Circuit) (y : List ℕ). text_of d ++ y) l.holds tail-is)
 
-    binary-done : binary_order c ≡ true → WriteRoom e n t tail (binary_of c ++ tail) → write_binary e ≡ written_by none e (binary_of c ++ tail)
+    binary-done : binary_order c ≡ true → WriteRoom e n t tail (binary_of c ++ tail) → write_binary e ≡ written_by None e (binary_of c ++ tail)
     binary-done o x =
         let g = e.circuit in
         let l = handed-left g x.handed x.words in
@@ -99,18 +96,18 @@ module _ (c : Circuit) (w : WellFormed c) (n : Counts) (t : Tables) (counts : n 
         ap₂ (λ (r : Option Refusal) (y : List ℕ). written_by r e y) (wrote e bytes (length (binary_of c ++ e.tail)) all a).0
         (ap₂ (λ (d : Circuit) (y : List ℕ). binary_of d ++ y) l.holds tail-is)
 
-  conversion-done : (e : MakeEntry) → MakeRoom e n t → conversion e ≡ made_by none e (convert c)
+  conversion-done : (e : MakeEntry) → MakeRoom e n t → conversion e ≡ made_by None e (convert c)
   conversion-done e x =
       let g = e.circuit in
       let l = handed-left g x.handed x.words in
-      let long : least_short (against 1 (words_to_work (counts_of c)) (lengths_of e.written g.scratch)) ≡ none
+      let long : least_short (against 1 (words_to_work (counts_of c)) (lengths_of e.written g.scratch)) ≡ None
       = ap (λ (m : Counts). least_short (against 1 (words_to_work m) (lengths_of e.written g.scratch))) (sym counts) ∙ x.written in
       let all = first_of (stages g (lent_with g e.written)) in
       ap₂ (λ (r : Option Refusal) (d : Circuit). made_by r e (convert d))
       (made_none (λ o. (made_by o e (convert (given_circuit g))).answer) (λ r. refl) all (counts_of (convert c)) (conversion-accepted g c l e.written long)) l.holds
 
 -- the bytes of a writer that was done
-done-file : (e : FileEntry) (bytes : List ℕ) (x : FileExit) → x ≡ written_by none e bytes → take (length bytes) x.out ≡ bytes
+done-file : (e : FileEntry) (bytes : List ℕ) (x : FileExit) → x ≡ written_by None e bytes → take (length bytes) x.out ≡ bytes
 done-file e bytes x d = ap (λ (y : FileExit). take (length bytes) y.out) d ∙ put_first e.out bytes
 
 -- a reader with room of a file that states a circuit and a tail
@@ -225,25 +222,25 @@ module _ (r : ReadCall) (five : scratch_to_work r.counts ≤ length r.entry.scra
 abbrev pub BinaryAndBack : ReadCall → Type 0
 BinaryAndBack r =
     (t : FileEntry) → WriteRoom t r.counts (load_as r.version r.entry).tables (read_tail r) (text_of (read_circuit r) ++ read_tail r)
-    → (n : ℕ) × ((write_text t).answer ≡ written.Bytes n)
+    → (n : ℕ) × ((write_text t).answer ≡ Ok n)
     × ((e : ReadEntry) → e.file ≡ take n (write_text t).out → LongEnoughToRead e.file (read_circuit r) (lengths_of e.tables e.scratch)
-    → (m : Counts) × (s : ℕ) × ((load_as r.version e).answer ≡ loaded.Accepted m s)
+    → (m : Counts) × (s : ℕ) × ((load_as r.version e).answer ≡ Ok (m, s))
     × ((k : MakeEntry) → MakeRoom k m (load_as r.version e).tables
-    → (q : Counts) × ((conversion k).answer ≡ made.Accepted q)
+    → (q : Counts) × ((conversion k).answer ≡ Ok q)
     × ((b : FileEntry) → WriteRoom b q (conversion k).written (drop s e.file) r.entry.file
-    → write_binary b ≡ written_by none b r.entry.file)))
+    → write_binary b ≡ written_by None b r.entry.file)))
 
 -- what was read is converted, written as binary, read by the same version and written as text
 abbrev pub TextAndBack : ReadCall → Type 0
 TextAndBack r =
     (k : MakeEntry) → MakeRoom k r.counts (load_as r.version r.entry).tables
-    → (q : Counts) × ((conversion k).answer ≡ made.Accepted q)
+    → (q : Counts) × ((conversion k).answer ≡ Ok q)
     × ((b : FileEntry) → WriteRoom b q (conversion k).written (read_tail r) (binary_of (read_circuit r) ++ read_tail r)
-    → (n : ℕ) × ((write_binary b).answer ≡ written.Bytes n)
+    → (n : ℕ) × ((write_binary b).answer ≡ Ok n)
     × ((e : ReadEntry) → e.file ≡ take n (write_binary b).out → LongEnoughToRead e.file (read_circuit r) (lengths_of e.tables e.scratch)
-    → (m : Counts) × (s : ℕ) × ((load_as r.version e).answer ≡ loaded.Accepted m s)
+    → (m : Counts) × (s : ℕ) × ((load_as r.version e).answer ≡ Ok (m, s))
     × ((t : FileEntry) → WriteRoom t m (load_as r.version e).tables (drop s e.file) r.entry.file
-    → write_text t ≡ written_by none t r.entry.file)))
+    → write_text t ≡ written_by None t r.entry.file)))
 
 module _ (r : ReadCall) where
   abbrev c : Circuit
@@ -252,7 +249,7 @@ module _ (r : ReadCall) where
   tail-ok : TailOk V19 (counts_of c) (read_tail r)
   tail-ok = stated-tail r.entry.file c (read_tail r) (read-states r)
 
-  convert-holds : (order : binary_order c ≡ true) (k : MakeEntry) (x : MakeExit) → x ≡ made_by none k (convert c)
+  convert-holds : (order : binary_order c ≡ true) (k : MakeEntry) (x : MakeExit) → x ≡ made_by None k (convert c)
       → circuit_of (counts_of (convert c)) x.written ≡ convert c
   convert-holds order k x d =
       ap (λ (y : MakeExit). circuit_of (counts_of (convert c)) y.written) d
@@ -286,14 +283,14 @@ module _ (r : ReadCall) where
       )
     where
       back : (d : Circuit) → d ≡ c → (t : Tables) → circuit_of (counts_of d) t ≡ d → (tail' : List ℕ) → tail' ≡ read_tail r
-          → (b : FileEntry) → WriteRoom b (counts_of d) t tail' r.entry.file → write_binary b ≡ written_by none b r.entry.file
+          → (b : FileEntry) → WriteRoom b (counts_of d) t tail' r.entry.file → write_binary b ≡ written_by None b r.entry.file
       back d d-is t holds tail' tail-is b b-room =
           let same : r.entry.file ≡ binary_of d ++ tail'
           = file-is ∙ ap₂ (λ (x : Circuit) (y : List ℕ). binary_of x ++ y) (sym d-is) (sym tail-is) in
           binary-done d (subst WellFormed (sym d-is) (read-formed r)) (counts_of d) t refl holds tail'
           (subst₂ (λ (x : Circuit) (y : List ℕ). TailOk V19 (counts_of x) y) (sym d-is) (sym tail-is) tail-ok) b
           (ap binary_order d-is ∙ order) (subst (WriteRoom b (counts_of d) t tail') same b-room)
-          ∙ ap (written_by none b) (sym same)
+          ∙ ap (written_by None b) (sym same)
 
   -- a text file in binary order that is what the writer writes of it, read, is converted, written as binary, read by the same version and
   -- written as text
@@ -323,21 +320,21 @@ module _ (r : ReadCall) where
       )
     where
       there-binary : (d : Circuit) → d ≡ c → (t : Tables) → circuit_of (counts_of d) t ≡ d
-          → (b : FileEntry) → WriteRoom b (counts_of d) t (read_tail r) (binary_of c ++ read_tail r) → write_binary b ≡ written_by none b (binary_of c ++ read_tail r)
+          → (b : FileEntry) → WriteRoom b (counts_of d) t (read_tail r) (binary_of c ++ read_tail r) → write_binary b ≡ written_by None b (binary_of c ++ read_tail r)
       there-binary d d-is t holds b b-room =
           let same : binary_of c ++ read_tail r ≡ binary_of d ++ read_tail r = ap (λ (x : Circuit). binary_of x ++ read_tail r) (sym d-is) in
           binary-done d (subst WellFormed (sym d-is) (read-formed r)) (counts_of d) t refl holds (read_tail r)
           (subst (λ (x : Circuit). TailOk V19 (counts_of x) (read_tail r)) (sym d-is) tail-ok) b
           (ap binary_order d-is ∙ order) (subst (WriteRoom b (counts_of d) t (read_tail r)) same b-room)
-          ∙ ap (written_by none b) (sym same)
+          ∙ ap (written_by None b) (sym same)
 
       back : (t : Tables) → circuit_of (counts_of c) t ≡ c → (tail' : List ℕ) → tail' ≡ read_tail r
-          → (f : FileEntry) → WriteRoom f (counts_of c) t tail' r.entry.file → write_text f ≡ written_by none f r.entry.file
+          → (f : FileEntry) → WriteRoom f (counts_of c) t tail' r.entry.file → write_text f ≡ written_by None f r.entry.file
       back t holds tail' tail-is f f-room =
           let same : r.entry.file ≡ text_of c ++ tail' = file-is ∙ ap (λ (y : List ℕ). text_of c ++ y) (sym tail-is) in
           text-done c (read-formed r) (counts_of c) t refl holds tail' (subst (TailOk V19 (counts_of c)) (sym tail-is) tail-ok) f
           (subst (WriteRoom f (counts_of c) t tail') same f-room)
-          ∙ ap (written_by none f) (sym same)
+          ∙ ap (written_by None f) (sym same)
 
 -- with room none of the calls refuses, and the last buffer holds the file
 pub binary-with-room : (r : ReadCall) → InShortestForm r → form_in r.entry.file ≡ binary → BinaryAndBack r

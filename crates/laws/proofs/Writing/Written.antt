@@ -1,8 +1,8 @@
 -- A writer that answers with a number of bytes wrote a file whose reading accepts the given circuit and the given tail.
 use Prim.Native.Nat.{ℕ}
 use mathlib.Core.Path.{◌≡◌, refl, sym, ap, ◌∙◌, subst}
-use mathlib.Core.Option.{Option, none, some}
 use mathlib.Core.List.{List, [], ◌∷◌, ◌++◌}
+use Rattle.std.specs.Prelude.{Ok, Option, Some, None}
 use native.Mathlib.Omega.{arith}
 use lib.ListN.{length, take}
 use Rattle.plan.specs.declared.Version.{Version}
@@ -10,7 +10,6 @@ use Rattle.plan.specs.declared.Version.TheVariants.{V19}
 use Rattle.plan.specs.declared.Counts.{Counts}
 use Rattle.plan.specs.declared.Refusal.{Refusal}
 use Rattle.plan.specs.declared.Refusal.TheVariants.{NotInOrder}
-use Rattle.plan.specs.declared.Written.TheVariants as written
 use Rattle.plan.specs.Refusals.{Parse, got, refused, first_of}
 use Rattle.plan.specs.Circuit.{Circuit, Tables, counts_of, lengths_of, holding, cleared}
 use Rattle.plan.specs.Header.{list_of}
@@ -28,27 +27,27 @@ use Rattle.laws.proofs.Writing.Nothing.{some-none, stage-none, failing-none, fir
 use Rattle.laws.proofs.Writing.Fine.{counts-given, nothing-fine}
 
 -- a tail that its stage lets pass
-pub passed-tail : (n : Counts) (tail : List ℕ) → refusal_of (tail_at V19 tail n 0) ≡ none → TailOk V19 n tail
+pub passed-tail : (n : Counts) (tail : List ℕ) → refusal_of (tail_at V19 tail n 0) ≡ None → TailOk V19 n tail
 passed-tail n tail e = go (tail_at V19 tail n 0) refl e
   where
-    go : (p : Parse (List Symbol)) → tail_at V19 tail n 0 ≡ p → refusal_of p ≡ none → TailOk V19 n tail
+    go : (p : Parse (List Symbol)) → tail_at V19 tail n 0 ≡ p → refusal_of p ≡ None → TailOk V19 n tail
     go (got ss end) q e = (tail-exactly V19 tail n 0).0 (ss, end, q)
     go (refused r) q e = some-none r e
 
 -- an answer in bytes: no stage refused, and the first bytes of the buffer are the file
-pub wrote : (e : FileEntry) (bytes : List ℕ) (k : ℕ) (o : Option Refusal) → (written_by o e bytes).answer ≡ written.Bytes k
-    → (o ≡ none) × (k ≡ length bytes) × (take k (written_by o e bytes).out ≡ bytes)
-wrote e bytes k none a =
+pub wrote : (e : FileEntry) (bytes : List ℕ) (k : ℕ) (o : Option Refusal) → (written_by o e bytes).answer ≡ Ok k
+    → (o ≡ None) × (k ≡ length bytes) × (take k (written_by o e bytes).out ≡ bytes)
+wrote e bytes k None a =
     let k-is : k ≡ length bytes = cc in
-    (refl, k-is, ap (λ (x : ℕ). take x (written_by none e bytes).out) k-is ∙ put_first e.out bytes)
-wrote e bytes k (some r) a = let z : ◌≡◌ {A = ℕ} 0 1 = cc in absurd (omega arith)
+    (refl, k-is, ap (λ (x : ℕ). take x (written_by None e bytes).out) k-is ∙ put_first e.out bytes)
+wrote e bytes k (Some r) a = let z : ◌≡◌ {A = ℕ} 0 1 = cc in absurd (omega arith)
 
 module _ (e : FileEntry) (k : ℕ) where
   abbrev g : Given
   g = e.circuit
 
   -- the stages of the circuit and of the tail
-  passed : first_of (stages g (lent_alone g)) ≡ none → tail_stage g e.tail ≡ none
+  passed : first_of (stages g (lent_alone g)) ≡ None → tail_stage g e.tail ≡ None
       → WellFormed (given_circuit g) × TailOk V19 (counts_of (given_circuit g)) e.tail
   passed s t =
       let f = nothing-fine g (lent_alone g) s in
@@ -60,8 +59,8 @@ module _ (e : FileEntry) (k : ℕ) where
   abbrev text-last : List (Option Refusal)
   text-last = tail_stage g e.tail ∷ room_stage e.out text-file ∷ []
 
-  module _ (a : (write_text e).answer ≡ written.Bytes k) where
-    text-wrote : (first_of (stages g (lent_alone g) ++ text-last) ≡ none) × (k ≡ length text-file) × (take k (write_text e).out ≡ text-file)
+  module _ (a : (write_text e).answer ≡ Ok k) where
+    text-wrote : (first_of (stages g (lent_alone g) ++ text-last) ≡ None) × (k ≡ length text-file) × (take k (write_text e).out ≡ text-file)
     text-wrote = wrote e text-file k (first_of (stages g (lent_alone g) ++ text-last)) a
 
     -- the file that the writer of text wrote, which states the circuit and the tail
@@ -84,8 +83,8 @@ module _ (e : FileEntry) (k : ℕ) where
   abbrev binary-last : List (Option Refusal)
   binary-last = order_stage g ∷ tail_stage g e.tail ∷ room_stage e.out binary-file ∷ []
 
-  module _ (a : (write_binary e).answer ≡ written.Bytes k) where
-    binary-wrote : (first_of (stages g (lent_alone g) ++ binary-last) ≡ none) × (k ≡ length binary-file)
+  module _ (a : (write_binary e).answer ≡ Ok k) where
+    binary-wrote : (first_of (stages g (lent_alone g) ++ binary-last) ≡ None) × (k ≡ length binary-file)
         × (take k (write_binary e).out ≡ binary-file)
     binary-wrote = wrote e binary-file k (first_of (stages g (lent_alone g) ++ binary-last)) a
 
@@ -111,10 +110,10 @@ module _ (e : FileEntry) (k : ℕ) (lengths : List ℕ) (room : LongEnough (give
       let c = given_circuit e.circuit in
       complete V19 file lengths c e.tail s (room-to-read file c lengths (formed V19 file c e.tail s) room)
 
-  pub text-read-back : (write_text e).answer ≡ written.Bytes k → Accepts V19 (take k (write_text e).out) lengths (given_circuit e.circuit) e.tail
+  pub text-read-back : (write_text e).answer ≡ Ok k → Accepts V19 (take k (write_text e).out) lengths (given_circuit e.circuit) e.tail
   text-read-back a = back (take k (write_text e).out) (text-states e k a)
 
-  pub binary-read-back : (write_binary e).answer ≡ written.Bytes k
+  pub binary-read-back : (write_binary e).answer ≡ Ok k
       → Accepts V19 (take k (write_binary e).out) lengths (given_circuit e.circuit) e.tail
   binary-read-back a = back (take k (write_binary e).out) (binary-states e k a)
 
@@ -140,13 +139,13 @@ module _ (e : FileEntry) (k : ℕ) (t : Tables) (scratch : List ℕ)
     scratch = cleared scratch;
   }
 
-  pub written-text-is-read : (write_text e).answer ≡ written.Bytes k
+  pub written-text-is-read : (write_text e).answer ≡ Ok k
       → read (record { file = take k (write_text e).out; tables = t; scratch = scratch }) ≡ again
   written-text-is-read a =
       read-accepts V19 (record { file = take k (write_text e).out; tables = t; scratch = scratch }) (given_circuit e.circuit) e.tail
       (text-read-back e k (lengths_of t scratch) room a)
 
-  pub written-binary-is-read : (write_binary e).answer ≡ written.Bytes k
+  pub written-binary-is-read : (write_binary e).answer ≡ Ok k
       → read (record { file = take k (write_binary e).out; tables = t; scratch = scratch }) ≡ again
   written-binary-is-read a =
       read-accepts V19 (record { file = take k (write_binary e).out; tables = t; scratch = scratch }) (given_circuit e.circuit) e.tail

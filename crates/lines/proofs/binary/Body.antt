@@ -3,11 +3,10 @@ use Prim.Native.Nat.{ℕ, ◌+◌}
 use mathlib.Core.Path.{◌≡◌, refl, sym, ◌∙◌, subst}
 use mathlib.Core.Bool.{false}
 use mathlib.Core.List.{List, [], map}
+use Rattle.std.specs.Prelude.{Result, Ok, Err}
 use Rattle.plan.specs.declared.Counts.{Counts}
 use Rattle.plan.specs.declared.Version.{Version}
 use Rattle.plan.specs.declared.Refusal.{Refusal}
-use Rattle.plan.specs.declared.Passed.{Passed}
-use Rattle.plan.specs.declared.Passed.TheVariants.{To, Refused}
 use Rattle.plan.specs.Refusals.{Parse, got, refused, ◌then◌}
 use Rattle.plan.specs.Circuit.{Circuit, Tables, literal_of}
 use Rattle.plan.specs.Bytes.{latch_lines, reset_after, latch_form}
@@ -50,32 +49,32 @@ binary-is v file n at = λ i.
       gates = gates;
     }) at) i
 
-module _ (v : Version) (file : List ℕ) (n : Counts) (at : ℕ) (t : Tables) (r : Passed) (t' : Tables) where
+module _ (v : Version) (file : List ℕ) (n : Counts) (at : ℕ) (t : Tables) (r : Result ℕ Refusal) (t' : Tables) where
   abbrev Says : Type 0
   Says = BodySays t (binary_body v file n at) r t'
 
-  says-refused : (q : Refusal) → binary_body v file n at ≡ refused q → r ≡ Refused q → Says
+  says-refused : (q : Refusal) → binary_body v file n at ≡ refused q → r ≡ Err q → Says
   says-refused q e told = subst (λ (p : Parse Circuit). BodySays t p r t') (sym e) told
 
-  pub latches-refused : {q : Refusal} → latch_lines file (latch_form 1 false (more_resets v)) n.M n.L (1 + n.I) [] at ≡ refused q → r ≡ Refused q → Says
+  pub latches-refused : {q : Refusal} → latch_lines file (latch_form 1 false (more_resets v)) n.M n.L (1 + n.I) [] at ≡ refused q → r ≡ Err q → Says
   latches-refused {q} stop told = says-refused q (binary-is v file n at ∙ rw stop) told
 
   -- the latches are read
   module _ {p₁ : ℕ} {seen marks₁ : List ℕ}
       (a₁ : Read (LatchesHeld n.M (1 + n.I) seen t.latches t.resets t'.latches t'.resets marks₁)
       (latch_lines file (latch_form 1 false (more_resets v)) n.M n.L (1 + n.I) [] at) p₁) where
-    pub observed-refused : {q : Refusal} → observed_at file n p₁ ≡ refused q → r ≡ Refused q → Says
+    pub observed-refused : {q : Refusal} → observed_at file n p₁ ≡ refused q → r ≡ Err q → Says
     observed-refused {q} stop told = says-refused q (binary-is v file n at ∙ rw (a₁.whole, stop)) told
 
     -- what is observed is read
     module _ {p₂ : ℕ} {marks₂ : List ℕ}
         (a₂ : Read (AllHeld n.M seen t.outputs t.bads t.constraints t'.outputs t'.bads t'.constraints marks₂)
         (observed_at file n p₁) p₂) where
-      gates-refused : {q : Refusal} → gates_from file n.A (1 + n.I + n.L) p₂ ≡ refused q → r ≡ Refused q → Says
+      gates-refused : {q : Refusal} → gates_from file n.A (1 + n.I + n.L) p₂ ≡ refused q → r ≡ Err q → Says
       gates-refused {q} stop told = says-refused q (binary-is v file n at ∙ rw (a₁.whole, a₂.whole, stop)) told
 
       module _ (run : t'.inputs ≡ put t.inputs 0 (lits_from 1 n.I)) where
-        all_read : {next : ℕ} → Read (GatesHeld t.gates t'.gates) (gates_from file n.A (1 + n.I + n.L) p₂) next → r ≡ To next → Says
+        all_read : {next : ℕ} → Read (GatesHeld t.gates t'.gates) (gates_from file n.A (1 + n.I + n.L) p₂) next → r ≡ Ok next → Says
         all_read {next} a₃ told =
             let made : Circuit = record {
               M = n.M;
@@ -102,6 +101,6 @@ module _ (v : Version) (file : List ℕ) (n : Counts) (at : ℕ) (t : Tables) (r
         pub gates-last : Answered (GatesHeld t.gates t'.gates) (gates_from file n.A (1 + n.I + n.L) p₂) r → Says
         gates-last says = go r refl
           where
-            go : (x : Passed) → r ≡ x → Says
-            go (To next) e = all_read (was_read _ (gates_from file n.A (1 + n.I + n.L) p₂) r next says e) e
-            go (Refused q) e = gates-refused (was-refused _ (gates_from file n.A (1 + n.I + n.L) p₂) r q says e) e
+            go : (x : Result ℕ Refusal) → r ≡ x → Says
+            go (Ok next) e = all_read (was_read _ (gates_from file n.A (1 + n.I + n.L) p₂) r next says e) e
+            go (Err q) e = gates-refused (was-refused _ (gates_from file n.A (1 + n.I + n.L) p₂) r q says e) e

@@ -3,10 +3,11 @@ use Prim.Native.Nat.{ℕ, suc, zero, ◌≤◌}
 use mathlib.Core.Path.{◌≡◌, refl, ap, ◌∙◌, subst}
 use mathlib.Core.Bool.{false}
 use mathlib.Core.List.{List, [], ◌∷◌, ◌++◌, map}
+use Rattle.std.specs.Prelude.{Result}
+use Rattle.plan.specs.declared.Refusal.{Refusal}
 use native.Mathlib.Omega.{arith}
 use Rattle.plan.specs.declared.Version.{Version}
 use Rattle.plan.specs.declared.Version.TheVariants.{V2007, V19}
-use Rattle.plan.specs.declared.Passed.{Passed}
 use Rattle.plan.specs.Literals.{var_of}
 use Rattle.plan.specs.Refusals.{Parse, got, refused, ◌then◌}
 use Rattle.plan.specs.Circuit.{Gate, literal_of, flat, latch_line, gate_line}
@@ -38,7 +39,7 @@ pub record LatchesHeld (m v : ℕ) (seen table resets table' resets' marks' : Li
   pub kept : resets' ≡ put resets 0 (map (reset_after 1) rows)
   pub agrees : Agrees m seen marks'
 
-pub latches-told : (version : Version) (file : List ℕ) (m more n v at : ℕ) (seen table resets : List ℕ) (r : Passed) (table' resets' marks' : List ℕ)
+pub latches-told : (version : Version) (file : List ℕ) (m more n v at : ℕ) (seen table resets : List ℕ) (r : Result ℕ Refusal) (table' resets' marks' : List ℕ)
     → more ≡ more_resets version
     → LatchesSay false m v seen table resets (latch_lines file (latch_form 1 false more) m n v seen at) r table' resets' marks'
     → Answered (LatchesHeld m v seen table resets table' resets' marks') (latch_lines file (latch_form 1 false (more_resets version)) m n v [] at) r
@@ -55,7 +56,7 @@ latches-told version file m more n v at seen table resets r table' resets' marks
 abbrev pub GatesHeld : List ℕ → List ℕ → List Gate → Type 0
 GatesHeld table table' gs = table' ≡ put table 0 (flat (map gate_line gs))
 
-pub gates-told : (table : List ℕ) (p : Parse (List Gate)) (r : Passed) (table' : List ℕ) → GatesSay table p r table'
+pub gates-told : (table : List ℕ) (p : Parse (List Gate)) (r : Result ℕ Refusal) (table' : List ℕ) → GatesSay table p r table'
     → Answered (GatesHeld table table') p r
 gates-told table (got gs next) r table' h = h
 gates-told table (refused q) r table' h = h

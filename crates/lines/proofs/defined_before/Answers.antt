@@ -2,7 +2,6 @@
 use Prim.Native.Nat.{◌<◌}
 use mathlib.Core.Path.{◌≡◌, ap, ◌∙◌}
 use native.Mathlib.Omega.{arith}
-use borrow.Author.Tests.{not-true, not-false}
 use lib.ListN.{length}
 use Rattle.plan.specs.Literals.{var_of, word_of, index_of}
 use Rattle.lines.proofs.Marks.{marks-for, unasked, was-marked, now-marked}
@@ -11,7 +10,7 @@ use Rattle.lines.proofs.defined_before.Goals as goal
 pub returns-then-not-defines : goal.returns-then-not-defines
 returns-then-not-defines c =
     let a = c.args in
-    let whole = unasked a.defines (var_of (word_of a.l)) a.marks.now (not-true a.defines c.if-not-defines.true-raw) in
+    let whole = unasked a.defines (var_of (word_of a.l)) a.marks.now c.if-not-defines.true in
     record { value = whole.0; marks_after = whole.1 }
 
 pub is_on-requires : goal.is_on-requires
@@ -20,7 +19,7 @@ is_on-requires c =
     c.index-v.ensures ∙ ap index_of c.var.ensures in
     let words : var_of (word_of c.args.l) < length c.args.marks.now =
     let a = c.args in
-    marks-for a.defines (var_of (word_of a.l)) a.marks.now (not-false a.defines c.if-not-defines.false-raw) c.requires in
+    marks-for a.defines (var_of (word_of a.l)) a.marks.now c.if-not-defines.false c.requires in
     omega (arith, var-is, words)
 
 pub returns-then-is_on : goal.returns-then-is_on
@@ -29,7 +28,7 @@ returns-then-is_on c =
     c.index-v.ensures ∙ ap index_of c.var.ensures in
     let a = c.args in
     let whole = was-marked a.defines (var_of (word_of a.l)) a.marks.now c.index-v.result (var-is) c.is_on.result c.is_on.ensures
-    (not-false a.defines c.if-not-defines.false-raw) c.if-is_on.true in
+    c.if-not-defines.false c.if-is_on.true in
     record { value = whole.0; marks_after = whole.1 }
 
 pub raise-requires : goal.raise-requires
@@ -38,7 +37,7 @@ raise-requires c =
     c.index-v.ensures ∙ ap index_of c.var.ensures in
     let words : var_of (word_of c.args.l) < length c.args.marks.now =
     let a = c.args in
-    marks-for a.defines (var_of (word_of a.l)) a.marks.now (not-false a.defines c.if-not-defines.false-raw) c.requires in
+    marks-for a.defines (var_of (word_of a.l)) a.marks.now c.if-not-defines.false c.requires in
     omega (arith, var-is, words)
 
 pub returns : goal.returns
@@ -47,5 +46,5 @@ returns c =
     c.index-v.ensures ∙ ap index_of c.var.ensures in
     let a = c.args in
     let whole = now-marked a.defines (var_of (word_of a.l)) a.marks.now c.index-v.result (var-is) c.is_on.result c.is_on.ensures
-    _ c.raise.ensures (not-false a.defines c.if-not-defines.false-raw) c.if-is_on.false in
+    _ c.raise.ensures c.if-not-defines.false c.if-is_on.false in
     record { value = whole.0; marks_after = whole.1 }

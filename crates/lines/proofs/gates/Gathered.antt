@@ -2,21 +2,21 @@
 use Prim.Native.Nat.{ℕ, suc, ◌+◌, ◌*◌, ◌-◌, ◌<◌, ◌≤◌}
 use mathlib.Core.Path.{◌≡◌, refl, sym, ap, ap₂, ◌∙◌, subst}
 use mathlib.Core.List.{List, [], ◌∷◌, ◌++◌, map}
+use Rattle.std.specs.Prelude.{Ok, Err}
 use native.Mathlib.Omega.{arith}
 use lib.ListN.{length, set, length-append, length-set}
 use lib.Seq.{append_snoc}
 use Rattle.plan.specs.declared.Lit.{Lit}
 use Rattle.plan.specs.declared.Refusal.{Refusal}
-use Rattle.plan.specs.declared.Passed.TheVariants as passed
 use Rattle.plan.specs.Literals.{lit_at, word_of}
 use Rattle.plan.specs.Refusals.{Parse, got, refused, ◌then◌}
 use Rattle.plan.specs.Circuit.{Gate, flat, gate_line}
 use Rattle.plan.specs.Binary.{gate, gates_from}
 use Rattle.plan.specs.Outcome.{put}
 use Rattle.laws.proofs.Put.{put-put}
-use Rattle.lines.specs.declared.gates.Gated.TheVariants as gated
 use Rattle.lines.specs.gates.Gates.{gate_by, GatesSay}
 use Rattle.lines.proofs.gates.Words.{three-put}
+use Rattle.laws.proofs.Pairs.{ok-is}
 
 -- the answer after the gates gs
 abbrev pub after : List Gate → Parse (List Gate) → Parse (List Gate)
@@ -44,20 +44,17 @@ words-length [] = refl
 words-length (g ∷ gs) = let h = words-length gs in omega arith
 
 -- what an answer says of the gate
-read-refused : (p : Parse Gate) (r : Refusal) → gated.Refused r ≡ gate_by p → p ≡ refused r
+read-refused : (p : Parse Gate) (r : Refusal) → Err r ≡ gate_by p → p ≡ refused r
 read-refused (got g n) r e = let z : ◌≡◌ {A = ℕ} 0 1 = cc in absurd (omega arith)
 read-refused (refused r') r e = let r-is : r' ≡ r = cc in ap refused r-is
 
 abbrev pub gate_is : Lit → Lit → Lit → Gate
 gate_is a b c = record { lhs = word_of a; rhs0 = word_of b; rhs1 = word_of c }
 
-read_whole : (p : Parse Gate) (a b c : Lit) (n : ℕ) → gated.Whole a b c n ≡ gate_by p → p ≡ got (gate_is a b c) n
+read_whole : (p : Parse Gate) (a b c : Lit) (n : ℕ) → Ok (a, b, c, n) ≡ gate_by p → p ≡ got (gate_is a b c) n
 read_whole (got g m) a b c n e =
-    let a-is : lit_at g.lhs ≡ a = cc in
-    let b-is : lit_at g.rhs0 ≡ b = cc in
-    let c-is : lit_at g.rhs1 ≡ c = cc in
-    let m-is : m ≡ n = cc in
-    λ j. got (gate_is (a-is j) (b-is j) (c-is j)) (m-is j)
+    ap (λ (q : Lit × Lit × Lit × ℕ). got (gate_is q.0 q.1 q.2) q.3)
+    (ok-is (lit_at g.lhs, lit_at g.rhs0, lit_at g.rhs1, m) (a, b, c, n) (sym e))
 read_whole (refused r) a b c n e = let z : ◌≡◌ {A = ℕ} 0 1 = cc in absurd (omega arith)
 
 -- i gates are read and stand at the table's start
@@ -86,16 +83,16 @@ module _ (file : List ℕ) (at first n : ℕ) (table₀ : List ℕ) where
         ∙ ap (λ (v : ℕ). after s.gates (gate file (first + i) next then more file (n - (i + 1)) v))
         v-is)
 
-    pub one-refused : (r : Refusal) (table' : List ℕ) → i < n → gated.Refused r ≡ gate_by (gate file (first + i) next)
-        → GatesSay table₀ (gates_from file n first at) (passed.Refused r) table'
+    pub one-refused : (r : Refusal) (table' : List ℕ) → i < n → Err r ≡ gate_by (gate file (first + i) next)
+        → GatesSay table₀ (gates_from file n first at) (Err r) table'
     one-refused r table' h e =
         let p = read-refused (gate file (first + i) next) r e in
         let all : gates_from file n first at ≡ refused r
         = turn h ∙ ap (λ (x : Parse Gate). after s.gates
         (x then more file (n - (i + 1)) (first + (i + 1)))) p in
-        subst (λ (x : Parse (List Gate)). GatesSay table₀ x (passed.Refused r) table') (sym all) refl
+        subst (λ (x : Parse (List Gate)). GatesSay table₀ x (Err r) table') (sym all) refl
 
-    pub one_more : (a b c : Lit) (end : ℕ) → i < n → 3 * n ≤ length table₀ → gated.Whole a b c end ≡ gate_by (gate file (first + i) next)
+    pub one_more : (a b c : Lit) (end : ℕ) → i < n → 3 * n ≤ length table₀ → Ok (a, b, c, end) ≡ gate_by (gate file (first + i) next)
         → (x y z : ℕ) → x ≡ word_of a → y ≡ word_of b → z ≡ word_of c
         → Gathered file at first n table₀ (set (set (set table (3 * i) x) (3 * i + 1) y) (3 * i + 2) z) end (i + 1)
     one_more a b c end h room e x y z x-is y-is z-is =

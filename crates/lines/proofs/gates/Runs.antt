@@ -2,13 +2,12 @@
 use Prim.Native.Nat.{ℕ, suc, zero, ◌+◌, ◌*◌, ◌-◌, ◌≤◌}
 use mathlib.Core.Path.{◌≡◌, refl, sym, ap, ap₂, ◌∙◌, subst}
 use mathlib.Core.List.{List, [], ◌∷◌, ◌++◌, append-nil}
+use Rattle.std.specs.Prelude.{Result, Ok, Err}
 use native.Mathlib.Omega.{arith}
 use borrow.Rule.Slice.PartMut.{mid_of, put_mid, post_of, Post-is}
 use lib.ListN.{length, length-append, length-drop, take, drop}
 use lib.Seq.{drop-drop, drop-length, take_all}
 use Rattle.plan.specs.declared.Refusal.{Refusal}
-use Rattle.plan.specs.declared.Passed.{Passed}
-use Rattle.plan.specs.declared.Passed.TheVariants as passed
 use Rattle.plan.specs.Refusals.{Parse, got, refused, ◌then◌}
 use Rattle.plan.specs.Circuit.{Gate}
 use Rattle.plan.specs.Binary.{gate, gates_from}
@@ -71,7 +70,7 @@ module _ (file : List ℕ) where
       ap (λ (n : ℕ). gates_from file n v at) i ∙ both-gate k m (k + m) (suc v) w (λ next. both k m (k + m) (suc v) w next refl j) (gate file v at)
 
 -- the first run's refusal is that of the gates that it was to read
-run-refused : (t t' : List ℕ) (x : Passed) (r : Refusal) (p : Parse (List Gate)) → x ≡ passed.Refused r → GatesSay t p x t' → p ≡ refused r
+run-refused : (t t' : List ℕ) (x : Result ℕ Refusal) (r : Refusal) (p : Parse (List Gate)) → x ≡ Err r → GatesSay t p x t' → p ≡ refused r
 run-refused t t' x r (got gs at) e h =
     let told = h.0 in
     let z : ◌≡◌ {A = ℕ} 0 1 = cc in
@@ -96,7 +95,7 @@ module _ (m : ℕ) (t w : List ℕ) (fits : m ≤ length t) where
 
 -- k gates of variables from v on, then m of variables from w on
 module _ (file : List ℕ) (k m n v w at : ℕ) (n-is : n ≡ k + m) (w-is : w ≡ v + k) (t : List ℕ) where
-  pub first-refused : (x : Passed) (r : Refusal) (t' : List ℕ) → x ≡ passed.Refused r → GatesSay t (gates_from file k v at) x t'
+  pub first-refused : (x : Result ℕ Refusal) (r : Refusal) (t' : List ℕ) → x ≡ Err r → GatesSay t (gates_from file k v at) x t'
       → GatesSay t (gates_from file n v at) x t'
   first-refused x r t' e h =
       let all : gates_from file n v at ≡ refused r
@@ -105,7 +104,7 @@ module _ (file : List ℕ) (k m n v w at : ℕ) (n-is : n ≡ k + m) (w-is : w �
       subst (λ (p : Parse (List Gate)). GatesSay t p x t') (sym all) e
 
   module _ (room : 3 * n ≤ length t) (t' : List ℕ) where
-    joined : (gs : List Gate) → length gs ≡ k → t' ≡ put t 0 (words_of gs) → (q : Parse (List Gate)) → Many m q → (r : Passed) (ys : List ℕ)
+    joined : (gs : List Gate) → length gs ≡ k → t' ≡ put t 0 (words_of gs) → (q : Parse (List Gate)) → Many m q → (r : Result ℕ Refusal) (ys : List ℕ)
         → GatesSay (mid_of (3 * k) (length t' - 3 * k) t') q r ys → GatesSay t (after gs q) r (put_mid (3 * k) (length t' - 3 * k) t' ys)
     joined gs size t'-is (got hs end) many-hs r ys h =
         let a : List ℕ = words_of gs in
@@ -123,7 +122,7 @@ module _ (file : List ℕ) (k m n v w at : ℕ) (n-is : n ≡ k + m) (w-is : w �
         )
     joined gs size t'-is (refused r') many-hs r ys h = h
 
-    second_run : (p : Parse (List Gate)) → Many k p → (x : Passed) (next : ℕ) → x ≡ passed.To next → GatesSay t p x t' → (r : Passed) (ys : List ℕ)
+    second_run : (p : Parse (List Gate)) → Many k p → (x : Result ℕ Refusal) (next : ℕ) → x ≡ Ok next → GatesSay t p x t' → (r : Result ℕ Refusal) (ys : List ℕ)
         → GatesSay (mid_of (3 * k) (length t' - 3 * k) t') (gates_from file m w next) r ys
         → GatesSay t (p then goes_on file m w) r (put_mid (3 * k) (length t' - 3 * k) t' ys)
     second_run (got gs end) many-gs x next e h r ys said =
@@ -135,7 +134,7 @@ module _ (file : List ℕ) (k m n v w at : ℕ) (n-is : n ≡ k + m) (w-is : w �
         let z : ◌≡◌ {A = ℕ} 0 1 = cc in
         absurd (omega arith)
 
-    pub both_say : (x : Passed) (next : ℕ) → x ≡ passed.To next → GatesSay t (gates_from file k v at) x t' → (r : Passed) (ys : List ℕ)
+    pub both_say : (x : Result ℕ Refusal) (next : ℕ) → x ≡ Ok next → GatesSay t (gates_from file k v at) x t' → (r : Result ℕ Refusal) (ys : List ℕ)
         → GatesSay (mid_of (3 * k) (length t' - 3 * k) t') (gates_from file m w next) r ys
         → GatesSay t (gates_from file n v at) r (put_mid (3 * k) (length t' - 3 * k) t' ys)
     both_say x next e h r ys said =

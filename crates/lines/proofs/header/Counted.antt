@@ -2,8 +2,8 @@
 use Prim.Native.Nat.{ℕ, suc, zero, ◌+◌, ◌≤◌, ◌<◌}
 use mathlib.Core.Path.{◌≡◌, refl, sym, ap, ◌∙◌}
 use mathlib.Core.Bool.{Bool, true, false, cond}
-use mathlib.Core.Option.{none, some}
 use mathlib.Core.List.{List, [], ◌∷◌, ◌++◌, map}
+use Rattle.std.specs.Prelude.{Ok, Err, Some, None}
 use native.Mathlib.Omega.{arith}
 use borrow.Author.Tests.{le-leb, lt-leb, eq-eqb, ne_eqb, leb-true, leb-false}
 use lib.Dec.{leb}
@@ -13,8 +13,6 @@ use Rattle.plan.specs.declared.Counts.{Counts}
 use Rattle.plan.specs.declared.Version.{Version}
 use Rattle.plan.specs.declared.Refusal.{Refusal}
 use Rattle.plan.specs.declared.Refusal.TheVariants.{LargeCount, WrongSum, Justice}
-use Rattle.plan.specs.declared.Passed.TheVariants.{To, Refused}
-use Rattle.plan.specs.declared.Headed.TheVariants as headed
 use Rattle.plan.specs.Literals.{most}
 use Rattle.plan.specs.Refusals.{Parse, got, refused}
 use Rattle.plan.specs.Bytes.{Placed, numbers, values}
@@ -25,13 +23,13 @@ use Rattle.laws.proofs.Reading.Cut.{cut}
 use Rattle.laws.proofs.Reading.Headers.{counts-at-most, values-drop}
 use Rattle.laws.proofs.Reading.Lines.{numbers-took}
 use Rattle.lines.specs.Rows.{places_of, Numbered}
-use Rattle.lines.specs.header.Parts.{Above, counted, sums}
+use Rattle.lines.specs.header.Parts.{Above, NoneAbove, counted, sums}
 
-passed_to : {A : Type 0} (p : Parse A) (next : ℕ) → To next ≡ passed_by p → (a : A) × (p ≡ got a next)
+passed_to : {A : Type 0} (p : Parse A) (next : ℕ) → Ok next ≡ passed_by p → (a : A) × (p ≡ got a next)
 passed_to (got a n) next e = (a, ap (got a) (cc))
 passed_to (refused r) next e = let z : ◌≡◌ {A = ℕ} 0 1 = cc in absurd (omega arith)
 
-passed-refused : {A : Type 0} (p : Parse A) (r : Refusal) → Refused r ≡ passed_by p → p ≡ refused r
+passed-refused : {A : Type 0} (p : Parse A) (r : Refusal) → Err r ≡ passed_by p → p ≡ refused r
 passed-refused (got a n) r e = let z : ◌≡◌ {A = ℕ} 0 1 = cc in absurd (omega arith)
 passed-refused (refused q) r e = let same : q ≡ r = cc in ap refused same
 
@@ -59,24 +57,24 @@ past_end (x ∷ l) (suc k) h = past_end l k (omega arith)
 
 -- 2 and 21 by index
 over-some : (xs : List Placed) (r : ℕ) → r < length (values xs) → ((k : ℕ) → k < r → get_or (values xs) k 0 ≤ most) → most < get_or (values xs) r 0
-    → over xs ≡ some (get_or (places_of xs) r 0)
+    → over xs ≡ Some (get_or (places_of xs) r 0)
 over-some [] r l b f = absurd (omega arith)
 over-some (x ∷ xs) zero l b f = rw (lt-leb x.value most f)
 over-some (x ∷ xs) (suc r) l b f =
     rw (le-leb x.value most (b 0 (omega arith))) (over-some xs r (omega arith) (λ k h. b (suc k) (omega arith)) f)
 
-over_none : (xs : List Placed) → ((k : ℕ) → get_or (values xs) k 0 ≤ most) → over xs ≡ none
+over_none : (xs : List Placed) → ((k : ℕ) → get_or (values xs) k 0 ≤ most) → over xs ≡ None
 over_none [] b = refl
 over_none (x ∷ xs) b = rw (le-leb x.value most (b 0)) (over_none xs (λ k. b (suc k)))
 
 above-some : (xs : List Placed) (r : ℕ) → r < length (values xs) → ((k : ℕ) → k < r → get_or (values xs) k 0 ≡ 0) → 0 < get_or (values xs) r 0
-    → above0 xs ≡ some (get_or (places_of xs) r 0)
+    → above0 xs ≡ Some (get_or (places_of xs) r 0)
 above-some [] r l b f = absurd (omega arith)
 above-some (x ∷ xs) zero l b f = rw (ne_eqb x.value 0 (λ e. omega arith))
 above-some (x ∷ xs) (suc r) l b f =
     rw (eq-eqb x.value 0 (b 0 (omega arith))) (above-some xs r (omega arith) (λ k h. b (suc k) (omega arith)) f)
 
-above-none : (xs : List Placed) → ((k : ℕ) → get_or (values xs) k 0 ≡ 0) → above0 xs ≡ none
+above-none : (xs : List Placed) → ((k : ℕ) → get_or (values xs) k 0 ≡ 0) → above0 xs ≡ None
 above-none [] b = refl
 above-none (x ∷ xs) b = rw (eq-eqb x.value 0 (b 0)) (above-none xs (λ k. b (suc k)))
 
@@ -94,14 +92,14 @@ pub record Line (v : Version) (file : List ℕ) (w p : List ℕ) (next : ℕ) : 
   pub places : (k : ℕ) → get_or p k 0 ≡ get_or (places_of xs) k 0
 
 module _ (v : Version) (file : List ℕ) where
-  pub stops : (form : Form) (r : Refusal) (more : ℕ) → more ≡ more_counts v → Refused r ≡ passed_by (numbers file 5 (5 + more) 4)
-      → headed.Refused r ≡ headed_by (counted v file form)
+  pub stops : (form : Form) (r : Refusal) (more : ℕ) → more ≡ more_counts v → Err r ≡ passed_by (numbers file 5 (5 + more) 4)
+      → Err r ≡ headed_by (counted v file form)
   stops form r more m e =
       let stop = passed-refused (numbers file 5 (5 + more_counts v) 4) r (e ∙ ap (λ (k : ℕ). passed_by (numbers file 5 (5 + k) 4)) m) in
       let whole : counted v file form ≡ refused r = rw stop in
       sym (ap headed_by whole)
 
-  pub line_read : (w p : List ℕ) (next more : ℕ) → more ≡ more_counts v → To next ≡ passed_by (numbers file 5 (5 + more) 4)
+  pub line_read : (w p : List ℕ) (next more : ℕ) → more ≡ more_counts v → Ok next ≡ passed_by (numbers file 5 (5 + more) 4)
       → ((xs : List Placed) (n : ℕ) → numbers file 5 (5 + more) 4 ≡ got xs n → Numbered xs 0 nine nine w p)
       → Line v file w p next
   line_read w p next more m e h =
@@ -128,37 +126,37 @@ module _ (v : Version) (file : List ℕ) where
             let z : get_or (values s.xs) r 0 ≡ 0 = past_end (values s.xs) r (leb-true _ _ e) in
             absurd (omega (arith, s.words r))
 
-    pub large : (form : Form) (r : ℕ) → Above w 0 most r → r < 9 → headed.Refused (LargeCount (get_or p r 0)) ≡ headed_by (counted v file form)
-    large form r a l =
-        let o : over s.xs ≡ some (get_or (places_of s.xs) r 0)
-        = over-some s.xs r (there r most (a.found l)) (λ k h. omega (arith, a.before k (omega arith) h, s.words k))
-        (omega (arith, a.found l, s.words r)) in
+    pub large : (form : Form) (r : ℕ) → Above w 0 most r → Err (LargeCount (get_or p r 0)) ≡ headed_by (counted v file form)
+    large form r a =
+        let o : over s.xs ≡ Some (get_or (places_of s.xs) r 0)
+        = over-some s.xs r (there r most a.found) (λ k h. omega (arith, a.before k (omega arith) h, s.words k))
+        (omega (arith, a.found, s.words r)) in
         let all : counted v file form ≡ refused (LargeCount (get_or (places_of s.xs) r 0)) = rw (s.read, o) in
-        ap (λ (x : ℕ). headed.Refused (LargeCount x)) (s.places r) ∙ sym (ap headed_by all)
+        ap (λ (x : ℕ). Err (LargeCount x)) (s.places r) ∙ sym (ap headed_by all)
 
     -- no count is over the limit
-    pub all_small : (r : ℕ) → Above w 0 most r → 9 ≤ r → (k : ℕ) → get_or (values s.xs) k 0 ≤ most
-    all_small r a l k = go (leb 9 k) refl
+    pub all_small : NoneAbove w 0 most → (k : ℕ) → get_or (values s.xs) k 0 ≤ most
+    all_small a k = go (leb 9 k) refl
       where
         go : (t : Bool) → leb 9 k ≡ t → get_or (values s.xs) k 0 ≤ most
         go true e =
             let z : get_or (values s.xs) k 0 ≡ 0 = past_end (values s.xs) k (omega (arith, s.few, leb-true 9 k e)) in
             omega arith
-        go false e = omega (arith, a.before k (omega arith) (omega (arith, leb-false 9 k e)), s.words k)
+        go false e = omega (arith, a k (omega arith) (leb-false 9 k e), s.words k)
 
     seventh : (k : ℕ) → get_or (values (drop 7 s.xs)) k 0 ≡ get_or (values s.xs) (7 + k) 0
     seventh k = ap (λ (l : List ℕ). get_or l k 0) (values-drop 7 s.xs) ∙ get_or-drop 7 (values s.xs) k 0
 
-    module _ (large-at : ℕ) (a : Above w 0 most large-at) (over-all : 9 ≤ large-at) where
-      small : over s.xs ≡ none
-      small = over_none s.xs (all_small large-at a over-all)
+    module _ (none_large : NoneAbove w 0 most) where
+      small : over s.xs ≡ None
+      small = over_none s.xs (all_small none_large)
 
-      pub just : (form : Form) (r : ℕ) → Above w 7 0 r → r < 9 → headed.Refused (Justice (get_or p r 0)) ≡ headed_by (counted v file form)
-      just form r j l =
+      pub just : (form : Form) (r : ℕ) → Above w 7 0 r → Err (Justice (get_or p r 0)) ≡ headed_by (counted v file form)
+      just form r j =
           let m = minus r 7 j.from_on in
           let o = after m.0 m.1 in
           let all : counted v file form ≡ refused (Justice (get_or (places_of s.xs) r 0)) = rw (s.read, small, o) in
-          ap (λ (x : ℕ). headed.Refused (Justice x)) (s.places r) ∙ sym (ap headed_by all)
+          ap (λ (x : ℕ). Err (Justice x)) (s.places r) ∙ sym (ap headed_by all)
         where
           dropped : (k : ℕ) (x : List ℕ) (i : ℕ) → k + i < length x → i < length (drop k x)
           dropped zero x i h = omega arith
@@ -170,31 +168,28 @@ module _ (v : Version) (file : List ℕ) where
           minus zero (suc b) h = absurd (omega arith)
           minus (suc a) (suc b) h = let m = minus a b (omega arith) in (m.0, omega (arith, m.1))
 
-          after : (r' : ℕ) → r ≡ 7 + r' → above0 (drop 7 s.xs) ≡ some (get_or (places_of s.xs) r 0)
+          after : (r' : ℕ) → r ≡ 7 + r' → above0 (drop 7 s.xs) ≡ Some (get_or (places_of s.xs) r 0)
           after r' e =
-              let long : 7 + r' < length (values s.xs) = omega (arith, there r 0 (j.found l)) in
+              let long : 7 + r' < length (values s.xs) = omega (arith, there r 0 j.found) in
               let size : length (values (drop 7 s.xs)) ≡ length (drop 7 (values s.xs)) = ap length (values-drop 7 s.xs) in
               let n : r' < length (values (drop 7 s.xs)) = omega (arith, dropped 7 (values s.xs) r' long) in
-              let f : 0 < get_or w (7 + r') 0 = omega (arith, ap (λ (x : ℕ). get_or w x 0) e, j.found l) in
+              let f : 0 < get_or w (7 + r') 0 = omega (arith, ap (λ (x : ℕ). get_or w x 0) e, j.found) in
               above-some (drop 7 s.xs) r' n
               (λ k h. seventh k ∙ omega (arith, j.before (7 + k) (omega arith) (omega arith), s.words (7 + k)))
               (omega (arith, seventh r', s.words (7 + r')))
-              ∙ ap some (ap (λ (x : List ℕ). get_or x r' 0) (places-drop 7 s.xs) ∙ (get_or-drop 7 (places_of s.xs) r' 0
+              ∙ ap Some (ap (λ (x : List ℕ). get_or x r' 0) (places-drop 7 s.xs) ∙ (get_or-drop 7 (places_of s.xs) r' 0
               ∙ ap (λ (x : ℕ). get_or (places_of s.xs) x 0) (sym e)))
 
-      module _ (just-at : ℕ) (j : Above w 7 0 just-at) (none-just : 9 ≤ just-at) where
-        plain : above0 (drop 7 s.xs) ≡ none
+      module _ (none-just : NoneAbove w 7 0) where
+        plain : above0 (drop 7 s.xs) ≡ None
         plain = above-none (drop 7 s.xs) (λ k. seventh k ∙ go k (leb 2 k) refl)
           where
             go : (k : ℕ) (t : Bool) → leb 2 k ≡ t → get_or (values s.xs) (7 + k) 0 ≡ 0
             go k true e = past_end (values s.xs) (7 + k) (omega (arith, s.few, leb-true 2 k e))
-            go k false e = omega (arith, j.before (7 + k) (omega arith) (omega (arith, leb-false 2 k e)), s.words (7 + k))
+            go k false e = omega (arith, none-just (7 + k) (omega arith) (omega (arith, leb-false 2 k e)), s.words (7 + k))
 
         same : (k : ℕ) → get_or w k 0 ≡ get_or (values s.xs) k 0
-        same k = omega (arith, s.words k, all_small large-at a over-all k)
-
-        pub counts-small : (k : ℕ) → get_or w k 0 ≤ most
-        counts-small k = omega (arith, same k, all_small large-at a over-all k)
+        same k = omega (arith, s.words k, all_small none_large k)
 
         counts : counts_from w ≡ counts_from (values s.xs)
         counts = λ i. record { M = same 0 i; I = same 1 i; L = same 2 i; O = same 3 i; A = same 4 i; B = same 5 i; C = same 6 i }
@@ -206,11 +201,11 @@ module _ (v : Version) (file : List ℕ) where
             (ap (λ (n : Counts). cond (adds form n) (got (record { form = form; counts = n }) next) (refused (WrongSum 0))) (sym counts))
 
         pub sum-wrong : (b : Bool) → sums b (get_or w 1 0 + get_or w 2 0 + get_or w 4 0) (get_or w 0 0) ≡ false
-            → headed.Refused (WrongSum 0) ≡ headed_by (counted v file (form_of b))
+            → Err (WrongSum 0) ≡ headed_by (counted v file (form_of b))
         sum-wrong true e = sym (ap headed_by (whole (form_of true)) ∙ rw e)
         sum-wrong false e = sym (ap headed_by (whole (form_of false)) ∙ rw e)
 
         pub sum-right : (b : Bool) → sums b (get_or w 1 0 + get_or w 2 0 + get_or w 4 0) (get_or w 0 0) ≡ true
-            → headed.Accepted b (counts_from w) next ≡ headed_by (counted v file (form_of b))
+            → Ok (b, counts_from w, next) ≡ headed_by (counted v file (form_of b))
         sum-right true e = sym (ap headed_by (whole (form_of true)) ∙ rw e)
         sum-right false e = sym (ap headed_by (whole (form_of false)) ∙ rw e)

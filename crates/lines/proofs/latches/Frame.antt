@@ -2,14 +2,14 @@
 use Prim.Native.Nat.{ℕ, ◌+◌, ◌*◌, ◌≤◌, ◌<◌}
 use mathlib.Core.Path.{◌≡◌, refl, sym, ap, ap₂, ◌∙◌}
 use mathlib.Core.Bool.{Bool, true, false, cond, ◌||◌, false≢true}
-use mathlib.Core.Option.{none, some}
 use mathlib.Core.List.{List, [], ◌∷◌, map}
+use Rattle.std.specs.Prelude.{Result, Some, None}
+use Rattle.plan.specs.declared.Refusal.{Refusal}
 use native.Mathlib.Omega.{arith}
 use borrow.Author.Tests.{eqb-true, eq-eqb, le-leb, leb-true}
 use lib.Dec.{eqb, leb}
 use lib.ListN.{length, get_or, length-map}
 use Rattle.plan.specs.Literals.{most, beyond, lit_of, sign_of, in_range, is_reset}
-use Rattle.plan.specs.declared.Passed.{Passed}
 use Rattle.plan.specs.Refusals.{got}
 use Rattle.plan.specs.Bytes.{Placed, numbers, values}
 use Rattle.plan.specs.Given.{or_else}
@@ -37,13 +37,13 @@ framed-binary own (x ∷ y ∷ []) a b = refl
 framed-binary own (x ∷ y ∷ z ∷ l) a b = absurd (omega arith)
 
 -- what the code answers, by the form
-abbrev Framed : List ℕ → Bool → ℕ → ℕ → ℕ → Passed → List ℕ → List ℕ → Type 0
+abbrev Framed : List ℕ → Bool → ℕ → ℕ → ℕ → Result ℕ Refusal → List ℕ → List ℕ → Type 0
 Framed file d more v at r w' p' =
     (r ≡ passed_by (numbers file (literals d) (literals d + more) at))
     × ((xs : List Placed) (next : ℕ) → numbers file (literals d) (literals d + more) at ≡ got xs next
     → (w' ≡ frame_of d (lit_of v) (map cut (values xs))) × (p' ≡ frame_of d 0 (places_of xs)))
 
-module _ (file : List ℕ) (d : Bool) (more v at : ℕ) (few : more ≤ 1) (r : Passed) (w p w' p' : List ℕ) where
+module _ (file : List ℕ) (d : Bool) (more v at : ℕ) (few : more ≤ 1) (r : Result ℕ Refusal) (w p w' p' : List ℕ) where
   pub in-text : d ≡ true → w ≡ 0 ∷ 0 ∷ 0 ∷ [] → p ≡ 0 ∷ 0 ∷ 0 ∷ [] → r ≡ passed_by (numbers file 2 (2 + more) at)
       → ((xs : List Placed) (next : ℕ) → numbers file 2 (2 + more) at ≡ got xs next → Numbered xs 0 w p w' p')
       → Framed file d more v at r w' p'
@@ -87,7 +87,7 @@ module _ (file : List ℕ) (d : Bool) (more v at : ℕ) (few : more ≤ 1) (r : 
       )
 
 in-turn : (a b c : Bool) (p q r : ℕ)
-    → cond a (cond b (cond c none (some r)) (some q)) (some p) ≡ or_else (cond a (cond b none (some q)) (some p)) (cond c none (some r))
+    → cond a (cond b (cond c None (Some r)) (Some q)) (Some p) ≡ or_else (cond a (cond b None (Some q)) (Some p)) (cond c None (Some r))
 in-turn true true true p q r = refl
 in-turn true true false p q r = refl
 in-turn true false c p q r = refl
@@ -115,18 +115,18 @@ reset-cut own r h e = go (eqb r 0) (eqb r 1) refl refl e
 module _ (m : ℕ) (small : m ≤ most) where
   -- a reset after an own literal that is in its range
   same-reset : (x z : ℕ) (p q r : ℕ) (b : Bool)
-      → cond (in_range true m x) (cond b (cond (is_reset (cut x) (cut z)) none (some r)) (some q)) (some p)
-      ≡ cond (in_range true m x) (cond b (cond (is_reset x z) none (some r)) (some q)) (some p)
+      → cond (in_range true m x) (cond b (cond (is_reset (cut x) (cut z)) None (Some r)) (Some q)) (Some p)
+      ≡ cond (in_range true m x) (cond b (cond (is_reset x z) None (Some r)) (Some q)) (Some p)
   same-reset x z p q r b = go (in_range true m x) refl
     where
       go : (t : Bool) → in_range true m x ≡ t
-          → cond t (cond b (cond (is_reset (cut x) (cut z)) none (some r)) (some q)) (some p)
-          ≡ cond t (cond b (cond (is_reset x z) none (some r)) (some q)) (some p)
+          → cond t (cond b (cond (is_reset (cut x) (cut z)) None (Some r)) (Some q)) (Some p)
+          ≡ cond t (cond b (cond (is_reset x z) None (Some r)) (Some q)) (Some p)
       go false e = refl
       go true e =
           let x-is : cut x ≡ x = range-cut m x small e in
           let k : x ≤ 2 * m = leb-true x (2 * m) (and_right (leb 2 x) _ (and_right (eqb (sign_of x) 0) _ e)) in
-          ap (λ (t : Bool). cond b (cond t none (some r)) (some q))
+          ap (λ (t : Bool). cond b (cond t None (Some r)) (Some q))
           (ap (λ (y : ℕ). is_reset y (cut z)) x-is ∙ cut-reset x z (omega arith))
 
   pub judge-is : (d : Bool) (v : ℕ) (xs : List Placed) (w p : List ℕ) → literals d ≤ length (values xs) → length (values xs) ≤ literals d + 1
@@ -158,7 +158,7 @@ module _ (m : ℕ) (small : m ≤ most) where
       go false (x ∷ y ∷ z ∷ l) lo hi own = absurd (omega arith)
 
   -- numbers without a fault are held whole
-  none_first : (a b c : Bool) (p q r : ℕ) → or_else (cond a (cond b none (some q)) (some p)) (cond c none (some r)) ≡ none
+  none_first : (a b c : Bool) (p q r : ℕ) → or_else (cond a (cond b None (Some q)) (Some p)) (cond c None (Some r)) ≡ None
       → (a ≡ true) × (b ≡ true) × (c ≡ true)
   none_first true true true p q r e = (refl, refl, refl)
   none_first true true false p q r e = let z : ◌≡◌ {A = ℕ} 0 1 = cc in absurd (omega arith)
@@ -166,7 +166,7 @@ module _ (m : ℕ) (small : m ≤ most) where
   none_first false b c p q r e = let z : ◌≡◌ {A = ℕ} 0 1 = cc in absurd (omega arith)
 
   pub held_whole : (d : Bool) (v : ℕ) (xs : List Placed) → literals d ≤ length (values xs) → length (values xs) ≤ literals d + 1
-      → Own d m v → faults d m v xs ≡ none → map cut (values xs) ≡ values xs
+      → Own d m v → faults d m v xs ≡ None → map cut (values xs) ≡ values xs
   held_whole true v [] lo hi own e = absurd (omega arith)
   held_whole true v (x ∷ []) lo hi own e = absurd (omega arith)
   held_whole true v (x ∷ y ∷ []) lo hi own e =

@@ -3,12 +3,12 @@ use Prim.Native.Nat.{ℕ, suc, zero, ◌+◌, ◌*◌, ◌≤◌, ◌<◌}
 use mathlib.Core.Path.{◌≡◌, refl, sym, ap, ap₂, ◌∙◌, subst}
 use mathlib.Core.Bool.{Bool, true, false, cond, ◌&&◌}
 use mathlib.Core.List.{List, [], ◌∷◌, ◌++◌, append-nil, append_assoc, map, map-append}
+use Rattle.std.specs.Prelude.{Ok, Err}
 use native.Mathlib.Omega.{arith}
 use native.Mathlib.Nat.{add-zero, zero-add}
 use lib.ListN.{length, length-append, length-map}
 use Rattle.plan.specs.declared.Refusal.{Refusal}
 use Rattle.plan.specs.declared.Refusal.TheVariants.{DefinedTwice}
-use Rattle.plan.specs.declared.Passed.TheVariants.{To, Refused}
 use Rattle.plan.specs.Literals.{var_of}
 use Rattle.plan.specs.Refusals.{Parse, got, refused}
 use Rattle.plan.specs.Circuit.{Latch, literal_of, latch_of, latch_line, has, heads, flat}
@@ -133,13 +133,13 @@ module _ {file : List ℕ} {d : Bool} {m more first n at : ℕ} {t₀ r₀ marks
       b.whole ∙ ap (λ (x : ℕ). on_rows b.rows (latch_lines file (latch_form (literals d) d more) m x (first + i) (seen ++ heads b.rows) pos)) (rest h b).1
 
   says-refused : (seen : List ℕ) (r : Refusal) (t' r' marks' : List ℕ) → latch_lines file (latch_form (literals d) d more) m n first seen at ≡ refused r
-      → LatchesSay d m first seen t₀ r₀ (latch_lines file (latch_form (literals d) d more) m n first seen at) (Refused r) t' r' marks'
+      → LatchesSay d m first seen t₀ r₀ (latch_lines file (latch_form (literals d) d more) m n first seen at) (Err r) t' r' marks'
   says-refused seen r t' r' marks' e =
-      subst (λ (p : Parse (List (List ℕ))). LatchesSay d m first seen t₀ r₀ p (Refused r) t' r' marks') (sym e) refl
+      subst (λ (p : Parse (List (List ℕ))). LatchesSay d m first seen t₀ r₀ p (Err r) t' r' marks') (sym e) refl
 
-  pub stops : (h : i < n) (r : Refusal) (t' r' marks' : List ℕ) → Refused r ≡ passed_by (latch_row file d m more (first + i) pos)
+  pub stops : (h : i < n) (r : Refusal) (t' r' marks' : List ℕ) → Err r ≡ passed_by (latch_row file d m more (first + i) pos)
       → (seen : List ℕ) → Agrees m seen marks₀
-      → LatchesSay d m first seen t₀ r₀ (latch_lines file (latch_form (literals d) d more) m n first seen at) (Refused r) t' r' marks'
+      → LatchesSay d m first seen t₀ r₀ (latch_lines file (latch_form (literals d) d more) m n first seen at) (Err r) t' r' marks'
   stops h r t' r' marks' e seen a =
       let b = s.before seen a in
       says-refused seen r t' r' marks' (turned b h
@@ -164,7 +164,7 @@ module _ {file : List ℕ} {d : Bool} {m more first n at : ℕ} {t₀ r₀ marks
         ∙ ap (λ (x : Bool). cond x (refused (DefinedTwice pos)) (got row next)) (sym (tells seen rows a) ∙ q)
 
     pub twice-told : (t' r' marks' : List ℕ) → marked d (var_of (literal_of row)) marks ≡ true → (seen : List ℕ) → Agrees m seen marks₀
-        → LatchesSay d m first seen t₀ r₀ (latch_lines file (latch_form (literals d) d more) m n first seen at) (Refused (DefinedTwice pos)) t' r' marks'
+        → LatchesSay d m first seen t₀ r₀ (latch_lines file (latch_form (literals d) d more) m n first seen at) (Err (DefinedTwice pos)) t' r' marks'
     twice-told t' r' marks' q seen a =
         let b = s.before seen a in
         says-refused seen (DefinedTwice pos) t' r' marks' (turned b h
@@ -229,11 +229,11 @@ module _ {file : List ℕ} {d : Bool} {m more first n at : ℕ} {t₀ r₀ marks
     }
 
   pub ends-here : n ≤ i → (seen : List ℕ) → Agrees m seen marks₀
-      → LatchesSay d m first seen t₀ r₀ (latch_lines file (latch_form (literals d) d more) m n first seen at) (To pos) table resets marks
+      → LatchesSay d m first seen t₀ r₀ (latch_lines file (latch_form (literals d) d more) m n first seen at) (Ok pos) table resets marks
   ends-here over seen a =
       let b = s.before seen a in
       let none : b.left ≡ zero = omega (arith, b.sum) in
-      subst (λ (p : Parse (List (List ℕ))). LatchesSay d m first seen t₀ r₀ p (To pos) table resets marks)
+      subst (λ (p : Parse (List (List ℕ))). LatchesSay d m first seen t₀ r₀ p (Ok pos) table resets marks)
       (sym (b.whole ∙ ap (λ (x : ℕ). on_rows b.rows (latch_lines file (latch_form (literals d) d more) m x (first + i) (seen ++ heads b.rows) pos)) none
       ∙ latches-done file (literals d) d m more b.rows (first + i) (seen ++ heads b.rows) pos))
       (refl, b.held, b.kept, b.agrees)

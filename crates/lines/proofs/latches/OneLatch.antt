@@ -2,13 +2,12 @@
 use Prim.Native.Nat.{ℕ, suc, zero, ◌+◌, ◌*◌, ◌≤◌, ◌<◌}
 use mathlib.Core.Path.{◌≡◌, refl, sym, ap, ap₂, ◌∙◌, subst}
 use mathlib.Core.Bool.{Bool, true, false, cond, ◌&&◌}
-use mathlib.Core.Option.{Option, none, some}
 use mathlib.Core.List.{List, [], ◌∷◌, map}
+use Rattle.std.specs.Prelude.{Ok, Err, Option, Some, None}
 use native.Mathlib.Omega.{arith}
 use lib.ListN.{length, get_or, set, take, drop}
 use Rattle.plan.specs.declared.Refusal.{Refusal}
 use Rattle.plan.specs.declared.Refusal.TheVariants.{OutOfRange, DefinedTwice}
-use Rattle.plan.specs.declared.Passed.TheVariants.{To, Refused}
 use Rattle.plan.specs.Literals.{most, var_of, lit_of}
 use Rattle.plan.specs.Refusals.{Parse, got, refused, ◌then◌, unless}
 use Rattle.plan.specs.Circuit.{literal_of, has, latch_line}
@@ -27,11 +26,11 @@ use Rattle.lines.specs.latches.Latches.{literals, frame_of, judged, faults, latc
 use Rattle.lines.proofs.latches.Frame.{judge-is, held_whole}
 
 -- the answer of a line's numbers
-passed_to : {A : Type 0} (p : Parse A) (next : ℕ) → To next ≡ passed_by p → (a : A) × (p ≡ got a next)
+passed_to : {A : Type 0} (p : Parse A) (next : ℕ) → Ok next ≡ passed_by p → (a : A) × (p ≡ got a next)
 passed_to (got a n) next e = (a, ap (got a) (cc))
 passed_to (refused r) next e = let z : ◌≡◌ {A = ℕ} 0 1 = cc in absurd (omega arith)
 
-passed-refused : {A : Type 0} (p : Parse A) (r : Refusal) → Refused r ≡ passed_by p → p ≡ refused r
+passed-refused : {A : Type 0} (p : Parse A) (r : Refusal) → Err r ≡ passed_by p → p ≡ refused r
 passed-refused (got a n) r e = let z : ◌≡◌ {A = ℕ} 0 1 = cc in absurd (omega arith)
 passed-refused (refused q) r e = let same : q ≡ r = cc in ap refused same
 
@@ -54,19 +53,19 @@ judge-twice : (d : Bool) (seen : List ℕ) (v at : ℕ) (ys : List Placed) (p : 
 judge-twice false seen v at ys p = refl
 judge-twice true seen v at ys p = go (has (var_of v) seen)
   where
-    go : (t : Bool) → unless (cond t (some at) none) DefinedTwice p ≡ cond t (refused (DefinedTwice at)) p
+    go : (t : Bool) → unless (cond t (Some at) None) DefinedTwice p ≡ cond t (refused (DefinedTwice at)) p
     go true = refl
     go false = refl
 
 both-unless : (o q : Option ℕ) (p : Parse (List ℕ)) → unless o OutOfRange (unless q OutOfRange p) ≡ unless (or_else o q) OutOfRange p
-both-unless none q p = refl
-both-unless (some x) q p = refl
+both-unless None q p = refl
+both-unless (Some x) q p = refl
 
 module _ (file : List ℕ) (d : Bool) (m more v at : ℕ) where
   pub record Accepted (row : List ℕ) (next : ℕ) : Type 0 where
     pub xs : List Placed
     pub read : numbers file (literals d) (literals d + more) at ≡ got xs next
-    pub fine : faults d m v xs ≡ none
+    pub fine : faults d m v xs ≡ None
     pub is : values xs ≡ row
     pub low : literals d ≤ length row
     pub high : length row ≤ literals d + more
@@ -118,18 +117,18 @@ module _ (file : List ℕ) (d : Bool) (m more v at : ℕ) where
         where
           by-range : (o : Option ℕ) → unless o OutOfRange (got (values xs) n) ≡ refused r
               → unless o OutOfRange (unless (twice d seen xs) DefinedTwice (got (values xs) n)) ≡ refused r
-          by-range none q = absurd (let z : ◌≡◌ {A = ℕ} 0 1 = cc in omega arith)
-          by-range (some x) q = q
+          by-range None q = absurd (let z : ◌≡◌ {A = ℕ} 0 1 = cc in omega arith)
+          by-range (Some x) q = q
 
 -- a line that defines has a variable of the circuit, and so has the latch of any line
 pub row-var : (file : List ℕ) (m more v at : ℕ) (row : List ℕ) (next : ℕ) → latch_row file true m more v at ≡ got row next → var_of (literal_of row) ≤ m
 row-var file m more v at row next e = let a = accepted file true m more v at row next e in go a.xs row a.is a.low a.fine
   where
-    first-none : (o q : Option ℕ) → or_else o q ≡ none → o ≡ none
-    first-none none q e = refl
-    first-none (some x) q e = e
+    first-none : (o q : Option ℕ) → or_else o q ≡ None → o ≡ None
+    first-none None q e = refl
+    first-none (Some x) q e = e
 
-    go : (xs : List Placed) (l : List ℕ) → values xs ≡ l → 2 ≤ length l → faults true m v xs ≡ none → var_of (literal_of l) ≤ m
+    go : (xs : List Placed) (l : List ℕ) → values xs ≡ l → 2 ≤ length l → faults true m v xs ≡ None → var_of (literal_of l) ≤ m
     go [] l q lo f = absurd (omega (arith, ap length q))
     go (x ∷ []) l q lo f = absurd (omega (arith, ap length q))
     go (x ∷ y ∷ xs) l q lo f =
@@ -171,15 +170,11 @@ module _ (file : List ℕ) (d : Bool) (m more v at : ℕ) (t₀ r₀ : List ℕ)
       → (t' ≡ put t₀ (2 * i) (latch_line (latch_in d v row))) × (r' ≡ put r₀ i (reset_after (literals d) row ∷ []))
 
   refuses : (r : Refusal) (t' r' : List ℕ) → latch_row file d m more v at ≡ refused r
-      → (Refused r ≡ passed_by (latch_row file d m more v at)) × Kept t' r'
+      → (Err r ≡ passed_by (latch_row file d m more v at)) × Kept t' r'
   refuses r t' r' e = (sym (ap passed_by e), λ row next q. absurd (not-got r row next (sym e ∙ q)))
 
-  pub line_refused : (r : Refusal) (t' r' : List ℕ) → Refused r ≡ passed_by (numbers file (literals d) (literals d + more) at)
-      → (Refused r ≡ passed_by (latch_row file d m more v at)) × Kept t' r'
-  line_refused r t' r' e = refuses r t' r' (rw (passed-refused (numbers file (literals d) (literals d + more) at) r e))
-
   module _ (next : ℕ) (w p : List ℕ) (small : m ≤ most) (few : more ≤ 1) (own : Own d m v)
-      (e : To next ≡ passed_by (numbers file (literals d) (literals d + more) at))
+      (e : Ok next ≡ passed_by (numbers file (literals d) (literals d + more) at))
       (framed : (xs : List Placed) (n : ℕ) → numbers file (literals d) (literals d + more) at ≡ got xs n
       → (w ≡ frame_of d (lit_of v) (map cut (values xs))) × (p ≡ frame_of d 0 (places_of xs))) where
     read : (xs : List Placed) × (numbers file (literals d) (literals d + more) at ≡ got xs next)
@@ -196,15 +191,15 @@ module _ (file : List ℕ) (d : Bool) (m more v at : ℕ) (t₀ r₀ : List ℕ)
         judge-is m small d v read.0 w p long.0 long.1 own f.0 f.1
 
     pub out_of_range : (place : ℕ) (t' r' : List ℕ)
-        → some place ≡ judged m (get_or w 0 0) (get_or w 1 0) (get_or w 2 0) (get_or p 0 0) (get_or p 1 0) (get_or p 2 0)
-        → (Refused (OutOfRange place) ≡ passed_by (latch_row file d m more v at)) × Kept t' r'
+        → Some place ≡ judged m (get_or w 0 0) (get_or w 1 0) (get_or w 2 0) (get_or p 0 0) (get_or p 1 0) (get_or p 2 0)
+        → (Err (OutOfRange place) ≡ passed_by (latch_row file d m more v at)) × Kept t' r'
     out_of_range place t' r' f = refuses (OutOfRange place) t' r' (rw (read.1, sym (f ∙ judgement)))
 
     pub all-fine : 2 * i + 2 ≤ length t₀ → i < length r₀
-        → none ≡ judged m (get_or w 0 0) (get_or w 1 0) (get_or w 2 0) (get_or p 0 0) (get_or p 1 0) (get_or p 2 0)
-        → (To next ≡ passed_by (latch_row file d m more v at)) × Kept (set (set t₀ (2 * i) (get_or w 0 0)) (2 * i + 1) (get_or w 1 0)) (set r₀ i (get_or w 2 0))
+        → None ≡ judged m (get_or w 0 0) (get_or w 1 0) (get_or w 2 0) (get_or p 0 0) (get_or p 1 0) (get_or p 2 0)
+        → (Ok next ≡ passed_by (latch_row file d m more v at)) × Kept (set (set t₀ (2 * i) (get_or w 0 0)) (2 * i + 1) (get_or w 1 0)) (set r₀ i (get_or w 2 0))
     all-fine room room-r f =
-        let clean : faults d m v read.0 ≡ none = sym (f ∙ judgement) in
+        let clean : faults d m v read.0 ≡ None = sym (f ∙ judgement) in
         let whole : latch_row file d m more v at ≡ got (values read.0) next = rw (read.1, clean) in
         let w-is : w ≡ frame_of d (lit_of v) (values read.0)
         = (framed read.0 next read.1).0

@@ -1,8 +1,8 @@
 -- What was found first. Each answer is rewritten with the tests that led to it.
 use Rattle.lines.proofs.noted.Goals as goal
 
-pub returns-in-At : goal.returns-in-At
-returns-in-At c = rw c.in-At.is
+pub returns-in-Some : goal.returns-in-Some
+returns-in-Some c = rw c.in-Some.is
 
 pub returns-else-fine : goal.returns-else-fine
-returns-else-fine c = rw (c.in-Nothing.is, c.if-fine.false)
+returns-else-fine c = rw (c.in-None.is, c.if-fine.false)

@@ -3,10 +3,9 @@ use Prim.Native.Nat.{ℕ}
 use mathlib.Core.Path.{◌≡◌, refl, sym, ap, ◌∙◌, subst}
 use mathlib.Core.Bool.{false}
 use mathlib.Core.List.{List, [], map}
+use Rattle.std.specs.Prelude.{Result, Ok, Err}
 use Rattle.plan.specs.declared.Counts.{Counts}
 use Rattle.plan.specs.declared.Refusal.{Refusal}
-use Rattle.plan.specs.declared.Passed.{Passed}
-use Rattle.plan.specs.declared.Passed.TheVariants.{To, Refused}
 use Rattle.plan.specs.Refusals.{Parse, got, refused, ◌then◌}
 use Rattle.plan.specs.Circuit.{literal_of}
 use Rattle.plan.specs.Bytes.{lines}
@@ -25,7 +24,7 @@ pub record ListHeld (m : ℕ) (seen table table' marks' : List ℕ) (rows : List
   pub agrees : Agrees m seen marks'
 
 -- lines that define nothing
-pub list-told : (file : List ℕ) (m n at : ℕ) (seen table : List ℕ) (r : Passed) (table' marks' : List ℕ)
+pub list-told : (file : List ℕ) (m n at : ℕ) (seen table : List ℕ) (r : Result ℕ Refusal) (table' marks' : List ℕ)
     → LinesSay false m seen table (lines file 1 false m n seen at) r table' marks'
     → Answered (ListHeld m seen table table' marks') (lines file 1 false m n [] at) r
 list-told file m n at seen table r table' marks' says =
@@ -39,24 +38,24 @@ list-told file m n at seen table r table' marks' says =
         (h.0, record { held = h.1 ∙ ap (put table 0) (flat-one rows (rows_long 1 false m [] rows took.2)); agrees = h.2 })
     go (refused q) e h = h
 
-module _ (file : List ℕ) (n : Counts) (at : ℕ) (seen a b c : List ℕ) (r : Passed) (a' b' c' marks' : List ℕ) where
+module _ (file : List ℕ) (n : Counts) (at : ℕ) (seen a b c : List ℕ) (r : Result ℕ Refusal) (a' b' c' marks' : List ℕ) where
   abbrev Says : Type 0
   Says = ObservedSay n.M seen a b c (observed_at file n at) r a' b' c' marks'
 
-  says-refused : (q : Refusal) → observed_at file n at ≡ refused q → r ≡ Refused q → Says
+  says-refused : (q : Refusal) → observed_at file n at ≡ refused q → r ≡ Err q → Says
   says-refused q e told = subst (λ (p : Parse Observed). ObservedSay n.M seen a b c p r a' b' c' marks') (sym e) told
 
-  pub outputs-refused : {q : Refusal} → lines file 1 false n.M n.O [] at ≡ refused q → r ≡ Refused q → Says
+  pub outputs-refused : {q : Refusal} → lines file 1 false n.M n.O [] at ≡ refused q → r ≡ Err q → Says
   outputs-refused {q} stop e = says-refused q (rw stop) e
 
   -- the outputs are read
   module _ {m₁ : List ℕ} {p₁ : ℕ} (r₁ : Read (ListHeld n.M seen a a' m₁) (lines file 1 false n.M n.O [] at) p₁) where
-    pub bads-refused : {q : Refusal} → lines file 1 false n.M n.B [] p₁ ≡ refused q → r ≡ Refused q → Says
+    pub bads-refused : {q : Refusal} → lines file 1 false n.M n.B [] p₁ ≡ refused q → r ≡ Err q → Says
     bads-refused {q} stop e = says-refused q (rw (r₁.whole, stop)) e
 
     -- the bad states are read
     module _ {m₂ : List ℕ} {p₂ : ℕ} (r₂ : Read (ListHeld n.M seen b b' m₂) (lines file 1 false n.M n.B [] p₁) p₂) where
-      all_read : {next : ℕ} → Read (ListHeld n.M seen c c' marks') (lines file 1 false n.M n.C [] p₂) next → r ≡ To next → Says
+      all_read : {next : ℕ} → Read (ListHeld n.M seen c c' marks') (lines file 1 false n.M n.C [] p₂) next → r ≡ Ok next → Says
       all_read {next} r₃ e =
           let made : Observed = record {
             outputs = map literal_of r₁.value;
@@ -70,11 +69,11 @@ module _ (file : List ℕ) (n : Counts) (at : ℕ) (seen a b c : List ℕ) (r : 
       pub constraints-last : Answered (ListHeld n.M seen c c' marks') (lines file 1 false n.M n.C [] p₂) r → Says
       constraints-last h = go r refl
         where
-          go : (x : Passed) → r ≡ x → Says
-          go (Refused q) e =
+          go : (x : Result ℕ Refusal) → r ≡ x → Says
+          go (Err q) e =
               let stop = was-refused (ListHeld n.M seen c c' marks') (lines file 1 false n.M n.C [] p₂) r q h e in
               says-refused q (rw (r₁.whole, r₂.whole, stop)) e
-          go (To next) e =
+          go (Ok next) e =
               all_read (was_read (ListHeld n.M seen c c' marks') (lines file 1 false n.M n.C [] p₂) r next h e) e
 
 -- the same, held
@@ -84,7 +83,7 @@ pub record AllHeld (m : ℕ) (seen a b c a' b' c' marks' : List ℕ) (o : Observ
   pub constraints : c' ≡ put c 0 o.constraints
   pub agrees : Agrees m seen marks'
 
-pub observed-told : (m : ℕ) (seen a b c : List ℕ) (p : Parse Observed) (r : Passed) (a' b' c' marks' : List ℕ)
+pub observed-told : (m : ℕ) (seen a b c : List ℕ) (p : Parse Observed) (r : Result ℕ Refusal) (a' b' c' marks' : List ℕ)
     → ObservedSay m seen a b c p r a' b' c' marks' → Answered (AllHeld m seen a b c a' b' c' marks') p r
 observed-told m seen a b c (got o next) r a' b' c' marks' h = (h.0, record { outputs = h.1; bads = h.2; constraints = h.3; agrees = h.4 })
 observed-told m seen a b c (refused q) r a' b' c' marks' h = h

@@ -10,13 +10,14 @@ use Rattle.lines.specs.Rows.{row, marked, marking}
 use Rattle.lines.proofs.OneLine.{row-var}
 use Rattle.lines.proofs.Marks.{marks-less}
 use Rattle.lines.proofs.LinesLoop.{begins, fits, stops, passed_to, twice-told, turns, ends-here, line_word}
+use Rattle.laws.proofs.Pairs.{passed-on}
 use Rattle.lines.proofs.read_lines.Goals as goal
 
 pub defined_before-requires : goal.defined_before-requires
 defined_before-requires c =
     let a = c.args in
     let p = passed_to (row a.file.now a.k a.defines a.m c.loop-i.pos) _
-    (sym c.in-To.is ∙ c.read_row.ensures.value) in
+    (sym c.in_ok-next.was ∙ c.read_row.ensures.value) in
     let held = c.read_row.ensures.by_index p.0 _ p.1 in
     let word : word_of c.at.result ≡ literal_of p.0
     = ap word_of c.at.ensures ∙ line_word a.file.now a.k a.defines a.m c.loop-i.pos p.0 _ p.1 c.requires.k_nonzero _ _
@@ -28,7 +29,7 @@ pub returns-then-defined_before : goal.returns-then-defined_before
 returns-then-defined_before c =
     let a = c.args in
     let room = c.requires.k_in_bounds in
-    let p = passed_to (row a.file.now a.k a.defines a.m c.loop-i.pos) _ (sym c.in-To.is ∙ c.read_row.ensures.value) in
+    let p = passed_to (row a.file.now a.k a.defines a.m c.loop-i.pos) _ (sym c.in_ok-next.was ∙ c.read_row.ensures.value) in
     let held = c.read_row.ensures.by_index p.0 _ p.1 in
     let word : word_of c.at.result ≡ literal_of p.0
     = ap word_of c.at.ensures ∙ line_word a.file.now a.k a.defines a.m c.loop-i.pos p.0 _ p.1 c.requires.k_nonzero _ _ (c.loop-i.i * a.k) held
@@ -40,7 +41,7 @@ pub loop-i-preserved : goal.loop-i-preserved
 loop-i-preserved c =
     let a = c.args in
     let room = c.requires.k_in_bounds in
-    let p = passed_to (row a.file.now a.k a.defines a.m c.loop-i.pos) _ (sym c.in-To.is ∙ c.read_row.ensures.value) in
+    let p = passed_to (row a.file.now a.k a.defines a.m c.loop-i.pos) _ (sym c.in_ok-next.was ∙ c.read_row.ensures.value) in
     let held = c.read_row.ensures.by_index p.0 _ p.1 in
     let word : word_of c.at.result ≡ literal_of p.0
     = ap word_of c.at.ensures ∙ line_word a.file.now a.k a.defines a.m c.loop-i.pos p.0 _ p.1 c.requires.k_nonzero _ _ (c.loop-i.i * a.k) held
@@ -52,10 +53,10 @@ loop-i-preserved c =
 pub loop-i-init : goal.loop-i-init
 loop-i-init c = let a = c.args in begins a.file.now a.k a.defines a.m a.n a.at a.table.now a.marks.now
 
-pub returns-in-Refused : goal.returns-in-Refused
-returns-in-Refused c =
-    stops c.loop-i.invariant c.requires.k_in_bounds c.loop-i-test.true _ _ _
-    (sym c.in-Refused.is ∙ c.read_row.ensures.value)
+pub returns-in_err-next : goal.returns-in_err-next
+returns-in_err-next c =
+    rw (passed-on _ c.from_residual.ensures.1) (stops c.loop-i.invariant c.requires.k_in_bounds c.loop-i-test.true _ _ _
+    (sym c.in_err-next.was ∙ c.read_row.ensures.value))
 
 pub returns : goal.returns
 returns c = ends-here c.loop-i.invariant c.requires.k_in_bounds (omega arith)

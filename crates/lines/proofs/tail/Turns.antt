@@ -2,8 +2,8 @@
 use Prim.Native.Nat.{ℕ, suc, ◌-◌, ◌<◌, ◌≤◌}
 use mathlib.Core.Path.{◌≡◌, refl, sym, ap, ◌∙◌, subst}
 use mathlib.Core.Bool.{true, false, cond}
-use mathlib.Core.Option.{none, some}
 use mathlib.Core.List.{List, [], ◌∷◌}
+use Rattle.std.specs.Prelude.{Result, Ok, Err, Some, None}
 use native.Mathlib.Omega.{arith}
 use borrow.Author.Tests.{le-leb, lt-leb}
 use lib.ListN.{length, get_or, set, length-set}
@@ -11,9 +11,6 @@ use Rattle.plan.specs.declared.Counts.{Counts}
 use Rattle.plan.specs.declared.Version.{Version}
 use Rattle.plan.specs.declared.Version.TheVariants.{V19}
 use Rattle.plan.specs.declared.Refusal.{Refusal}
-use Rattle.plan.specs.declared.Passed.TheVariants as passed
-use Rattle.plan.specs.declared.Checked.{Checked}
-use Rattle.plan.specs.declared.Checked.TheVariants as checked
 use Rattle.plan.specs.Refusals.{Parse, got, refused, ◌then◌}
 use Rattle.plan.specs.Tail.{Symbol, is_kind, symbol, comment, starts_symbol, tail_from, tail_at}
 use Rattle.plan.specs.Given.{refusal_of}
@@ -47,11 +44,11 @@ starts v file n at marks h b =
       answer = refl;
     }
 
-passed_to : (p : Parse Symbol) (next : ℕ) → passed.To next ≡ passed_by p → (s : Symbol) × (p ≡ got s next)
+passed_to : (p : Parse Symbol) (next : ℕ) → Ok next ≡ passed_by p → (s : Symbol) × (p ≡ got s next)
 passed_to (got s m) next e = (s, ap (got s) (cc))
 passed_to (refused r) next e = let z : ◌≡◌ {A = ℕ} 0 1 = cc in absurd (omega arith)
 
-passed-not : (p : Parse Symbol) (r : Refusal) → passed.Refused r ≡ passed_by p → p ≡ refused r
+passed-not : (p : Parse Symbol) (r : Refusal) → Err r ≡ passed_by p → p ≡ refused r
 passed-not (got s m) r e = let z : ◌≡◌ {A = ℕ} 0 1 = cc in absurd (omega arith)
 passed-not (refused q) r e = ap refused (cc)
 
@@ -72,14 +69,14 @@ module _ {v : Version} {file : List ℕ} {n : Counts} {at size : ℕ} {marks : L
   more : pos < length file → t.fuel ≡ suc (t.fuel - 1)
   more h = omega (arith, t.enough)
 
-  pub ends : length file ≤ pos → checked.Good ≡ checked_by (refusal_of (tail_at v file n at))
+  pub ends : length file ≤ pos → Ok tt ≡ checked_by (refusal_of (tail_at v file n at))
   ends h =
       let e : t.fuel ≡ suc (t.fuel - 1) = omega (arith, t.enough) in
-      let over : refusal_of (tail_at v file n at) ≡ none
+      let over : refusal_of (tail_at v file n at) ≡ None
       = t.answer ∙ (ap (λ (f : ℕ). refusal_of (tail_from v file n f t.seen pos)) e ∙ rw (le-leb _ _ h)) in
       ap checked_by (sym over)
 
-  pub remarks : (r : Checked) → pos < length file → starts_symbol v file pos ≡ false → r ≡ checked_by (refusal_of (comment file pos))
+  pub remarks : (r : Result Unit Refusal) → pos < length file → starts_symbol v file pos ≡ false → r ≡ checked_by (refusal_of (comment file pos))
       → r ≡ checked_by (refusal_of (tail_at v file n at))
   remarks r h k e =
       let told : refusal_of (tail_at v file n at) ≡ refusal_of (comment file pos) = here (t.fuel - 1) (more h) h ∙ rw k in
@@ -92,14 +89,14 @@ module _ {v : Version} {file : List ℕ} {n : Counts} {at size : ℕ} {marks : L
     same-symbol : symbol file n t.seen pos ≡ marked_symbol file n marks pos
     same-symbol = marked-same file n t.seen marks pos t.agrees (kind-19 v (get_or file pos 0) kind)
 
-    pub stops : (r : Refusal) → passed.Refused r ≡ passed_by (marked_symbol file n marks pos)
-        → checked.Refused r ≡ checked_by (refusal_of (tail_at v file n at))
+    pub stops : (r : Refusal) → Err r ≡ passed_by (marked_symbol file n marks pos)
+        → Err r ≡ checked_by (refusal_of (tail_at v file n at))
     stops r e =
-        let told : refusal_of (tail_at v file n at) ≡ some r
+        let told : refusal_of (tail_at v file n at) ≡ Some r
         = here (t.fuel - 1) (more h) h ∙ rw (k, same-symbol ∙ passed-not (marked_symbol file n marks pos) r e) in
         ap checked_by (sym told)
 
-    module _ (next : ℕ) (e : passed.To next ≡ passed_by (marked_symbol file n marks pos)) where
+    module _ (next : ℕ) (e : Ok next ≡ passed_by (marked_symbol file n marks pos)) where
       pub falls : length file - next < length file - pos
       falls =
           let p = passed_to (marked_symbol file n marks pos) next e in

@@ -3,15 +3,14 @@ use Prim.Native.Nat.{ℕ, ◌+◌, ◌<◌, ◌≤◌, min}
 use mathlib.Core.Path.{◌≡◌, refl, sym, ap, ap₂, ◌∙◌, subst}
 use mathlib.Core.Bool.{Bool, true, false, cond}
 use mathlib.Core.List.{List}
+use Rattle.std.specs.Prelude.{Result, Ok, Err}
+use Rattle.plan.specs.declared.Refusal.{Refusal}
 use native.Mathlib.Omega.{arith}
 use borrow.Author.Tests.{eq-eqb, ne_eqb, lt-ltb, le-ltb}
 use lib.Dec.{eqb}
 use lib.ListN.{length, get_or, set}
 use Rattle.plan.specs.declared.Counts.{Counts}
-use Rattle.plan.specs.declared.Number.TheVariants.{Value, Wrong}
-use Rattle.plan.specs.declared.Refusal.TheVariants.{WrongByte, BadSymbol}
-use Rattle.plan.specs.declared.Passed.{Passed}
-use Rattle.plan.specs.declared.Passed.TheVariants.{To, Refused}
+use Rattle.plan.specs.declared.Refusal.TheVariants.{BadSymbol}
 use Rattle.plan.specs.Literals.{most, beyond}
 use Rattle.plan.specs.Refusals.{Parse, got, refused, ◌then◌}
 use Rattle.plan.specs.Tail.{Symbol, count_of}
@@ -43,16 +42,16 @@ module _ (n : Counts) (marks : List ℕ) (h : Holds n marks) (b : ℕ) where
       go false false false false k = omega arith
 
 -- what reading a symbol leaves
-abbrev pub Leaves : List ℕ → Counts → List ℕ → ℕ → Passed → List ℕ → Type 0
+abbrev pub Leaves : List ℕ → Counts → List ℕ → ℕ → Result ℕ Refusal → List ℕ → Type 0
 Leaves file n marks at r marks' =
     (r ≡ passed_by (marked_symbol file n marks at)) × (marks' ≡ marks_after n marks (marked_symbol file n marks at))
 
 module _ (file : List ℕ) (n : Counts) (marks : List ℕ) (at : ℕ) where
-  pub line_refused : (place : ℕ) → Wrong place ≡ cut_number (entry_of (symbol_line file at))
-      → Leaves file n marks at (Refused (WrongByte place)) marks
-  line_refused place e = let q = line-wrong file at place e in rw q (refl, refl)
+  pub line_refused : (r : Refusal) → Err r ≡ cut_number (entry_of (symbol_line file at))
+      → Leaves file n marks at (Err r) marks
+  line_refused r e = let q = line-wrong file at r e in rw q (refl, refl)
 
-  module _ (h : Holds n marks) (v next : ℕ) (e : Value v next ≡ cut_number (entry_of (symbol_line file at))) where
+  module _ (h : Holds n marks) (v next : ℕ) (e : Ok (v, next) ≡ cut_number (entry_of (symbol_line file at))) where
     -- the symbol of the line, with its letter
     line-symbol : (s : Symbol) × (symbol_line file at ≡ got s next) × (v ≡ min s.entry beyond) × (get_or file at 0 ≡ s.kind)
     line-symbol =
@@ -66,12 +65,12 @@ module _ (file : List ℕ) (n : Counts) (marks : List ℕ) (at : ℕ) where
         ∙ ap (λ (x : Bool). cond x (got s next) (refused (BadSymbol at))) q
 
     refused-so : (s : Symbol) → symbol_line file at ≡ got s next → free n marks s ≡ false
-        → Leaves file n marks at (Refused (BadSymbol at)) marks
+        → Leaves file n marks at (Err (BadSymbol at)) marks
     refused-so s p q =
         let r = judged s false p q in
         (ap passed_by (sym r), ap (marks_after n marks) (sym r))
 
-    pub too_far : (k : ℕ) → k ≡ count_of n (get_or file at 0) → k ≤ v → Leaves file n marks at (Refused (BadSymbol at)) marks
+    pub too_far : (k : ℕ) → k ≡ count_of n (get_or file at 0) → k ≤ v → Leaves file n marks at (Err (BadSymbol at)) marks
     too_far k k-is l =
         let s = line-symbol in
         let far : count_of n s.0.kind ≤ s.0.entry = subst (λ (b : ℕ). count_of n b ≤ s.0.entry) s.3 (omega (arith, s.2)) in
@@ -89,7 +88,7 @@ module _ (file : List ℕ) (n : Counts) (marks : List ℕ) (at : ℕ) where
           let small : s.entry < count_of n (get_or file at 0) = omega arith in
           (subst (λ (b : ℕ). s.entry < count_of n b) kind small, ap₂ ◌+◌ (w-is ∙ ap (first_word n) kind) same)
 
-      pub second : (get_or marks (w + v) 0 ≡ 0 → ⊥) → Leaves file n marks at (Refused (BadSymbol at)) marks
+      pub second : (get_or marks (w + v) 0 ≡ 0 → ⊥) → Leaves file n marks at (Err (BadSymbol at)) marks
       second m =
           let s = line-symbol in
           let q = word-is s.0 s.2 s.3 in
@@ -97,7 +96,7 @@ module _ (file : List ℕ) (n : Counts) (marks : List ℕ) (at : ℕ) where
           ap (λ (x : ℕ). eqb (get_or marks x 0) 0) (sym q.1) ∙ ne_eqb _ 0 m in
           refused-so s.0 s.1 (rw (lt-ltb _ _ q.0, set-already))
 
-      pub first-time : get_or marks (w + v) 0 ≡ 0 → Leaves file n marks at (To next) (set marks (w + v) 1)
+      pub first-time : get_or marks (w + v) 0 ≡ 0 → Leaves file n marks at (Ok next) (set marks (w + v) 1)
       first-time m =
           let s = line-symbol in
           let q = word-is s.0 s.2 s.3 in

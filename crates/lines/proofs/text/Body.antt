@@ -3,11 +3,10 @@ use Prim.Native.Nat.{ℕ, zero}
 use mathlib.Core.Path.{◌≡◌, refl, sym, ap, ◌∙◌, subst}
 use mathlib.Core.Bool.{true}
 use mathlib.Core.List.{List, [], ◌∷◌, ◌++◌, append_assoc, map}
+use Rattle.std.specs.Prelude.{Result, Ok, Err}
 use Rattle.plan.specs.declared.Counts.{Counts}
 use Rattle.plan.specs.declared.Version.{Version}
 use Rattle.plan.specs.declared.Refusal.{Refusal}
-use Rattle.plan.specs.declared.Passed.{Passed}
-use Rattle.plan.specs.declared.Passed.TheVariants.{To, Refused}
 use Rattle.plan.specs.Literals.{var_of}
 use Rattle.plan.specs.Refusals.{Parse, got, refused, ◌then◌}
 use Rattle.plan.specs.Circuit.{Circuit, Tables, literal_of, latch_line, latch_of, gate_of, heads, flat, defined_in}
@@ -65,43 +64,43 @@ text-is v file n at = λ i.
       gates = map gate_of gates;
     }) at) i
 
-module _ (v : Version) (file : List ℕ) (n : Counts) (at : ℕ) (t : Tables) (r : Passed) (t' : Tables) (marks : List ℕ) where
+module _ (v : Version) (file : List ℕ) (n : Counts) (at : ℕ) (t : Tables) (r : Result ℕ Refusal) (t' : Tables) (marks : List ℕ) where
   abbrev Says : Type 0
   Says = TextSays v file n at t r t' marks
 
-  says-refused : (q : Refusal) → text_body v file n at ≡ refused q → r ≡ Refused q → Says
+  says-refused : (q : Refusal) → text_body v file n at ≡ refused q → r ≡ Err q → Says
   says-refused q e told = record {
     body = subst (λ (p : Parse Circuit). BodySays t p r t') (sym e) told;
     marked = λ c next accepted. absurd (not-got q c next (sym e ∙ accepted));
   }
 
-  pub inputs-refused : {q : Refusal} → lines file 1 true n.M n.I [] at ≡ refused q → r ≡ Refused q → Says
+  pub inputs-refused : {q : Refusal} → lines file 1 true n.M n.I [] at ≡ refused q → r ≡ Err q → Says
   inputs-refused {q} stop told = says-refused q (text-is v file n at ∙ rw stop) told
 
   -- the inputs are read
   module _ {p₁ : ℕ} {marks₁ : List ℕ}
       (a₁ : Read (RowsHeld 1 n.M [] t.inputs t'.inputs marks₁) (lines file 1 true n.M n.I [] at) p₁) where
     pub latches-refused : {q : Refusal} → latch_lines file (latch_form 2 true (more_resets v)) n.M n.L zero (heads a₁.value) p₁ ≡ refused q
-        → r ≡ Refused q → Says
+        → r ≡ Err q → Says
     latches-refused {q} stop told = says-refused q (text-is v file n at ∙ rw (a₁.whole, stop)) told
 
     -- the latches are read
     module _ {p₂ : ℕ} {marks₂ : List ℕ}
         (a₂ : Read (LatchesHeld n.M (heads a₁.value) t.latches t.resets t'.latches t'.resets marks₂)
         (latch_lines file (latch_form 2 true (more_resets v)) n.M n.L zero (heads a₁.value) p₁) p₂) where
-      pub observed-refused : {q : Refusal} → observed_at file n p₂ ≡ refused q → r ≡ Refused q → Says
+      pub observed-refused : {q : Refusal} → observed_at file n p₂ ≡ refused q → r ≡ Err q → Says
       observed-refused {q} stop told = says-refused q (text-is v file n at ∙ rw (a₁.whole, a₂.whole, stop)) told
 
       -- what is observed is read
       module _ {p₃ : ℕ} {marks₃ : List ℕ}
           (a₃ : Read (AllHeld n.M (both a₁.value a₂.value) t.outputs t.bads t.constraints t'.outputs t'.bads
           t'.constraints marks₃) (observed_at file n p₂) p₃) where
-        gates-refused : {q : Refusal} → lines file 3 true n.M n.A (both a₁.value a₂.value) p₃ ≡ refused q → r ≡ Refused q → Says
+        gates-refused : {q : Refusal} → lines file 3 true n.M n.A (both a₁.value a₂.value) p₃ ≡ refused q → r ≡ Err q → Says
         gates-refused {q} stop told = says-refused q (text-is v file n at ∙ rw (a₁.whole, a₂.whole, a₃.whole, stop)) told
 
         -- the gates are read
         all_read : {next : ℕ} → Read (RowsHeld 3 n.M (both a₁.value a₂.value) t.gates t'.gates marks)
-            (lines file 3 true n.M n.A (both a₁.value a₂.value) p₃) next → r ≡ To next → Says
+            (lines file 3 true n.M n.A (both a₁.value a₂.value) p₃) next → r ≡ Ok next → Says
         all_read {next} a₄ told =
             let made : Circuit = record {
               M = n.M;
@@ -138,6 +137,6 @@ module _ (v : Version) (file : List ℕ) (n : Counts) (at : ℕ) (t : Tables) (r
             (lines file 3 true n.M n.A (both a₁.value a₂.value) p₃) r → Says
         gates-last says = go r refl
           where
-            go : (x : Passed) → r ≡ x → Says
-            go (To next) e = all_read (was_read _ (lines file 3 true n.M n.A (both a₁.value a₂.value) p₃) r next says e) e
-            go (Refused q) e = gates-refused (was-refused _ (lines file 3 true n.M n.A (both a₁.value a₂.value) p₃) r q says e) e
+            go : (x : Result ℕ Refusal) → r ≡ x → Says
+            go (Ok next) e = all_read (was_read _ (lines file 3 true n.M n.A (both a₁.value a₂.value) p₃) r next says e) e
+            go (Err q) e = gates-refused (was-refused _ (lines file 3 true n.M n.A (both a₁.value a₂.value) p₃) r q says e) e

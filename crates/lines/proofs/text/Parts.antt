@@ -3,10 +3,11 @@ use Prim.Native.Nat.{ℕ, ◌≤◌}
 use mathlib.Core.Path.{◌≡◌, refl, subst}
 use mathlib.Core.Bool.{true}
 use mathlib.Core.List.{List, map}
+use Rattle.std.specs.Prelude.{Result}
+use Rattle.plan.specs.declared.Refusal.{Refusal}
 use native.Mathlib.Omega.{arith}
 use Rattle.plan.specs.declared.Version.{Version}
 use Rattle.plan.specs.declared.Version.TheVariants.{V2007, V19}
-use Rattle.plan.specs.declared.Passed.{Passed}
 use Rattle.plan.specs.Refusals.{Parse, got, refused}
 use Rattle.plan.specs.Circuit.{flat, latch_line, latch_of}
 use Rattle.plan.specs.Bytes.{lines, latch_lines, reset_after, latch_form}
@@ -25,7 +26,7 @@ pub record RowsHeld (k m : ℕ) (seen table table' marks' : List ℕ) (rows : Li
   pub held : table' ≡ put table 0 (flat rows)
   pub agrees : Agrees m (seen_after true seen rows) marks'
 
-pub rows_told : (file : List ℕ) (k m n at : ℕ) (seen table : List ℕ) (r : Passed) (table' marks' : List ℕ)
+pub rows_told : (file : List ℕ) (k m n at : ℕ) (seen table : List ℕ) (r : Result ℕ Refusal) (table' marks' : List ℕ)
     → LinesSay true m seen table (lines file k true m n seen at) r table' marks'
     → Answered (RowsHeld k m seen table table' marks') (lines file k true m n seen at) r
 rows_told file k m n at seen table r table' marks' says = go (lines file k true m n seen at) refl says
@@ -46,7 +47,7 @@ pub record LatchesHeld (m : ℕ) (seen table resets table' resets' marks' : List
   pub kept : resets' ≡ put resets 0 (map (reset_after 2) rows)
   pub agrees : Agrees m (seen_after true seen rows) marks'
 
-pub latches-told : (v : Version) (file : List ℕ) (m more n at : ℕ) (seen table resets : List ℕ) (r : Passed) (table' resets' marks' : List ℕ)
+pub latches-told : (v : Version) (file : List ℕ) (m more n at : ℕ) (seen table resets : List ℕ) (r : Result ℕ Refusal) (table' resets' marks' : List ℕ)
     → more ≡ more_resets v
     → LatchesSay true m 0 seen table resets (latch_lines file (latch_form 2 true more) m n 0 seen at) r table' resets' marks'
     → Answered (LatchesHeld m seen table resets table' resets' marks') (latch_lines file (latch_form 2 true (more_resets v)) m n 0 seen at) r

@@ -1,9 +1,7 @@
 -- Lines of latches, whether they define, as in text, or not, as in binary: their numbers, and what reading them leaves.
-use Rattle.std.specs.Prelude.{ℕ, ◌+◌, ◌≤◌, ◌<◌, ◌≡◌, Bool, true, false, cond, List, [], ◌∷◌, map, get_or, take, drop}
-use Rattle.std.proofs.Math.Option.{Option, none, some}
+use Rattle.std.specs.Prelude.{ℕ, ◌+◌, ◌≤◌, ◌<◌, ◌≡◌, Bool, true, false, cond, List, [], ◌∷◌, map, get_or, take, drop, Result, Ok, Err, Option, Some, None}
+use Rattle.plan.specs.declared.Refusal.{Refusal}
 use Rattle.plan.specs.declared.Refusal.TheVariants.{OutOfRange}
-use Rattle.plan.specs.declared.Passed.{Passed}
-use Rattle.plan.specs.declared.Passed.TheVariants.{To, Refused}
 use Rattle.plan.specs.Literals.{lit_of, in_range, is_reset}
 use Rattle.plan.specs.Refusals.{Parse, got, refused, ◌then◌, unless}
 use Rattle.plan.specs.Circuit.{Latch, latch_line, latch_of, literal_of, flat}
@@ -27,7 +25,7 @@ frame_of false own row = own ∷ get_or row 0 0 ∷ get_or row 1 0 ∷ []
 -- the place of the first of three numbers that is out of its range
 abbrev pub judged : ℕ → ℕ → ℕ → ℕ → ℕ → ℕ → ℕ → Option ℕ
 judged m own next reset p q r =
-    cond (in_range true m own) (cond (in_range false m next) (cond (is_reset own reset) none (some r)) (some q)) (some p)
+    cond (in_range true m own) (cond (in_range false m next) (cond (is_reset own reset) None (Some r)) (Some q)) (Some p)
 
 -- one line by 1 and 5
 abbrev pub faults : Bool → ℕ → ℕ → List Placed → Option ℕ
@@ -59,9 +57,9 @@ OwnAll false m first n = (0 < first) × (first + n ≤ m + 1)
 
 -- what n lines leave: the latches and their resets from the start of their tables, and marks of all that is
 -- defined; after a refusal only the refusal counts
-abbrev pub LatchesSay : Bool → ℕ → ℕ → List ℕ → List ℕ → List ℕ → Parse (List (List ℕ)) → Passed → List ℕ → List ℕ
+abbrev pub LatchesSay : Bool → ℕ → ℕ → List ℕ → List ℕ → List ℕ → Parse (List (List ℕ)) → Result ℕ Refusal → List ℕ → List ℕ
     → List ℕ → Type 0
 LatchesSay d m v seen table resets (got rows next) r table' resets' marks' =
-    (r ≡ To next) × (table' ≡ put table 0 (flat (map latch_line (latches_in d v rows))))
+    (r ≡ Ok next) × (table' ≡ put table 0 (flat (map latch_line (latches_in d v rows))))
     × (resets' ≡ put resets 0 (map (reset_after (literals d)) rows)) × Agrees m (seen_after d seen rows) marks'
-LatchesSay d m v seen table resets (refused r') r table' resets' marks' = r ≡ Refused r'
+LatchesSay d m v seen table resets (refused r') r table' resets' marks' = r ≡ Err r'

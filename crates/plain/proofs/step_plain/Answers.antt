@@ -3,14 +3,14 @@
 use Prim.Native.Nat.{ℕ}
 use mathlib.Core.Path.{◌≡◌, sym, ap, ◌∙◌}
 use lib.ListN.{length, replicate}
-use Rattle.plan.specs.declared.Checked.TheVariants.{Good}
+use Rattle.std.specs.Prelude.{Ok}
 use Rattle.plan.specs.Circuit.{seven}
 use Rattle.plan.specs.Outcome.{StepEntry, check_in_order, step_stage}
-use Rattle.tables.proofs.Told.{some-table, no_table}
 use Rattle.step.proofs.Checks.{past-check, runs, room}
 use Rattle.step.proofs.Answers.{good-vectors, refused-vector, done-step}
 use Rattle.plain.proofs.Beyond.{refused-tables, refused-gates}
 use Rattle.plain.proofs.Answers.{same-engine, refused-plain, good-codes}
+use Rattle.laws.proofs.Pairs.{passed-on}
 use Rattle.plain.proofs.step_plain.Goals as goal
 
 pub returns-then-n-gt-TEACHING : goal.returns-then-n-gt-TEACHING
@@ -27,8 +27,8 @@ returns-then-n-gt-TEACHING c =
       inputs = a.ins.now;
       outputs = a.outs.now;
     } in
-    let told : c.judge_in_order.result ≡ Good =
-    c.in-Good.is in
+    let told : c.judge_in_order.result ≡ Ok tt =
+    c.in_ok-judge_in_order.was in
     let says : c.judge_in_order.result ≡ (check_in_order (entry).circuit).answer =
     c.judge_in_order.ensures.value in
     let same : length c.judge_in_order.new.scratch ≡ length c.args.scratch.now =
@@ -37,8 +37,8 @@ returns-then-n-gt-TEACHING c =
     let zero = c.clear.ensures ∙ ap (λ (k : ℕ). replicate k 0) (same) in
     refused-plain e _ zero _ (refused-gates e.circuit (step_stage e) (says) (told) c.if-n-gt-TEACHING.true)
 
-pub returns-then-bad-ne0 : goal.returns-then-bad-ne0
-returns-then-bad-ne0 c =
+pub returns-in-Some : goal.returns-in-Some
+returns-in-Some c =
     let entry : StepEntry =
     let a = c.args in
     record {
@@ -51,16 +51,16 @@ returns-then-bad-ne0 c =
       inputs = a.ins.now;
       outputs = a.outs.now;
     } in
-    let told : c.judge_in_order.result ≡ Good =
-    c.in-Good.is in
+    let told : c.judge_in_order.result ≡ Ok tt =
+    c.in_ok-judge_in_order.was in
     let says : c.judge_in_order.result ≡ (check_in_order (entry).circuit).answer =
     c.judge_in_order.ensures.value in
     let same : length c.judge_in_order.new.scratch ≡ length c.args.scratch.now =
     c.judge_in_order.auto.scratch in
     let e = entry in
-    let zero = c.clear-then-bad-ne0.ensures ∙ ap (λ (k : ℕ). replicate k 0) (same) in
+    let zero = c.clear-in-Some.ensures ∙ ap (λ (k : ℕ). replicate k 0) (same) in
     refused-vector e _ zero (past-check e.circuit (step_stage e) (says) (told)) _
-    (some-table _ _ c.if-bad-ne0.true c.bad_vector-bad.ensures)
+    (sym c.bad_vector.ensures ∙ c.in-Some.is)
     ∙ sym (same-engine e c.if-n-gt-TEACHING.false)
 
 pub plain_vectors-requires : goal.plain_vectors-requires
@@ -77,14 +77,14 @@ plain_vectors-requires c =
       inputs = a.ins.now;
       outputs = a.outs.now;
     } in
-    let told : c.judge_in_order.result ≡ Good =
-    c.in-Good.is in
+    let told : c.judge_in_order.result ≡ Ok tt =
+    c.in_ok-judge_in_order.was in
     let says : c.judge_in_order.result ≡ (check_in_order (entry).circuit).answer =
     c.judge_in_order.ensures.value in
     let same : length c.judge_in_order.new.scratch ≡ length c.args.scratch.now =
     c.judge_in_order.auto.scratch in
     let e = entry in
-    let none-bad = no_table _ _ c.if-bad-ne0.false c.bad_vector-bad.ensures in
+    let none-bad = sym c.bad_vector.ensures ∙ c.in_default.is in
     record {
       room = room e.circuit (step_stage e) says told _ same;
       vectors = good-vectors e none-bad;
@@ -92,8 +92,8 @@ plain_vectors-requires c =
       ins_value = (good-codes e none-bad).1;
     }
 
-pub returns-in-Refused : goal.returns-in-Refused
-returns-in-Refused c =
+pub returns-in_err-judge_in_order : goal.returns-in_err-judge_in_order
+returns-in_err-judge_in_order c =
     let entry : StepEntry =
     let a = c.args in
     record {
@@ -107,12 +107,13 @@ returns-in-Refused c =
       outputs = a.outs.now;
     } in
     let e = entry in
-    let refused = c.in-Refused.is in
+    let refused = c.in_err-judge_in_order.was in
+    rw (passed-on _ c.from_residual.ensures.1) (
     refused-plain e _ (c.judge_in_order.ensures.scratch_after _ refused) _
-    (refused-tables e.circuit (step_stage e) c.judge_in_order.ensures.value _ refused)
+    (refused-tables e.circuit (step_stage e) c.judge_in_order.ensures.value _ refused))
 
-pub returns-else-bad-ne0 : goal.returns-else-bad-ne0
-returns-else-bad-ne0 c =
+pub returns : goal.returns
+returns c =
     let entry : StepEntry =
     let a = c.args in
     record {
@@ -125,15 +126,15 @@ returns-else-bad-ne0 c =
       inputs = a.ins.now;
       outputs = a.outs.now;
     } in
-    let told : c.judge_in_order.result ≡ Good =
-    c.in-Good.is in
+    let told : c.judge_in_order.result ≡ Ok tt =
+    c.in_ok-judge_in_order.was in
     let says : c.judge_in_order.result ≡ (check_in_order (entry).circuit).answer =
     c.judge_in_order.ensures.value in
     let same : length c.judge_in_order.new.scratch ≡ length c.args.scratch.now =
     c.judge_in_order.auto.scratch in
     let e = entry in
-    let zero = c.clear-in-Good.ensures ∙ ap (λ (k : ℕ). replicate k 0) (c.plain_vectors.auto.scratch ∙ same) in
+    let zero = c.clear-2.ensures ∙ ap (λ (k : ℕ). replicate k 0) (c.plain_vectors.auto.scratch ∙ same) in
     done-step e _ zero (past-check e.circuit (step_stage e) (says) (told))
-    (no_table _ _ c.if-bad-ne0.false c.bad_vector-bad.ensures) _ _
+    (sym c.bad_vector.ensures ∙ c.in_default.is) _ _
     (c.plain_vectors.ensures e.circuit.tables (runs e.circuit (step_stage e) (says) (told)))
     ∙ sym (same-engine e c.if-n-gt-TEACHING.false)

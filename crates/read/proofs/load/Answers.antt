@@ -13,37 +13,37 @@ use Rattle.read.proofs.load.Goals as goal
 pub fill-read-requires : goal.fill-read-requires
 fill-read-requires c = λ i. ap (λ (l : List ℕ). get_or l i 0) c.clear.ensures ∙ zeros (length c.args.scratch.now) i
 
-pub shape_of-inputs-in-Refused : goal.shape_of-inputs-in-Refused
-shape_of-inputs-in-Refused c =
-    c.clear_all-in-Refused.auto.inputs ∙ (c.fill-read.auto.inputs ∙ c.clear_all.auto.inputs)
+pub shape_of-inputs-in-Err : goal.shape_of-inputs-in-Err
+shape_of-inputs-in-Err c =
+    c.clear_all-in-Err.auto.inputs ∙ (c.fill-read.auto.inputs ∙ c.clear_all.auto.inputs)
 
-pub shape_of-latches-in-Refused : goal.shape_of-latches-in-Refused
-shape_of-latches-in-Refused c =
-    c.clear_all-in-Refused.auto.latches ∙ (c.fill-read.auto.latches ∙ c.clear_all.auto.latches)
+pub shape_of-latches-in-Err : goal.shape_of-latches-in-Err
+shape_of-latches-in-Err c =
+    c.clear_all-in-Err.auto.latches ∙ (c.fill-read.auto.latches ∙ c.clear_all.auto.latches)
 
-pub shape_of-outputs-in-Refused : goal.shape_of-outputs-in-Refused
-shape_of-outputs-in-Refused c =
-    c.clear_all-in-Refused.auto.outputs ∙ (c.fill-read.auto.outputs ∙ c.clear_all.auto.outputs)
+pub shape_of-outputs-in-Err : goal.shape_of-outputs-in-Err
+shape_of-outputs-in-Err c =
+    c.clear_all-in-Err.auto.outputs ∙ (c.fill-read.auto.outputs ∙ c.clear_all.auto.outputs)
 
-pub shape_of-gates-in-Refused : goal.shape_of-gates-in-Refused
-shape_of-gates-in-Refused c = c.clear_all-in-Refused.auto.gates ∙ (c.fill-read.auto.gates ∙ c.clear_all.auto.gates)
+pub shape_of-gates-in-Err : goal.shape_of-gates-in-Err
+shape_of-gates-in-Err c = c.clear_all-in-Err.auto.gates ∙ (c.fill-read.auto.gates ∙ c.clear_all.auto.gates)
 
-pub shape_of-resets-in-Refused : goal.shape_of-resets-in-Refused
-shape_of-resets-in-Refused c =
-    c.clear_all-in-Refused.auto.resets ∙ (c.fill-read.auto.resets ∙ c.clear_all.auto.resets)
+pub shape_of-resets-in-Err : goal.shape_of-resets-in-Err
+shape_of-resets-in-Err c =
+    c.clear_all-in-Err.auto.resets ∙ (c.fill-read.auto.resets ∙ c.clear_all.auto.resets)
 
-pub shape_of-bads-in-Refused : goal.shape_of-bads-in-Refused
-shape_of-bads-in-Refused c = c.clear_all-in-Refused.auto.bads ∙ (c.fill-read.auto.bads ∙ c.clear_all.auto.bads)
+pub shape_of-bads-in-Err : goal.shape_of-bads-in-Err
+shape_of-bads-in-Err c = c.clear_all-in-Err.auto.bads ∙ (c.fill-read.auto.bads ∙ c.clear_all.auto.bads)
 
-pub shape_of-constraints-in-Refused : goal.shape_of-constraints-in-Refused
-shape_of-constraints-in-Refused c =
-    c.clear_all-in-Refused.auto.constraints ∙ (c.fill-read.auto.constraints ∙ c.clear_all.auto.constraints)
+pub shape_of-constraints-in-Err : goal.shape_of-constraints-in-Err
+shape_of-constraints-in-Err c =
+    c.clear_all-in-Err.auto.constraints ∙ (c.fill-read.auto.constraints ∙ c.clear_all.auto.constraints)
 
-pub shape_of-scratch-in-Refused : goal.shape_of-scratch-in-Refused
-shape_of-scratch-in-Refused c = c.clear-2.auto.table ∙ (c.fill-read.auto.scratch ∙ c.clear.auto.table)
+pub shape_of-scratch-in-Err : goal.shape_of-scratch-in-Err
+shape_of-scratch-in-Err c = c.clear-2.auto.table ∙ (c.fill-read.auto.scratch ∙ c.clear.auto.table)
 
-pub returns-in-Refused : goal.returns-in-Refused
-returns-in-Refused c =
+pub returns-in-Err : goal.returns-in-Err
+returns-in-Err c =
     let a = c.args in
     let t : Tables = seven a.inputs.now a.latches.now a.outputs.now a.gates.now a.resets.now a.bads.now a.constraints.now in
     let e : ReadEntry = record { file = a.file.now; tables = t; scratch = a.scratch.now } in
@@ -58,7 +58,7 @@ returns-in-Refused c =
     (c.fill-read.auto.bads ∙ c.clear_all.auto.bads) (c.fill-read.auto.constraints ∙ c.clear_all.auto.constraints) in
     load-refused a.version e T t' S _ c.clear_all.ensures c.clear.ensures c.fill-read.ensures _
     (c.clear-2.ensures ∙ same-cleared c.fill-read.new.scratch a.scratch.now wide) _
-    c.in-Refused.is _ (c.clear_all-in-Refused.ensures ∙ back)
+    c.in-Err.is _ (c.clear_all-in-Err.ensures ∙ back)
 
 pub shape_of-inputs : goal.shape_of-inputs
 shape_of-inputs c = c.fill-read.auto.inputs ∙ c.clear_all.auto.inputs

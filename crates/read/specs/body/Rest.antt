@@ -1,12 +1,9 @@
 -- What follows the header and 4: the body, the tail, then 7 and 8; and what the reader leaves in its tables.
-use Rattle.std.specs.Prelude.{ℕ, ◌+◌, ◌*◌, ◌≤◌, ◌≡◌, List, [], ◌∷◌, length, get_or}
+use Rattle.std.specs.Prelude.{ℕ, ◌+◌, ◌*◌, ◌≤◌, ◌≡◌, List, [], ◌∷◌, length, get_or, Result, Ok, Err, Option}
 use Rattle.plan.specs.declared.Counts.{Counts}
 use Rattle.plan.specs.declared.Version.{Version}
-use Rattle.std.proofs.Math.Option.{Option}
 use Rattle.plan.specs.declared.Refusal.{Refusal}
 use Rattle.plan.specs.declared.Refusal.TheVariants.{NotDefined, Cyclic}
-use Rattle.plan.specs.declared.Loaded.{Loaded}
-use Rattle.plan.specs.declared.Loaded.TheVariants.{Accepted, Refused}
 use Rattle.plan.specs.Literals.{most}
 use Rattle.plan.specs.Refusals.{Parse, got, refused, ◌then◌, unless, stage, first_of}
 use Rattle.plan.specs.Circuit.{Circuit, Tables, counts_of}
@@ -49,6 +46,6 @@ pub record Room (form : Form) (n : Counts) (t : Tables) (scratch : List ℕ) : T
   pub words : scratch_to_read form n ≤ length scratch
   pub blank : (i : ℕ) → get_or scratch i 0 ≡ 0
 
-abbrev pub LoadedSays : Tables → Parse Circuit → Loaded → Tables → Type 0
-LoadedSays t (got c start) r t' = (r ≡ Accepted (counts_of c) start) × Holds t c t'
-LoadedSays t (refused r') r t' = r ≡ Refused r'
+abbrev pub LoadedSays : Tables → Parse Circuit → Result (Counts × ℕ) Refusal → Tables → Type 0
+LoadedSays t (got c start) r t' = (r ≡ Ok (counts_of c, start)) × Holds t c t'
+LoadedSays t (refused r') r t' = r ≡ Err r'

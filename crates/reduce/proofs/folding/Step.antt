@@ -1,8 +1,8 @@
 -- One gate more: a literal stands in for it, or it is retained.
 use mathlib.Core.Path.{◌≡◌, refl, sym, ap, ap₂, ◌∙◌, subst}
-use mathlib.Core.Option.{Option, none, some}
 use mathlib.Core.Bool.{Bool, true, false, cond}
 use mathlib.Core.List.{List, [], ◌∷◌, ◌++◌}
+use Rattle.std.specs.Prelude.{Option, Some, None}
 use Prim.Native.Nat.{ℕ, suc, ◌+◌, ◌*◌, ◌<◌, ◌≤◌, min, max}
 use native.Mathlib.Omega.{arith}
 use native.Mathlib.Numerals.{add-one}
@@ -108,21 +108,21 @@ module _ {gates to scratch : List ℕ} {base w k n : ℕ} (s : Held gates to scr
       ∙ ap (λ (x : List ℕ). x ++ (l ∷ [])) (same ∙ s.became)
 
   -- a literal stands in
-  pub stands : (l : ℕ) → stand_in left right (named base to n) ≡ some l → Stepped gates to to (set scratch (base + k) l) base w k n n
+  pub stands : (l : ℕ) → stand_in left right (named base to n) ≡ Some l → Stepped gates to to (set scratch (base + k) l) base w k n n
   stands l e = record {
     more = omega arith;
     held = record {
       count = omega (arith, s.count);
-      became = took scratch l refl refl ∙ sym (ap (λ (x : Reduced). x.became) (step (some l) e));
-      retained = s.retained ∙ sym (ap (λ (x : Reduced). x.retained) (step (some l) e));
-      fresh = ap (λ (x : Reduced). x.fresh) (step (some l) e) ∙ s.fresh;
+      became = took scratch l refl refl ∙ sym (ap (λ (x : Reduced). x.became) (step (Some l) e));
+      retained = s.retained ∙ sym (ap (λ (x : Reduced). x.retained) (step (Some l) e));
+      fresh = ap (λ (x : Reduced). x.fresh) (step (Some l) e) ∙ s.fresh;
       tree = word-before to scratch w n (base + k) l r.within s.tree;
     };
     past = refl;
   }
 
   -- the gate is retained
-  module _ {slot : ℕ} (new : stand_in left right (named base to n) ≡ none)
+  module _ {slot : ℕ} (new : stand_in left right (named base to n) ≡ None)
       (hangs : Hangs to scratch w n (max left right) (min left right) slot)
     where
       abbrev to' : List ℕ
@@ -153,8 +153,8 @@ module _ {gates to scratch : List ℕ} {base w k n : ℕ} (s : Held gates to scr
               (omega (arith, slot-over to scratch w n (max left right) (min left right) slot root hangs, r.within))
           go false = refl
 
-      E : folded gates base (k + 1) ≡ retain R left right none
-      E = step none new
+      E : folded gates base (k + 1) ≡ retain R left right None
+      E = step None new
 
       pub retained : Stepped gates to to' (set scratch' (base + k) (lit_of (base + n))) base w k n (n + 1)
       retained = record {

@@ -1,8 +1,8 @@
 -- The earliest gate with a pair, by its place in a table, which tells the twin's left side.
 use mathlib.Core.Path.{◌≡◌, refl, sym, ap, ap₂, ◌∙◌}
 use mathlib.Core.Bool.{Bool, true, false, ◌&&◌, cond}
-use mathlib.Core.Option.{Option, none, some}
 use mathlib.Core.List.{List, [], ◌∷◌, ◌++◌}
+use Rattle.std.specs.Prelude.{Option, Some, None}
 use Prim.Native.Nat.{ℕ, zero, suc, ◌+◌, ◌<◌, ◌≤◌}
 use native.Mathlib.Omega.{arith}
 use native.Mathlib.Nat.{not-suc-le-zero}
@@ -29,21 +29,21 @@ earliest t x y (suc n) = or_first (earliest t x y n) (cond (same t x y n) (suc n
 
 -- the left side of a gate that is counted from 1
 abbrev pub left_of : ℕ → ℕ → Option ℕ
-left_of base zero = none
-left_of base (suc i) = some (lit_of (base + i))
+left_of base zero = None
+left_of base (suc i) = Some (lit_of (base + i))
 
 abbrev or_some : Option ℕ → Option ℕ → Option ℕ
-or_some none o = o
-or_some (some l) o = some l
+or_some None o = o
+or_some (Some l) o = Some l
 
 twin-snoc : (x y : ℕ) (gs : List Gate) (g : Gate)
-    → twin x y (gs ++ (g ∷ [])) ≡ or_some (twin x y gs) (cond (sides x y g) (some g.lhs) none)
+    → twin x y (gs ++ (g ∷ [])) ≡ or_some (twin x y gs) (cond (sides x y g) (Some g.lhs) None)
 twin-snoc x y [] g = refl
 twin-snoc x y (k ∷ gs) g = go (sides x y k) (twin-snoc x y gs g)
   where
-    go : (q : Bool) → twin x y (gs ++ (g ∷ [])) ≡ or_some (twin x y gs) (cond (sides x y g) (some g.lhs) none)
-        → cond q (some k.lhs) (twin x y (gs ++ (g ∷ [])))
-        ≡ or_some (cond q (some k.lhs) (twin x y gs)) (cond (sides x y g) (some g.lhs) none)
+    go : (q : Bool) → twin x y (gs ++ (g ∷ [])) ≡ or_some (twin x y gs) (cond (sides x y g) (Some g.lhs) None)
+        → cond q (Some k.lhs) (twin x y (gs ++ (g ∷ [])))
+        ≡ or_some (cond q (Some k.lhs) (twin x y gs)) (cond (sides x y g) (Some g.lhs) None)
     go true h = refl
     go false h = h
 
@@ -51,10 +51,10 @@ pub twin-earliest : (base : ℕ) (t : List ℕ) (x y n : ℕ) → twin x y (name
 twin-earliest base t x y zero = refl
 twin-earliest base t x y (suc n) =
     twin-snoc x y (named base t n) (named_at base t n)
-    ∙ ap (λ (o : Option ℕ). or_some o (cond (same t x y n) (some (lit_of (base + n))) none)) (twin-earliest base t x y n)
+    ∙ ap (λ (o : Option ℕ). or_some o (cond (same t x y n) (Some (lit_of (base + n))) None)) (twin-earliest base t x y n)
     ∙ go (earliest t x y n) (same t x y n)
   where
-    go : (e : ℕ) (q : Bool) → or_some (left_of base e) (cond q (some (lit_of (base + n))) none) ≡ left_of base (or_first e (cond q (suc n) 0))
+    go : (e : ℕ) (q : Bool) → or_some (left_of base e) (cond q (Some (lit_of (base + n))) None) ≡ left_of base (or_first e (cond q (suc n) 0))
     go zero true = refl
     go zero false = refl
     go (suc e) q = refl

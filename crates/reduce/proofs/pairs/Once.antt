@@ -1,8 +1,8 @@
 -- What a search answers is fixed: the tree has one place for a pair, and that is one slot.
 use mathlib.Core.Path.{◌≡◌, refl, sym, ap, ap₂, ◌∙◌}
 use mathlib.Core.Bool.{Bool, true, false}
-use mathlib.Core.Option.{Option, none, some}
 use mathlib.Core.List.{List}
+use Rattle.std.specs.Prelude.{Option, Some, None}
 use Prim.Native.Nat.{ℕ, ◌≤◌}
 use native.Mathlib.Omega.{arith}
 use borrow.Author.Tests.{leb-true, leb-false}
@@ -25,9 +25,9 @@ slot-once w n few (Under i c) (Root b) h k e = absurd (omega (arith, k, e, link-
 slot-once w n few (Under i c) (Under j d) h k e =
     let is = link-inj w i j c d (omega (arith, h.0)) (omega (arith, k.0)) h.1 k.1 e in ap₂ Under is.0 is.1
 
-some-none : {l : ℕ} {o : Option ℕ} → o ≡ some l → o ≡ none → ⊥
+some-none : {l : ℕ} {o : Option ℕ} → o ≡ Some l → o ≡ None → ⊥
 some-none {l} e f =
-    let s : ◌≡◌ {A = Option ℕ} (some l) none = sym e ∙ f in
+    let s : ◌≡◌ {A = Option ℕ} (Some l) None = sym e ∙ f in
     let z : ◌≡◌ {A = ℕ} 0 1 = cc in
     omega arith
 
@@ -57,7 +57,7 @@ module _ {gates scratch : List ℕ} {w n x y : ℕ} (tree : Tree gates scratch w
   pub sought-once : (base : ℕ) (p r : Place) → Sought gates scratch base w n x y p → Sought gates scratch base w n x y r → p ≡ r
   sought-once base (Taken l) (Taken m) f g = ap Taken (inner (sym f ∙ g))
     where
-      inner : {l m : ℕ} → ◌≡◌ {A = Option ℕ} (some l) (some m) → l ≡ m
+      inner : {l m : ℕ} → ◌≡◌ {A = Option ℕ} (Some l) (Some m) → l ≡ m
       inner e = cc
   sought-once base (Taken l) (Free t) f g = absurd (some-none f g.0)
   sought-once base (Free s) (Taken m) f g = absurd (some-none g f.0)

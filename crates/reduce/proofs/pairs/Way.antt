@@ -1,8 +1,8 @@
 -- The way of a search along a pair's path.
 use mathlib.Core.Path.{◌≡◌, refl, sym, ap, ap₂, ◌∙◌}
 use mathlib.Core.Bool.{Bool, true, false, cond, false≢true}
-use mathlib.Core.Option.{none}
 use mathlib.Core.List.{List}
+use Rattle.std.specs.Prelude.{None}
 use Prim.Native.Nat.{ℕ, zero, suc, ◌+◌, ◌-◌, ◌/◌, ◌%◌, ◌<◌, ◌≤◌}
 use native.Mathlib.Omega.{arith}
 use borrow.Author.Tests.{eqb-true}
@@ -70,7 +70,7 @@ module _ {gates scratch : List ℕ} {w n x y : ℕ} (tree : Tree gates scratch w
 
     -- no gate is left on the path
     pub way_out : (base : ℕ) → word gates scratch w slot ≡ 0
-        → (twin x y (named base gates n) ≡ none) × Hangs gates scratch w n x y slot
+        → (twin x y (named base gates n) ≡ None) × Hangs gates scratch w n x y slot
     way_out base e =
         let z : first_on S q v.k n ≡ 0 = sym leads ∙ e in
         let no-gate : earliest gates x y n ≡ 0

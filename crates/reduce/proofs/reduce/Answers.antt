@@ -8,6 +8,7 @@ use Rattle.plan.specs.Literals.{most}
 use Rattle.plan.specs.Circuit.{Circuit, Tables, seven, circuit_of, all_cleared}
 use Rattle.plan.specs.Given.{Given}
 use Rattle.plan.specs.Reduce.{reduce}
+use Rattle.laws.proofs.Pairs.{passed-on}
 use Rattle.laws.proofs.Running.Counts.{counts-reduce}
 use Rattle.judge.specs.Judged.{given_at}
 use Rattle.reduce.proofs.Reducing.{Ready, foldable, inputs_in, latches-in, outputs-in, resets-in, bads-in, constraints-in}
@@ -36,11 +37,11 @@ overflow_add-n c =
     c.check_to_make.ensures (lent)
     (c.lengths-to.ensures ∙ sizes-cleared (lent) (wiped) (all-wiped)) in
     let core : Ready (given (blank)) (wiped) =
-    ready (circuit) (lent) c.check_to_make.result (blank) (judged) c.in-Good.is (wiped) (all-wiped) in
+    ready (circuit) (lent) c.check_to_make.result (blank) (judged) c.in_ok-check_to_make.was (wiped) (all-wiped) in
     let f = (core).good.fits in record { fits = omega (arith, f.sum, f.most-M) }
 
-pub overflow_add-n-in-Good : goal.overflow_add-n-in-Good
-overflow_add-n-in-Good c =
+pub overflow_add-n-2 : goal.overflow_add-n-2
+overflow_add-n-2 c =
     let given : List ℕ → Given =
     λ scratch. let a = c.args in
     given_at a.n (seven a.inputs.now a.latches.now a.outputs.now a.gates.now a.resets.now
@@ -60,7 +61,7 @@ overflow_add-n-in-Good c =
     c.check_to_make.ensures (lent)
     (c.lengths-to.ensures ∙ sizes-cleared (lent) (wiped) (all-wiped)) in
     let core : Ready (given (blank)) (wiped) =
-    ready (circuit) (lent) c.check_to_make.result (blank) (judged) c.in-Good.is (wiped) (all-wiped) in
+    ready (circuit) (lent) c.check_to_make.result (blank) (judged) c.in_ok-check_to_make.was (wiped) (all-wiped) in
     let f = (core).good.fits in record { fits = omega (arith, f.sum, f.most-M) }
 
 pub fold_gates-retained-requires : goal.fold_gates-retained-requires
@@ -84,7 +85,7 @@ fold_gates-retained-requires c =
     c.check_to_make.ensures (lent)
     (c.lengths-to.ensures ∙ sizes-cleared (lent) (wiped) (all-wiped)) in
     let core : Ready (given (blank)) (wiped) =
-    ready (circuit) (lent) c.check_to_make.result (blank) (judged) c.in-Good.is (wiped) (all-wiped) in
+    ready (circuit) (lent) c.check_to_make.result (blank) (judged) c.in_ok-check_to_make.was (wiped) (all-wiped) in
     foldable (given (blank)) (wiped) (core)
 
 pub overflow_mul-n : goal.overflow_mul-n
@@ -108,7 +109,7 @@ overflow_mul-n c =
     c.check_to_make.ensures (lent)
     (c.lengths-to.ensures ∙ sizes-cleared (lent) (wiped) (all-wiped)) in
     let core : Ready (given (blank)) (wiped) =
-    ready (circuit) (lent) c.check_to_make.result (blank) (judged) c.in-Good.is (wiped) (all-wiped) in
+    ready (circuit) (lent) c.check_to_make.result (blank) (judged) c.in_ok-check_to_make.was (wiped) (all-wiped) in
     let f = (core).good.fits in
     record { fits = omega (arith, f.sum, f.most-M) }
 
@@ -133,14 +134,14 @@ three_become-requires c =
     c.check_to_make.ensures (lent)
     (c.lengths-to.ensures ∙ sizes-cleared (lent) (wiped) (all-wiped)) in
     let core : Ready (given (blank)) (wiped) =
-    ready (circuit) (lent) c.check_to_make.result (blank) (judged) c.in-Good.is (wiped) (all-wiped) in
+    ready (circuit) (lent) c.check_to_make.result (blank) (judged) c.in_ok-check_to_make.was (wiped) (all-wiped) in
     let became : List ℕ =
     c.fold_gates-retained.new.scratch in
-    let size = c.scratch-in-Good-1.given in
+    let size = c.fold_gates-retained.auto.scratch in
     record { replaceable = inputs_in (given (blank)) (wiped) (core) (became) size; replaceable_2 = latches-in (given (blank)) (wiped) (core) (became) size; replaceable_3 = outputs-in (given (blank)) (wiped) (core) (became) size }
 
-pub three_become-requires-in-Good : goal.three_become-requires-in-Good
-three_become-requires-in-Good c =
+pub three_become-requires-2 : goal.three_become-requires-2
+three_become-requires-2 c =
     let given : List ℕ → Given =
     λ scratch. let a = c.args in
     given_at a.n (seven a.inputs.now a.latches.now a.outputs.now a.gates.now a.resets.now
@@ -160,10 +161,10 @@ three_become-requires-in-Good c =
     c.check_to_make.ensures (lent)
     (c.lengths-to.ensures ∙ sizes-cleared (lent) (wiped) (all-wiped)) in
     let core : Ready (given (blank)) (wiped) =
-    ready (circuit) (lent) c.check_to_make.result (blank) (judged) c.in-Good.is (wiped) (all-wiped) in
+    ready (circuit) (lent) c.check_to_make.result (blank) (judged) c.in_ok-check_to_make.was (wiped) (all-wiped) in
     let became : List ℕ =
     c.fold_gates-retained.new.scratch in
-    let size = c.scratch-in-Good-1.given in
+    let size = c.fold_gates-retained.auto.scratch in
     record { replaceable = resets-in (given (blank)) (wiped) (core) (became) size; replaceable_2 = bads-in (given (blank)) (wiped) (core) (became) size; replaceable_3 = constraints-in (given (blank)) (wiped) (core) (became) size }
 
 pub overflow_add-result : goal.overflow_add-result
@@ -187,7 +188,7 @@ overflow_add-result c =
     c.check_to_make.ensures (lent)
     (c.lengths-to.ensures ∙ sizes-cleared (lent) (wiped) (all-wiped)) in
     let core : Ready (given (blank)) (wiped) =
-    ready (circuit) (lent) c.check_to_make.result (blank) (judged) c.in-Good.is (wiped) (all-wiped) in
+    ready (circuit) (lent) c.check_to_make.result (blank) (judged) c.in_ok-check_to_make.was (wiped) (all-wiped) in
     let made : Circuit =
     let g = circuit in reduce (circuit_of g.counts g.tables) in
     let fewer : let g = circuit in length (made).gates ≤ length (circuit_of g.counts g.tables).gates =
@@ -195,13 +196,13 @@ overflow_add-result c =
     let became : List ℕ =
     c.fold_gates-retained.new.scratch in
     let sums : let a = c.args in a.n.I + a.n.L + c.fold_gates-retained.result ≤ most =
-    few (circuit) (lent) c.check_to_make.result (blank) (judged) c.in-Good.is (made) (fewer)
+    few (circuit) (lent) c.check_to_make.result (blank) (judged) c.in_ok-check_to_make.was (made) (fewer)
     c.fold_gates-retained.result
     (count (given (blank)) (wiped) (core) c.fold_gates-retained.new.to (became) c.fold_gates-retained.result c.fold_gates-retained.ensures) in
     omega (arith, sums)
 
-pub overflow_add-result-in-Good : goal.overflow_add-result-in-Good
-overflow_add-result-in-Good c =
+pub overflow_add-result-2 : goal.overflow_add-result-2
+overflow_add-result-2 c =
     let given : List ℕ → Given =
     λ scratch. let a = c.args in
     given_at a.n (seven a.inputs.now a.latches.now a.outputs.now a.gates.now a.resets.now
@@ -221,7 +222,7 @@ overflow_add-result-in-Good c =
     c.check_to_make.ensures (lent)
     (c.lengths-to.ensures ∙ sizes-cleared (lent) (wiped) (all-wiped)) in
     let core : Ready (given (blank)) (wiped) =
-    ready (circuit) (lent) c.check_to_make.result (blank) (judged) c.in-Good.is (wiped) (all-wiped) in
+    ready (circuit) (lent) c.check_to_make.result (blank) (judged) c.in_ok-check_to_make.was (wiped) (all-wiped) in
     let made : Circuit =
     let g = circuit in reduce (circuit_of g.counts g.tables) in
     let fewer : let g = circuit in length (made).gates ≤ length (circuit_of g.counts g.tables).gates =
@@ -229,37 +230,13 @@ overflow_add-result-in-Good c =
     let became : List ℕ =
     c.fold_gates-retained.new.scratch in
     let sums : let a = c.args in a.n.I + a.n.L + c.fold_gates-retained.result ≤ most =
-    few (circuit) (lent) c.check_to_make.result (blank) (judged) c.in-Good.is (made) (fewer)
+    few (circuit) (lent) c.check_to_make.result (blank) (judged) c.in_ok-check_to_make.was (made) (fewer)
     c.fold_gates-retained.result
     (count (given (blank)) (wiped) (core) c.fold_gates-retained.new.to (became) c.fold_gates-retained.result c.fold_gates-retained.ensures) in
     omega (arith, sums)
 
-pub shape_of-to_inputs-in-Refused : goal.shape_of-to_inputs-in-Refused
-shape_of-to_inputs-in-Refused c = c.clear_all.auto.inputs
-
-pub shape_of-to_latches-in-Refused : goal.shape_of-to_latches-in-Refused
-shape_of-to_latches-in-Refused c = c.to_latches-1.given
-
-pub shape_of-to_outputs-in-Refused : goal.shape_of-to_outputs-in-Refused
-shape_of-to_outputs-in-Refused c = c.to_outputs-1.given
-
-pub shape_of-to_gates-in-Refused : goal.shape_of-to_gates-in-Refused
-shape_of-to_gates-in-Refused c = c.to_gates-1.given
-
-pub shape_of-to_resets-in-Refused : goal.shape_of-to_resets-in-Refused
-shape_of-to_resets-in-Refused c = c.to_resets-1.given
-
-pub shape_of-to_bads-in-Refused : goal.shape_of-to_bads-in-Refused
-shape_of-to_bads-in-Refused c = c.to_bads-1.given
-
-pub shape_of-to_constraints-in-Refused : goal.shape_of-to_constraints-in-Refused
-shape_of-to_constraints-in-Refused c = c.to_constraints-1.given
-
-pub shape_of-scratch-in-Refused : goal.shape_of-scratch-in-Refused
-shape_of-scratch-in-Refused c = c.check_to_make.auto.scratch
-
-pub returns-in-Refused : goal.returns-in-Refused
-returns-in-Refused c =
+pub returns-in_err-check_to_make : goal.returns-in_err-check_to_make
+returns-in_err-check_to_make c =
     let given : List ℕ → Given =
     λ scratch. let a = c.args in
     given_at a.n (seven a.inputs.now a.latches.now a.outputs.now a.gates.now a.resets.now
@@ -278,44 +255,11 @@ returns-in-Refused c =
     let judged : Judged (circuit) (lent) c.check_to_make.result (blank) =
     c.check_to_make.ensures (lent)
     (c.lengths-to.ensures ∙ sizes-cleared (lent) (wiped) (all-wiped)) in
-    refused (circuit) (lent) c.check_to_make.result (blank) (judged) _ _ c.in-Refused.is (wiped) (all-wiped)
+    rw (passed-on _ c.from_residual.ensures.1)
+    (refused (circuit) (lent) c.check_to_make.result (blank) (judged) _ _ c.in_err-check_to_make.was (wiped) (all-wiped))
 
-pub shape_of-to_inputs-in-Good : goal.shape_of-to_inputs-in-Good
-shape_of-to_inputs-in-Good c =
-    c.three_become.auto.to_a
-    ∙ c.clear_all.auto.inputs
-
-pub shape_of-to_latches-in-Good : goal.shape_of-to_latches-in-Good
-shape_of-to_latches-in-Good c =
-    c.to_latches-in-Good-1.given
-    ∙ c.to_latches-1.given
-
-pub shape_of-to_outputs-in-Good : goal.shape_of-to_outputs-in-Good
-shape_of-to_outputs-in-Good c =
-    c.to_outputs-in-Good-1.given
-    ∙ c.to_outputs-1.given
-
-pub shape_of-to_gates-in-Good : goal.shape_of-to_gates-in-Good
-shape_of-to_gates-in-Good c =
-    c.fold_gates-retained.auto.to
-    ∙ c.to_gates-1.given
-
-pub shape_of-to_resets-in-Good : goal.shape_of-to_resets-in-Good
-shape_of-to_resets-in-Good c =
-    c.three_become-in-Good.auto.to_a
-    ∙ c.to_resets-1.given
-
-pub shape_of-to_bads-in-Good : goal.shape_of-to_bads-in-Good
-shape_of-to_bads-in-Good c = c.to_bads-in-Good-1.given ∙ c.to_bads-1.given
-
-pub shape_of-to_constraints-in-Good : goal.shape_of-to_constraints-in-Good
-shape_of-to_constraints-in-Good c = c.to_constraints-in-Good-1.given ∙ c.to_constraints-1.given
-
-pub shape_of-scratch-in-Good : goal.shape_of-scratch-in-Good
-shape_of-scratch-in-Good c = c.clear.auto.table ∙ c.scratch-in-Good-1.given ∙ c.check_to_make.auto.scratch
-
-pub returns-in-Good : goal.returns-in-Good
-returns-in-Good c =
+pub returns : goal.returns
+returns c =
     let given : List ℕ → Given =
     λ scratch. let a = c.args in
     given_at a.n (seven a.inputs.now a.latches.now a.outputs.now a.gates.now a.resets.now
@@ -335,7 +279,7 @@ returns-in-Good c =
     c.check_to_make.ensures (lent)
     (c.lengths-to.ensures ∙ sizes-cleared (lent) (wiped) (all-wiped)) in
     let core : Ready (given (blank)) (wiped) =
-    ready (circuit) (lent) c.check_to_make.result (blank) (judged) c.in-Good.is (wiped) (all-wiped) in
+    ready (circuit) (lent) c.check_to_make.result (blank) (judged) c.in_ok-check_to_make.was (wiped) (all-wiped) in
     let made : Circuit =
     let g = circuit in reduce (circuit_of g.counts g.tables) in
     let fewer : let g = circuit in length (made).gates ≤ length (circuit_of g.counts g.tables).gates =
@@ -343,9 +287,9 @@ returns-in-Good c =
     let became : List ℕ =
     c.fold_gates-retained.new.scratch in
     let left = seven c.three_become.new.to_a c.three_become.new.to_b c.three_become.new.to_c c.fold_gates-retained.new.to
-    c.three_become-in-Good.new.to_a c.three_become-in-Good.new.to_b c.three_become-in-Good.new.to_c in
-    accepted (circuit) (lent) c.check_to_make.result (blank) (judged) c.in-Good.is (made) (fewer)
+    c.three_become-2.new.to_a c.three_become-2.new.to_b c.three_become-2.new.to_c in
+    accepted (circuit) (lent) c.check_to_make.result (blank) (judged) c.in_ok-check_to_make.was (made) (fewer)
     (counts-reduce (circuit_of (circuit).counts (circuit).tables)) (wiped) left c.fold_gates-retained.result (all-wiped)
     (written (given (blank)) (wiped) (core) c.fold_gates-retained.new.to (became) c.fold_gates-retained.result c.fold_gates-retained.ensures left c.three_become.ensures.to_a_after c.three_become.ensures.to_b_after
-    c.three_become.ensures.to_c_after refl c.three_become-in-Good.ensures.to_a_after c.three_become-in-Good.ensures.to_b_after c.three_become-in-Good.ensures.to_c_after)
-    (length (became)) _ c.scratch-in-Good-1.given c.clear.ensures
+    c.three_become.ensures.to_c_after refl c.three_become-2.ensures.to_a_after c.three_become-2.ensures.to_b_after c.three_become-2.ensures.to_c_after)
+    (length (became)) _ c.fold_gates-retained.auto.scratch c.clear.ensures

@@ -1,6 +1,5 @@
 -- Gates in a tree by their pair of right sides.
-use Rattle.std.specs.Prelude.{◌≡◌, true, cond, List, ℕ, zero, suc, ◌+◌, ◌-◌, ◌*◌, ◌/◌, ◌%◌, ◌<◌, ◌≤◌, ltb, length, get_or, set}
-use Rattle.std.proofs.Math.Option.{none, some}
+use Rattle.std.specs.Prelude.{◌≡◌, true, cond, List, ℕ, zero, suc, ◌+◌, ◌-◌, ◌*◌, ◌/◌, ◌%◌, ◌<◌, ◌≤◌, ltb, length, get_or, set, Some, None}
 use Rattle.plan.specs.Literals.{most, lit_of, var_of}
 use Rattle.plan.specs.Circuit.{Gate}
 use Rattle.plan.specs.Reduce.{twin}
@@ -82,9 +81,9 @@ Within w n (Under i bit) = (i < n) × (bit < 2)
 
 -- the earlier gate with the same pair, or where the gate is to hang
 abbrev pub Sought : List ℕ → List ℕ → ℕ → ℕ → ℕ → ℕ → ℕ → Place → Type 0
-Sought gates scratch base w n x y (Taken l) = twin x y (named base gates n) ≡ some l
+Sought gates scratch base w n x y (Taken l) = twin x y (named base gates n) ≡ Some l
 Sought gates scratch base w n x y (Free slot) =
-    (twin x y (named base gates n) ≡ none) × (Within w n slot × Hangs gates scratch w n x y (number_of w slot))
+    (twin x y (named base gates n) ≡ None) × (Within w n slot × Hangs gates scratch w n x y (number_of w slot))
 
 -- the sides of gate n of a table
 abbrev pub stored : List ℕ → ℕ → ℕ → ℕ → List ℕ

@@ -1,6 +1,6 @@
 -- Demand 3 for reports: after conversion and reduction, and with unused gates dropped, a list without x gives the same numbers, where no
 -- reset is x.
-use Prim.Native.Nat.{ℕ, ◌+◌}
+use Prim.Native.Nat.{ℕ}
 use mathlib.Core.Path.{◌≡◌, sym, ap, ap₂, ◌∙◌}
 use mathlib.Core.List.{List, [], ◌∷◌, ◌++◌}
 use lib.ListN.{length, length-map}

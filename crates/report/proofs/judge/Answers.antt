@@ -10,6 +10,7 @@ use Rattle.plan.specs.Circuit.{seven, cleared}
 use Rattle.plan.specs.Outcome.{CheckExit, check_in_order}
 use Rattle.plan.specs.Report.{ReportEntry}
 use Rattle.report.proofs.Checks.{refused-first, refused-long, refused-list, nothing-found}
+use Rattle.laws.proofs.Pairs.{passed-on}
 use Rattle.report.proofs.judge.Goals as goal
 
 pub returns-then-long : goal.returns-then-long
@@ -33,7 +34,7 @@ returns-then-long c =
     let few : (six : List ℕ) → c.args.words ≡ length six → c.too_few-short.result ≡ ltb (length six) (4 * (c.args.n.O + c.args.n.L)) =
     λ six q. c.too_few-short.ensures ∙ ap (λ (k : ℕ). ltb k (4 * (c.args.n.O + c.args.n.L))) q in
     let long = ltb-true _ _ c.if-long.true-raw in
-    record { by_index = λ six q. refused-long (entry six) (told six) (few six q) c.with_sixth.ensures c.in-Good.is long; scratch_after = blank }
+    record { by_index = λ six q. refused-long (entry six) (told six) (few six q) c.with_sixth.ensures c.in_ok-with_sixth.was long; scratch_after = blank }
 
 pub returns-then-broken : goal.returns-then-broken
 returns-then-broken c =
@@ -58,13 +59,13 @@ returns-then-broken c =
     let few' = ltb-false _ _ c.if-long.false-raw in
     record {
       by_index = λ six q.
-          refused-list (entry six) (told six) (few six q) c.with_sixth.ensures c.in-Good.is few'
+          refused-list (entry six) (told six) (few six q) c.with_sixth.ensures c.in_ok-with_sixth.was few'
           (sym c.whole_list-broken.ensures ∙ not-true _ c.if-broken.true-raw);
       scratch_after = blank;
     }
 
-pub returns-in-Refused : goal.returns-in-Refused
-returns-in-Refused c =
+pub returns-in_err-with_sixth : goal.returns-in_err-with_sixth
+returns-in_err-with_sixth c =
     let entry : List ℕ → ReportEntry =
     λ six. let a = c.args in
     record {
@@ -83,10 +84,10 @@ returns-in-Refused c =
     ap (λ (x : CheckExit). x.scratch) c.check_in_order-checked.ensures in
     let few : (six : List ℕ) → c.args.words ≡ length six → c.too_few-short.result ≡ ltb (length six) (4 * (c.args.n.O + c.args.n.L)) =
     λ six q. c.too_few-short.ensures ∙ ap (λ (k : ℕ). ltb k (4 * (c.args.n.O + c.args.n.L))) q in
-    record { by_index = λ six q. refused-first (entry six) (told six) (few six q) c.with_sixth.ensures _ c.in-Refused.is; scratch_after = blank }
+    record { by_index = λ six q. passed-on _ c.from_residual.ensures.1 ∙ refused-first (entry six) (told six) (few six q) c.with_sixth.ensures _ c.in_err-with_sixth.was; scratch_after = blank }
 
-pub returns-else-broken : goal.returns-else-broken
-returns-else-broken c =
+pub returns : goal.returns
+returns c =
     let entry : List ℕ → ReportEntry =
     λ six. let a = c.args in
     record {
@@ -108,7 +109,7 @@ returns-else-broken c =
     let few' = ltb-false _ _ c.if-long.false-raw in
     record {
       by_index = λ six q.
-          nothing-found (entry six) (told six) (few six q) c.with_sixth.ensures c.in-Good.is few'
+          nothing-found (entry six) (told six) (few six q) c.with_sixth.ensures c.in_ok-with_sixth.was few'
           (sym c.whole_list-broken.ensures ∙ not-false _ c.if-broken.false-raw);
       scratch_after = blank;
     }

@@ -1,6 +1,6 @@
 -- A needle's four words while a run goes on: the fourth holds the changes, and in its last two bits the word of the
 -- last value, 0 for none.
-use Rattle.std.specs.Prelude.{ℕ, zero, suc, ◌+◌, ◌*◌, ◌/◌, ◌%◌, ◌<◌, ◌≤◌, Bool, cond, List, [], ◌∷◌, eqb, length, get_or, take, drop}
+use Rattle.std.specs.Prelude.{ℕ, ◌+◌, ◌*◌, ◌/◌, ◌%◌, ◌<◌, ◌≤◌, cond, List, [], ◌∷◌, eqb, length, get_or, take, drop}
 use Rattle.plan.specs.Step.{Value, v0, v1, vx}
 use Rattle.step.specs.values.Words.{word}
 use Rattle.plan.specs.Report.{times, changes, in_turn}

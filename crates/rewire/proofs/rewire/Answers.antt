@@ -14,10 +14,11 @@ use Rattle.judge.specs.Judged.{given_at}
 use Rattle.plan.specs.Rewire.{edit_stages, RewireEntry}
 use Rattle.rewire.specs.Shown.{Counted}
 use Rattle.rewire.proofs.Answers.{refused-tables, counted, refused-sides, ordered, refused-value, row_fits, gate-there, ordered-again, done}
+use Rattle.laws.proofs.Pairs.{passed-on}
 use Rattle.rewire.proofs.rewire.Goals as goal
 
-pub judge_sides-sides-requires : goal.judge_sides-sides-requires
-judge_sides-sides-requires c =
+pub judge_sides-requires : goal.judge_sides-requires
+judge_sides-requires c =
     let entry : RewireEntry =
     let a = c.args in
     record {
@@ -31,11 +32,11 @@ judge_sides-sides-requires c =
     let said : ◌≡◌ {A = CheckExit} (record { answer = c.check_in_order.result; scratch = c.check_in_order.new.scratch }) (check_in_order (entry).circuit) =
     c.check_in_order.ensures in
     let ready : Counted c.args.n =
-    counted (entry) _ _ (said) c.in-Good.is in
+    counted (entry) _ _ (said) c.in_ok-check_in_order.was in
     ready
 
-pub returns-in-Refused-sides : goal.returns-in-Refused-sides
-returns-in-Refused-sides c =
+pub returns-in_err-judge_sides : goal.returns-in_err-judge_sides
+returns-in_err-judge_sides c =
     let entry : RewireEntry =
     let a = c.args in
     record {
@@ -48,12 +49,12 @@ returns-in-Refused-sides c =
     } in
     let said : ◌≡◌ {A = CheckExit} (record { answer = c.check_in_order.result; scratch = c.check_in_order.new.scratch }) (check_in_order (entry).circuit) =
     c.check_in_order.ensures in
-    let sides-told : let a = c.args in c.judge_sides-sides.result ≡ checked_by (first_of (edit_stages a.n a.gate a.rhs0 a.rhs1 (length a.values.now))) =
+    let sides-told : let a = c.args in c.judge_sides.result ≡ checked_by (first_of (edit_stages a.n a.gate a.rhs0 a.rhs1 (length a.values.now))) =
     let a = c.args in
-    c.judge_sides-sides.ensures
+    c.judge_sides.ensures
     ∙ ap₂ (λ (x y : Lit). checked_by (first_of (edit_stages a.n a.gate (word_of x) (word_of y) (length a.values.now))))
     c.at-a.ensures c.at-b.ensures in
-    refused-sides (entry) _ _ (said) c.in-Good.is _ (sides-told) _ c.in-Refused-sides.is
+    rw (passed-on _ c.from_residual-in_err-judge_sides.ensures.1) (refused-sides (entry) _ _ (said) c.in_ok-check_in_order.was _ (sides-told) _ c.in_err-judge_sides.was)
 
 pub overflow_add-base : goal.overflow_add-base
 overflow_add-base c =
@@ -70,11 +71,11 @@ overflow_add-base c =
     let said : ◌≡◌ {A = CheckExit} (record { answer = c.check_in_order.result; scratch = c.check_in_order.new.scratch }) (check_in_order (entry).circuit) =
     c.check_in_order.ensures in
     let ready : Counted c.args.n =
-    counted (entry) _ _ (said) c.in-Good.is in
+    counted (entry) _ _ (said) c.in_ok-check_in_order.was in
     let p = ready in omega (arith, p.sum, p.most-M)
 
-pub overflow_add-base-in-Good : goal.overflow_add-base-in-Good
-overflow_add-base-in-Good c =
+pub overflow_add-base-2 : goal.overflow_add-base-2
+overflow_add-base-2 c =
     let entry : RewireEntry =
     let a = c.args in
     record {
@@ -88,11 +89,11 @@ overflow_add-base-in-Good c =
     let said : ◌≡◌ {A = CheckExit} (record { answer = c.check_in_order.result; scratch = c.check_in_order.new.scratch }) (check_in_order (entry).circuit) =
     c.check_in_order.ensures in
     let ready : Counted c.args.n =
-    counted (entry) _ _ (said) c.in-Good.is in
+    counted (entry) _ _ (said) c.in_ok-check_in_order.was in
     let p = ready in omega (arith, p.sum, p.most-M)
 
-pub wrong_value-shown-requires : goal.wrong_value-shown-requires
-wrong_value-shown-requires c =
+pub wrong_value-requires : goal.wrong_value-requires
+wrong_value-requires c =
     let entry : RewireEntry =
     let a = c.args in
     record {
@@ -105,15 +106,15 @@ wrong_value-shown-requires c =
     } in
     let said : ◌≡◌ {A = CheckExit} (record { answer = c.check_in_order.result; scratch = c.check_in_order.new.scratch }) (check_in_order (entry).circuit) =
     c.check_in_order.ensures in
-    let sides-told : let a = c.args in c.judge_sides-sides.result ≡ checked_by (first_of (edit_stages a.n a.gate a.rhs0 a.rhs1 (length a.values.now))) =
+    let sides-told : let a = c.args in c.judge_sides.result ≡ checked_by (first_of (edit_stages a.n a.gate a.rhs0 a.rhs1 (length a.values.now))) =
     let a = c.args in
-    c.judge_sides-sides.ensures
+    c.judge_sides.ensures
     ∙ ap₂ (λ (x y : Lit). checked_by (first_of (edit_stages a.n a.gate (word_of x) (word_of y) (length a.values.now))))
     c.at-a.ensures c.at-b.ensures in
-    record { ordered = ordered (entry) _ _ (said) c.in-Good.is _ (sides-told) c.in_default.is; le_base = omega arith }
+    record { ordered = ordered (entry) _ _ (said) c.in_ok-check_in_order.was _ (sides-told) c.in_ok-judge_sides.was; le_base = omega arith }
 
-pub returns-in-Refused-shown : goal.returns-in-Refused-shown
-returns-in-Refused-shown c =
+pub returns-in_err-wrong_value : goal.returns-in_err-wrong_value
+returns-in_err-wrong_value c =
     let entry : RewireEntry =
     let a = c.args in
     record {
@@ -126,13 +127,14 @@ returns-in-Refused-shown c =
     } in
     let said : ◌≡◌ {A = CheckExit} (record { answer = c.check_in_order.result; scratch = c.check_in_order.new.scratch }) (check_in_order (entry).circuit) =
     c.check_in_order.ensures in
-    let sides-told : let a = c.args in c.judge_sides-sides.result ≡ checked_by (first_of (edit_stages a.n a.gate a.rhs0 a.rhs1 (length a.values.now))) =
+    let sides-told : let a = c.args in c.judge_sides.result ≡ checked_by (first_of (edit_stages a.n a.gate a.rhs0 a.rhs1 (length a.values.now))) =
     let a = c.args in
-    c.judge_sides-sides.ensures
+    c.judge_sides.ensures
     ∙ ap₂ (λ (x y : Lit). checked_by (first_of (edit_stages a.n a.gate (word_of x) (word_of y) (length a.values.now))))
     c.at-a.ensures c.at-b.ensures in
-    refused-value (entry) _ _ (said) c.in-Good.is _ (sides-told) c.in_default.is _ c.wrong_value-shown.ensures _
-    c.in-Refused-shown.is
+    rw (passed-on _ c.from_residual-in_err-wrong_value.ensures.1) (
+    refused-value (entry) _ _ (said) c.in_ok-check_in_order.was _ (sides-told) c.in_ok-judge_sides.was _ c.wrong_value.ensures _
+    c.in_err-wrong_value.was)
 
 pub set_sides-requires : goal.set_sides-requires
 set_sides-requires c =
@@ -148,13 +150,13 @@ set_sides-requires c =
     } in
     let said : ◌≡◌ {A = CheckExit} (record { answer = c.check_in_order.result; scratch = c.check_in_order.new.scratch }) (check_in_order (entry).circuit) =
     c.check_in_order.ensures in
-    let sides-told : let a = c.args in c.judge_sides-sides.result ≡ checked_by (first_of (edit_stages a.n a.gate a.rhs0 a.rhs1 (length a.values.now))) =
+    let sides-told : let a = c.args in c.judge_sides.result ≡ checked_by (first_of (edit_stages a.n a.gate a.rhs0 a.rhs1 (length a.values.now))) =
     let a = c.args in
-    c.judge_sides-sides.ensures
+    c.judge_sides.ensures
     ∙ ap₂ (λ (x y : Lit). checked_by (first_of (edit_stages a.n a.gate (word_of x) (word_of y) (length a.values.now))))
     c.at-a.ensures c.at-b.ensures in
-    row_fits (entry) _ _ (said) c.in-Good.is _ (sides-told) c.in_default.is _ c.wrong_value-shown.ensures
-    c.in_default-shown.is
+    row_fits (entry) _ _ (said) c.in_ok-check_in_order.was _ (sides-told) c.in_ok-judge_sides.was _ c.wrong_value.ensures
+    c.in_ok-wrong_value.was
 
 pub recompute-requires : goal.recompute-requires
 recompute-requires c =
@@ -170,9 +172,9 @@ recompute-requires c =
     } in
     let said : ◌≡◌ {A = CheckExit} (record { answer = c.check_in_order.result; scratch = c.check_in_order.new.scratch }) (check_in_order (entry).circuit) =
     c.check_in_order.ensures in
-    let sides-told : let a = c.args in c.judge_sides-sides.result ≡ checked_by (first_of (edit_stages a.n a.gate a.rhs0 a.rhs1 (length a.values.now))) =
+    let sides-told : let a = c.args in c.judge_sides.result ≡ checked_by (first_of (edit_stages a.n a.gate a.rhs0 a.rhs1 (length a.values.now))) =
     let a = c.args in
-    c.judge_sides-sides.ensures
+    c.judge_sides.ensures
     ∙ ap₂ (λ (x y : Lit). checked_by (first_of (edit_stages a.n a.gate (word_of x) (word_of y) (length a.values.now))))
     c.at-a.ensures c.at-b.ensures in
     let stored : let a = c.args in c.set_sides.new.gates ≡ put a.gates.now (3 * a.gate + 1) (max a.rhs0 a.rhs1 ∷ min a.rhs0 a.rhs1 ∷ []) =
@@ -180,16 +182,16 @@ recompute-requires c =
     c.set_sides.ensures
     ∙ ap₂ (λ (x y : Lit). put a.gates.now (3 * a.gate + 1) (max (word_of x) (word_of y) ∷ min (word_of x) (word_of y) ∷ []))
     c.at-a.ensures c.at-b.ensures in
-    let there = gate-there (entry) _ _ (said) c.in-Good.is _ (sides-told) c.in_default.is _ c.wrong_value-shown.ensures
-    c.in_default-shown.is in
+    let there = gate-there (entry) _ _ (said) c.in_ok-check_in_order.was _ (sides-told) c.in_ok-judge_sides.was _ c.wrong_value.ensures
+    c.in_ok-wrong_value.was in
     record {
-      ordered = ordered-again (entry) _ _ (said) c.in-Good.is _ (sides-told) c.in_default.is _ c.wrong_value-shown.ensures
-          c.in_default-shown.is _ (stored);
+      ordered = ordered-again (entry) _ _ (said) c.in_ok-check_in_order.was _ (sides-told) c.in_ok-judge_sides.was _ c.wrong_value.ensures
+          c.in_ok-wrong_value.was _ (stored);
       k_le_a = omega arith;
     }
 
-pub returns-in-Refused : goal.returns-in-Refused
-returns-in-Refused c =
+pub returns-in_err-check_in_order : goal.returns-in_err-check_in_order
+returns-in_err-check_in_order c =
     let entry : RewireEntry =
     let a = c.args in
     record {
@@ -200,13 +202,10 @@ returns-in-Refused c =
       rhs1 = a.rhs1;
       values = a.values.now;
     } in
-    refused-tables (entry) _ _ c.check_in_order.ensures _ c.in-Refused.is
+    rw (passed-on _ c.from_residual.ensures.1) (refused-tables (entry) _ _ c.check_in_order.ensures _ c.in_err-check_in_order.was)
 
-pub shape_of-scratch-in_default-shown : goal.shape_of-scratch-in_default-shown
-shape_of-scratch-in_default-shown c = c.check_in_order.auto.scratch
-
-pub returns-in_default-shown : goal.returns-in_default-shown
-returns-in_default-shown c =
+pub returns : goal.returns
+returns c =
     let entry : RewireEntry =
     let a = c.args in
     record {
@@ -219,9 +218,9 @@ returns-in_default-shown c =
     } in
     let said : ◌≡◌ {A = CheckExit} (record { answer = c.check_in_order.result; scratch = c.check_in_order.new.scratch }) (check_in_order (entry).circuit) =
     c.check_in_order.ensures in
-    let sides-told : let a = c.args in c.judge_sides-sides.result ≡ checked_by (first_of (edit_stages a.n a.gate a.rhs0 a.rhs1 (length a.values.now))) =
+    let sides-told : let a = c.args in c.judge_sides.result ≡ checked_by (first_of (edit_stages a.n a.gate a.rhs0 a.rhs1 (length a.values.now))) =
     let a = c.args in
-    c.judge_sides-sides.ensures
+    c.judge_sides.ensures
     ∙ ap₂ (λ (x y : Lit). checked_by (first_of (edit_stages a.n a.gate (word_of x) (word_of y) (length a.values.now))))
     c.at-a.ensures c.at-b.ensures in
     let stored : let a = c.args in c.set_sides.new.gates ≡ put a.gates.now (3 * a.gate + 1) (max a.rhs0 a.rhs1 ∷ min a.rhs0 a.rhs1 ∷ []) =
@@ -229,5 +228,5 @@ returns-in_default-shown c =
     c.set_sides.ensures
     ∙ ap₂ (λ (x y : Lit). put a.gates.now (3 * a.gate + 1) (max (word_of x) (word_of y) ∷ min (word_of x) (word_of y) ∷ []))
     c.at-a.ensures c.at-b.ensures in
-    done (entry) _ _ (said) c.in-Good.is _ (sides-told) c.in_default.is _ c.wrong_value-shown.ensures
-    c.in_default-shown.is _ (stored) _ c.recompute.auto.values c.recompute.ensures
+    done (entry) _ _ (said) c.in_ok-check_in_order.was _ (sides-told) c.in_ok-judge_sides.was _ c.wrong_value.ensures
+    c.in_ok-wrong_value.was _ (stored) _ c.recompute.auto.values c.recompute.ensures

@@ -1,11 +1,10 @@
 -- Demand 3 of each lane, over the calls: a file that was read, converted and reduced, with its unused gates dropped or not, and a step of rows of
 -- what was left.
 use mathlib.Core.Path.{◌≡◌, refl, sym, ap, ◌∙◌, subst}
-use mathlib.Core.Option.{Option}
 use mathlib.Core.List.{List, [], ◌∷◌}
 use lib.ListN.{length}
+use Rattle.std.specs.Prelude.{Ok, Option}
 use Rattle.plan.specs.declared.Refusal.{Refusal}
-use Rattle.plan.specs.declared.Stepped.TheVariants as stepped
 use Rattle.plan.specs.Refusals.{first_of}
 use Rattle.plan.specs.Circuit.{Circuit}
 use Rattle.plan.specs.Given.{given_circuit, in_order_then}
@@ -41,7 +40,7 @@ module _ (r : ReadCall) (m : MakeCall conversion) (m-given : FromRead m.entry.ci
   reduced-from =
       reduced-is s ∙ ap reduce (from-made conversion s.entry.circuit m s-given ∙ (converted-is m ∙ ap convert (from-read m.entry.circuit r m-given)))
 
-  module _ (e : RowsEntry) (done : (step_rows e).answer ≡ stepped.Done) (is : List (List Value)) (sized : Sized (length (read_circuit r).inputs) is)
+  module _ (e : RowsEntry) (done : (step_rows e).answer ≡ Ok tt) (is : List (List Value)) (sized : Sized (length (read_circuit r).inputs) is)
       (replaced : Replaced is (vectors_of (given_circuit e.circuit) e.rows e.inputs)) where
     abbrev js : List (List Value)
     js = vectors_of (given_circuit e.circuit) e.rows e.inputs

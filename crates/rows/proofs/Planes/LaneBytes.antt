@@ -4,8 +4,8 @@ use Prim.Native.Nat.{ℕ, ◌*◌}
 use mathlib.Core.Path.{◌≡◌, refl, sym, ap, ◌∙◌, subst, subst₂}
 use mathlib.Core.List.{List, map}
 use lib.ListN.{length}
+use Rattle.std.specs.Prelude.{Ok}
 use Rattle.plan.specs.declared.Counts.{Counts}
-use Rattle.plan.specs.declared.Stepped.TheVariants as stepped
 use Rattle.plan.specs.Circuit.{Circuit, rows_of}
 use Rattle.plan.specs.Given.{given_circuit}
 use Rattle.plan.specs.Convert.{convert}
@@ -37,8 +37,8 @@ LanesSame x y = ((step_rows x).outputs ≡ (step_rows y).outputs) × ((step_rows
 
 module _ (r : ReadCall) (m : MakeCall conversion) (m-given : FromRead m.entry.circuit r)
     (s : MakeCall reduction) (s-given : FromMade conversion s.entry.circuit m)
-    (x : RowsEntry) (x-given : FromMade conversion x.circuit m) (x-done : (step_rows x).answer ≡ stepped.Done)
-    (y : RowsEntry) (y-done : (step_rows y).answer ≡ stepped.Done)
+    (x : RowsEntry) (x-given : FromMade conversion x.circuit m) (x-done : (step_rows x).answer ≡ Ok tt)
+    (y : RowsEntry) (y-done : (step_rows y).answer ≡ Ok tt)
     (rows : x.rows ≡ y.rows) (replaced : KeptBytes x.inputs y.inputs) where
   abbrev c : Circuit
   c = convert (read_circuit r)

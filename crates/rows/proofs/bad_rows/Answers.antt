@@ -1,4 +1,4 @@
--- The first list that is refused: 1 the next states and 3 the outputs, of which the length is judged, 2 the inputs; or 0. The answers are given by
+-- The first list that is refused: 1 the next states and 3 the outputs, of which the length is judged, 2 the inputs. The answers are given by
 -- `bad-state`, `whole_in` and `bad-inputs`.
 use Prim.Native.Nat.{◌*◌}
 use lib.Dec.{eqb}

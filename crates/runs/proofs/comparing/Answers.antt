@@ -3,17 +3,13 @@ use Prim.Native.Nat.{ℕ, ◌≤◌}
 use mathlib.Core.Path.{◌≡◌, refl, sym, ap, ◌∙◌}
 use mathlib.Core.Bool.{Bool, true, false, cond, ◌&&◌}
 use mathlib.Core.List.{List}
-use mathlib.Core.Option.{Option, some}
+use Rattle.std.specs.Prelude.{Result, Ok, Err, Option, Some}
 use native.Mathlib.Omega.{arith}
 use borrow.Author.Tests.{leb-true, leb-false, le-leb}
 use lib.Dec.{eqb, leb}
 use lib.ListN.{length}
 use Rattle.plan.specs.declared.Refusal.{Refusal}
 use Rattle.plan.specs.declared.Refusal.TheVariants.{ManyGates}
-use Rattle.plan.specs.declared.Checked.{Checked}
-use Rattle.plan.specs.declared.Checked.TheVariants.{Good}
-use Rattle.plan.specs.declared.Traced.{Traced}
-use Rattle.plan.specs.declared.Traced.TheVariants.{Lines, Refused}
 use Rattle.plan.specs.Circuit.{cleared}
 use Rattle.plan.specs.Outcome.{all_codes, check_in_order}
 use Rattle.plan.specs.Programs.{lines_in, all_vectors}
@@ -34,21 +30,21 @@ pub same_lines : (e : TraceEntry) → e.circuit.counts.A ≤ 24 → plain_trace 
 same_lines e h = ap (λ (o : Option Refusal). traced_by o e) (answer-few e.circuit (trace_stage e) h)
 
 pub refused-lines : (e : TraceEntry) (t : List ℕ) → t ≡ cleared e.circuit.scratch → (r : Refusal)
-    → plain_answer e.circuit (trace_stage e) ≡ some r
-    → ◌≡◌ {A = TraceExit} (record { answer = Refused r; scratch = t; state = e.state; out = e.out }) (plain_trace e)
+    → plain_answer e.circuit (trace_stage e) ≡ Some r
+    → ◌≡◌ {A = TraceExit} (record { answer = Err r; scratch = t; state = e.state; out = e.out }) (plain_trace e)
 refused-lines e t blank r q =
-    (λ j. record { answer = Refused r; scratch = blank j; state = e.state; out = e.out })
+    (λ j. record { answer = Err r; scratch = blank j; state = e.state; out = e.out })
     ∙ sym (ap (λ (o : Option Refusal). traced_by o e) q)
 
 -- a state that is not refused is one of codes
-state-good : (s v : Bool) (k m : ℕ) → judged s v k ≡ Lines m → s ≡ true
+state-good : (s v : Bool) (k m : ℕ) → judged s v k ≡ Ok m → s ≡ true
 state-good true v k m e = refl
 state-good false v k m e = let z : ◌≡◌ {A = ℕ} 0 1 = cc in absurd (omega arith)
 
-module _ (e : TraceEntry) (a : Traced)
+module _ (e : TraceEntry) (a : Result ℕ Refusal)
     (says : a ≡ judged (codes_in e.state e.circuit.counts.L)
     (ended e.vectors && all_vectors e.circuit.counts.I (lines_in e.vectors)) (length (lines_in e.vectors))) where
-  pub state-vector : (m : ℕ) → a ≡ Lines m → Vector e.circuit.counts.L e.state
+  pub state-vector : (m : ℕ) → a ≡ Ok m → Vector e.circuit.counts.L e.state
   state-vector m is = record {
     long = state-long e a says m is;
     codes =
@@ -58,26 +54,26 @@ module _ (e : TraceEntry) (a : Traced)
   }
 
 -- what is told by 24 and then 12, once the tables are good
-abbrev refusal_in : Refusal → Traced → Refusal
-refusal_in s (Lines k) = s
-refusal_in s (Refused r) = r
+abbrev refusal_in : Refusal → Result ℕ Refusal → Refusal
+refusal_in s (Ok k) = s
+refusal_in s (Err r) = r
 
-apart : (r : Refusal) (m : ℕ) → Refused r ≡ Lines m → ⊥
+apart : (r : Refusal) (m : ℕ) → Err r ≡ Ok m → ⊥
 apart r m e = let z : ◌≡◌ {A = ℕ} 0 1 = cc in absurd (omega arith)
 
-module _ (e : TraceEntry) (a : Traced) (says : a ≡ plain_judged e.circuit.counts e.state e.vectors) where
+module _ (e : TraceEntry) (a : Result ℕ Refusal) (says : a ≡ plain_judged e.circuit.counts e.state e.vectors) where
   abbrev gates : ℕ
   gates = e.circuit.counts.A
 
-  abbrev by12 : Traced
+  abbrev by12 : Result ℕ Refusal
   by12 =
       judged (codes_in e.state e.circuit.counts.L)
       (ended e.vectors && all_vectors e.circuit.counts.I (lines_in e.vectors)) (length (lines_in e.vectors))
 
-  by-gates : (b : Bool) → leb gates 24 ≡ b → a ≡ cond b by12 (Refused (ManyGates gates))
-  by-gates b q = says ∙ ap (λ (t : Bool). cond t by12 (Refused (ManyGates gates))) q
+  by-gates : (b : Bool) → leb gates 24 ≡ b → a ≡ cond b by12 (Err (ManyGates gates))
+  by-gates b q = says ∙ ap (λ (t : Bool). cond t by12 (Err (ManyGates gates))) q
 
-  module _ (m : ℕ) (is : a ≡ Lines m) where
+  module _ (m : ℕ) (is : a ≡ Ok m) where
     pub few-gates : gates ≤ 24
     few-gates = go (leb gates 24) refl
       where
@@ -88,17 +84,17 @@ module _ (e : TraceEntry) (a : Traced) (says : a ≡ plain_judged e.circuit.coun
     pub lines-judged : a ≡ by12
     lines-judged = by-gates true (le-leb gates 24 few-gates)
 
-  pub refused-plainly : (t : List ℕ) → t ≡ cleared e.circuit.scratch → {k : Checked} → k ≡ (check_in_order e.circuit).answer → k ≡ Good
-      → (r : Refusal) → a ≡ Refused r
-      → ◌≡◌ {A = TraceExit} (record { answer = Refused r; scratch = t; state = e.state; out = e.out }) (plain_trace e)
+  pub refused-plainly : (t : List ℕ) → t ≡ cleared e.circuit.scratch → {k : Result Unit Refusal} → k ≡ (check_in_order e.circuit).answer → k ≡ Ok tt
+      → (r : Refusal) → a ≡ Err r
+      → ◌≡◌ {A = TraceExit} (record { answer = Err r; scratch = t; state = e.state; out = e.out }) (plain_trace e)
   refused-plainly t blank check good r is = go (leb gates 24) refl
     where
       go : (b : Bool) → leb gates 24 ≡ b
-          → ◌≡◌ {A = TraceExit} (record { answer = Refused r; scratch = t; state = e.state; out = e.out }) (plain_trace e)
+          → ◌≡◌ {A = TraceExit} (record { answer = Err r; scratch = t; state = e.state; out = e.out }) (plain_trace e)
       go true q =
           refused-vectors e a (by-gates true q) t blank (past-check e.circuit (trace_stage e) check good) r is
           ∙ sym (same_lines e (leb-true gates 24 q))
       go false q =
           refused-lines e t blank r
           (refused-gates e.circuit (trace_stage e) check good (leb-false gates 24 q)
-          ∙ ap (λ (x : Traced). some (refusal_in r x)) (sym (by-gates false q) ∙ is))
+          ∙ ap (λ (x : Result ℕ Refusal). Some (refusal_in r x)) (sym (by-gates false q) ∙ is))

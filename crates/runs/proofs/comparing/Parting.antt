@@ -1,16 +1,14 @@
--- Both engines over a part of a run: from what was compared to the answer; and that with at most 24 gates they never part.
+-- Both engines over a part of a run: what equal answers are, and that with at most 24 gates they never part.
 use Prim.Native.Nat.{ℕ, ◌≤◌}
 use mathlib.Core.Path.{◌≡◌, refl, sym, ap, ap₂, ◌∙◌}
 use mathlib.Core.Bool.{Bool, true, false, ◌&&◌, false≢true}
-use mathlib.Core.Option.{Option, none, some}
 use mathlib.Core.List.{List, [], ◌∷◌, ◌++◌, map}
+use Rattle.std.specs.Prelude.{Result, Ok, Err, Option, Some, None}
 use native.Mathlib.Omega.{arith}
 use borrow.Author.Tests.{eq-eqb, ne_eqb, eqb-true}
 use lib.Dec.{eqb}
 use lib.ListN.{length, replicate, length-replicate}
 use Rattle.plan.specs.declared.Refusal.{Refusal}
-use Rattle.plan.specs.declared.Traced.{Traced}
-use Rattle.plan.specs.declared.Traced.TheVariants as traced
 use Rattle.plan.specs.Refusals.{number_of, place_of, first_of}
 use Rattle.plan.specs.Circuit.{words_to_work, against}
 use Rattle.plan.specs.Given.{given_circuit, stages, order_stage}
@@ -24,9 +22,7 @@ use Rattle.tables.specs.Lengths.{lengths_in, sizes_of}
 use Rattle.step.proofs.Checks.{answer}
 use Rattle.plan.specs.Plain.{plain_trace}
 use Rattle.laws.proofs.Writing.Refusing.{refused-leaves}
-use Rattle.runs.specs.declared.comparing.Compared.{Compared}
-use Rattle.runs.specs.declared.comparing.Compared.TheVariants.{Refused}
-use Rattle.runs.specs.comparing.Both.{same_bytes, same_answer, agree, CompareEntry, CompareExit, compared_by, both, twin_of, compare}
+use Rattle.runs.specs.comparing.Both.{same_bytes, same_answer, agree, CompareEntry, compared_by, both, twin_of, compare}
 use Rattle.runs.proofs.comparing.Answers.{same_lines}
 
 bytes_same : (l : List ℕ) → same_bytes l l ≡ true
@@ -49,52 +45,22 @@ same-is a b false p = go (same_bytes a b) refl
     go true e = absurd (false≢true (p.1 (same_bytes_lem a b e)))
     go false e = sym e
 
-answer-same : (t : Traced) → same_answer t t ≡ true
+answer-same : (t : Result ℕ Refusal) → same_answer t t ≡ true
 answer-same t = bytes_same (traced_values t)
 
--- by case: the numbers of lines, or of refusals and their places, decide; no refusal has the number 0
-last-true : (x : Bool) → (x && true) ≡ x
-last-true true = refl
-last-true false = refl
-
-module _ {a b : Traced} {k m : ℕ} (p : a ≡ traced.Lines k) (q : b ≡ traced.Lines m) where
-  pub both-lines : eqb k m ≡ same_answer a b
-  both-lines = sym (ap₂ same_answer p q ∙ last-true (eqb k m))
-
-module _ {a b : Traced} {k : ℕ} {s : Refusal} (p : a ≡ traced.Lines k) (q : b ≡ traced.Refused s) where
-  pub first-lines : false ≡ same_answer a b
-  first-lines =
-      sym (ap₂ same_answer p q
-      ∙ ap (λ (x : Bool). x && same_bytes (0 ∷ k ∷ []) (place_of s ∷ 0 ∷ [])) (ne_eqb 0 (number_of s) (λ e. refusal-number s (sym e))))
-
-module _ {a b : Traced} {r : Refusal} {m : ℕ} (p : a ≡ traced.Refused r) (q : b ≡ traced.Lines m) where
-  pub second-lines : false ≡ same_answer a b
+-- no refusal has the number 0
+module _ {a b : Result ℕ Refusal} {r : Refusal} {m : ℕ} (p : a ≡ Err r) (q : b ≡ Ok m) where
+  second-lines : false ≡ same_answer a b
   second-lines =
       sym (ap₂ same_answer p q
       ∙ ap (λ (x : Bool). x && same_bytes (place_of r ∷ 0 ∷ []) (0 ∷ m ∷ [])) (ne_eqb (number_of r) 0 (refusal-number r)))
 
-module _ {a b : Traced} {r s : Refusal} (p : a ≡ traced.Refused r) (q : b ≡ traced.Refused s) where
-  pub no_lines : (eqb (number_of r) (number_of s) && eqb (place_of r) (place_of s)) ≡ same_answer a b
-  no_lines = sym (ap₂ same_answer p q ∙ ap (λ (x : Bool). eqb (number_of r) (number_of s) && x) (last-true (eqb (place_of r) (place_of s))))
-
--- three tests in a row: the first or the second fails, or the third decides
-pub first-fails : (x y z : Bool) → x ≡ false → false ≡ (x && (y && z))
-first-fails x y z e = sym (ap (λ (a : Bool). a && (y && z)) e)
-
+-- three tests in a row: the second fails, or the third decides
 pub second-fails : (x y z : Bool) → x ≡ true → y ≡ false → false ≡ (x && (y && z))
 second-fails x y z e f = sym (ap₂ (λ (a b : Bool). a && (b && z)) e f)
 
 pub third-decides : (x y z : Bool) → x ≡ true → y ≡ true → z ≡ (x && (y && z))
 third-decides x y z e f = sym (ap₂ (λ (a b : Bool). a && (b && z)) e f)
-
-module _ (e : CompareEntry) (a b : TraceExit) (ea : a ≡ trace e.part) (eb : b ≡ plain_trace (twin_of e a.scratch)) where
-  abbrev pub left : Compared → CompareExit
-  left r = record { answer = r; scratch = b.scratch; state = a.state; out = a.out; twin = b.state; again = b.out }
-
-  pub answered : (r : Bool) → r ≡ agree a b → (t : Traced) → a.answer ≡ t → left (compared_by r t) ≡ compare e
-  answered r q t s =
-      ap₂ (λ (x : Bool) (u : Traced). left (compared_by x u)) q (sym s)
-      ∙ (ap (both a) eb ∙ ap (λ (x : TraceExit). both x (plain_trace (twin_of e x.scratch))) ea)
 
 -- of scratch only the length counts
 module _ (e : TraceEntry) (t : List ℕ) (same : length t ≡ length e.circuit.scratch) where
@@ -107,13 +73,13 @@ module _ (e : TraceEntry) (t : List ℕ) (same : length t ≡ length e.circuit.s
   }
 
   exits : (o : Option Refusal) → traced_by o again ≡ traced_by o e
-  exits none = λ j. record {
-    answer = traced.Lines (length (next_lines e));
+  exits None = λ j. record {
+    answer = Ok (length (next_lines e));
     scratch = replicate (same j) 0;
     state = map code_of (state_after (given_circuit e.circuit) (map value_of e.state) (next_lines e));
     out = put e.out 0 (step_lines (run (given_circuit e.circuit) (map value_of e.state) (next_lines e)));
   }
-  exits (some r) = λ j. record { answer = traced.Refused r; scratch = replicate (same j) 0; state = e.state; out = e.out }
+  exits (Some r) = λ j. record { answer = Err r; scratch = replicate (same j) 0; state = e.state; out = e.out }
 
   -- what is refused, by the length of scratch
   abbrev refusal : ℕ → Option Refusal
@@ -125,8 +91,8 @@ module _ (e : TraceEntry) (t : List ℕ) (same : length t ≡ length e.circuit.s
   trace-again = ap (λ (o : Option Refusal). traced_by o again) (ap refusal same) ∙ exits (refusal (length e.circuit.scratch))
 
 scratch-long : (e : TraceEntry) (o : Option Refusal) → length (traced_by o e).scratch ≡ length e.circuit.scratch
-scratch-long e none = length-replicate (length e.circuit.scratch) 0
-scratch-long e (some r) = length-replicate (length e.circuit.scratch) 0
+scratch-long e None = length-replicate (length e.circuit.scratch) 0
+scratch-long e (Some r) = length-replicate (length e.circuit.scratch) 0
 
 module _ (e : CompareEntry) (few : e.part.circuit.counts.A ≤ 24) (twins : e.twin ≡ e.part.state) (buffers : e.again ≡ e.part.out) where
   abbrev stepped : TraceExit
@@ -174,17 +140,17 @@ module _ (e : CompareEntry) (few : e.part.circuit.counts.A ≤ 24) (twins : e.tw
           ∙ bytes_same stepped.out
 
 -- a refusal: both engines refused, and left both states and both buffers as they were
-refused-only : (t : Bool) (a : Traced) (r : Refusal) → compared_by t a ≡ Refused r → (t ≡ true) × (a ≡ traced.Refused r)
-refused-only true (traced.Lines k) r e = let z : ◌≡◌ {A = ℕ} 0 1 = cc in absurd (omega arith)
-refused-only true (traced.Refused q) r e = let same : q ≡ r = cc in (refl, ap traced.Refused same)
+refused-only : (t : Bool) (a : Result ℕ Refusal) (r : Refusal) → compared_by t a ≡ Err r → (t ≡ true) × (a ≡ Err r)
+refused-only true (Ok k) r e = let z : ◌≡◌ {A = ℕ} 0 1 = cc in absurd (omega arith)
+refused-only true (Err q) r e = let same : q ≡ r = cc in (refl, ap Err same)
 refused-only false a r e = let z : ◌≡◌ {A = ℕ} 0 1 = cc in absurd (omega arith)
 
-refused-too : (r : Refusal) (b : Traced) → same_answer (traced.Refused r) b ≡ true → (s : Refusal) × (b ≡ traced.Refused s)
-refused-too r (traced.Lines m) e =
-    absurd (false≢true (second-lines {a = traced.Refused r} {b = traced.Lines m} {r = r} {m = m} refl refl ∙ e))
-refused-too r (traced.Refused s) e = (s, refl)
+refused-too : (r : Refusal) (b : Result ℕ Refusal) → same_answer (Err r) b ≡ true → (s : Refusal) × (b ≡ Err s)
+refused-too r (Ok m) e =
+    absurd (false≢true (second-lines {a = Err r} {b = Ok m} {r = r} {m = m} refl refl ∙ e))
+refused-too r (Err s) e = (s, refl)
 
-pub compare-refused : (e : CompareEntry) (r : Refusal) → (compare e).answer ≡ Refused r
+pub compare-refused : (e : CompareEntry) (r : Refusal) → (compare e).answer ≡ Err r
     → ((compare e).state ≡ e.part.state) × ((compare e).out ≡ e.part.out) × ((compare e).twin ≡ e.twin) × ((compare e).again ≡ e.again)
 compare-refused e r said =
     let a = trace e.part in
@@ -193,7 +159,7 @@ compare-refused e r said =
     let x = refused-only (agree a b) a.answer r said in
     let rest = same_bytes a.state b.state && same_bytes a.out b.out in
     let y = refused-too r b.answer
-    (ap (λ (t : Traced). same_answer t b.answer) (sym x.1) ∙ and_left (same_answer a.answer b.answer) rest x.0) in
+    (ap (λ (t : Result ℕ Refusal). same_answer t b.answer) (sym x.1) ∙ and_left (same_answer a.answer b.answer) rest x.0) in
     let first = refused-leaves.tracing e.part r x.1 in
     let second = refused-leaves.plain-tracing f y.0 y.1 in
     (first.0, first.1, second.0, second.1)

@@ -3,8 +3,8 @@
 use Prim.Native.Nat.{ℕ, zero, suc, ◌+◌, ◌*◌, ◌-◌, ◌≤◌, ◌<◌}
 use mathlib.Core.Path.{◌≡◌, refl, sym, ap, ap₂, ◌∙◌}
 use mathlib.Core.Bool.{Bool, true, false, cond}
-use mathlib.Core.Option.{Option, some}
 use mathlib.Core.List.{List, ◌++◌, map}
+use Rattle.std.specs.Prelude.{Ok, Err, Option, Some}
 use native.Mathlib.Nat.{mul-zero, mul-suc}
 use native.Mathlib.Omega.{arith}
 use borrow.Author.Tests.{le-leb, lt-leb}
@@ -13,8 +13,6 @@ use lib.ListN.{length, take, drop, replicate, length-append, length-drop}
 use lib.Seq.{take-append-le, drop-append-le}
 use Rattle.plan.specs.declared.Refusal.{Refusal}
 use Rattle.plan.specs.declared.Refusal.TheVariants.{WrongByte, BadVector, LongInput, ShortTable}
-use Rattle.plan.specs.declared.Traced.TheVariants.{Lines, Refused}
-use Rattle.plan.specs.declared.Stepped.TheVariants as stepped
 use Rattle.plan.specs.Refusals.{Parse, got, refused, ◌then◌, unless, first_of}
 use Rattle.plan.specs.Circuit.{Circuit}
 use Rattle.plan.specs.Given.{given_circuit, failing_at}
@@ -67,7 +65,7 @@ lines-first outputs latches l m h =
 
 -- lines that are counted are whole vectors, as many as are told
 counted-good : (rows : List (List ℕ)) (size k : ℕ) (x y z : Refusal) (t u v : Bool)
-    → counted_by (cond t (cond u (cond v (got rows size) (refused x)) (refused y)) (refused z)) ≡ Lines k
+    → counted_by (cond t (cond u (cond v (got rows size) (refused x)) (refused y)) (refused z)) ≡ Ok k
     → (u ≡ true) × (v ≡ true) × (length rows ≡ k)
 counted-good rows size k x y z true true true e = (refl, refl, cc)
 counted-good rows size k x y z true true false e = let d : ◌≡◌ {A = ℕ} 0 1 = cc in absurd (omega arith)
@@ -89,7 +87,7 @@ module _ (file : List ℕ) (c : Circuit) (start : ℕ) (short : length file ≤ 
       unless (failing_at 6 (leb (4 * (length c.outputs + length c.latches)) six_words)) ShortTable
       (input source (λ bytes. stimulus (length c.inputs) bytes then report-lines c))
 
-  opened : reporter (some file) source ≡ printed (after-file c start)
+  opened : reporter (Some file) source ≡ printed (after-file c start)
   opened =
       ap (λ (t : Bool). printed (cond t (read_to_work file lent_words lent_words then after-file) (refused (LongInput 65536))))
       (le-leb (length file) 65536 short)
@@ -99,25 +97,25 @@ module _ (file : List ℕ) (c : Circuit) (start : ℕ) (short : length file ≤ 
   by-six t = printed (unless (failing_at 6 t) ShortTable (input source (λ bytes. stimulus (length c.inputs) bytes then report-lines c)))
 
   -- table 6 is too short, whatever standard input has
-  pub reporter-short : six_words < 4 * (length c.outputs + length c.latches) → reporter (some file) source ≡ refusal_line (ShortTable 6)
+  pub reporter-short : six_words < 4 * (length c.outputs + length c.latches) → reporter (Some file) source ≡ refusal_line (ShortTable 6)
   reporter-short h = opened ∙ ap by-six (lt-leb (4 * (length c.outputs + length c.latches)) six_words h)
 
   module _ (six : 4 * (length c.outputs + length c.latches) ≤ six_words) where
-    accepted : reporter (some file) source ≡ printed (input source (stimulus (length c.inputs)) then report-lines c)
+    accepted : reporter (Some file) source ≡ printed (input source (stimulus (length c.inputs)) then report-lines c)
     accepted =
         opened ∙ (ap by-six (le-leb (4 * (length c.outputs + length c.latches)) six_words six)
         ∙ ap printed (input-then (stimulus (length c.inputs)) (report-lines c) source))
 
     -- the count of lines is refused
-    pub reporter-refuses : (r : Refusal) → count_lines source (length c.inputs) ≡ Refused r → reporter (some file) source ≡ refusal_line r
+    pub reporter-refuses : (r : Refusal) → count_lines source (length c.inputs) ≡ Err r → reporter (Some file) source ≡ refusal_line r
     reporter-refuses r e = accepted ∙ count-refuses-by (report-lines c) (input source (stimulus (length c.inputs))) r e
 
     -- or tells how many there are: a report that is done on the converted circuit and the packed lines, its lines put where there is room for all
-    pub reporter-prints : (bytes : List ℕ) → source ≡ some bytes → (k : ℕ) → count_lines source (length c.inputs) ≡ Lines k
-        → (e : ReportEntry) → given_circuit e.circuit ≡ convert c → e.number ≡ k → e.bytes ≡ packed bytes → (report e).answer ≡ stepped.Done
+    pub reporter-prints : (bytes : List ℕ) → source ≡ Some bytes → (k : ℕ) → count_lines source (length c.inputs) ≡ Ok k
+        → (e : ReportEntry) → given_circuit e.circuit ≡ convert c → e.number ≡ k → e.bytes ≡ packed bytes → (report e).answer ≡ Ok tt
         → (out : List ℕ) → 4 * (length (convert c).outputs + length (convert c).latches) ≤ length (report e).six
         → 66 * (length (convert c).outputs + length (convert c).latches) ≤ length out
-        → fitting_lines (length (convert c).outputs) (length (convert c).latches) (report e).six out ≡ reporter (some file) source
+        → fitting_lines (length (convert c).outputs) (length (convert c).latches) (report e).six out ≡ reporter (Some file) source
     reporter-prints bytes is k counted e holds number packs done out words room =
         let n = length c.inputs in
         let told = ap (λ (o : Option (List ℕ)). count_lines o n) (sym is) ∙ counted in

@@ -3,14 +3,14 @@ use Prim.Native.Nat.{ℕ, suc, ◌+◌, ◌-◌}
 use mathlib.Core.Path.{◌≡◌, refl, sym, ap, ap₂, ◌∙◌}
 use mathlib.Core.Bool.{Bool, true, false, cond, ◌&&◌, ◌||◌}
 use mathlib.Core.List.{List, [], ◌∷◌}
+use Rattle.std.specs.Prelude.{Result, Ok, Err}
+use Rattle.plan.specs.declared.Refusal.{Refusal}
 use native.Mathlib.Nat.{add-zero, zero-add}
 use native.Mathlib.Omega.{arith}
 use borrow.Author.Tests.{eqb-true, ne_eqb}
 use lib.Dec.{eqb}
 use lib.ListN.{length, get_or}
 use Rattle.plan.specs.declared.Refusal.TheVariants.{WrongByte, BadVector}
-use Rattle.plan.specs.declared.Traced.{Traced}
-use Rattle.plan.specs.declared.Traced.TheVariants.{Lines, Refused}
 use Rattle.plan.specs.Refusals.{Parse, got, refused}
 use Rattle.plan.specs.Step.{is_code}
 use Rattle.plan.specs.Outcome.{all_codes}
@@ -19,8 +19,8 @@ use Rattle.plan.specs.Whole.{counted_by}
 use Rattle.runs.specs.stimulus.Scan.{ended, scan}
 
 -- what is said if a test passes, else 12
-abbrev else12 : Bool → Traced → Traced
-else12 t x = cond t x (Refused (BadVector 2))
+abbrev else12 : Bool → Result ℕ Refusal → Result ℕ Refusal
+else12 t x = cond t x (Err (BadVector 2))
 
 -- a byte more before bytes that are some
 ended-more : (b a : ℕ) (l : List ℕ) → ended (b ∷ a ∷ l) ≡ ended (a ∷ l)
@@ -43,8 +43,8 @@ from_start : (w : ℕ) (rows : List (List ℕ)) → all_from w 0 rows ≡ all_ve
 from_start w [] = refl
 from_start w (row ∷ rows) = ap (λ (k : ℕ). (eqb k w && all_codes row) && all_vectors w rows) (zero-add (length row))
 
-abbrev pub count_from : ℕ → ℕ → ℕ → List (List ℕ) → Traced
-count_from w column number rows = else12 (all_from w column rows) (Lines (number + length rows))
+abbrev pub count_from : ℕ → ℕ → ℕ → List (List ℕ) → Result ℕ Refusal
+count_from w column number rows = else12 (all_from w column rows) (Ok (number + length rows))
 
 -- a byte that is no new line at the front of the first line
 no_code : (a b : Bool) → (a && (false && b)) ≡ false
@@ -52,20 +52,20 @@ no_code true b = refl
 no_code false b = refl
 
 front-past : (w column number b : ℕ) (row : List ℕ) (rows : List (List ℕ)) → column ≡ w
-    → count_from w column number ((b ∷ row) ∷ rows) ≡ Refused (BadVector 2)
+    → count_from w column number ((b ∷ row) ∷ rows) ≡ Err (BadVector 2)
 front-past w column number b row rows e =
-    ap (λ (t : Bool). else12 ((t && all_codes (b ∷ row)) && all_vectors w rows) (Lines (number + suc (length rows))))
+    ap (λ (t : Bool). else12 ((t && all_codes (b ∷ row)) && all_vectors w rows) (Ok (number + suc (length rows))))
     (ne_eqb (column + suc (length row)) w (λ h. omega arith))
 
 front-code : (w column number b : ℕ) (row : List ℕ) (rows : List (List ℕ)) (t : Bool) → is_code b ≡ t
     → count_from w column number ((b ∷ row) ∷ rows) ≡ else12 t (count_from w (column + 1) number (row ∷ rows))
 front-code w column number b row rows true e =
     let one : column + suc (length row) ≡ column + 1 + length row = omega arith in
-    ap₂ (λ (k : ℕ) (c : Bool). else12 ((eqb k w && (c && all_codes row)) && all_vectors w rows) (Lines (number + suc (length rows)))) one e
+    ap₂ (λ (k : ℕ) (c : Bool). else12 ((eqb k w && (c && all_codes row)) && all_vectors w rows) (Ok (number + suc (length rows)))) one e
 front-code w column number b row rows false e =
     let wide : Bool = eqb (column + suc (length row)) w in
-    ap (λ (c : Bool). else12 ((wide && (c && all_codes row)) && all_vectors w rows) (Lines (number + suc (length rows)))) e
-    ∙ ap (λ (c : Bool). else12 (c && all_vectors w rows) (Lines (number + suc (length rows)))) (no_code wide (all_codes row))
+    ap (λ (c : Bool). else12 ((wide && (c && all_codes row)) && all_vectors w rows) (Ok (number + suc (length rows)))) e
+    ∙ ap (λ (c : Bool). else12 (c && all_vectors w rows) (Ok (number + suc (length rows)))) (no_code wide (all_codes row))
 
 -- a new line
 line-ends : (w column number : ℕ) (rows : List (List ℕ)) (t : Bool) → eqb column w ≡ t
@@ -73,11 +73,11 @@ line-ends : (w column number : ℕ) (rows : List (List ℕ)) (t : Bool) → eqb 
 line-ends w column number rows true e =
     let one : number + suc (length rows) ≡ number + 1 + length rows = omega arith in
     let full : eqb (column + 0) w ≡ true = ap (λ (k : ℕ). eqb k w) (add-zero column) ∙ e in
-    ap₂ (λ (k : ℕ) (c : Bool). else12 ((c && true) && all_vectors w rows) (Lines k)) one full
-    ∙ ap (λ (c : Bool). else12 c (Lines (number + 1 + length rows))) (sym (from_start w rows))
+    ap₂ (λ (k : ℕ) (c : Bool). else12 ((c && true) && all_vectors w rows) (Ok k)) one full
+    ∙ ap (λ (c : Bool). else12 c (Ok (number + 1 + length rows))) (sym (from_start w rows))
 line-ends w column number rows false e =
     let short : eqb (column + 0) w ≡ false = ap (λ (k : ℕ). eqb k w) (add-zero column) ∙ e in
-    ap (λ (c : Bool). else12 ((c && true) && all_vectors w rows) (Lines (number + suc (length rows)))) short
+    ap (λ (c : Bool). else12 ((c && true) && all_vectors w rows) (Ok (number + suc (length rows)))) short
 
 -- bytes of which the last is a new line have a line
 pub record SomeLine (l : List ℕ) : Type 0 where
@@ -103,11 +103,11 @@ past-byte b (a ∷ l) e q = some-line a l (ended-past b (a ∷ l) e)
 
 -- the pass over one byte more, from what it says of the rest
 module _ (w column number b : ℕ) (l : List ℕ) (rest : (c n : ℕ) → scan w c n l ≡ count_from w c n (lines_in l)) where
-  abbrev test : Bool → Bool → Bool → Traced
+  abbrev test : Bool → Bool → Bool → Result ℕ Refusal
   test full line code =
       cond full (else12 line (scan w 0 (number + 1) l)) (else12 code (scan w (column + 1) number l))
 
-  abbrev lines : Bool → Traced
+  abbrev lines : Bool → Result ℕ Refusal
   lines t = count_from w column number (cond t ([] ∷ lines_in l) (on_first b (lines_in l)))
 
   ended-line : (full : Bool) → eqb column w ≡ full → test full true false ≡ lines true
@@ -132,11 +132,11 @@ module _ (w column number b : ℕ) (l : List ℕ) (rest : (c n : ℕ) → scan w
 
 -- the pass says what the lines are
 scan-from : (w column number : ℕ) (l : List ℕ) → ended l ≡ true → scan w column number l ≡ count_from w column number (lines_in l)
-scan-from w column number [] e = ap Lines (sym (add-zero number))
+scan-from w column number [] e = ap Ok (sym (add-zero number))
 scan-from w column number (b ∷ l) e =
     one_byte w column number b l (λ c n. scan-from w c n l (ended-past b l e)) e (eqb b 10) refl
 
--- all of them, where the last line has its end, and where it has none
+-- all of them, where the last line has its end
 module _ (w : ℕ) (bytes : List ℕ) where
   abbrev rows : List (List ℕ)
   rows = lines_in bytes
@@ -144,18 +144,15 @@ module _ (w : ℕ) (bytes : List ℕ) where
   abbrev told : Bool → Parse (List (List ℕ))
   told good = cond good (got rows (length bytes)) (refused (BadVector 2))
 
-  abbrev asked : Bool → Traced
+  abbrev asked : Bool → Result ℕ Refusal
   asked t = counted_by (cond t (told (all_vectors w rows)) (refused (WrongByte (length bytes))))
 
-  counted : (good : Bool) → else12 good (Lines (length rows)) ≡ counted_by (told good)
+  counted : (good : Bool) → else12 good (Ok (length rows)) ≡ counted_by (told good)
   counted true = refl
   counted false = refl
 
   pub scan-is : ended bytes ≡ true → scan w 0 0 bytes ≡ counted_by (stimulus w bytes)
   scan-is e =
       scan-from w 0 0 bytes e
-      ∙ (ap₂ (λ (t : Bool) (k : ℕ). else12 t (Lines k)) (from_start w rows) (zero-add (length rows))
+      ∙ (ap₂ (λ (t : Bool) (k : ℕ). else12 t (Ok k)) (from_start w rows) (zero-add (length rows))
       ∙ (counted (all_vectors w rows) ∙ ap asked (sym e)))
-
-  pub not-ended : ended bytes ≡ false → Refused (WrongByte (length bytes)) ≡ counted_by (stimulus w bytes)
-  not-ended e = ap asked (sym e)

@@ -2,8 +2,8 @@
 use Prim.Native.Nat.{ℕ, ◌/◌, ◌≤◌, min}
 use mathlib.Core.Path.{◌≡◌, refl, sym, ap, ap₂, ◌∙◌}
 use mathlib.Core.Bool.{Bool, true, false, ◌&&◌}
-use mathlib.Core.Option.{Option, none, some}
 use mathlib.Core.List.{List, [], ◌∷◌, map}
+use Rattle.std.specs.Prelude.{Result, Ok, Err, Option, Some, None}
 use native.Mathlib.Nat.{min-le_left, min-le_right, mul-le-mul_left, mul-div-le, le_trans}
 use native.Mathlib.Omega.{arith}
 use borrow.Author.Tests.{eqb-true}
@@ -12,8 +12,6 @@ use lib.ListN.{length, take, length-map}
 use lib.Seq.{length-take-le}
 use Rattle.plan.specs.declared.Refusal.{Refusal}
 use Rattle.plan.specs.declared.Refusal.TheVariants.{BadVector}
-use Rattle.plan.specs.declared.Traced.{Traced}
-use Rattle.plan.specs.declared.Traced.TheVariants.{Lines, Refused}
 use Rattle.plan.specs.Refusals.{stage, first_of}
 use Rattle.plan.specs.Circuit.{cleared}
 use Rattle.plan.specs.Step.{Value, code_of, value_of, run}
@@ -31,12 +29,12 @@ use Rattle.runs.specs.trace.Tracing.{Listed, Left, first_ones, judged}
 abbrev pub bad : Bool → Bool → Option Refusal
 bad s v = stage BadVector (or_else (failing_at 1 s) (failing_at 2 v))
 
-some-bad : (s v : Bool) (k : ℕ) (r : Refusal) → judged s v k ≡ Refused r → bad s v ≡ some r
+some-bad : (s v : Bool) (k : ℕ) (r : Refusal) → judged s v k ≡ Err r → bad s v ≡ Some r
 some-bad true true k r e = let z : ◌≡◌ {A = ℕ} 0 1 = cc in absurd (omega arith)
 some-bad true false k r e = cc
 some-bad false v k r e = cc
 
-none-bad : (s v : Bool) (k m : ℕ) → judged s v k ≡ Lines m → (s ≡ true) × (v ≡ true) × (k ≡ m)
+none-bad : (s v : Bool) (k m : ℕ) → judged s v k ≡ Ok m → (s ≡ true) × (v ≡ true) × (k ≡ m)
 none-bad true true k m e = (refl, refl, cc)
 none-bad true false k m e = let z : ◌≡◌ {A = ℕ} 0 1 = cc in absurd (omega arith)
 none-bad false v k m e = let z : ◌≡◌ {A = ℕ} 0 1 = cc in absurd (omega arith)
@@ -60,15 +58,15 @@ module _ (e : TraceEntry) where
       length-map (take few lines) (map value_of)
       ∙ length-take-le few lines (min-le_left (length lines) (length e.out / line_width e.circuit.counts))
 
-  pub refused-trace : (t : List ℕ) → t ≡ cleared e.circuit.scratch → (r : Refusal) → answer e.circuit (trace_stage e) ≡ some r
-      → ◌≡◌ {A = TraceExit} (record { answer = Refused r; scratch = t; state = e.state; out = e.out }) (trace e)
+  pub refused-trace : (t : List ℕ) → t ≡ cleared e.circuit.scratch → (r : Refusal) → answer e.circuit (trace_stage e) ≡ Some r
+      → ◌≡◌ {A = TraceExit} (record { answer = Err r; scratch = t; state = e.state; out = e.out }) (trace e)
   refused-trace t blank r q =
-      (λ j. record { answer = Refused r; scratch = blank j; state = e.state; out = e.out })
+      (λ j. record { answer = Err r; scratch = blank j; state = e.state; out = e.out })
       ∙ sym (ap (λ (o : Option Refusal). traced_by o e) q)
 
   -- what was judged of the vectors, once the tables are good
-  module _ (a : Traced) (says : a ≡ judged state-good whole (length lines)) where
-    module _ (m : ℕ) (is : a ≡ Lines m) where
+  module _ (a : Result ℕ Refusal) (says : a ≡ judged state-good whole (length lines)) where
+    module _ (m : ℕ) (is : a ≡ Ok m) where
       told : (state-good ≡ true) × (whole ≡ true) × (length lines ≡ m)
       told = none-bad state-good whole (length lines) m (sym says ∙ is)
 
@@ -92,17 +90,17 @@ module _ (e : TraceEntry) where
 
     module _ (t : List ℕ) (blank : t ≡ cleared e.circuit.scratch)
         (past : answer e.circuit (trace_stage e) ≡ first_of (trace_stage e ∷ [])) where
-      pub refused-vectors : (r : Refusal) → a ≡ Refused r
-          → ◌≡◌ {A = TraceExit} (record { answer = Refused r; scratch = t; state = e.state; out = e.out }) (trace e)
+      pub refused-vectors : (r : Refusal) → a ≡ Err r
+          → ◌≡◌ {A = TraceExit} (record { answer = Err r; scratch = t; state = e.state; out = e.out }) (trace e)
       refused-vectors r is =
           refused-trace t blank r
           (past ∙ ap (λ (o : Option Refusal). first_of (o ∷ [])) (some-bad state-good whole (length lines) r (sym says ∙ is)))
 
-      pub done-trace : (m : ℕ) → a ≡ Lines m → (number : ℕ) → number ≡ min m (length e.out / line_width e.circuit.counts)
+      pub done-trace : (m : ℕ) → a ≡ Ok m → (number : ℕ) → number ≡ min m (length e.out / line_width e.circuit.counts)
           → (state' out' : List ℕ) → Left (given_circuit e.circuit) e.state (first_ones number e.vectors) state' e.out out'
-          → ◌≡◌ {A = TraceExit} (record { answer = Lines number; scratch = t; state = state'; out = out' }) (trace e)
+          → ◌≡◌ {A = TraceExit} (record { answer = Ok number; scratch = t; state = state'; out = out' }) (trace e)
       done-trace m is number fit state' out' l =
-          (λ j. record { answer = Lines (count j); scratch = blank j; state = state-is j; out = out-is j })
+          (λ j. record { answer = Ok (count j); scratch = blank j; state = state-is j; out = out-is j })
           ∙ sym (ap (λ (o : Option Refusal). traced_by o e) (past ∙ ap (λ (o : Option Refusal). first_of (o ∷ [])) nothing))
         where
           same : number ≡ few
@@ -123,5 +121,5 @@ module _ (e : TraceEntry) where
               l.lines
               ∙ ap (λ (x : List (List Value)). put e.out 0 (step_lines (run (given_circuit e.circuit) (map value_of e.state) x))) list-is
 
-          nothing : bad state-good whole ≡ none
+          nothing : bad state-good whole ≡ None
           nothing = ap₂ bad (told m is).0 (told m is).1

@@ -2,8 +2,8 @@
 use Prim.Native.Nat.{ℕ, zero, suc, ◌+◌, ◌*◌, ◌/◌, ◌≤◌, ◌<◌, min}
 use mathlib.Core.Path.{◌≡◌, refl, ap, ap₂, ◌∙◌}
 use mathlib.Core.Bool.{Bool, true, ◌&&◌}
-use mathlib.Core.Option.{Option, none}
 use mathlib.Core.List.{List, [], ◌∷◌, map}
+use Rattle.std.specs.Prelude.{Ok, Option, None}
 use native.Mathlib.Nat.{le-div_iff_mul-le, min-le_left}
 use native.Mathlib.Omega.{arith}
 use borrow.Author.Tests.{eq-eqb}
@@ -11,7 +11,6 @@ use lib.Dec.{eqb}
 use lib.ListN.{length, drop, length-map, length-replicate}
 use Rattle.plan.specs.declared.Counts.{Counts}
 use Rattle.plan.specs.declared.Refusal.{Refusal}
-use Rattle.plan.specs.declared.Traced.TheVariants.{Lines}
 use Rattle.plan.specs.Refusals.{first_of}
 use Rattle.plan.specs.Circuit.{Tables, words_to_work, against}
 use Rattle.plan.specs.Step.{Value, code_of, value_of}
@@ -43,7 +42,7 @@ good-drop w zero rows e = e
 good-drop w (suc m) [] e = refl
 good-drop w (suc m) (row ∷ rows) e = good-drop w m rows (and_right (eqb (length row) w && all_codes row) (all_vectors w rows) e)
 
-module _ (e : TraceEntry) (k : ℕ) (said : (trace e).answer ≡ Lines k) (out : List ℕ) where
+module _ (e : TraceEntry) (k : ℕ) (said : (trace e).answer ≡ Ok k) (out : List ℕ) where
   abbrev n : Counts
   n = e.circuit.counts
 
@@ -79,18 +78,18 @@ module _ (e : TraceEntry) (k : ℕ) (said : (trace e).answer ≡ Lines k) (out :
   scratch-again : length (trace e).scratch ≡ length e.circuit.scratch
   scratch-again = ap (λ (x : TraceExit). length x.scratch) (outcome e k said) ∙ length-replicate (length e.circuit.scratch) 0
 
-  stages-again : first_of (all_stages true next.circuit (lent_alone next.circuit)) ≡ none
+  stages-again : first_of (all_stages true next.circuit (lent_alone next.circuit)) ≡ None
   stages-again =
       ap (λ (m : ℕ). first_of (all_stages true e.circuit (against 1 (words_to_work n) (lengths_in (sizes_of t) m)))) scratch-again
       ∙ (stages-none e k said).0
 
-  nothing-again : answer next.circuit (trace_stage next) ≡ none
+  nothing-again : answer next.circuit (trace_stage next) ≡ None
   nothing-again =
       both_first (all_stages true next.circuit (lent_alone next.circuit)) (trace_stage next ∷ []) stages-again
       ∙ (ap₂ (λ (s v : Bool). first_of (bad s v ∷ [])) state-again vectors-again)
 
   -- the next call tells as many lines as are left and fit
-  pub goes_on_lem : (trace next).answer ≡ Lines (length (next_lines next))
+  pub goes_on_lem : (trace next).answer ≡ Ok (length (next_lines next))
   goes_on_lem = ap (λ (o : Option Refusal). (traced_by o next).answer) nothing-again
 
 -- one line at least, if one is left and fits

@@ -2,8 +2,8 @@
 use Prim.Native.Nat.{ℕ, ◌+◌, ◌*◌, ◌/◌, min}
 use mathlib.Core.Path.{◌≡◌, refl, sym, ap, ap₂, ◌∙◌}
 use mathlib.Core.Bool.{Bool, true, false, ◌&&◌}
-use mathlib.Core.Option.{Option, none, some}
 use mathlib.Core.List.{List, [], ◌∷◌, ◌++◌, map, map-append}
+use Rattle.std.specs.Prelude.{Ok, Option, Some, None}
 use native.Mathlib.Nat.{min-le_left}
 use native.Mathlib.Omega.{arith}
 use borrow.Author.Tests.{eqb-true}
@@ -12,7 +12,6 @@ use lib.ListN.{length, take, drop, length-map, take-append-drop}
 use lib.Seq.{length-take-le}
 use Rattle.plan.specs.declared.Counts.{Counts}
 use Rattle.plan.specs.declared.Refusal.{Refusal}
-use Rattle.plan.specs.declared.Traced.TheVariants.{Lines}
 use Rattle.plan.specs.Refusals.{first_of}
 use Rattle.plan.specs.Circuit.{Circuit, Tables, circuit_of}
 use Rattle.plan.specs.Step.{Value, value_of, run}
@@ -36,16 +35,16 @@ use Rattle.runs.proofs.trace.Together.{traced-together, traced-length, after-len
 abbrev pub values : List ℕ → List (List Value)
 values vectors = map (map value_of) (lines_in vectors)
 
-all-good : (s v : Bool) → first_of (bad s v ∷ []) ≡ none → (s ≡ true) × (v ≡ true)
+all-good : (s v : Bool) → first_of (bad s v ∷ []) ≡ None → (s ≡ true) × (v ≡ true)
 all-good true true e = (refl, refl)
 all-good true false e = let z : ◌≡◌ {A = ℕ} 0 1 = cc in absurd (omega arith)
 all-good false v e = let z : ◌≡◌ {A = ℕ} 0 1 = cc in absurd (omega arith)
 
-no-refusal : (e : TraceEntry) (k : ℕ) (o : Option Refusal) → (traced_by o e).answer ≡ Lines k → o ≡ none
-no-refusal e k none q = refl
-no-refusal e k (some r) q = let z : ◌≡◌ {A = ℕ} 0 1 = cc in absurd (omega arith)
+no-refusal : (e : TraceEntry) (k : ℕ) (o : Option Refusal) → (traced_by o e).answer ≡ Ok k → o ≡ None
+no-refusal e k None q = refl
+no-refusal e k (Some r) q = let z : ◌≡◌ {A = ℕ} 0 1 = cc in absurd (omega arith)
 
-module _ (e : TraceEntry) (k : ℕ) (said : (trace e).answer ≡ Lines k) where
+module _ (e : TraceEntry) (k : ℕ) (said : (trace e).answer ≡ Ok k) where
   abbrev n : Counts
   n = e.circuit.counts
 
@@ -55,13 +54,13 @@ module _ (e : TraceEntry) (k : ℕ) (said : (trace e).answer ≡ Lines k) where
   abbrev s : List Value
   s = map value_of e.state
 
-  nothing : answer e.circuit (trace_stage e) ≡ none
+  nothing : answer e.circuit (trace_stage e) ≡ None
   nothing = no-refusal e k (answer e.circuit (trace_stage e)) said
 
-  pub outcome : trace e ≡ traced_by none e
+  pub outcome : trace e ≡ traced_by None e
   outcome = ap (λ (o : Option Refusal). traced_by o e) nothing
 
-  pub stages-none : (first_of (all_stages true e.circuit (lent_alone e.circuit)) ≡ none) × (first_of (trace_stage e ∷ []) ≡ none)
+  pub stages-none : (first_of (all_stages true e.circuit (lent_alone e.circuit)) ≡ None) × (first_of (trace_stage e ∷ []) ≡ None)
   stages-none = first-both (all_stages true e.circuit (lent_alone e.circuit)) (trace_stage e ∷ []) nothing
 
   pub tables-good : Good true e.circuit
@@ -85,7 +84,7 @@ module _ (e : TraceEntry) (k : ℕ) (said : (trace e).answer ≡ Lines k) where
 
   counted : length (next_lines e) ≡ k
   counted =
-      let q : Lines (length (next_lines e)) ≡ Lines k = sym (ap (λ (x : TraceExit). x.answer) outcome) ∙ said in
+      let q : Ok (length (next_lines e)) ≡ Ok k = sym (ap (λ (x : TraceExit). x.answer) outcome) ∙ said in
       cc
 
   pub few-is : few ≡ k
@@ -144,7 +143,7 @@ call n t scratch state vectors out = record {
 pub data Calls (n : Counts) (t : Tables) : List ℕ → List ℕ → List ℕ → List ℕ → Type 0 where
   none_left : {scratch state : List ℕ} → Calls n t scratch state [] []
   one_more : {scratch state vectors printed : List ℕ} (out : List ℕ) (k : ℕ)
-      → (trace (call n t scratch state vectors out)).answer ≡ Lines k
+      → (trace (call n t scratch state vectors out)).answer ≡ Ok k
       → Calls n t (trace (call n t scratch state vectors out)).scratch (trace (call n t scratch state vectors out)).state
       (drop ((n.I + 1) * k) vectors) printed
       → Calls n t scratch state vectors (take (line_width n * k) (trace (call n t scratch state vectors out)).out ++ printed)

@@ -2,8 +2,8 @@
 use Prim.Native.Nat.{ℕ, ◌≤◌}
 use mathlib.Core.Path.{◌≡◌, refl, sym, ap, ap₂, ◌∙◌}
 use mathlib.Core.Bool.{Bool, true, false, cond}
-use mathlib.Core.Option.{Option, none, some}
 use mathlib.Core.List.{List, map}
+use Rattle.std.specs.Prelude.{Result, Ok, Err, Option, Some, None}
 use native.Mathlib.Omega.{arith}
 use borrow.Author.Tests.{le-leb}
 use lib.Dec.{leb}
@@ -11,8 +11,6 @@ use lib.ListN.{length}
 use Rattle.plan.specs.declared.Counts.{Counts}
 use Rattle.plan.specs.declared.Refusal.{Refusal}
 use Rattle.plan.specs.declared.Refusal.TheVariants.{WrongByte, BadVector, LongInput}
-use Rattle.plan.specs.declared.Traced.{Traced}
-use Rattle.plan.specs.declared.Traced.TheVariants.{Lines, Refused}
 use Rattle.plan.specs.Refusals.{Parse, got, refused, ◌then◌}
 use Rattle.plan.specs.Circuit.{Circuit, Tables, circuit_of}
 use Rattle.plan.specs.Reading.{read_to_work}
@@ -31,17 +29,17 @@ traced_lines c list end = got (step_lines (run (convert c) (first_state (convert
 abbrev of-lines : Circuit → Parse (List (List ℕ)) → List ℕ
 of-lines c p = printed (p then traced_lines c)
 
-pub count-refuses-by : (f : List (List ℕ) → ℕ → Parse (List ℕ)) (p : Parse (List (List ℕ))) (r : Refusal) → counted_by p ≡ Refused r
+pub count-refuses-by : (f : List (List ℕ) → ℕ → Parse (List ℕ)) (p : Parse (List (List ℕ))) (r : Refusal) → counted_by p ≡ Err r
     → printed (p then f) ≡ refusal_line r
 count-refuses-by f (got list end) r e = let z : ◌≡◌ {A = ℕ} 0 1 = cc in absurd (omega arith)
 count-refuses-by f (refused q) r e = ap (λ (x : Refusal). refusal_line x) (the-refusal q r e)
   where
-    the-refusal : (q r : Refusal) → ◌≡◌ {A = Traced} (Refused q) (Refused r) → q ≡ r
+    the-refusal : (q r : Refusal) → ◌≡◌ {A = Result ℕ Refusal} (Err q) (Err r) → q ≡ r
     the-refusal q r e = cc
 
 -- lines that are counted are those of the input
 pub all_lines : (rows : List (List ℕ)) (size k : ℕ) (x y z : Refusal) (t u v : Bool)
-    → counted_by (cond t (cond u (cond v (got rows size) (refused x)) (refused y)) (refused z)) ≡ Lines k
+    → counted_by (cond t (cond u (cond v (got rows size) (refused x)) (refused y)) (refused z)) ≡ Ok k
     → cond t (cond u (cond v (got rows size) (refused x)) (refused y)) (refused z) ≡ got rows size
 all_lines rows size k x y z true true true e = refl
 all_lines rows size k x y z true true false e = let d : ◌≡◌ {A = ℕ} 0 1 = cc in absurd (omega arith)
@@ -55,8 +53,8 @@ module _ {A B : Type 0} (f : List ℕ → Parse A) (g : A → ℕ → Parse B) w
   then-cond false p r = refl
 
   pub input-then : (source : Option (List ℕ)) → input source (λ bytes. f bytes then g) ≡ (input source f then g)
-  input-then none = refl
-  input-then (some bytes) = then-cond (leb (length bytes) 65536) (f bytes) (LongInput 65536)
+  input-then None = refl
+  input-then (Some bytes) = then-cond (leb (length bytes) 65536) (f bytes) (LongInput 65536)
 
 module _ (file : List ℕ) (c : Circuit) (start : ℕ) (short : length file ≤ 65536) (reads : read_to_work file lent_words lent_words ≡ got c start)
     (source : Option (List ℕ)) where
@@ -66,7 +64,7 @@ module _ (file : List ℕ) (c : Circuit) (start : ℕ) (short : length file ≤ 
   abbrev after-file : Circuit → ℕ → Parse (List ℕ)
   after-file d _ = input source (λ bytes. stimulus (length d.inputs) bytes then traced_lines d)
 
-  accepted : tracer (some file) source ≡ of-lines c (input source (stimulus width))
+  accepted : tracer (Some file) source ≡ of-lines c (input source (stimulus width))
   accepted =
       ap (λ (t : Bool). printed (cond t (read_to_work file lent_words lent_words then after-file) (refused (LongInput 65536))))
       (le-leb (length file) 65536 short)
@@ -74,12 +72,12 @@ module _ (file : List ℕ) (c : Circuit) (start : ℕ) (short : length file ≤ 
       ∙ ap printed (input-then (stimulus width) (traced_lines c) source))
 
   -- the file is accepted, and the count of lines is refused
-  pub tracer-refuses : (r : Refusal) → count_lines source width ≡ Refused r → tracer (some file) source ≡ refusal_line r
+  pub tracer-refuses : (r : Refusal) → count_lines source width ≡ Err r → tracer (Some file) source ≡ refusal_line r
   tracer-refuses r e = accepted ∙ count-refuses-by (traced_lines c) (input source (stimulus width)) r e
 
   -- or tells how many there are
-  pub tracer-prints : (bytes : List ℕ) → source ≡ some bytes → (k : ℕ) → count_lines source width ≡ Lines k
-      → tracer (some file) source ≡ step_lines (run (convert c) (first_state (convert c)) (values bytes))
+  pub tracer-prints : (bytes : List ℕ) → source ≡ Some bytes → (k : ℕ) → count_lines source width ≡ Ok k
+      → tracer (Some file) source ≡ step_lines (run (convert c) (first_state (convert c)) (values bytes))
   tracer-prints bytes is k e =
       let whole : input source (stimulus width) ≡ got (lines_in bytes) (length bytes)
       = ap (λ (o : Option (List ℕ)). input o (stimulus width)) is
@@ -89,11 +87,11 @@ module _ (file : List ℕ) (c : Circuit) (start : ℕ) (short : length file ≤ 
 
 -- calls on the converted circuit, from the codes of its first state on, print what the tracer prints
 pub calls-trace : (file : List ℕ) (c : Circuit) (start : ℕ) → length file ≤ 65536 → read_to_work file lent_words lent_words ≡ got c start
-    → (bytes : List ℕ) (k : ℕ) → count_lines (some bytes) (length c.inputs) ≡ Lines k
+    → (bytes : List ℕ) (k : ℕ) → count_lines (Some bytes) (length c.inputs) ≡ Ok k
     → (n : Counts) (t : Tables) → circuit_of n t ≡ convert c → (scratch out : List ℕ)
     → Calls n t scratch (map code_of (first_state (convert c))) bytes out
-    → out ≡ tracer (some file) (some bytes)
+    → out ≡ tracer (Some file) (Some bytes)
 calls-trace file c start short reads bytes k counted n t holds scratch out calls =
     calls-print calls
     ∙ (ap₂ (λ (d : Circuit) (s : List Value). step_lines (run d s (values bytes))) holds (codes-values (first_state (convert c)))
-    ∙ sym (tracer-prints file c start short reads (some bytes) bytes refl k counted))
+    ∙ sym (tracer-prints file c start short reads (Some bytes) bytes refl k counted))

@@ -1,12 +1,9 @@
 -- Both engines over a part of a run: what each leaves, and whether it is the same.
-use Rattle.std.specs.Prelude.{ℕ, Bool, true, false, ◌&&◌, List, [], ◌∷◌, eqb}
-use Rattle.plan.specs.declared.Traced.{Traced}
-use Rattle.plan.specs.declared.Traced.TheVariants as traced
+use Rattle.std.specs.Prelude.{ℕ, Bool, true, false, ◌&&◌, List, [], ◌∷◌, eqb, Option, Some, None, Result, Ok, Err}
+use Rattle.plan.specs.declared.Refusal.{Refusal}
 use Rattle.plan.specs.Outcome.{refusal_values, traced_values}
 use Rattle.plan.specs.Whole.{TraceEntry, TraceExit, trace}
 use Rattle.plan.specs.Plain.{plain_trace}
-use Rattle.runs.specs.declared.comparing.Compared.{Compared}
-use Rattle.runs.specs.declared.comparing.Compared.TheVariants.{Lines, Differ, Refused}
 
 abbrev pub same_bytes : List ℕ → List ℕ → Bool
 same_bytes [] [] = true
@@ -15,7 +12,7 @@ same_bytes (a ∷ l) [] = false
 same_bytes (a ∷ l) (b ∷ m) = eqb a b && same_bytes l m
 
 -- as many lines, or the same refusal
-abbrev pub same_answer : Traced → Traced → Bool
+abbrev pub same_answer : Result ℕ Refusal → Result ℕ Refusal → Bool
 same_answer a b = same_bytes (traced_values a) (traced_values b)
 
 abbrev pub agree : TraceExit → TraceExit → Bool
@@ -28,7 +25,7 @@ pub record CompareEntry : Type 0 where
   pub again : List ℕ
 
 pub record CompareExit : Type 0 where
-  pub answer : Compared
+  pub answer : Result (Option ℕ) Refusal
   pub scratch : List ℕ
   pub state : List ℕ
   pub out : List ℕ
@@ -36,15 +33,16 @@ pub record CompareExit : Type 0 where
   pub again : List ℕ
 
 -- the answer as numbers: 1 if both engines leave the same and 0 if they part, and how many lines
-abbrev pub compared_values : Compared → List ℕ
-compared_values (Lines k) = 0 ∷ 0 ∷ 1 ∷ k ∷ []
-compared_values Differ = 0 ∷ 0 ∷ 0 ∷ 0 ∷ []
-compared_values (Refused r) = refusal_values r (0 ∷ 0 ∷ [])
+abbrev pub compared_values : Result (Option ℕ) Refusal → List ℕ
+compared_values (Ok (Some k)) = 0 ∷ 0 ∷ 1 ∷ k ∷ []
+compared_values (Ok None) = 0 ∷ 0 ∷ 0 ∷ 0 ∷ []
+compared_values (Err r) = refusal_values r (0 ∷ 0 ∷ [])
 
-abbrev pub compared_by : Bool → Traced → Compared
-compared_by true (traced.Lines k) = Lines k
-compared_by true (traced.Refused r) = Refused r
-compared_by false t = Differ
+-- the number of lines where both engines leave the same, none where they part, or the refusal
+abbrev pub compared_by : Bool → Result ℕ Refusal → Result (Option ℕ) Refusal
+compared_by true (Ok k) = Ok (Some k)
+compared_by true (Err r) = Err r
+compared_by false t = Ok None
 
 abbrev pub both : TraceExit → TraceExit → CompareExit
 both a b = record {

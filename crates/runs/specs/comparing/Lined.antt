@@ -1,9 +1,8 @@
 -- The lines of a run by the plain engine: how they are judged, the vectors that a line asks for, and what it leaves.
-use Rattle.std.specs.Prelude.{ℕ, ◌≡◌, true, cond, ◌&&◌, List, map, eqb, leb, length}
+use Rattle.std.specs.Prelude.{ℕ, ◌≡◌, true, cond, ◌&&◌, List, map, eqb, leb, length, Result, Err}
+use Rattle.plan.specs.declared.Refusal.{Refusal}
 use Rattle.plan.specs.declared.Counts.{Counts}
 use Rattle.plan.specs.declared.Refusal.TheVariants.{ManyGates}
-use Rattle.plan.specs.declared.Traced.{Traced}
-use Rattle.plan.specs.declared.Traced.TheVariants.{Refused}
 use Rattle.plan.specs.Circuit.{Circuit}
 use Rattle.plan.specs.Step.{code_of, value_of, next_of, step_of}
 use Rattle.plan.specs.Outcome.{all_codes, put}
@@ -22,7 +21,7 @@ pub record Lined (c : Circuit) (state ins state' out : List ℕ) (at : ℕ) (out
   pub line : out' ≡ put out at (step_line (step_of c (map value_of state) (map value_of ins)))
 
 -- the lines of vectors, by 24 and then 12: place 1 the state, 2 the vectors
-abbrev pub plain_judged : Counts → List ℕ → List ℕ → Traced
+abbrev pub plain_judged : Counts → List ℕ → List ℕ → Result ℕ Refusal
 plain_judged n state vectors =
     cond (leb n.A 24) (judged (eqb (length state) n.L && all_codes state)
-    (ended vectors && all_vectors n.I (lines_in vectors)) (length (lines_in vectors))) (Refused (ManyGates n.A))
+    (ended vectors && all_vectors n.I (lines_in vectors)) (length (lines_in vectors))) (Err (ManyGates n.A))

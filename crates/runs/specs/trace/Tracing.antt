@@ -1,9 +1,8 @@
 -- Lines of a run: what each function that writes them asks and leaves.
-use Rattle.std.specs.Prelude.{ℕ, zero, suc, ◌+◌, ◌*◌, ◌≤◌, min, ◌≡◌, Bool, true, false, cond, List, [], ◌∷◌, ◌++◌, map, eqb, length, take, drop}
+use Rattle.std.specs.Prelude.{ℕ, zero, suc, ◌+◌, ◌*◌, ◌≤◌, min, ◌≡◌, Bool, true, false, cond, List, [], ◌∷◌, ◌++◌, map, eqb, length, take, drop, Result, Ok, Err}
+use Rattle.plan.specs.declared.Refusal.{Refusal}
 use Rattle.plan.specs.declared.Counts.{Counts}
 use Rattle.plan.specs.declared.Refusal.TheVariants.{BadVector}
-use Rattle.plan.specs.declared.Traced.{Traced}
-use Rattle.plan.specs.declared.Traced.TheVariants.{Lines, Refused}
 use Rattle.plan.specs.Circuit.{Circuit, Tables}
 use Rattle.plan.specs.Step.{Value, code_of, value_of, next_of, step_of, run}
 use Rattle.plan.specs.Outcome.{put}
@@ -53,10 +52,10 @@ pub record Left (c : Circuit) (state : List ℕ) (list : List (List Value)) (sta
   pub lines : out' ≡ put out 0 (step_lines (run c (map value_of state) list))
 
 -- 12: place 1 the state, 2 the vectors; else the lines
-abbrev pub judged : Bool → Bool → ℕ → Traced
-judged true true number = Lines number
-judged true false number = Refused (BadVector 2)
-judged false vectors number = Refused (BadVector 1)
+abbrev pub judged : Bool → Bool → ℕ → Result ℕ Refusal
+judged true true number = Ok number
+judged true false number = Err (BadVector 2)
+judged false vectors number = Err (BadVector 1)
 
 -- the bytes of the first k lines, or all
 abbrev pub bytes_of_lines : ℕ → List ℕ → ℕ

@@ -1,9 +1,9 @@
-use mathlib.Core.Path.{◌≡◌, sym, ap, ◌∙◌}
-use mathlib.Core.Option.{none}
+use mathlib.Core.Path.{sym, ap, ◌∙◌}
 use lib.ListN.{length}
-use Rattle.plan.specs.declared.Checked.TheVariants.{Good}
+use Rattle.std.specs.Prelude.{None}
+use Rattle.laws.proofs.Pairs.{passed-on}
 use Rattle.plan.specs.Circuit.{seven}
-use Rattle.plan.specs.Outcome.{CheckExit, check_in_order}
+use Rattle.plan.specs.Outcome.{CheckExit}
 use Rattle.plan.specs.Search.{SearchEntry, search_stages}
 use Rattle.tables.specs.Held.{Scratch}
 use Rattle.step.specs.sweep.Running.{Runs}
@@ -14,7 +14,7 @@ use Rattle.search.proofs.ask.Goals as goal
 
 pub find-requires : goal.find-requires
 find-requires c =
-    let entry : SearchEntry =
+    let e : SearchEntry =
     let a = c.args in
     record {
       circuit = record {
@@ -29,16 +29,11 @@ find-requires c =
       marks = a.marks.now;
       out = a.out.now;
     } in
-    let told : c.check_in_order.result ≡ Good =
-    c.in-Good.is in
-    let says : c.check_in_order.result ≡ (check_in_order (entry).circuit).answer =
-    ap (λ (x : CheckExit). x.answer) c.check_in_order.ensures in
-    let holds : let g = (entry).circuit in Runs g.counts g.tables =
-    runs (entry).circuit none (says) (told) in
+    let holds : let g = e.circuit in Runs g.counts g.tables =
+    runs e.circuit None (ap (λ (x : CheckExit). x.answer) c.check_in_order.ensures) c.in_ok-check_in_order.was in
     let long : Scratch c.args.n c.check_in_order.new.scratch =
-    (room (entry).circuit none (says) (told) c.check_in_order.new.scratch c.check_in_order.auto.scratch).scratch-long in
-    let e = entry in
-    let f = fitting e.circuit.counts e.watch (length e.met) (length e.marks) (sym c.in-Good-fits.is ∙ c.fit-fits.ensures) in
+    (room e.circuit None (ap (λ (x : CheckExit). x.answer) c.check_in_order.ensures) c.in_ok-check_in_order.was c.check_in_order.new.scratch c.check_in_order.auto.scratch).scratch-long in
+    let f = fitting e.circuit.counts e.watch (length e.met) (length e.marks) (sym c.in_ok-fit.was ∙ c.fit.ensures) in
     record {
       inputs = e.circuit.tables.inputs;
       runs = holds;
@@ -50,9 +45,9 @@ find-requires c =
       marks-long = f.marks-long;
     }
 
-pub returns-in-Refused : goal.returns-in-Refused
-returns-in-Refused c =
-    let entry : SearchEntry =
+pub returns-in_err-check_in_order : goal.returns-in_err-check_in_order
+returns-in_err-check_in_order c =
+    let e : SearchEntry =
     let a = c.args in
     record {
       circuit = record {
@@ -67,13 +62,12 @@ returns-in-Refused c =
       marks = a.marks.now;
       out = a.out.now;
     } in
-    let e = entry in
-    asks-refused e _
-    (refused-by e.circuit (search_stages e) (ap (λ (q : CheckExit). q.answer) c.check_in_order.ensures) _ c.in-Refused.is)
+    rw (passed-on _ c.from_residual.ensures.1) (asks-refused e _
+    (refused-by e.circuit (search_stages e) (ap (λ (q : CheckExit). q.answer) c.check_in_order.ensures) _ c.in_err-check_in_order.was))
 
-pub returns-in-Refused-fits : goal.returns-in-Refused-fits
-returns-in-Refused-fits c =
-    let entry : SearchEntry =
+pub returns-in_err-fit : goal.returns-in_err-fit
+returns-in_err-fit c =
+    let e : SearchEntry =
     let a = c.args in
     record {
       circuit = record {
@@ -88,16 +82,11 @@ returns-in-Refused-fits c =
       marks = a.marks.now;
       out = a.out.now;
     } in
-    let told : c.check_in_order.result ≡ Good =
-    c.in-Good.is in
-    let says : c.check_in_order.result ≡ (check_in_order (entry).circuit).answer =
-    ap (λ (x : CheckExit). x.answer) c.check_in_order.ensures in
-    let e = entry in
-    asks-early e (past-check e.circuit (search_stages e) (says) (told)) _ c.fit-fits.ensures _ c.in-Refused-fits.is
+    rw (passed-on _ c.from_residual-in_err-fit.ensures.1) (asks-early e (past-check e.circuit (search_stages e) (ap (λ (x : CheckExit). x.answer) c.check_in_order.ensures) c.in_ok-check_in_order.was) _ c.fit.ensures _ c.in_err-fit.was)
 
-pub returns-in-Good-fits : goal.returns-in-Good-fits
-returns-in-Good-fits c =
-    let entry : SearchEntry =
+pub returns : goal.returns
+returns c =
+    let e : SearchEntry =
     let a = c.args in
     record {
       circuit = record {
@@ -112,12 +101,7 @@ returns-in-Good-fits c =
       marks = a.marks.now;
       out = a.out.now;
     } in
-    let told : c.check_in_order.result ≡ Good =
-    c.in-Good.is in
-    let says : c.check_in_order.result ≡ (check_in_order (entry).circuit).answer =
-    ap (λ (x : CheckExit). x.answer) c.check_in_order.ensures in
-    let holds : let g = (entry).circuit in Runs g.counts g.tables =
-    runs (entry).circuit none (says) (told) in
-    let e = entry in
-    asks-found e (past-check e.circuit (search_stages e) (says) (told)) _ c.fit-fits.ensures c.in-Good-fits.is _ _
+    let holds : let g = e.circuit in Runs g.counts g.tables =
+    runs e.circuit None (ap (λ (x : CheckExit). x.answer) c.check_in_order.ensures) c.in_ok-check_in_order.was in
+    asks-found e (past-check e.circuit (search_stages e) (ap (λ (x : CheckExit). x.answer) c.check_in_order.ensures) c.in_ok-check_in_order.was) _ c.fit.ensures c.in_ok-fit.was _ _
     (c.find.ensures e.circuit.tables.inputs (holds))

@@ -60,7 +60,7 @@ loop-tries-preserved c =
     (c.take_turn.ensures split inputs resets c.loop-tries.tries ex.ways r
     ex.searched ex.count
     (place_is r _ c.loop-tries.tries c.loop-tries.reached _ c.loop-tries.met c.loop-tries.marks ex em) (move-is r _ c.loop-tries.tries c.loop-tries.reached _ c.loop-tries.met c.loop-tries.marks ex em))
-    _ c.in-Left.is
+    _ c.in-Some.is
 
 pub returns-then-reached-allowance : goal.returns-then-reached-allowance
 returns-then-reached-allowance c =

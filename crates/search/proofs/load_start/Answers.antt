@@ -1,10 +1,6 @@
-use Prim.Native.Nat.{◌+◌, ◌-◌}
+use Prim.Native.Nat.{◌+◌}
 use native.Mathlib.Omega.{arith}
 use Rattle.search.proofs.Beginning.{part-rest, both-loaded, first-asks, second-asks}
-use Rattle.search.proofs.load_start.Reads as reads
-use Rattle.search.proofs.load_start.Lts as lts
-use Rattle.tables.proofs.lesser.Reads as lesser-reads
-use Rattle.witness.proofs.load_resets_filled.Reads as load-resets-filled-reads
 use Rattle.search.proofs.load_start.Goals as goal
 
 pub load_resets_filled-requires : goal.load_resets_filled-requires

@@ -8,30 +8,6 @@ use Rattle.search.specs.Exploring.{LeftBy}
 use Rattle.search.proofs.Turning.{found-seen, tells, left-barred, meets-to, left-to}
 use Rattle.search.proofs.take_turn.Goals as goal
 
-pub overflow_mul-s : goal.overflow_mul-s
-overflow_mul-s c =
-    omega (
-      arith,
-      c.requires.few,
-      c.requires.there,
-    )
-
-pub offset_bounds-met-place : goal.offset_bounds-met-place
-offset_bounds-met-place c =
-    omega (
-      arith,
-      c.requires.few,
-      c.requires.there,
-    )
-
-pub bounds-met-place : goal.bounds-met-place
-bounds-met-place c =
-    omega (
-      arith,
-      c.requires.rows_long,
-      c.requires.there,
-    )
-
 pub meet-requires : goal.meet-requires
 meet-requires c =
     let a = c.args in

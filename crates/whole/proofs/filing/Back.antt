@@ -2,14 +2,13 @@
 use Prim.Native.Nat.{ℕ, ◌≤◌}
 use mathlib.Core.Path.{◌≡◌, refl, sym, ap, ◌∙◌, subst}
 use mathlib.Core.Bool.{true}
-use mathlib.Core.Option.{Option, some}
 use mathlib.Core.List.{List, [], append-nil}
+use Rattle.std.specs.Prelude.{Ok, Option, Some}
 use native.Mathlib.Omega.{arith}
 use lib.Dec.{leb}
 use lib.ListN.{length, take}
 use Rattle.plan.specs.declared.Version.TheVariants.{V19}
 use Rattle.plan.specs.declared.Refusal.TheVariants.{LongInput}
-use Rattle.plan.specs.declared.Written.TheVariants as written
 use Rattle.plan.specs.Refusals.{Parse, got, refused, ◌then◌}
 use Rattle.plan.specs.Circuit.{Circuit, lengths_of}
 use Rattle.plan.specs.Header.{binary, form_in}
@@ -31,7 +30,7 @@ use Rattle.cards.proofs.Laws.Exactly.{cards-state, cards-read, cards-unique}
 use Rattle.cards.proofs.Laws.Back.{no-tail, stated, card-read, stated-to-card}
 
 -- an answer in bytes: they are what was to be written, and stand first in the buffer
-wrote : (e : CardEntry) (p : Parse (List ℕ)) (n : ℕ) → (moved_by e p).answer ≡ written.Bytes n
+wrote : (e : CardEntry) (p : Parse (List ℕ)) (n : ℕ) → (moved_by e p).answer ≡ Ok n
     → (bytes : List ℕ) × (k : ℕ) × (p ≡ got bytes k) × (take n (moved_by e p).out ≡ bytes)
 wrote e (got bytes k) n a =
     let n-is : n ≡ length bytes = cc in
@@ -39,7 +38,7 @@ wrote e (got bytes k) n a =
 wrote e (refused r) n a = let z : ◌≡◌ {A = ℕ} 0 1 = cc in absurd (omega arith)
 
 -- what was to be written follows from an input that was read
-came : (plan : Option (List ℕ)) (file : List ℕ) (f : List ℕ → Parse (List ℕ)) (bytes : List ℕ) (k : ℕ) → plan ≡ some file
+came : (plan : Option (List ℕ)) (file : List ℕ) (f : List ℕ → Parse (List ℕ)) (bytes : List ℕ) (k : ℕ) → plan ≡ Some file
     → input plan f ≡ got bytes k → f file ≡ got bytes k
 came plan file f bytes k e q =
     (cond-got (leb (length file) 65536) (f file) (LongInput 65536) bytes k (ap (λ (x : Option (List ℕ)). input x f) (sym e) ∙ q)).1
@@ -47,15 +46,15 @@ came plan file f bytes k e q =
 fitted : (out bytes b : List ℕ) (k : ℕ) → fitting_in out b ≡ got bytes k → b ≡ bytes
 fitted out bytes b k q = got-value b bytes (length b) k (unless-got (lacking_room out 0 b) _ _ bytes k q).1
 
-module _ (e : CardEntry) (file : List ℕ) (plan : e.plan ≡ some file) (n : ℕ) where
-  pub filed : (file_whole e).answer ≡ written.Bytes n
+module _ (e : CardEntry) (file : List ℕ) (plan : e.plan ≡ Some file) (n : ℕ) where
+  pub filed : (file_whole e).answer ≡ Ok n
       → (c : Circuit) × (s : ℕ) × (read_cards file (lengths_of e.tables e.scratch) ≡ got c s) × (take n (file_whole e).out ≡ binary_of c)
   filed a =
       let w = wrote e (filed_cards e) n a in
       let t = then-got (read_cards file (lengths_of e.tables e.scratch)) _ w.0 w.1 (came e.plan file _ w.0 w.1 plan w.2) in
       (t.0, t.1, t.2, w.3 ∙ sym (fitted e.out w.0 (binary_of t.0) w.1 t.3))
 
-  pub carded : (card_whole e).answer ≡ written.Bytes n
+  pub carded : (card_whole e).answer ≡ Ok n
       → (c : Circuit) × (s : ℕ) × (read_to_card file (lengths_of e.tables e.scratch) ≡ got c s) × (take n (card_whole e).out ≡ cards_of c)
   carded a =
       let w = wrote e (carded_file e) n a in
@@ -70,8 +69,8 @@ shortest-binary file c form short s =
     (f.0 ∙ append-nil (binary_of c), f.1)
 
 -- cards, moved to binary AIGER and from there to cards
-pub cards-and-back : (e : CardEntry) (file : List ℕ) → e.plan ≡ some file → Bytes file → (n : ℕ) → (file_whole e).answer ≡ written.Bytes n
-    → (f : CardEntry) → f.plan ≡ some (take n (file_whole e).out) → Bytes (take n (file_whole e).out) → (m : ℕ) → (card_whole f).answer ≡ written.Bytes m
+pub cards-and-back : (e : CardEntry) (file : List ℕ) → e.plan ≡ Some file → Bytes file → (n : ℕ) → (file_whole e).answer ≡ Ok n
+    → (f : CardEntry) → f.plan ≡ Some (take n (file_whole e).out) → Bytes (take n (file_whole e).out) → (m : ℕ) → (card_whole f).answer ≡ Ok m
     → take m (card_whole f).out ≡ file
 cards-and-back e file plan bytes n a f again between m b =
     let x = filed e file plan n a in
@@ -85,9 +84,9 @@ cards-and-back e file plan bytes n a f again between m b =
     y.3 ∙ (ap cards_of same ∙ sym s.cards)
 
 -- a binary file in the shortest form, moved to cards and from there to binary AIGER
-pub binary-and-back : (e : CardEntry) (file : List ℕ) → e.plan ≡ some file → Bytes file → (n : ℕ) → (card_whole e).answer ≡ written.Bytes n
+pub binary-and-back : (e : CardEntry) (file : List ℕ) → e.plan ≡ Some file → Bytes file → (n : ℕ) → (card_whole e).answer ≡ Ok n
     → form_in file ≡ binary → ShortestForm file
-    → (f : CardEntry) → f.plan ≡ some (take n (card_whole e).out) → Bytes (take n (card_whole e).out) → (m : ℕ) → (file_whole f).answer ≡ written.Bytes m
+    → (f : CardEntry) → f.plan ≡ Some (take n (card_whole e).out) → Bytes (take n (card_whole e).out) → (m : ℕ) → (file_whole f).answer ≡ Ok m
     → take m (file_whole f).out ≡ file
 binary-and-back e file plan bytes n a form short f filed-again between m b =
     let x = carded e file plan n a in
@@ -103,7 +102,7 @@ binary-and-back e file plan bytes n a form short f filed-again between m b =
     y.3 ∙ (ap binary_of same ∙ sym (shortest-binary file c form short (stated file lens bytes c x.1 x.2)).0)
 
 -- with room neither call refuses, and the last buffer holds the file, all else as it was
-filed-done : (e : CardEntry) (file : List ℕ) → e.plan ≡ some file → length file ≤ 65536 → (c : Circuit) → CardStates file c
+filed-done : (e : CardEntry) (file : List ℕ) → e.plan ≡ Some file → length file ≤ 65536 → (c : Circuit) → CardStates file c
     → LongEnough c (lengths_of e.tables e.scratch) → length (binary_of c) ≤ length e.out
     → file_whole e ≡ moved_by e (got (binary_of c) (length (binary_of c)))
 filed-done e file plan fits c s room space =
@@ -113,7 +112,7 @@ filed-done e file plan fits c s room space =
     ap (moved_by e) (input-done e.plan file (λ x. read_cards x lens then λ d _. fitting_in e.out (binary_of d)) plan fits
     ∙ (ap (λ (p : Parse Circuit). p then λ d _. fitting_in e.out (binary_of d)) read ∙ fitting-done e.out (binary_of c) space))
 
-carded-done : (e : CardEntry) (file : List ℕ) → e.plan ≡ some file → length file ≤ 65536 → (c : Circuit) → States V19 file c [] → binary_order c ≡ true
+carded-done : (e : CardEntry) (file : List ℕ) → e.plan ≡ Some file → length file ≤ 65536 → (c : Circuit) → States V19 file c [] → binary_order c ≡ true
     → holdable c ≡ true → LongEnough c (lengths_of e.tables e.scratch) → length (cards_of c) ≤ length e.out
     → card_whole e ≡ moved_by e (got (cards_of c) (length (cards_of c)))
 carded-done e file plan fits c s order held room space =
@@ -126,12 +125,12 @@ carded-done e file plan fits c s order held room space =
 first-bytes : (e : CardEntry) (bytes : List ℕ) (x : CardExit) → x ≡ moved_by e (got bytes (length bytes)) → take (length bytes) x.out ≡ bytes
 first-bytes e bytes x said = ap (λ (y : CardExit). take (length bytes) y.out) said ∙ put_first e.out bytes
 
-module _ (e : CardEntry) (file : List ℕ) (plan : e.plan ≡ some file) (fits : length file ≤ 65536) (c : Circuit)
+module _ (e : CardEntry) (file : List ℕ) (plan : e.plan ≡ Some file) (fits : length file ≤ 65536) (c : Circuit)
     (room : LongEnough c (lengths_of e.tables e.scratch)) where
   -- the carder after the filer
   pub cards-with-room : CardStates file c → length (binary_of c) ≤ length e.out
-      → ((file_whole e).answer ≡ written.Bytes (length (binary_of c)))
-      × ((f : CardEntry) → f.plan ≡ some (take (length (binary_of c)) (file_whole e).out) → length (binary_of c) ≤ 65536
+      → ((file_whole e).answer ≡ Ok (length (binary_of c)))
+      × ((f : CardEntry) → f.plan ≡ Some (take (length (binary_of c)) (file_whole e).out) → length (binary_of c) ≤ 65536
       → LongEnough c (lengths_of f.tables f.scratch) → length file ≤ length f.out
       → card_whole f ≡ moved_by f (got file (length file)))
   cards-with-room s space =
@@ -140,15 +139,15 @@ module _ (e : CardEntry) (file : List ℕ) (plan : e.plan ≡ some file) (fits :
       let itself = states-binary there c [] s.formed (no-tail c) (sym (append-nil there)) s.order in (
         ap (λ (x : CardExit). x.answer) first,
         λ f plan' fits' room' space'.
-            carded-done f there (plan' ∙ ap some (first-bytes e there (file_whole e) first)) fits' c itself s.order s.held room'
+            carded-done f there (plan' ∙ ap Some (first-bytes e there (file_whole e) first)) fits' c itself s.order s.held room'
             (subst (λ (l : List ℕ). length l ≤ length f.out) s.cards space')
             ∙ ap (λ (l : List ℕ). moved_by f (got l (length l))) (sym s.cards),
       )
 
   -- the filer after the carder, of a binary file in the shortest form without a tail, whose circuit cards can hold
   pub binary-with-room : States V19 file c [] → form_in file ≡ binary → ShortestForm file → holdable c ≡ true → length (cards_of c) ≤ length e.out
-      → ((card_whole e).answer ≡ written.Bytes (length (cards_of c)))
-      × ((f : CardEntry) → f.plan ≡ some (take (length (cards_of c)) (card_whole e).out) → length (cards_of c) ≤ 65536
+      → ((card_whole e).answer ≡ Ok (length (cards_of c)))
+      × ((f : CardEntry) → f.plan ≡ Some (take (length (cards_of c)) (card_whole e).out) → length (cards_of c) ≤ 65536
       → LongEnough c (lengths_of f.tables f.scratch) → length file ≤ length f.out
       → file_whole f ≡ moved_by f (got file (length file)))
   binary-with-room s form short held space =
@@ -158,7 +157,7 @@ module _ (e : CardEntry) (file : List ℕ) (plan : e.plan ≡ some file) (fits :
       let itself : CardStates there c = record { cards = refl; formed = formed V19 file c [] s; order = b.1; held = held } in (
         ap (λ (x : CardExit). x.answer) first,
         λ f plan' fits' room' space'.
-            filed-done f there (plan' ∙ ap some (first-bytes e there (card_whole e) first)) fits' c itself room'
+            filed-done f there (plan' ∙ ap Some (first-bytes e there (card_whole e) first)) fits' c itself room'
             (subst (λ (l : List ℕ). length l ≤ length f.out) b.0 space')
             ∙ ap (λ (l : List ℕ). moved_by f (got l (length l))) (sym b.0),
       )

@@ -2,8 +2,8 @@
 use Prim.Native.Nat.{ℕ, ◌-◌, ◌<◌, ◌≤◌}
 use mathlib.Core.Path.{◌≡◌, refl, sym, ap, ◌∙◌, subst}
 use mathlib.Core.Bool.{Bool, true, false, cond, ◌&&◌}
-use mathlib.Core.Option.{Option, none, some}
 use mathlib.Core.List.{List, [], ◌∷◌, ◌++◌, append-nil}
+use Rattle.std.specs.Prelude.{Ok, Err, Option, Some, None}
 use native.Mathlib.Omega.{arith}
 use borrow.Author.Tests.{le-leb, lt-leb}
 use borrow.Rule.Slice.PartMut.{mid_of}
@@ -14,8 +14,6 @@ use Rattle.plan.specs.declared.Version.TheVariants.{V19}
 use Rattle.plan.specs.declared.Counts.{Counts}
 use Rattle.plan.specs.declared.Refusal.{Refusal}
 use Rattle.plan.specs.declared.Refusal.TheVariants.{ShortBuffer, LongInput, Unreadable, NotInOrder, NotOnCards}
-use Rattle.plan.specs.declared.Loaded.TheVariants as loaded
-use Rattle.plan.specs.declared.Written.TheVariants as written
 use Rattle.plan.specs.Refusals.{Parse, got, refused, ◌then◌, unless, stage, first_of}
 use Rattle.plan.specs.Circuit.{Circuit, Tables, lengths_of, cleared, all_cleared}
 use Rattle.plan.specs.Binary.{binary_of, binary_order}
@@ -38,7 +36,7 @@ use Rattle.cards.proofs.Laws.Calls.{cards-left}
 
 -- an input that can't be read, or is too long
 module _ (file out : List ℕ) (f : List ℕ → Parse (List ℕ)) (b : Bool) where
-  pub unreadable : b ≡ false → ◌≡◌ {A = WriteExit} (record { answer = written.Refused (Unreadable 0); out = out }) (told_by out (input (input_of b file) f))
+  pub unreadable : b ≡ false → ◌≡◌ {A = WriteExit} (record { answer = Err (Unreadable 0); out = out }) (told_by out (input (input_of b file) f))
   unreadable e = sym (ap (λ (x : Bool). told_by out (input (input_of x file) f)) e)
 
   within : b ≡ true → (t : Bool) → leb (length file) 65536 ≡ t
@@ -47,7 +45,7 @@ module _ (file out : List ℕ) (f : List ℕ → Parse (List ℕ)) (b : Bool) wh
       ap (λ (x : Bool). told_by out (input (input_of x file) f)) e ∙ ap (λ (x : Bool). told_by out (cond x (f file) (refused (LongInput 65536)))) q
 
   pub too_long : b ≡ true → 65536 < length file
-      → ◌≡◌ {A = WriteExit} (record { answer = written.Refused (LongInput 65536); out = out }) (told_by out (input (input_of b file) f))
+      → ◌≡◌ {A = WriteExit} (record { answer = Err (LongInput 65536); out = out }) (told_by out (input (input_of b file) f))
   too_long e h = sym (within e false (lt-leb (length file) 65536 h))
 
   pub was_read : b ≡ true → length file ≤ 65536 → told_by out (f file) ≡ told_by out (input (input_of b file) f)
@@ -57,19 +55,19 @@ module _ (file out : List ℕ) (f : List ℕ → Parse (List ℕ)) (b : Bool) wh
 wrote_by : (e : FileEntry) (bytes : List ℕ) (o : Option ℕ)
     → ◌≡◌ {A = WriteExit} (record { answer = (written_by (stage ShortBuffer o) e bytes).answer; out = (written_by (stage ShortBuffer o) e bytes).out })
     (told_by e.out (unless o ShortBuffer (got bytes (length bytes))))
-wrote_by e bytes none = refl
-wrote_by e bytes (some k) = refl
+wrote_by e bytes None = refl
+wrote_by e bytes (Some k) = refl
 
 -- an accepted reader of cards
 module _ (e : ReadEntry) (x : LoadExit) (said : x ≡ load_cards e) where
-  pub cards-refused : (r : Refusal) → x.answer ≡ loaded.Refused r → read_cards e.file (lengths_of e.tables e.scratch) ≡ refused r
+  pub cards-refused : (r : Refusal) → x.answer ≡ Err r → read_cards e.file (lengths_of e.tables e.scratch) ≡ refused r
   cards-refused r q = go (read_cards e.file (lengths_of e.tables e.scratch)) (ap (λ (y : LoadExit). y.answer) (sym said) ∙ q)
     where
-      go : (p : Parse Circuit) → (load_by e p).answer ≡ loaded.Refused r → p ≡ refused r
+      go : (p : Parse Circuit) → (load_by e p).answer ≡ Err r → p ≡ refused r
       go (got c s) k = let z : ◌≡◌ {A = ℕ} 0 1 = cc in absurd (omega arith)
       go (refused j) k = let j-is : j ≡ r = cc in ap refused j-is
 
-  module _ (n : Counts) (start : ℕ) (q : x.answer ≡ loaded.Accepted n start) where
+  module _ (n : Counts) (start : ℕ) (q : x.answer ≡ Ok (n, start)) where
     cards-got : (c : Circuit) × (read_cards e.file (lengths_of e.tables e.scratch) ≡ got c start)
         × Left (record { counts = n; tables = x.tables; scratch = x.scratch }) c
     cards-got =
@@ -96,7 +94,7 @@ module _ (e : ReadEntry) (x : LoadExit) (said : x ≡ load_cards e) where
         = ap binary_order l.holds ∙ cards-order e.file (lengths_of e.tables e.scratch) c start cards-got.1 in
         let last : first_of (stages g (lent_alone g) ++ (order_stage g ∷ tail_stage g [] ∷ room_stage out file ∷ [])) ≡ room_stage out file
         = both_first (stages g (lent_alone g)) (order_stage g ∷ tail_stage g [] ∷ room_stage out file ∷ []) l.fine
-        ∙ (ap (λ (b : Bool). first_of (stage NotInOrder (failing b) ∷ none ∷ room_stage out file ∷ [])) in_order ∙ one-stage (room_stage out file)) in
+        ∙ (ap (λ (b : Bool). first_of (stage NotInOrder (failing b) ∷ None ∷ room_stage out file ∷ [])) in_order ∙ one-stage (room_stage out file)) in
         let told : y ≡ written_by (room_stage out file) f file
         = y-is ∙ (ap (λ (t : List ℕ). write_binary (record { circuit = g; tail = t; out = out })) nothing
         ∙ ap (λ (o : Option Refusal). written_by o f file) last) in
@@ -120,13 +118,13 @@ on_cards file c start =
 
 by-stages : (c : Circuit) (start : ℕ) (f : FileEntry) (a b : Bool) (o : Option ℕ) → lacking_room f.out 0 (cards_of c) ≡ o
     → ◌≡◌ {A = WriteExit} (record {
-      answer = (written_by (first_of (stage NotInOrder (failing a) ∷ none ∷ stage NotOnCards (failing b) ∷ stage ShortBuffer o ∷ [])) f (cards_of c)).answer;
-      out = (written_by (first_of (stage NotInOrder (failing a) ∷ none ∷ stage NotOnCards (failing b) ∷ stage ShortBuffer o ∷ [])) f (cards_of c)).out;
+      answer = (written_by (first_of (stage NotInOrder (failing a) ∷ None ∷ stage NotOnCards (failing b) ∷ stage ShortBuffer o ∷ [])) f (cards_of c)).answer;
+      out = (written_by (first_of (stage NotInOrder (failing a) ∷ None ∷ stage NotOnCards (failing b) ∷ stage ShortBuffer o ∷ [])) f (cards_of c)).out;
     })
     (told_by f.out ((past (failing a) NotInOrder then λ _ _. past (failing b) NotOnCards then λ _ _. got c start) then λ d _.
     fitting_in f.out (cards_of d)))
-by-stages c start f true true none e = sym (ap (λ (x : Option ℕ). told_by f.out (unless x ShortBuffer (got (cards_of c) (length (cards_of c))))) e)
-by-stages c start f true true (some k) e = sym (ap (λ (x : Option ℕ). told_by f.out (unless x ShortBuffer (got (cards_of c) (length (cards_of c))))) e)
+by-stages c start f true true None e = sym (ap (λ (x : Option ℕ). told_by f.out (unless x ShortBuffer (got (cards_of c) (length (cards_of c))))) e)
+by-stages c start f true true (Some k) e = sym (ap (λ (x : Option ℕ). told_by f.out (unless x ShortBuffer (got (cards_of c) (length (cards_of c))))) e)
 by-stages c start f true false o e = refl
 by-stages c start f false b o e = refl
 
@@ -147,13 +145,13 @@ module _ (readable : Bool) (file : List ℕ) (t : Tables) (scratch out : List �
       ∙ after-input readable file (opening o) later
 
   pub not-carded : (r : Refusal) → opened (record { readable = readable; file = file; tables = t; scratch = scratch; made = sizes_of t }) ≡ refused r
-      → ◌≡◌ {A = WriteExit} (record { answer = written.Refused r; out = out })
+      → ◌≡◌ {A = WriteExit} (record { answer = Err r; out = out })
       (told_by out (carded_file (record { plan = input_of readable file; tables = t; scratch = scratch; out = out })))
   not-carded r q = sym (ap (told_by out) (carded-by ∙ ap (λ (p : Parse Circuit). p then later file) q))
 
   pub file-carded : (g : Given) (start : ℕ)
       → opened (record { readable = readable; file = file; tables = t; scratch = scratch; made = sizes_of t }) ≡ got (given_circuit g) start
-      → first_of (stages g (lent_alone g)) ≡ none → TailOk V19 g.counts (drop start file)
+      → first_of (stages g (lent_alone g)) ≡ None → TailOk V19 g.counts (drop start file)
       → (tail : List ℕ) → tail ≡ mid_of start (length file - start) file
       → (y : FileExit) → y ≡ write_cards (record { circuit = g; tail = tail; out = out })
       → ◌≡◌ {A = WriteExit} (record { answer = y.answer; out = y.out })
@@ -164,9 +162,9 @@ module _ (readable : Bool) (file : List ℕ) (t : Tables) (scratch out : List �
       let f : FileEntry = record { circuit = g; tail = rest; out = out } in
       let f-is : y ≡ write_cards f
       = y-is ∙ ap (λ (l : List ℕ). write_cards (record { circuit = g; tail = l; out = out })) (t-is ∙ part-from start file) in
-      let passed : tail_stage g rest ≡ none = ap refusal_of ((tail-exactly V19 rest g.counts 0).1 tail-ok).2 in
+      let passed : tail_stage g rest ≡ None = ap refusal_of ((tail-exactly V19 rest g.counts 0).1 tail-ok).2 in
       let last : first_of (stages g (lent_alone g) ++ (order_stage g ∷ tail_stage g rest ∷ card_stage g rest ∷ room_stage out (cards_of c) ∷ []))
-      ≡ first_of (order_stage g ∷ none ∷ card_stage g rest ∷ room_stage out (cards_of c) ∷ [])
+      ≡ first_of (order_stage g ∷ None ∷ card_stage g rest ∷ room_stage out (cards_of c) ∷ [])
       = both_first (stages g (lent_alone g)) (order_stage g ∷ tail_stage g rest ∷ card_stage g rest ∷ room_stage out (cards_of c) ∷ []) fine
       ∙ ap (λ (x : Option Refusal). first_of (order_stage g ∷ x ∷ card_stage g rest ∷ room_stage out (cards_of c) ∷ [])) passed in
       let told = f-is ∙ ap (λ (x : Option Refusal). written_by x f (cards_of c)) last in

@@ -2,15 +2,14 @@
 use Prim.Native.Nat.{ℕ, ◌^◌, ◌<◌}
 use mathlib.Core.Path.{◌≡◌, refl, ap, ◌∙◌}
 use mathlib.Core.Bool.{cond}
-use mathlib.Core.Option.{Option, none, some}
 use mathlib.Core.List.{List}
+use Rattle.std.specs.Prelude.{Ok, Err, Option, Some, None}
 use native.Mathlib.Omega.{arith}
 use lib.Dec.{leb}
 use lib.ListN.{length, take, drop}
 use Rattle.plan.specs.declared.Refusal.{Refusal}
 use Rattle.plan.specs.declared.Refusal.TheVariants.{LongInput}
 use Rattle.plan.specs.declared.Version.TheVariants.{V19}
-use Rattle.plan.specs.declared.Written.TheVariants as written
 use Rattle.plan.specs.Refusals.{Parse, got, refused, ◌then◌}
 use Rattle.plan.specs.Circuit.{Circuit, lengths_of}
 use Rattle.plan.specs.Binary.{binary_of}
@@ -29,7 +28,7 @@ use Rattle.cards.proofs.Laws.Back.{card-parts}
 pub record Lends (e : CardEntry) : Type 0 where
   pub words : lengths_of e.tables e.scratch ≡ lent_words
   pub room : length e.out ≡ lent_bytes
-  pub bytes : (file : List ℕ) → e.plan ≡ some file → Bytes file
+  pub bytes : (file : List ℕ) → e.plan ≡ Some file → Bytes file
 
 -- cards of a circuit that a file states are not long
 card-most : (file : List ℕ) (c : Circuit) (start : ℕ) → Bytes file → read_to_card file lent_words ≡ got c start → length (cards_of c) < 2 ^ 64
@@ -45,8 +44,8 @@ module _ (e : CardEntry) (lends : Lends e) where
       → (p : Option (List ℕ)) → e.plan ≡ p
       → (input p λ file. read file (lengths_of e.tables e.scratch) then λ c _. fitting_in e.out (make c))
       ≡ input p λ file. read file lent_words then λ c _. fitting (make c)
-  read_alike read make small none q = refl
-  read_alike read make small (some file) q = ap (λ (r : Parse (List ℕ)). cond (leb (length file) 65536) r (refused (LongInput 65536))) here
+  read_alike read make small None q = refl
+  read_alike read make small (Some file) q = ap (λ (r : Parse (List ℕ)). cond (leb (length file) 65536) r (refused (LongInput 65536))) here
     where
       by-circuit : (r : Parse Circuit) → read file lent_words ≡ r
           → (r then λ c _. fitting_in e.out (make c)) ≡ r then λ c _. fitting (make c)
@@ -60,13 +59,13 @@ module _ (e : CardEntry) (lends : Lends e) where
           ∙ by-circuit (read file lent_words) refl
 
   -- the first bytes of the buffer, or the line of the refusal
-  bytes-printed : (p : Parse (List ℕ)) (k : ℕ) → (moved_by e p).answer ≡ written.Bytes k → take k (moved_by e p).out ≡ printed p
+  bytes-printed : (p : Parse (List ℕ)) (k : ℕ) → (moved_by e p).answer ≡ Ok k → take k (moved_by e p).out ≡ printed p
   bytes-printed (got bytes n) k a =
       let k-is : k ≡ length bytes = cc in
       ap (λ (i : ℕ). take i (moved_by e (got bytes n)).out) k-is ∙ put_first e.out bytes
   bytes-printed (refused r) k a = let z : ◌≡◌ {A = ℕ} 0 1 = cc in absurd (omega arith)
 
-  line-printed : (p : Parse (List ℕ)) (r : Refusal) → (moved_by e p).answer ≡ written.Refused r → refusal_line r ≡ printed p
+  line-printed : (p : Parse (List ℕ)) (r : Refusal) → (moved_by e p).answer ≡ Err r → refusal_line r ≡ printed p
   line-printed (got bytes n) r a = let z : ◌≡◌ {A = ℕ} 0 1 = cc in absurd (omega arith)
   line-printed (refused q) r a = let same : r ≡ q = cc in ap refusal_line same
 
@@ -78,14 +77,14 @@ module _ (e : CardEntry) (lends : Lends e) where
   carder-file : carded_file e ≡ input e.plan λ file. read_to_card file lent_words then λ c _. fitting (cards_of c)
   carder-file = read_alike read_to_card cards_of card-most e.plan refl
 
-  pub filer-bytes : (k : ℕ) → (file_whole e).answer ≡ written.Bytes k → take k (file_whole e).out ≡ filer e.plan
+  pub filer-bytes : (k : ℕ) → (file_whole e).answer ≡ Ok k → take k (file_whole e).out ≡ filer e.plan
   filer-bytes k a = bytes-printed (filed_cards e) k a ∙ ap printed filer-file
 
-  pub filer-refusal : (r : Refusal) → (file_whole e).answer ≡ written.Refused r → refusal_line r ≡ filer e.plan
+  pub filer-refusal : (r : Refusal) → (file_whole e).answer ≡ Err r → refusal_line r ≡ filer e.plan
   filer-refusal r a = line-printed (filed_cards e) r a ∙ ap printed filer-file
 
-  pub carder-bytes : (k : ℕ) → (card_whole e).answer ≡ written.Bytes k → take k (card_whole e).out ≡ carder e.plan
+  pub carder-bytes : (k : ℕ) → (card_whole e).answer ≡ Ok k → take k (card_whole e).out ≡ carder e.plan
   carder-bytes k a = bytes-printed (carded_file e) k a ∙ ap printed carder-file
 
-  pub carder-refusal : (r : Refusal) → (card_whole e).answer ≡ written.Refused r → refusal_line r ≡ carder e.plan
+  pub carder-refusal : (r : Refusal) → (card_whole e).answer ≡ Err r → refusal_line r ≡ carder e.plan
   carder-refusal r a = line-printed (carded_file e) r a ∙ ap printed carder-file

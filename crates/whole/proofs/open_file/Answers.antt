@@ -2,43 +2,15 @@
 use Prim.Native.Nat.{◌≤◌}
 use mathlib.Core.Path.{◌≡◌}
 use mathlib.Core.Bool.{true}
-use borrow.Author.Tests.{not-true, not-false}
+use borrow.Author.Tests.{not-false}
 use lib.ListN.{length}
 use Rattle.plan.specs.Circuit.{seven}
 use Rattle.plan.specs.Outcome.{LoadExit}
 use Rattle.laws.proofs.Reading.Differences.{Bytes}
+use Rattle.laws.proofs.Pairs.{passed-on}
 use Rattle.whole.specs.Opening.{OpenEntry}
-use Rattle.whole.proofs.Opened.{not-readable, too_long, not-read, limits, made-short, made-long}
+use Rattle.whole.proofs.Opened.{not-read, limits, made-short, made-long}
 use Rattle.whole.proofs.open_file.Goals as goal
-
-pub returns-then-not-readable : goal.returns-then-not-readable
-returns-then-not-readable c =
-    let entry : OpenEntry =
-    let a = c.args in
-    record {
-      readable = a.readable;
-      file = a.file.now;
-      tables = seven a.inputs.now a.latches.now a.outputs.now a.gates.now
-          a.resets.now a.bads.now a.constraints.now;
-      scratch = a.scratch.now;
-      made = a.made;
-    } in
-    not-readable (entry) (not-true _ c.if-not-readable.true-raw)
-
-pub returns-then-file-gt-LONGEST : goal.returns-then-file-gt-LONGEST
-returns-then-file-gt-LONGEST c =
-    let entry : OpenEntry =
-    let a = c.args in
-    record {
-      readable = a.readable;
-      file = a.file.now;
-      tables = seven a.inputs.now a.latches.now a.outputs.now a.gates.now
-          a.resets.now a.bads.now a.constraints.now;
-      scratch = a.scratch.now;
-      made = a.made;
-    } in
-    too_long (entry) (not-false _ c.if-not-readable.false-raw)
-    c.if-file-gt-LONGEST.true
 
 pub scratch_to_work-needed-requires : goal.scratch_to_work-needed-requires
 scratch_to_work-needed-requires c =
@@ -65,11 +37,11 @@ scratch_to_work-needed-requires c =
     c.if-file-gt-LONGEST.false in
     let bytes : Bytes (entry).file =
     λ k. (c.type_inv.file k).fits in
-    let m = limits (entry) (readable) (fits) (exit) c.load.ensures (bytes) _ _ c.in-Accepted.is in
+    let m = limits (entry) (readable) (fits) (exit) c.load.ensures (bytes) _ _ c.in_ok-n.was in
     (m.0, m.1.1.1.0, m.1.1.1.1.1.0, m.1.1.1.1.1.1.0)
 
-pub too_short-short-requires : goal.too_short-short-requires
-too_short-short-requires c =
+pub too_short-requires : goal.too_short-requires
+too_short-requires c =
     let entry : OpenEntry =
     let a = c.args in
     record {
@@ -93,11 +65,11 @@ too_short-short-requires c =
     c.if-file-gt-LONGEST.false in
     let bytes : Bytes (entry).file =
     λ k. (c.type_inv.file k).fits in
-    let m = limits (entry) (readable) (fits) (exit) c.load.ensures (bytes) _ _ c.in-Accepted.is in
+    let m = limits (entry) (readable) (fits) (exit) c.load.ensures (bytes) _ _ c.in_ok-n.was in
     (m.1.1.0, m.1.1.1.1.0)
 
-pub returns-then-short-ne0 : goal.returns-then-short-ne0
-returns-then-short-ne0 c =
+pub returns-in-Some : goal.returns-in-Some
+returns-in-Some c =
     let entry : OpenEntry =
     let a = c.args in
     record {
@@ -121,11 +93,11 @@ returns-then-short-ne0 c =
     c.if-file-gt-LONGEST.false in
     let bytes : Bytes (entry).file =
     λ k. (c.type_inv.file k).fits in
-    made-short (entry) (readable) (fits) (exit) c.load.ensures (bytes) _ _ c.in-Accepted.is _
-    c.scratch_to_work-needed.ensures _ c.too_short-short.ensures c.if-short-ne0.true
+    made-short (entry) (readable) (fits) (exit) c.load.ensures (bytes) _ _ c.in_ok-n.was _
+    c.scratch_to_work-needed.ensures _ c.too_short.ensures _ c.in-Some.is
 
-pub returns-in-Refused : goal.returns-in-Refused
-returns-in-Refused c =
+pub returns-in_err-n : goal.returns-in_err-n
+returns-in_err-n c =
     let entry : OpenEntry =
     let a = c.args in
     record {
@@ -147,10 +119,11 @@ returns-in-Refused c =
     not-false _ c.if-not-readable.false-raw in
     let fits : length (entry).file ≤ 65536 =
     c.if-file-gt-LONGEST.false in
-    not-read (entry) (readable) (fits) (exit) c.load.ensures _ c.in-Refused.is
+    rw (passed-on _ c.from_residual.ensures.1) (
+    not-read (entry) (readable) (fits) (exit) c.load.ensures _ c.in_err-n.was)
 
-pub returns-else-short-ne0 : goal.returns-else-short-ne0
-returns-else-short-ne0 c =
+pub returns : goal.returns
+returns c =
     let entry : OpenEntry =
     let a = c.args in
     record {
@@ -174,5 +147,5 @@ returns-else-short-ne0 c =
     c.if-file-gt-LONGEST.false in
     let bytes : Bytes (entry).file =
     λ k. (c.type_inv.file k).fits in
-    made-long (entry) (readable) (fits) (exit) c.load.ensures (bytes) _ _ c.in-Accepted.is _
-    c.scratch_to_work-needed.ensures _ c.too_short-short.ensures c.if-short-ne0.false
+    made-long (entry) (readable) (fits) (exit) c.load.ensures (bytes) _ _ c.in_ok-n.was _
+    c.scratch_to_work-needed.ensures _ c.too_short.ensures c.in_default.is

@@ -2,11 +2,10 @@
 use Prim.Native.Nat.{ℕ}
 use mathlib.Core.Path.{◌≡◌, refl, sym, ap, ◌∙◌}
 use mathlib.Core.Bool.{Bool}
-use mathlib.Core.Option.{Option, none, some}
 use mathlib.Core.List.{List, []}
 use lib.ListN.{length}
+use Rattle.std.specs.Prelude.{Ok, Err, Option, Some, None}
 use Rattle.plan.specs.declared.Refusal.{Refusal}
-use Rattle.plan.specs.declared.Made.TheVariants as made
 use Rattle.plan.specs.Refusals.{Parse, got, refused, first_of}
 use Rattle.plan.specs.Circuit.{Circuit, Tables, counts_of, holding, all_cleared, cleared}
 use Rattle.plan.specs.Given.{Given, given_circuit, lent_with, stages}
@@ -21,10 +20,10 @@ use Rattle.whole.proofs.Writes.{converts, not-refused}
 use Rattle.whole.specs.ordered.Leaving.{left_by}
 
 -- a conversion that does not refuse
-accepts : (o : Option Refusal) (e : MakeEntry) (c : Circuit) → ((r : Refusal) → (made_by o e c).answer ≡ made.Refused r → ⊥)
-    → made_by o e c ≡ made_by none e c
-accepts none e c h = refl
-accepts (some r) e c h = absurd (h r refl)
+accepts : (o : Option Refusal) (e : MakeEntry) (c : Circuit) → ((r : Refusal) → (made_by o e c).answer ≡ Err r → ⊥)
+    → made_by o e c ≡ made_by None e c
+accepts None e c h = refl
+accepts (Some r) e c h = absurd (h r refl)
 
 module _ (readable : Bool) (file : List ℕ) (read lent : Tables) (scratch : List ℕ) where
   abbrev e : OpenEntry
@@ -38,9 +37,9 @@ module _ (readable : Bool) (file : List ℕ) (read lent : Tables) (scratch : Lis
 
   -- a refusal: the tables to make a circuit in, and scratch, are cleared
   pub not_opened : (r : Refusal) → opened e ≡ refused r → (t : Tables) (s : List ℕ) → t ≡ all_cleared lent → s ≡ cleared scratch
-      → record { answer = made.Refused r; written = t; scratch = s } ≡ left_by (open_whole w)
+      → record { answer = Err r; written = t; scratch = s } ≡ left_by (open_whole w)
   not_opened r q t s t-is s-is =
-      (λ i. record { answer = made.Refused r; written = t-is i; scratch = s-is i })
+      (λ i. record { answer = Err r; written = t-is i; scratch = s-is i })
       ∙ sym (ap left_by (open_is ∙ ap (open_by w) q))
 
   -- tables that stand ready are converted
@@ -52,7 +51,7 @@ module _ (readable : Bool) (file : List ℕ) (read lent : Tables) (scratch : Lis
       let c = convert (given_circuit g) in
       said
       ∙ (accepts (first_of (stages g (lent_with g lent))) m c (not-refused _ _ tail (converts g lent tail ready) (conversion m) refl)
-      ∙ ((λ i. record { answer = made.Accepted (counts_of c); written = holding lent c; scratch = same-cleared g.scratch scratch same i })
+      ∙ ((λ i. record { answer = Ok (counts_of c); written = holding lent c; scratch = same-cleared g.scratch scratch same i })
       ∙ sym (ap left_by (open_is ∙ ap (open_by w) q))))
 
 -- the tables it was read into are zero

@@ -1,16 +1,14 @@
 -- The outcome of the witness question, from what was told on the way.
 use Prim.Native.Nat.{ℕ, ◌*◌}
-use mathlib.Core.Path.{◌≡◌, sym, ap, ap₂, ◌∙◌}
+use mathlib.Core.Path.{◌≡◌, refl, sym, ap, ap₂, ◌∙◌}
 use mathlib.Core.Bool.{Bool, true, false}
-use mathlib.Core.Option.{Option, some}
 use mathlib.Core.List.{List, [], ◌∷◌}
+use Rattle.std.specs.Prelude.{Result, Ok, Err, Option, Some, None}
 use borrow.Author.Tests.{eqb-true}
 use lib.Dec.{eqb}
 use lib.ListN.{length}
 use Rattle.plan.specs.declared.Refusal.{Refusal}
 use Rattle.plan.specs.declared.Refusal.TheVariants.{BadVector}
-use Rattle.plan.specs.declared.Verdict.{Verdict}
-use Rattle.plan.specs.declared.Verdict.TheVariants.{Yes, No, Refused}
 use Rattle.plan.specs.Refusals.{stage, first_of}
 use Rattle.plan.specs.Circuit.{cleared}
 use Rattle.plan.specs.Step.{witnessed}
@@ -19,6 +17,10 @@ use Rattle.plan.specs.Outcome.{WitnessEntry, WitnessExit, all_codes, list_stage,
 use Rattle.laws.proofs.Reading.Common.{and_left}
 use Rattle.step.proofs.codes.Places.{codes_in}
 use Rattle.step.proofs.Checks.{answer}
+
+not-refused : (b : Bool) → Ok b ≡ verdict_by None b
+not-refused true = refl
+not-refused false = refl
 
 module _ (e : WitnessEntry) where
   abbrev whole : Bool
@@ -31,25 +33,21 @@ module _ (e : WitnessEntry) where
   good-list q = eqb-true _ _ (and_left (eqb (length e.bytes) (e.number * e.circuit.counts.I)) (all_codes e.bytes) q)
 
   module _ (t : List ℕ) (blank : t ≡ cleared e.circuit.scratch) where
-    decided : (v : Verdict) → v ≡ verdict_by (answer e.circuit (list_stage e)) seen
+    decided : (v : Result Bool Refusal) → v ≡ verdict_by (answer e.circuit (list_stage e)) seen
         → ◌≡◌ {A = WitnessExit} (record { answer = v; scratch = t }) (witness3 e)
     decided v q = λ j. record { answer = q j; scratch = blank j }
 
-    pub refused-witness : (r : Refusal) → answer e.circuit (list_stage e) ≡ some r
-        → ◌≡◌ {A = WitnessExit} (record { answer = Refused r; scratch = t }) (witness3 e)
-    refused-witness r q = decided (Refused r) (sym (ap (λ (o : Option Refusal). verdict_by o seen) q))
+    pub refused-witness : (r : Refusal) → answer e.circuit (list_stage e) ≡ Some r
+        → ◌≡◌ {A = WitnessExit} (record { answer = Err r; scratch = t }) (witness3 e)
+    refused-witness r q = decided (Err r) (sym (ap (λ (o : Option Refusal). verdict_by o seen) q))
 
     -- the tables are good
     module _ (past : answer e.circuit (list_stage e) ≡ first_of (list_stage e ∷ [])) where
       judged : (b : Bool) → whole ≡ b → answer e.circuit (list_stage e) ≡ first_of (stage BadVector (failing_at 2 b) ∷ [])
       judged b q = past ∙ ap (λ (x : Bool). first_of (stage BadVector (failing_at 2 x) ∷ [])) q
 
-      pub refused-list : whole ≡ false → ◌≡◌ {A = WitnessExit} (record { answer = Refused (BadVector 2); scratch = t }) (witness3 e)
+      pub refused-list : whole ≡ false → ◌≡◌ {A = WitnessExit} (record { answer = Err (BadVector 2); scratch = t }) (witness3 e)
       refused-list q = refused-witness (BadVector 2) (judged false q)
 
-      module _ (q : whole ≡ true) where
-        pub yes-witness : true ≡ seen → ◌≡◌ {A = WitnessExit} (record { answer = Yes; scratch = t }) (witness3 e)
-        yes-witness s = decided Yes (ap₂ verdict_by (sym (judged true q)) s)
-
-        pub no-witness : false ≡ seen → ◌≡◌ {A = WitnessExit} (record { answer = No; scratch = t }) (witness3 e)
-        no-witness s = decided No (ap₂ verdict_by (sym (judged true q)) s)
+      pub asked-witness : whole ≡ true → (b : Bool) → b ≡ seen → ◌≡◌ {A = WitnessExit} (record { answer = Ok b; scratch = t }) (witness3 e)
+      asked-witness q b s = decided (Ok b) (not-refused b ∙ ap₂ verdict_by (sym (judged true q)) s)

@@ -4,11 +4,10 @@
 use Prim.Native.Nat.{ℕ, ◌+◌, ◌*◌}
 use mathlib.Core.Path.{◌≡◌, sym, ap, ap₂, ◌∙◌}
 use mathlib.Core.Bool.{true}
-use mathlib.Core.Option.{none}
+use Rattle.std.specs.Prelude.{Ok, None}
 use native.Mathlib.Omega.{arith}
 use borrow.Author.Tests.{not-true, not-false}
 use lib.ListN.{length, replicate}
-use Rattle.plan.specs.declared.Checked.TheVariants.{Good}
 use Rattle.plan.specs.Circuit.{cleared, seven}
 use Rattle.plan.specs.Given.{given_circuit}
 use Rattle.plan.specs.Outcome.{CheckExit, check_in_order}
@@ -24,6 +23,7 @@ use Rattle.witness.specs.Asked.{codes_of}
 use Rattle.witness.proofs.Words.{codes-length}
 use Rattle.step.proofs.Beyond.{refused-by, past-check}
 use Rattle.witness.proofs.Verdicts.{more, refused-filled, refused-list, refused-x, found-filled}
+use Rattle.laws.proofs.Pairs.{passed-on}
 use Rattle.witness.proofs.witness.Goals as goal
 
 pub returns-then-not-whole_list : goal.returns-then-not-whole_list
@@ -42,8 +42,8 @@ returns-then-not-whole_list c =
       };
       allowance = a.allowance;
     } in
-    let told : c.check_in_order.result ≡ Good =
-    c.in-Good.is in
+    let told : c.check_in_order.result ≡ Ok tt =
+    c.in_ok-check_in_order.was in
     let says : c.check_in_order.result ≡ (check_in_order (entry).list.circuit).answer =
     ap (λ (x : CheckExit). x.answer) c.check_in_order.ensures in
     let blank : c.check_in_order.new.scratch ≡ cleared c.args.scratch.now =
@@ -68,12 +68,12 @@ count_resets-requires c =
       };
       allowance = a.allowance;
     } in
-    let told : c.check_in_order.result ≡ Good =
-    c.in-Good.is in
+    let told : c.check_in_order.result ≡ Ok tt =
+    c.in_ok-check_in_order.was in
     let says : c.check_in_order.result ≡ (check_in_order (entry).list.circuit).answer =
     ap (λ (x : CheckExit). x.answer) c.check_in_order.ensures in
     let holds : let g = (entry).list.circuit in Runs g.counts g.tables =
-    runs (entry).list.circuit none (says) (told) in
+    runs (entry).list.circuit None (says) (told) in
     (holds).fits.resets-long
 
 pub overflow_add-xs : goal.overflow_add-xs
@@ -92,12 +92,12 @@ overflow_add-xs c =
       };
       allowance = a.allowance;
     } in
-    let told : c.check_in_order.result ≡ Good =
-    c.in-Good.is in
+    let told : c.check_in_order.result ≡ Ok tt =
+    c.in_ok-check_in_order.was in
     let says : c.check_in_order.result ≡ (check_in_order (entry).list.circuit).answer =
     ap (λ (x : CheckExit). x.answer) c.check_in_order.ensures in
     let holds : let g = (entry).list.circuit in Runs g.counts g.tables =
-    runs (entry).list.circuit none (says) (told) in
+    runs (entry).list.circuit None (says) (told) in
     let counted : let a = c.args in c.count_resets.result + c.count_x.result ≡ x_count (codes_of a.resets.now a.n.L) + x_count a.bytes.now =
     ap₂ (λ (i j : ℕ). i + j) c.count_resets.ensures c.count_x.ensures in
     let a = c.args in
@@ -132,8 +132,8 @@ returns-then-xs-gt-MOST_X c =
       };
       allowance = a.allowance;
     } in
-    let told : c.check_in_order.result ≡ Good =
-    c.in-Good.is in
+    let told : c.check_in_order.result ≡ Ok tt =
+    c.in_ok-check_in_order.was in
     let says : c.check_in_order.result ≡ (check_in_order (entry).list.circuit).answer =
     ap (λ (x : CheckExit). x.answer) c.check_in_order.ensures in
     let blank : c.check_in_order.new.scratch ≡ cleared c.args.scratch.now =
@@ -164,16 +164,16 @@ try_fillings-found-requires c =
       };
       allowance = a.allowance;
     } in
-    let told : c.check_in_order.result ≡ Good =
-    c.in-Good.is in
+    let told : c.check_in_order.result ≡ Ok tt =
+    c.in_ok-check_in_order.was in
     let says : c.check_in_order.result ≡ (check_in_order (entry).list.circuit).answer =
     ap (λ (x : CheckExit). x.answer) c.check_in_order.ensures in
     let same : length c.check_in_order.new.scratch ≡ length c.args.scratch.now =
     c.check_in_order.auto.scratch in
     let holds : let g = (entry).list.circuit in Runs g.counts g.tables =
-    runs (entry).list.circuit none (says) (told) in
+    runs (entry).list.circuit None (says) (told) in
     let long : Scratch c.args.n c.check_in_order.new.scratch =
-    (room (entry).list.circuit none (says) (told) c.check_in_order.new.scratch (same)
+    (room (entry).list.circuit None (says) (told) c.check_in_order.new.scratch (same)
     ).scratch-long in
     let whole-told : let w = (entry).list in codes_in w.bytes (w.number * w.circuit.counts.I) ≡ true =
     sym c.whole_list.ensures ∙ not-false _ c.if-not-whole_list.false-raw in
@@ -191,8 +191,8 @@ try_fillings-found-requires c =
       xs_value = counted;
     }
 
-pub returns-in-Refused : goal.returns-in-Refused
-returns-in-Refused c =
+pub returns-in_err-check_in_order : goal.returns-in_err-check_in_order
+returns-in_err-check_in_order c =
     let entry : FilledEntry =
     let a = c.args in
     record {
@@ -209,11 +209,12 @@ returns-in-Refused c =
     } in
     let e = entry in
     let check = c.check_in_order.ensures in
+    rw (passed-on _ c.from_residual.ensures.1) (
     refused-filled e _ (ap (λ (q : CheckExit). q.scratch) check) _
-    (refused-by e.list.circuit (more e) (ap (λ (q : CheckExit). q.answer) check) _ c.in-Refused.is)
+    (refused-by e.list.circuit (more e) (ap (λ (q : CheckExit). q.answer) check) _ c.in_err-check_in_order.was))
 
-pub returns-else-xs-gt-MOST_X : goal.returns-else-xs-gt-MOST_X
-returns-else-xs-gt-MOST_X c =
+pub returns : goal.returns
+returns c =
     let entry : FilledEntry =
     let a = c.args in
     record {
@@ -228,14 +229,14 @@ returns-else-xs-gt-MOST_X c =
       };
       allowance = a.allowance;
     } in
-    let told : c.check_in_order.result ≡ Good =
-    c.in-Good.is in
+    let told : c.check_in_order.result ≡ Ok tt =
+    c.in_ok-check_in_order.was in
     let says : c.check_in_order.result ≡ (check_in_order (entry).list.circuit).answer =
     ap (λ (x : CheckExit). x.answer) c.check_in_order.ensures in
     let same : length c.check_in_order.new.scratch ≡ length c.args.scratch.now =
     c.check_in_order.auto.scratch in
     let holds : let g = (entry).list.circuit in Runs g.counts g.tables =
-    runs (entry).list.circuit none (says) (told) in
+    runs (entry).list.circuit None (says) (told) in
     let whole-told : let w = (entry).list in codes_in w.bytes (w.number * w.circuit.counts.I) ≡ true =
     sym c.whole_list.ensures ∙ not-false _ c.if-not-whole_list.false-raw in
     let counted : let a = c.args in c.count_resets.result + c.count_x.result ≡ x_count (codes_of a.resets.now a.n.L) + x_count a.bytes.now =

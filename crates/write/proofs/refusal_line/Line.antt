@@ -2,11 +2,11 @@
 use Prim.Native.Nat.{ℕ, ◌+◌, ◌-◌, ◌^◌, ◌<◌, ◌≤◌, min}
 use mathlib.Core.Path.{◌≡◌, refl, sym, ap, ap₂, ◌∙◌}
 use mathlib.Core.List.{List, [], ◌∷◌, ◌++◌, append_assoc}
+use Rattle.std.specs.Prelude.{Ok, Err}
 use native.Mathlib.Omega.{arith}
 use lib.ListN.{length, set, length-append}
 use Rattle.plan.specs.declared.Refusal.{Refusal}
 use Rattle.plan.specs.declared.Refusal.TheVariants.{ShortBuffer}
-use Rattle.plan.specs.declared.Written.TheVariants.{Bytes, Refused}
 use Rattle.plan.specs.Refusals.{number_of, place_of}
 use Rattle.plan.specs.Bytes.{digits}
 use Rattle.plan.specs.Outcome.{WriteExit, put}
@@ -71,9 +71,6 @@ module _ (n p : ℕ) where
 pub line-is : (r : Refusal) → row (number_of r) (place_of r) ≡ refusal_line r
 line-is r = row_is (number_of r) (place_of r)
 
-pub line-length : (r : Refusal) → length (refusal_line r) ≡ 13 + length (digits (number_of r)) + length (digits (place_of r))
-line-length r = ap length (sym (line-is r)) ∙ row-length (number_of r) (place_of r)
-
 -- the line of a number and a place that are a refusal's
 module _ (out : List ℕ) (r : Refusal) (n p line : ℕ) (n-is : n ≡ number_of r) (p-is : p ≡ place_of r)
     (line-is-long : line ≡ 13 + length (digits n) + length (digits p)) where
@@ -84,13 +81,13 @@ module _ (out : List ℕ) (r : Refusal) (n p line : ℕ) (n-is : n ≡ number_of
   long = line-is-long ∙ (sym (row-length n p) ∙ ap length same)
 
   pub no_room : n < 2 ^ 64 → p < 2 ^ 64 → length out < line
-      → ◌≡◌ {A = WriteExit} (record { answer = Refused (ShortBuffer line); out = out }) (tell_refusal r out)
+      → ◌≡◌ {A = WriteExit} (record { answer = Err (ShortBuffer line); out = out }) (tell_refusal r out)
   no_room number place h =
       let cut : line ≡ min (0 + length (refusal_line r)) (2 ^ 64 - 1)
       = omega (arith, line-is-long, long, digits-twenty n number, digits-twenty p place) in
       without-room out 0 (refusal_line r) line (omega (arith, long)) cut
 
   pub all_told : (o : List ℕ) (k : ℕ) → Told out (row n p) o k → line ≤ length out
-      → ◌≡◌ {A = WriteExit} (record { answer = Bytes line; out = o }) (tell_refusal r out)
+      → ◌≡◌ {A = WriteExit} (record { answer = Ok line; out = o }) (tell_refusal r out)
   all_told o k s h =
       with-room out 0 (refusal_line r) line o (omega (arith, long)) long (s.filled ∙ ap (put out 0) same)

@@ -4,12 +4,12 @@ use Rattle.plan.specs.Outcome.{made_values}
 use Rattle.answers.proofs.numbers.Refused.{refusal-told}
 use Rattle.answers.proofs.numbers.made.Goals as goal
 
-pub returns-in-Accepted : goal.returns-in-Accepted
-returns-in-Accepted c = c.tell.ensures ∙ sym (ap made_values c.in-Accepted.is)
+pub returns-in-Ok : goal.returns-in-Ok
+returns-in-Ok c = c.tell.ensures ∙ sym (ap made_values c.in-Ok.is)
 
-pub returns-in-Refused : goal.returns-in-Refused
-returns-in-Refused c =
-    c.tell-in-Refused.ensures
+pub returns-in-Err : goal.returns-in-Err
+returns-in-Err c =
+    c.tell-in-Err.ensures
     ∙ (refusal-told c.told_number.ensures c.told_place.ensures
     c.no_counts.ensures
-    ∙ sym (ap made_values c.in-Refused.is))
+    ∙ sym (ap made_values c.in-Err.is))

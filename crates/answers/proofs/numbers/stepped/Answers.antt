@@ -4,7 +4,7 @@ use Rattle.plan.specs.Outcome.{stepped_values}
 use Rattle.answers.proofs.numbers.Refused.{refusal-told}
 use Rattle.answers.proofs.numbers.stepped.Goals as goal
 
-pub returns-in-Refused : goal.returns-in-Refused
-returns-in-Refused c =
+pub returns-in-Err : goal.returns-in-Err
+returns-in-Err c =
     refusal-told c.told_number.ensures c.told_place.ensures refl
-    ∙ sym (ap stepped_values c.in-Refused.is)
+    ∙ sym (ap stepped_values c.in-Err.is)

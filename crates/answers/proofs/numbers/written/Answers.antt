@@ -4,10 +4,10 @@ use Rattle.plan.specs.Outcome.{written_values}
 use Rattle.answers.proofs.numbers.Refused.{refusal-told}
 use Rattle.answers.proofs.numbers.written.Goals as goal
 
-pub returns-in-Bytes : goal.returns-in-Bytes
-returns-in-Bytes c = sym (ap written_values c.in-Bytes.is)
+pub returns-in-Ok : goal.returns-in-Ok
+returns-in-Ok c = sym (ap written_values c.in-Ok.is)
 
-pub returns-in-Refused : goal.returns-in-Refused
-returns-in-Refused c =
+pub returns-in-Err : goal.returns-in-Err
+returns-in-Err c =
     refusal-told c.told_number.ensures c.told_place.ensures refl
-    ∙ sym (ap written_values c.in-Refused.is)
+    ∙ sym (ap written_values c.in-Err.is)

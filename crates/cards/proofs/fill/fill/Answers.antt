@@ -31,12 +31,6 @@ fill_gates-requires c =
     let p = c.requires in
     record { n_in_bounds = omega (arith, p.size, c.gates_at.ensures); n_in_bounds_2 = p.gates-long; n_bound = omega (arith, p.most-M, p.sum) }
 
-pub shape_of-inputs : goal.shape_of-inputs
-shape_of-inputs c = c.run_on.auto.table
-
-pub shape_of-latches : goal.shape_of-latches
-shape_of-latches c = c.spread.auto.table ∙ c.fill_words.auto.table
-
 pub returns : goal.returns
 returns c =
     let a = c.args in

@@ -3,7 +3,6 @@ use mathlib.Core.Path.{sym, ◌∙◌}
 use borrow.Author.Tests.{not-true, not-false}
 use Rattle.tables.specs.Held.{circuit_in}
 use Rattle.plan.specs.Circuit.{Circuit}
-use Rattle.tables.proofs.Told.{some-table, no_table}
 use Rattle.judge.proofs.Judging.{long-tables}
 use Rattle.cards.proofs.fill.Judged.{at_five, at-fifteen, good}
 use Rattle.cards.proofs.fill.judge.Goals as goal
@@ -11,17 +10,17 @@ use Rattle.cards.proofs.fill.judge.Goals as goal
 pub in_binary_order-in_order-requires : goal.in_binary_order-in_order-requires
 in_binary_order-in_order-requires c = long-tables c.requires
 
-pub out_of_range-out-requires : goal.out_of_range-out-requires
-out_of_range-out-requires c =
+pub out_of_range-requires : goal.out_of_range-requires
+out_of_range-requires c =
     let a = c.args in
     record { fits = c.requires; constraints_value = λ e. sym (c.in_binary_order-in_order.ensures a.outputs.now a.resets.now a.bads.now a.constraints.now) ∙ e }
 
-pub returns-then-out-ne0 : goal.returns-then-out-ne0
-returns-then-out-ne0 c =
+pub returns-in-Some : goal.returns-in-Some
+returns-in-Some c =
     let circuit : Circuit =
     let a = c.args in
     circuit_in a.n a.inputs.now a.latches.now a.outputs.now a.gates.now a.resets.now a.bads.now a.constraints.now in
-    at_five (circuit) _ (some-table _ _ c.if-out-ne0.true c.out_of_range-out.ensures)
+    at_five (circuit) _ (sym c.out_of_range.ensures ∙ c.in-Some.is)
 
 pub returns-then-not-in_order : goal.returns-then-not-in_order
 returns-then-not-in_order c =
@@ -29,7 +28,7 @@ returns-then-not-in_order c =
     let a = c.args in
     circuit_in a.n a.inputs.now a.latches.now a.outputs.now a.gates.now a.resets.now a.bads.now a.constraints.now in
     let a = c.args in
-    at-fifteen (circuit) (no_table _ _ c.if-out-ne0.false c.out_of_range-out.ensures)
+    at-fifteen (circuit) (sym c.out_of_range.ensures ∙ c.in_default.is)
     (sym (c.in_binary_order-in_order.ensures a.outputs.now a.resets.now a.bads.now a.constraints.now) ∙ not-true _
     c.if-not-in_order.true-raw)
 
@@ -39,6 +38,6 @@ returns c =
     let a = c.args in
     circuit_in a.n a.inputs.now a.latches.now a.outputs.now a.gates.now a.resets.now a.bads.now a.constraints.now in
     let a = c.args in
-    good (circuit) (no_table _ _ c.if-out-ne0.false c.out_of_range-out.ensures)
+    good (circuit) (sym c.out_of_range.ensures ∙ c.in_default.is)
     (sym (c.in_binary_order-in_order.ensures a.outputs.now a.resets.now a.bads.now a.constraints.now) ∙ not-false _
     c.if-not-in_order.false-raw)

@@ -2,8 +2,8 @@
 use Prim.Native.Nat.{ℕ}
 use mathlib.Core.Path.{◌≡◌, refl, sym, ap, ◌∙◌}
 use mathlib.Core.Bool.{false≢true}
-use mathlib.Core.Option.{Option, none}
 use mathlib.Core.List.{List, []}
+use Rattle.std.specs.Prelude.{Option, None}
 use native.Mathlib.Omega.{arith}
 use lib.ListN.{length, get_or}
 use Rattle.plan.specs.declared.Refusal.TheVariants.{Cyclic}
@@ -13,7 +13,6 @@ use Rattle.plan.specs.Depends.{undefined_in}
 use Rattle.plan.specs.Outcome.{checked_by}
 use Rattle.laws.proofs.Marks.{zeros}
 use Rattle.laws.proofs.Running.Ascending.{ascends_none}
-use Rattle.judge.specs.used.Least.{missing_of}
 use Rattle.judge.specs.at_end.Leaves.{Leaves}
 use Rattle.tables.specs.Held.{circuit_in}
 use Rattle.judge.proofs.at_end.Leaving.{leaves-count}
@@ -28,8 +27,8 @@ returns-then-needs_no_order c =
     let circuit : Circuit =
     let a = c.args in
     circuit_in a.n a.inputs.now a.latches.now a.outputs.now a.gates.now [] a.bads.now a.constraints.now in
-    let all_named : none ≡ undefined_in (circuit) =
-    sym (ap missing_of c.in-Nothing.is)
+    let all_named : None ≡ undefined_in (circuit) =
+    sym c.in-None.is
     ∙ c.undefined.ensures c.args.inputs.now [] (part-marked c.requires) in
     let known = c.needs_no_order.ensures c.if-needs_no_order.true in
     record {
@@ -46,22 +45,22 @@ number_leaves-requires c =
     leaves-ask c.requires c.clear.new.table c.clear.auto.table blank in
     asked
 
-pub overflow_add-n-in-Nothing : goal.overflow_add-n-in-Nothing
-overflow_add-n-in-Nothing c = record { fits = omega (arith, c.requires.most-M, c.requires.sum) }
+pub overflow_add-n-in-None : goal.overflow_add-n-in-None
+overflow_add-n-in-None c = record { fits = omega (arith, c.requires.most-M, c.requires.sum) }
 
 pub overflow_cast-n : goal.overflow_cast-n
 overflow_cast-n c = record { fits = omega (arith, c.requires.most-M, c.requires.sum) }
 
-pub overflow_add-n-in-Nothing-2 : goal.overflow_add-n-in-Nothing-2
-overflow_add-n-in-Nothing-2 c = omega (arith, c.requires.most-M)
+pub overflow_add-n-in-None-2 : goal.overflow_add-n-in-None-2
+overflow_add-n-in-None-2 c = omega (arith, c.requires.most-M)
 
 pub cycle-requires : goal.cycle-requires
 cycle-requires c =
     let circuit : Circuit =
     let a = c.args in
     circuit_in a.n a.inputs.now a.latches.now a.outputs.now a.gates.now [] a.bads.now a.constraints.now in
-    let all_named : none ≡ undefined_in (circuit) =
-    sym (ap missing_of c.in-Nothing.is)
+    let all_named : None ≡ undefined_in (circuit) =
+    sym c.in-None.is
     ∙ c.undefined.ensures c.args.inputs.now [] (part-marked c.requires) in
     let blank : (v : ℕ) → get_or c.clear.new.table v 0 ≡ 0 =
     λ v. ap (λ (l : List ℕ). get_or l v 0) c.clear.ensures ∙ zeros (length c.args.scratch.now) v in
@@ -81,14 +80,14 @@ cycle-requires c =
       known p t same (asked) u kept done (all_named),
     )
 
-pub returns-in-Least : goal.returns-in-Least
-returns-in-Least c =
+pub returns-in-Some : goal.returns-in-Some
+returns-in-Some c =
     let circuit : Circuit =
     let a = c.args in
     circuit_in a.n a.inputs.now a.latches.now a.outputs.now a.gates.now [] a.bads.now a.constraints.now in
     record {
       by_index = λ resets. by-missing (circuit) _
-          (sym (ap missing_of c.in-Least.is)
+          (sym c.in-Some.is
           ∙ c.undefined.ensures c.args.inputs.now [] (part-marked c.requires));
       all_numbered = λ asked good. not_good _ good;
     }
@@ -98,8 +97,8 @@ returns-else-needs_no_order c =
     let circuit : Circuit =
     let a = c.args in
     circuit_in a.n a.inputs.now a.latches.now a.outputs.now a.gates.now [] a.bads.now a.constraints.now in
-    let all_named : none ≡ undefined_in (circuit) =
-    sym (ap missing_of c.in-Nothing.is)
+    let all_named : None ≡ undefined_in (circuit) =
+    sym c.in-None.is
     ∙ c.undefined.ensures c.args.inputs.now [] (part-marked c.requires) in
     let blank : (v : ℕ) → get_or c.clear.new.table v 0 ≡ 0 =
     λ v. ap (λ (l : List ℕ). get_or l v 0) c.clear.ensures ∙ zeros (length c.args.scratch.now) v in

@@ -1,11 +1,10 @@
 -- All gates have numbers, or the first without one is named.
 use Prim.Native.Nat.{ℕ, ◌<◌}
-use mathlib.Core.Option.{Option}
 use mathlib.Core.Path.{◌≡◌, refl, sym, ap, ◌∙◌}
+use Rattle.std.specs.Prelude.{Err, Option}
 use native.Mathlib.Omega.{arith}
 use lib.ListN.{length}
 use Rattle.plan.specs.declared.Refusal.TheVariants.{Cyclic}
-use Rattle.plan.specs.declared.Checked.TheVariants.{Refused}
 use Rattle.plan.specs.Refusals.{stage}
 use Rattle.plan.specs.Outcome.{checked_by}
 use Rattle.judge.specs.order.Waiting.{Space}
@@ -67,7 +66,7 @@ returns c =
     record {
       value = λ circuit its once used tab count.
           let S = space in
-          ap (λ (v : ℕ). Refused (Cyclic v)) c.var_of.ensures
+          ap (λ (v : ℕ). Err (Cyclic v)) c.var_of.ensures
           ∙ sym (ap (λ (o : Option ℕ). checked_by (stage Cyclic o))
           (cycle-here A.gates.now y A.n A.a A.first circuit its once used count (omega (arith, S.table-long)) S.inside
           c.requires.2 (c.number.ensures.by_index _ tab refl count) c.first_out-i.result c.first_out-i.ensures

@@ -1,28 +1,23 @@
 -- Each return is one of the ways through a gate.
 use mathlib.Core.Path.{sym, ◌∙◌}
 use Rattle.plan.specs.Literals.{word_of}
-use Rattle.lines.proofs.gates.Sides.{of-variable, first-refused, second-refused, both-taken}
+use Rattle.lines.proofs.gates.Sides.{of-variable, second-refused, both-taken}
+use Rattle.laws.proofs.Pairs.{passed-on}
 use Rattle.lines.proofs.gates.gate_at.Goals as goal
 
-pub returns-in-Refused : goal.returns-in-Refused
-returns-in-Refused c =
+pub returns-in_err-rhs1 : goal.returns-in_err-rhs1
+returns-in_err-rhs1 c =
     let a = c.args in
     let lhs = c.lit-lhs.result in
-    first-refused a.file.now (word_of lhs) a.at c.in-Refused.r (sym c.in-Refused.is ∙ c.taken.ensures)
+    passed-on _ c.from_residual-in_err-rhs1.ensures.1
+    ∙ second-refused a.file.now (word_of lhs) a.at c.in_ok-rhs0.rhs0 c.in_ok-rhs0.middle (sym c.in_ok-rhs0.was ∙ c.taken.ensures)
+    _ (sym c.in_err-rhs1.was ∙ c.taken-2.ensures)
     ∙ of-variable a.file.now a.v a.at c.at.result lhs c.requires c.at.ensures c.lit-lhs.ensures
 
-pub returns-in-Refused-taken : goal.returns-in-Refused-taken
-returns-in-Refused-taken c =
+pub returns : goal.returns
+returns c =
     let a = c.args in
     let lhs = c.lit-lhs.result in
-    second-refused a.file.now (word_of lhs) a.at c.in-At.rhs0 c.in-At.middle (sym c.in-At.is ∙ c.taken.ensures)
-    c.in-Refused-taken.r (sym c.in-Refused-taken.is ∙ c.taken-in-At.ensures)
-    ∙ of-variable a.file.now a.v a.at c.at.result lhs c.requires c.at.ensures c.lit-lhs.ensures
-
-pub returns-in-At-taken : goal.returns-in-At-taken
-returns-in-At-taken c =
-    let a = c.args in
-    let lhs = c.lit-lhs.result in
-    both-taken a.file.now (word_of lhs) a.at c.in-At.rhs0 c.in-At.middle (sym c.in-At.is ∙ c.taken.ensures)
-    c.in-At-taken.rhs1 c.in-At-taken.next (sym c.in-At-taken.is ∙ c.taken-in-At.ensures)
+    both-taken a.file.now (word_of lhs) a.at c.in_ok-rhs0.rhs0 c.in_ok-rhs0.middle (sym c.in_ok-rhs0.was ∙ c.taken.ensures)
+    c.in_ok-rhs1.rhs1 c.in_ok-rhs1.next (sym c.in_ok-rhs1.was ∙ c.taken-2.ensures)
     ∙ of-variable a.file.now a.v a.at c.at.result lhs c.requires c.at.ensures c.lit-lhs.ensures

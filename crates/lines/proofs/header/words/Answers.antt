@@ -8,15 +8,15 @@ use Rattle.lines.proofs.header.words.Goals as goal
 pub words_of-requires : goal.words_of-requires
 words_of-requires c =
     (accepted V19 c.args.file.now _ _ _
-    (sym c.in-Accepted.is ∙ c.read_header.ensures)).small
+    (sym c.in-Ok.is ∙ c.read_header.ensures)).small
 
-pub returns-in-Refused : goal.returns-in-Refused
-returns-in-Refused c =
+pub returns-in-Err : goal.returns-in-Err
+returns-in-Err c =
     let a = c.args in
-    sym (ap (words_by a.table) (not-accepted V19 a.file.now _ (sym c.in-Refused.is ∙ c.read_header.ensures)))
+    sym (ap (words_by a.table) (not-accepted V19 a.file.now _ (sym c.in-Err.is ∙ c.read_header.ensures)))
 
-pub returns-in-Accepted : goal.returns-in-Accepted
-returns-in-Accepted c =
+pub returns-in-Ok : goal.returns-in-Ok
+returns-in-Ok c =
     let a = c.args in
-    let took = accepted V19 a.file.now _ _ _ (sym c.in-Accepted.is ∙ c.read_header.ensures) in
+    let took = accepted V19 a.file.now _ _ _ (sym c.in-Ok.is ∙ c.read_header.ensures) in
     c.words_of.ensures ∙ sym (ap (words_by a.table) took.head)

@@ -1,5 +1,4 @@
--- How many words a table needs to read a file of a form, each count being at most the limit: 2 words to a latch, 3 to a gate. Each answer is given by
--- `no_table`.
+-- How many words a table needs to read a file of a form, each count being at most the limit: 2 words to a latch, 3 to a gate.
 use Rattle.lines.proofs.header.words_of.Goals as goal
 
 pub returns-in-1 : goal.returns-in-1

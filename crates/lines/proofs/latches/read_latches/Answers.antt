@@ -11,6 +11,7 @@ use Rattle.lines.proofs.LinesLoop.{passed_to}
 use Rattle.lines.specs.latches.Latches.{latch_row, latch_in}
 use Rattle.lines.proofs.latches.OneLatch.{latch-var, same-mark, same-marking, own-word}
 use Rattle.lines.proofs.latches.LatchLoop.{begins, own_at, fits, stops, twice-told, turns, ends-here}
+use Rattle.laws.proofs.Pairs.{passed-on}
 use Rattle.lines.proofs.latches.read_latches.Goals as goal
 
 pub defined_before-requires : goal.defined_before-requires
@@ -19,7 +20,7 @@ defined_before-requires c =
     let a = c.args in
     let own = own_at a.defines a.m a.first a.n c.loop-i.i c.requires.own_all h in
     let p = passed_to (latch_row a.file.now a.defines a.m a.more (a.first + c.loop-i.i) c.loop-i.pos) _
-    (sym c.in-To.is ∙ c.read_latch.ensures.value) in
+    (sym c.in_ok-next.was ∙ c.read_latch.ensures.value) in
     let held = c.read_latch.ensures.by_index p.0 _ p.1 in
     let word : word_of c.at.result ≡ (latch_in a.defines (a.first + c.loop-i.i) p.0).current
     = ap word_of c.at.ensures ∙ own-word _ _ c.loop-i.i a.defines (a.first + c.loop-i.i) p.0 held.0
@@ -34,7 +35,7 @@ returns-then-defined_before c =
     let a = c.args in
     let own = own_at a.defines a.m a.first a.n c.loop-i.i c.requires.own_all h in
     let p = passed_to (latch_row a.file.now a.defines a.m a.more (a.first + c.loop-i.i) c.loop-i.pos) _
-    (sym c.in-To.is ∙ c.read_latch.ensures.value) in
+    (sym c.in_ok-next.was ∙ c.read_latch.ensures.value) in
     let held = c.read_latch.ensures.by_index p.0 _ p.1 in
     let word : word_of c.at.result ≡ (latch_in a.defines (a.first + c.loop-i.i) p.0).current
     = ap word_of c.at.ensures
@@ -50,7 +51,7 @@ loop-i-preserved c =
     let a = c.args in
     let own = own_at a.defines a.m a.first a.n c.loop-i.i c.requires.own_all h in
     let p = passed_to (latch_row a.file.now a.defines a.m a.more (a.first + c.loop-i.i) c.loop-i.pos) _
-    (sym c.in-To.is ∙ c.read_latch.ensures.value) in
+    (sym c.in_ok-next.was ∙ c.read_latch.ensures.value) in
     let held = c.read_latch.ensures.by_index p.0 _ p.1 in
     let word : word_of c.at.result ≡ (latch_in a.defines (a.first + c.loop-i.i) p.0).current
     = ap word_of c.at.ensures
@@ -73,8 +74,9 @@ returns c =
     ends-here c.loop-i.invariant c.requires.n_in_bounds
     c.requires.n_in_bounds_2 (omega arith)
 
-pub returns-in-Refused : goal.returns-in-Refused
-returns-in-Refused c =
+pub returns-in_err-next : goal.returns-in_err-next
+returns-in_err-next c =
     let h = c.loop-i-test.true in
-    stops c.loop-i.invariant c.requires.n_in_bounds c.requires.n_in_bounds_2 h _ _ _ _
-    (sym c.in-Refused.is ∙ c.read_latch.ensures.value)
+    rw (passed-on _ c.from_residual.ensures.1)
+    (stops c.loop-i.invariant c.requires.n_in_bounds c.requires.n_in_bounds_2 h _ _ _ _
+    (sym c.in_err-next.was ∙ c.read_latch.ensures.value))

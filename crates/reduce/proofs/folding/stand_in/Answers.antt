@@ -8,15 +8,15 @@ pub find-requires : goal.find-requires
 find-requires c =
     record { room = c.requires.room; n_bound = c.requires.n_bound; rooted = rooted-sorted c.requires.rooted c.larger.ensures c.smaller.ensures; tree = c.requires.tree }
 
-pub returns-in-Gives : goal.returns-in-Gives
-returns-in-Gives c =
+pub returns-in-Some : goal.returns-in-Some
+returns-in-Some c =
     let a = c.args in
     by-rule a.gates.now a.scratch.now a.base a.w a.n (word_of a.a) (word_of a.b) c.by_sides.result c.by_sides.ensures _
-    c.in-Gives.is
+    c.in-Some.is
 
-pub returns-in-Open : goal.returns-in-Open
-returns-in-Open c =
+pub returns-in-None : goal.returns-in-None
+returns-in-None c =
     let a = c.args in
     by-twin a.gates.now a.scratch.now a.base a.w a.n (word_of a.a) (word_of a.b) c.by_sides.result c.by_sides.ensures _ _
-    c.in-Open.is c.larger.ensures c.smaller.ensures c.find.result
+    c.in-None.is c.larger.ensures c.smaller.ensures c.find.result
     c.find.ensures

@@ -1,21 +1,10 @@
--- Whether both engines answer the same, and leave the same state and the same lines. The answers are given by `first-fails`, `second-fails` and
--- `same-is`.
+-- Whether both engines answer the same, and leave the same state and the same lines. The answers are given by `second-fails` and `same-is`.
 use mathlib.Core.Path.{sym, ◌∙◌}
 use mathlib.Core.Bool.{Bool}
 use borrow.Author.Tests.{not-true, not-false}
 use Rattle.runs.specs.comparing.Both.{same_bytes, same_answer}
-use Rattle.runs.proofs.comparing.Parting.{same-is, first-fails, second-fails, third-decides}
+use Rattle.runs.proofs.comparing.Parting.{same-is, second-fails, third-decides}
 use Rattle.runs.proofs.comparing.agree.Goals as goal
-
-pub returns-then-not-same_answer : goal.returns-then-not-same_answer
-returns-then-not-same_answer c =
-    let x : Bool =
-    same_answer c.args.part c.args.plain in
-    let y : Bool =
-    same_bytes c.args.state.now c.args.twin.now in
-    let z : Bool =
-    same_bytes c.args.out.now c.args.again.now in
-    first-fails (x) (y) (z) (sym c.same_answer.ensures ∙ not-true _ c.if-not-same_answer.true-raw)
 
 pub returns-then-not-same : goal.returns-then-not-same
 returns-then-not-same c =

@@ -2,12 +2,13 @@
 -- answers are given by `refused-lines`, `refused-tables` and `refused-plainly`.
 use Prim.Native.Nat.{ℕ}
 use mathlib.Core.Path.{◌≡◌, sym, ap, ◌∙◌}
+use Rattle.std.specs.Prelude.{Ok}
 use native.Mathlib.Omega.{arith}
 use lib.ListN.{length, replicate}
-use Rattle.plan.specs.declared.Checked.TheVariants.{Good}
 use Rattle.plan.specs.Circuit.{seven}
 use Rattle.plan.specs.Outcome.{check_in_order}
 use Rattle.plan.specs.Whole.{TraceEntry, trace_stage}
+use Rattle.laws.proofs.Pairs.{passed-on}
 use Rattle.step.proofs.Checks.{past-check, runs, room}
 use Rattle.runs.proofs.trace.Answers.{listed, done-trace}
 use Rattle.plain.proofs.Beyond.{refused-tables}
@@ -28,8 +29,8 @@ fitting-number-requires c =
       vectors = a.vectors.now;
       out = a.out.now;
     } in
-    let told : c.judge_in_order.result ≡ Good =
-    c.in-Good.is in
+    let told : c.judge_in_order.result ≡ Ok tt =
+    c.in_ok-judge_in_order.was in
     let says : c.judge_in_order.result ≡ (check_in_order (entry).circuit).answer =
     c.judge_in_order.ensures.value in
     let e = entry in
@@ -50,19 +51,19 @@ plain_lines-requires c =
       vectors = a.vectors.now;
       out = a.out.now;
     } in
-    let told : c.judge_in_order.result ≡ Good =
-    c.in-Good.is in
+    let told : c.judge_in_order.result ≡ Ok tt =
+    c.in_ok-judge_in_order.was in
     let says : c.judge_in_order.result ≡ (check_in_order (entry).circuit).answer =
     c.judge_in_order.ensures.value in
     let same : length c.judge_in_order.new.scratch ≡ length c.args.scratch.now =
     c.judge_in_order.auto.scratch in
     let e = entry in
-    let lines = c.in-Lines.is in
-    let judged = lines-judged e _ c.judge_plain.ensures _ lines in
+    let lines = c.in-Ok.is in
+    let judged = lines-judged e _ c.judge_plain-judged.ensures _ lines in
     record { room = room e.circuit (trace_stage e) (says) (told) _ (same); vector = state-vector e _ judged _ lines; listed = listed e _ judged _ lines _ c.fitting-number.ensures }
 
-pub returns-in-Refused : goal.returns-in-Refused
-returns-in-Refused c =
+pub returns-in_err-judge_in_order : goal.returns-in_err-judge_in_order
+returns-in_err-judge_in_order c =
     let entry : TraceEntry =
     let a = c.args in
     record {
@@ -76,12 +77,13 @@ returns-in-Refused c =
       out = a.out.now;
     } in
     let e = entry in
-    let refused = c.in-Refused.is in
-    refused-lines e _ (c.judge_in_order.ensures.scratch_after _ refused) _
-    (refused-tables e.circuit (trace_stage e) c.judge_in_order.ensures.value _ refused)
+    let refused = c.in_err-judge_in_order.was in
+    rw (passed-on _ c.from_residual.ensures.1)
+    (refused-lines e _ (c.judge_in_order.ensures.scratch_after _ refused) _
+    (refused-tables e.circuit (trace_stage e) c.judge_in_order.ensures.value _ refused))
 
-pub returns-in-Refused-judge_plain : goal.returns-in-Refused-judge_plain
-returns-in-Refused-judge_plain c =
+pub returns-in_default : goal.returns-in_default
+returns-in_default c =
     let entry : TraceEntry =
     let a = c.args in
     record {
@@ -94,18 +96,19 @@ returns-in-Refused-judge_plain c =
       vectors = a.vectors.now;
       out = a.out.now;
     } in
-    let told : c.judge_in_order.result ≡ Good =
-    c.in-Good.is in
+    let told : c.judge_in_order.result ≡ Ok tt =
+    c.in_ok-judge_in_order.was in
     let says : c.judge_in_order.result ≡ (check_in_order (entry).circuit).answer =
     c.judge_in_order.ensures.value in
     let same : length c.judge_in_order.new.scratch ≡ length c.args.scratch.now =
     c.judge_in_order.auto.scratch in
     let e = entry in
     let zero = c.clear.ensures ∙ ap (λ (k : ℕ). replicate k 0) (same) in
-    refused-plainly e _ c.judge_plain.ensures _ zero (says) (told) _ c.in-Refused-judge_plain.is
+    rw c.in_default.is
+    (refused-plainly e _ c.judge_plain-judged.ensures _ zero (says) (told) _ c.in_default.is)
 
-pub returns-in-Lines : goal.returns-in-Lines
-returns-in-Lines c =
+pub returns : goal.returns
+returns c =
     let entry : TraceEntry =
     let a = c.args in
     record {
@@ -118,16 +121,16 @@ returns-in-Lines c =
       vectors = a.vectors.now;
       out = a.out.now;
     } in
-    let told : c.judge_in_order.result ≡ Good =
-    c.in-Good.is in
+    let told : c.judge_in_order.result ≡ Ok tt =
+    c.in_ok-judge_in_order.was in
     let says : c.judge_in_order.result ≡ (check_in_order (entry).circuit).answer =
     c.judge_in_order.ensures.value in
     let same : length c.judge_in_order.new.scratch ≡ length c.args.scratch.now =
     c.judge_in_order.auto.scratch in
     let e = entry in
-    let lines = c.in-Lines.is in
-    let judged = c.judge_plain.ensures in
-    let zero = c.clear-in-Lines.ensures ∙ ap (λ (k : ℕ). replicate k 0) (c.plain_lines.auto.scratch ∙ same) in
+    let lines = c.in-Ok.is in
+    let judged = c.judge_plain-judged.ensures in
+    let zero = c.clear-2.ensures ∙ ap (λ (k : ℕ). replicate k 0) (c.plain_lines.auto.scratch ∙ same) in
     let left = c.plain_lines.ensures e.circuit.tables (runs e.circuit (trace_stage e) (says) (told)) in
     done-trace e _ (lines-judged e _ judged _ lines) _ zero (past-check e.circuit (trace_stage e) (says) (told)) _ lines _ c.fitting-number.ensures _ _ left
     ∙ sym (same_lines e (few-gates e _ judged _ lines))

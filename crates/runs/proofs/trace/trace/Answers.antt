@@ -2,12 +2,13 @@
 -- `refused-trace`, `refused-by` and `refused-vectors`.
 use Prim.Native.Nat.{ℕ}
 use mathlib.Core.Path.{◌≡◌, ap, ◌∙◌}
+use Rattle.std.specs.Prelude.{Ok}
 use native.Mathlib.Omega.{arith}
 use lib.ListN.{length, replicate}
-use Rattle.plan.specs.declared.Checked.TheVariants.{Good}
 use Rattle.plan.specs.Circuit.{seven}
 use Rattle.plan.specs.Outcome.{check_in_order}
 use Rattle.plan.specs.Whole.{TraceEntry, trace_stage}
+use Rattle.laws.proofs.Pairs.{passed-on}
 use Rattle.step.proofs.Checks.{refused-by, past-check, runs, room}
 use Rattle.runs.proofs.trace.Answers.{state-long, listed, refused-trace, refused-vectors, done-trace}
 use Rattle.runs.proofs.trace.trace.Goals as goal
@@ -26,8 +27,8 @@ fitting-number-requires c =
       vectors = a.vectors.now;
       out = a.out.now;
     } in
-    let told : c.judge_in_order.result ≡ Good =
-    c.in-Good.is in
+    let told : c.judge_in_order.result ≡ Ok tt =
+    c.in_ok-judge_in_order.was in
     let says : c.judge_in_order.result ≡ (check_in_order (entry).circuit).answer =
     c.judge_in_order.ensures.value in
     let e = entry in
@@ -48,19 +49,19 @@ trace_from-requires c =
       vectors = a.vectors.now;
       out = a.out.now;
     } in
-    let told : c.judge_in_order.result ≡ Good =
-    c.in-Good.is in
+    let told : c.judge_in_order.result ≡ Ok tt =
+    c.in_ok-judge_in_order.was in
     let says : c.judge_in_order.result ≡ (check_in_order (entry).circuit).answer =
     c.judge_in_order.ensures.value in
     let same : length c.judge_in_order.new.scratch ≡ length c.args.scratch.now =
     c.judge_in_order.auto.scratch in
     let e = entry in
-    let judged = c.judge.ensures in
-    let lines = c.in-Lines.is in
+    let judged = c.judge-judged.ensures in
+    let lines = c.in-Ok.is in
     record { room = room e.circuit (trace_stage e) (says) (told) _ (same); state_len = state-long e _ judged _ lines; listed = listed e _ judged _ lines _ c.fitting-number.ensures }
 
-pub returns-in-Refused : goal.returns-in-Refused
-returns-in-Refused c =
+pub returns-in_err-judge_in_order : goal.returns-in_err-judge_in_order
+returns-in_err-judge_in_order c =
     let entry : TraceEntry =
     let a = c.args in
     record {
@@ -74,12 +75,13 @@ returns-in-Refused c =
       out = a.out.now;
     } in
     let e = entry in
-    let refused = c.in-Refused.is in
-    refused-trace e _ (c.judge_in_order.ensures.scratch_after _ refused) _
-    (refused-by e.circuit (trace_stage e) c.judge_in_order.ensures.value _ refused)
+    let refused = c.in_err-judge_in_order.was in
+    rw (passed-on _ c.from_residual.ensures.1)
+    (refused-trace e _ (c.judge_in_order.ensures.scratch_after _ refused) _
+    (refused-by e.circuit (trace_stage e) c.judge_in_order.ensures.value _ refused))
 
-pub returns-in-Refused-judge : goal.returns-in-Refused-judge
-returns-in-Refused-judge c =
+pub returns-in_default : goal.returns-in_default
+returns-in_default c =
     let entry : TraceEntry =
     let a = c.args in
     record {
@@ -92,19 +94,20 @@ returns-in-Refused-judge c =
       vectors = a.vectors.now;
       out = a.out.now;
     } in
-    let told : c.judge_in_order.result ≡ Good =
-    c.in-Good.is in
+    let told : c.judge_in_order.result ≡ Ok tt =
+    c.in_ok-judge_in_order.was in
     let says : c.judge_in_order.result ≡ (check_in_order (entry).circuit).answer =
     c.judge_in_order.ensures.value in
     let same : length c.judge_in_order.new.scratch ≡ length c.args.scratch.now =
     c.judge_in_order.auto.scratch in
     let e = entry in
     let zero = c.clear.ensures ∙ ap (λ (k : ℕ). replicate k 0) (same) in
-    refused-vectors e _ c.judge.ensures _ zero (past-check e.circuit (trace_stage e) (says) (told)) _
-    c.in-Refused-judge.is
+    rw c.in_default.is
+    (refused-vectors e _ c.judge-judged.ensures _ zero (past-check e.circuit (trace_stage e) (says) (told)) _
+    c.in_default.is)
 
-pub returns-in-Lines : goal.returns-in-Lines
-returns-in-Lines c =
+pub returns : goal.returns
+returns c =
     let entry : TraceEntry =
     let a = c.args in
     record {
@@ -117,14 +120,14 @@ returns-in-Lines c =
       vectors = a.vectors.now;
       out = a.out.now;
     } in
-    let told : c.judge_in_order.result ≡ Good =
-    c.in-Good.is in
+    let told : c.judge_in_order.result ≡ Ok tt =
+    c.in_ok-judge_in_order.was in
     let says : c.judge_in_order.result ≡ (check_in_order (entry).circuit).answer =
     c.judge_in_order.ensures.value in
     let same : length c.judge_in_order.new.scratch ≡ length c.args.scratch.now =
     c.judge_in_order.auto.scratch in
     let e = entry in
-    let zero = c.clear-in-Lines.ensures ∙ ap (λ (k : ℕ). replicate k 0) (c.trace_from.auto.scratch ∙ same) in
+    let zero = c.clear-2.ensures ∙ ap (λ (k : ℕ). replicate k 0) (c.trace_from.auto.scratch ∙ same) in
     let left = c.trace_from.ensures e.circuit.tables (runs e.circuit (trace_stage e) (says) (told)) in
-    done-trace e _ c.judge.ensures _ zero (past-check e.circuit (trace_stage e) (says) (told)) _
-    c.in-Lines.is _ c.fitting-number.ensures _ _ left
+    done-trace e _ c.judge-judged.ensures _ zero (past-check e.circuit (trace_stage e) (says) (told)) _
+    c.in-Ok.is _ c.fitting-number.ensures _ _ left

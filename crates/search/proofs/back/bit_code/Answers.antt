@@ -3,8 +3,6 @@ use mathlib.Core.Path.{sym, ◌∙◌}
 use lib.Bits.{and_mask}
 use Rattle.laws.proofs.Fillings.Numbering.{bit-small}
 use Rattle.search.proofs.Walking.{code_one, code-zero}
-use Rattle.search.proofs.back.bit_code.Reads as reads
-use Rattle.search.proofs.back.bit_code.Lts as lts
 use Rattle.search.proofs.back.bit_code.Goals as goal
 
 pub returns-then-bit-eq1 : goal.returns-then-bit-eq1

@@ -8,33 +8,6 @@ use Rattle.plan.specs.Cards.{CardEntry, filed_cards}
 use Rattle.whole.proofs.filing.Moving.{all-zero}
 use Rattle.whole.proofs.filing.file_whole.Goals as goal
 
-pub shape_of-inputs : goal.shape_of-inputs
-shape_of-inputs c = c.clear_all.auto.inputs ∙ c.file_cards-answer.auto.inputs
-
-pub shape_of-latches : goal.shape_of-latches
-shape_of-latches c = c.clear_all.auto.latches ∙ c.file_cards-answer.auto.latches
-
-pub shape_of-outputs : goal.shape_of-outputs
-shape_of-outputs c = c.clear_all.auto.outputs ∙ c.file_cards-answer.auto.outputs
-
-pub shape_of-gates : goal.shape_of-gates
-shape_of-gates c = c.clear_all.auto.gates ∙ c.file_cards-answer.auto.gates
-
-pub shape_of-resets : goal.shape_of-resets
-shape_of-resets c = c.clear_all.auto.resets ∙ c.file_cards-answer.auto.resets
-
-pub shape_of-bads : goal.shape_of-bads
-shape_of-bads c = c.clear_all.auto.bads ∙ c.file_cards-answer.auto.bads
-
-pub shape_of-constraints : goal.shape_of-constraints
-shape_of-constraints c = c.clear_all.auto.constraints ∙ c.file_cards-answer.auto.constraints
-
-pub shape_of-scratch : goal.shape_of-scratch
-shape_of-scratch c = c.clear.auto.table ∙ c.file_cards-answer.auto.scratch
-
-pub shape_of-out : goal.shape_of-out
-shape_of-out c = c.file_cards-answer.auto.out
-
 pub returns : goal.returns
 returns c =
     let a = c.args in

@@ -1,79 +1,11 @@
 -- What was opened, and then the tables it was read into zero.
 use mathlib.Core.Path.{◌∙◌}
 use mathlib.Core.List.{[]}
-use native.Mathlib.Omega.{arith}
 use Rattle.plan.specs.Circuit.{Tables, seven}
 use Rattle.plan.specs.Whole.{WholeEntry, input_of}
 use Rattle.read.proofs.Loads.{all_same}
 use Rattle.whole.proofs.ordered.Converted.{closed}
 use Rattle.whole.proofs.ordered.open_whole.Goals as goal
-
-pub shape_of-inputs : goal.shape_of-inputs
-shape_of-inputs c =
-    let p0 = c.open_made-answer.auto.inputs in
-    let p1 = c.clear_all.auto.inputs in
-    omega (arith, p0, p1)
-
-pub shape_of-latches : goal.shape_of-latches
-shape_of-latches c =
-    let p0 = c.open_made-answer.auto.latches in
-    let p1 = c.clear_all.auto.latches in
-    omega (arith, p0, p1)
-
-pub shape_of-outputs : goal.shape_of-outputs
-shape_of-outputs c =
-    let p0 = c.open_made-answer.auto.outputs in
-    let p1 = c.clear_all.auto.outputs in
-    omega (arith, p0, p1)
-
-pub shape_of-gates : goal.shape_of-gates
-shape_of-gates c =
-    let p0 = c.open_made-answer.auto.gates in
-    let p1 = c.clear_all.auto.gates in
-    omega (arith, p0, p1)
-
-pub shape_of-resets : goal.shape_of-resets
-shape_of-resets c =
-    let p0 = c.open_made-answer.auto.resets in
-    let p1 = c.clear_all.auto.resets in
-    omega (arith, p0, p1)
-
-pub shape_of-bads : goal.shape_of-bads
-shape_of-bads c =
-    let p0 = c.open_made-answer.auto.bads in
-    let p1 = c.clear_all.auto.bads in
-    omega (arith, p0, p1)
-
-pub shape_of-constraints : goal.shape_of-constraints
-shape_of-constraints c =
-    let p0 = c.open_made-answer.auto.constraints in
-    let p1 = c.clear_all.auto.constraints in
-    omega (arith, p0, p1)
-
-pub shape_of-made_inputs : goal.shape_of-made_inputs
-shape_of-made_inputs c =
-    let p0 = c.open_made-answer.auto.made_inputs in
-    omega (arith, p0)
-
-pub shape_of-made_latches : goal.shape_of-made_latches
-shape_of-made_latches c =
-    let p0 = c.open_made-answer.auto.made_latches in
-    omega (arith, p0)
-
-pub shape_of-made_outputs : goal.shape_of-made_outputs
-shape_of-made_outputs c =
-    let p0 = c.open_made-answer.auto.made_outputs in
-    omega (arith, p0)
-
-pub shape_of-made_gates : goal.shape_of-made_gates
-shape_of-made_gates c =
-    let p0 = c.open_made-answer.auto.made_gates in
-    omega (arith, p0)
-
-pub shape_of-made_resets : goal.shape_of-made_resets
-shape_of-made_resets c =
-    let p0 = c.open_made-answer.auto.made_resets in
-    omega (arith, p0)
 
 pub returns : goal.returns
 returns c =

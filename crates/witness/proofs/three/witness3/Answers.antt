@@ -1,12 +1,12 @@
 -- The witness question: whether stepping a list of `number` vectors from the resets gives 1 on some output or bad state at some step, every
--- constraint being 1 there and at all steps before. The answers are given by `refused-list`, `past-check` and `yes-witness`.
+-- constraint being 1 there and at all steps before. The answers are given by `refused-list`, `past-check` and `asked-witness`.
 use Prim.Native.Nat.{ℕ, ◌*◌}
 use mathlib.Core.Path.{◌≡◌, sym, ap, ◌∙◌}
 use mathlib.Core.Bool.{true}
+use Rattle.std.specs.Prelude.{Ok}
 use native.Mathlib.Omega.{arith}
 use borrow.Author.Tests.{not-true, not-false}
 use lib.ListN.{length, replicate}
-use Rattle.plan.specs.declared.Checked.TheVariants.{Good}
 use Rattle.plan.specs.declared.Counts.{Counts}
 use Rattle.plan.specs.Circuit.{cleared, seven}
 use Rattle.plan.specs.Step.{first_state, witnessed}
@@ -18,7 +18,8 @@ use Rattle.step.proofs.codes.Places.{codes_in}
 use Rattle.step.specs.sweep.Running.{Runs}
 use Rattle.step.proofs.Checks.{refused-by, past-check, runs, room}
 use Rattle.witness.specs.three.Listing.{Starts}
-use Rattle.witness.proofs.three.Verdicts.{good-list, refused-witness, refused-list, yes-witness, no-witness}
+use Rattle.witness.proofs.three.Verdicts.{good-list, refused-witness, refused-list, asked-witness}
+use Rattle.laws.proofs.Pairs.{passed-on}
 use Rattle.witness.proofs.three.witness3.Goals as goal
 
 pub returns-then-not-whole_list : goal.returns-then-not-whole_list
@@ -34,8 +35,8 @@ returns-then-not-whole_list c =
       number = a.number;
       bytes = a.bytes.now;
     } in
-    let told : c.check_in_order.result ≡ Good =
-    c.in-Good.is in
+    let told : c.check_in_order.result ≡ Ok tt =
+    c.in_ok-check_in_order.was in
     let says : c.check_in_order.result ≡ (check_in_order (entry).circuit).answer =
     ap (λ (x : CheckExit). x.answer) c.check_in_order.ensures in
     let blank : c.check_in_order.new.scratch ≡ cleared c.args.scratch.now =
@@ -57,8 +58,8 @@ start_values-requires c =
       number = a.number;
       bytes = a.bytes.now;
     } in
-    let told : c.check_in_order.result ≡ Good =
-    c.in-Good.is in
+    let told : c.check_in_order.result ≡ Ok tt =
+    c.in_ok-check_in_order.was in
     let says : c.check_in_order.result ≡ (check_in_order (entry).circuit).answer =
     ap (λ (x : CheckExit). x.answer) c.check_in_order.ensures in
     let same : length c.check_in_order.new.scratch ≡ length c.args.scratch.now =
@@ -84,8 +85,8 @@ shows_one-shown-requires c =
       number = a.number;
       bytes = a.bytes.now;
     } in
-    let told : c.check_in_order.result ≡ Good =
-    c.in-Good.is in
+    let told : c.check_in_order.result ≡ Ok tt =
+    c.in_ok-check_in_order.was in
     let says : c.check_in_order.result ≡ (check_in_order (entry).circuit).answer =
     ap (λ (x : CheckExit). x.answer) c.check_in_order.ensures in
     let same : length c.check_in_order.new.scratch ≡ length c.args.scratch.now =
@@ -113,43 +114,8 @@ shows_one-shown-requires c =
     } in
     record { starts = begins; bytes_len = good-list (entry) (whole-told) }
 
-pub returns-then-shown : goal.returns-then-shown
-returns-then-shown c =
-    let entry : WitnessEntry =
-    let a = c.args in
-    record {
-      circuit = record {
-        counts = a.n;
-        tables = seven a.inputs.now a.latches.now a.outputs.now a.gates.now a.resets.now a.bads.now a.constraints.now;
-        scratch = a.scratch.now;
-      };
-      number = a.number;
-      bytes = a.bytes.now;
-    } in
-    let told : c.check_in_order.result ≡ Good =
-    c.in-Good.is in
-    let says : c.check_in_order.result ≡ (check_in_order (entry).circuit).answer =
-    ap (λ (x : CheckExit). x.answer) c.check_in_order.ensures in
-    let same : length c.check_in_order.new.scratch ≡ length c.args.scratch.now =
-    c.check_in_order.auto.scratch in
-    let whole-told : let e = entry in codes_in e.bytes (e.number * e.circuit.counts.I) ≡ true =
-    sym c.whole_list.ensures ∙ not-false _ c.if-not-whole_list.false-raw in
-    let holds : let g = (entry).circuit in Runs g.counts g.tables =
-    let e = entry in runs e.circuit (list_stage e) (says) (told) in
-    let state-long : let g = (entry).circuit in length (first_state (given_circuit g)) ≡ g.counts.L =
-    let g = (entry).circuit in
-    first-length (given_circuit g) (holds).formed ∙ ap (λ (m : Counts). m.L) (holds).counts in
-    let zero : c.clear.new.table ≡ cleared c.args.scratch.now =
-    c.clear.ensures ∙ ap (λ (k : ℕ). replicate k 0) (c.shows_one-shown.auto.scratch ∙ c.start_values.auto.t ∙ same) in
-    let shown : let e = entry in c.shows_one-shown.result ≡ witnessed (given_circuit e.circuit) e.number e.bytes =
-    let t = (entry).circuit.tables in
-    c.shows_one-shown.ensures t.inputs t.resets _ (holds) (state-long) c.start_values.ensures in
-    let e = entry in
-    yes-witness e _ (zero) (past-check e.circuit (list_stage e) (says) (told)) (whole-told)
-    (sym c.if-shown.true ∙ shown)
-
-pub returns-in-Refused : goal.returns-in-Refused
-returns-in-Refused c =
+pub returns-in_err-check_in_order : goal.returns-in_err-check_in_order
+returns-in_err-check_in_order c =
     let entry : WitnessEntry =
     let a = c.args in
     record {
@@ -163,11 +129,12 @@ returns-in-Refused c =
     } in
     let e = entry in
     let check = c.check_in_order.ensures in
+    rw (passed-on _ c.from_residual.ensures.1) (
     refused-witness e _ (ap (λ (q : CheckExit). q.scratch) check) _
-    (refused-by e.circuit (list_stage e) (ap (λ (q : CheckExit). q.answer) check) _ c.in-Refused.is)
+    (refused-by e.circuit (list_stage e) (ap (λ (q : CheckExit). q.answer) check) _ c.in_err-check_in_order.was))
 
-pub returns-else-shown : goal.returns-else-shown
-returns-else-shown c =
+pub returns : goal.returns
+returns c =
     let entry : WitnessEntry =
     let a = c.args in
     record {
@@ -179,8 +146,8 @@ returns-else-shown c =
       number = a.number;
       bytes = a.bytes.now;
     } in
-    let told : c.check_in_order.result ≡ Good =
-    c.in-Good.is in
+    let told : c.check_in_order.result ≡ Ok tt =
+    c.in_ok-check_in_order.was in
     let says : c.check_in_order.result ≡ (check_in_order (entry).circuit).answer =
     ap (λ (x : CheckExit). x.answer) c.check_in_order.ensures in
     let same : length c.check_in_order.new.scratch ≡ length c.args.scratch.now =
@@ -198,5 +165,4 @@ returns-else-shown c =
     let t = (entry).circuit.tables in
     c.shows_one-shown.ensures t.inputs t.resets _ (holds) (state-long) c.start_values.ensures in
     let e = entry in
-    no-witness e _ (zero) (past-check e.circuit (list_stage e) (says) (told)) (whole-told)
-    (sym c.if-shown.false ∙ shown)
+    asked-witness e _ (zero) (past-check e.circuit (list_stage e) (says) (told)) (whole-told) _ shown
