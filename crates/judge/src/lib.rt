@@ -81,15 +81,11 @@ pub fn adds_up(n: Counts) -> bool
 fn unordered(answer: Result<(), Refusal>, ordered: bool) -> Result<(), Refusal>
     ensures { result ≡ unordered answer ordered }
 {
-    match answer {
-        Err(r) => Err(r),
-        Ok(()) => {
-            if ordered {
-                return Err(Refusal::NotInOrder(0));
-            }
-            Ok(())
-        }
+    answer?;
+    if ordered {
+        return Err(Refusal::NotInOrder(0));
     }
+    Ok(())
 }
 
 // Whether the tables are found to be in binary order. Where numbers are asked nobody looks: in any order the gates
@@ -210,10 +206,7 @@ fn judge(
         → AllNumbered n inputs.now latches.now gates.now scratch.new }
 {
     let own = lengths(inputs, latches, outputs, gates, resets, bads, constraints);
-    let lent = lent_enough(n, shorter(own, to), scratch.len());
-    if let Err(r) = lent {
-        return Err(r);
-    }
+    lent_enough(n, shorter(own, to), scratch.len())?;
     judge_circuit(
         n,
         inputs,

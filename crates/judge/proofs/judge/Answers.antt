@@ -14,25 +14,27 @@ use Rattle.judge.specs.Judged.{lent_stages}
 use Rattle.judge.proofs.Judging.{fits, fits-scratch}
 use Rattle.judge.proofs.Sound.{good_none, refused-some}
 use Rattle.judge.proofs.Stages.{lent-refuses, lent-passes}
+use Rattle.laws.proofs.Pairs.{passed-on}
 use Rattle.judge.proofs.judge.Goals as goal
 
-pub returns-in-Err : goal.returns-in-Err
-returns-in-Err c =
+pub returns-in_err-lent_enough : goal.returns-in_err-lent_enough
+returns-in_err-lent_enough c =
     let tables : Tables =
     let a = c.args in
     seven a.inputs.now a.latches.now a.outputs.now a.gates.now a.resets.now a.bads.now a.constraints.now in
     let shorters : List ℕ =
     lengths_in (shorter_of (sizes_of (tables)) c.args.to) (length c.args.scratch.now) in
-    let told : c.lent_enough-lent.result ≡ checked_by (first_of (lent_stages c.args.n (shorters))) =
-    c.lent_enough-lent.ensures
+    let told : c.lent_enough.result ≡ checked_by (first_of (lent_stages c.args.n (shorters))) =
+    c.lent_enough.ensures
     ∙ ap (λ (x : Sizes). checked_by (first_of (lent_stages c.args.n (lengths_in x (length c.args.scratch.now)))))
     (c.shorter.ensures ∙ ap (λ (x : Sizes). shorter_of x c.args.to) c.lengths-own.ensures) in
     let a = c.args in
-    record {
+    rw (passed-on _ c.from_residual.ensures.1)
+    (record {
       result_value = sym (ap checked_by (lent-refuses a.ordered a.n (tables) a.scratch.now (shorters) _
-          (refused-some _ _ (sym c.in-Err.is ∙ told))));
+          (refused-some _ _ (sym c.in_err-lent_enough.was ∙ told))));
       all_numbered = λ asked good. not_good _ good;
-    }
+    })
 
 pub judge_circuit-requires : goal.judge_circuit-requires
 judge_circuit-requires c =
@@ -41,14 +43,14 @@ judge_circuit-requires c =
     seven a.inputs.now a.latches.now a.outputs.now a.gates.now a.resets.now a.bads.now a.constraints.now in
     let shorters : List ℕ =
     lengths_in (shorter_of (sizes_of (tables)) c.args.to) (length c.args.scratch.now) in
-    let told : c.lent_enough-lent.result ≡ checked_by (first_of (lent_stages c.args.n (shorters))) =
-    c.lent_enough-lent.ensures
+    let told : c.lent_enough.result ≡ checked_by (first_of (lent_stages c.args.n (shorters))) =
+    c.lent_enough.ensures
     ∙ ap (λ (x : Sizes). checked_by (first_of (lent_stages c.args.n (lengths_in x (length c.args.scratch.now)))))
     (c.shorter.ensures ∙ ap (λ (x : Sizes). shorter_of x c.args.to) c.lengths-own.ensures) in
-    let passed : c.lent_enough-lent.result ≡ Ok tt → first_of (lent_stages c.args.n (shorters)) ≡ None =
+    let passed : c.lent_enough.result ≡ Ok tt → first_of (lent_stages c.args.n (shorters)) ≡ None =
     λ good. good_none _ (sym good ∙ told) in
     let a = c.args in
-    let e = passed c.in_default.is in
+    let e = passed c.in_ok-lent_enough.was in
     record { fits = fits a.n (tables) a.scratch.now a.to e; scratch = fits-scratch a.n (tables) a.scratch.now a.to e; ordered_value = c.requires }
 
 pub returns : goal.returns
@@ -58,16 +60,16 @@ returns c =
     seven a.inputs.now a.latches.now a.outputs.now a.gates.now a.resets.now a.bads.now a.constraints.now in
     let shorters : List ℕ =
     lengths_in (shorter_of (sizes_of (tables)) c.args.to) (length c.args.scratch.now) in
-    let told : c.lent_enough-lent.result ≡ checked_by (first_of (lent_stages c.args.n (shorters))) =
-    c.lent_enough-lent.ensures
+    let told : c.lent_enough.result ≡ checked_by (first_of (lent_stages c.args.n (shorters))) =
+    c.lent_enough.ensures
     ∙ ap (λ (x : Sizes). checked_by (first_of (lent_stages c.args.n (lengths_in x (length c.args.scratch.now)))))
     (c.shorter.ensures ∙ ap (λ (x : Sizes). shorter_of x c.args.to) c.lengths-own.ensures) in
-    let passed : c.lent_enough-lent.result ≡ Ok tt → first_of (lent_stages c.args.n (shorters)) ≡ None =
+    let passed : c.lent_enough.result ≡ Ok tt → first_of (lent_stages c.args.n (shorters)) ≡ None =
     λ good. good_none _ (sym good ∙ told) in
     let a = c.args in
     record {
       result_value = c.judge_circuit.ensures.value
           ∙ sym (ap checked_by (lent-passes a.ordered a.n (tables) a.scratch.now (shorters)
-          (passed c.in_default.is)));
+          (passed c.in_ok-lent_enough.was)));
       all_numbered = c.judge_circuit.ensures.all_numbered;
     }
