@@ -10,7 +10,7 @@ use codec::classes::stands;
 use plan::{Counts, Refusal, Version};
 use tables::scratch_to_read;
 
-// No table has this number, or the file no header.
+// No table has this number, or the file no header. A number and no Option: it is what the call for C answers.
 const NONE: u64 = 18446744073709551615;
 
 // "g " after the letter of a form.

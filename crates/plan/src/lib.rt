@@ -229,8 +229,8 @@ pub enum Finding {
     Undecided(usize),
 }
 
-// What the search finds: it never happens, and how many states are reached; it can, by a list of so many steps; or the allowance is used up.
-// Each with the tries made.
+// What the search finds: it never happens, and how many states are reached; it can, by a list of so many steps; or the
+// allowance is used up. Each with the tries made.
 #[derive(Clone, Copy)]
 pub enum Happening {
     Never(usize, usize),

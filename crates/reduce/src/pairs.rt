@@ -70,6 +70,7 @@ fn root(w: usize, x: Lit, y: Lit) -> usize
 }
 
 // What stands at gate i's link for a bit: the next gate, counted from 1, or 0.
+// No Option: the word is the link itself, as the table holds it, and laws speak of it.
 fn leads(gates: &[u32], scratch: &[u32], w: usize, i: usize, bit: u32) -> u32
     requires i_in_bounds { (3 * i < length gates.now) × (4 * w ≤ length scratch.now) }
     requires w_bound { (w ≤ most + 1) × (i < w) }

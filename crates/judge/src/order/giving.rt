@@ -37,7 +37,8 @@ fn give(gates: &[u32], t: &mut [u32], n: usize, a: usize, j: usize, x: u32)
 }
 
 // The scan starts at the pair of gates that the first mark is in, and yields the next gate that is ready; where none is, no further
-// number is given. Gives how many gates have one. Two loops, a break and a label: the form that this place needs (docs/DECISIONS.md, Forms).
+// number is given. Gives how many gates have one.
+// Two loops, a break and a label: the form that this place needs (docs/DECISIONS.md, Forms).
 pub fn assign(gates: &[u32], t: &mut [u32], first: u32, n: usize, a: usize) -> usize
     requires { Space gates.now t.old n a × (0 < first) × (first + a < 2147483648) × Waiting gates.now t.old n a every
         × (counted gates.now t.old a ≡ 0) }
