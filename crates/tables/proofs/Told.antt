@@ -15,3 +15,7 @@ back (suc k) = refl
 
 pub told-once : (j k : ℕ) → table_of j ≡ table_of k → j ≡ k
 told-once j k e = sym (back j) ∙ ap number e ∙ back k
+
+-- an answer that is a table's number or none: no second one fits the same contract
+pub answered-once : (told j k : Option ℕ) → j ≡ told → k ≡ told → j ≡ k
+answered-once told j k e f = e ∙ sym f
