@@ -50,7 +50,7 @@ answer-same t = bytes_same (traced_values t)
 
 -- no refusal has the number 0
 module _ {a b : Result ℕ Refusal} {r : Refusal} {m : ℕ} (p : a ≡ Err r) (q : b ≡ Ok m) where
-  second-lines : false ≡ same_answer a b
+  pub second-lines : false ≡ same_answer a b
   second-lines =
       sym (ap₂ same_answer p q
       ∙ ap (λ (x : Bool). x && same_bytes (place_of r ∷ 0 ∷ []) (0 ∷ m ∷ [])) (ne_eqb (number_of r) 0 (refusal-number r)))

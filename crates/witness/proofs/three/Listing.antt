@@ -74,7 +74,7 @@ module _ {n : Counts} {number : ℕ} {bytes : List ℕ} {k : ℕ} (u : Turn n nu
   abbrev at : ℕ
   at = n.I * k
 
-  vector-ends : at + n.I ≤ length bytes
+  pub vector-ends : at + n.I ≤ length bytes
   vector-ends = omega (arith, row_ends n.I number k bytes (omega (arith, u.whole, mul_comm number n.I)) u.more)
 
   -- the vector of this turn

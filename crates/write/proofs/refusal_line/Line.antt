@@ -71,6 +71,9 @@ module _ (n p : ℕ) where
 pub line-is : (r : Refusal) → row (number_of r) (place_of r) ≡ refusal_line r
 line-is r = row_is (number_of r) (place_of r)
 
+pub line-length : (r : Refusal) → length (refusal_line r) ≡ 13 + length (digits (number_of r)) + length (digits (place_of r))
+line-length r = ap length (sym (line-is r)) ∙ row-length (number_of r) (place_of r)
+
 -- the line of a number and a place that are a refusal's
 module _ (out : List ℕ) (r : Refusal) (n p line : ℕ) (n-is : n ≡ number_of r) (p-is : p ≡ place_of r)
     (line-is-long : line ≡ 13 + length (digits n) + length (digits p)) where
