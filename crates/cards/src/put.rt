@@ -39,8 +39,8 @@ fn put_latches(out: &mut [u8], at: usize, latches: &[u32], n: usize) -> usize
     ensures out_after { out.new ≡ put out.old at (latch_cards n latches.now) }
 {
     let mut next = at;
-    for latch in latches[..2 * n].chunks_exact(2) {
-        next = put_card(out, next, b'L', latch[1]);
+    for i in 0..n {
+        next = put_card(out, next, b'L', latches[2 * i + 1]);
     }
     next
 }
@@ -67,9 +67,10 @@ fn put_gates(out: &mut [u8], at: usize, gates: &[u32], n: usize) -> usize
     ensures out_after { out.new ≡ put out.old at (gates_cards n gates.now) }
 {
     let mut next = at;
-    for gate in gates[..3 * n].chunks_exact(3) {
-        next = put_card(out, next, b'A', gate[1]);
-        next = put_word(out, next, gate[2]);
+    for i in 0..n {
+        let k = 3 * i;
+        next = put_card(out, next, b'A', gates[k + 1]);
+        next = put_word(out, next, gates[k + 2]);
     }
     next
 }
